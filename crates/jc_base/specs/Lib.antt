@@ -1,0 +1,4 @@
+pub mod Reading
+pub mod Results
+pub mod Names
+pub mod Image

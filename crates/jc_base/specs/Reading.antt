@@ -1,0 +1,44 @@
+-- Reading from the front of a list of bytes: a value and the bytes behind it, or nothing.
+-- Numbers are big-endian (Java Card Virtual Machine Specification, CAP file format: u1, u2 and u4).
+use Rattle.std.specs.Prelude.{◌≡◌, ℕ, ◌+◌, ◌*◌, List, [], ◌∷◌, length, take, drop, Option, Some, None, nat_lt, if◌then◌else◌}
+use Rattle.std.specs.Option.{option_and_then}
+
+-- what was read, and the bytes behind it
+pub record Read (A : Type 0) : Type 0 where
+  pub value : A
+  pub rest : List ℕ
+
+-- read on behind a value, if there was one
+infixl 10 ◌>>=◌
+abbrev pub ◌>>=◌ : {A B : Type 0} → Option A → (A → Option B) → Option B
+o >>= f = option_and_then f o
+
+-- one byte
+abbrev pub u1_at : List ℕ → Option (Read ℕ)
+u1_at [] = None
+u1_at (b ∷ rest) = Some (record { value = b; rest = rest })
+
+-- two bytes, the high one first
+abbrev pub u2_at : List ℕ → Option (Read ℕ)
+u2_at (high ∷ low ∷ rest) = Some (record { value = 256 * high + low; rest = rest })
+u2_at _ = None
+
+-- four bytes, the highest one first
+abbrev pub u4_at : List ℕ → Option (Read ℕ)
+u4_at (a ∷ b ∷ c ∷ d ∷ rest) = Some (record { value = 256 * (256 * (256 * a + b) + c) + d; rest = rest })
+u4_at _ = None
+
+-- the next n bytes
+abbrev pub bytes_at : ℕ → List ℕ → Option (Read (List ℕ))
+bytes_at n bytes = if nat_lt (length bytes) n then None else Some (record { value = take n bytes; rest = drop n bytes })
+
+-- What a call on a cursor gave, seen by view: what reading gives, with the cursor behind it, or
+-- nothing, with the cursor where it was.
+abbrev pub Steps : {X Y : Type 0} → (X → Y) → Option X → List ℕ → List ℕ → Option (Read Y) → Type 0
+Steps view (Some x) old new read = read ≡ Some (record { value = view x; rest = new })
+Steps view None old new read = (read ≡ None) × (new ≡ old)
+
+-- What a reader of several fields gave, seen by view. Where it gave nothing, the cursor stands anywhere.
+abbrev pub Gives : {X Y : Type 0} → (X → Y) → Option X → List ℕ → Option (Read Y) → Type 0
+Gives view (Some x) new read = read ≡ Some (record { value = view x; rest = new })
+Gives view None new read = read ≡ None

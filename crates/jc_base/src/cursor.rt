@@ -1,0 +1,89 @@
+//! A place in a list of bytes.
+
+ghost use Rattle.std.specs.Prelude.{◌≡◌, ◌↔◌, ℕ, List, [], length, IsTrue};
+ghost use Rattle.jc_base.specs.Reading.{u1_at, u2_at, u4_at, bytes_at, Steps};
+
+use byteorder::{BigEndian, ByteOrder};
+use std::marker::Model;
+
+/// The bytes that are left to read. What it lends comes from the bytes that it was made from.
+///
+/// A call that finds too few bytes gives `None` and leaves the cursor where it was.
+#[derive(Drop)]
+pub struct Cursor<'a> {
+    rest: &'a [u8],
+}
+
+impl<'a> Model for Cursor<'a> {
+    ghost Value = { List ℕ };
+
+    ghost view = { λ c. c.rest.now };
+}
+
+impl<'a> Cursor<'a> {
+    /// A cursor at the first of the bytes.
+    pub fn new(bytes: &'a [u8]) -> Self
+        ensures { result ≡ bytes.now }
+    {
+        Cursor { rest: bytes }
+    }
+
+    /// How many bytes are left.
+    pub fn len(&self) -> usize
+        ensures { result ≡ length self.now }
+    {
+        self.rest.len()
+    }
+
+    /// Whether no byte is left.
+    pub fn is_empty(&self) -> bool
+        ensures { IsTrue result ↔ (self.now ≡ []) }
+    {
+        self.rest.is_empty()
+    }
+
+    /// The next byte.
+    pub fn u1(&mut self) -> Option<u8>
+        ensures { Steps (λ x. x) result self.old self.new (u1_at self.old) }
+    {
+        let (first, rest) = self.rest.split_first()?;
+        self.rest = rest;
+        Some(*first)
+    }
+
+    /// The next two bytes, the high one first.
+    pub fn u2(&mut self) -> Option<u16>
+        ensures { Steps (λ x. x) result self.old self.new (u2_at self.old) }
+    {
+        if self.rest.len() < 2 {
+            return None;
+        }
+        let (front, rest) = self.rest.split_at(2);
+        self.rest = rest;
+        Some(BigEndian::read_u16(front))
+    }
+
+    /// The next four bytes, the highest one first.
+    pub fn u4(&mut self) -> Option<u32>
+        ensures { Steps (λ x. x) result self.old self.new (u4_at self.old) }
+    {
+        if self.rest.len() < 4 {
+            return None;
+        }
+        let (front, rest) = self.rest.split_at(4);
+        self.rest = rest;
+        Some(BigEndian::read_u32(front))
+    }
+
+    /// The next `count` bytes.
+    pub fn take(&mut self, count: usize) -> Option<&'a [u8]>
+        ensures { Steps (λ bytes. bytes.now) result self.old self.new (bytes_at count self.old) }
+    {
+        if self.rest.len() < count {
+            return None;
+        }
+        let (front, rest) = self.rest.split_at(count);
+        self.rest = rest;
+        Some(front)
+    }
+}

@@ -1,0 +1,104 @@
+//! The components of an image.
+
+ghost use Rattle.std.specs.Prelude.{◌≡◌};
+ghost use Rattle.std.specs.Option.{option_copied};
+
+use std::marker::Model;
+
+/// The infos of an image's components, lent from the image.
+#[derive(Drop)]
+pub struct Parts<'a> {
+    header: &'a [u8],
+    applet: Option<&'a [u8]>,
+    imports: Option<&'a [u8]>,
+    constant_pool: &'a [u8],
+    class: &'a [u8],
+    method: &'a [u8],
+    static_field: &'a [u8],
+    export: Option<&'a [u8]>,
+    descriptor: &'a [u8],
+}
+
+impl<'a> Model for Parts<'a> {
+    ghost use Rattle.std.specs.Option.{option_copied};
+    ghost use Rattle.jc_base.specs.Image.{Infos};
+
+    ghost Value = { Infos };
+
+    ghost view = { λ p. record {
+      header = p.header.now;
+      applet = option_copied p.applet;
+      imports = option_copied p.imports;
+      constant_pool = p.constant_pool.now;
+      class = p.class.now;
+      method = p.method.now;
+      static_field = p.static_field.now;
+      export = option_copied p.export;
+      descriptor = p.descriptor.now;
+    } };
+}
+
+impl<'a> Parts<'a> {
+    /// The info of the Header component.
+    pub fn header(&self) -> &'a [u8]
+        ensures { result.now ≡ self.now.header }
+    {
+        self.header
+    }
+
+    /// The info of the Applet component, if there is one.
+    pub fn applet(&self) -> Option<&'a [u8]>
+        ensures { option_copied result ≡ self.now.applet }
+    {
+        self.applet
+    }
+
+    /// The info of the Import component, if there is one.
+    pub fn imports(&self) -> Option<&'a [u8]>
+        ensures { option_copied result ≡ self.now.imports }
+    {
+        self.imports
+    }
+
+    /// The info of the ConstantPool component.
+    pub fn constant_pool(&self) -> &'a [u8]
+        ensures { result.now ≡ self.now.constant_pool }
+    {
+        self.constant_pool
+    }
+
+    /// The info of the Class component.
+    pub fn class(&self) -> &'a [u8]
+        ensures { result.now ≡ self.now.class }
+    {
+        self.class
+    }
+
+    /// The info of the Method component.
+    pub fn method(&self) -> &'a [u8]
+        ensures { result.now ≡ self.now.method }
+    {
+        self.method
+    }
+
+    /// The info of the StaticField component.
+    pub fn static_field(&self) -> &'a [u8]
+        ensures { result.now ≡ self.now.static_field }
+    {
+        self.static_field
+    }
+
+    /// The info of the Export component, if there is one.
+    pub fn export(&self) -> Option<&'a [u8]>
+        ensures { option_copied result ≡ self.now.export }
+    {
+        self.export
+    }
+
+    /// The info of the Descriptor component.
+    pub fn descriptor(&self) -> &'a [u8]
+        ensures { result.now ≡ self.now.descriptor }
+    {
+        self.descriptor
+    }
+}

@@ -1,0 +1,3 @@
+pub mod Tables
+pub mod Spelling
+pub mod Targets

@@ -1,0 +1,2 @@
+pub mod Types
+pub mod Order

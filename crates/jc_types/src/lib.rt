@@ -1,0 +1,10 @@
+//! Verification types, and states of a method's locals and operands.
+#![tactic(auto)]
+
+mod lattice;
+mod state;
+mod ty;
+
+pub use lattice::Lattice;
+pub use state::State;
+pub use ty::Ty;

@@ -1,1 +1,2 @@
 pub mod Binding
+mod StackLemmas

@@ -5,6 +5,7 @@ mod cursor;
 mod fault;
 mod parts;
 mod reason;
+pub mod stack;
 
 pub use cursor::Cursor;
 pub use fault::LoadFault;

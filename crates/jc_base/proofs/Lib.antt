@@ -1,2 +1,3 @@
 pub mod Binding
 mod StackLemmas
+pub mod StackViews

@@ -1,1 +1,3 @@
 pub mod Tops
+mod Points
+mod Operands

@@ -3,8 +3,10 @@
 
 mod lattice;
 mod state;
+mod steps;
 mod ty;
 
 pub use lattice::Lattice;
 pub use state::State;
+pub use steps::are_below;
 pub use ty::Ty;

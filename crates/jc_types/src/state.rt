@@ -10,9 +10,9 @@ use std::marker::Model;
 /// The types of a method's locals and operands, with room for all the operands that it may have.
 #[derive(Drop)]
 pub struct State {
-    locals: Vec<Ty>,
-    slots: Vec<Ty>,
-    depth: usize,
+    pub(crate) locals: Vec<Ty>,
+    pub(crate) slots: Vec<Ty>,
+    pub(crate) depth: usize,
 }
 
 impl Model for State {

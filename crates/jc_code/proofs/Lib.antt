@@ -1,1 +1,2 @@
 mod TableLemmas
+pub mod Advance

@@ -1,9 +1,9 @@
-//! Where an instruction may branch to.
+//! Where an instruction may go on.
 
 ghost use Rattle.std.specs.Prelude.{◌≡◌, slice_get};
-ghost use Rattle.jc_code.specs.Targets.{offsets_of, target_of, targets_of};
+ghost use Rattle.jc_code.specs.Targets.{falls_of, offsets_of, target_of, targets_of};
 
-use crate::instr::{Instr, Operation};
+use crate::instr::{Instr, Operation, When};
 use std::marker::Model;
 
 /// The places that an instruction may branch to, in the order of the code. A place may lie before the code,
@@ -32,6 +32,21 @@ impl<'a> Instr<'a> {
         Targets {
             pc,
             operation: &self.operation,
+        }
+    }
+
+    /// Whether it may go on to the instruction behind it.
+    pub fn falls_through(&self) -> bool
+        ensures { result ≡ falls_of self.now.operation }
+    {
+        match &self.operation {
+            Operation::Branch {
+                when: When::Always, ..
+            } => false,
+            Operation::StableSwitch { .. } => false,
+            Operation::LookupSwitch { .. } => false,
+            Operation::ReturnWord => false,
+            _ => true,
         }
     }
 }

@@ -1,3 +1,4 @@
 pub mod Repeats
-pub mod Laws
 pub mod Fields
+pub mod Laws
+pub mod Each

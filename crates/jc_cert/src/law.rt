@@ -8,5 +8,4 @@ ghost use Rattle.jc_cert.specs.Spelling.{spelling};
 /// two share one. It does nothing.
 pub fn one_spelling()
     ensures { (a b : List Row) → IsCert a → IsCert b → spelling a ≡ spelling b → a ≡ b }
-{
-}
+{}

@@ -1,0 +1,3 @@
+mod Complete
+mod Sound
+pub mod Typed

@@ -1,11 +1,11 @@
 -- What is read is spelled so, and what is spelled so is read.
-use Rattle.std.proofs.Common.{◌≡◌, ℕ, ◌+◌, ◌*◌, ◌/◌, ◌%◌, ◌^◌, ◌<◌, ◌≤◌, Bool, true, false, cond, List, [], ◌∷◌, ◌++◌, length, get_or, suc, ◌==◌, Option, Some, None, refl, sym, ap, subst, ◌∙◌, append_assoc, arith}
-use Rattle.std.specs.Prelude.{Result, Ok, Err, MatchResult}
+use Rattle.std.proofs.Common.{◌≡◌, ℕ, ◌+◌, ◌*◌, ◌/◌, ◌%◌, ◌^◌, ◌<◌, ◌≤◌, Bool, true, false, cond, List, [], ◌∷◌, ◌++◌, length, get_or, suc, ◌==◌, Option, Some, None, refl, sym, ap, ◌∙◌, append_assoc, arith}
+use Rattle.std.specs.Prelude.{Result, Err}
 use Rattle.std.specs.List.{flat_map, AllByRecursion}
 use Rattle.std.specs.Int.{w16, to_be_bytes}
 use Rattle.std.proofs.lemmas.Bool.{eqb-true}
 use Rattle.std.proofs.lemmas.List.{append-nil, nil_from_length}
-use Rattle.jc_base.specs.Reading.{Read, ◌>>=◌, u1_at, u2_at}
+use Rattle.jc_base.specs.Reading.{Read, u1_at, u2_at}
 use Rattle.jc_base.specs.declared.fault.LoadFault.{LoadFault}
 use Rattle.jc_base.specs.declared.fault.LoadFault.TheVariants as fault
 use Rattle.jc_types.specs.declared.ty.Ty.{Ty}
@@ -15,7 +15,7 @@ use Rattle.jc_cert.specs.Rows.{Stated, Row, PcsAscend, OffsetsAscend, IsStated, 
 use Rattle.jc_cert.specs.Spelling.{type_bytes, stated_bytes, row_bytes, spelling}
 use Rattle.jc_cert.specs.Reading.{number_at, type_at, types_at, stated_at, states_at, row_at, rows_at, cert_at, Fails, fault_of}
 use Rattle.jc_cert.proofs.Repeats.{read_as}
-use Rattle.jc_cert.proofs.Fields.{IsBytes, Took, took_bind, took_some, u1_took, u2_took, u2_again, NumberFits, number_took, number_again, IsType, type_took, type_again, Chain, repeat_took, repeat_again}
+use Rattle.jc_cert.proofs.Fields.{IsBytes, Took, took_bind, took_some, u1_took, u2_took, NumberFits, number_took, number_again, IsType, type_took, type_again, Chain, repeat_took, repeat_again}
 
 -- ---- so many types
 

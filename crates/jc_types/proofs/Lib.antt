@@ -1,3 +1,4 @@
 pub mod Tops
 mod Points
 mod Operands
+mod Turned

@@ -1,6 +1,6 @@
 -- Verification types, their order, and states (Java Card Virtual Machine Specification, verification of CAP files:
 -- the types of local variables and of the operand stack).
-use Rattle.std.specs.Prelude.{ℕ, zero, suc, List, [], ◌∷◌, ◌++◌, length, Bool, true, false, ◌&&◌}
+use Rattle.std.specs.Prelude.{ℕ, zero, suc, List, [], ◌∷◌, ◌++◌, reverse, Bool, true, false, ◌&&◌}
 use Rattle.jc_types.specs.declared.ty.Ty.{Ty}
 use Rattle.jc_types.specs.declared.ty.Ty.TheVariants.{Top, Word, Null}
 
@@ -35,6 +35,10 @@ tops (suc n) = Top ∷ tops n
 -- the state at the entry of a method: its arguments, other locals of which nothing is known, and no operands
 abbrev pub entry_types : List Ty → ℕ → Types
 entry_types arguments others = record { locals = arguments ++ tops others; operands = [] }
+
+-- the state that locals and operands make up, the operands bottom first
+abbrev pub stated_types : List Ty → List Ty → Types
+stated_types locals operands = record { locals = locals; operands = reverse operands }
 
 -- a state in the code: its types, and how many operands it has room for
 pub record Roomy : Type 0 where

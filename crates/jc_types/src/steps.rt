@@ -1,7 +1,7 @@
 //! What code may do to a state.
 
-ghost use Rattle.std.specs.Prelude.{◌≡◌, ◌≤◌, ◌&&◌, ◌==◌, ◌+◌, length};
-ghost use Rattle.jc_types.specs.Types.{Types, all_below};
+ghost use Rattle.std.specs.Prelude.{◌≡◌, ◌≤◌, ◌&&◌, ◌==◌, ◌+◌, length, take};
+ghost use Rattle.jc_types.specs.Types.{Types, all_below, stated_types, types_below};
 ghost use Rattle.jc_types.specs.Steps.{Became, local_type, set_local_type, push_type, take_types, drop_types, duplicate_types, swap_types};
 
 use crate::lattice::Lattice;
@@ -23,6 +23,14 @@ pub fn are_below(lower: &[Ty], upper: &[Ty]) -> bool
         }
     }
     true
+}
+
+fn copy_front(to: &mut [Ty], from: &[Ty])
+    requires { length from.now ≤ length to.old }
+    ensures front { take (length from.now) to.new ≡ from.now }
+    ensures same { length to.new ≡ length to.old }
+{
+    to[..from.len()].copy_from_slice(from);
 }
 
 impl State {
@@ -133,5 +141,25 @@ impl State {
         }
         swap_top(&mut self.slots, self.depth, upper, lower);
         Ok(())
+    }
+
+    /// Takes over the types that a certificate states, the bottom operand first.
+    pub fn load(&mut self, locals: &[Ty], operands: &[Ty])
+        requires locals { length locals.now ≡ length self.old.types.locals }
+        requires operands { length operands.now ≤ self.old.room }
+        ensures types { self.new.types ≡ stated_types locals.now operands.now }
+        ensures room { self.new.room ≡ self.old.room }
+    {
+        copy_front(&mut self.locals, locals);
+        copy_front(&mut self.slots, operands);
+        self.depth = operands.len();
+    }
+
+    /// Whether it lies below the types that a certificate states, the bottom operand first.
+    #[tactic(auto, using(crate::proofs::Turned::reversed))]
+    pub fn is_below(&self, locals: &[Ty], operands: &[Ty]) -> bool
+        ensures { result ≡ types_below self.now.types (stated_types locals.now operands.now) }
+    {
+        are_below(&self.locals, locals) && are_below(&self.slots[..self.depth], operands)
     }
 }

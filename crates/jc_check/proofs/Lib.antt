@@ -1,3 +1,4 @@
 mod Complete
 mod Sound
 pub mod Typed
+mod Marking

@@ -1,6 +1,6 @@
 -- What it means that a certificate carries a method: with the certificate's states there is one typing that goes
 -- from instruction to instruction, and it is well typed.
-use Rattle.std.specs.Prelude.{⊤, ◌≡◌, ℕ, ℤ, pos, ◌<◌, ◌==◌, ◌&&◌, List, [], ◌∷◌, length, reverse, Option, Some, None, Ok, Bool, true, false, nat_le, if◌then◌else◌}
+use Rattle.std.specs.Prelude.{⊤, ◌≡◌, ℕ, ℤ, pos, ◌+◌, ◌<◌, ◌==◌, ◌&&◌, List, [], ◌∷◌, length, reverse, Option, Some, None, Ok, Bool, true, false, nat_le, if◌then◌else◌}
 use Rattle.std.specs.List.{AllByRecursion}
 use Rattle.jc_code.specs.Listing.{Placed, IsListing, placed_at, begins}
 use Rattle.jc_code.specs.Targets.{targets_of, falls_of}
@@ -21,7 +21,7 @@ state_at (c ∷ cs) pc = if c.pc == pc then Some (types_of c) else state_at cs p
 
 -- a state has the method's number of locals, and no more operands than it may have
 abbrev pub has_shape : Method → Stated → Bool
-has_shape m c = (length c.locals == length (entry_of m).locals) && nat_le (length c.operands) m.max_stack
+has_shape m c = (length c.locals == length m.arguments + m.others) && nat_le (length c.operands) m.max_stack
 
 -- a certificate's state stands where an instruction begins, in the method's shape
 pub record Stands (m : Method) (listing : List Placed) (c : Stated) : Type 0 where

@@ -2,6 +2,8 @@
 #![tactic(auto)]
 
 mod fault;
+mod method;
 mod place;
+mod table;
 
 pub use fault::WordFault;

@@ -28,7 +28,8 @@ impl<'a> Model for Offsets<'a> {
 impl<'a> Offsets<'a> {
     /// How many offsets there are.
     pub fn len(&self) -> usize
-        ensures { result ≡ length self.now }
+        ensures count { result ≡ length self.now }
+        ensures bound { result < 2 ^ 63 }
     {
         self.bytes.len() / 2
     }
@@ -85,7 +86,8 @@ impl<'a> Model for Cases<'a> {
 impl<'a> Cases<'a> {
     /// How many cases there are.
     pub fn len(&self) -> usize
-        ensures { result ≡ length self.now }
+        ensures count { result ≡ length self.now }
+        ensures bound { result < 2 ^ 62 }
     {
         self.bytes.len() / 4
     }

@@ -1,6 +1,6 @@
 //! Where an instruction may go on.
 
-ghost use Rattle.std.specs.Prelude.{◌≡◌, slice_get};
+ghost use Rattle.std.specs.Prelude.{◌≡◌, length, slice_get};
 ghost use Rattle.jc_code.specs.Targets.{falls_of, offsets_of, target_of, targets_of};
 
 use crate::instr::{Instr, Operation, When};
@@ -82,6 +82,18 @@ fn offset_at(operation: &Operation, index: usize) -> Option<i16>
 }
 
 impl<'i, 'a> Targets<'i, 'a> {
+    /// How many places there are.
+    pub fn len(&self) -> usize
+        ensures { result ≡ length self.now }
+    {
+        match self.operation {
+            Operation::Branch { .. } => 1,
+            Operation::StableSwitch { offsets, .. } => offsets.len() + 1,
+            Operation::LookupSwitch { cases, .. } => cases.len() + 1,
+            _ => 0,
+        }
+    }
+
     /// The place at an index.
     pub fn get(&self, index: usize) -> Option<i32>
         ensures { result ≡ slice_get self.now index }

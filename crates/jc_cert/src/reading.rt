@@ -106,7 +106,7 @@ fn read_all(alloc: Global, bytes: &[u8]) -> Result<Vec<MethodRow>, Refusal>
     let mut cursor = Cursor::new(bytes);
     let count = cursor.u2().ok_or(Refusal::NoSpelling)?;
     let methods = read_rows(alloc, &mut cursor, count)?;
-    if cursor.len() != 0 {
+    if !cursor.is_empty() {
         return Err(Refusal::NoSpelling);
     }
     Ok(methods)
@@ -122,7 +122,8 @@ pub fn read(alloc: Global, bytes: &[u8]) -> Result<Cert, LoadFault>
     ensures only { (rows : List Row) → IsCert rows → bytes.now ≡ spelling rows →
         MatchResult result (λ read. read ≡ rows) (λ fault. fault ≡ LoadFault.Memory) }
     // What is refused is no certificate's spelling.
-    ensures refused { IsErrOf result LoadFault.BadCertificate → (rows : List Row) → IsCert rows → bytes.now ≡ spelling rows → ⊥ }
+    ensures refused { IsErrOf result LoadFault.BadCertificate →
+        (rows : List Row) → IsCert rows → bytes.now ≡ spelling rows → ⊥ }
     ensures faults { IfErr result (λ fault. (fault ≡ LoadFault.BadCertificate) ⊎ (fault ≡ LoadFault.Memory)) }
 {
     let methods = read_all(alloc, bytes)?;

@@ -2,3 +2,5 @@ mod Complete
 mod Sound
 pub mod Typed
 mod Marking
+mod Standing
+mod Branches

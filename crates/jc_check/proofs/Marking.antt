@@ -11,10 +11,7 @@ use Rattle.jc_code.proofs.Listings.{Runs-append, begins-push}
 use Rattle.jc_cert.specs.Rows.{Stated}
 use Rattle.jc_check.specs.declared.place.Place.{Place}
 use Rattle.jc_check.specs.declared.place.Place.TheVariants.{Inside, Start, Holds}
-use Rattle.jc_check.specs.Places.{mark_of, IsMarked}
-
-abbrev pub placed : ℕ → Instr → Placed
-placed pc instr = record { pc = pc; instr = instr }
+use Rattle.jc_check.specs.Places.{mark_of, IsMarked, placed}
 
 -- what is marked once the instructions up to a pc have been decoded
 pub record SoFar (code : List ℕ) (pc : ℕ) (places : List Place) : Type 0 where

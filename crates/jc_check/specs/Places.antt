@@ -1,8 +1,9 @@
 -- The table of places that the check keeps beside the code, and what its steps leave.
-use Rattle.std.specs.Prelude.{⊤, ◌≡◌, ℕ, ◌<◌, List, length, Option, Some, None, Result, Ok, Err, Bool, true, false, slice_get, slice_index_or, if◌then◌else◌}
+use Rattle.std.specs.Prelude.{⊤, ◌≡◌, ℕ, ◌+◌, ◌<◌, List, length, Option, Some, None, Result, Ok, Err, Bool, true, false, slice_get, slice_index_or, if◌then◌else◌}
 use Rattle.jc_base.specs.declared.reason.Reason.{Reason}
 use Rattle.jc_code.specs.Listing.{Placed, IsListing, begins}
-use Rattle.jc_types.specs.Types.{Types}
+use Rattle.jc_types.specs.Types.{Types, Roomy}
+use Rattle.jc_code.specs.declared.instr.Instr.{Instr}
 use Rattle.jc_cert.specs.Rows.{Stated}
 use Rattle.jc_check.specs.Method.{Method}
 use Rattle.jc_check.specs.Carried.{state_at, types_of, has_shape}
@@ -60,3 +61,16 @@ Told (faults.Refused pc reason) P = P (record { pc = pc; reason = reason })
 abbrev pub StatesMarked : Result ⊤ WordFault → Method → List Placed → List Stated → List Place → Type 0
 StatesMarked (Ok _) m listing states places = (states_stand m listing states ≡ Ok tt) × IsTable m listing states places
 StatesMarked (Err fault) m listing states places = Told fault (λ f. states_stand m listing states ≡ Err f)
+
+-- what was found is this fault, or nothing where there is none; memory apart
+abbrev pub Verdict : Result ⊤ WordFault → Result ⊤ Fault → Type 0
+Verdict (Ok _) verdict = verdict ≡ Ok tt
+Verdict (Err fault) verdict = Told fault (λ f. verdict ≡ Err f)
+
+-- a state has the method's number of locals, and room for the operands that the method may have
+pub record HasRoom (m : Method) (s : Roomy) : Type 0 where
+  pub locals : length s.types.locals ≡ length m.arguments + m.others
+  pub room : s.room ≡ m.max_stack
+
+abbrev pub placed : ℕ → Instr → Placed
+placed pc instr = record { pc = pc; instr = instr }

@@ -3,6 +3,7 @@
 
 mod fault;
 mod method;
+mod pass;
 mod place;
 mod table;
 

@@ -82,7 +82,10 @@ pub(crate) fn mark_states(
     for index in 0..states.len() {
         let row = &states[index];
         let pc = usize::from(row.pc);
-        if pc >= places.len() || !fits(method, row) {
+        if !fits(method, row) {
+            return Err(mismatch(row.pc));
+        }
+        if pc >= places.len() {
             return Err(mismatch(row.pc));
         }
         match places[pc] {

@@ -4,3 +4,4 @@ pub mod Typed
 mod Marking
 mod Standing
 mod Branches
+mod Walking

@@ -1,5 +1,7 @@
 //! A method as the check sees it.
 
+ghost use Rattle.std.specs.Prelude.{◌≡◌};
+
 use jc_types::Ty;
 use std::marker::Model;
 
@@ -20,4 +22,13 @@ impl<'a> Model for Method<'a> {
     ghost Value = { Method };
 
     ghost view = { λ m. record { code = m.code.now; arguments = m.arguments.now; others = m.others; max_stack = m.max_stack; returned = m.returned } };
+}
+
+impl<'a> Method<'a> {
+    /// Its code.
+    pub(crate) fn code(&self) -> &'a [u8]
+        ensures { result.now ≡ self.now.code }
+    {
+        self.code
+    }
 }

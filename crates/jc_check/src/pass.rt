@@ -119,7 +119,7 @@ fn visit_live_at(
     requires room { HasRoom ground.now.method.now state.old }
     ensures flow { (listing : List Placed) → IsTable ground.now.method.now listing (map stated ground.now.states.now) ground.now.places.now
         → Flowed result state.new.types (visit_live ground.now.method.now listing (map stated ground.now.states.now) (placed pc instr.now) state.old.types) }
-    ensures room { state.new.room ≡ state.old.room }
+    ensures room { HasRoom ground.now.method.now state.new }
 {
     let method = ground.method;
     transfer_words(instr, state, method.max_stack, method.returned.as_ref())?;
@@ -146,7 +146,7 @@ fn visit_at(
     requires within { pc < length ground.now.method.now.code }
     ensures flow { (listing : List Placed) → IsTable ground.now.method.now listing (map stated ground.now.states.now) ground.now.places.now
         → Flowed result state.new.types (visit ground.now.method.now listing (map stated ground.now.states.now) (placed pc instr.now) (flowing live state.old.types)) }
-    ensures room { state.new.room ≡ state.old.room }
+    ensures room { HasRoom ground.now.method.now state.new }
 {
     match ground.places[usize::from(pc)] {
         Place::Holds(number) => {
@@ -162,4 +162,34 @@ fn visit_at(
             }
         }
     }
+}
+
+/// The instructions by ascending pc, the first with the state that flows into it (where it is live).
+pub(crate) fn walk_code(ground: &Ground, state: &mut State, live: bool) -> Result<(), WordFault>
+    requires listed { (listing : List Placed) × IsTable ground.now.method.now listing (map stated ground.now.states.now) ground.now.places.now }
+    requires table { AreSafe ground.now.method.now (map stated ground.now.states.now) ground.now.places.now }
+    requires room { HasRoom ground.now.method.now state.old }
+    requires short { length ground.now.method.now.code < 2 ^ 16 }
+    ensures { (listing : List Placed) → IsTable ground.now.method.now listing (map stated ground.now.states.now) ground.now.places.now
+        → Verdict result (walk ground.now.method.now listing (map stated ground.now.states.now) (flowing live state.old.types) listing) }
+{
+    let code = ground.method.code();
+    let mut live = live;
+    let mut pc = 0;
+    while pc < code.len() {
+        let Ok(instr) = decode(code, pc) else {
+            unreachable!()
+        };
+        match visit_at(ground, state, live, pc as u16, &instr) {
+            Ok(goes_on) => live = goes_on,
+            Err(reason) => {
+                return Err(WordFault::Refused {
+                    pc: pc as u16,
+                    reason,
+                });
+            }
+        }
+        pc = instr.next_pc;
+    }
+    Ok(())
 }

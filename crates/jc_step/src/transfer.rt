@@ -1,6 +1,6 @@
 //! The effect of the instructions on words.
 
-ghost use Rattle.std.specs.Prelude.{◌≡◌, ◌≤◌};
+ghost use Rattle.std.specs.Prelude.{◌≡◌, ◌≤◌, length};
 ghost use Rattle.std.specs.Option.{option_copied};
 ghost use Rattle.jc_types.specs.Steps.{Became};
 ghost use Rattle.jc_step.specs.Effect.{fits, fits_result, shuffle_effect, branch_effect, effect_of};
@@ -34,6 +34,7 @@ fn transfer_shuffle(shuffle: Shuffle, state: &mut State, max_stack: u8) -> Resul
     requires { max_stack ≤ state.old.room }
     ensures became { Became result state.new.types (shuffle_effect max_stack shuffle state.old.types) }
     ensures room { state.new.room ≡ state.old.room }
+    ensures locals { length state.new.types.locals ≡ length state.old.types.locals }
 {
     match shuffle {
         Shuffle::Pop { count } => state.drop_top(count),
@@ -45,6 +46,7 @@ fn transfer_shuffle(shuffle: Shuffle, state: &mut State, max_stack: u8) -> Resul
 fn transfer_branch(when: When, state: &mut State) -> Result<(), Reason>
     ensures became { Became result state.new.types (branch_effect when state.old.types) }
     ensures room { state.new.room ≡ state.old.room }
+    ensures locals { length state.new.types.locals ≡ length state.old.types.locals }
 {
     match when {
         When::Always => Ok(()),
@@ -66,6 +68,7 @@ pub fn transfer_words(
     requires { max_stack ≤ state.old.room }
     ensures became { Became result state.new.types (effect_of max_stack (option_copied returned.entry) instr.now.operation state.old.types) }
     ensures room { state.new.room ≡ state.old.room }
+    ensures locals { length state.new.types.locals ≡ length state.old.types.locals }
 {
     match &instr.operation {
         Operation::Nop => Ok(()),

@@ -52,6 +52,7 @@ impl State {
     pub fn set_local(&mut self, index: u8, ty: Ty) -> Result<(), Reason>
         ensures became { Became result self.new.types (set_local_type index ty self.old.types) }
         ensures room { self.new.room ≡ self.old.room }
+        ensures locals { length self.new.types.locals ≡ length self.old.types.locals }
     {
         let index = usize::from(index);
         if index < self.locals.len() {
@@ -68,6 +69,7 @@ impl State {
         requires { max_stack ≤ self.old.room }
         ensures became { Became result self.new.types (push_type max_stack ty self.old.types) }
         ensures room { self.new.room ≡ self.old.room }
+        ensures locals { length self.new.types.locals ≡ length self.old.types.locals }
     {
         if self.depth >= usize::from(max_stack) {
             return Err(Reason::StackOver);
@@ -82,6 +84,7 @@ impl State {
     pub fn take(&mut self, wanted: &[Ty]) -> Result<(), Reason>
         ensures became { Became result self.new.types (take_types wanted.now self.old.types) }
         ensures room { self.new.room ≡ self.old.room }
+        ensures locals { length self.new.types.locals ≡ length self.old.types.locals }
     {
         if self.depth < wanted.len() {
             return Err(Reason::StackUnder);
@@ -99,6 +102,7 @@ impl State {
     pub fn drop_top(&mut self, count: u8) -> Result<(), Reason>
         ensures became { Became result self.new.types (drop_types count self.old.types) }
         ensures room { self.new.room ≡ self.old.room }
+        ensures locals { length self.new.types.locals ≡ length self.old.types.locals }
     {
         let count = usize::from(count);
         if self.depth < count {
@@ -114,6 +118,7 @@ impl State {
         requires { max_stack ≤ self.old.room }
         ensures became { Became result self.new.types (duplicate_types max_stack count below self.old.types) }
         ensures room { self.new.room ≡ self.old.room }
+        ensures locals { length self.new.types.locals ≡ length self.old.types.locals }
     {
         let count = usize::from(count);
         let below = usize::from(below);
@@ -133,6 +138,7 @@ impl State {
     pub fn swap(&mut self, upper: u8, lower: u8) -> Result<(), Reason>
         ensures became { Became result self.new.types (swap_types upper lower self.old.types) }
         ensures room { self.new.room ≡ self.old.room }
+        ensures locals { length self.new.types.locals ≡ length self.old.types.locals }
     {
         let upper = usize::from(upper);
         let lower = usize::from(lower);

@@ -5,3 +5,4 @@ mod Marking
 mod Standing
 mod Branches
 mod Walking
+mod Verdicts

@@ -3,7 +3,6 @@ use Rattle.std.proofs.Common.{◌≡◌, ℕ, zero, suc, ◌+◌, ◌-◌, ◌�
 use Rattle.std.specs.Prelude.{⊤, slice_get, replicate}
 use Rattle.std.proofs.lemmas.List.{length-replicate}
 use Rattle.std.proofs.lemmas.Bool.{cases_eq, eq-eqb, ne_eqb}
-
 use Rattle.jc_code.specs.declared.instr.Instr.{Instr}
 use Rattle.jc_code.specs.Spelling.{instr_at}
 use Rattle.jc_code.specs.Listing.{Placed, Runs, IsListing, begins}

@@ -1,6 +1,6 @@
 -- What it means that a certificate carries a method: with the certificate's states there is one typing that goes
 -- from instruction to instruction, and it is well typed.
-use Rattle.std.specs.Prelude.{⊤, ◌≡◌, ℕ, ℤ, pos, ◌+◌, ◌<◌, ◌==◌, ◌&&◌, List, [], ◌∷◌, length, reverse, Option, Some, None, Ok, Bool, true, false, nat_le, if◌then◌else◌}
+use Rattle.std.specs.Prelude.{⊤, ◌≡◌, ℕ, ℤ, pos, ◌+◌, ◌^◌, ◌<◌, ◌==◌, ◌&&◌, List, [], ◌∷◌, length, reverse, Option, Some, None, Ok, Bool, true, false, nat_le, if◌then◌else◌}
 use Rattle.std.specs.List.{AllByRecursion}
 use Rattle.jc_code.specs.Listing.{Placed, IsListing, placed_at, begins}
 use Rattle.jc_code.specs.Targets.{targets_of, falls_of}
@@ -82,3 +82,9 @@ pub record CarriesCode (code : List ℕ) (rows : List Row) : Type 0 where
   pub states : List Stated
   pub are : states_of rows ≡ Some states
   pub carried : Carries (word_method code) states
+
+-- code that some certificate carries, of at most 65,535 bytes
+pub record IsCarriedCode (code : List ℕ) : Type 0 where
+  pub rows : List Row
+  pub carried : CarriesCode code rows
+  pub short : length code < 2 ^ 16

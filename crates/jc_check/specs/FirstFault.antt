@@ -75,12 +75,13 @@ unfoldable pub walk : Method → List Placed → List Stated → Option Types �
 walk m listing states flow [] = Ok tt
 walk m listing states flow (x ∷ xs) = told x.pc (visit m listing states x flow) >>= λ next. walk m listing states next xs
 
--- what is found in code that decodes
+-- the entry state goes to pc 0, and the instructions follow
+abbrev pub flow_verdict : Method → List Placed → List Stated → Result ⊤ Fault
+flow_verdict m listing states = told 0 (falls_to m states (entry_of m) 0) >>= λ flow. walk m listing states flow listing
+
+-- what is found in code that decodes: a state of the certificate that doesn't stand, or else what the pass finds
 unfoldable pub verdict_of : Method → List Placed → List Stated → Result ⊤ Fault
-verdict_of m listing states = do
-  _ ← states_stand m listing states
-  flow ← told 0 (falls_to m states (entry_of m) 0)
-  walk m listing states flow listing
+verdict_of m listing states = states_stand m listing states >>= λ _. flow_verdict m listing states
 
 -- the reason that is told of a fault in decoding
 abbrev pub reason_of : CodeFault → Reason

@@ -6,5 +6,7 @@ mod method;
 mod pass;
 mod place;
 mod table;
+mod words;
 
 pub use fault::WordFault;
+pub use words::{CheckedWords, check_words};

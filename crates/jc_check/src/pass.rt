@@ -109,12 +109,7 @@ pub(crate) fn fall_to(ground: &Ground, state: &State, pc: usize) -> Result<bool,
 
 /// An instruction on the state before it: whether the state goes on to the instruction behind it.
 #[tactic(auto, unfolding(crate::specs::FirstFault::visit_live))]
-fn visit_live_at(
-    ground: &Ground,
-    state: &mut State,
-    pc: u16,
-    instr: &Instr,
-) -> Result<bool, Reason>
+fn visit_live_at(ground: &Ground, state: &mut State, pc: u16, instr: &Instr) -> Result<bool, Reason>
     requires table { AreSafe ground.now.method.now (map stated ground.now.states.now) ground.now.places.now }
     requires room { HasRoom ground.now.method.now state.old }
     ensures flow { (listing : List Placed) → IsTable ground.now.method.now listing (map stated ground.now.states.now) ground.now.places.now

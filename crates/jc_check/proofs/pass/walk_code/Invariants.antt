@@ -10,7 +10,7 @@ abbrev pub invariant-loop-pc : goal.invariant-loop-pc
 invariant-loop-pc l = record {
   room : HasRoom l.ground.method.now l.state;
   left : (listing : List Placed) → IsTable l.ground.method.now listing (map stated l.ground.states.now) l.ground.places.now
-  → IsLeft l.ground.method.now listing (map stated l.ground.states.now) (flowing l.live l.state.types) l.pc (walk l.ground.method.now listing (map stated l.ground.states.now) (flowing l.fn.live l.fn.state.types) listing);
+      → IsLeft l.ground.method.now listing (map stated l.ground.states.now) (flowing l.live l.state.types) l.pc (walk l.ground.method.now listing (map stated l.ground.states.now) (flowing l.fn.live l.fn.state.types) listing);
 }
 
 abbrev pub decreases-loop-pc : goal.decreases-loop-pc

@@ -1,0 +1,4 @@
+pub mod Shorts
+pub mod Tagged
+pub mod Answers
+pub mod Lines

@@ -2,3 +2,4 @@ pub mod Shorts
 pub mod Tagged
 pub mod Answers
 pub mod Lines
+pub mod Jobs

@@ -3,6 +3,8 @@
 
 mod answer;
 mod eval;
+mod job;
+mod line;
 
 use answer::EvalAnswer;
 

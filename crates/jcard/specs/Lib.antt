@@ -3,3 +3,4 @@ pub mod Tagged
 pub mod Answers
 pub mod Lines
 pub mod Jobs
+pub mod Texts

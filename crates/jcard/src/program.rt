@@ -28,9 +28,9 @@ pub enum TextFault {
 impl fmt::Display for TextFault {
     fn fmt<W: fmt::Write>(&self, f: &mut fmt::Formatter<W>) -> fmt::Result {
         match self {
-            TextFault::BadCode(error) => write!(f, "CODE is no hexadecimal: {error}"),
+            TextFault::BadCode(error) => write!(f, "CODE isn't hexadecimal: {error}"),
             TextFault::LongCode => write!(f, "CODE is of more than {MOST_CODE} bytes"),
-            TextFault::BadCert(error) => write!(f, "CERT is no hexadecimal: {error}"),
+            TextFault::BadCert(error) => write!(f, "CERT isn't hexadecimal: {error}"),
             TextFault::Memory => write!(f, "out of memory"),
         }
     }

@@ -6,6 +6,8 @@ mod eval;
 mod job;
 mod line;
 mod program;
+#[cfg(test)]
+mod tests;
 
 use answer::EvalAnswer;
 use job::Job;

@@ -2,3 +2,5 @@ pub mod Shorts
 pub mod Tagged
 pub mod Answers
 pub mod Lines
+pub mod Words
+pub mod Agree

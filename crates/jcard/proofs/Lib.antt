@@ -1,3 +1,5 @@
 mod Points
 mod Taking
 mod Simulation
+mod Moves
+mod Branching

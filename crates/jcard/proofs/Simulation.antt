@@ -74,7 +74,7 @@ held w ws = record { pc = w.pc; locals = w.locals; operands = ws }
 abbrev pub tagged : Frame → List TaggedValue → Frame
 tagged f vs = record { pc = f.pc; locals = f.locals; operands = vs }
 
-owes_at : (m : Method) (typing : Typing) (x : Placed) (o : Operation) (w : Words) (f : Frame) (ws : List ℕ) (vs : List TaggedValue) → w.operands ≡ ws → f.operands ≡ vs → Owes m typing x o (held w ws) (tagged f vs) → Owes m typing x o w f
+pub owes_at : (m : Method) (typing : Typing) (x : Placed) (o : Operation) (w : Words) (f : Frame) (ws : List ℕ) (vs : List TaggedValue) → w.operands ≡ ws → f.operands ≡ vs → Owes m typing x o (held w ws) (tagged f vs) → Owes m typing x o w f
 owes_at m typing x o w f ws vs e g h =
     let P : List ℕ → Type 0 = λ k. Owes m typing x o (held w k) f in
     let Q : List TaggedValue → Type 0 = λ k. Owes m typing x o (held w ws) (tagged f k) in
@@ -90,19 +90,19 @@ pub record Known (m : Method) (typing : Typing) (x : Placed) (o : Operation) (w 
   pub branches : AllByRecursion (BranchLeads typing after) (targets_of x.pc o)
   pub falls : falls_of o ≡ true → Leads typing after x.instr.next_pc
 
-nop_owes : (m : Method) (typing : Typing) (x : Placed) (w : Words) (f : Frame) (s after : Types) → Known m typing x Nop w f s after → Owes m typing x Nop w f
+pub nop_owes : (m : Method) (typing : Typing) (x : Placed) (w : Words) (f : Frame) (s after : Types) → Known m typing x Nop w f s after → Owes m typing x Nop w f
 unfolding effect_of act
 nop_owes m typing x w f s after k =
     let same : s ≡ after = the_ok s after k.effect in
     let L : Types → Type 0 = λ t. Leads typing t x.instr.next_pc in
     (tt, goes_on typing x.instr.next_pc w.locals w.operands f.locals f.operands s k.read_locals k.read_operands k.locals k.operands (subst L (sym same) (k.falls refl)))
 
-push_owes : (m : Method) (typing : Typing) (x : Placed) (value : ℤ) (w : Words) (f : Frame) (s after : Types) → Known m typing x (Push value) w f s after → Owes m typing x (Push value) w f
+pub push_owes : (m : Method) (typing : Typing) (x : Placed) (value : ℤ) (w : Words) (f : Frame) (s after : Types) → Known m typing x (Push value) w f s after → Owes m typing x (Push value) w f
 unfolding effect_of act
 push_owes m typing x value w f s after k =
     pushes typing m.max_stack x.instr.next_pc w.locals w.operands f.locals f.operands s after (word_of value) k.read_locals k.read_operands k.locals k.operands k.effect (k.falls refl)
 
-load_owes : (m : Method) (typing : Typing) (x : Placed) (i : ℕ) (w : Words) (f : Frame) (s after : Types) → Known m typing x (Load i) w f s after → Owes m typing x (Load i) w f
+pub load_owes : (m : Method) (typing : Typing) (x : Placed) (i : ℕ) (w : Words) (f : Frame) (s after : Types) → Known m typing x (Load i) w f s after → Owes m typing x (Load i) w f
 unfolding effect_of act
 load_owes m typing x i w f s after k =
     let one = bind_ok (local_type i s) _ after k.effect in
@@ -111,7 +111,7 @@ load_owes m typing x i w f s after k =
     let p = pushes typing m.max_stack x.instr.next_pc w.locals w.operands f.locals f.operands s after l.word k.read_locals k.read_operands k.locals k.operands two.2 (k.falls refl) in
     ((l.within, p.0), rw (l.word_is, l.value_is) p.1)
 
-store_owes : (m : Method) (typing : Typing) (x : Placed) (i : ℕ) (w : Words) (f : Frame) (s after : Types) → Known m typing x (Store i) w f s after → Owes m typing x (Store i) w f
+pub store_owes : (m : Method) (typing : Typing) (x : Placed) (i : ℕ) (w : Words) (f : Frame) (s after : Types) → Known m typing x (Store i) w f s after → Owes m typing x (Store i) w f
 unfolding effect_of act set_local_type
 store_owes m typing x i w f s after k =
     let one = bind_ok (local_type i s) _ after k.effect in
@@ -140,7 +140,7 @@ set_there [] i t e = refl
 set_there (u ∷ us) zero t e = ap (λ (z : Ty). z ∷ us) (let h = e in cc)
 set_there (u ∷ us) (suc i) t e = ap (λ (zs : List Ty). u ∷ zs) (set_there us i t e)
 
-increment_owes : (m : Method) (typing : Typing) (x : Placed) (i : ℕ) (by : ℤ) (w : Words) (f : Frame) (s after : Types) → Known m typing x (Increment i by) w f s after → Owes m typing x (Increment i by) w f
+pub increment_owes : (m : Method) (typing : Typing) (x : Placed) (i : ℕ) (by : ℤ) (w : Words) (f : Frame) (s after : Types) → Known m typing x (Increment i by) w f s after → Owes m typing x (Increment i by) w f
 unfolding effect_of act
 increment_owes m typing x i by w f s after k =
     let one = bind_ok (local_type i s) _ after k.effect in

@@ -3,3 +3,5 @@ mod Taking
 mod Simulation
 mod Moves
 mod Branching
+mod Stepping
+mod Frames

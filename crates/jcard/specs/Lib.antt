@@ -4,3 +4,4 @@ pub mod Answers
 pub mod Lines
 pub mod Words
 pub mod Agree
+pub mod Runs

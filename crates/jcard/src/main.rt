@@ -3,6 +3,10 @@
 
 mod answer;
 mod eval;
+mod frame;
+mod perform;
+mod run;
+mod shorts;
 
 use answer::EvalAnswer;
 

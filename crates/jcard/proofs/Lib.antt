@@ -5,3 +5,4 @@ mod Moves
 mod Branching
 mod Stepping
 mod Frames
+mod Cases

@@ -6,3 +6,4 @@ mod Branching
 mod Stepping
 mod Frames
 mod Cases
+mod Running

@@ -7,3 +7,4 @@ mod Stepping
 mod Frames
 mod Cases
 mod Running
+mod Evaluating

@@ -5,3 +5,5 @@ pub mod Lines
 pub mod Words
 pub mod Agree
 pub mod Runs
+pub mod Jobs
+pub mod Texts

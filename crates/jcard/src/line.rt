@@ -1,0 +1,88 @@
+//! The command line: `jcard eval CODE [CERT] [--steps N]`.
+
+ghost use Rattle.std.specs.Prelude.{◌≡◌, ◌<◌, ◌^◌, IfOk, IfSome};
+ghost use Rattle.clap.specs.Words.{found_of};
+ghost use Rattle.jcard.specs.Jobs.{HasSteps, IsEvalOf};
+
+use crate::job::Job;
+use clap::error::ErrorKind;
+use clap::{Arg, ArgMatches, Command, Error, value_parser};
+use std::alloc::{AllocError, Global};
+use std::convert::AsStr;
+
+/// Why there is no job.
+#[derive(Debug, Drop)]
+pub enum LineFault {
+    /// The words are no job, or ask for help: the text that says so, and where to print it.
+    Line(Error),
+    /// No memory was left.
+    Memory,
+}
+
+impl From<Error> for LineFault {
+    fn from(error: Error) -> LineFault {
+        if error.kind() == ErrorKind::OutOfMemory {
+            LineFault::Memory
+        } else {
+            LineFault::Line(error)
+        }
+    }
+}
+
+impl From<AllocError> for LineFault {
+    fn from(_error: AllocError) -> LineFault {
+        LineFault::Memory
+    }
+}
+
+/// Reads the words of a command line, of which the first is the program's name.
+pub fn job<'a, S: AsStr>(alloc: Global, words: &'a [S]) -> Result<Job<'a>, LineFault>
+    ensures { IfOk result HasSteps }
+{
+    let mut program = Command::new(alloc, "jcard")
+        .about("Checks and runs the code of a Java Card")
+        .subcommand_required(true)
+        .subcommand(eval_command(alloc)?)?;
+    let matches = program.try_get_matches_from_mut(words)?;
+    match matches
+        .subcommand_matches("eval")
+        .and_then(|found| eval_job(found))
+    {
+        Some(job) => Ok(job),
+        None => Err(LineFault::from(program.error(
+            ErrorKind::MissingSubcommand,
+            "no job is named",
+        )?)),
+    }
+}
+
+// `eval CODE [CERT] [--steps N]`.
+fn eval_command<'a>(alloc: Global) -> Result<Command<'a>, AllocError> {
+    let code = Arg::new(alloc, "CODE").required(true).help(
+        "The code of a method, in hexadecimal: at most 65,535 bytes",
+    );
+    let cert = Arg::new(alloc, "CERT")
+        .default_value("0000")
+        .help("The code's certificate, in hexadecimal");
+    let steps = Arg::new(alloc, "steps")
+        .long("steps")
+        .value_name("N")
+        .value_parser(value_parser!(u32).range(1..))
+        .default_value("100000")
+        .help("How many instructions are run at most, from 1 to 4294967295");
+    Command::new(alloc, "eval")
+        .about("Checks code with a certificate and runs it")
+        .arg(code)?
+        .arg(cert)?
+        .arg(steps)
+}
+
+// The job that the matches of `eval` say.
+fn eval_job<'a>(found: &ArgMatches<'a>) -> Option<Job<'a>>
+    ensures { IfSome result (IsEvalOf (found_of found.now)) }
+{
+    let code = found.get_str("CODE")?;
+    let cert = found.get_str("CERT")?;
+    let steps = found.get_one::<u32>("steps").filter(|steps| *steps != 0)?;
+    Some(Job::Eval { code, cert, steps })
+}

@@ -1,12 +1,17 @@
 //! What the readers of a card's files share: a cursor over bytes, and why a file is refused.
 #![tactic(auto)]
 
+mod aid;
 mod cursor;
 mod fault;
 mod parts;
 mod reason;
 
+pub use aid::Aid;
 pub use cursor::Cursor;
 pub use fault::LoadFault;
 pub use parts::Parts;
 pub use reason::Reason;
+
+#[cfg(test)]
+mod tests;

@@ -1,1 +1,6 @@
 pub mod Binding
+pub mod Pieces
+pub mod Put
+pub mod Steps
+pub mod Once
+pub mod Decide

@@ -3,3 +3,5 @@ pub mod Results
 pub mod Names
 pub mod Image
 pub mod Aids
+pub mod Components
+pub mod Slots

@@ -3,12 +3,15 @@
 
 mod aid;
 mod cursor;
+mod cutting;
 mod fault;
 mod parts;
 mod reason;
+pub mod tag;
 
 pub use aid::Aid;
 pub use cursor::Cursor;
+pub use cutting::cut;
 pub use fault::LoadFault;
 pub use parts::Parts;
 pub use reason::Reason;

@@ -1,13 +1,17 @@
 -- Application identifiers (Java Card Virtual Machine Specification, CAP file format: package_info and Applet component).
-use Rattle.std.specs.Prelude.{◌≡◌, ℕ, ◌-◌, ◌≤◌, List, ◌++◌, length, take, drop, Option, Some, None, nat_lt, if◌then◌else◌}
+use Rattle.std.specs.Prelude.{◌≡◌, ℕ, ◌-◌, ◌≤◌, List, ◌++◌, length, take, drop, Option, Some, None, Bool, ◌&&◌, nat_le, if◌then◌else◌}
 use Rattle.std.proofs.Common.{ap, ◌∙◌, sym, arith}
 use Rattle.std.proofs.Math.ListN.{replicate}
 use Rattle.std.proofs.lemmas.List.{take-append-drop, length-take-le}
 use Rattle.jc_base.specs.declared.aid.Aid.TheInside.{Inside}
 
--- an AID is a list of 5 to 16 bytes
+-- an AID has 5 to 16 bytes
+abbrev pub has_aid_length : ℕ → Bool
+has_aid_length n = nat_le 5 n && nat_le n 16
+
+-- bytes as an AID, if they are one
 abbrev pub aid_of : List ℕ → Option (List ℕ)
-aid_of bytes = if nat_lt (length bytes) 5 then None else (if nat_lt 16 (length bytes) then None else Some bytes)
+aid_of bytes = if has_aid_length (length bytes) then Some bytes else None
 
 -- the bytes that an array of 16 holds
 abbrev pub held : Inside → List ℕ

@@ -5,3 +5,4 @@ pub mod Image
 pub mod Aids
 pub mod Components
 pub mod Slots
+pub mod Packages

@@ -3,8 +3,12 @@
 ghost use Rattle.std.specs.Prelude.{◌≡◌, ◌≤◌, length, bytes_eq};
 ghost use Rattle.std.specs.Cmp.{partial_equiv_from_equiv};
 ghost use Rattle.std.specs.Cmp.Lexicographic.{nat_list_eq_equiv};
-ghost use Rattle.jc_base.specs.Aids.{aid_of};
+ghost use Rattle.jc_base.specs.Aids.{aid_of, has_aid_length};
+ghost use Rattle.jc_base.specs.Reading.{Reads};
+ghost use Rattle.jc_base.specs.Packages.{aid_at};
 
+use crate::cursor::Cursor;
+use crate::fault::LoadFault;
 use std::marker::Model;
 
 /// The identifier of a package or an applet: 5 to 16 bytes (ISO/IEC 7816-5).
@@ -30,18 +34,39 @@ impl Model for Aid {
     ghost inverse_ok = { same_held };
 }
 
+/// Whether an AID may have so many bytes.
+fn is_aid_len(len: usize) -> bool
+    ensures { result ≡ has_aid_length len }
+{
+    5 <= len && len <= 16
+}
+
 impl Aid {
     /// The identifier of these bytes, or `None` where they are fewer than 5 or more than 16.
     pub fn from_slice(bytes: &[u8]) -> Option<Aid>
         ensures { result ≡ aid_of bytes.now }
     {
         let len = bytes.len();
-        if len < 5 || 16 < len {
+        if !is_aid_len(len) {
             return None;
         }
         let mut held = [0; 16];
         held[..len].copy_from_slice(bytes);
         Some(Aid { bytes: held, len })
+    }
+
+    /// The next AID in the component with a tag: its length, and its bytes. A length that isn't 5 to 16 is
+    /// `BadAid`, also where fewer bytes follow.
+    #[tactic(auto, unfolding(crate::specs::Packages::aid_at))]
+    pub fn read(cursor: &mut Cursor, tag: u8) -> Result<Aid, LoadFault>
+        ensures { Reads (λ aid. aid) result cursor.new (aid_at tag cursor.old) }
+    {
+        let len = usize::from(cursor.u1().ok_or(LoadFault::Malformed(tag))?);
+        if !is_aid_len(len) {
+            return Err(LoadFault::BadAid);
+        }
+        let bytes = cursor.take(len).ok_or(LoadFault::Malformed(tag))?;
+        Aid::from_slice(bytes).ok_or(LoadFault::BadAid)
     }
 
     /// Its bytes.

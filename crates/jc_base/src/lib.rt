@@ -5,6 +5,7 @@ mod aid;
 mod cursor;
 mod cutting;
 mod fault;
+mod package;
 mod parts;
 mod reason;
 pub mod tag;
@@ -13,6 +14,7 @@ pub use aid::Aid;
 pub use cursor::Cursor;
 pub use cutting::cut;
 pub use fault::LoadFault;
+pub use package::Package;
 pub use parts::Parts;
 pub use reason::Reason;
 

@@ -1,6 +1,6 @@
 -- AIDs and packages as they stand in components (Java Card Virtual Machine Specification, CAP file format:
 -- package_info in the Header component).
-use Rattle.std.specs.Prelude.{ℕ, List, Option, Result, Ok, Err, if◌then◌else◌}
+use Rattle.std.specs.Prelude.{ℕ, ◌==◌, List, length, Option, Result, Ok, Err, if◌then◌else◌}
 use Rattle.std.specs.Option.{ok_or}
 use Rattle.jc_base.specs.Reading.{Read, u1_at, bytes_at}
 use Rattle.jc_base.specs.Results.{◌>>=◌}
@@ -12,6 +12,10 @@ use Rattle.jc_base.specs.declared.package.Package.{Package}
 -- a field of the component with a tag, which is malformed where the field isn't there
 abbrev pub field : {A : Type 0} → ℕ → Option A → Result A LoadFault
 field tag o = ok_or o (Malformed tag)
+
+-- a value that its component, with a tag, has nothing behind
+abbrev pub alone : {A : Type 0} → ℕ → Read A → Result A LoadFault
+alone tag x = if length x.rest == 0 then Ok x.value else Err (Malformed tag)
 
 -- a length of 5 to 16, and so many bytes
 unfoldable pub aid_at : ℕ → List ℕ → Result (Read (List ℕ)) LoadFault

@@ -4,3 +4,5 @@ pub mod Put
 pub mod Steps
 pub mod Once
 pub mod Decide
+pub mod Repeats
+pub mod Wholes

@@ -6,3 +6,4 @@ pub mod Aids
 pub mod Components
 pub mod Slots
 pub mod Packages
+pub mod Repeats

@@ -42,6 +42,13 @@ impl<'a> Cursor<'a> {
         self.rest.is_empty()
     }
 
+    /// The bytes that are left.
+    pub fn rest(&self) -> &'a [u8]
+        ensures { result.now ≡ self.now }
+    {
+        self.rest
+    }
+
     /// The next byte.
     pub fn u1(&mut self) -> Option<u8>
         ensures { Steps (λ x. x) result self.old self.new (u1_at self.old) }

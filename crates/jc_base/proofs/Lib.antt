@@ -5,4 +5,3 @@ pub mod Steps
 pub mod Once
 pub mod Decide
 pub mod Repeats
-pub mod Wholes

@@ -2,7 +2,8 @@
 use Rattle.std.proofs.Common.{◌≡◌, ℕ, zero, suc, ◌<◌, ◌≤◌, ◌+◌, ◌-◌, List, [], ◌∷◌, length, Option, Some, None, Result, Ok, Err, refl, sym, ap, ◌∙◌, arith}
 use Rattle.std.specs.List.{slice_get}
 use Rattle.std.proofs.lemmas.Option.{slice_get_past}
-use Rattle.jc_base.specs.Reading.{Read}
+use Rattle.std.specs.Result.{result_ok}
+use Rattle.jc_base.specs.Reading.{Read, Reads}
 use Rattle.jc_base.specs.Results.{◌>>=◌}
 use Rattle.jc_base.specs.Repeats.{repeat, rows_of, rest_of}
 use Rattle.jc_base.proofs.Binding.{bind_ok, the_ok, ok_err}
@@ -25,6 +26,22 @@ module _ {A E : Type 0} (row_at : List ℕ → Result (Read A) E) where
   pub nothing_passed : (bytes : List ℕ) → rest_of (repeat row_at zero bytes) ≡ Ok bytes
   unfolding repeat
   nothing_passed bytes = refl
+
+  -- a loop that passes over rows: so many are left, and passing over them gives what passing over all gives
+  pub goes_on : (n m : ℕ) (bytes : List ℕ) (x : Read A) (total : Result (List ℕ) E) → n ≡ m + 1 → row_at bytes ≡ Ok x
+      → rest_of (repeat row_at n bytes) ≡ total → rest_of (repeat row_at m x.rest) ≡ total
+  goes_on zero m bytes x total e here so_far = absurd (omega arith)
+  goes_on (suc n) m bytes x total e here so_far =
+      let same : m ≡ n = omega arith in
+      rw same (sym (one_passed n bytes x here) ∙ so_far)
+
+  pub stops : (n : ℕ) (bytes : List ℕ) (fault : E) (total : Result (List ℕ) E) → 0 < n → row_at bytes ≡ Err fault
+      → rest_of (repeat row_at n bytes) ≡ total → Err fault ≡ total
+  stops zero bytes fault total more here so_far = absurd (omega arith)
+  stops (suc n) bytes fault total more here so_far = sym (none_there n bytes fault here) ∙ so_far
+
+  pub ends : (n : ℕ) (bytes : List ℕ) (total : Result (List ℕ) E) → n ≡ 0 → rest_of (repeat row_at n bytes) ≡ total → Ok bytes ≡ total
+  ends n bytes total e so_far = sym (nothing_passed bytes) ∙ ap (λ k. rest_of (repeat row_at k bytes)) (sym e) ∙ so_far
 
   -- what rows are made of
   pub record Parts (n : ℕ) (bytes : List ℕ) (all : Read (List A)) : Type 0 where
@@ -88,26 +105,24 @@ module _ {A E : Type 0} (row_at : List ℕ → Result (Read A) E) where
       let len = count_is n bytes rest e in
       sym (slice_get_past (rows_of (repeat row_at n bytes)) k (omega arith))
 
-  pub found_row : (n k : ℕ) (bytes rest place : List ℕ) (x : Read A) → rest_of (repeat row_at n bytes) ≡ Ok rest → k < n
-      → Ok place ≡ rest_of (repeat row_at k bytes) → row_at place ≡ Ok x → Some x.value ≡ slice_get (rows_of (repeat row_at n bytes)) k
-  found_row n k bytes rest place x e lt passed here =
-      let a = all_of (repeat row_at n bytes) rest e in
-      let q = is_at n k bytes a.0 a.1 lt in
-      let same : q.place ≡ place = the_ok _ _ (sym q.passed ∙ sym passed) in
-      let row : q.row ≡ x = the_ok _ _ (sym q.here ∙ ap row_at same ∙ here) in
-      ap (λ (w : Read A). Some w.value) (sym row) ∙ sym q.found ∙ ap (λ (w : List A). slice_get w k) a.2
+  -- a look-up: the rows before the one that is asked for are passed over, and it is read
+  pub look_up : (n k : ℕ) (rows start rest place new : List ℕ) (r : Result A E) → start ≡ rows → rest_of (repeat row_at n rows) ≡ Ok rest → k < n
+      → Ok place ≡ rest_of (repeat row_at k start) → Reads (λ x. x) r new (row_at place) → result_ok r ≡ slice_get (rows_of (repeat row_at n rows)) k
+  look_up n k rows start rest place new r begins e lt passed reads =
+      let a = all_of (repeat row_at n rows) rest e in
+      let q = is_at n k rows a.0 a.1 lt in
+      let there : Ok place ≡ rest_of (repeat row_at k rows) = passed ∙ ap (λ w. rest_of (repeat row_at k w)) begins in
+      let same : q.place ≡ place = the_ok _ _ (sym q.passed ∙ sym there) in
+      let here : row_at place ≡ Ok q.row = ap row_at (sym same) ∙ q.here in
+      read r here reads ∙ sym q.found ∙ ap (λ (w : List A). slice_get w k) a.2
+    where
+      read : {row : Read A} (r : Result A E) → row_at place ≡ Ok row → Reads (λ x. x) r new (row_at place) → result_ok r ≡ Some row.value
+      read (Ok x) here reads = ap (λ (w : Read A). Some w.value) (the_ok _ _ (sym reads ∙ here))
+      read (Err fault) here reads = absurd (ok_err _ _ (sym here ∙ reads))
 
-  pub not_stuck : (n k : ℕ) (bytes rest : List ℕ) (fault : E) → rest_of (repeat row_at n bytes) ≡ Ok rest → k < n
-      → Err fault ≡ rest_of (repeat row_at k bytes) → ⊥
-  not_stuck n k bytes rest fault e lt stuck =
-      let a = all_of (repeat row_at n bytes) rest e in
-      let q = is_at n k bytes a.0 a.1 lt in
-      ok_err _ _ (sym q.passed ∙ sym stuck)
-
-  pub not_missing : (n k : ℕ) (bytes rest place : List ℕ) (fault : E) → rest_of (repeat row_at n bytes) ≡ Ok rest → k < n
-      → Ok place ≡ rest_of (repeat row_at k bytes) → row_at place ≡ Err fault → ⊥
-  not_missing n k bytes rest place fault e lt passed missing =
-      let a = all_of (repeat row_at n bytes) rest e in
-      let q = is_at n k bytes a.0 a.1 lt in
-      let same : q.place ≡ place = the_ok _ _ (sym q.passed ∙ sym passed) in
-      ok_err _ _ (sym q.here ∙ ap row_at same ∙ missing)
+  pub not_stuck : (n k : ℕ) (rows start rest : List ℕ) (fault : E) → start ≡ rows → rest_of (repeat row_at n rows) ≡ Ok rest → k < n
+      → Err fault ≡ rest_of (repeat row_at k start) → ⊥
+  not_stuck n k rows start rest fault begins e lt stuck =
+      let a = all_of (repeat row_at n rows) rest e in
+      let q = is_at n k rows a.0 a.1 lt in
+      ok_err _ _ (sym q.passed ∙ sym (stuck ∙ ap (λ w. rest_of (repeat row_at k w)) begins))

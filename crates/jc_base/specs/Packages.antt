@@ -13,9 +13,13 @@ use Rattle.jc_base.specs.declared.package.Package.{Package}
 abbrev pub field : {A : Type 0} → ℕ → Option A → Result A LoadFault
 field tag o = ok_or o (Malformed tag)
 
--- a value that its component, with a tag, has nothing behind
+-- a value, where its component has nothing behind it
 abbrev pub alone : {A : Type 0} → ℕ → Read A → Result A LoadFault
 alone tag x = if length x.rest == 0 then Ok x.value else Err (Malformed tag)
+
+-- what was read, where its component has nothing behind it
+abbrev pub only : {A : Type 0} → ℕ → Result (Read A) LoadFault → Result A LoadFault
+only tag r = r >>= alone tag
 
 -- a length of 5 to 16, and so many bytes
 unfoldable pub aid_at : ℕ → List ℕ → Result (Read (List ℕ)) LoadFault

@@ -3,7 +3,7 @@
 use Rattle.std.specs.Prelude.{ℕ, ◌==◌, List, Option, Some, None, Result, Ok, Err, bit_and, if◌then◌else◌}
 use Rattle.jc_base.specs.Reading.{Read, u1_at, u4_at}
 use Rattle.jc_base.specs.Results.{◌>>=◌}
-use Rattle.jc_base.specs.Packages.{field, alone, package_at}
+use Rattle.jc_base.specs.Packages.{field, only, package_at}
 use Rattle.jc_base.specs.declared.fault.LoadFault.{LoadFault}
 use Rattle.jc_base.specs.declared.fault.LoadFault.TheVariants.{BadMagic, FormatVersion, IntPackage}
 use Rattle.jc_base.specs.declared.tag.TheConstants.{HEADER}
@@ -22,6 +22,5 @@ header_of info = do
   major ← behind FormatVersion MINOR (u1_at minor)
   rest ← behind FormatVersion MAJOR (u1_at major)
   flags ← field HEADER (u1_at rest)
-  last ← if bit_and flags.value ACC_INT == 0 then package_at HEADER flags.rest else Err IntPackage
-  named ← alone HEADER last
+  named ← only HEADER (if bit_and flags.value ACC_INT == 0 then package_at HEADER flags.rest else Err IntPackage)
   Ok (record { «package» = named })

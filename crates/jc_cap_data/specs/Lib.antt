@@ -1,2 +1,3 @@
 pub mod Imports
 pub mod Applets
+pub mod Numbers

@@ -3,6 +3,8 @@
 
 mod applets;
 mod imports;
+mod numbers;
 
 pub use applets::{Applet, Applets, read_applets};
 pub use imports::{Imports, read_imports};
+pub use numbers::{S1s, S2s, U2s};

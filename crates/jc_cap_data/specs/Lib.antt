@@ -1,3 +1,4 @@
 pub mod Imports
 pub mod Applets
 pub mod Numbers
+pub mod Exports

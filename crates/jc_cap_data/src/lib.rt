@@ -14,3 +14,6 @@ pub use exports::{ExportedClass, Exports, read_exports};
 pub use imports::{Imports, read_imports};
 pub use numbers::{S1s, S2s, U2s};
 pub use statics::{StaticFields, read_static_fields};
+
+#[cfg(test)]
+mod tests;

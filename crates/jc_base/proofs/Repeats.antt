@@ -126,3 +126,27 @@ module _ {A E : Type 0} (row_at : List ℕ → Result (Read A) E) where
       let a = all_of (repeat row_at n rows) rest e in
       let q = is_at n k rows a.0 a.1 lt in
       ok_err _ _ (sym q.passed ∙ sym (stuck ∙ ap (λ w. rest_of (repeat row_at k w)) begins))
+
+  -- the first of the rows that are left, and those behind it
+  pub first_left : (n m : ℕ) (rows rest : List ℕ) (x : Read A) → n ≡ m + 1 → row_at rows ≡ Ok x
+      → rest_of (repeat row_at n rows) ≡ Ok rest → rest_of (repeat row_at m x.rest) ≡ Ok rest
+  first_left n m rows rest x e here whole = goes_on n m rows x (Ok rest) e here whole
+
+  pub first_of : (n m : ℕ) (rows rest : List ℕ) (x : Read A) → n ≡ m + 1 → row_at rows ≡ Ok x
+      → rest_of (repeat row_at n rows) ≡ Ok rest → rows_of (repeat row_at n rows) ≡ x.value ∷ rows_of (repeat row_at m x.rest)
+  first_of zero m rows rest x e here whole = absurd (omega arith)
+  first_of (suc n) m rows rest x e here whole =
+      let same : m ≡ n = omega arith in
+      let a = all_of (repeat row_at (suc n) rows) rest whole in
+      let p = parts n rows a.0 a.1 in
+      let first : p.first ≡ x = the_ok _ _ (sym p.here ∙ here) in
+      let more : repeat row_at m x.rest ≡ Ok p.more = ap (λ k. repeat row_at k x.rest) same ∙ ap (λ (w : Read A). repeat row_at n w.rest) (sym first) ∙ p.there in
+      sym a.2 ∙ sym p.rows ∙ ap (λ (w : Read A). w.value ∷ p.more.value) first ∙ ap (λ (w : Result (Read (List A)) E). x.value ∷ rows_of w) (sym more)
+
+  pub none_left : (n : ℕ) (rows : List ℕ) → n ≡ 0 → rows_of (repeat row_at n rows) ≡ []
+  unfolding repeat
+  none_left zero rows e = refl
+  none_left (suc n) rows e = absurd (omega arith)
+
+  pub first_there : (n : ℕ) (rows rest : List ℕ) (fault : E) → 0 < n → rest_of (repeat row_at n rows) ≡ Ok rest → row_at rows ≡ Err fault → ⊥
+  first_there n rows rest fault more whole missing = ok_err _ _ (sym (stops n rows fault (Ok rest) more missing whole))

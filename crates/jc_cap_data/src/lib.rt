@@ -9,7 +9,7 @@ mod numbers;
 mod statics;
 
 pub use applets::{Applet, Applets, read_applets};
-pub use arrays::StaticArray;
+pub use arrays::{StaticArray, StaticArrays};
 pub use exports::{ExportedClass, Exports, read_exports};
 pub use imports::{Imports, read_imports};
 pub use numbers::{S1s, S2s, U2s};

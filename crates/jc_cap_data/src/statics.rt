@@ -1,10 +1,10 @@
 //! The StaticField component.
 
-ghost use Rattle.std.specs.Prelude.{◌≡◌, ◌+◌, ◌*◌, ◌≤◌, length, slice_get, IfOk};
+ghost use Rattle.std.specs.Prelude.{◌≡◌, ◌+◌, ◌*◌, ◌≤◌, length, IfOk};
 ghost use Rattle.jc_base.specs.Packages.{only};
 ghost use Rattle.jc_cap_data.specs.Statics.{fits, fields_at, statics_of};
 
-use crate::arrays::{StaticArray, skip};
+use crate::arrays::StaticArrays;
 use jc_base::tag::STATIC_FIELD;
 use jc_base::{Cursor, LoadFault, Parts};
 use std::marker::Model;
@@ -15,16 +15,12 @@ use std::marker::Model;
 pub struct StaticFields<'a> {
     size: u16,
     references: u16,
-    count: u16,
-    arrays: &'a [u8],
+    arrays: StaticArrays<'a>,
     defaults: u16,
     values: &'a [u8],
 }
 
 impl<'a> Model for StaticFields<'a> {
-    ghost use Rattle.std.specs.Prelude.{◌≡◌, ℕ, List, Ok};
-    ghost use Rattle.jc_base.specs.Repeats.{repeat, rows_of, rest_of};
-    ghost use Rattle.jc_cap_data.specs.Arrays.{array_at};
     ghost use Rattle.jc_cap_data.specs.Statics.{StaticImage};
 
     ghost Value = { StaticImage };
@@ -32,12 +28,10 @@ impl<'a> Model for StaticFields<'a> {
     ghost view = { λ s. record {
       size = s.size;
       references = s.references;
-      arrays = rows_of (repeat array_at s.count s.arrays.now);
+      arrays = s.arrays;
       defaults = s.defaults;
       values = s.values.now;
     } };
-
-    ghost invariant = { λ s. (rest : List ℕ) × (rest_of (repeat array_at s.count s.arrays.now) ≡ Ok rest) };
 }
 
 impl<'a> StaticFields<'a> {
@@ -55,25 +49,11 @@ impl<'a> StaticFields<'a> {
         self.references
     }
 
-    /// How many of the references lead to initialised arrays.
-    pub fn array_count(&self) -> u16
-        ensures { result ≡ length self.now.arrays }
+    /// The initialised arrays, to which the first references lead.
+    pub fn arrays(&self) -> StaticArrays<'a>
+        ensures { result ≡ self.now.arrays }
     {
-        self.count
-    }
-
-    /// The initialised array that the reference at a place leads to.
-    pub fn array(&self, place: u16) -> Option<StaticArray<'a>>
-        ensures { result ≡ slice_get self.now.arrays place }
-    {
-        if self.count <= place {
-            return None;
-        }
-        let mut cursor = Cursor::new(self.arrays);
-        let Ok(()) = skip(&mut cursor, place) else {
-            return None;
-        };
-        StaticArray::read(&mut cursor).ok()
+        self.arrays.again()
     }
 
     /// How many bytes of value 0 follow the references.
@@ -94,8 +74,9 @@ impl<'a> StaticFields<'a> {
     fn fits(&self) -> bool
         ensures { result ≡ fits self.now }
     {
-        let sum = 2 * usize::from(self.references) + usize::from(self.defaults) + self.values.len();
-        usize::from(self.size) == sum && self.count <= self.references
+        let zeros = 2 * usize::from(self.reference_count()) + usize::from(self.default_count());
+        let size = usize::from(self.image_size());
+        size == zeros + self.values().len() && self.arrays().len() <= self.reference_count()
     }
 }
 
@@ -108,8 +89,7 @@ fn fields<'a>(info: &'a [u8]) -> Result<StaticFields<'a>, LoadFault>
     let size = cursor.u2().ok_or(LoadFault::Malformed(STATIC_FIELD))?;
     let references = cursor.u2().ok_or(LoadFault::Malformed(STATIC_FIELD))?;
     let count = cursor.u2().ok_or(LoadFault::Malformed(STATIC_FIELD))?;
-    let arrays = cursor.rest();
-    skip(&mut cursor, count)?;
+    let arrays = StaticArrays::read(&mut cursor, count)?;
     let defaults = cursor.u2().ok_or(LoadFault::Malformed(STATIC_FIELD))?;
     let given = cursor.u2().ok_or(LoadFault::Malformed(STATIC_FIELD))?;
     let values = cursor
@@ -121,7 +101,6 @@ fn fields<'a>(info: &'a [u8]) -> Result<StaticFields<'a>, LoadFault>
     Ok(StaticFields {
         size,
         references,
-        count,
         arrays,
         defaults,
         values,

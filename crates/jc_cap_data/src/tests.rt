@@ -105,7 +105,7 @@ fn the_package(rt: HostRuntime) -> Result<(), Fail> {
         .ok()
         .ok_or("it has static fields")?;
     assert_eq!(rt; fields.image_size(), 0);
-    assert_eq!(rt; fields.array_count(), 0);
+    assert_eq!(rt; fields.arrays().len(), 0);
     let exports = read_exports(&parts).ok().ok_or("it may export")?;
     assert_eq!(rt; exports.len(), 0);
     Ok(())
@@ -267,27 +267,33 @@ fn static_fields(rt: HostRuntime) -> Result<(), Fail> {
     let fields = read_static_fields(&parts).ok().ok_or("well-formed")?;
     assert_eq!(rt; fields.image_size(), 11);
     assert_eq!(rt; fields.reference_count(), 3);
-    assert_eq!(rt; fields.array_count(), 3);
+    assert_eq!(rt; fields.arrays().len(), 3);
     assert_eq!(rt; fields.default_count(), 2);
     assert_eq!(rt; fields.values(), &STATICS[26..29]);
-    let Some(StaticArray::Boolean(booleans)) = fields.array(0) else {
+    let mut arrays = fields.arrays();
+    for left in [2, 1, 0] {
+        assert!(rt; arrays.next().is_some());
+        assert_eq!(rt; arrays.len(), left);
+    }
+    assert!(rt; arrays.next().is_none());
+    let Some(StaticArray::Boolean(booleans)) = fields.arrays().get(0) else {
         return Err("an array of booleans".into());
     };
     assert_eq!(rt; booleans.get(0), Some(1));
-    let Some(StaticArray::Byte(bytes)) = fields.array(1) else {
+    let Some(StaticArray::Byte(bytes)) = fields.arrays().get(1) else {
         return Err("an array of bytes".into());
     };
     assert_eq!(rt; bytes.len(), 2);
     assert_eq!(rt; bytes.get(0), Some(-1));
     assert_eq!(rt; bytes.get(1), Some(127));
     assert_eq!(rt; bytes.get(2), None);
-    let Some(StaticArray::Short(shorts)) = fields.array(2) else {
+    let Some(StaticArray::Short(shorts)) = fields.arrays().get(2) else {
         return Err("an array of shorts".into());
     };
     assert_eq!(rt; shorts.len(), 2);
     assert_eq!(rt; shorts.get(0), Some(-32768));
     assert_eq!(rt; shorts.get(1), Some(1));
-    assert!(rt; fields.array(3).is_none());
+    assert!(rt; fields.arrays().get(3).is_none());
     Ok(())
 }
 

@@ -5,7 +5,7 @@ use Rattle.std.specs.List.{flat_map, find, AllByRecursion, range_with_len}
 use Rattle.jc_base.specs.Results.{◌>>=◌}
 use Rattle.jc_base.specs.declared.fault.LoadFault.{LoadFault}
 use Rattle.jc_base.specs.declared.fault.LoadFault.TheVariants.{ShortComponent, ExtraBytes, MissingComponent, RepeatedComponent}
-use Rattle.jc_base.specs.declared.tag.TheConstants.{HEADER, APPLET, IMPORT, CONSTANT_POOL, CLASS, METHOD, STATIC_FIELD, EXPORT, DESCRIPTOR}
+use Rattle.jc_base.specs.Tags.{header_tag, applet_tag, import_tag, constant_pool_tag, class_tag, method_tag, static_field_tag, export_tag, descriptor_tag}
 
 -- the infos of an image: those that it must have, and those that it may have
 pub record Infos : Type 0 where
@@ -76,22 +76,22 @@ single (Some tag) infos = Err (RepeatedComponent tag)
 -- what the infos by their tags, and the tag that came twice, give: the first that is missing is the least
 unfoldable pub infos_by : (ℕ → Option (List ℕ)) → Option ℕ → Result Infos LoadFault
 infos_by info repeated = do
-  header ← needed HEADER (info HEADER)
-  constant_pool ← needed CONSTANT_POOL (info CONSTANT_POOL)
-  class ← needed CLASS (info CLASS)
-  method ← needed METHOD (info METHOD)
-  static_field ← needed STATIC_FIELD (info STATIC_FIELD)
-  descriptor ← needed DESCRIPTOR (info DESCRIPTOR)
+  header ← needed header_tag (info header_tag)
+  constant_pool ← needed constant_pool_tag (info constant_pool_tag)
+  class ← needed class_tag (info class_tag)
+  method ← needed method_tag (info method_tag)
+  static_field ← needed static_field_tag (info static_field_tag)
+  descriptor ← needed descriptor_tag (info descriptor_tag)
   single repeated
       (record {
         header = header;
-        applet = info APPLET;
-        imports = info IMPORT;
+        applet = info applet_tag;
+        imports = info import_tag;
         constant_pool = constant_pool;
         class = class;
         method = method;
         static_field = static_field;
-        export = info EXPORT;
+        export = info export_tag;
         descriptor = descriptor;
       })
 

@@ -7,3 +7,4 @@ pub mod Components
 pub mod Slots
 pub mod Packages
 pub mod Repeats
+pub mod Tags

@@ -6,7 +6,7 @@ use Rattle.jc_base.specs.Packages.{field, only}
 use Rattle.jc_base.specs.Repeats.{repeat}
 use Rattle.jc_base.specs.declared.fault.LoadFault.{LoadFault}
 use Rattle.jc_base.specs.declared.fault.LoadFault.TheVariants.{Malformed}
-use Rattle.jc_base.specs.declared.tag.TheConstants.{STATIC_FIELD}
+use Rattle.jc_base.specs.Tags.{static_field_tag}
 use Rattle.jc_cap_data.specs.Arrays.{array_at}
 use Rattle.jc_cap_data.specs.declared.arrays.StaticArray.{StaticArray}
 
@@ -26,13 +26,13 @@ fits image = image.size == 2 * image.references + image.defaults + length image.
 -- the fields of the component in their order
 unfoldable pub fields_at : List ℕ → Result (Read StaticImage) LoadFault
 fields_at info = do
-  size ← field STATIC_FIELD (u2_at info)
-  references ← field STATIC_FIELD (u2_at size.rest)
-  count ← field STATIC_FIELD (u2_at references.rest)
+  size ← field static_field_tag (u2_at info)
+  references ← field static_field_tag (u2_at size.rest)
+  count ← field static_field_tag (u2_at references.rest)
   arrays ← repeat array_at count.value count.rest
-  defaults ← field STATIC_FIELD (u2_at arrays.rest)
-  given ← field STATIC_FIELD (u2_at defaults.rest)
-  values ← field STATIC_FIELD (bytes_at given.value given.rest)
+  defaults ← field static_field_tag (u2_at arrays.rest)
+  given ← field static_field_tag (u2_at defaults.rest)
+  values ← field static_field_tag (bytes_at given.value given.rest)
   Ok (record {
     value = record { size = size.value; references = references.value; arrays = arrays.value; defaults = defaults.value; values = values.value };
     rest = values.rest;
@@ -40,8 +40,8 @@ fields_at info = do
 
 -- an image that fits
 abbrev pub fitting : StaticImage → Result StaticImage LoadFault
-fitting image = if fits image then Ok image else Err (Malformed STATIC_FIELD)
+fitting image = if fits image then Ok image else Err (Malformed static_field_tag)
 
 -- what an info gives: the fields, nothing behind them, and an image that fits
 abbrev pub statics_of : List ℕ → Result StaticImage LoadFault
-statics_of info = only STATIC_FIELD (fields_at info) >>= fitting
+statics_of info = only static_field_tag (fields_at info) >>= fitting

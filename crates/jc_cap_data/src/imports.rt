@@ -2,6 +2,7 @@
 
 ghost use Rattle.std.specs.Prelude.{◌≡◌, [], length, slice_get, IfOk, IfErr, Err, Ok};
 ghost use Rattle.jc_base.specs.Packages.{only};
+ghost use Rattle.jc_base.specs.Tags.{import_tag};
 ghost use Rattle.jc_base.specs.Repeats.{repeat, rest_of, left_by};
 ghost use Rattle.jc_cap_data.specs.Imports.{import_at, packages_of, imports_of};
 
@@ -76,7 +77,7 @@ fn skip(cursor: &mut Cursor, count: u8) -> Result<(), LoadFault>
 /// Whether the bytes are so many packages and nothing else.
 fn check(rows: &[u8], count: u8) -> Result<(), LoadFault>
     ensures ok { IfOk result (λ _. rest_of (repeat import_at count rows.now) ≡ Ok []) }
-    ensures err { IfErr result (λ fault. only IMPORT (repeat import_at count rows.now) ≡ Err fault) }
+    ensures err { IfErr result (λ fault. only import_tag (repeat import_at count rows.now) ≡ Err fault) }
 {
     let mut cursor = Cursor::new(rows);
     skip(&mut cursor, count)?;

@@ -2,6 +2,7 @@
 
 ghost use Rattle.std.specs.Prelude.{◌≡◌, ◌+◌, ◌*◌, ◌≤◌, length, IfOk};
 ghost use Rattle.jc_base.specs.Packages.{only};
+ghost use Rattle.jc_base.specs.Tags.{static_field_tag};
 ghost use Rattle.jc_cap_data.specs.Statics.{fits, fields_at, statics_of};
 
 use crate::arrays::StaticArrays;
@@ -83,7 +84,7 @@ impl<'a> StaticFields<'a> {
 /// The fields of the component, and nothing behind them.
 #[tactic(auto, unfolding(crate::specs::Statics::fields_at))]
 fn fields<'a>(info: &'a [u8]) -> Result<StaticFields<'a>, LoadFault>
-    ensures { result ≡ only STATIC_FIELD (fields_at info.now) }
+    ensures { result ≡ only static_field_tag (fields_at info.now) }
 {
     let mut cursor = Cursor::new(info);
     let size = cursor.u2().ok_or(LoadFault::Malformed(STATIC_FIELD))?;

@@ -6,9 +6,23 @@ use Rattle.jc_base.specs.Results.{◌>>=◌}
 use Rattle.jc_base.specs.Packages.{field, only, package_at}
 use Rattle.jc_base.specs.declared.fault.LoadFault.{LoadFault}
 use Rattle.jc_base.specs.declared.fault.LoadFault.TheVariants.{BadMagic, FormatVersion, IntPackage}
-use Rattle.jc_base.specs.declared.tag.TheConstants.{HEADER}
+use Rattle.jc_base.specs.Tags.{header_tag}
 use Rattle.jc_cap_head.specs.declared.header.Header.{Header}
-use Rattle.jc_cap_head.specs.declared.header.TheConstants.{MAGIC, MINOR, MAJOR, ACC_INT}
+
+-- what a Header begins with
+abbrev pub magic : ℕ
+magic = 0xDECA_FFED
+
+-- format 2.1
+abbrev pub format_minor : ℕ
+format_minor = 1
+
+abbrev pub format_major : ℕ
+format_major = 2
+
+-- the flag of a package that uses int
+abbrev pub acc_int : ℕ
+acc_int = 1
 
 -- the bytes behind a field that has the wanted value; one that isn't there hasn't
 abbrev pub behind : LoadFault → ℕ → Option (Read ℕ) → Result (List ℕ) LoadFault
@@ -18,9 +32,9 @@ behind fault wanted (Some x) = if x.value == wanted then Ok x.rest else Err faul
 -- what the Header's info gives: of the refusals the first
 unfoldable pub header_of : List ℕ → Result Header LoadFault
 header_of info = do
-  minor ← behind BadMagic MAGIC (u4_at info)
-  major ← behind FormatVersion MINOR (u1_at minor)
-  rest ← behind FormatVersion MAJOR (u1_at major)
-  flags ← field HEADER (u1_at rest)
-  named ← only HEADER (if bit_and flags.value ACC_INT == 0 then package_at HEADER flags.rest else Err IntPackage)
+  minor ← behind BadMagic magic (u4_at info)
+  major ← behind FormatVersion format_minor (u1_at minor)
+  rest ← behind FormatVersion format_major (u1_at major)
+  flags ← field header_tag (u1_at rest)
+  named ← only header_tag (if bit_and flags.value acc_int == 0 then package_at header_tag flags.rest else Err IntPackage)
   Ok (record { «package» = named })

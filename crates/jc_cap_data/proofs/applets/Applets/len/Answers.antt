@@ -1,4 +1,4 @@
-use Rattle.std.proofs.Common.{sym, ap, ◌∙◌, List, length, []}
+use Rattle.std.proofs.Common.{sym, ap, ◌∙◌, length, []}
 use Rattle.jc_base.proofs.Repeats.{count_is}
 use Rattle.jc_cap_data.specs.Applets.{applet_at}
 use Rattle.jc_cap_data.proofs.applets.Applets.len.Goals as goal

@@ -1,4 +1,4 @@
-use Rattle.std.proofs.Common.{List, ℕ, ◌∷◌, ◌-◌, [], ap, sym, ◌∙◌, arith}
+use Rattle.std.proofs.Common.{List, ℕ, ◌∷◌, ◌-◌, ap, sym, ◌∙◌, arith}
 use Rattle.jc_base.specs.Repeats.{repeat, rest_of, rows_of}
 use Rattle.jc_base.proofs.Repeats.{none_left, first_there, first_of, first_left}
 use Rattle.jc_cap_data.specs.Arrays.{array_at}

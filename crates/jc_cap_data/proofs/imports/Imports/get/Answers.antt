@@ -1,4 +1,4 @@
-use Rattle.std.proofs.Common.{[], List, ap, ◌∙◌, arith}
+use Rattle.std.proofs.Common.{[], ap, ◌∙◌, arith}
 use Rattle.std.specs.List.{slice_get}
 use Rattle.jc_base.proofs.Repeats.{past_rows, look_up, not_stuck}
 use Rattle.jc_cap_data.specs.Imports.{import_at}

@@ -5,3 +5,5 @@ pub mod Steps
 pub mod Once
 pub mod Decide
 pub mod Repeats
+mod StackLemmas
+pub mod StackViews

@@ -8,3 +8,4 @@ pub mod Slots
 pub mod Packages
 pub mod Repeats
 pub mod Tags
+pub mod Stack

@@ -1,6 +1,8 @@
 -- Reading from the front of a list of bytes: a value and the bytes behind it, or nothing.
--- Numbers are big-endian (Java Card Virtual Machine Specification, CAP file format: u1, u2 and u4).
-use Rattle.std.specs.Prelude.{◌≡◌, ℕ, ◌+◌, ◌*◌, List, [], ◌∷◌, length, take, drop, Option, Some, None, Result, Ok, Err, nat_lt, if◌then◌else◌}
+-- Numbers are big-endian (Java Card Virtual Machine Specification, CAP file format: u1, u2 and u4; and s1 and s2 with
+-- a sign).
+use Rattle.std.specs.Prelude.{◌≡◌, ℕ, ℤ, ◌+◌, ◌*◌, List, [], ◌∷◌, length, take, drop, Option, Some, None, Result, Ok, Err, nat_lt, if◌then◌else◌}
+use Rattle.std.specs.Int.{w8, w16, cast_signed}
 use Rattle.std.specs.Option.{option_and_then}
 
 -- what was read, and the bytes behind it
@@ -27,6 +29,16 @@ u2_at _ = None
 abbrev pub u4_at : List ℕ → Option (Read ℕ)
 u4_at (a ∷ b ∷ c ∷ d ∷ rest) = Some (record { value = 256 * (256 * (256 * a + b) + c) + d; rest = rest })
 u4_at _ = None
+
+-- one byte, with its sign
+abbrev pub s1_at : List ℕ → Option (Read ℤ)
+s1_at [] = None
+s1_at (b ∷ rest) = Some (record { value = cast_signed w8 b; rest = rest })
+
+-- two bytes, the high one first, with the sign of the whole
+abbrev pub s2_at : List ℕ → Option (Read ℤ)
+s2_at (high ∷ low ∷ rest) = Some (record { value = cast_signed w16 (256 * high + low); rest = rest })
+s2_at _ = None
 
 -- the next n bytes
 abbrev pub bytes_at : ℕ → List ℕ → Option (Read (List ℕ))

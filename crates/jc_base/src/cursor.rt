@@ -1,7 +1,7 @@
 //! A place in a list of bytes.
 
 ghost use Rattle.std.specs.Prelude.{◌≡◌, ◌↔◌, ℕ, List, [], length, IsTrue};
-ghost use Rattle.jc_base.specs.Reading.{u1_at, u2_at, u4_at, bytes_at, Steps};
+ghost use Rattle.jc_base.specs.Reading.{u1_at, u2_at, u4_at, s1_at, s2_at, bytes_at, Steps};
 
 use byteorder::{BigEndian, ByteOrder};
 use std::marker::Model;
@@ -80,6 +80,27 @@ impl<'a> Cursor<'a> {
         let (front, rest) = self.rest.split_at(4);
         self.rest = rest;
         Some(BigEndian::read_u32(front))
+    }
+
+    /// The next byte, with its sign.
+    pub fn s1(&mut self) -> Option<i8>
+        ensures { Steps (λ x. x) result self.old self.new (s1_at self.old) }
+    {
+        let (first, rest) = self.rest.split_first()?;
+        self.rest = rest;
+        Some(first.cast_signed())
+    }
+
+    /// The next two bytes, the high one first, with the sign of the whole.
+    pub fn s2(&mut self) -> Option<i16>
+        ensures { Steps (λ x. x) result self.old self.new (s2_at self.old) }
+    {
+        if self.rest.len() < 2 {
+            return None;
+        }
+        let (front, rest) = self.rest.split_at(2);
+        self.rest = rest;
+        Some(BigEndian::read_u16(front).cast_signed())
     }
 
     /// The next `count` bytes.

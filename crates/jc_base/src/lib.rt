@@ -8,6 +8,7 @@ mod fault;
 mod package;
 mod parts;
 mod reason;
+pub mod stack;
 pub mod tag;
 
 pub use aid::Aid;

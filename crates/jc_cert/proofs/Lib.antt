@@ -1,0 +1,4 @@
+pub mod Repeats
+pub mod Fields
+pub mod Laws
+pub mod Each

@@ -1,0 +1,4 @@
+pub mod Rows
+pub mod Spelling
+pub mod Views
+pub mod Reading

@@ -1,0 +1,76 @@
+//! What a certificate holds.
+
+ghost use Rattle.std.specs.Prelude.{◌≡◌, []};
+ghost use Rattle.jc_cert.specs.Rows.{IsCert};
+
+use jc_types::Ty;
+use std::alloc::Global;
+use std::marker::Model;
+
+/// What a certificate claims of one place in a method's code.
+#[derive(Debug, Drop)]
+pub struct StateRow {
+    /// The place: bytes from the first of the method's code.
+    pub pc: u16,
+    /// The types of the locals, at most 65,535.
+    pub locals: Vec<Ty>,
+    /// The types of the operands, bottom first, at most 255.
+    pub operands: Vec<Ty>,
+}
+
+/// What a certificate claims of one method.
+#[derive(Debug, Drop)]
+pub struct MethodRow {
+    /// The method, by the offset of its header in the Method component.
+    pub offset: u16,
+    /// Its places, at least one, by strictly ascending pc.
+    pub states: Vec<StateRow>,
+}
+
+/// A certificate: rows of methods, by strictly ascending offset.
+#[derive(Debug, Drop)]
+pub struct Cert {
+    methods: Vec<MethodRow>,
+}
+
+impl Model for Cert {
+    ghost use Rattle.std.specs.Prelude.{List};
+    ghost use Rattle.jc_cert.specs.Rows.{Row, IsCert};
+
+    ghost Value = { List Row };
+
+    ghost use Rattle.jc_cert.specs.Views.{rows};
+
+    ghost view = { λ c. rows c.methods.items };
+
+    ghost invariant = { λ c. IsCert (rows c.methods.items) };
+}
+
+impl Cert {
+    ghost use Rattle.jc_cert.specs.Views.{rows};
+
+    /// The certificate that claims nothing. It takes no memory.
+    pub fn empty(alloc: Global) -> Cert
+        ensures { result ≡ [] }
+    {
+        Cert {
+            methods: Vec::new(alloc),
+        }
+    }
+
+    /// The certificate of these rows.
+    pub(crate) fn from_rows(methods: Vec<MethodRow>) -> Cert
+        requires { IsCert (rows methods.items) }
+        ensures { result ≡ rows methods.items }
+    {
+        Cert { methods }
+    }
+
+    /// The rows, by strictly ascending offset.
+    pub fn rows(&self) -> &[MethodRow]
+        ensures view { rows result.now ≡ self.now }
+        ensures cert { IsCert self.now }
+    {
+        &self.methods
+    }
+}

@@ -1,0 +1,17 @@
+//! Certificates: the states that a method's code is claimed to have at its branch targets, and their one spelling
+//! in bytes.
+#![tactic(auto)]
+
+mod cert;
+mod law;
+mod reading;
+mod refusal;
+mod writing;
+
+pub use cert::{Cert, MethodRow, StateRow};
+pub use law::one_spelling;
+pub use reading::read;
+pub use writing::write;
+
+#[cfg(test)]
+mod tests;

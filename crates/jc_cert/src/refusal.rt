@@ -1,0 +1,44 @@
+//! Why no certificate was read.
+
+ghost use Rattle.std.specs.Prelude.{◌≡◌};
+ghost use Rattle.jc_cert.specs.declared.refusal.Refusal.TheVariants.{Memory};
+ghost use Rattle.jc_cert.specs.Reading.{fault_of};
+
+use jc_base::LoadFault;
+use std::alloc::{AllocError, AllocFailed};
+
+/// Why no certificate was read.
+#[derive(Clone, Copy, Debug, PartialEq, Eq)]
+pub(crate) enum Refusal {
+    /// The bytes spell no certificate.
+    NoSpelling,
+    /// No memory was left.
+    Memory,
+}
+
+impl From<AllocError> for Refusal {
+    ghost from_gives = { λ _ refusal. refusal ≡ Memory };
+
+    fn from(_error: AllocError) -> Refusal {
+        Refusal::Memory
+    }
+}
+
+impl<T: Drop> From<AllocFailed<T>> for Refusal {
+    ghost from_gives = { λ _ refusal. refusal ≡ Memory };
+
+    fn from(_error: AllocFailed<T>) -> Refusal {
+        Refusal::Memory
+    }
+}
+
+impl From<Refusal> for LoadFault {
+    ghost from_gives = { λ refusal fault. fault ≡ fault_of refusal };
+
+    fn from(refusal: Refusal) -> LoadFault {
+        match refusal {
+            Refusal::NoSpelling => LoadFault::BadCertificate,
+            Refusal::Memory => LoadFault::Memory,
+        }
+    }
+}

@@ -1,0 +1,8 @@
+mod Complete
+mod Sound
+pub mod Typed
+mod Marking
+mod Standing
+mod Branches
+mod Walking
+mod Verdicts

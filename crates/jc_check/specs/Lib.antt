@@ -1,0 +1,5 @@
+pub mod Method
+pub mod Typing
+pub mod Carried
+pub mod FirstFault
+pub mod Places

@@ -1,0 +1,29 @@
+-- A method as its check sees it.
+use Rattle.std.specs.Prelude.{◌≡◌, ℕ, ◌==◌, List, [], ◌∷◌, Option, Some, None, if◌then◌else◌}
+use Rattle.jc_types.specs.declared.ty.Ty.{Ty}
+use Rattle.jc_types.specs.declared.ty.Ty.TheVariants.{Word}
+use Rattle.jc_types.specs.Types.{Types, entry_types}
+use Rattle.jc_cert.specs.Rows.{Stated, Row}
+
+-- its code, the types of its arguments, how many other locals and how many operands it may have, and the type of
+-- its result, if it isn't void
+pub record Method : Type 0 where
+  pub code : List ℕ
+  pub arguments : List Ty
+  pub others : ℕ
+  pub max_stack : ℕ
+  pub returned : Option Ty
+
+-- the state at its entry
+abbrev pub entry_of : Method → Types
+entry_of m = entry_types m.arguments m.others
+
+-- code alone: a static method without arguments that returns a short, of two locals and at most eight operands
+abbrev pub word_method : List ℕ → Method
+word_method code = record { code = code; arguments = []; others = 2; max_stack = 8; returned = Some Word }
+
+-- the certificate's states for the one method there is, at offset 0; a row for another offset is for no method
+abbrev pub states_of : List Row → Option (List Stated)
+states_of [] = Some []
+states_of (row ∷ []) = if row.offset == 0 then Some row.states else None
+states_of _ = None

@@ -1,0 +1,146 @@
+-- Reading goes forward: an instruction ends behind its pc, and within the code.
+use Rattle.std.proofs.Common.{◌≡◌, ℕ, zero, suc, ◌+◌, ◌-◌, ◌*◌, ◌/◌, ◌%◌, ◌==◌, ◌≤◌, ◌<◌, List, [], ◌∷◌, length, take, drop, Bool, true, false, cond, nat_lt, Option, Some, None, Result, Ok, Err, refl, sym, ap, subst, ◌∙◌, ◌⊎◌, inl, inr, arith, length-drop}
+use Rattle.std.specs.Prelude.{ℤ, pos, negsuc, ◌-ℤ◌, unsigned_abs, int_lt}
+use Rattle.jc_base.specs.Reading.{Read, u1_at, u2_at, s1_at, s2_at, bytes_at}
+use Rattle.jc_base.specs.Reading as reading
+use Rattle.jc_code.specs.declared.fault.CodeFault.{CodeFault}
+use Rattle.jc_code.specs.declared.fault.CodeFault.TheVariants.{BadOpcode, BadOperand, CutShort}
+use Rattle.jc_code.specs.declared.instr.Instr.{Instr}
+use Rattle.jc_code.specs.declared.instr.Operation.{Operation}
+use Rattle.jc_code.specs.declared.instr.Operation.TheVariants.{Branch, Binary}
+use Rattle.jc_code.specs.declared.tables.Case.{Case}
+use Rattle.jc_code.specs.Tables.{offsets_at, cases_at, offsets_of_bytes, cases_of_bytes}
+use Rattle.jc_code.specs.Spelling.{◌>>=◌, done, known, constant_at, local_at, shuffle_at, is_duplicate, is_swap, operator_of, arithmetic_at, when_of, branch_at, wide_branch_at, stable_switch_at, lookup_switch_at, wide_increment_at, operation_of, operation_at, placed, instr_at}
+
+-- what is left is no longer than n
+abbrev pub Left : {A : Type 0} → ℕ → Result (Read A) CodeFault → Type 0
+Left n (Ok read) = length read.rest ≤ n
+Left n (Err fault) = Unit {0}
+
+pub record IsLeft {A : Type 0} (n : ℕ) (read : Result (Read A) CodeFault) : Type 0 where
+  pub left : Left n read
+
+abbrev Field : {A : Type 0} → ℕ → Option (Read A) → Type 0
+Field n (Some read) = length read.rest ≤ n
+Field n None = Unit {0}
+
+field : {A B : Type 0} (n : ℕ) (o : Option (Read A)) (f : Read A → Result (Read B) CodeFault) → Field n o → ((r : Read A) → length r.rest ≤ n → IsLeft n (f r)) → IsLeft n (o >>= f)
+field n (Some r) f h k = k r h
+field n None f h k = record { left = tt }
+
+chosen : {A : Type 0} (n : ℕ) (b : Bool) (x y : Result (Read A) CodeFault) → IsLeft n x → IsLeft n y → IsLeft n (cond b x y)
+chosen n true x y h k = h
+chosen n false x y h k = k
+
+knows : {A B : Type 0} (n : ℕ) (o : Option A) (f : A → Result (Read B) CodeFault) → ((x : A) → IsLeft n (f x)) → IsLeft n (known o f)
+knows n (Some x) f k = k x
+knows n None f k = record { left = tt }
+
+none : {A : Type 0} (n : ℕ) (fault : CodeFault) → IsLeft {A = A} n (Err fault)
+none n fault = record { left = tt }
+
+same : (n : ℕ) (operation : Operation) (rest : List ℕ) → length rest ≤ n → IsLeft n (done operation rest)
+same n operation rest le = record { left = le }
+
+u1_left : (n : ℕ) (bytes : List ℕ) → length bytes ≤ n → Field n (u1_at bytes)
+u1_left n [] le = tt
+u1_left n (b ∷ rest) le = omega arith
+
+s1_left : (n : ℕ) (bytes : List ℕ) → length bytes ≤ n → Field n (s1_at bytes)
+s1_left n [] le = tt
+s1_left n (b ∷ rest) le = omega arith
+
+u2_left : (n : ℕ) (bytes : List ℕ) → length bytes ≤ n → Field n (u2_at bytes)
+u2_left n [] le = tt
+u2_left n (a ∷ []) le = tt
+u2_left n (a ∷ b ∷ rest) le = omega arith
+
+s2_left : (n : ℕ) (bytes : List ℕ) → length bytes ≤ n → Field n (s2_at bytes)
+s2_left n [] le = tt
+s2_left n (a ∷ []) le = tt
+s2_left n (a ∷ b ∷ rest) le = omega arith
+
+bytes_left : (n k : ℕ) (bytes : List ℕ) (b : Bool) → length bytes ≤ n → Field {A = List ℕ} n (cond b None (Some (record { value = take k bytes; rest = drop k bytes })))
+bytes_left n k bytes true le = tt
+bytes_left n k bytes false le = omega (arith, length-drop k bytes)
+
+table_left : {A : Type 0} (n : ℕ) (o : Option (Read (List ℕ))) (view : List ℕ → A) → Field n o → Field {A = A} n (reading.◌>>=◌ o (λ table. Some (record { value = view table.value; rest = table.rest })))
+table_left n (Some r) view h = h
+table_left n None view h = tt
+
+offsets_left : (n k : ℕ) (bytes : List ℕ) → length bytes ≤ n → Field n (offsets_at k bytes)
+unfolding offsets_at
+offsets_left n k bytes le = table_left n (bytes_at (2 * k) bytes) offsets_of_bytes (bytes_left n (2 * k) bytes (nat_lt (length bytes) (2 * k)) le)
+
+cases_left : (n k : ℕ) (bytes : List ℕ) → length bytes ≤ n → Field n (cases_at k bytes)
+unfolding cases_at
+cases_left n k bytes le = table_left n (bytes_at (4 * k) bytes) cases_of_bytes (bytes_left n (4 * k) bytes (nat_lt (length bytes) (4 * k)) le)
+
+constant_left : (n op : ℕ) (bytes : List ℕ) → length bytes ≤ n → IsLeft n (constant_at op bytes)
+unfolding constant_at
+constant_left n op bytes le =
+    chosen n (op == 0) _ _ (same n _ bytes le) (chosen n (op == 2) _ _ (same n _ bytes le) (chosen n (op == 3) _ _ (same n _ bytes le) (chosen n (op == 4) _ _ (same n _ bytes le) (chosen n (op == 5) _ _ (same n _ bytes le) (chosen n (op == 6) _ _ (same n _ bytes le) (chosen n (op == 7) _ _ (same n _ bytes le) (chosen n (op == 8) _ _ (same n _ bytes le)
+    (chosen n (op == 16) _ _ (field n (s1_at bytes) _ (s1_left n bytes le) (λ r h. same n _ r.rest h)) (chosen n (op == 17) _ _ (field n (s2_at bytes) _ (s2_left n bytes le) (λ r h. same n _ r.rest h)) (none n BadOpcode))))))))))
+
+local_left : (n op : ℕ) (bytes : List ℕ) → length bytes ≤ n → IsLeft n (local_at op bytes)
+unfolding local_at
+local_left n op bytes le =
+    chosen n (op == 22) _ _ (field n (u1_at bytes) _ (u1_left n bytes le) (λ r h. same n _ r.rest h)) (chosen n (op == 28) _ _ (same n _ bytes le) (chosen n (op == 29) _ _ (same n _ bytes le) (chosen n (op == 30) _ _ (same n _ bytes le) (chosen n (op == 31) _ _ (same n _ bytes le)
+    (chosen n (op == 41) _ _ (field n (u1_at bytes) _ (u1_left n bytes le) (λ r h. same n _ r.rest h)) (chosen n (op == 47) _ _ (same n _ bytes le) (chosen n (op == 48) _ _ (same n _ bytes le) (chosen n (op == 49) _ _ (same n _ bytes le) (chosen n (op == 50) _ _ (same n _ bytes le) (none n BadOpcode))))))))))
+
+shuffle_left : (n op : ℕ) (bytes : List ℕ) → length bytes ≤ n → IsLeft n (shuffle_at op bytes)
+unfolding shuffle_at
+shuffle_left n op bytes le =
+    chosen n (op == 59) _ _ (same n _ bytes le) (chosen n (op == 60) _ _ (same n _ bytes le) (chosen n (op == 61) _ _ (same n _ bytes le) (chosen n (op == 62) _ _ (same n _ bytes le)
+    (chosen n (op == 63) _ _ (field n (u1_at bytes) _ (u1_left n bytes le) (λ r h. chosen n (is_duplicate (r.value / 16) (r.value % 16)) _ _ (same n _ r.rest h) (none n BadOperand))) (chosen n (op == 64) _ _ (field n (u1_at bytes) _ (u1_left n bytes le) (λ r h. chosen n (is_swap (r.value / 16) (r.value % 16)) _ _ (same n _ r.rest h) (none n BadOperand))) (none n BadOpcode))))))
+
+arithmetic_left : (n op : ℕ) (bytes : List ℕ) → length bytes ≤ n → IsLeft n (arithmetic_at op bytes)
+unfolding arithmetic_at
+arithmetic_left n op bytes le =
+    chosen n (op == 75) _ _ (same n _ bytes le) (chosen n (op == 89) _ _ (field n (u1_at bytes) _ (u1_left n bytes le) (λ r h. field n (s1_at r.rest) _ (s1_left n r.rest h) (λ s k. same n _ s.rest k))) (chosen n (op == 91) _ _ (same n _ bytes le) (knows n (operator_of op) _ (λ x. same n _ bytes le))))
+
+branch_left : (n op : ℕ) (bytes : List ℕ) → length bytes ≤ n → IsLeft n (branch_at op bytes)
+unfolding branch_at
+branch_left n op bytes le = knows n (when_of op) _ (λ when. field n (s1_at bytes) _ (s1_left n bytes le) (λ r h. same n _ r.rest h))
+
+wide_branch_left : (n op : ℕ) (bytes : List ℕ) → length bytes ≤ n → IsLeft n (wide_branch_at op bytes)
+unfolding wide_branch_at
+wide_branch_left n op bytes le = knows n (when_of (op - 56)) _ (λ when. field n (s2_at bytes) _ (s2_left n bytes le) (λ r h. same n _ r.rest h))
+
+stable_switch_left : (n : ℕ) (bytes : List ℕ) → length bytes ≤ n → IsLeft n (stable_switch_at bytes)
+unfolding stable_switch_at
+stable_switch_left n bytes le =
+    field n (s2_at bytes) _ (s2_left n bytes le) (λ d h. field n (s2_at d.rest) _ (s2_left n d.rest h) (λ l i. field n (s2_at l.rest) _ (s2_left n l.rest i) (λ u j.
+    chosen n (int_lt u.value l.value) _ _ (none n BadOperand) (field n (offsets_at (unsigned_abs (u.value -ℤ l.value) + 1) u.rest) _ (offsets_left n _ u.rest j) (λ t k. same n _ t.rest k)))))
+
+lookup_switch_left : (n : ℕ) (bytes : List ℕ) → length bytes ≤ n → IsLeft n (lookup_switch_at bytes)
+unfolding lookup_switch_at
+lookup_switch_left n bytes le = field n (s2_at bytes) _ (s2_left n bytes le) (λ d h. field n (u2_at d.rest) _ (u2_left n d.rest h) (λ c i. field n (cases_at c.value c.rest) _ (cases_left n c.value c.rest i) (λ t k. same n _ t.rest k)))
+
+wide_increment_left : (n : ℕ) (bytes : List ℕ) → length bytes ≤ n → IsLeft n (wide_increment_at bytes)
+unfolding wide_increment_at
+wide_increment_left n bytes le = field n (u1_at bytes) _ (u1_left n bytes le) (λ r h. field n (s2_at r.rest) _ (s2_left n r.rest h) (λ s k. same n _ s.rest k))
+
+operation_left : (n op : ℕ) (bytes : List ℕ) → length bytes ≤ n → IsLeft n (operation_of op bytes)
+unfolding operation_of
+operation_left n op bytes le =
+    chosen n (nat_lt op 18) _ _ (constant_left n op bytes le) (chosen n (nat_lt op 51) _ _ (local_left n op bytes le) (chosen n (nat_lt op 65) _ _ (shuffle_left n op bytes le) (chosen n (nat_lt op 92) _ _ (arithmetic_left n op bytes le) (chosen n (nat_lt op 113) _ _ (branch_left n op bytes le)
+    (chosen n (op == 115) _ _ (stable_switch_left n bytes le) (chosen n (op == 117) _ _ (lookup_switch_left n bytes le) (chosen n (op == 120) _ _ (same n _ bytes le) (chosen n (op == 150) _ _ (wide_increment_left n bytes le) (chosen n (nat_lt op 152) _ _ (none n BadOpcode) (wide_branch_left n op bytes le))))))))))
+
+-- the instruction at a pc ends behind it, and within the code
+abbrev pub Advances : ℕ → ℕ → Result Instr CodeFault → Type 0
+Advances n pc (Ok instr) = (pc < instr.next_pc) × (instr.next_pc ≤ n)
+Advances n pc (Err fault) = Unit {0}
+
+behind : (code : List ℕ) (pc n : ℕ) (r : Result (Read Operation) CodeFault) → suc n + pc ≡ length code → IsLeft n r → Advances (length code) pc (placed code r)
+behind code pc n (Ok read) e h = (omega (arith, h.left), omega (arith, h.left))
+behind code pc n (Err fault) e h = tt
+
+at_front : (code : List ℕ) (pc : ℕ) (bytes : List ℕ) → length bytes ≡ length code - pc → Advances (length code) pc (placed code (operation_at bytes))
+unfolding operation_at
+at_front code pc [] e = tt
+at_front code pc (op ∷ bytes) e = behind code pc (length bytes) (operation_of op bytes) (omega arith) (operation_left (length bytes) op bytes (omega arith))
+
+pub advances : (code : List ℕ) (pc : ℕ) → Advances (length code) pc (instr_at code pc)
+unfolding instr_at
+advances code pc = at_front code pc (drop pc code) (length-drop pc code)

@@ -1,0 +1,3 @@
+mod TableLemmas
+pub mod Advance
+pub mod Listings

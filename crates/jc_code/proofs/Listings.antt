@@ -1,0 +1,118 @@
+-- Instructions one behind the other.
+use Rattle.std.proofs.Common.{◌≡◌, ℕ, ◌+◌, ◌-◌, ◌≤◌, ◌<◌, ◌==◌, List, [], ◌∷◌, ◌++◌, length, Bool, true, false, ◌||◌, Option, Some, None, Result, Ok, Err, cond, refl, sym, ap, subst, ◌∙◌, ◌⊎◌, inl, inr, arith}
+use Rattle.std.proofs.lemmas.Bool.{eqb-true, eqb-false, eq-eqb, ne_eqb}
+use Rattle.jc_base.proofs.Binding.{the_ok, the_some, none_some, ok_err}
+use Rattle.jc_code.specs.declared.fault.CodeFault.{CodeFault}
+use Rattle.jc_code.specs.declared.instr.Instr.{Instr}
+use Rattle.jc_code.specs.Spelling.{instr_at}
+use Rattle.jc_code.specs.Listing.{Placed, Runs, IsListing, StopsAt, placed_at, begins}
+use Rattle.jc_code.proofs.Advance.{Advances, advances}
+
+-- an instruction ends behind its pc and within the code
+pub next_within : (code : List ℕ) (pc : ℕ) (i : Instr) → instr_at code pc ≡ Ok i → (pc < i.next_pc) × (i.next_pc ≤ length code)
+next_within code pc i e = let P : Result Instr CodeFault → Type 0 = λ r. Advances (length code) pc r in subst P e (advances code pc)
+
+pub Runs-append : (code : List ℕ) (from mid to : ℕ) (xs ys : List Placed) → Runs code from xs mid → Runs code mid ys to → Runs code from (xs ++ ys) to
+Runs-append code from mid to [] ys h k = let P : ℕ → Type 0 = λ n. Runs code n ys to in subst P (sym h) k
+Runs-append code from mid to (x ∷ xs) ys h k = (h.0, h.1, Runs-append code x.instr.next_pc mid to xs ys h.2 k)
+
+pub runs_on : (code : List ℕ) (from to : ℕ) (xs : List Placed) → Runs code from xs to → from ≤ to
+runs_on code from to [] h = omega arith
+runs_on code from to (x ∷ xs) h = let n = next_within code from x.instr h.1 in let k = runs_on code x.instr.next_pc to xs h.2 in omega arith
+
+-- what is known of an instruction that a listing has at a pc
+pub record IsThere (code : List ℕ) (from to pc : ℕ) (x : Placed) : Type 0 where
+  pub from_on : from ≤ pc
+  pub at : x.pc ≡ pc
+  pub instr : instr_at code pc ≡ Ok x.instr
+  pub ends : x.instr.next_pc ≤ to
+
+pub there : (code : List ℕ) (from to : ℕ) (xs : List Placed) (pc : ℕ) (x : Placed) → Runs code from xs to → placed_at xs pc ≡ Some x → IsThere code from to pc x
+unfolding placed_at
+there code from to [] pc x h e = absurd (none_some x e)
+there code from to (y ∷ ys) pc x h e = step (y.pc == pc) refl (λ k. there code y.instr.next_pc to ys pc x h.2 k) e
+  where
+    step : (b : Bool) → (y.pc == pc) ≡ b → (placed_at ys pc ≡ Some x → IsThere code y.instr.next_pc to pc x) → cond b (Some y) (placed_at ys pc) ≡ Some x → IsThere code from to pc x
+    step true t later e =
+        let same : y ≡ x = the_some y x e in
+        let P : Placed → Type 0 = λ z. IsThere code from to pc z in
+        let at : from ≡ pc = sym h.0 ∙ eqb-true y.pc pc t in
+        let I : ℕ → Type 0 = λ n. instr_at code n ≡ Ok y.instr in
+        subst P same (record { from_on = omega arith; at = eqb-true y.pc pc t; instr = subst I at h.1; ends = runs_on code y.instr.next_pc to ys h.2 })
+    step false t later e =
+        let r = later e in
+        let n = next_within code from y.instr h.1 in
+        record { from_on = omega (arith, r.from_on); at = r.at; instr = r.instr; ends = r.ends }
+
+pub begins_placed : (xs : List Placed) (pc : ℕ) (x : Placed) → placed_at xs pc ≡ Some x → begins xs pc ≡ true
+unfolding placed_at begins
+begins_placed [] pc x e = absurd (none_some x e)
+begins_placed (y ∷ ys) pc x e = step (y.pc == pc) (λ k. begins_placed ys pc x k) e
+  where
+    step : (b : Bool) → (placed_at ys pc ≡ Some x → begins ys pc ≡ true) → cond b (Some y) (placed_at ys pc) ≡ Some x → b || begins ys pc ≡ true
+    step true later e = refl
+    step false later e = later e
+
+pub placed_begins : (xs : List Placed) (pc : ℕ) → begins xs pc ≡ true → (x : Placed) × (placed_at xs pc ≡ Some x)
+unfolding placed_at begins
+placed_begins [] pc e = absurd cc
+placed_begins (y ∷ ys) pc e = step (y.pc == pc) (λ k. placed_begins ys pc k) e
+  where
+    step : (b : Bool) → (begins ys pc ≡ true → (x : Placed) × (placed_at ys pc ≡ Some x)) → b || begins ys pc ≡ true → (x : Placed) × (cond b (Some y) (placed_at ys pc) ≡ Some x)
+    step true later e = (y, refl)
+    step false later e = later e
+
+-- from one instruction on, a listing has those behind it
+pub placed_behind : (code : List ℕ) (from to : ℕ) (x : Placed) (xs : List Placed) (pc : ℕ) → Runs code from (x ∷ xs) to → x.instr.next_pc ≤ pc → placed_at (x ∷ xs) pc ≡ placed_at xs pc
+unfolding placed_at
+placed_behind code from to x xs pc h le =
+    let n = next_within code from x.instr h.1 in
+    let ne : x.pc ≡ pc → ⊥ = λ e. omega (arith, h.0) in
+    rw (ne_eqb x.pc pc ne) refl
+
+pub placed_front : (x : Placed) (xs : List Placed) (pc : ℕ) → x.pc ≡ pc → placed_at (x ∷ xs) pc ≡ Some x
+unfolding placed_at
+placed_front x xs pc e = rw (eq-eqb x.pc pc e) refl
+
+pub begins-push : (xs : List Placed) (x : Placed) (pc : ℕ) → begins (xs ++ x ∷ []) pc ≡ begins xs pc || (x.pc == pc)
+unfolding begins
+begins-push [] x pc = flip (x.pc == pc)
+  where
+    flip : (b : Bool) → b || false ≡ b
+    flip true = refl
+    flip false = refl
+begins-push (y ∷ ys) x pc = rw (begins-push ys x pc) (regroup (y.pc == pc) (begins ys pc) (x.pc == pc))
+  where
+    regroup : (a b c : Bool) → a || (b || c) ≡ (a || b) || c
+    regroup true b c = refl
+    regroup false b c = refl
+
+abbrev placed : ℕ → Instr → Placed
+placed pc instr = record { pc = pc; instr = instr }
+
+same_placed : (x y : Placed) → x.pc ≡ y.pc → x.instr ≡ y.instr → x ≡ y
+same_placed x y p i = ap (λ (n : ℕ). placed n x.instr) p ∙ ap (λ (k : Instr). placed y.pc k) i
+
+-- code has one listing
+pub one_listing : (code : List ℕ) (from : ℕ) (xs ys : List Placed) → Runs code from xs (length code) → Runs code from ys (length code) → xs ≡ ys
+one_listing code from [] [] h k = refl
+one_listing code from [] (y ∷ ys) h k = let n = next_within code from y.instr k.1 in absurd (omega (arith, h))
+one_listing code from (x ∷ xs) [] h k = let n = next_within code from x.instr h.1 in absurd (omega (arith, k))
+one_listing code from (x ∷ xs) (y ∷ ys) h k =
+    let i : x.instr ≡ y.instr = the_ok x.instr y.instr (sym h.1 ∙ k.1) in
+    let R : Instr → Type 0 = λ j. Runs code j.next_pc ys (length code) in
+    let rest : xs ≡ ys = one_listing code x.instr.next_pc xs ys h.2 (subst R (sym i) k.2) in
+    ap (λ (z : Placed). z ∷ xs) (same_placed x y (h.0 ∙ sym k.0) i) ∙ ap (λ (zs : List Placed). y ∷ zs) rest
+
+-- code that decodes stops nowhere
+stops_nowhere : (code : List ℕ) (from pc : ℕ) (before xs : List Placed) (fault : CodeFault) → Runs code from before pc → pc < length code → instr_at code pc ≡ Err fault → Runs code from xs (length code) → ⊥
+stops_nowhere code from pc [] [] fault b lt e h = omega (arith, b, h)
+stops_nowhere code from pc [] (x ∷ xs) fault b lt e h = let I : ℕ → Type 0 = λ n. instr_at code n ≡ Ok x.instr in ok_err x.instr fault (sym (subst I b h.1) ∙ e)
+stops_nowhere code from pc (y ∷ ys) [] fault b lt e h = let n = next_within code from y.instr b.1 in omega (arith, h)
+stops_nowhere code from pc (y ∷ ys) (x ∷ xs) fault b lt e h =
+    let i : x.instr ≡ y.instr = the_ok x.instr y.instr (sym h.1 ∙ b.1) in
+    let R : Instr → Type 0 = λ j. Runs code j.next_pc xs (length code) in
+    stops_nowhere code y.instr.next_pc pc ys xs fault b.2 lt e (subst R i h.2)
+
+pub listed_or_stopped : (code : List ℕ) (pc : ℕ) (fault : CodeFault) (listing : List Placed) → StopsAt code pc fault → IsListing code listing → ⊥
+listed_or_stopped code pc fault listing s h = stops_nowhere code 0 pc s.0 listing fault s.1 s.2 s.3 h

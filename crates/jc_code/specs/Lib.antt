@@ -1,0 +1,4 @@
+pub mod Tables
+pub mod Spelling
+pub mod Targets
+pub mod Listing

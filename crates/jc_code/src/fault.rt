@@ -1,0 +1,17 @@
+//! Why no instruction stands at a pc.
+
+use thiserror::Error;
+
+/// Why no instruction stands at a pc.
+#[derive(Clone, Copy, Debug, PartialEq, Eq, Drop, Error)]
+pub enum CodeFault {
+    /// No instruction of the profile has this opcode.
+    #[error("BadOpcode")]
+    BadOpcode,
+    /// An operand byte isn't one that the instruction takes.
+    #[error("BadOperand")]
+    BadOperand,
+    /// The code ends within the instruction, or before it.
+    #[error("CutShort")]
+    CutShort,
+}

@@ -1,0 +1,112 @@
+//! What an instruction says.
+
+use crate::tables::{Cases, Offsets};
+
+/// An instruction as it stands in code.
+#[derive(Drop)]
+pub struct Instr<'a> {
+    pub operation: Operation<'a>,
+    /// Where the instruction behind it begins.
+    pub next_pc: usize,
+}
+
+/// What an instruction does, whatever form it is spelled in (Java Card Virtual Machine Specification,
+/// instruction set). Offsets count from the instruction's own opcode.
+#[derive(Drop)]
+pub enum Operation<'a> {
+    /// nop
+    Nop,
+    /// sconst, bspush, sspush: puts a short on the operand stack.
+    Push(i16),
+    /// sload: puts the short of a local on the operand stack.
+    Load(u8),
+    /// sstore: takes a short into a local.
+    Store(u8),
+    /// sinc: adds to the short of a local.
+    Increment {
+        local: u8,
+        by: i16,
+    },
+    /// Moves operands, whatever they are.
+    Shuffle(Shuffle),
+    /// Takes two shorts and puts one.
+    Binary(BinaryOperator),
+    /// Takes a short and puts one.
+    Unary(UnaryOperator),
+    /// Goes to another place, always or where a condition holds.
+    Branch {
+        when: When,
+        offset: i16,
+    },
+    /// stableswitch: goes by the offset of a key in a table from `low` on.
+    StableSwitch {
+        default: i16,
+        low: i16,
+        offsets: Offsets<'a>,
+    },
+    /// slookupswitch: goes by the first case of a key.
+    LookupSwitch {
+        default: i16,
+        cases: Cases<'a>,
+    },
+    /// sreturn: ends the method with a short.
+    ReturnWord,
+}
+
+/// How operands are moved. The top is the first to be counted.
+#[derive(Clone, Copy, Debug, PartialEq, Eq)]
+pub enum Shuffle {
+    /// pop, pop2: drops the top `count`.
+    Pop { count: u8 },
+    /// dup, dup2, dup_x: puts the top `count` again, below the top `depth`; depth 0 is on top.
+    Duplicate { count: u8, depth: u8 },
+    /// swap_x: the top `upper` and the `lower` below them change places.
+    Swap { upper: u8, lower: u8 },
+}
+
+/// What is made of two shorts.
+#[derive(Clone, Copy, Debug, PartialEq, Eq)]
+pub enum BinaryOperator {
+    Add,
+    Subtract,
+    Multiply,
+    Divide,
+    Remainder,
+    ShiftLeft,
+    ShiftRight,
+    ShiftRightUnsigned,
+    And,
+    Or,
+    Xor,
+}
+
+/// What is made of one short.
+#[derive(Clone, Copy, Debug, PartialEq, Eq)]
+pub enum UnaryOperator {
+    /// sneg
+    Negate,
+    /// s2b: the low byte, with its sign.
+    ToByte,
+}
+
+/// When a branch is taken.
+#[derive(Clone, Copy, Debug, PartialEq, Eq)]
+pub enum When {
+    /// goto
+    Always,
+    /// Where a short compares so with zero.
+    Zero(Condition),
+    /// Where two shorts compare so, the deeper one first.
+    Compare(Condition),
+}
+
+/// How two shorts compare.
+#[derive(Clone, Copy, Debug, PartialEq, Eq)]
+pub enum Condition {
+    Equal,
+    NotEqual,
+    Less,
+    GreaterOrEqual,
+    Greater,
+    LessOrEqual,
+}

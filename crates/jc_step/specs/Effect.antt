@@ -1,0 +1,53 @@
+-- What an operation does to the types of a method's locals and operands (Java Card Virtual Machine Specification,
+-- instruction set: the format, the operand stack and the description of each instruction).
+-- Of several reasons against it the first is told: BadLocal, StackUnder, WrongType, StackOver.
+use Rattle.std.specs.Prelude.{⊤, ℕ, ◌∷◌, [], Option, Some, None, Result, Ok, Err, if◌then◌else◌}
+use Rattle.jc_base.specs.declared.reason.Reason.{Reason}
+use Rattle.jc_base.specs.declared.reason.Reason.TheVariants.{WrongType}
+use Rattle.jc_base.specs.Results.{◌>>=◌}
+use Rattle.jc_code.specs.declared.instr.Operation.{Operation}
+use Rattle.jc_code.specs.declared.instr.Operation.TheVariants.{Nop, Push, Load, Store, Increment, Shuffle, Binary, Unary, Branch, StableSwitch, LookupSwitch, ReturnWord}
+use Rattle.jc_code.specs.declared.instr.Shuffle as shuffles
+use Rattle.jc_code.specs.declared.instr.Shuffle.TheVariants.{Pop, Duplicate, Swap}
+use Rattle.jc_code.specs.declared.instr.When.{When}
+use Rattle.jc_code.specs.declared.instr.When.TheVariants.{Always, Zero, Compare}
+use Rattle.jc_types.specs.declared.ty.Ty.{Ty}
+use Rattle.jc_types.specs.declared.ty.Ty.TheVariants.{Word}
+use Rattle.jc_types.specs.Types.{Types, is_below}
+use Rattle.jc_types.specs.Steps.{local_type, set_local_type, push_type, take_types, drop_types, duplicate_types, swap_types}
+
+-- a value of one type where another is wanted
+unfoldable pub fits : Ty → Ty → Result ⊤ Reason
+fits t wanted = if is_below t wanted then Ok tt else Err WrongType
+
+-- a word where the method's result is wanted; a void method has none
+unfoldable pub fits_result : Option Ty → Result ⊤ Reason
+fits_result None = Err WrongType
+fits_result (Some t) = fits Word t
+
+-- operands that change places, of so many at most
+abbrev pub shuffle_effect : ℕ → shuffles.Shuffle → Types → Result Types Reason
+shuffle_effect most (Pop count) s = drop_types count s
+shuffle_effect most (Duplicate count below) s = duplicate_types most count below s
+shuffle_effect most (Swap upper lower) s = swap_types upper lower s
+
+-- the words that a branch compares
+abbrev pub branch_effect : When → Types → Result Types Reason
+branch_effect Always s = Ok s
+branch_effect (Zero condition) s = take_types (Word ∷ []) s
+branch_effect (Compare condition) s = take_types (Word ∷ Word ∷ []) s
+
+-- the state after an operation in a method of so many operands at most and this result
+unfoldable pub effect_of : ℕ → Option Ty → Operation → Types → Result Types Reason
+effect_of most result Nop s = Ok s
+effect_of most result (Push value) s = push_type most Word s
+effect_of most result (Load local) s = local_type local s >>= λ t. fits t Word >>= λ _. push_type most Word s
+effect_of most result (Store local) s = local_type local s >>= λ t. take_types (Word ∷ []) s >>= set_local_type local Word
+effect_of most result (Increment local by) s = local_type local s >>= λ t. fits t Word >>= λ _. Ok s
+effect_of most result (Shuffle shuffle) s = shuffle_effect most shuffle s
+effect_of most result (Binary operator) s = take_types (Word ∷ Word ∷ []) s >>= push_type most Word
+effect_of most result (Unary operator) s = take_types (Word ∷ []) s >>= push_type most Word
+effect_of most result (Branch when offset) s = branch_effect when s
+effect_of most result (StableSwitch default low offsets) s = take_types (Word ∷ []) s
+effect_of most result (LookupSwitch default cases) s = take_types (Word ∷ []) s
+effect_of most result ReturnWord s = take_types (Word ∷ []) s >>= λ after. fits_result result >>= λ _. Ok after

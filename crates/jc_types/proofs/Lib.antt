@@ -1,0 +1,4 @@
+pub mod Tops
+mod Points
+mod Operands
+mod Turned

@@ -1,0 +1,36 @@
+-- Operands of a state as the slots hold them.
+use Rattle.std.proofs.Common.{◌≡◌, ℕ, ◌-◌, ◌+◌, ◌<◌, ◌≤◌, List, length, take, drop, reverse, Result, Ok, Err, Bool, true, false, cond, nat_lt, refl, sym, ap, ◌∙◌, arith}
+use Rattle.std.proofs.lemmas.Bool.{le-ltb}
+use Rattle.std.proofs.lemmas.List.{length-reverse, length-take-le, drop-take}
+use Rattle.jc_base.specs.declared.reason.Reason.{Reason}
+use Rattle.jc_base.specs.declared.reason.Reason.TheVariants.{StackUnder, WrongType}
+use Rattle.jc_base.proofs.StackViews.{dropped, topmost}
+use Rattle.jc_types.specs.declared.ty.Ty.{Ty}
+use Rattle.jc_types.specs.Types.{Types, all_below}
+use Rattle.jc_types.specs.Steps.{drop_types, take_types}
+
+abbrev pub state_of : List Ty → ℕ → List Ty → Types
+state_of locals depth slots = record { locals = locals; operands = reverse (take depth slots) }
+
+deep : (slots : List Ty) (depth count : ℕ) → count ≤ depth → depth ≤ length slots → nat_lt (length (reverse (take depth slots))) count ≡ false
+deep slots depth count le within =
+    let n : length (reverse (take depth slots)) ≡ depth = length-reverse (take depth slots) ∙ length-take-le depth slots within in
+    le-ltb (length (reverse (take depth slots))) count (omega (arith, n))
+
+pub drops : (locals slots : List Ty) (depth count : ℕ) → count ≤ depth → depth ≤ length slots → drop_types count (state_of locals depth slots) ≡ Ok (state_of locals (depth - count) slots)
+unfolding drop_types
+drops locals slots depth count le within = rw (deep slots depth count le within, dropped slots depth count le within) refl
+
+-- the slots that hold the operands of the wanted types
+window : (slots : List Ty) (depth count : ℕ) → count ≤ depth → take (depth - (depth - count)) (drop (depth - count) slots) ≡ drop (depth - count) (take depth slots)
+window slots depth count le =
+    let e : (depth - count) + (depth - (depth - count)) ≡ depth = omega arith in
+    sym (drop-take (depth - count) (depth - (depth - count)) slots) ∙ ap (λ (n : ℕ). drop (depth - count) (take n slots)) e
+
+pub takes : (locals slots wanted : List Ty) (depth : ℕ) (b : Bool) → length wanted ≤ depth → depth ≤ length slots → b ≡ all_below (take (depth - (depth - length wanted)) (drop (depth - length wanted) slots)) wanted
+    → take_types wanted (state_of locals depth slots) ≡ cond b (Ok (state_of locals (depth - length wanted) slots)) (Err WrongType)
+unfolding take_types
+takes locals slots wanted depth b le within e =
+    let same : all_below (reverse (take (length wanted) (reverse (take depth slots)))) wanted ≡ b =
+    ap (λ (ts : List Ty). all_below ts wanted) (topmost slots depth (length wanted) le within ∙ sym (window slots depth (length wanted) le)) ∙ sym e in
+    rw (deep slots depth (length wanted) le within, same, dropped slots depth (length wanted) le within) refl

@@ -1,0 +1,53 @@
+-- What code may do to a state, or the reason why it may not. Of several reasons the first: a local that isn't
+-- there, too few operands, a wrong type, too many operands.
+use Rattle.std.specs.Prelude.{⊤, ◌≡◌, ℕ, ◌+◌, max, List, ◌∷◌, length, take, drop, reverse, Option, Some, None, Result, Ok, Err, nat_lt, if◌then◌else◌, slice_get, slice_set}
+use Rattle.jc_base.specs.declared.reason.Reason.{Reason}
+use Rattle.jc_base.specs.declared.reason.Reason.TheVariants.{BadLocal, StackUnder, WrongType, StackOver}
+use Rattle.jc_base.specs.Stack.{duplicated, swapped}
+use Rattle.jc_types.specs.declared.ty.Ty.{Ty}
+use Rattle.jc_types.specs.Types.{Types, is_below, all_below}
+
+-- an answer of the code, with the types that it leaves, is this one
+abbrev pub Became : Result ⊤ Reason → Types → Result Types Reason → Type 0
+Became (Ok _) new effect = effect ≡ Ok new
+Became (Err reason) new effect = effect ≡ Err reason
+
+-- the same state with other operands
+abbrev pub with_operands : Types → List Ty → Types
+with_operands s operands = record { locals = s.locals; operands = operands }
+
+abbrev pub found : Option Ty → Result Ty Reason
+found None = Err BadLocal
+found (Some t) = Ok t
+
+-- the type of a local
+unfoldable pub local_type : ℕ → Types → Result Ty Reason
+local_type i s = found (slice_get s.locals i)
+
+-- a local gets a type
+unfoldable pub set_local_type : ℕ → Ty → Types → Result Types Reason
+set_local_type i t s = if nat_lt i (length s.locals) then Ok (record { locals = slice_set s.locals i t; operands = s.operands }) else Err BadLocal
+
+-- an operand more, of so many at most
+unfoldable pub push_type : ℕ → Ty → Types → Result Types Reason
+push_type most t s = if nat_lt (length s.operands) most then Ok (with_operands s (t ∷ s.operands)) else Err StackOver
+
+-- operands of these types are taken, the last of them from the top
+unfoldable pub take_types : List Ty → Types → Result Types Reason
+take_types wanted s =
+    if nat_lt (length s.operands) (length wanted) then Err StackUnder
+    else if all_below (reverse (take (length wanted) s.operands)) wanted then Ok (with_operands s (drop (length wanted) s.operands)) else Err WrongType
+
+-- so many operands are dropped
+unfoldable pub drop_types : ℕ → Types → Result Types Reason
+drop_types count s = if nat_lt (length s.operands) count then Err StackUnder else Ok (with_operands s (drop count s.operands))
+
+-- the top operands are put again below so many
+unfoldable pub duplicate_types : ℕ → ℕ → ℕ → Types → Result Types Reason
+duplicate_types most count below s =
+    if nat_lt (length s.operands) (max count below) then Err StackUnder
+    else if nat_lt most (length s.operands + count) then Err StackOver else Ok (with_operands s (duplicated count below s.operands))
+
+-- the top operands and those below them change places
+unfoldable pub swap_types : ℕ → ℕ → Types → Result Types Reason
+swap_types upper lower s = if nat_lt (length s.operands) (upper + lower) then Err StackUnder else Ok (with_operands s (swapped upper lower s.operands))

@@ -1,0 +1,171 @@
+//! What code may do to a state.
+
+ghost use Rattle.std.specs.Prelude.{◌≡◌, ◌≤◌, ◌&&◌, ◌==◌, ◌+◌, length, take};
+ghost use Rattle.jc_types.specs.Types.{Types, all_below, stated_types, types_below};
+ghost use Rattle.jc_types.specs.Steps.{Became, local_type, set_local_type, push_type, take_types, drop_types, duplicate_types, swap_types};
+
+use crate::lattice::Lattice;
+use crate::state::State;
+use crate::ty::Ty;
+use jc_base::Reason;
+use jc_base::stack::{duplicate_top, swap_top};
+
+/// Whether lists of one length lie point by point one below the other.
+pub fn are_below(lower: &[Ty], upper: &[Ty]) -> bool
+    ensures { result ≡ all_below lower.now upper.now }
+{
+    if lower.len() != upper.len() {
+        return false;
+    }
+    for index in 0..lower.len() {
+        if !lower[index].below(&upper[index], &()) {
+            return false;
+        }
+    }
+    true
+}
+
+fn copy_front(to: &mut [Ty], from: &[Ty])
+    requires { length from.now ≤ length to.old }
+    ensures front { take (length from.now) to.new ≡ from.now }
+    ensures same { length to.new ≡ length to.old }
+{
+    to[..from.len()].copy_from_slice(from);
+}
+
+impl State {
+    /// The type of a local, or `BadLocal`.
+    #[tactic(auto, unfolding(crate::specs::Steps::local_type))]
+    pub fn local(&self, index: u8) -> Result<Ty, Reason>
+        ensures { result ≡ local_type index self.now.types }
+    {
+        let index = usize::from(index);
+        if index < self.locals.len() {
+            Ok(self.locals[index])
+        } else {
+            Err(Reason::BadLocal)
+        }
+    }
+
+    /// Gives a local a type, or `BadLocal`.
+    #[tactic(auto, unfolding(crate::specs::Steps::set_local_type))]
+    pub fn set_local(&mut self, index: u8, ty: Ty) -> Result<(), Reason>
+        ensures became { Became result self.new.types (set_local_type index ty self.old.types) }
+        ensures room { self.new.room ≡ self.old.room }
+        ensures locals { length self.new.types.locals ≡ length self.old.types.locals }
+    {
+        let index = usize::from(index);
+        if index < self.locals.len() {
+            self.locals[index] = ty;
+            Ok(())
+        } else {
+            Err(Reason::BadLocal)
+        }
+    }
+
+    /// Puts an operand on top, of at most `max_stack`, or `StackOver`.
+    #[tactic(auto, unfolding(crate::specs::Steps::push_type))]
+    pub fn push(&mut self, max_stack: u8, ty: Ty) -> Result<(), Reason>
+        requires { max_stack ≤ self.old.room }
+        ensures became { Became result self.new.types (push_type max_stack ty self.old.types) }
+        ensures room { self.new.room ≡ self.old.room }
+        ensures locals { length self.new.types.locals ≡ length self.old.types.locals }
+    {
+        if self.depth >= usize::from(max_stack) {
+            return Err(Reason::StackOver);
+        }
+        self.slots[self.depth] = ty;
+        self.depth += 1;
+        Ok(())
+    }
+
+    /// Takes operands of these types, the last of them from the top: `StackUnder`, then `WrongType`.
+    #[tactic(auto, unfolding(crate::specs::Steps::take_types))]
+    pub fn take(&mut self, wanted: &[Ty]) -> Result<(), Reason>
+        ensures became { Became result self.new.types (take_types wanted.now self.old.types) }
+        ensures room { self.new.room ≡ self.old.room }
+        ensures locals { length self.new.types.locals ≡ length self.old.types.locals }
+    {
+        if self.depth < wanted.len() {
+            return Err(Reason::StackUnder);
+        }
+        let below = self.depth - wanted.len();
+        if !are_below(&self.slots[below..self.depth], wanted) {
+            return Err(Reason::WrongType);
+        }
+        self.depth = below;
+        Ok(())
+    }
+
+    /// Drops the top operands, or `StackUnder`.
+    #[tactic(auto, unfolding(crate::specs::Steps::drop_types))]
+    pub fn drop_top(&mut self, count: u8) -> Result<(), Reason>
+        ensures became { Became result self.new.types (drop_types count self.old.types) }
+        ensures room { self.new.room ≡ self.old.room }
+        ensures locals { length self.new.types.locals ≡ length self.old.types.locals }
+    {
+        let count = usize::from(count);
+        if self.depth < count {
+            return Err(Reason::StackUnder);
+        }
+        self.depth -= count;
+        Ok(())
+    }
+
+    /// Puts the top `count` operands again below the top `below`: `StackUnder`, then `StackOver`.
+    #[tactic(auto, unfolding(crate::specs::Steps::duplicate_types))]
+    pub fn duplicate(&mut self, max_stack: u8, count: u8, below: u8) -> Result<(), Reason>
+        requires { max_stack ≤ self.old.room }
+        ensures became { Became result self.new.types (duplicate_types max_stack count below self.old.types) }
+        ensures room { self.new.room ≡ self.old.room }
+        ensures locals { length self.new.types.locals ≡ length self.old.types.locals }
+    {
+        let count = usize::from(count);
+        let below = usize::from(below);
+        if self.depth < count.max(below) {
+            return Err(Reason::StackUnder);
+        }
+        if usize::from(max_stack) < self.depth + count {
+            return Err(Reason::StackOver);
+        }
+        duplicate_top(&mut self.slots, self.depth, count, below);
+        self.depth += count;
+        Ok(())
+    }
+
+    /// Lets the top `upper` operands and the `lower` below them change places, or `StackUnder`.
+    #[tactic(auto, unfolding(crate::specs::Steps::swap_types))]
+    pub fn swap(&mut self, upper: u8, lower: u8) -> Result<(), Reason>
+        ensures became { Became result self.new.types (swap_types upper lower self.old.types) }
+        ensures room { self.new.room ≡ self.old.room }
+        ensures locals { length self.new.types.locals ≡ length self.old.types.locals }
+    {
+        let upper = usize::from(upper);
+        let lower = usize::from(lower);
+        if self.depth < upper + lower {
+            return Err(Reason::StackUnder);
+        }
+        swap_top(&mut self.slots, self.depth, upper, lower);
+        Ok(())
+    }
+
+    /// Takes over the types that a certificate states, the bottom operand first.
+    pub fn load(&mut self, locals: &[Ty], operands: &[Ty])
+        requires locals { length locals.now ≡ length self.old.types.locals }
+        requires operands { length operands.now ≤ self.old.room }
+        ensures types { self.new.types ≡ stated_types locals.now operands.now }
+        ensures room { self.new.room ≡ self.old.room }
+    {
+        copy_front(&mut self.locals, locals);
+        copy_front(&mut self.slots, operands);
+        self.depth = operands.len();
+    }
+
+    /// Whether it lies below the types that a certificate states, the bottom operand first.
+    #[tactic(auto, using(crate::proofs::Turned::reversed))]
+    pub fn is_below(&self, locals: &[Ty], operands: &[Ty]) -> bool
+        ensures { result ≡ types_below self.now.types (stated_types locals.now operands.now) }
+    {
+        are_below(&self.locals, locals) && are_below(&self.slots[..self.depth], operands)
+    }
+}

@@ -1,0 +1,8 @@
+mod Points
+mod Taking
+mod Simulation
+mod Moves
+mod Branching
+mod Stepping
+mod Frames
+mod Cases

@@ -1,1 +1,2 @@
 pub mod Binding
+pub mod Many

@@ -2,3 +2,4 @@ pub mod Reading
 pub mod Results
 pub mod Names
 pub mod Image
+pub mod Many

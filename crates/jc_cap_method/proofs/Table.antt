@@ -1,12 +1,10 @@
 -- The handler table: rows of eight bytes.
-use Rattle.std.proofs.Common.{◌≡◌, ℕ, ◌+◌, ◌*◌, ◌<◌, ◌≤◌, Bool, true, false, cond, ltb, List, [], ◌∷◌, length, take, drop, Option, Some, None, IsSome, refl, sym, ap, subst, ◌∙◌, arith}
-use Rattle.std.specs.List.{slice_get}
-use Rattle.std.specs.Option.{option_map}
+use Rattle.std.proofs.Common.{◌≡◌, ℕ, ◌+◌, ◌*◌, ◌<◌, ◌≤◌, true, false, ltb, List, ◌∷◌, length, drop, Option, Some, None, IsSome, refl, sym, ap, ◌∙◌, arith}
 use Rattle.std.proofs.lemmas.Bool.{lt-ltb, le-ltb}
-use Rattle.jc_base.specs.Reading.{Read, ◌>>=◌, u2_at, bytes_at, Gives}
+use Rattle.jc_base.specs.Reading.{Read, bytes_at}
 use Rattle.jc_base.specs.Many.{many_at, values_of}
-use Rattle.jc_base.proofs.Binding.{the_some, none_some}
-use Rattle.jc_base.proofs.Many.{Takes, reading, taken, not_taken, many-made, many-enough, rest-many, length-many, holds_some, values-are, length-values, values-get, values-past, many-within, values-within}
+use Rattle.jc_base.proofs.Binding.{the_some}
+use Rattle.jc_base.proofs.Many.{Takes, reading, taken, not_taken, many-made, many-enough, rest-many, values-are, length-values, values-within}
 use Rattle.jc_cap_method.specs.declared.handler.Handler.{Handler}
 use Rattle.jc_cap_method.specs.Handlers.{handler_at, rows_named}
 

@@ -1,7 +1,7 @@
 -- The Method component (Java Card Virtual Machine Specification, CAP file format: Method component).
 use Rattle.std.specs.Prelude.{ℕ, List, drop, Option, Some}
 use Rattle.std.specs.Option.{option_map}
-use Rattle.jc_base.specs.Reading.{Read, ◌>>=◌, u1_at}
+use Rattle.jc_base.specs.Reading.{◌>>=◌, u1_at}
 use Rattle.jc_base.specs.Many.{many_at}
 use Rattle.jc_cap_method.specs.declared.handler.Handler.{Handler}
 use Rattle.jc_cap_method.specs.declared.header.MethodHeader.{MethodHeader}

@@ -1,4 +1,4 @@
-use Rattle.std.proofs.Common.{◌≡◌, arith}
+use Rattle.std.proofs.Common.{arith}
 use Rattle.jc_base.proofs.Many.{length-many}
 use Rattle.jc_cap_method.specs.Handlers.{handler_at}
 use Rattle.jc_cap_method.proofs.Table.{row_takes}

@@ -1,4 +1,3 @@
-use Rattle.std.proofs.Common.{◌≡◌}
 use Rattle.jc_base.proofs.Many.{holds_some}
 use Rattle.jc_cap_method.proofs.Table.{table, no_table}
 use Rattle.jc_cap_method.proofs.handler.next_handlers.Goals as goal

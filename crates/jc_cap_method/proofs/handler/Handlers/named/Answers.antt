@@ -1,4 +1,4 @@
-use Rattle.std.proofs.Common.{◌≡◌, ℕ, ◌*◌, List, Some, drop, ap, ◌∙◌, arith}
+use Rattle.std.proofs.Common.{ℕ, ◌*◌, List, Some, drop, ap, ◌∙◌, arith}
 use Rattle.jc_base.specs.Many.{values_of}
 use Rattle.jc_base.proofs.Many.{many-within}
 use Rattle.jc_cap_method.specs.Handlers.{handler_at, rows_named}

@@ -3,3 +3,4 @@ pub mod Results
 pub mod Names
 pub mod Image
 pub mod Many
+pub mod ClassRefs

@@ -1,5 +1,5 @@
 -- Counted lists: so many of one kind, one behind the other.
-use Rattle.std.specs.Prelude.{ℕ, zero, suc, List, [], ◌∷◌, Option, Some}
+use Rattle.std.specs.Prelude.{ℕ, zero, suc, List, [], ◌∷◌, length, Option, Some, None, nat_eq, if◌then◌else◌}
 use Rattle.std.specs.Option.{option_map_or}
 use Rattle.jc_base.specs.Reading.{Read, ◌>>=◌}
 
@@ -14,3 +14,7 @@ many_at one (suc n) bytes = do
 -- the n values that stand in front, where there are so many
 abbrev pub values_of : {A : Type 0} → (List ℕ → Option (Read A)) → ℕ → List ℕ → List A
 values_of one n bytes = option_map_or (λ r. r.value) (many_at one n bytes) []
+
+-- what was read, where nothing is left
+abbrev pub whole : {A : Type 0} → Read A → Option A
+whole r = if nat_eq (length r.rest) 0 then Some r.value else None

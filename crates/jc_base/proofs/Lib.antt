@@ -1,2 +1,3 @@
 pub mod Binding
 pub mod Many
+pub mod Rows

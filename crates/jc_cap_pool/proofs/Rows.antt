@@ -1,8 +1,9 @@
 -- Each entry takes four bytes.
-use Rattle.std.proofs.Common.{◌≡◌, ℕ, ◌+◌, ◌-◌, ◌≤◌, ◌==◌, Bool, true, false, cond, ltb, List, [], ◌∷◌, length, drop, Option, Some, None, is_some, refl, sym, ap, ◌∙◌, arith}
-use Rattle.jc_base.specs.Reading.{Read, ◌>>=◌, u1_at, u2_at}
+use Rattle.std.proofs.Common.{◌≡◌, ℕ, ◌-◌, ◌==◌, Bool, true, false, cond, ltb, List, [], ◌∷◌, Option, Some, None, is_some, sym, ap, ◌∙◌, arith}
+use Rattle.jc_base.specs.Reading.{Read, u2_at}
 use Rattle.jc_base.proofs.Binding.{the_some}
-use Rattle.jc_base.proofs.Many.{Takes, reading, bind_some, exactly-values}
+use Rattle.jc_base.proofs.Many.{reading, bind_some, exactly-values}
+use Rattle.jc_base.proofs.Rows.{Takes}
 use Rattle.jc_base.specs.Many.{values_of}
 use Rattle.jc_cap_pool.specs.Pool.{entries_of, pool_of}
 use Rattle.jc_cap_pool.specs.declared.entry.MemberRef.{MemberRef}

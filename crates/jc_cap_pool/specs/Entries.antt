@@ -8,6 +8,25 @@ use Rattle.jc_cap_pool.specs.declared.entry.StaticRef.TheVariants.{Internal, Ext
 use Rattle.jc_cap_pool.specs.declared.entry.PoolEntry.{PoolEntry}
 use Rattle.jc_cap_pool.specs.declared.entry.PoolEntry.TheVariants.{Classref, InstanceFieldref, VirtualMethodref, SuperMethodref, StaticFieldref, StaticMethodref}
 
+-- the tags
+abbrev pub classref_tag : ℕ
+classref_tag = 1
+
+abbrev pub instance_fieldref_tag : ℕ
+instance_fieldref_tag = 2
+
+abbrev pub virtual_methodref_tag : ℕ
+virtual_methodref_tag = 3
+
+abbrev pub super_methodref_tag : ℕ
+super_methodref_tag = 4
+
+abbrev pub static_fieldref_tag : ℕ
+static_fieldref_tag = 5
+
+abbrev pub static_methodref_tag : ℕ
+static_methodref_tag = 6
+
 -- a class, and a byte that is a token or padding
 unfoldable pub member_ref_at : List ℕ → Option (Read MemberRef)
 member_ref_at bytes = do
@@ -15,11 +34,13 @@ member_ref_at bytes = do
   token ← u1_at class.rest
   Some (record { value = record { class = class_ref_of class.value; token = token.value }; rest = token.rest })
 
+-- an offset
 abbrev pub internal_at : List ℕ → Option (Read StaticRef)
 internal_at bytes = do
   offset ← u2_at bytes
   Some (record { value = Internal offset.value; rest = offset.rest })
 
+-- two tokens behind a package's
 abbrev pub external_at : ℕ → List ℕ → Option (Read StaticRef)
 external_at import bytes = do
   class ← u1_at bytes
@@ -40,12 +61,12 @@ as_entry entry found = found >>= λ r. Some (record { value = entry r.value; res
 -- an entry behind its tag
 unfoldable pub entry_with : ℕ → List ℕ → Option (Read PoolEntry)
 entry_with tag bytes =
-    if tag == 1 then as_entry (λ m. Classref m.class) (member_ref_at bytes)
-    else (if tag == 2 then as_entry InstanceFieldref (member_ref_at bytes)
-    else (if tag == 3 then as_entry VirtualMethodref (member_ref_at bytes)
-    else (if tag == 4 then as_entry SuperMethodref (member_ref_at bytes)
-    else (if tag == 5 then as_entry StaticFieldref (static_ref_at bytes)
-    else (if tag == 6 then as_entry StaticMethodref (static_ref_at bytes)
+    if tag == classref_tag then as_entry (λ m. Classref m.class) (member_ref_at bytes)
+    else (if tag == instance_fieldref_tag then as_entry InstanceFieldref (member_ref_at bytes)
+    else (if tag == virtual_methodref_tag then as_entry VirtualMethodref (member_ref_at bytes)
+    else (if tag == super_methodref_tag then as_entry SuperMethodref (member_ref_at bytes)
+    else (if tag == static_fieldref_tag then as_entry StaticFieldref (static_ref_at bytes)
+    else (if tag == static_methodref_tag then as_entry StaticMethodref (static_ref_at bytes)
     else None)))))
 
 -- an entry: a tag, and three bytes that go by it

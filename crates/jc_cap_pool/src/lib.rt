@@ -4,8 +4,16 @@
 //! `type_descriptor_info` of the Descriptor component.
 #![tactic(auto)]
 
+mod declared_type;
+mod descriptor;
 mod entry;
+mod nibbles;
 mod pool;
 
+pub use declared_type::DeclaredType;
+pub use descriptor::{Descriptor, Parameters, descriptor_at, next_descriptor};
 pub use entry::{MemberRef, PoolEntry, StaticRef};
 pub use pool::{ConstantPool, read_pool};
+
+#[cfg(test)]
+mod tests;

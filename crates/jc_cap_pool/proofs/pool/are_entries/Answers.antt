@@ -1,4 +1,4 @@
-use Rattle.std.proofs.Common.{◌≡◌, ◌+◌, ◌-◌, sym, ◌∙◌, arith}
+use Rattle.std.proofs.Common.{◌+◌, ◌-◌, sym, ◌∙◌, arith}
 use Rattle.jc_base.proofs.Many.{exactly-one_more, exactly-none, exactly-end, empty_is}
 use Rattle.jc_cap_pool.specs.Entries.{entry_at}
 use Rattle.jc_cap_pool.specs.Pool.{entries_of}

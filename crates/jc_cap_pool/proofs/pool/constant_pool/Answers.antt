@@ -1,6 +1,4 @@
-use Rattle.std.proofs.Common.{◌≡◌, List, ℕ, Some, sym, ap, ◌∙◌}
-use Rattle.jc_base.specs.Reading.{u2_at}
-use Rattle.jc_base.specs.Many.{values_of}
+use Rattle.std.proofs.Common.{sym, ◌∙◌}
 use Rattle.jc_base.proofs.Many.{exactly-values}
 use Rattle.jc_cap_pool.specs.Entries.{entry_at}
 use Rattle.jc_cap_pool.specs.Pool.{entries_of}

@@ -1,6 +1,6 @@
 use Rattle.std.proofs.Common.{ℕ, ◌*◌, List, Some, drop, ap, ◌∙◌, arith}
 use Rattle.jc_base.specs.Many.{values_of}
-use Rattle.jc_base.proofs.Many.{many-within}
+use Rattle.jc_base.proofs.Rows.{many-within}
 use Rattle.jc_cap_method.specs.Handlers.{handler_at, rows_named}
 use Rattle.jc_cap_method.proofs.Table.{row_takes, named-within, named-past}
 use Rattle.jc_cap_method.proofs.handler.Handlers.named.Goals as goal

@@ -1,7 +1,8 @@
-use Rattle.std.proofs.Common.{◌≡◌, ℕ, ◌*◌, List, drop, ap, ◌∙◌, arith}
+use Rattle.std.proofs.Common.{ℕ, ◌*◌, List, drop, ap, ◌∙◌, arith}
 use Rattle.std.specs.List.{slice_get}
 use Rattle.std.specs.Option.{option_map}
-use Rattle.jc_base.proofs.Many.{read_value, gives_is, values-get, values-past}
+use Rattle.jc_base.proofs.Many.{read_value, gives_is}
+use Rattle.jc_base.proofs.Rows.{values-get, values-past}
 use Rattle.jc_cap_pool.specs.declared.entry.PoolEntry.{PoolEntry}
 use Rattle.jc_cap_pool.specs.Entries.{entry_at}
 use Rattle.jc_cap_pool.proofs.Rows.{entry_takes}

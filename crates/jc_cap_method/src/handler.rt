@@ -74,7 +74,7 @@ impl<'a> Handlers<'a> {
     }
 
     /// The `count` handlers from index `first` on, or `None` where they run past the last.
-    pub fn named(&self, first: u16, count: u16) -> Option<Handlers<'a>>
+    pub(crate) fn named(&self, first: u16, count: u16) -> Option<Handlers<'a>>
         ensures { result ≡ rows_named first count self.now }
     {
         if usize::from(self.count) < usize::from(first) + usize::from(count) {

@@ -58,7 +58,7 @@ keeps_type code =
     (keeps_if (code == 0xE) _ _ (keeps_of_class _) keeps_none)))))))
 
 -- a type takes a nibble at least
-type-less : (nibbles : List ℕ) (x : Read DeclaredType) → type_at nibbles ≡ Some x → length x.rest < length nibbles
+pub type-less : (nibbles : List ℕ) (x : Read DeclaredType) → type_at nibbles ≡ Some x → length x.rest < length nibbles
 unfolding type_at
 type-less [] x e = absurd cc
 type-less (code ∷ nibbles) x e = let h = keeps_type code nibbles x e in omega arith
@@ -86,7 +86,7 @@ result-none = refl
 abbrev pub before : List DeclaredType → Option Signature → Option Signature
 before front found = option_map (λ s. record { parameters = front ++ s.parameters; result = s.result }) found
 
-some_left : (left : List ℕ) (x : Read (Option DeclaredType)) → result_at left ≡ Some x → 0 < length left
+pub some_left : (left : List ℕ) (x : Read (Option DeclaredType)) → result_at left ≡ Some x → 0 < length left
 some_left [] x e = absurd (none_some x (sym result-none ∙ e))
 some_left (code ∷ left) x e = omega arith
 
@@ -96,12 +96,12 @@ step_none : (steps : ℕ) (left : List ℕ) → result_at left ≡ None → sign
 step_none zero left e = refl
 step_none (suc steps) left e = rw e refl
 
-step_last : (steps : ℕ) (left rest : List ℕ) (r : Option DeclaredType) → length left ≤ steps → result_at left ≡ Some (reading r rest) → length rest ≡ 0
+pub step_last : (steps : ℕ) (left rest : List ℕ) (r : Option DeclaredType) → length left ≤ steps → result_at left ≡ Some (reading r rest) → length rest ≡ 0
     → signature_in steps left ≡ Some (record { parameters = []; result = r })
 step_last zero left rest r le e end = let some = some_left left _ e in absurd (omega arith)
 step_last (suc steps) left rest r le e end = let t : eqb (length rest) 0 ≡ true = eq-eqb _ _ end in rw (e, t) refl
 
-step_on : (steps : ℕ) (left rest : List ℕ) (r : Option DeclaredType) → length left ≤ steps → result_at left ≡ Some (reading r rest) → (length rest ≡ 0 → ⊥)
+pub step_on : (steps : ℕ) (left rest : List ℕ) (r : Option DeclaredType) → length left ≤ steps → result_at left ≡ Some (reading r rest) → (length rest ≡ 0 → ⊥)
     → (fewer : ℕ) × (steps ≡ suc fewer) × (signature_in steps left ≡ with_parameter r (signature_in fewer rest))
 step_on zero left rest r le e more = let some = some_left left _ e in absurd (omega arith)
 step_on (suc steps) left rest r le e more = let t : eqb (length rest) 0 ≡ false = ne_eqb _ _ more in (steps, refl, rw (e, t) refl)

@@ -1,15 +1,20 @@
 -- Type descriptors (Java Card Virtual Machine Specification, Descriptor component: type_descriptor_info).
-use Rattle.std.specs.Prelude.{ℕ, zero, suc, List, [], ◌∷◌, length, drop, Option, Some, None, nat_eq, if◌then◌else◌}
+use Rattle.std.specs.Prelude.{◌≡◌, ℕ, zero, suc, List, [], ◌∷◌, length, drop, Option, Some, None, nat_eq, if◌then◌else◌}
 use Rattle.std.specs.Option.{option_map}
 use Rattle.jc_base.specs.Reading.{Read, ◌>>=◌, u1_at}
 use Rattle.jc_cap_pool.specs.Nibbles.{nibbles_at}
-use Rattle.jc_cap_pool.specs.Types.{result_at}
+use Rattle.jc_cap_pool.specs.Types.{type_at, result_at}
 use Rattle.jc_cap_pool.specs.declared.declared_type.DeclaredType.{DeclaredType}
 
 -- what a method takes, without `this`, and what it gives, None where that is void
 pub record Signature : Type 0 where
   pub parameters : List DeclaredType
   pub result : Option DeclaredType
+
+-- the nibbles are these parameters, one after the other, and then this result, and nothing more
+abbrev pub IsSpelled : List DeclaredType → Option DeclaredType → List ℕ → Type 0
+IsSpelled [] result nibbles = result_at nibbles ≡ Some (record { value = result; rest = [] })
+IsSpelled (type ∷ types) result nibbles = (rest : List ℕ) × (type_at nibbles ≡ Some (record { value = type; rest = rest })) × IsSpelled types result rest
 
 -- a signature with one more parameter in front; void is none
 abbrev pub with_parameter : Option DeclaredType → Option Signature → Option Signature

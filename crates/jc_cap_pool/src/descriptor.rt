@@ -1,8 +1,8 @@
 //! Type descriptors.
 
-ghost use Rattle.std.specs.Prelude.{◌≡◌, ◌↔◌, ◌<◌, [], ◌∷◌, length, IsTrue, MatchOption};
+ghost use Rattle.std.specs.Prelude.{◌≡◌, ◌↔◌, ◌<◌, ℕ, List, Some, [], ◌∷◌, length, IsTrue, MatchOption};
 ghost use Rattle.jc_base.specs.Reading.{Gives};
-ghost use Rattle.jc_cap_pool.specs.Descriptors.{signature_of, descriptor_at, descriptor_from, field_type_of};
+ghost use Rattle.jc_cap_pool.specs.Descriptors.{Signature, IsSpelled, signature_of, descriptor_at, descriptor_from, field_type_of};
 
 use crate::declared_type::{DeclaredType, next_result, next_type};
 use crate::nibbles::{Nibbles, next_nibbles};
@@ -148,3 +148,8 @@ pub fn descriptor_at<'a>(bytes: &'a [u8], offset: u16) -> Option<Descriptor<'a>>
 {
     next_descriptor(&mut Cursor::at(bytes, usize::from(offset)))
 }
+
+/// Nibbles are read as a signature exactly where they are the spelling of one, and as that one.
+pub fn signatures_are_spelled()
+    ensures { (nibbles : List ℕ) (s : Signature) → (signature_of nibbles ≡ Some s) ↔ IsSpelled s.parameters s.result nibbles }
+{}

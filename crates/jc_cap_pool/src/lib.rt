@@ -11,7 +11,9 @@ mod nibbles;
 mod pool;
 
 pub use declared_type::DeclaredType;
-pub use descriptor::{Descriptor, Parameters, descriptor_at, next_descriptor};
+pub use descriptor::{
+    Descriptor, Parameters, descriptor_at, next_descriptor, signatures_are_spelled,
+};
 pub use entry::{MemberRef, PoolEntry, StaticRef};
 pub use pool::{ConstantPool, read_pool};
 

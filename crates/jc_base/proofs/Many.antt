@@ -1,11 +1,7 @@
 -- Counted lists: so many values, one behind the other.
-use Rattle.std.proofs.Common.{◌≡◌, ℕ, zero, suc, ◌+◌, ◌-◌, ◌*◌, ◌<◌, ◌≤◌, List, [], ◌∷◌, ◌++◌, length, take, drop, Option, Some, None, IsSome, IsTrue, is_some, nat_eq, refl, sym, ap, subst, ◌∙◌, Bool, true, false, cond, ltb, arith}
-use Rattle.std.specs.List.{slice_get}
+use Rattle.std.proofs.Common.{◌≡◌, ℕ, zero, suc, ◌<◌, ◌≤◌, List, [], ◌∷◌, ◌++◌, length, take, drop, Option, Some, None, IsSome, IsTrue, is_some, nat_eq, refl, sym, ap, ◌∙◌, Bool, true, false, cond, ltb, arith}
 use Rattle.std.proofs.lemmas.Bool.{ltb-false, ltb-true, ne_eqb}
-use Rattle.std.proofs.lemmas.List.{length-drop}
-use Rattle.std.proofs.lemmas.Option.{slice_get_past}
 use Rattle.std.specs.Option.{option_map, option_map_or}
-use Rattle.std.proofs.Math.Seq.{drop-nil}
 use Rattle.jc_base.specs.Reading.{Read, ◌>>=◌, bytes_at, Gives}
 use Rattle.jc_base.specs.Many.{many_at, values_of, whole}
 use Rattle.jc_base.proofs.Binding.{the_some, none_some}

@@ -1,14 +1,13 @@
 -- Tables: counted lists of values that take equally many bytes.
-use Rattle.std.proofs.Common.{◌≡◌, ℕ, zero, suc, ◌+◌, ◌-◌, ◌*◌, ◌<◌, ◌≤◌, List, [], ◌∷◌, length, take, drop, Option, Some, None, IsSome, IsTrue, is_some, nat_eq, refl, sym, ap, subst, ◌∙◌, Bool, true, false, cond, ltb, arith}
+use Rattle.std.proofs.Common.{◌≡◌, ℕ, zero, suc, ◌+◌, ◌-◌, ◌*◌, ◌<◌, ◌≤◌, List, [], ◌∷◌, length, take, drop, Option, Some, None, IsSome, refl, sym, ap, ◌∙◌, arith}
 use Rattle.std.specs.List.{slice_get}
-use Rattle.std.proofs.lemmas.Bool.{ltb-false, ltb-true, ne_eqb}
 use Rattle.std.proofs.lemmas.List.{length-drop}
 use Rattle.std.proofs.lemmas.Option.{slice_get_past}
-use Rattle.std.specs.Option.{option_map, option_map_or}
+use Rattle.std.specs.Option.{option_map}
 use Rattle.std.proofs.Math.Seq.{drop-nil}
-use Rattle.jc_base.specs.Reading.{Read, ◌>>=◌, bytes_at, Gives}
-use Rattle.jc_base.specs.Many.{many_at, values_of, whole}
-use Rattle.jc_base.proofs.Binding.{the_some, none_some}
+use Rattle.jc_base.specs.Reading.{Read}
+use Rattle.jc_base.specs.Many.{many_at, values_of}
+use Rattle.jc_base.proofs.Binding.{the_some}
 use Rattle.jc_base.proofs.Many.{reading, read_value, some_is, holds_some, many-head, many-none, many-cons, length-values, values-are}
 
 pub drop_more : (m n : ℕ) (bytes : List ℕ) → drop n (drop m bytes) ≡ drop (m + n) bytes
@@ -123,4 +122,3 @@ module _ {A : Type 0} (one : List ℕ → Option (Read A)) (size : ℕ) (takes :
 
   pub values-within : (k n m : ℕ) (bytes : List ℕ) → IsSome (many_at one m bytes) → k + n ≤ m → values_of one n (drop (size * k) bytes) ≡ take n (drop k (values_of one m bytes))
   values-within k n m bytes h le = let w = within k n m bytes h le in values-are one n _ _ w.1
-

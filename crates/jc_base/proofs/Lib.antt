@@ -7,3 +7,5 @@ pub mod Decide
 pub mod Repeats
 mod StackLemmas
 pub mod StackViews
+pub mod Many
+pub mod Rows

@@ -9,3 +9,5 @@ pub mod Packages
 pub mod Repeats
 pub mod Tags
 pub mod Stack
+pub mod Many
+pub mod ClassRefs

@@ -1,6 +1,6 @@
 //! A place in a list of bytes.
 
-ghost use Rattle.std.specs.Prelude.{◌≡◌, ◌↔◌, ℕ, List, [], length, IsTrue};
+ghost use Rattle.std.specs.Prelude.{◌≡◌, ◌↔◌, ℕ, List, [], length, drop, IsTrue};
 ghost use Rattle.jc_base.specs.Reading.{u1_at, u2_at, u4_at, s1_at, s2_at, bytes_at, Steps};
 
 use byteorder::{BigEndian, ByteOrder};
@@ -26,6 +26,18 @@ impl<'a> Cursor<'a> {
         ensures { result ≡ bytes.now }
     {
         Cursor { rest: bytes }
+    }
+
+    /// A cursor at an offset of the bytes. Past their end nothing is left.
+    pub fn at(bytes: &'a [u8], offset: usize) -> Self
+        ensures { result ≡ drop offset bytes.now }
+    {
+        if offset > bytes.len() {
+            return Cursor { rest: &[] };
+        }
+        Cursor {
+            rest: bytes.split_at(offset).1,
+        }
     }
 
     /// How many bytes are left.

@@ -2,6 +2,7 @@
 #![tactic(auto)]
 
 mod aid;
+mod class_ref;
 mod cursor;
 mod cutting;
 mod fault;
@@ -12,6 +13,7 @@ pub mod stack;
 pub mod tag;
 
 pub use aid::Aid;
+pub use class_ref::{ClassRef, class_ref_of};
 pub use cursor::Cursor;
 pub use cutting::cut;
 pub use fault::LoadFault;

@@ -2,16 +2,15 @@
 
 ghost use Rattle.std.specs.Prelude.{◌≡◌, length};
 ghost use Rattle.std.specs.Option.{ok_or, option_copied};
+ghost use Rattle.jc_base.specs.Tags.{method_tag};
 ghost use Rattle.jc_cap_method.specs.Handlers.{rows_named};
 ghost use Rattle.jc_cap_method.specs.Methods.{methods_of, header_of, code_of};
 
 use crate::handler::{Handlers, next_handlers};
 use crate::header::{MethodHeader, next_header};
+use jc_base::tag::METHOD;
 use jc_base::{Cursor, LoadFault, Parts};
 use std::marker::Model;
-
-/// The tag of the component.
-const METHOD: u8 = 7;
 
 /// The Method component of an image: what stands in it is read where it is asked for.
 /// Offsets count from the first byte of the component's info.
@@ -80,7 +79,7 @@ pub(crate) fn method_info<'a>(info: &'a [u8]) -> Option<MethodInfo<'a>>
 /// Reads the Method component. `Malformed(7)` where the handler table runs past the info; what follows
 /// the table may be anything.
 pub fn read_method<'a>(parts: &Parts<'a>) -> Result<MethodInfo<'a>, LoadFault>
-    ensures { result ≡ ok_or (methods_of parts.now.method) (LoadFault.Malformed 7) }
+    ensures { result ≡ ok_or (methods_of parts.now.method) (LoadFault.Malformed method_tag) }
 {
     method_info(parts.method()).ok_or(LoadFault::Malformed(METHOD))
 }

@@ -1,5 +1,6 @@
 use super::component::method_info;
 use super::*;
+use jc_base::{LoadFault, cut};
 use std::test::*;
 
 // One handler for three bytes from 10 on, with its stop bit set. A short header is at 9, an extended one
@@ -75,4 +76,34 @@ fn the_table_lies_within_the_info(rt: HostRuntime) {
         );
     }
     assert!(rt; method_info(&[0]).is_some());
+}
+
+/// An image whose Method component has this info; the other components have no bytes.
+fn image_with(info: &[u8; 18]) -> [u8; 36] {
+    let mut bytes = [0; 36];
+    bytes[..18].copy_from_slice(&[1, 0, 0, 5, 0, 0, 6, 0, 0, 8, 0, 0, 11, 0, 0, 7, 0, 18]);
+    bytes[18..].copy_from_slice(info);
+    bytes
+}
+
+#[test]
+fn the_component_of_an_image(rt: HostRuntime) -> Result<(), Fail> {
+    let image = image_with(&INFO);
+    let parts = cut(&image).ok().ok_or("it has its components")?;
+    let method = read_method(&parts).ok().ok_or("the table fits")?;
+    assert_eq!(rt; method.handler_count(), 1);
+    let handler = method.handlers(0, 1).ok_or("a handler")?.get(0);
+    assert_eq!(rt; handler.ok_or("a handler")?.handler, 13);
+    assert_eq!(rt; method.header_at(9).ok_or("a header")?.nargs, 3);
+    assert_eq!(rt; method.code_at(11), Some(&INFO[15..]));
+    Ok(())
+}
+
+#[test]
+fn an_image_whose_table_is_cut(rt: HostRuntime) -> Result<(), Fail> {
+    // Three handlers take 24 bytes.
+    let image = image_with(&[3; 18]);
+    let parts = cut(&image).ok().ok_or("it has its components")?;
+    assert_eq!(rt; read_method(&parts).err(), Some(LoadFault::Malformed(7)));
+    Ok(())
 }

@@ -2,14 +2,13 @@
 
 ghost use Rattle.std.specs.Prelude.{◌≡◌, ◌↔◌, [], length, slice_get, is_some, IsTrue};
 ghost use Rattle.std.specs.Option.{ok_or};
+ghost use Rattle.jc_base.specs.Tags.{constant_pool_tag};
 ghost use Rattle.jc_cap_pool.specs.Pool.{entries_of, pool_of};
 
 use crate::entry::{PoolEntry, next_entry};
+use jc_base::tag::CONSTANT_POOL;
 use jc_base::{Cursor, LoadFault, Parts};
 use std::marker::Model;
-
-/// The tag of the component.
-const CONSTANT_POOL: u8 = 5;
 
 /// The size of an entry, in bytes.
 const ENTRY_SIZE: usize = 4;
@@ -89,7 +88,7 @@ pub(crate) fn constant_pool<'a>(info: &'a [u8]) -> Option<ConstantPool<'a>>
 
 /// Reads the ConstantPool component. `Malformed(5)` where its info isn't a count and that many entries.
 pub fn read_pool<'a>(parts: &Parts<'a>) -> Result<ConstantPool<'a>, LoadFault>
-    ensures { result ≡ ok_or (pool_of parts.now.constant_pool) (LoadFault.Malformed 5) }
+    ensures { result ≡ ok_or (pool_of parts.now.constant_pool) (LoadFault.Malformed constant_pool_tag) }
 {
     constant_pool(parts.constant_pool()).ok_or(LoadFault::Malformed(CONSTANT_POOL))
 }

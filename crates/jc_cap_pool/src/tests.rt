@@ -1,6 +1,6 @@
 use super::*;
 use crate::pool::constant_pool;
-use jc_base::ClassRef;
+use jc_base::{ClassRef, LoadFault, cut};
 use std::test::*;
 
 const OBJECT: ClassRef = ClassRef::External {
@@ -92,6 +92,29 @@ fn a_pool_is_used_up(rt: HostRuntime) {
         );
     }
     assert!(rt; constant_pool(&[0, 0]).is_some());
+}
+
+/// An image whose ConstantPool component is one entry; the other components have no bytes.
+fn image_with(entry: [u8; 4]) -> [u8; 24] {
+    let mut image = [0; 24];
+    image[..18].copy_from_slice(&[1, 0, 0, 6, 0, 0, 7, 0, 0, 8, 0, 0, 11, 0, 0, 5, 0, 6]);
+    image[19] = 1;
+    image[20..].copy_from_slice(&entry);
+    image
+}
+
+#[test]
+fn the_component_of_an_image(rt: HostRuntime) -> Result<(), Fail> {
+    let image = image_with([1, 0x80, 0, 0]);
+    let parts = cut(&image).ok().ok_or("it has its components")?;
+    let pool = read_pool(&parts).ok().ok_or("it has a pool")?;
+    assert_eq!(rt; pool.len(), 1);
+    assert_eq!(rt; pool.entry(0), Some(PoolEntry::Classref(OBJECT)));
+    assert_eq!(rt; pool.entry(1), None);
+    let other = image_with([7, 0x80, 0, 0]);
+    let parts = cut(&other).ok().ok_or("it has its components")?;
+    assert_eq!(rt; read_pool(&parts).err(), Some(LoadFault::Malformed(5)));
+    Ok(())
 }
 
 #[test]

@@ -2,4 +2,12 @@ pub mod Reading
 pub mod Results
 pub mod Names
 pub mod Image
+pub mod Aids
+pub mod Components
+pub mod Slots
+pub mod Packages
+pub mod Repeats
+pub mod Tags
 pub mod Stack
+pub mod Many
+pub mod ClassRefs

@@ -1,6 +1,7 @@
 -- Reading from the front of a list of bytes: a value and the bytes behind it, or nothing.
--- Numbers are big-endian (Java Card Virtual Machine Specification: u1, u2 and u4, and s1 and s2 with a sign).
-use Rattle.std.specs.Prelude.{◌≡◌, ℕ, ℤ, ◌+◌, ◌*◌, List, [], ◌∷◌, length, take, drop, Option, Some, None, nat_lt, if◌then◌else◌}
+-- Numbers are big-endian (Java Card Virtual Machine Specification, CAP file format: u1, u2 and u4; and s1 and s2 with
+-- a sign).
+use Rattle.std.specs.Prelude.{◌≡◌, ℕ, ℤ, ◌+◌, ◌*◌, List, [], ◌∷◌, length, take, drop, Option, Some, None, Result, Ok, Err, nat_lt, if◌then◌else◌}
 use Rattle.std.specs.Int.{w8, w16, cast_signed}
 use Rattle.std.specs.Option.{option_and_then}
 
@@ -53,3 +54,8 @@ Steps view None old new read = (read ≡ None) × (new ≡ old)
 abbrev pub Gives : {X Y : Type 0} → (X → Y) → Option X → List ℕ → Option (Read Y) → Type 0
 Gives view (Some x) new read = read ≡ Some (record { value = view x; rest = new })
 Gives view None new read = read ≡ None
+
+-- What a reader gave, seen by view, or why it gave nothing. Then the cursor stands anywhere.
+abbrev pub Reads : {X Y E : Type 0} → (X → Y) → Result X E → List ℕ → Result (Read Y) E → Type 0
+Reads view (Ok x) new read = read ≡ Ok (record { value = view x; rest = new })
+Reads view (Err e) new read = read ≡ Err e

@@ -1,6 +1,6 @@
 //! A place in a list of bytes.
 
-ghost use Rattle.std.specs.Prelude.{◌≡◌, ◌↔◌, ℕ, List, [], length, IsTrue};
+ghost use Rattle.std.specs.Prelude.{◌≡◌, ◌↔◌, ℕ, List, [], length, drop, IsTrue};
 ghost use Rattle.jc_base.specs.Reading.{u1_at, u2_at, u4_at, s1_at, s2_at, bytes_at, Steps};
 
 use byteorder::{BigEndian, ByteOrder};
@@ -28,6 +28,18 @@ impl<'a> Cursor<'a> {
         Cursor { rest: bytes }
     }
 
+    /// A cursor at an offset of the bytes. Past their end nothing is left.
+    pub fn at(bytes: &'a [u8], offset: usize) -> Self
+        ensures { result ≡ drop offset bytes.now }
+    {
+        if offset > bytes.len() {
+            return Cursor { rest: &[] };
+        }
+        Cursor {
+            rest: bytes.split_at(offset).1,
+        }
+    }
+
     /// How many bytes are left.
     pub fn len(&self) -> usize
         ensures { result ≡ length self.now }
@@ -40,6 +52,13 @@ impl<'a> Cursor<'a> {
         ensures { IsTrue result ↔ (self.now ≡ []) }
     {
         self.rest.is_empty()
+    }
+
+    /// The bytes that are left.
+    pub fn rest(&self) -> &'a [u8]
+        ensures { result.now ≡ self.now }
+    {
+        self.rest
     }
 
     /// The next byte.

@@ -8,15 +8,15 @@ use std::marker::Model;
 /// The infos of an image's components, lent from the image.
 #[derive(Drop)]
 pub struct Parts<'a> {
-    header: &'a [u8],
-    applet: Option<&'a [u8]>,
-    imports: Option<&'a [u8]>,
-    constant_pool: &'a [u8],
-    class: &'a [u8],
-    method: &'a [u8],
-    static_field: &'a [u8],
-    export: Option<&'a [u8]>,
-    descriptor: &'a [u8],
+    pub(crate) header: &'a [u8],
+    pub(crate) applet: Option<&'a [u8]>,
+    pub(crate) imports: Option<&'a [u8]>,
+    pub(crate) constant_pool: &'a [u8],
+    pub(crate) class: &'a [u8],
+    pub(crate) method: &'a [u8],
+    pub(crate) static_field: &'a [u8],
+    pub(crate) export: Option<&'a [u8]>,
+    pub(crate) descriptor: &'a [u8],
 }
 
 impl<'a> Model for Parts<'a> {

@@ -2,14 +2,37 @@
 
 ghost use Rattle.std.specs.Prelude.{◌<◌, ◌^◌, length};
 ghost use Rattle.jcard.specs.Answers.{Answers};
+ghost use Rattle.jcard.specs.Runs.{AnswersEnding};
 
 use crate::answer::EvalAnswer;
+use crate::run::{Ending, run};
+use jc_base::LoadFault;
+use jc_check::{WordFault, check_words};
 use std::alloc::Global;
 
+fn ending_answer(ending: Ending) -> EvalAnswer
+    ensures { AnswersEnding ending result }
+{
+    match ending {
+        Ending::Gave(word) => EvalAnswer::Value(word.cast_signed()),
+        Ending::Threw => EvalAnswer::Throws,
+        Ending::UsedUp => EvalAnswer::StepsUsedUp,
+    }
+}
+
 /// Reads a certificate, checks code with it, and runs the code for at most so many steps.
-pub fn eval(_alloc: Global, code: &[u8], cert: &[u8], steps: u32) -> EvalAnswer
+pub fn eval(alloc: Global, code: &[u8], cert: &[u8], steps: u32) -> EvalAnswer
     requires { length code.now < 2 ^ 16 }
     ensures { Answers result code.now cert.now steps }
 {
-    EvalAnswer::Memory
+    let cert = match jc_cert::read(alloc, cert) {
+        Ok(cert) => cert,
+        Err(LoadFault::Memory) => return EvalAnswer::Memory,
+        Err(_) => return EvalAnswer::BadCertificate,
+    };
+    match check_words(alloc, code, &cert) {
+        Ok(checked) => ending_answer(run(&checked, steps)),
+        Err(WordFault::Refused { pc, reason }) => EvalAnswer::Refused { pc, reason },
+        Err(WordFault::Memory) => EvalAnswer::Memory,
+    }
 }

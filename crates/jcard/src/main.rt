@@ -3,9 +3,13 @@
 
 mod answer;
 mod eval;
+mod frame;
 mod job;
 mod line;
+mod perform;
 mod program;
+mod run;
+mod shorts;
 #[cfg(test)]
 mod tests;
 

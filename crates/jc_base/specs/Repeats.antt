@@ -1,0 +1,27 @@
+-- Rows one behind the other.
+use Rattle.std.specs.Prelude.{ℕ, zero, suc, List, [], ◌∷◌, Result, Ok, Err}
+use Rattle.jc_base.specs.Reading.{Read}
+use Rattle.jc_base.specs.Results.{◌>>=◌}
+
+-- so many rows, each read behind the one before it
+unfoldable pub repeat : {A E : Type 0} → (List ℕ → Result (Read A) E) → ℕ → List ℕ → Result (Read (List A)) E
+repeat row_at zero bytes = Ok (record { value = []; rest = bytes })
+repeat row_at (suc n) bytes = do
+  first ← row_at bytes
+  more ← repeat row_at n first.rest
+  Ok (record { value = first.value ∷ more.value; rest = more.rest })
+
+-- the rows that were read, none where a row wasn't there
+abbrev pub rows_of : {A E : Type 0} → Result (Read (List A)) E → List A
+rows_of (Ok x) = x.value
+rows_of (Err e) = []
+
+-- where reading stands behind what was read
+abbrev pub rest_of : {A E : Type 0} → Result (Read A) E → Result (List ℕ) E
+rest_of (Ok x) = Ok x.rest
+rest_of (Err e) = Err e
+
+-- where a call that passes over rows left its cursor
+abbrev pub left_by : {X E : Type 0} → Result X E → List ℕ → Result (List ℕ) E
+left_by (Ok x) new = Ok new
+left_by (Err e) new = Err e

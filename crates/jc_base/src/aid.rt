@@ -1,0 +1,101 @@
+//! Application identifiers.
+
+ghost use Rattle.std.specs.Prelude.{◌≡◌, ◌≤◌, length, bytes_eq};
+ghost use Rattle.std.specs.Cmp.{partial_equiv_from_equiv};
+ghost use Rattle.std.specs.Cmp.Lexicographic.{nat_list_eq_equiv};
+ghost use Rattle.jc_base.specs.Aids.{aid_of, has_aid_length};
+ghost use Rattle.jc_base.specs.Reading.{Reads};
+ghost use Rattle.jc_base.specs.Packages.{aid_at};
+
+use crate::cursor::Cursor;
+use crate::fault::LoadFault;
+use std::marker::Model;
+
+/// The identifier of a package or an applet: 5 to 16 bytes (ISO/IEC 7816-5).
+#[derive(Clone, Copy, Debug)]
+pub struct Aid {
+    bytes: [u8; 16],
+    len: usize,
+}
+
+impl Model for Aid {
+    ghost use Rattle.std.specs.Prelude.{ℕ, List};
+
+    ghost Value = { List ℕ };
+
+    ghost use Rattle.jc_base.specs.Aids.{held, IsHeld, padded, same_held};
+
+    ghost view = { held };
+
+    ghost invariant = { IsHeld };
+
+    ghost inverse = { padded };
+
+    ghost inverse_ok = { same_held };
+}
+
+/// Whether an AID may have so many bytes.
+fn is_aid_len(len: usize) -> bool
+    ensures { result ≡ has_aid_length len }
+{
+    5 <= len && len <= 16
+}
+
+impl Aid {
+    /// The identifier of these bytes, or `None` where they are fewer than 5 or more than 16.
+    pub fn from_slice(bytes: &[u8]) -> Option<Aid>
+        ensures { result ≡ aid_of bytes.now }
+    {
+        let len = bytes.len();
+        if !is_aid_len(len) {
+            return None;
+        }
+        let mut held = [0; 16];
+        held[..len].copy_from_slice(bytes);
+        Some(Aid { bytes: held, len })
+    }
+
+    /// The next AID in the component with a tag: its length, and its bytes. A length that isn't 5 to 16 is
+    /// `BadAid`, also where fewer bytes follow.
+    #[tactic(auto, unfolding(crate::specs::Packages::aid_at))]
+    pub fn read(cursor: &mut Cursor, tag: u8) -> Result<Aid, LoadFault>
+        ensures { Reads (λ aid. aid) result cursor.new (aid_at tag cursor.old) }
+    {
+        let len = usize::from(cursor.u1().ok_or(LoadFault::Malformed(tag))?);
+        if !is_aid_len(len) {
+            return Err(LoadFault::BadAid);
+        }
+        let bytes = cursor.take(len).ok_or(LoadFault::Malformed(tag))?;
+        Aid::from_slice(bytes).ok_or(LoadFault::BadAid)
+    }
+
+    /// Its bytes.
+    pub fn as_slice(&self) -> &[u8]
+        ensures { result.now ≡ self.now }
+    {
+        &self.bytes[..self.len]
+    }
+
+    /// How many bytes it has, 5 to 16.
+    pub fn len(&self) -> usize
+        ensures bytes { result ≡ length self.now }
+        ensures least { 5 ≤ result }
+        ensures most { result ≤ 16 }
+    {
+        self.len
+    }
+}
+
+impl PartialEq for Aid {
+    ghost eq = { bytes_eq };
+
+    ghost laws = { partial_equiv_from_equiv nat_list_eq_equiv };
+
+    fn eq(&self, other: &Aid) -> bool {
+        self.as_slice() == other.as_slice()
+    }
+}
+
+impl Eq for Aid {
+    ghost laws = { nat_list_eq_equiv };
+}

@@ -1,0 +1,41 @@
+-- The initialised arrays of the StaticField component (Java Card Virtual Machine Specification, CAP file format:
+-- StaticField component, array_init_info).
+use Rattle.std.specs.Prelude.{ℕ, ◌%◌, ◌==◌, ◌&&◌, nat_le, List, length, Option, Some, None, Result, Ok, if◌then◌else◌}
+use Rattle.jc_base.specs.Reading.{Read, u1_at, u2_at, bytes_at}
+use Rattle.jc_base.specs.Results.{◌>>=◌}
+use Rattle.jc_base.specs.Packages.{field}
+use Rattle.jc_base.specs.declared.fault.LoadFault.{LoadFault}
+use Rattle.jc_base.specs.Tags.{static_field_tag}
+use Rattle.jc_cap_data.specs.Numbers.{s1s, s2s}
+use Rattle.jc_cap_data.specs.declared.arrays.StaticArray.{StaticArray}
+use Rattle.jc_cap_data.specs.declared.arrays.StaticArray.TheVariants.{Boolean, Byte, Short}
+
+-- the types of arrays
+abbrev pub of_booleans : ℕ
+of_booleans = 2
+
+abbrev pub of_bytes : ℕ
+of_bytes = 3
+
+abbrev pub of_shorts : ℕ
+of_shorts = 4
+
+-- how many components an array has at most
+abbrev pub most_components : ℕ
+most_components = 32_767
+
+-- the array of a type with these bytes; one of shorts has an even number of them, so never too many components
+abbrev pub array_of : ℕ → List ℕ → Option StaticArray
+array_of kind bytes =
+    if kind == of_booleans && nat_le (length bytes) most_components then Some (Boolean (s1s bytes))
+    else (if kind == of_bytes && nat_le (length bytes) most_components then Some (Byte (s1s bytes))
+    else (if kind == of_shorts && length bytes % 2 == 0 then Some (Short (s2s bytes)) else None))
+
+-- a type, a number of bytes, and the bytes
+unfoldable pub array_at : List ℕ → Result (Read StaticArray) LoadFault
+array_at bytes = do
+  kind ← field static_field_tag (u1_at bytes)
+  size ← field static_field_tag (u2_at kind.rest)
+  values ← field static_field_tag (bytes_at size.value size.rest)
+  array ← field static_field_tag (array_of kind.value values.value)
+  Ok (record { value = array; rest = values.rest })

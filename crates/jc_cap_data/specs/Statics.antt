@@ -1,0 +1,47 @@
+-- The StaticField component (Java Card Virtual Machine Specification, CAP file format: StaticField component).
+use Rattle.std.specs.Prelude.{ℕ, ◌+◌, ◌*◌, ◌==◌, ◌&&◌, nat_le, Bool, List, length, Result, Ok, Err, if◌then◌else◌}
+use Rattle.jc_base.specs.Reading.{Read, u2_at, bytes_at}
+use Rattle.jc_base.specs.Results.{◌>>=◌}
+use Rattle.jc_base.specs.Packages.{field, only}
+use Rattle.jc_base.specs.Repeats.{repeat}
+use Rattle.jc_base.specs.declared.fault.LoadFault.{LoadFault}
+use Rattle.jc_base.specs.declared.fault.LoadFault.TheVariants.{Malformed}
+use Rattle.jc_base.specs.Tags.{static_field_tag}
+use Rattle.jc_cap_data.specs.Arrays.{array_at}
+use Rattle.jc_cap_data.specs.declared.arrays.StaticArray.{StaticArray}
+
+-- a package's static fields: the bytes that they take, how many references come first, the arrays that the first
+-- of these lead to, how many bytes of value 0 follow, and the bytes behind those
+pub record StaticImage : Type 0 where
+  pub size : ℕ
+  pub references : ℕ
+  pub arrays : List StaticArray
+  pub defaults : ℕ
+  pub values : List ℕ
+
+-- the parts make up the size, and no array is without a reference
+abbrev pub fits : StaticImage → Bool
+fits image = image.size == 2 * image.references + image.defaults + length image.values && nat_le (length image.arrays) image.references
+
+-- the fields of the component in their order
+unfoldable pub fields_at : List ℕ → Result (Read StaticImage) LoadFault
+fields_at info = do
+  size ← field static_field_tag (u2_at info)
+  references ← field static_field_tag (u2_at size.rest)
+  count ← field static_field_tag (u2_at references.rest)
+  arrays ← repeat array_at count.value count.rest
+  defaults ← field static_field_tag (u2_at arrays.rest)
+  given ← field static_field_tag (u2_at defaults.rest)
+  values ← field static_field_tag (bytes_at given.value given.rest)
+  Ok (record {
+    value = record { size = size.value; references = references.value; arrays = arrays.value; defaults = defaults.value; values = values.value };
+    rest = values.rest;
+  })
+
+-- an image that fits
+abbrev pub fitting : StaticImage → Result StaticImage LoadFault
+fitting image = if fits image then Ok image else Err (Malformed static_field_tag)
+
+-- what an info gives: the fields, nothing behind them, and an image that fits
+abbrev pub statics_of : List ℕ → Result StaticImage LoadFault
+statics_of info = only static_field_tag (fields_at info) >>= fitting

@@ -1,0 +1,3 @@
+pub mod Handlers
+pub mod Headers
+pub mod Methods

@@ -1,0 +1,92 @@
+-- Lists that are related point by point.
+use Rattle.std.proofs.Common.{◌≡◌, ℕ, zero, suc, ◌+◌, ◌<◌, ◌≤◌, List, [], ◌∷◌, ◌++◌, length, take, drop, Option, Some, None, Bool, true, ◌&&◌, refl, sym, ap, ◌∙◌, subst, arith}
+use Rattle.std.specs.Prelude.{⊤, slice_get, slice_set, slice_index}
+use Rattle.jc_base.proofs.Binding.{none_some, the_some}
+use Rattle.jc_base.specs.Stack.{duplicated, swapped}
+use Rattle.jc_types.specs.declared.ty.Ty.{Ty}
+use Rattle.jc_types.specs.declared.ty.Ty.TheVariants as types
+use Rattle.jc_types.specs.Types.{is_below, all_below}
+use Rattle.jc_types.specs.Order.{both_true}
+use Rattle.jcard.specs.Tagged.{TaggedValue, Word, Ref, Null, Unset}
+use Rattle.jcard.specs.Agree.{Pointwise, HasType}
+
+pub point_length : {A B : Type 0} (R : A → B → Type 0) (xs : List A) (ys : List B) → Pointwise R xs ys → length xs ≡ length ys
+point_length R [] [] h = refl
+point_length R (x ∷ xs) (y ∷ ys) h = let e = point_length R xs ys h.1 in omega arith
+point_length R [] (y ∷ ys) h = absurd h
+point_length R (x ∷ xs) [] h = absurd h
+
+pub point_take : {A B : Type 0} (R : A → B → Type 0) (n : ℕ) (xs : List A) (ys : List B) → Pointwise R xs ys → Pointwise R (take n xs) (take n ys)
+point_take R zero xs ys h = tt
+point_take R (suc n) [] [] h = tt
+point_take R (suc n) (x ∷ xs) (y ∷ ys) h = (h.0, point_take R n xs ys h.1)
+point_take R (suc n) [] (y ∷ ys) h = absurd h
+point_take R (suc n) (x ∷ xs) [] h = absurd h
+
+pub point_drop : {A B : Type 0} (R : A → B → Type 0) (n : ℕ) (xs : List A) (ys : List B) → Pointwise R xs ys → Pointwise R (drop n xs) (drop n ys)
+point_drop R zero xs ys h = h
+point_drop R (suc n) [] [] h = tt
+point_drop R (suc n) (x ∷ xs) (y ∷ ys) h = point_drop R n xs ys h.1
+point_drop R (suc n) [] (y ∷ ys) h = absurd h
+point_drop R (suc n) (x ∷ xs) [] h = absurd h
+
+pub point_append : {A B : Type 0} (R : A → B → Type 0) (xs : List A) (ys : List B) (us : List A) (vs : List B) → Pointwise R xs ys → Pointwise R us vs → Pointwise R (xs ++ us) (ys ++ vs)
+point_append R [] [] us vs h k = k
+point_append R (x ∷ xs) (y ∷ ys) us vs h k = (h.0, point_append R xs ys us vs h.1 k)
+point_append R [] (y ∷ ys) us vs h k = absurd h
+point_append R (x ∷ xs) [] us vs h k = absurd h
+
+pub point_duplicated : {A B : Type 0} (R : A → B → Type 0) (m n : ℕ) (xs : List A) (ys : List B) → Pointwise R xs ys → Pointwise R (duplicated m n xs) (duplicated m n ys)
+point_duplicated R m n xs ys h =
+    point_append R (take n xs ++ take m xs) (take n ys ++ take m ys) (drop n xs) (drop n ys) (point_append R (take n xs) (take n ys) (take m xs) (take m ys) (point_take R n xs ys h) (point_take R m xs ys h)) (point_drop R n xs ys h)
+
+pub point_swapped : {A B : Type 0} (R : A → B → Type 0) (m n : ℕ) (xs : List A) (ys : List B) → Pointwise R xs ys → Pointwise R (swapped m n xs) (swapped m n ys)
+point_swapped R m n xs ys h =
+    point_append R (take n (drop m xs) ++ take m xs) (take n (drop m ys) ++ take m ys) (drop (m + n) xs) (drop (m + n) ys)
+    (point_append R (take n (drop m xs)) (take n (drop m ys)) (take m xs) (take m ys) (point_take R n (drop m xs) (drop m ys) (point_drop R m xs ys h)) (point_take R m xs ys h)) (point_drop R (m + n) xs ys h)
+
+-- what stands at an index of the second list stands in relation to what stands there in the first
+pub point_get : {A B : Type 0} (R : A → B → Type 0) (xs : List A) (ys : List B) (i : ℕ) (y : B) → Pointwise R xs ys → slice_get ys i ≡ Some y → (x : A) × (slice_get xs i ≡ Some x) × R x y
+point_get R [] [] i y h e = absurd (none_some y e)
+point_get R [] (v ∷ vs) i y h e = absurd h
+point_get R (u ∷ us) [] i y h e = absurd h
+point_get R (u ∷ us) (v ∷ vs) zero y h e = (u, refl, subst (λ z. R u z) (the_some v y e) h.0)
+point_get R (u ∷ us) (v ∷ vs) (suc i) y h e = point_get R us vs i y h.1 e
+
+pub point_set : {A B : Type 0} (R : A → B → Type 0) (xs : List A) (ys : List B) (i : ℕ) (x : A) (y : B) → Pointwise R xs ys → R x y → Pointwise R (slice_set xs i x) (slice_set ys i y)
+point_set R [] [] i x y h r = tt
+point_set R [] (v ∷ vs) i x y h r = absurd h
+point_set R (u ∷ us) [] i x y h r = absurd h
+point_set R (u ∷ us) (v ∷ vs) zero x y h r = (r, h.1)
+point_set R (u ∷ us) (v ∷ vs) (suc i) x y h r = (h.0, point_set R us vs i x y h.1 r)
+
+wider : (v : TaggedValue) (t u : Ty) → HasType v t → is_below t u ≡ true → HasType v u
+wider v types.Top types.Top h b = tt
+wider v types.Word types.Top h b = tt
+wider v types.Null types.Top h b = tt
+wider v types.Word types.Word h b = h
+wider v types.Null types.Null h b = h
+wider v types.Top types.Word h b = absurd cc
+wider v types.Top types.Null h b = absurd cc
+wider v types.Word types.Null h b = absurd cc
+wider v types.Null types.Word h b = absurd cc
+
+-- values of types have the types above them
+pub widen : (vs : List TaggedValue) (ts us : List Ty) → Pointwise HasType vs ts → all_below ts us ≡ true → Pointwise HasType vs us
+widen [] [] [] h b = tt
+widen (v ∷ vs) (t ∷ ts) (u ∷ us) h b =
+    let p = both_true (is_below t u) (all_below ts us) b in
+    (wider v t u h.0 p.0, widen vs ts us h.1 p.1)
+widen [] [] (u ∷ us) h b = absurd cc
+widen [] (t ∷ ts) us h b = absurd h
+widen (v ∷ vs) [] us h b = absurd h
+widen (v ∷ vs) (t ∷ ts) [] h b = absurd cc
+
+-- what is of a type below Word is a word
+pub as_word : (v : TaggedValue) (t : Ty) → HasType v t → is_below t types.Word ≡ true → (n : ℕ) × (v ≡ Word n)
+as_word (Word n) types.Word h b = (n, refl)
+as_word (Ref n) types.Word h b = absurd h
+as_word Null types.Word h b = absurd h
+as_word Unset types.Word h b = absurd h
+as_word v types.Top h b = absurd cc
+as_word v types.Null h b = absurd cc

@@ -1,0 +1,155 @@
+-- Each instruction on words is the defensive machine's without its tags, and the defensive machine isn't stuck.
+use Rattle.std.proofs.Common.{◌≡◌, ℕ, zero, suc, ◌+◌, ◌-◌, ◌≤◌, ◌<◌, ◌==◌, List, [], ◌∷◌, length, take, drop, nat_lt, max, Option, Some, None, Result, Ok, Err, Bool, true, false, cond, refl, sym, ap, ◌∙◌, subst, arith}
+use Rattle.std.specs.Prelude.{⊤, ℤ, pos, negsuc, slice_get, slice_set, slice_index, int_lt, unsigned_abs, ◌-ℤ◌, unwrap_or, map}
+use Rattle.std.specs.List.{AllByRecursion}
+use Rattle.std.proofs.lemmas.Bool.{ltb-true, lt-ltb, le-ltb}
+use Rattle.jc_base.specs.declared.reason.Reason.{Reason}
+use Rattle.jc_base.specs.Results.{◌>>=◌}
+use Rattle.jc_base.proofs.Binding.{bind_ok, guard_ok, the_ok, choice}
+use Rattle.jc_base.specs.Stack.{duplicated, swapped}
+use Rattle.jc_code.specs.declared.instr.Operation.{Operation}
+use Rattle.jc_code.specs.declared.instr.Operation.TheVariants.{Nop, Push, Load, Store, Increment, Shuffle, Binary, Unary, Branch, StableSwitch, LookupSwitch, ReturnWord}
+use Rattle.jc_code.specs.declared.instr.Shuffle as shuffles
+use Rattle.jc_code.specs.declared.instr.Shuffle.TheVariants.{Pop, Duplicate, Swap}
+use Rattle.jc_code.specs.declared.instr.BinaryOperator.{BinaryOperator}
+use Rattle.jc_code.specs.declared.instr.UnaryOperator.{UnaryOperator}
+use Rattle.jc_code.specs.declared.instr.When.{When}
+use Rattle.jc_code.specs.declared.instr.When.TheVariants.{Always, Zero, Compare}
+use Rattle.jc_code.specs.declared.instr.Condition.{Condition}
+use Rattle.jc_code.specs.declared.tables.Case.{Case}
+use Rattle.jc_code.specs.Listing.{Placed}
+use Rattle.jc_code.specs.Targets.{offsets_of, target_of, targets_of, falls_of}
+use Rattle.jc_types.specs.declared.ty.Ty.{Ty}
+use Rattle.jc_types.specs.declared.ty.Ty.TheVariants as types
+use Rattle.jc_types.specs.Types.{Types, is_below, all_below, types_below}
+use Rattle.jc_types.specs.Order.{both_true}
+use Rattle.jc_types.specs.Steps.{with_operands, local_type, set_local_type, push_type, take_types, drop_types, duplicate_types, swap_types}
+use Rattle.jc_step.specs.Effect.{fits, fits_result, shuffle_effect, branch_effect, effect_of}
+use Rattle.jc_check.specs.Method.{Method}
+use Rattle.jc_check.specs.Typing.{Typing, Leads, BranchLeads}
+use Rattle.jcard.specs.Shorts.{short, word_of, binary_of, unary_of, holds, incremented}
+use Rattle.jcard.specs.Tagged.{TaggedValue, Word, Frame, Outcome, goes, jumps, pushed, on_result, shuffled, stable_offset, lookup_offset, is_result, act}
+use Rattle.jcard.specs.Words.{Words, End, runs, place, result_of, moved, branched, do_operation, IsPc, CanMove, CanBranch, Ready}
+use Rattle.jcard.specs.Agree.{Pointwise, Reads, HasType, Agree, WellTyped, Simulates}
+use Rattle.jcard.proofs.Points.{point_length, point_drop, point_duplicated, point_swapped, point_set, widen}
+use Rattle.jcard.proofs.Taking.{push_ok, under, TakesOne, takes_one, TakesTwo, takes_two, ReadsLocal, reads_local, local_there, is_within}
+
+-- the frame goes on, and both machines still agree and are well typed
+pub goes_on : (typing : Typing) (pc : ℕ) (wl ws : List ℕ) (vl vs : List TaggedValue) (after : Types) → Pointwise Reads wl vl → Pointwise Reads ws vs → Pointwise HasType vl after.locals → Pointwise HasType vs after.operands → Leads typing after pc
+    → Simulates typing (runs pc wl ws) (goes pc vl vs)
+goes_on typing pc wl ws vl vs after rl rs tl ts leads =
+    let b = both_true (all_below after.locals leads.0.locals) (all_below after.operands leads.0.operands) leads.2 in
+    (record { pc = refl; locals = rl; operands = rs }, record { state = leads.0; «at» = leads.1; locals = widen vl after.locals leads.0.locals tl b.0; operands = widen vs after.operands leads.0.operands ts b.1 })
+
+-- a jump to a place that the typing has a state at
+pub jumps_on : (typing : Typing) (to : ℤ) (wl ws : List ℕ) (vl vs : List TaggedValue) (after : Types) → Pointwise Reads wl vl → Pointwise Reads ws vs → Pointwise HasType vl after.locals → Pointwise HasType vs after.operands → BranchLeads typing after to
+    → IsPc to × Simulates typing (runs (place to) wl ws) (jumps to vl vs)
+jumps_on typing (pos pc) wl ws vl vs after rl rs tl ts b =
+    let same : b.0 ≡ pc = let e = b.1 in cc in
+    let L : ℕ → Type 0 = λ n. Leads typing after n in
+    ((pc, refl), goes_on typing pc wl ws vl vs after rl rs tl ts (subst L same b.2))
+jumps_on typing (negsuc n) wl ws vl vs after rl rs tl ts b = absurd (let e = b.1 in cc)
+
+-- a word more, and on
+pub pushes : (typing : Typing) (most pc : ℕ) (wl ws : List ℕ) (vl vs : List TaggedValue) (s after : Types) (n : ℕ) → Pointwise Reads wl vl → Pointwise Reads ws vs → Pointwise HasType vl s.locals → Pointwise HasType vs s.operands
+    → push_type most types.Word s ≡ Ok after → Leads typing after pc → (length ws < most) × Simulates typing (runs pc wl (n ∷ ws)) (pushed most (Word n) vs (goes pc vl))
+pushes typing most pc wl ws vl vs s after n rl rs tl ts e leads =
+    let p = push_ok most types.Word s after e in
+    let a : length vs ≡ length s.operands = point_length HasType vs s.operands ts in
+    let b : length ws ≡ length vs = point_length Reads ws vs rs in
+    let L : Types → Type 0 = λ x. Pointwise HasType vl x.locals in
+    let S : Types → Type 0 = λ x. Pointwise HasType (Word n ∷ vs) x.operands in (
+      omega (arith, p.0),
+      rw (lt-ltb (length vs) most (omega (arith, p.0))) (goes_on typing pc wl (n ∷ ws) vl (Word n ∷ vs) after rl (refl, rs) (subst L p.1 tl) (subst S p.1 (tt, ts)) leads),
+    )
+
+-- what an operation owes
+abbrev pub Owes : Method → Typing → Placed → Operation → Words → Frame → Type 0
+Owes m typing x o w f = Ready m.max_stack x.pc o w × Simulates typing (do_operation x.pc x.instr.next_pc o w) (act m x o f)
+
+-- the frames with their operands written out
+abbrev pub held : Words → List ℕ → Words
+held w ws = record { pc = w.pc; locals = w.locals; operands = ws }
+
+abbrev pub tagged : Frame → List TaggedValue → Frame
+tagged f vs = record { pc = f.pc; locals = f.locals; operands = vs }
+
+pub owes_at : (m : Method) (typing : Typing) (x : Placed) (o : Operation) (w : Words) (f : Frame) (ws : List ℕ) (vs : List TaggedValue) → w.operands ≡ ws → f.operands ≡ vs → Owes m typing x o (held w ws) (tagged f vs) → Owes m typing x o w f
+owes_at m typing x o w f ws vs e g h =
+    let P : List ℕ → Type 0 = λ k. Owes m typing x o (held w k) f in
+    let Q : List TaggedValue → Type 0 = λ k. Owes m typing x o (held w ws) (tagged f k) in
+    subst P (sym e) (subst Q (sym g) h)
+
+-- what is known where an operation of a well-typed frame has an effect
+pub record Known (m : Method) (typing : Typing) (x : Placed) (o : Operation) (w : Words) (f : Frame) (s after : Types) : Type 0 where
+  pub read_locals : Pointwise Reads w.locals f.locals
+  pub read_operands : Pointwise Reads w.operands f.operands
+  pub locals : Pointwise HasType f.locals s.locals
+  pub operands : Pointwise HasType f.operands s.operands
+  pub effect : effect_of m.max_stack m.returned o s ≡ Ok after
+  pub branches : AllByRecursion (BranchLeads typing after) (targets_of x.pc o)
+  pub falls : falls_of o ≡ true → Leads typing after x.instr.next_pc
+
+pub nop_owes : (m : Method) (typing : Typing) (x : Placed) (w : Words) (f : Frame) (s after : Types) → Known m typing x Nop w f s after → Owes m typing x Nop w f
+unfolding effect_of act
+nop_owes m typing x w f s after k =
+    let same : s ≡ after = the_ok s after k.effect in
+    let L : Types → Type 0 = λ t. Leads typing t x.instr.next_pc in
+    (tt, goes_on typing x.instr.next_pc w.locals w.operands f.locals f.operands s k.read_locals k.read_operands k.locals k.operands (subst L (sym same) (k.falls refl)))
+
+pub push_owes : (m : Method) (typing : Typing) (x : Placed) (value : ℤ) (w : Words) (f : Frame) (s after : Types) → Known m typing x (Push value) w f s after → Owes m typing x (Push value) w f
+unfolding effect_of act
+push_owes m typing x value w f s after k =
+    pushes typing m.max_stack x.instr.next_pc w.locals w.operands f.locals f.operands s after (word_of value) k.read_locals k.read_operands k.locals k.operands k.effect (k.falls refl)
+
+pub load_owes : (m : Method) (typing : Typing) (x : Placed) (i : ℕ) (w : Words) (f : Frame) (s after : Types) → Known m typing x (Load i) w f s after → Owes m typing x (Load i) w f
+unfolding effect_of act
+load_owes m typing x i w f s after k =
+    let one = bind_ok (local_type i s) _ after k.effect in
+    let two = bind_ok (fits one.0 types.Word) _ after one.2 in
+    let l = reads_local w.locals f.locals i s one.0 k.read_locals k.locals one.1 two.1 in
+    let p = pushes typing m.max_stack x.instr.next_pc w.locals w.operands f.locals f.operands s after l.word k.read_locals k.read_operands k.locals k.operands two.2 (k.falls refl) in
+    ((l.within, p.0), rw (l.word_is, l.value_is) p.1)
+
+pub store_owes : (m : Method) (typing : Typing) (x : Placed) (i : ℕ) (w : Words) (f : Frame) (s after : Types) → Known m typing x (Store i) w f s after → Owes m typing x (Store i) w f
+unfolding effect_of act set_local_type
+store_owes m typing x i w f s after k =
+    let one = bind_ok (local_type i s) _ after k.effect in
+    let two = bind_ok (take_types (types.Word ∷ []) s) _ after one.2 in
+    let t = takes_one w.operands f.operands s two.0 k.read_operands k.operands two.1 in
+    let g = guard_ok (nat_lt i (length two.0.locals)) (Ok (record { locals = slice_set two.0.locals i types.Word; operands = two.0.operands })) _ after two.2 in
+    let lt : i < length two.0.locals = ltb-true i (length two.0.locals) g.0 in
+    let T : List Ty → Type 0 = λ ts. Pointwise HasType f.locals ts in
+    let typed : Pointwise HasType f.locals two.0.locals = subst T t.locals k.locals in
+    let a : length f.locals ≡ length two.0.locals = point_length HasType f.locals two.0.locals typed in
+    let b : length w.locals ≡ length f.locals = point_length Reads w.locals f.locals k.read_locals in
+    let new : Types = record { locals = slice_set two.0.locals i types.Word; operands = two.0.operands } in
+    let L : Types → Type 0 = λ t. Leads typing t x.instr.next_pc in
+    let go = goes_on typing x.instr.next_pc (slice_set w.locals i t.word) t.words (slice_set f.locals i (Word t.word)) t.values new (point_set Reads w.locals f.locals i t.word (Word t.word) k.read_locals refl) t.read
+    (point_set HasType f.locals two.0.locals i (Word t.word) types.Word typed tt) t.typed (subst L (sym (the_ok _ _ g.1)) (k.falls refl)) in
+    owes_at m typing x (Store i) w f _ _ t.words_are t.values_are ((omega arith, omega arith), rw (lt-ltb i (length f.locals) (omega arith)) go)
+
+only_word : (t : Ty) → fits t types.Word ≡ Ok tt → t ≡ types.Word
+unfolding fits
+only_word types.Word h = refl
+only_word types.Top h = absurd cc
+only_word types.Null h = absurd cc
+
+set_there : (ts : List Ty) (i : ℕ) (t : Ty) → slice_get ts i ≡ Some t → slice_set ts i t ≡ ts
+set_there [] i t e = refl
+set_there (u ∷ us) zero t e = ap (λ (z : Ty). z ∷ us) (let h = e in cc)
+set_there (u ∷ us) (suc i) t e = ap (λ (zs : List Ty). u ∷ zs) (set_there us i t e)
+
+pub increment_owes : (m : Method) (typing : Typing) (x : Placed) (i : ℕ) (by : ℤ) (w : Words) (f : Frame) (s after : Types) → Known m typing x (Increment i by) w f s after → Owes m typing x (Increment i by) w f
+unfolding effect_of act
+increment_owes m typing x i by w f s after k =
+    let one = bind_ok (local_type i s) _ after k.effect in
+    let two = bind_ok (fits one.0 types.Word) _ after one.2 in
+    let l = reads_local w.locals f.locals i s one.0 k.read_locals k.locals one.1 two.1 in
+    let word : one.0 ≡ types.Word = only_word one.0 two.1 in
+    let there : slice_get s.locals i ≡ Some types.Word = local_there i s one.0 one.1 ∙ ap (λ (t : Ty). Some t) word in
+    let same : slice_set s.locals i types.Word ≡ s.locals = set_there s.locals i types.Word there in
+    let new : Pointwise HasType (slice_set f.locals i (Word (incremented l.word by))) s.locals = (let T : List Ty → Type 0 = λ ts. Pointwise HasType (slice_set f.locals i (Word (incremented l.word by))) ts in subst T same (point_set HasType f.locals s.locals i (Word (incremented l.word by)) types.Word k.locals tt)) in
+    let L : Types → Type 0 = λ t. Leads typing t x.instr.next_pc in
+    let go = goes_on typing x.instr.next_pc (slice_set w.locals i (incremented l.word by)) w.operands (slice_set f.locals i (Word (incremented l.word by))) f.operands s (point_set Reads w.locals f.locals i (incremented l.word by) (Word (incremented l.word by)) k.read_locals refl) k.read_operands new k.operands (subst L (sym (the_ok _ _ two.2)) (k.falls refl)) in
+    (l.within, rw (l.word_is, l.value_is) go)

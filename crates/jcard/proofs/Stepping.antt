@@ -1,0 +1,83 @@
+-- One step, and a run of steps.
+use Rattle.std.proofs.Common.{◌≡◌, ℕ, zero, suc, ◌+◌, ◌-◌, ◌≤◌, ◌<◌, List, [], ◌∷◌, length, Option, Some, None, Result, Ok, Err, Bool, true, false, refl, sym, ap, ◌∙◌, subst, arith}
+use Rattle.std.specs.Prelude.{⊤, ℤ}
+use Rattle.jc_base.proofs.Binding.{ok_err}
+use Rattle.jc_code.specs.declared.fault.CodeFault.{CodeFault}
+use Rattle.jc_code.specs.declared.instr.Instr.{Instr}
+use Rattle.jc_code.specs.declared.instr.Operation.{Operation}
+use Rattle.jc_code.specs.declared.instr.Operation.TheVariants.{Nop, Push, Load, Store, Increment, Shuffle, Binary, Unary, Branch, StableSwitch, LookupSwitch, ReturnWord}
+use Rattle.jc_code.specs.Spelling.{instr_at}
+use Rattle.jc_code.specs.Listing.{Placed, placed_at}
+use Rattle.jc_code.proofs.Listings.{there, next_within}
+use Rattle.jc_types.specs.declared.ty.Ty.{Ty}
+use Rattle.jc_types.specs.Types.{Types, all_below, tops}
+use Rattle.jc_types.specs.Order.{both_true}
+use Rattle.jc_check.specs.Method.{Method, entry_of, word_method}
+use Rattle.jc_check.specs.Typing.{Typing, IsTyping}
+use Rattle.jcard.specs.Tagged.{TaggedValue, Unset, unset, Frame, Outcome, act, act_at, defensive_step, RunEnd, run_on, runtime_call, first_frame}
+use Rattle.jcard.specs.Words.{Words, End, do_operation, Ready}
+use Rattle.jcard.specs.Agree.{Pointwise, Reads, HasType, Agree, WellTyped, IsReal, Simulates}
+use Rattle.jcard.proofs.Points.{widen}
+use Rattle.jcard.proofs.Simulation.{Owes, Known, nop_owes, push_owes, load_owes, store_owes, increment_owes}
+use Rattle.jcard.proofs.Moves.{shuffle_owes, binary_owes, unary_owes, return_owes}
+use Rattle.jcard.proofs.Branching.{branch_owes, stable_owes, lookup_owes}
+
+operation_owes : (m : Method) (typing : Typing) (x : Placed) (o : Operation) (w : Words) (f : Frame) (s after : Types) → Known m typing x o w f s after → Owes m typing x o w f
+operation_owes m typing x Nop w f s after k = nop_owes m typing x w f s after k
+operation_owes m typing x (Push value) w f s after k = push_owes m typing x value w f s after k
+operation_owes m typing x (Load i) w f s after k = load_owes m typing x i w f s after k
+operation_owes m typing x (Store i) w f s after k = store_owes m typing x i w f s after k
+operation_owes m typing x (Increment i by) w f s after k = increment_owes m typing x i by w f s after k
+operation_owes m typing x (Shuffle shuffle) w f s after k = shuffle_owes m typing x shuffle w f s after k
+operation_owes m typing x (Binary operator) w f s after k = binary_owes m typing x operator w f s after k
+operation_owes m typing x (Unary operator) w f s after k = unary_owes m typing x operator w f s after k
+operation_owes m typing x (Branch when offset) w f s after k = branch_owes m typing x when offset w f s after k
+operation_owes m typing x (StableSwitch default low offsets) w f s after k = stable_owes m typing x default low offsets w f s after k
+operation_owes m typing x (LookupSwitch default cases) w f s after k = lookup_owes m typing x default cases w f s after k
+operation_owes m typing x ReturnWord w f s after k = return_owes m typing x w f s after k
+
+-- what stands where a well-typed frame is, and what it owes
+pub record AtStep (m : Method) (typing : Typing) (listing : List Placed) (w : Words) (f : Frame) : Type 0 where
+  pub instr : Instr
+  pub stands : instr_at m.code w.pc ≡ Ok instr
+  pub within : w.pc < length m.code
+  pub ready : Ready m.max_stack w.pc instr.operation w
+  pub simulates : Simulates typing (do_operation w.pc instr.next_pc instr.operation w) (defensive_step m listing f)
+
+pub at_step : (m : Method) (typing : Typing) (t : IsTyping m typing) (w : Words) (f : Frame) → Agree w f → WellTyped typing f → AtStep m typing t.listing w f
+at_step m typing t w f a k =
+    let e = t.each f.pc k.state k.«at» in
+    let x = e.0 in
+    let th = there m.code 0 (length m.code) t.listing f.pc x t.whole e.1 in
+    let o = operation_owes m typing x x.instr.operation w f k.state e.2.after (record { read_locals = a.locals; read_operands = a.operands; locals = k.locals; operands = k.operands; effect = e.2.effect; branches = e.2.branches; falls = e.2.falls }) in
+    let pc : x.pc ≡ w.pc = th.at ∙ sym a.pc in
+    let I : ℕ → Type 0 = λ n. instr_at m.code n ≡ Ok x.instr in
+    let R : ℕ → Type 0 = λ n. Ready m.max_stack n x.instr.operation w in
+    let step : defensive_step m t.listing f ≡ act m x x.instr.operation f = ap (λ (p : Option Placed). act_at m p f) e.1 in
+    let S : Outcome → Type 0 = λ out. Simulates typing (do_operation x.pc x.instr.next_pc x.instr.operation w) out in
+    let D : ℕ → Type 0 = λ n. Simulates typing (do_operation n x.instr.next_pc x.instr.operation w) (defensive_step m t.listing f) in
+    record {
+      instr = x.instr;
+      stands = subst I (sym a.pc) th.instr;
+      within = omega (arith, next_within m.code f.pc x.instr th.instr, a.pc);
+      ready = subst R pc o.0;
+      simulates = subst D pc (subst S (sym step) o.1);
+    }
+
+-- locals that were never written have any types that nothing is known of
+never_written : (n : ℕ) → Pointwise HasType (unset n) (tops n)
+never_written zero = tt
+never_written (suc n) = (tt, never_written n)
+
+-- the first frame of code alone
+abbrev pub first_words : Words
+first_words = record { pc = 0; locals = 0 ∷ 0 ∷ []; operands = [] }
+
+pub first_agrees : (code : List ℕ) → Agree first_words (first_frame (word_method code))
+first_agrees code = record { pc = refl; locals = (tt, (tt, tt)); operands = tt }
+
+pub first_typed : (code : List ℕ) (typing : Typing) → IsTyping (word_method code) typing → WellTyped typing (first_frame (word_method code))
+first_typed code typing t =
+    let s = t.entry in
+    let b = both_true (all_below (entry_of (word_method code)).locals s.0.locals) (all_below (entry_of (word_method code)).operands s.0.operands) s.2 in
+    record { state = s.0; «at» = s.1; locals = widen (unset 2) (tops 2) s.0.locals (never_written 2) b.0; operands = widen [] [] s.0.operands tt b.1 }

@@ -1,0 +1,63 @@
+//! The private runner of code alone.
+
+ghost use Rattle.std.specs.Prelude.{◌<◌, ◌^◌, length};
+ghost use Rattle.jc_check.specs.Method.{word_method};
+ghost use Rattle.jc_check.specs.Typing.{Typing, IsTyping};
+ghost use Rattle.jcard.specs.Runs.{CanRun, EndsAs, Steps};
+ghost use Rattle.jcard.specs.Tagged.{first_frame, runtime_call};
+
+use crate::frame::WordFrame;
+use crate::perform::perform;
+use jc_check::CheckedWords;
+use jc_code::decode;
+
+/// What one step comes to.
+#[derive(Clone, Copy, Debug, PartialEq, Eq)]
+pub(crate) enum Step {
+    /// The code goes on.
+    Running,
+    /// The code throws an ArithmeticException.
+    Thrown,
+    /// The code returns a word.
+    Done(u16),
+}
+
+/// How a run ends.
+#[derive(Clone, Copy, Debug, PartialEq, Eq)]
+pub(crate) enum Ending {
+    /// The code returned a word.
+    Gave(u16),
+    /// The code threw an ArithmeticException.
+    Threw,
+    /// The code hadn't ended after so many steps.
+    UsedUp,
+}
+
+// One step of code that is well typed.
+fn take_step(code: &[u8], frame: &mut WordFrame) -> Step
+    requires ready { CanRun code.now frame.old }
+    requires short { length code.now < 2 ^ 16 }
+    ensures { Steps code.now frame.old result frame.new }
+{
+    let Ok(instr) = decode(code, frame.pc()) else {
+        unreachable!()
+    };
+    perform(frame, &instr)
+}
+
+/// Runs code that a certificate carries for at most so many steps, as the defensive machine does.
+pub(crate) fn run(checked: &CheckedWords, steps: u32) -> Ending
+    ensures { (typing : Typing) → (t : IsTyping (word_method checked.now) typing)
+        → EndsAs result (runtime_call (word_method checked.now) t.listing steps (first_frame (word_method checked.now))) }
+{
+    let code = checked.code();
+    let mut frame = WordFrame::new();
+    for _ in 0..steps {
+        match take_step(code, &mut frame) {
+            Step::Running => {}
+            Step::Thrown => return Ending::Threw,
+            Step::Done(word) => return Ending::Gave(word),
+        }
+    }
+    Ending::UsedUp
+}

@@ -8,3 +8,4 @@ mod Frames
 mod Cases
 mod Running
 mod Evaluating
+pub mod Lines

@@ -1,16 +1,68 @@
--- What a command line asks for.
-use Rattle.std.specs.Prelude.{◌≡◌, ◌<◌, ◌^◌, Some, codes}
-use Rattle.clap.specs.declared.parser.matches.Found.{Found}
-use Rattle.clap.specs.Words.{first_value}
+-- What a command line asks for, over what clap makes of its words.
+use Rattle.std.specs.Prelude.{◌≡◌, ◌<◌, ◌^◌, ℕ, List, [], ◌∷◌, Some, pos, true, false, Option, codes, option_map}
+use Rattle.std.specs.Str.Parse.{digits_value, without_leading_plus}
+use Rattle.clap.specs.Words.{App, Row, Rule, Text, app_of, first_of, new_app, new_rule, one_of, subcommand_of, with_rule, with_subcommand}
+use Rattle.clap.specs.declared.builder.command.Command.{Command}
+use Rattle.clap.specs.declared.builder.command.Command.TheViews.{out-Command}
+use Rattle.clap.specs.declared.builder.value_parser.ValueParser.TheVariants.{Signed}
 use Rattle.jcard.specs.declared.job.Job.{Job}
 use Rattle.jcard.specs.declared.job.Job.TheVariants.{Eval}
 
--- from 1 to 4,294,967,295 steps
-abbrev pub HasSteps : Job → Type 0
-HasSteps (Eval code cert steps) = (0 < steps) × (steps < 2 ^ 32)
+-- CODE is required
+abbrev pub code_rule : Rule
+code_rule = record (new_rule (codes "CODE")) { required = true }
 
--- a job of the texts that were found under CODE and CERT
-abbrev pub IsEvalOf : Found → Job → Type 0
-IsEvalOf found (Eval code cert steps) =
-    (first_value found (codes "CODE") ≡ Some code.now)
-    × (first_value found (codes "CERT") ≡ Some cert.now) × (0 < steps) × (steps < 2 ^ 32)
+-- CERT is 0000 where it is left out
+abbrev pub cert_rule : Rule
+cert_rule = record (new_rule (codes "CERT")) { defaults = codes "0000" ∷ [] }
+
+-- --steps N, from 1 to 4,294,967,295, is 100000 where it is left out
+abbrev pub steps_rule : Rule
+steps_rule = record (new_rule (codes "steps")) {
+  long = Some (codes "steps");
+  value_names = 1;
+  parser = Some (Signed (pos 1) (pos 4294967295));
+  defaults = codes "100000" ∷ [];
+}
+
+-- `eval CODE [CERT] [--steps N]`
+abbrev pub eval_app : App
+eval_app = with_rule (with_rule (with_rule (new_app (codes "eval")) code_rule) cert_rule) steps_rule
+
+-- a command as clap has it, with no argument that goes for its subcommands too
+pub record IsEvalCommand (c : Command) : Type 0 where
+  pub app : app_of c ≡ eval_app
+  pub globals : (out-Command c).has_globals ≡ false
+
+-- the program, of which a subcommand has to be named
+abbrev pub card_app : App
+card_app =
+    let bare = new_app (codes "jcard") in
+    with_subcommand (record bare { top = record bare.top { subcommand_required = true } }) eval_app.top
+
+-- a number of steps that a text says in decimal, from 1 to 4,294,967,295
+pub record IsSteps (text : Text) (steps : ℕ) : Type 0 where
+  pub value : digits_value 10 (without_leading_plus text) ≡ steps
+  pub least : 0 < steps
+  pub most : steps < 2 ^ 32
+
+-- the number of steps that the entries of `eval` say
+abbrev pub AreSteps : List Row → ℕ → Type 0
+AreSteps rows steps = (text : Text) × (one_of (codes "steps") rows ≡ Some text) × IsSteps text steps
+
+-- the job that the entries of `eval` say
+abbrev pub IsJobOf : List Row → Job → Type 0
+IsJobOf rows (Eval code cert steps) =
+    (first_of (codes "CODE") rows ≡ Some code.now)
+    × (first_of (codes "CERT") rows ≡ Some cert.now)
+    × AreSteps rows steps
+
+-- the job that the entries of the subcommand say that was met
+pub record IsJobAmong (met : Option (Text × List Row)) (job : Job) : Type 0 where
+  pub rows : List Row
+  pub entries : option_map (λ sub. sub.1) met ≡ Some rows
+  pub said : IsJobOf rows job
+
+-- the job that the words of a command line say
+abbrev pub IsJobFor : List Text → Job → Type 0
+IsJobFor words job = IsJobAmong (subcommand_of card_app words) job

@@ -1,8 +1,8 @@
 //! The command line: `jcard eval CODE [CERT] [--steps N]`.
 
-ghost use Rattle.std.specs.Prelude.{◌≡◌, ◌<◌, ◌^◌, IfOk, IfSome};
-ghost use Rattle.clap.specs.Words.{found_of};
-ghost use Rattle.jcard.specs.Jobs.{HasSteps, IsEvalOf};
+ghost use Rattle.std.specs.Prelude.{◌≡◌, map, IfOk, IfSome};
+ghost use Rattle.clap.specs.Words.{app_of, found_of, rows_of, subcommand_rows_of};
+ghost use Rattle.jcard.specs.Jobs.{AreSteps, IsEvalCommand, IsJobAmong, IsJobFor, IsJobOf, card_app};
 
 use crate::job::Job;
 use clap::error::ErrorKind;
@@ -37,17 +37,11 @@ impl From<AllocError> for LineFault {
 
 /// Reads the words of a command line, of which the first is the program's name.
 pub fn job<'a, S: AsStr>(alloc: Global, words: &'a [S]) -> Result<Job<'a>, LineFault>
-    ensures { IfOk result HasSteps }
+    ensures { IfOk result (IsJobFor (map S.text words.entry.now)) }
 {
-    let mut program = Command::new(alloc, "jcard")
-        .about("Checks and runs the code of a Java Card")
-        .subcommand_required(true)
-        .subcommand(eval_command(alloc)?)?;
+    let mut program = card_command(alloc)?;
     let matches = program.try_get_matches_from_mut(words)?;
-    match matches
-        .subcommand_matches("eval")
-        .and_then(|found| eval_job(found))
-    {
+    match named_job(&matches) {
         Some(job) => Ok(job),
         None => Err(LineFault::from(program.error(
             ErrorKind::MissingSubcommand,
@@ -56,8 +50,20 @@ pub fn job<'a, S: AsStr>(alloc: Global, words: &'a [S]) -> Result<Job<'a>, LineF
     }
 }
 
+// The program, of which a subcommand has to be named.
+fn card_command<'a>(alloc: Global) -> Result<Command<'a>, AllocError>
+    ensures { IfOk result (λ c. app_of c ≡ card_app) }
+{
+    Command::new(alloc, "jcard")
+        .about("Checks and runs the code of a Java Card")
+        .subcommand_required(true)
+        .subcommand(eval_command(alloc)?)
+}
+
 // `eval CODE [CERT] [--steps N]`.
-fn eval_command<'a>(alloc: Global) -> Result<Command<'a>, AllocError> {
+fn eval_command<'a>(alloc: Global) -> Result<Command<'a>, AllocError>
+    ensures { IfOk result IsEvalCommand }
+{
     let code = Arg::new(alloc, "CODE").required(true).help(
         "The code of a method, in hexadecimal: at most 65,535 bytes",
     );
@@ -77,12 +83,30 @@ fn eval_command<'a>(alloc: Global) -> Result<Command<'a>, AllocError> {
         .arg(steps)
 }
 
+// The job that the program's matches say.
+fn named_job<'a>(matches: &ArgMatches<'a>) -> Option<Job<'a>>
+    ensures { IfSome result (IsJobAmong (subcommand_rows_of matches.now)) }
+{
+    eval_job(matches.subcommand_matches("eval")?)
+}
+
 // The job that the matches of `eval` say.
 fn eval_job<'a>(found: &ArgMatches<'a>) -> Option<Job<'a>>
-    ensures { IfSome result (IsEvalOf (found_of found.now)) }
+    ensures { IfSome result (IsJobOf (rows_of (found_of found.now))) }
 {
     let code = found.get_str("CODE")?;
     let cert = found.get_str("CERT")?;
-    let steps = found.get_one::<u32>("steps").filter(|steps| *steps != 0)?;
+    let steps = steps_in(found)?;
     Some(Job::Eval { code, cert, steps })
+}
+
+// The number of steps that the matches of `eval` say.
+fn steps_in(found: &ArgMatches) -> Option<u32>
+    ensures { IfSome result (AreSteps (rows_of (found_of found.now))) }
+{
+    let steps = found.get_one::<u32>("steps")?;
+    if steps == 0 {
+        return None;
+    }
+    Some(steps)
 }

@@ -1,0 +1,11 @@
+use Rattle.std.proofs.Common.{rules, ◌≡◌, ◌∙◌, ap, ap₂, true, codes}
+use Rattle.std.proofs.lemmas.Result.{IfOk-weaker}
+use Rattle.clap.specs.Words.{App, app_of, new_app, with_subcommand}
+use Rattle.jcard.proofs.line.card_command.Goals as goal
+
+pub returns : goal.returns
+returns c =
+    let bare : App = new_app (codes "jcard") in
+    let empty_is : app_of c.subcommand_required.result ≡ record bare { top = record bare.top { subcommand_required = true } } = search rules in
+    let e = c.in_ok-eval_command.ensures in
+    IfOk-weaker c.subcommand.result _ _ (λ r added. added.shape e.globals ∙ ap₂ with_subcommand empty_is (ap (λ (a : App). a.top) e.app)) c.subcommand.ensures

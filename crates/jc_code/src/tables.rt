@@ -100,7 +100,10 @@ impl<'a> Cases<'a> {
             let at = 4 * index;
             Some(Case {
                 key: BigEndian::read_u16(&[self.bytes[at], self.bytes[at + 1]]).cast_signed(),
-                offset: BigEndian::read_u16(&[self.bytes[at + 2], self.bytes[at + 3]]).cast_signed(),
+                offset: BigEndian::read_u16(&[
+                    self.bytes[at + 2],
+                    self.bytes[at + 3],
+                ]).cast_signed(),
             })
         } else {
             None

@@ -41,7 +41,8 @@ impl<'a> Instr<'a> {
     {
         match &self.operation {
             Operation::Branch {
-                when: When::Always, ..
+                when: When::Always,
+                ..
             } => false,
             Operation::StableSwitch { .. } => false,
             Operation::LookupSwitch { .. } => false,
@@ -63,7 +64,11 @@ fn offset_at(operation: &Operation, index: usize) -> Option<i16>
 {
     match operation {
         Operation::Branch { offset, .. } if index == 0 => Some(*offset),
-        Operation::StableSwitch { default, offsets, .. } => {
+        Operation::StableSwitch {
+            default,
+            offsets,
+            ..
+        } => {
             if index == 0 {
                 Some(*default)
             } else {

@@ -76,7 +76,7 @@ never_err code w fault c is =
 pub steps_on : (code : List ℕ) (w new : Words) (s : Step) (instr : Instr) → instr_at code w.pc ≡ Ok instr → Ended s new (do_operation w.pc instr.next_pc instr.operation w) → Steps code w s new
 steps_on code w new s instr is ended typing t f agree well =
     follows typing s new (do_operation w.pc instr.next_pc instr.operation w) (defensive_step (word_method code) t.listing f) ended
-      (same_step code typing t.listing w f instr (at_step (word_method code) typing t w f agree well) is).1
+    (same_step code typing t.listing w f instr (at_step (word_method code) typing t w f agree well) is).1
 
 -- after so many of a run's steps, this frame of words is the defensive machine's without tags
 pub record Going (code : List ℕ) (done steps : ℕ) (w : Words) (typing : Typing) (t : IsTyping (word_method code) typing) : Type 0 where

@@ -22,6 +22,7 @@ impl<'a> Model for Cursor<'a> {
 
 impl<'a> Cursor<'a> {
     /// A cursor at the first of the bytes.
+    #[inline(always)]
     pub fn new(bytes: &'a [u8]) -> Self
         ensures { result ≡ bytes.now }
     {
@@ -29,6 +30,7 @@ impl<'a> Cursor<'a> {
     }
 
     /// A cursor at an offset of the bytes. Past their end nothing is left.
+    #[inline(always)]
     pub fn at(bytes: &'a [u8], offset: usize) -> Self
         ensures { result ≡ drop offset bytes.now }
     {
@@ -41,6 +43,7 @@ impl<'a> Cursor<'a> {
     }
 
     /// How many bytes are left.
+    #[inline(always)]
     pub fn len(&self) -> usize
         ensures { result ≡ length self.now }
     {
@@ -48,6 +51,7 @@ impl<'a> Cursor<'a> {
     }
 
     /// Whether no byte is left.
+    #[inline(always)]
     pub fn is_empty(&self) -> bool
         ensures { IsTrue result ↔ (self.now ≡ []) }
     {
@@ -55,6 +59,7 @@ impl<'a> Cursor<'a> {
     }
 
     /// The bytes that are left.
+    #[inline(always)]
     pub fn rest(&self) -> &'a [u8]
         ensures { result.now ≡ self.now }
     {
@@ -62,6 +67,7 @@ impl<'a> Cursor<'a> {
     }
 
     /// The next byte.
+    #[inline(always)]
     pub fn u1(&mut self) -> Option<u8>
         ensures { Steps (λ x. x) result self.old self.new (u1_at self.old) }
     {
@@ -71,6 +77,7 @@ impl<'a> Cursor<'a> {
     }
 
     /// The next two bytes, the high one first.
+    #[inline(always)]
     pub fn u2(&mut self) -> Option<u16>
         ensures { Steps (λ x. x) result self.old self.new (u2_at self.old) }
     {
@@ -83,6 +90,7 @@ impl<'a> Cursor<'a> {
     }
 
     /// The next four bytes, the highest one first.
+    #[inline(always)]
     pub fn u4(&mut self) -> Option<u32>
         ensures { Steps (λ x. x) result self.old self.new (u4_at self.old) }
     {
@@ -95,6 +103,7 @@ impl<'a> Cursor<'a> {
     }
 
     /// The next byte, with its sign.
+    #[inline(always)]
     pub fn s1(&mut self) -> Option<i8>
         ensures { Steps (λ x. x) result self.old self.new (s1_at self.old) }
     {
@@ -104,6 +113,7 @@ impl<'a> Cursor<'a> {
     }
 
     /// The next two bytes, the high one first, with the sign of the whole.
+    #[inline(always)]
     pub fn s2(&mut self) -> Option<i16>
         ensures { Steps (λ x. x) result self.old self.new (s2_at self.old) }
     {
@@ -116,6 +126,7 @@ impl<'a> Cursor<'a> {
     }
 
     /// The next `count` bytes.
+    #[inline(always)]
     pub fn take(&mut self, count: usize) -> Option<&'a [u8]>
         ensures { Steps (λ bytes. bytes.now) result self.old self.new (bytes_at count self.old) }
     {

@@ -1,7 +1,7 @@
 -- Reading goes forward: an instruction ends behind its pc, and within the code.
 use Rattle.std.proofs.Common.{◌≡◌, ℕ, zero, suc, ◌+◌, ◌-◌, ◌*◌, ◌/◌, ◌%◌, ◌==◌, ◌≤◌, ◌<◌, List, [], ◌∷◌, length, take, drop, Bool, true, false, cond, nat_lt, Option, Some, None, Result, Ok, Err, refl, sym, ap, subst, ◌∙◌, ◌⊎◌, inl, inr, arith, length-drop}
 use Rattle.std.specs.Prelude.{ℤ, pos, negsuc, ◌-ℤ◌, unsigned_abs, int_lt}
-use Rattle.jc_base.specs.Reading.{Read, u1_at, u2_at, s1_at, s2_at, bytes_at}
+use Rattle.jc_base.specs.Reading.{Read, Steps, u1_at, u2_at, s1_at, s2_at, bytes_at}
 use Rattle.jc_base.specs.Reading as reading
 use Rattle.jc_code.specs.declared.fault.CodeFault.{CodeFault}
 use Rattle.jc_code.specs.declared.fault.CodeFault.TheVariants.{BadOpcode, BadOperand, CutShort}
@@ -10,7 +10,7 @@ use Rattle.jc_code.specs.declared.instr.Operation.{Operation}
 use Rattle.jc_code.specs.declared.instr.Operation.TheVariants.{Branch, Binary}
 use Rattle.jc_code.specs.declared.tables.Case.{Case}
 use Rattle.jc_code.specs.Tables.{offsets_at, cases_at, offsets_of_bytes, cases_of_bytes}
-use Rattle.jc_code.specs.Spelling.{◌>>=◌, done, known, constant_at, local_at, shuffle_at, is_duplicate, is_swap, operator_of, arithmetic_at, when_of, branch_at, wide_branch_at, stable_switch_at, lookup_switch_at, wide_increment_at, operation_of, operation_at, placed, instr_at}
+use Rattle.jc_code.specs.Spelling.{◌>>=◌, done, listed, stable_switch_at, lookup_switch_at, wide_increment_at, when_of, wide_branch_at, control_at, branch_at, operator_of, arithmetic_at, is_duplicate, is_swap, shuffle_at, local_at, operation_of, operation_at, placed, instr_at}
 
 -- what is left is no longer than n
 abbrev pub Left : {A : Type 0} → ℕ → Result (Read A) CodeFault → Type 0
@@ -32,9 +32,9 @@ chosen : {A : Type 0} (n : ℕ) (b : Bool) (x y : Result (Read A) CodeFault) →
 chosen n true x y h k = h
 chosen n false x y h k = k
 
-knows : {A B : Type 0} (n : ℕ) (o : Option A) (f : A → Result (Read B) CodeFault) → ((x : A) → IsLeft n (f x)) → IsLeft n (known o f)
-knows n (Some x) f k = k x
-knows n None f k = record { left = tt }
+either : {A B : Type 0} (n : ℕ) (o : Option A) (f : A → Result (Read B) CodeFault) (other : Result (Read B) CodeFault) → ((x : A) → IsLeft n (f x)) → IsLeft n other → IsLeft n (listed o f other)
+either n (Some x) f other k h = k x
+either n None f other k h = h
 
 none : {A : Type 0} (n : ℕ) (fault : CodeFault) → IsLeft {A = A} n (Err fault)
 none n fault = record { left = tt }
@@ -76,37 +76,6 @@ cases_left : (n k : ℕ) (bytes : List ℕ) → length bytes ≤ n → Field n (
 unfolding cases_at
 cases_left n k bytes le = table_left n (bytes_at (4 * k) bytes) cases_of_bytes (bytes_left n (4 * k) bytes (nat_lt (length bytes) (4 * k)) le)
 
-constant_left : (n op : ℕ) (bytes : List ℕ) → length bytes ≤ n → IsLeft n (constant_at op bytes)
-unfolding constant_at
-constant_left n op bytes le =
-    chosen n (op == 0) _ _ (same n _ bytes le) (chosen n (op == 2) _ _ (same n _ bytes le) (chosen n (op == 3) _ _ (same n _ bytes le) (chosen n (op == 4) _ _ (same n _ bytes le) (chosen n (op == 5) _ _ (same n _ bytes le) (chosen n (op == 6) _ _ (same n _ bytes le) (chosen n (op == 7) _ _ (same n _ bytes le) (chosen n (op == 8) _ _ (same n _ bytes le)
-    (chosen n (op == 16) _ _ (field n (s1_at bytes) _ (s1_left n bytes le) (λ r h. same n _ r.rest h)) (chosen n (op == 17) _ _ (field n (s2_at bytes) _ (s2_left n bytes le) (λ r h. same n _ r.rest h)) (none n BadOpcode))))))))))
-
-local_left : (n op : ℕ) (bytes : List ℕ) → length bytes ≤ n → IsLeft n (local_at op bytes)
-unfolding local_at
-local_left n op bytes le =
-    chosen n (op == 22) _ _ (field n (u1_at bytes) _ (u1_left n bytes le) (λ r h. same n _ r.rest h)) (chosen n (op == 28) _ _ (same n _ bytes le) (chosen n (op == 29) _ _ (same n _ bytes le) (chosen n (op == 30) _ _ (same n _ bytes le) (chosen n (op == 31) _ _ (same n _ bytes le)
-    (chosen n (op == 41) _ _ (field n (u1_at bytes) _ (u1_left n bytes le) (λ r h. same n _ r.rest h)) (chosen n (op == 47) _ _ (same n _ bytes le) (chosen n (op == 48) _ _ (same n _ bytes le) (chosen n (op == 49) _ _ (same n _ bytes le) (chosen n (op == 50) _ _ (same n _ bytes le) (none n BadOpcode))))))))))
-
-shuffle_left : (n op : ℕ) (bytes : List ℕ) → length bytes ≤ n → IsLeft n (shuffle_at op bytes)
-unfolding shuffle_at
-shuffle_left n op bytes le =
-    chosen n (op == 59) _ _ (same n _ bytes le) (chosen n (op == 60) _ _ (same n _ bytes le) (chosen n (op == 61) _ _ (same n _ bytes le) (chosen n (op == 62) _ _ (same n _ bytes le)
-    (chosen n (op == 63) _ _ (field n (u1_at bytes) _ (u1_left n bytes le) (λ r h. chosen n (is_duplicate (r.value / 16) (r.value % 16)) _ _ (same n _ r.rest h) (none n BadOperand))) (chosen n (op == 64) _ _ (field n (u1_at bytes) _ (u1_left n bytes le) (λ r h. chosen n (is_swap (r.value / 16) (r.value % 16)) _ _ (same n _ r.rest h) (none n BadOperand))) (none n BadOpcode))))))
-
-arithmetic_left : (n op : ℕ) (bytes : List ℕ) → length bytes ≤ n → IsLeft n (arithmetic_at op bytes)
-unfolding arithmetic_at
-arithmetic_left n op bytes le =
-    chosen n (op == 75) _ _ (same n _ bytes le) (chosen n (op == 89) _ _ (field n (u1_at bytes) _ (u1_left n bytes le) (λ r h. field n (s1_at r.rest) _ (s1_left n r.rest h) (λ s k. same n _ s.rest k))) (chosen n (op == 91) _ _ (same n _ bytes le) (knows n (operator_of op) _ (λ x. same n _ bytes le))))
-
-branch_left : (n op : ℕ) (bytes : List ℕ) → length bytes ≤ n → IsLeft n (branch_at op bytes)
-unfolding branch_at
-branch_left n op bytes le = knows n (when_of op) _ (λ when. field n (s1_at bytes) _ (s1_left n bytes le) (λ r h. same n _ r.rest h))
-
-wide_branch_left : (n op : ℕ) (bytes : List ℕ) → length bytes ≤ n → IsLeft n (wide_branch_at op bytes)
-unfolding wide_branch_at
-wide_branch_left n op bytes le = knows n (when_of (op - 56)) _ (λ when. field n (s2_at bytes) _ (s2_left n bytes le) (λ r h. same n _ r.rest h))
-
 stable_switch_left : (n : ℕ) (bytes : List ℕ) → length bytes ≤ n → IsLeft n (stable_switch_at bytes)
 unfolding stable_switch_at
 stable_switch_left n bytes le =
@@ -121,11 +90,52 @@ wide_increment_left : (n : ℕ) (bytes : List ℕ) → length bytes ≤ n → Is
 unfolding wide_increment_at
 wide_increment_left n bytes le = field n (u1_at bytes) _ (u1_left n bytes le) (λ r h. field n (s2_at r.rest) _ (s2_left n r.rest h) (λ s k. same n _ s.rest k))
 
+wide_branch_left : (n op : ℕ) (bytes : List ℕ) → length bytes ≤ n → IsLeft n (wide_branch_at op bytes)
+unfolding wide_branch_at
+wide_branch_left n op bytes le = either n (when_of (op - 56)) _ _ (λ when. field n (s2_at bytes) _ (s2_left n bytes le) (λ r h. same n _ r.rest h)) (none n BadOpcode)
+
+control_left : (n op : ℕ) (bytes : List ℕ) → length bytes ≤ n → IsLeft n (control_at op bytes)
+unfolding control_at
+control_left n op bytes le =
+    chosen n (op == 115) _ _ (stable_switch_left n bytes le) (chosen n (op == 117) _ _ (lookup_switch_left n bytes le) (chosen n (op == 120) _ _ (same n _ bytes le) (chosen n (op == 150) _ _ (wide_increment_left n bytes le) (chosen n (nat_lt op 152) _ _ (none n BadOpcode) (wide_branch_left n op bytes le)))))
+
+branch_left : (n op : ℕ) (bytes : List ℕ) → length bytes ≤ n → IsLeft n (branch_at op bytes)
+unfolding branch_at
+branch_left n op bytes le = either n (when_of op) _ _ (λ when. field n (s1_at bytes) _ (s1_left n bytes le) (λ r h. same n _ r.rest h)) (control_left n op bytes le)
+
+arithmetic_left : (n op : ℕ) (bytes : List ℕ) → length bytes ≤ n → IsLeft n (arithmetic_at op bytes)
+unfolding arithmetic_at
+arithmetic_left n op bytes le =
+    chosen n (op == 75) _ _ (same n _ bytes le) (chosen n (op == 89) _ _ (field n (u1_at bytes) _ (u1_left n bytes le) (λ r h. field n (s1_at r.rest) _ (s1_left n r.rest h) (λ s k. same n _ s.rest k))) (chosen n (op == 91) _ _ (same n _ bytes le) (either n (operator_of op) _ _ (λ x. same n _ bytes le) (branch_left n op bytes le))))
+
+shuffle_left : (n op : ℕ) (bytes : List ℕ) → length bytes ≤ n → IsLeft n (shuffle_at op bytes)
+unfolding shuffle_at
+shuffle_left n op bytes le =
+    chosen n (op == 59) _ _ (same n _ bytes le) (chosen n (op == 60) _ _ (same n _ bytes le) (chosen n (op == 61) _ _ (same n _ bytes le) (chosen n (op == 62) _ _ (same n _ bytes le)
+    (chosen n (op == 63) _ _ (field n (u1_at bytes) _ (u1_left n bytes le) (λ r h. chosen n (is_duplicate (r.value / 16) (r.value % 16)) _ _ (same n _ r.rest h) (none n BadOperand))) (chosen n (op == 64) _ _ (field n (u1_at bytes) _ (u1_left n bytes le) (λ r h. chosen n (is_swap (r.value / 16) (r.value % 16)) _ _ (same n _ r.rest h) (none n BadOperand))) (arithmetic_left n op bytes le))))))
+
+local_left : (n op : ℕ) (bytes : List ℕ) → length bytes ≤ n → IsLeft n (local_at op bytes)
+unfolding local_at
+local_left n op bytes le =
+    chosen n (op == 22) _ _ (field n (u1_at bytes) _ (u1_left n bytes le) (λ r h. same n _ r.rest h)) (chosen n (op == 28) _ _ (same n _ bytes le) (chosen n (op == 29) _ _ (same n _ bytes le) (chosen n (op == 30) _ _ (same n _ bytes le) (chosen n (op == 31) _ _ (same n _ bytes le)
+    (chosen n (op == 41) _ _ (field n (u1_at bytes) _ (u1_left n bytes le) (λ r h. same n _ r.rest h)) (chosen n (op == 47) _ _ (same n _ bytes le) (chosen n (op == 48) _ _ (same n _ bytes le) (chosen n (op == 49) _ _ (same n _ bytes le) (chosen n (op == 50) _ _ (same n _ bytes le) (shuffle_left n op bytes le))))))))))
+
 operation_left : (n op : ℕ) (bytes : List ℕ) → length bytes ≤ n → IsLeft n (operation_of op bytes)
 unfolding operation_of
 operation_left n op bytes le =
-    chosen n (nat_lt op 18) _ _ (constant_left n op bytes le) (chosen n (nat_lt op 51) _ _ (local_left n op bytes le) (chosen n (nat_lt op 65) _ _ (shuffle_left n op bytes le) (chosen n (nat_lt op 92) _ _ (arithmetic_left n op bytes le) (chosen n (nat_lt op 113) _ _ (branch_left n op bytes le)
-    (chosen n (op == 115) _ _ (stable_switch_left n bytes le) (chosen n (op == 117) _ _ (lookup_switch_left n bytes le) (chosen n (op == 120) _ _ (same n _ bytes le) (chosen n (op == 150) _ _ (wide_increment_left n bytes le) (chosen n (nat_lt op 152) _ _ (none n BadOpcode) (wide_branch_left n op bytes le))))))))))
+    chosen n (op == 0) _ _ (same n _ bytes le) (chosen n (op == 2) _ _ (same n _ bytes le) (chosen n (op == 3) _ _ (same n _ bytes le) (chosen n (op == 4) _ _ (same n _ bytes le) (chosen n (op == 5) _ _ (same n _ bytes le) (chosen n (op == 6) _ _ (same n _ bytes le) (chosen n (op == 7) _ _ (same n _ bytes le) (chosen n (op == 8) _ _ (same n _ bytes le)
+    (chosen n (op == 16) _ _ (field n (s1_at bytes) _ (s1_left n bytes le) (λ r h. same n _ r.rest h)) (chosen n (op == 17) _ _ (field n (s2_at bytes) _ (s2_left n bytes le) (λ r h. same n _ r.rest h)) (local_left n op bytes le))))))))))
+
+-- what is left behind a byte is no more than there was
+pub left_behind_byte : (bytes left : List ℕ) (x : Option ℕ) → Steps (λ x. x) x bytes left (u1_at bytes) → length left ≤ length bytes
+left_behind_byte bytes left (Some x) h = let P : Option (Read ℕ) → Type 0 = λ o. Field (length bytes) o in subst P h (u1_left (length bytes) bytes (omega arith))
+left_behind_byte bytes left None h = omega (arith, ap length h.1)
+
+-- what is left behind an operation is no more than there was
+pub left_behind : (op : ℕ) (bytes : List ℕ) (operation : Operation) (rest : List ℕ) → operation_of op bytes ≡ Ok (record { value = operation; rest = rest }) → length rest ≤ length bytes
+left_behind op bytes operation rest e =
+    let P : Result (Read Operation) CodeFault → Type 0 = λ r. IsLeft (length bytes) r in
+    (subst P e (operation_left (length bytes) op bytes (omega arith))).left
 
 -- the instruction at a pc ends behind it, and within the code
 abbrev pub Advances : ℕ → ℕ → Result Instr CodeFault → Type 0

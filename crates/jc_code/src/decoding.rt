@@ -1,63 +1,163 @@
 //! Decoding.
 
 ghost use Rattle.std.specs.Prelude.{◌≡◌, ◌<◌, ◌≤◌, ◌-◌, ◌^◌, length, drop, unsigned_abs};
-ghost use Rattle.jc_code.specs.Spelling.{Spells, constant_at, local_at, shuffle_at, is_duplicate, is_swap, operator_of, arithmetic_at, when_of, branch_at, wide_branch_at, stable_switch_at, lookup_switch_at, wide_increment_at, operation_of, operation_at, instr_at, next_of};
+ghost use Rattle.jc_code.specs.Spelling.{Spells, stable_switch_at, lookup_switch_at, wide_increment_at, when_of, wide_branch_at, control_at, branch_at, operator_of, arithmetic_at, is_duplicate, is_swap, shuffle_at, local_at, operation_of, operation_at, instr_at, next_of};
 
 use crate::fault::CodeFault;
 use crate::instr::{BinaryOperator, Condition, Instr, Operation, Shuffle, UnaryOperator, When};
 use crate::tables::{next_cases, next_offsets};
 use jc_base::Cursor;
 
-#[tactic(auto, unfolding(crate::specs::Spelling::constant_at))]
-fn constant<'a>(opcode: u8, cursor: &mut Cursor<'a>) -> Result<Operation<'a>, CodeFault>
-    ensures { Spells result cursor.new (constant_at opcode cursor.old) }
+#[inline(always)]
+#[tactic(auto, unfolding(crate::specs::Spelling::stable_switch_at))]
+fn stable_switch<'a>(cursor: &mut Cursor<'a>) -> Result<Operation<'a>, CodeFault>
+    ensures { Spells result cursor.new (stable_switch_at cursor.old) }
+{
+    let default = cursor.s2().ok_or(CodeFault::CutShort)?;
+    let low = cursor.s2().ok_or(CodeFault::CutShort)?;
+    let high = cursor.s2().ok_or(CodeFault::CutShort)?;
+    if high < low {
+        return Err(CodeFault::BadOperand);
+    }
+    let count = usize::from(high.abs_diff(low)) + 1;
+    let offsets = next_offsets(cursor, count).ok_or(CodeFault::CutShort)?;
+    Ok(Operation::StableSwitch {
+        default,
+        low,
+        offsets,
+    })
+}
+
+#[inline(always)]
+#[tactic(auto, unfolding(crate::specs::Spelling::lookup_switch_at))]
+fn lookup_switch<'a>(cursor: &mut Cursor<'a>) -> Result<Operation<'a>, CodeFault>
+    ensures { Spells result cursor.new (lookup_switch_at cursor.old) }
+{
+    let default = cursor.s2().ok_or(CodeFault::CutShort)?;
+    let count = cursor.u2().ok_or(CodeFault::CutShort)?;
+    let cases = next_cases(cursor, usize::from(count)).ok_or(CodeFault::CutShort)?;
+    Ok(Operation::LookupSwitch { default, cases })
+}
+
+#[inline(always)]
+#[tactic(auto, unfolding(crate::specs::Spelling::wide_increment_at))]
+fn wide_increment<'a>(cursor: &mut Cursor<'a>) -> Result<Operation<'a>, CodeFault>
+    ensures { Spells result cursor.new (wide_increment_at cursor.old) }
+{
+    let local = cursor.u1().ok_or(CodeFault::CutShort)?;
+    let by = cursor.s2().ok_or(CodeFault::CutShort)?;
+    Ok(Operation::Increment { local, by })
+}
+
+#[inline(always)]
+#[tactic(auto, unfolding(crate::specs::Spelling::when_of))]
+fn branch_condition(opcode: u8) -> Option<When>
+    ensures { result ≡ when_of opcode }
 {
     match opcode {
-        0 => Ok(Operation::Nop),
-        2 => Ok(Operation::Push(-1)),
-        3 => Ok(Operation::Push(0)),
-        4 => Ok(Operation::Push(1)),
-        5 => Ok(Operation::Push(2)),
-        6 => Ok(Operation::Push(3)),
-        7 => Ok(Operation::Push(4)),
-        8 => Ok(Operation::Push(5)),
-        16 => {
-            let value = cursor.s1().ok_or(CodeFault::CutShort)?;
-            Ok(Operation::Push(i16::from(value)))
-        }
-        17 => {
-            let value = cursor.s2().ok_or(CodeFault::CutShort)?;
-            Ok(Operation::Push(value))
-        }
+        96 => Some(When::Zero(Condition::Equal)),
+        97 => Some(When::Zero(Condition::NotEqual)),
+        98 => Some(When::Zero(Condition::Less)),
+        99 => Some(When::Zero(Condition::GreaterOrEqual)),
+        100 => Some(When::Zero(Condition::Greater)),
+        101 => Some(When::Zero(Condition::LessOrEqual)),
+        106 => Some(When::Compare(Condition::Equal)),
+        107 => Some(When::Compare(Condition::NotEqual)),
+        108 => Some(When::Compare(Condition::Less)),
+        109 => Some(When::Compare(Condition::GreaterOrEqual)),
+        110 => Some(When::Compare(Condition::Greater)),
+        111 => Some(When::Compare(Condition::LessOrEqual)),
+        112 => Some(When::Always),
+        _ => None,
+    }
+}
+
+#[inline(always)]
+#[tactic(auto, unfolding(crate::specs::Spelling::wide_branch_at))]
+fn wide_branch<'a>(opcode: u8, cursor: &mut Cursor<'a>) -> Result<Operation<'a>, CodeFault>
+    requires { 152 ≤ opcode }
+    ensures { Spells result cursor.new (wide_branch_at opcode cursor.old) }
+{
+    let when = branch_condition(opcode - 56).ok_or(CodeFault::BadOpcode)?;
+    let offset = cursor.s2().ok_or(CodeFault::CutShort)?;
+    Ok(Operation::Branch { when, offset })
+}
+
+#[inline(always)]
+#[tactic(auto, unfolding(crate::specs::Spelling::control_at))]
+fn control<'a>(opcode: u8, cursor: &mut Cursor<'a>) -> Result<Operation<'a>, CodeFault>
+    ensures { Spells result cursor.new (control_at opcode cursor.old) }
+{
+    match opcode {
+        115 => stable_switch(cursor),
+        117 => lookup_switch(cursor),
+        120 => Ok(Operation::ReturnWord),
+        150 => wide_increment(cursor),
+        152.. => wide_branch(opcode, cursor),
         _ => Err(CodeFault::BadOpcode),
     }
 }
 
-#[tactic(auto, unfolding(crate::specs::Spelling::local_at))]
-fn local<'a>(opcode: u8, cursor: &mut Cursor<'a>) -> Result<Operation<'a>, CodeFault>
-    ensures { Spells result cursor.new (local_at opcode cursor.old) }
+#[inline(always)]
+#[tactic(auto, unfolding(crate::specs::Spelling::branch_at))]
+fn branch<'a>(opcode: u8, cursor: &mut Cursor<'a>) -> Result<Operation<'a>, CodeFault>
+    ensures { Spells result cursor.new (branch_at opcode cursor.old) }
+{
+    let Some(when) = branch_condition(opcode) else {
+        return control(opcode, cursor);
+    };
+    let offset = cursor.s1().ok_or(CodeFault::CutShort)?;
+    Ok(Operation::Branch {
+        when,
+        offset: i16::from(offset),
+    })
+}
+
+#[inline(always)]
+#[tactic(auto, unfolding(crate::specs::Spelling::operator_of))]
+fn operator(opcode: u8) -> Option<BinaryOperator>
+    ensures { result ≡ operator_of opcode }
 {
     match opcode {
-        22 => {
-            let index = cursor.u1().ok_or(CodeFault::CutShort)?;
-            Ok(Operation::Load(index))
-        }
-        28 => Ok(Operation::Load(0)),
-        29 => Ok(Operation::Load(1)),
-        30 => Ok(Operation::Load(2)),
-        31 => Ok(Operation::Load(3)),
-        41 => {
-            let index = cursor.u1().ok_or(CodeFault::CutShort)?;
-            Ok(Operation::Store(index))
-        }
-        47 => Ok(Operation::Store(0)),
-        48 => Ok(Operation::Store(1)),
-        49 => Ok(Operation::Store(2)),
-        50 => Ok(Operation::Store(3)),
-        _ => Err(CodeFault::BadOpcode),
+        65 => Some(BinaryOperator::Add),
+        67 => Some(BinaryOperator::Subtract),
+        69 => Some(BinaryOperator::Multiply),
+        71 => Some(BinaryOperator::Divide),
+        73 => Some(BinaryOperator::Remainder),
+        77 => Some(BinaryOperator::ShiftLeft),
+        79 => Some(BinaryOperator::ShiftRight),
+        81 => Some(BinaryOperator::ShiftRightUnsigned),
+        83 => Some(BinaryOperator::And),
+        85 => Some(BinaryOperator::Or),
+        87 => Some(BinaryOperator::Xor),
+        _ => None,
     }
 }
 
+#[inline(always)]
+#[tactic(auto, unfolding(crate::specs::Spelling::arithmetic_at))]
+fn arithmetic<'a>(opcode: u8, cursor: &mut Cursor<'a>) -> Result<Operation<'a>, CodeFault>
+    ensures { Spells result cursor.new (arithmetic_at opcode cursor.old) }
+{
+    match opcode {
+        75 => Ok(Operation::Unary(UnaryOperator::Negate)),
+        89 => {
+            let local = cursor.u1().ok_or(CodeFault::CutShort)?;
+            let by = cursor.s1().ok_or(CodeFault::CutShort)?;
+            Ok(Operation::Increment {
+                local,
+                by: i16::from(by),
+            })
+        }
+        91 => Ok(Operation::Unary(UnaryOperator::ToByte)),
+        _ => match operator(opcode) {
+            Some(operator) => Ok(Operation::Binary(operator)),
+            None => branch(opcode, cursor),
+        },
+    }
+}
+
+#[inline(always)]
 fn can_duplicate(count: u8, depth: u8) -> bool
     requires { depth < 16 }
     ensures { result ≡ is_duplicate count depth }
@@ -65,12 +165,14 @@ fn can_duplicate(count: u8, depth: u8) -> bool
     1 <= count && count <= 4 && (depth == 0 || count <= depth && depth <= count + 4)
 }
 
+#[inline(always)]
 fn can_swap(upper: u8, lower: u8) -> bool
     ensures { result ≡ is_swap upper lower }
 {
     1 <= upper && upper <= 2 && 1 <= lower && lower <= 2
 }
 
+#[inline(always)]
 #[tactic(auto, unfolding(crate::specs::Spelling::shuffle_at))]
 fn shuffle_operation<'a>(opcode: u8, cursor: &mut Cursor<'a>) -> Result<Operation<'a>, CodeFault>
     ensures { Spells result cursor.new (shuffle_at opcode cursor.old) }
@@ -100,156 +202,67 @@ fn shuffle_operation<'a>(opcode: u8, cursor: &mut Cursor<'a>) -> Result<Operatio
                 Err(CodeFault::BadOperand)
             }
         }
-        _ => Err(CodeFault::BadOpcode),
+        _ => arithmetic(opcode, cursor),
     }
 }
 
-#[tactic(auto, unfolding(crate::specs::Spelling::operator_of))]
-fn operator(opcode: u8) -> Option<BinaryOperator>
-    ensures { result ≡ operator_of opcode }
+#[inline(always)]
+#[tactic(auto, unfolding(crate::specs::Spelling::local_at))]
+fn local<'a>(opcode: u8, cursor: &mut Cursor<'a>) -> Result<Operation<'a>, CodeFault>
+    ensures { Spells result cursor.new (local_at opcode cursor.old) }
 {
     match opcode {
-        65 => Some(BinaryOperator::Add),
-        67 => Some(BinaryOperator::Subtract),
-        69 => Some(BinaryOperator::Multiply),
-        71 => Some(BinaryOperator::Divide),
-        73 => Some(BinaryOperator::Remainder),
-        77 => Some(BinaryOperator::ShiftLeft),
-        79 => Some(BinaryOperator::ShiftRight),
-        81 => Some(BinaryOperator::ShiftRightUnsigned),
-        83 => Some(BinaryOperator::And),
-        85 => Some(BinaryOperator::Or),
-        87 => Some(BinaryOperator::Xor),
-        _ => None,
-    }
-}
-
-#[tactic(auto, unfolding(crate::specs::Spelling::arithmetic_at))]
-fn arithmetic<'a>(opcode: u8, cursor: &mut Cursor<'a>) -> Result<Operation<'a>, CodeFault>
-    ensures { Spells result cursor.new (arithmetic_at opcode cursor.old) }
-{
-    match opcode {
-        75 => Ok(Operation::Unary(UnaryOperator::Negate)),
-        89 => {
-            let local = cursor.u1().ok_or(CodeFault::CutShort)?;
-            let by = cursor.s1().ok_or(CodeFault::CutShort)?;
-            Ok(Operation::Increment {
-                local,
-                by: i16::from(by),
-            })
+        22 => {
+            let index = cursor.u1().ok_or(CodeFault::CutShort)?;
+            Ok(Operation::Load(index))
         }
-        91 => Ok(Operation::Unary(UnaryOperator::ToByte)),
-        _ => {
-            let operator = operator(opcode).ok_or(CodeFault::BadOpcode)?;
-            Ok(Operation::Binary(operator))
+        28 => Ok(Operation::Load(0)),
+        29 => Ok(Operation::Load(1)),
+        30 => Ok(Operation::Load(2)),
+        31 => Ok(Operation::Load(3)),
+        41 => {
+            let index = cursor.u1().ok_or(CodeFault::CutShort)?;
+            Ok(Operation::Store(index))
         }
+        47 => Ok(Operation::Store(0)),
+        48 => Ok(Operation::Store(1)),
+        49 => Ok(Operation::Store(2)),
+        50 => Ok(Operation::Store(3)),
+        _ => shuffle_operation(opcode, cursor),
     }
 }
 
-#[tactic(auto, unfolding(crate::specs::Spelling::when_of))]
-fn branch_condition(opcode: u8) -> Option<When>
-    ensures { result ≡ when_of opcode }
-{
-    match opcode {
-        96 => Some(When::Zero(Condition::Equal)),
-        97 => Some(When::Zero(Condition::NotEqual)),
-        98 => Some(When::Zero(Condition::Less)),
-        99 => Some(When::Zero(Condition::GreaterOrEqual)),
-        100 => Some(When::Zero(Condition::Greater)),
-        101 => Some(When::Zero(Condition::LessOrEqual)),
-        106 => Some(When::Compare(Condition::Equal)),
-        107 => Some(When::Compare(Condition::NotEqual)),
-        108 => Some(When::Compare(Condition::Less)),
-        109 => Some(When::Compare(Condition::GreaterOrEqual)),
-        110 => Some(When::Compare(Condition::Greater)),
-        111 => Some(When::Compare(Condition::LessOrEqual)),
-        112 => Some(When::Always),
-        _ => None,
-    }
-}
-
-#[tactic(auto, unfolding(crate::specs::Spelling::branch_at))]
-fn branch<'a>(opcode: u8, cursor: &mut Cursor<'a>) -> Result<Operation<'a>, CodeFault>
-    ensures { Spells result cursor.new (branch_at opcode cursor.old) }
-{
-    let when = branch_condition(opcode).ok_or(CodeFault::BadOpcode)?;
-    let offset = cursor.s1().ok_or(CodeFault::CutShort)?;
-    Ok(Operation::Branch {
-        when,
-        offset: i16::from(offset),
-    })
-}
-
-#[tactic(auto, unfolding(crate::specs::Spelling::wide_branch_at))]
-fn wide_branch<'a>(opcode: u8, cursor: &mut Cursor<'a>) -> Result<Operation<'a>, CodeFault>
-    requires { 152 ≤ opcode }
-    ensures { Spells result cursor.new (wide_branch_at opcode cursor.old) }
-{
-    let when = branch_condition(opcode - 56).ok_or(CodeFault::BadOpcode)?;
-    let offset = cursor.s2().ok_or(CodeFault::CutShort)?;
-    Ok(Operation::Branch { when, offset })
-}
-
-#[tactic(auto, unfolding(crate::specs::Spelling::stable_switch_at))]
-fn stable_switch<'a>(cursor: &mut Cursor<'a>) -> Result<Operation<'a>, CodeFault>
-    ensures { Spells result cursor.new (stable_switch_at cursor.old) }
-{
-    let default = cursor.s2().ok_or(CodeFault::CutShort)?;
-    let low = cursor.s2().ok_or(CodeFault::CutShort)?;
-    let high = cursor.s2().ok_or(CodeFault::CutShort)?;
-    if high < low {
-        return Err(CodeFault::BadOperand);
-    }
-    let count = usize::from(high.abs_diff(low)) + 1;
-    let offsets = next_offsets(cursor, count).ok_or(CodeFault::CutShort)?;
-    Ok(Operation::StableSwitch {
-        default,
-        low,
-        offsets,
-    })
-}
-
-#[tactic(auto, unfolding(crate::specs::Spelling::lookup_switch_at))]
-fn lookup_switch<'a>(cursor: &mut Cursor<'a>) -> Result<Operation<'a>, CodeFault>
-    ensures { Spells result cursor.new (lookup_switch_at cursor.old) }
-{
-    let default = cursor.s2().ok_or(CodeFault::CutShort)?;
-    let count = cursor.u2().ok_or(CodeFault::CutShort)?;
-    let cases = next_cases(cursor, usize::from(count)).ok_or(CodeFault::CutShort)?;
-    Ok(Operation::LookupSwitch { default, cases })
-}
-
-#[tactic(auto, unfolding(crate::specs::Spelling::wide_increment_at))]
-fn wide_increment<'a>(cursor: &mut Cursor<'a>) -> Result<Operation<'a>, CodeFault>
-    ensures { Spells result cursor.new (wide_increment_at cursor.old) }
-{
-    let local = cursor.u1().ok_or(CodeFault::CutShort)?;
-    let by = cursor.s2().ok_or(CodeFault::CutShort)?;
-    Ok(Operation::Increment { local, by })
-}
-
+// The first of the tables. Each hands an opcode that it hasn't on to the next, so that all compile to one jump.
+#[inline(always)]
 #[tactic(auto, unfolding(crate::specs::Spelling::operation_of))]
 fn operation_behind<'a>(opcode: u8, cursor: &mut Cursor<'a>) -> Result<Operation<'a>, CodeFault>
     ensures { Spells result cursor.new (operation_of opcode cursor.old) }
 {
     match opcode {
-        0..=17 => constant(opcode, cursor),
-        18..=50 => local(opcode, cursor),
-        51..=64 => shuffle_operation(opcode, cursor),
-        65..=91 => arithmetic(opcode, cursor),
-        92..=112 => branch(opcode, cursor),
-        115 => stable_switch(cursor),
-        117 => lookup_switch(cursor),
-        120 => Ok(Operation::ReturnWord),
-        150 => wide_increment(cursor),
-        152.. => wide_branch(opcode, cursor),
-        _ => Err(CodeFault::BadOpcode),
+        0 => Ok(Operation::Nop),
+        2 => Ok(Operation::Push(-1)),
+        3 => Ok(Operation::Push(0)),
+        4 => Ok(Operation::Push(1)),
+        5 => Ok(Operation::Push(2)),
+        6 => Ok(Operation::Push(3)),
+        7 => Ok(Operation::Push(4)),
+        8 => Ok(Operation::Push(5)),
+        16 => {
+            let value = cursor.s1().ok_or(CodeFault::CutShort)?;
+            Ok(Operation::Push(i16::from(value)))
+        }
+        17 => {
+            let value = cursor.s2().ok_or(CodeFault::CutShort)?;
+            Ok(Operation::Push(value))
+        }
+        _ => local(opcode, cursor),
     }
 }
 
 /// The instruction that begins at a pc.
 ///
 /// `CutShort` also where the pc lies at the code's end or past it.
+#[inline(always)]
 #[tactic(auto, unfolding(crate::specs::Spelling::instr_at, crate::specs::Spelling::operation_at))]
 pub fn decode<'a>(code: &'a [u8], pc: usize) -> Result<Instr<'a>, CodeFault>
     ensures { result ≡ instr_at code.now pc }
@@ -263,7 +276,7 @@ pub fn decode<'a>(code: &'a [u8], pc: usize) -> Result<Instr<'a>, CodeFault>
     let operation = operation_behind(opcode, &mut cursor)?;
     Ok(Instr {
         operation,
-        next_pc: code.len().saturating_sub(cursor.len()),
+        next_pc: code.len() - cursor.len(),
     })
 }
 

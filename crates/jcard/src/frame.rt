@@ -62,8 +62,10 @@ impl WordFrame {
         requires { length self.old.operands < 8 }
         ensures { self.new ≡ record self.old { operands = word ∷ self.old.operands } }
     {
-        self.slots[self.depth] = word;
-        self.depth += 1;
+        // The depth is read once: the compiler can't tell that the slot lies apart from it.
+        let depth = self.depth;
+        self.slots[depth] = word;
+        self.depth = depth + 1;
     }
 
     /// Takes the top word.

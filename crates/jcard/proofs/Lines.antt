@@ -1,22 +1,75 @@
 -- What clap reads of a command line, as the job that it says.
-use Rattle.std.proofs.Common.{◌≡◌, ◌∙◌, ap₂, false, ◌||◌, sym, subst, refl, ℕ, ◌<◌, ◌^◌, List, Result, Ok}
-use Rattle.std.specs.Prelude.{Option, Some, None}
+use Rattle.std.proofs.Common.{◌≡◌, ◌∙◌, ap, ap₂, true, false, ◌||◌, sym, subst, refl, ℕ, ◌<◌, ◌^◌, List, Result, Ok, Err, arith, codes}
+use Rattle.std.specs.Prelude.{⊤, Option, Some, None, IfErr}
+use Rattle.std.specs.Result.{IsErr, IsErrAnd}
 use Rattle.std.specs.Str.Parse.{ParsesUnsigned}
 use Rattle.std.proofs.lemmas.Option.{none-some}
-use Rattle.clap.specs.Words.{AddsArg, App, ReadsOne, Rule, app_of, rule_of, with_rule}
+use Rattle.clap.specs.Words.{AddsArg, App, ReadsOne, Row, Rule, Text, app_of, first_of, rule_of, takes, with_rule}
 use Rattle.clap.specs.declared.builder.arg.Arg.{Arg}
 use Rattle.clap.specs.declared.builder.command.Command.{Command}
 use Rattle.clap.specs.declared.builder.command.Command.TheViews.{out-Command}
-use Rattle.jcard.specs.Jobs.{IsSteps}
+use Rattle.jcard.specs.Jobs.{AreSteps, IsJobFor, IsJobOf, IsSteps, Refuses, card_app}
+use Rattle.jcard.specs.declared.job.Job.{Job}
+use Rattle.jcard.specs.declared.job.Job.TheVariants.{Eval}
+use Rattle.jcard.specs.declared.line.LineFault.{LineFault}
+use Rattle.jcard.specs.declared.line.LineFault.TheVariants.{Line, Memory}
+
+-- the number of steps that a text says, if there is one
+abbrev pub AreSaid : Option (List ℕ) → ℕ → Type 0
+AreSaid o steps = (text : List ℕ) × (o ≡ Some text) × IsSteps text steps
 
 -- what is read as a number of steps was there as its text
-pub steps_said : {E : Type 0} (gives : List ℕ → Result ℕ E → Type 0) → ((t : List ℕ) (r : Result ℕ E) → gives t r → ParsesUnsigned 32 10 t r)
-    → (o : Option (List ℕ)) (steps : ℕ) → (o ≡ None → ◌≡◌ {A = Option ℕ} (Some steps) None) → ((t : List ℕ) → o ≡ Some t → ReadsOne gives t (Some steps))
-    → 0 < steps → (text : List ℕ) × (o ≡ Some text) × IsSteps text steps
-steps_said gives parses None steps none value least = absurd (none-some steps (sym (none refl)))
-steps_said gives parses (Some t) steps none value least =
-    let parsed = parses t (Ok steps) (value t refl) in
-    (t, refl, record { value = sym parsed.1; least = least; most = subst (λ n. n < 2 ^ 32) (sym parsed.1) parsed.0.1 })
+pub steps_said : {E : Type 0} {gives : List ℕ → Result ℕ E → Type 0} (o : Option (List ℕ)) (read : Option ℕ) (steps : ℕ) → ((t : List ℕ) → o ≡ Some t → ReadsOne gives t read)
+    → ((t : List ℕ) (r : Result ℕ E) → gives t r → ParsesUnsigned 32 10 t r) → read ≡ Some steps → (o ≡ None → read ≡ None) → 0 < steps → AreSaid o steps
+steps_said None read steps value parses e none least = absurd (none-some steps (sym (none refl) ∙ e))
+steps_said {gives = gives} (Some t) read steps value parses e none least =
+    let parsed = parses t (Ok steps) (subst (λ r. ReadsOne gives t r) e (value t refl)) in
+    (t, refl, record { numeral = parsed.0.0; value = sym parsed.1; least = least; most = subst (λ n. n < 2 ^ 32) (sym parsed.1) parsed.0.1 })
+
+-- nothing is read where no text says a number of steps
+pub no_steps_said : {E : Type 0} {gives : List ℕ → Result ℕ E → Type 0} (o : Option (List ℕ)) (read : Option ℕ) → ((t : List ℕ) → o ≡ Some t → ReadsOne gives t read)
+    → ((t : List ℕ) (r : Result ℕ E) → gives t r → ParsesUnsigned 32 10 t r) → read ≡ None → (steps : ℕ) → AreSaid o steps → ⊥
+no_steps_said {gives = gives} o read value parses e steps said =
+    let bad = subst (λ r. ReadsOne gives said.0 r) e (value said.0 said.1) in
+    parses said.0 (Err bad.0) bad.1 (said.2.numeral, subst (λ n. n < 2 ^ 32) (sym said.2.value) said.2.most)
+
+-- and 0 isn't a number of steps
+pub zero_said : {E : Type 0} {gives : List ℕ → Result ℕ E → Type 0} (o : Option (List ℕ)) (read : Option ℕ) (n : ℕ) → ((t : List ℕ) → o ≡ Some t → ReadsOne gives t read)
+    → ((t : List ℕ) (r : Result ℕ E) → gives t r → ParsesUnsigned 32 10 t r) → read ≡ Some n → n ≡ 0 → (steps : ℕ) → AreSaid o steps → ⊥
+zero_said {gives = gives} o read n value parses e zero steps said =
+    let parsed = parses said.0 (Ok n) (subst (λ r. ReadsOne gives said.0 r) e (value said.0 said.1)) in
+    omega (arith, zero, parsed.1, said.2.value, said.2.least)
+
+-- entries that lack one of the three say no job
+pub no_code : (rows : List Row) → first_of (codes "CODE") rows ≡ None → (job : Job) → IsJobOf rows job → ⊥
+no_code rows none (Eval code cert steps) said = none-some code.now (sym none ∙ said.0)
+
+pub no_cert : (rows : List Row) → first_of (codes "CERT") rows ≡ None → (job : Job) → IsJobOf rows job → ⊥
+no_cert rows none (Eval code cert steps) said = none-some cert.now (sym none ∙ said.1)
+
+pub no_steps : (rows : List Row) → ((steps : ℕ) → AreSteps rows steps → ⊥) → (job : Job) → IsJobOf rows job → ⊥
+no_steps rows none (Eval code cert steps) said = none steps said.2
+
+-- a fault that isn't want of memory
+abbrev IsLine : LineFault → Type 0
+IsLine (Line error) = ⊤
+IsLine Memory = ⊥
+
+-- words that would be taken, were memory there, are refused for want of it
+pub refused_for_memory : {Wants : Type 0} (fault : LineFault) (words : List Text) → (takes card_app words ≡ true → Wants) → (Wants → fault ≡ Memory) → Refuses fault words
+refused_for_memory Memory words wants memory = tt
+refused_for_memory (Line error) words wants memory = record { none = λ taken job said. subst IsLine (memory (wants taken)) tt }
+
+-- words in which no job was found
+pub refused_for_no_job : (fault : LineFault) (words : List Text) → ((job : Job) → IsJobFor words job → ⊥) → Refuses fault words
+refused_for_no_job Memory words none = tt
+refused_for_no_job (Line error) words none = record { none = λ taken job said. none job said }
+
+-- the fault of what is one
+pub refused_by : {T : Type 0} (result : Result T LineFault) (gives : LineFault → Type 0) (words : List Text) → IsErr result × IsErrAnd result gives
+    → ((fault : LineFault) → gives fault → Refuses fault words) → IfErr result (λ fault. Refuses fault words)
+refused_by (Ok x) gives words is refuses = tt
+refused_by (Err fault) gives words is refuses = refuses fault is.1
 
 -- an argument that goes for its own command alone makes one rule more
 pub adds_rule : (old new : Command) (a : Arg) (app : App) (r : Rule) → AddsArg old a new → a.global ≡ false → app_of old ≡ app → rule_of a ≡ r

@@ -1,12 +1,14 @@
 -- What a command line asks for, over what clap makes of its words.
-use Rattle.std.specs.Prelude.{◌≡◌, ◌<◌, ◌^◌, ℕ, List, [], ◌∷◌, Some, pos, true, false, Option, codes, option_map}
-use Rattle.std.specs.Str.Parse.{digits_value, without_leading_plus}
-use Rattle.clap.specs.Words.{App, Row, Rule, Text, app_of, first_of, new_app, new_rule, one_of, subcommand_of, with_rule, with_subcommand}
+use Rattle.std.specs.Prelude.{⊤, ◌≡◌, ◌<◌, ◌^◌, ℕ, List, [], ◌∷◌, Some, None, pos, true, false, Option, codes}
+use Rattle.std.specs.Str.Parse.{IsNumeral, digits_value, without_leading_plus}
+use Rattle.clap.specs.Words.{App, Row, Rule, Text, app_of, first_of, new_app, new_rule, one_of, subcommand_of, takes, with_rule, with_subcommand}
 use Rattle.clap.specs.declared.builder.command.Command.{Command}
 use Rattle.clap.specs.declared.builder.command.Command.TheViews.{out-Command}
 use Rattle.clap.specs.declared.builder.value_parser.ValueParser.TheVariants.{Signed}
 use Rattle.jcard.specs.declared.job.Job.{Job}
 use Rattle.jcard.specs.declared.job.Job.TheVariants.{Eval}
+use Rattle.jcard.specs.declared.line.LineFault.{LineFault}
+use Rattle.jcard.specs.declared.line.LineFault.TheVariants.{Line, Memory}
 
 -- CODE is required
 abbrev pub code_rule : Rule
@@ -40,8 +42,9 @@ card_app =
     let bare = new_app (codes "jcard") in
     with_subcommand (record bare { top = record bare.top { subcommand_required = true } }) eval_app.top
 
--- a number of steps that a text says in decimal, from 1 to 4,294,967,295
+-- a number of steps that a text says in decimal, from 1 to 4,294,967,295; a plus may stand first
 pub record IsSteps (text : Text) (steps : ℕ) : Type 0 where
+  pub numeral : IsNumeral 10 (without_leading_plus text)
   pub value : digits_value 10 (without_leading_plus text) ≡ steps
   pub least : 0 < steps
   pub most : steps < 2 ^ 32
@@ -60,9 +63,23 @@ IsJobOf rows (Eval code cert steps) =
 -- the job that the entries of the subcommand say that was met
 pub record IsJobAmong (met : Option (Text × List Row)) (job : Job) : Type 0 where
   pub rows : List Row
-  pub entries : option_map (λ sub. sub.1) met ≡ Some rows
+  pub entries : met ≡ Some (codes "eval", rows)
   pub said : IsJobOf rows job
 
 -- the job that the words of a command line say
 abbrev pub IsJobFor : List Text → Job → Type 0
 IsJobFor words job = IsJobAmong (subcommand_of card_app words) job
+
+-- words that say no job: clap's definition of a parse doesn't take them, or they say none
+pub record SaysNoJob (words : List Text) : Type 0 where
+  pub none : takes card_app words ≡ true → (job : Job) → IsJobFor words job → ⊥
+
+-- why there is no job: the words say none, or no memory was left
+abbrev pub Refuses : LineFault → List Text → Type 0
+Refuses (Line error) words = SaysNoJob words
+Refuses Memory words = ⊤
+
+-- what was found: one of which it holds, or nothing where it holds of none
+abbrev pub Finds : {A : Type 0} → Option A → (A → Type 0) → Type 0
+Finds (Some x) holds = holds x
+Finds {A} None holds = (x : A) → holds x → ⊥

@@ -1,8 +1,10 @@
 //! The command line: `jcard eval CODE [CERT] [--steps N]`.
 
-ghost use Rattle.std.specs.Prelude.{◌≡◌, map, IfOk, IfSome};
-ghost use Rattle.clap.specs.Words.{app_of, found_of, rows_of, subcommand_rows_of};
-ghost use Rattle.jcard.specs.Jobs.{AreSteps, IsEvalCommand, IsJobAmong, IsJobFor, IsJobOf, card_app};
+ghost use Rattle.std.specs.Prelude.{◌≡◌, map, IfErr, IfOk};
+ghost use Rattle.clap.specs.Words.{app_of, found_of, kind_of, rows_of, subcommand_rows_of};
+ghost use Rattle.clap.specs.declared.error.kind.ErrorKind.TheVariants.{OutOfMemory};
+ghost use Rattle.jcard.specs.declared.line.LineFault.TheVariants.{Memory};
+ghost use Rattle.jcard.specs.Jobs.{AreSteps, Finds, IsEvalCommand, IsJobAmong, IsJobFor, IsJobOf, Refuses, card_app};
 
 use crate::job::Job;
 use clap::error::ErrorKind;
@@ -20,6 +22,8 @@ pub enum LineFault {
 }
 
 impl From<Error> for LineFault {
+    ghost from_gives = { λ error fault. kind_of error ≡ OutOfMemory → fault ≡ Memory };
+
     fn from(error: Error) -> LineFault {
         if error.kind() == ErrorKind::OutOfMemory {
             LineFault::Memory
@@ -30,6 +34,8 @@ impl From<Error> for LineFault {
 }
 
 impl From<AllocError> for LineFault {
+    ghost from_gives = { λ _ fault. fault ≡ Memory };
+
     fn from(_error: AllocError) -> LineFault {
         LineFault::Memory
     }
@@ -37,7 +43,8 @@ impl From<AllocError> for LineFault {
 
 /// Reads the words of a command line, of which the first is the program's name.
 pub fn job<'a, S: AsStr>(alloc: Global, words: &'a [S]) -> Result<Job<'a>, LineFault>
-    ensures { IfOk result (IsJobFor (map S.text words.entry.now)) }
+    ensures said { IfOk result (IsJobFor (map S.text words.entry.now)) }
+    ensures refused { IfErr result (λ fault. Refuses fault (map S.text words.entry.now)) }
 {
     let mut program = card_command(alloc)?;
     let matches = program.try_get_matches_from_mut(words)?;
@@ -85,14 +92,14 @@ fn eval_command<'a>(alloc: Global) -> Result<Command<'a>, AllocError>
 
 // The job that the program's matches say.
 fn named_job<'a>(matches: &ArgMatches<'a>) -> Option<Job<'a>>
-    ensures { IfSome result (IsJobAmong (subcommand_rows_of matches.now)) }
+    ensures { Finds result (IsJobAmong (subcommand_rows_of matches.now)) }
 {
     eval_job(matches.subcommand_matches("eval")?)
 }
 
 // The job that the matches of `eval` say.
 fn eval_job<'a>(found: &ArgMatches<'a>) -> Option<Job<'a>>
-    ensures { IfSome result (IsJobOf (rows_of (found_of found.now))) }
+    ensures { Finds result (IsJobOf (rows_of (found_of found.now))) }
 {
     let code = found.get_str("CODE")?;
     let cert = found.get_str("CERT")?;
@@ -102,7 +109,7 @@ fn eval_job<'a>(found: &ArgMatches<'a>) -> Option<Job<'a>>
 
 // The number of steps that the matches of `eval` say.
 fn steps_in(found: &ArgMatches) -> Option<u32>
-    ensures { IfSome result (AreSteps (rows_of (found_of found.now))) }
+    ensures { Finds result (AreSteps (rows_of (found_of found.now))) }
 {
     let steps = found.get_one::<u32>("steps")?;
     if steps == 0 {

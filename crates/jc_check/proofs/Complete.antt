@@ -1,20 +1,18 @@
 -- Where the states carry a method, the check finds nothing.
-use Rattle.std.proofs.Common.{◌≡◌, ℕ, ℤ, pos, ◌+◌, ◌-◌, ◌≤◌, ◌<◌, ◌==◌, List, [], ◌∷◌, length, nat_lt, Option, Some, None, Result, Ok, Err, Bool, true, false, ◌&&◌, cond, refl, sym, ap, ◌∙◌, subst, arith}
-use Rattle.std.specs.Prelude.{⊤}
+use Rattle.std.proofs.Common.{◌≡◌, ℕ, ℤ, ◌≤◌, ◌<◌, List, [], ◌∷◌, length, Option, Some, None, Result, Ok, Bool, true, false, refl, sym, ◌∙◌, subst, arith}
 use Rattle.std.specs.List.{AllByRecursion}
 use Rattle.std.proofs.lemmas.Bool.{lt-ltb}
 use Rattle.jc_base.specs.declared.reason.Reason.{Reason}
 use Rattle.jc_base.specs.Results.{◌>>=◌}
-use Rattle.jc_code.specs.Listing.{Placed, Runs, IsListing, placed_at, begins}
+use Rattle.jc_code.specs.Listing.{Placed, Runs, placed_at}
 use Rattle.jc_code.specs.Targets.{targets_of, falls_of}
 use Rattle.jc_code.proofs.Listings.{next_within, placed_behind, placed_front}
-use Rattle.jc_types.specs.Types.{Types, types_below}
-use Rattle.jc_step.specs.Effect.{effect_of}
+use Rattle.jc_types.specs.Types.{Types}
 use Rattle.jc_cert.specs.Rows.{Stated}
 use Rattle.jc_check.specs.Method.{Method, entry_of}
 use Rattle.jc_check.specs.Typing.{Typing}
-use Rattle.jc_check.specs.Carried.{state_at, has_shape, Stands, Arrives, GoesOn, NothingGoesOn, Behind, IsCarried, Carries}
-use Rattle.jc_check.specs.FirstFault.{Fault, told, states_stand, meets, arrives, all_arrive, flows, falls_to, goes_on, visit_live, visit_on, visit, walk, verdict_of}
+use Rattle.jc_check.specs.Carried.{state_at, Stands, Arrives, GoesOn, NothingGoesOn, Behind, IsCarried, Carries}
+use Rattle.jc_check.specs.FirstFault.{told, states_stand, arrives, all_arrive, flows, falls_to, goes_on, visit_live, visit_on, visit, walk, verdict_of}
 
 -- what flows into a pc fits its state
 abbrev Flow : Option Types → Option Types → Option Types → Type 0

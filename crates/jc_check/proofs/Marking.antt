@@ -1,15 +1,14 @@
 -- Marking where instructions begin, and where the certificate has states.
-use Rattle.std.proofs.Common.{◌≡◌, ℕ, zero, suc, ◌+◌, ◌-◌, ◌≤◌, ◌<◌, ◌==◌, List, [], ◌∷◌, ◌++◌, length, get_or, set, take, drop, Option, Some, None, Result, Ok, Err, Bool, true, false, ◌&&◌, ◌||◌, cond, ◌⊎◌, inl, inr, refl, sym, ap, ◌∙◌, subst, arith, length-set, get_or-set_same, get_or-set_other}
-use Rattle.std.specs.Prelude.{⊤, slice_get, replicate}
+use Rattle.std.proofs.Common.{◌≡◌, ℕ, zero, suc, ◌≤◌, ◌<◌, ◌==◌, List, [], ◌∷◌, ◌++◌, length, get_or, set, Ok, Bool, true, false, ◌||◌, inl, inr, refl, sym, ap, ◌∙◌, subst, arith, length-set, get_or-set_same, get_or-set_other}
+use Rattle.std.specs.Prelude.{replicate}
 use Rattle.std.proofs.lemmas.List.{length-replicate}
 use Rattle.std.proofs.lemmas.Bool.{cases_eq, eq-eqb, ne_eqb}
 use Rattle.jc_code.specs.declared.instr.Instr.{Instr}
 use Rattle.jc_code.specs.Spelling.{instr_at}
 use Rattle.jc_code.specs.Listing.{Placed, Runs, IsListing, begins}
 use Rattle.jc_code.proofs.Listings.{Runs-append, begins-push}
-use Rattle.jc_cert.specs.Rows.{Stated}
 use Rattle.jc_check.specs.declared.place.Place.{Place}
-use Rattle.jc_check.specs.declared.place.Place.TheVariants.{Inside, Start, Holds}
+use Rattle.jc_check.specs.declared.place.Place.TheVariants.{Inside, Start}
 use Rattle.jc_check.specs.Places.{mark_of, IsMarked, placed}
 
 -- what is marked once the instructions up to a pc have been decoded

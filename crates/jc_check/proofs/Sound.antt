@@ -1,22 +1,20 @@
 -- Where the check finds nothing, the states carry the method.
-use Rattle.std.proofs.Common.{◌≡◌, ◌≢◌, ℕ, ℤ, pos, negsuc, zero, suc, ◌+◌, ◌-◌, ◌≤◌, ◌<◌, ◌==◌, List, [], ◌∷◌, length, nat_lt, Option, Some, None, Result, Ok, Err, Bool, true, false, ◌&&◌, ◌||◌, cond, ◌⊎◌, inl, inr, refl, sym, ap, ◌∙◌, subst, arith}
-use Rattle.std.specs.Prelude.{⊤}
+use Rattle.std.proofs.Common.{◌≡◌, ℕ, ℤ, pos, negsuc, ◌≤◌, ◌<◌, ◌==◌, List, [], ◌∷◌, length, nat_lt, Option, Some, None, Result, Ok, Err, Bool, true, false, ◌&&◌, ◌||◌, cond, ◌⊎◌, inl, inr, refl, sym, ap, ◌∙◌, subst, arith}
 use Rattle.std.specs.List.{AllByRecursion}
-use Rattle.std.proofs.lemmas.Bool.{ltb-true, ltb-false, eqb-true, eqb-false, eq-eqb, ne_eqb}
+use Rattle.std.proofs.lemmas.Bool.{ltb-true, ltb-false, eqb-true, eq-eqb, ne_eqb}
 use Rattle.jc_base.specs.declared.reason.Reason.{Reason}
 use Rattle.jc_base.specs.declared.reason.Reason.TheVariants.{CertMismatch, FallsOff, NoTarget}
-use Rattle.jc_base.specs.Results.{◌>>=◌}
 use Rattle.jc_base.proofs.Binding.{bind_ok, guard_ok, the_ok, the_some, none_some, choice}
 use Rattle.jc_code.specs.Listing.{Placed, Runs, IsListing, placed_at, begins}
 use Rattle.jc_code.specs.Targets.{targets_of, falls_of}
-use Rattle.jc_code.proofs.Listings.{IsThere, there, next_within, placed_behind, placed_front, begins_placed}
+use Rattle.jc_code.proofs.Listings.{next_within}
 use Rattle.jc_types.specs.Types.{Types, types_below}
 use Rattle.jc_step.specs.Effect.{effect_of}
 use Rattle.jc_cert.specs.Rows.{Stated}
 use Rattle.jc_check.specs.Method.{Method, entry_of}
 use Rattle.jc_check.specs.Typing.{Typing}
-use Rattle.jc_check.specs.Carried.{types_of, state_at, has_shape, Stands, Arrives, GoesOn, NothingGoesOn, Behind, IsCarried, Carries}
-use Rattle.jc_check.specs.FirstFault.{Fault, told, fault_at, states_stand, meets, arrives, all_arrive, flows, falls_to, goes_on, visit_live, visit_on, visit, walk, verdict_of}
+use Rattle.jc_check.specs.Carried.{state_at, has_shape, Stands, Arrives, GoesOn, NothingGoesOn, Behind, IsCarried, Carries}
+use Rattle.jc_check.specs.FirstFault.{told, fault_at, states_stand, meets, arrives, all_arrive, flows, falls_to, goes_on, visit_live, visit_on, visit, walk, verdict_of}
 
 both_true : (a b : Bool) → a && b ≡ true → (a ≡ true) × (b ≡ true)
 both_true true true h = (refl, refl)

@@ -1,20 +1,20 @@
 -- Marking where the certificate has states, one after the other.
-use Rattle.std.proofs.Common.{◌≡◌, ℕ, zero, suc, ◌+◌, ◌-◌, ◌≤◌, ◌<◌, ◌==◌, List, [], ◌∷◌, ◌++◌, length, get_or, set, take, drop, map, Option, Some, None, Result, Ok, Err, Bool, true, false, ◌&&◌, ◌||◌, cond, ◌⊎◌, inl, inr, refl, sym, ap, ◌∙◌, subst, arith, length-set, get_or-set_same, get_or-set_other, length-append}
-use Rattle.std.specs.Prelude.{⊤, slice_get, option_map}
+use Rattle.std.proofs.Common.{◌≡◌, ℕ, zero, suc, ◌+◌, ◌≤◌, ◌<◌, ◌==◌, List, [], ◌∷◌, ◌++◌, length, get_or, set, take, drop, map, Option, Some, None, Ok, Err, Bool, true, false, ◌&&◌, cond, inl, inr, refl, sym, ap, ◌∙◌, subst, arith, length-set, get_or-set_same, get_or-set_other}
+use Rattle.std.specs.Prelude.{slice_get, option_map}
 use Rattle.std.proofs.lemmas.Bool.{cases_eq, eq-eqb, ne_eqb}
 use Rattle.std.proofs.lemmas.Option.{slice_get_read, slice_get-map}
 use Rattle.std.proofs.lemmas.List.{length-take-le}
 use Rattle.jc_base.specs.declared.reason.Reason.TheVariants.{CertMismatch}
 use Rattle.jc_base.proofs.Binding.{none_some, the_some}
 use Rattle.jc_types.specs.Types.{Types}
-use Rattle.jc_code.specs.Listing.{Placed, Runs, IsListing, begins}
+use Rattle.jc_code.specs.Listing.{Placed, IsListing, begins}
 use Rattle.jc_code.proofs.Listings.{placed_begins, there, next_within}
 use Rattle.jc_cert.specs.declared.cert.StateRow.{StateRow}
 use Rattle.jc_cert.specs.Rows.{Stated}
 use Rattle.jc_cert.specs.Views.{stated}
 use Rattle.jc_check.specs.Method.{Method}
 use Rattle.jc_check.specs.Carried.{types_of, state_at, has_shape}
-use Rattle.jc_check.specs.FirstFault.{Fault, fault_at, states_stand}
+use Rattle.jc_check.specs.FirstFault.{fault_at, states_stand}
 use Rattle.jc_check.specs.declared.place.Place.{Place}
 use Rattle.jc_check.specs.declared.place.Place.TheVariants.{Inside, Start, Holds}
 use Rattle.jc_check.specs.Places.{mark_of, IsMarked, IsPlace, IsTable}

@@ -1,15 +1,15 @@
 -- A method that is carried is well typed.
-use Rattle.std.proofs.Common.{◌≡◌, ℕ, ℤ, pos, List, [], ◌∷◌, Option, Some, None, Ok, Bool, true, false, refl, sym, ap, ◌∙◌, subst}
+use Rattle.std.proofs.Common.{◌≡◌, ℕ, ℤ, List, [], ◌∷◌, Option, Some, None, Bool, true, false, refl}
 use Rattle.std.specs.List.{AllByRecursion}
-use Rattle.jc_code.specs.Listing.{Placed, placed_at}
+use Rattle.jc_code.specs.Listing.{Placed}
 use Rattle.jc_code.specs.Targets.{targets_of, falls_of}
 use Rattle.jc_code.proofs.Listings.{placed_begins}
-use Rattle.jc_types.specs.Types.{Types, types_below}
+use Rattle.jc_types.specs.Types.{Types}
 use Rattle.jc_types.specs.Order.{types_below_self}
 use Rattle.jc_cert.specs.Rows.{Stated}
 use Rattle.jc_check.specs.Method.{Method, entry_of}
-use Rattle.jc_check.specs.Typing.{Typing, Leads, BranchLeads, IsFine, IsTyping}
-use Rattle.jc_check.specs.Carried.{state_at, Arrives, GoesOn, Behind, IsCarried, Carries}
+use Rattle.jc_check.specs.Typing.{Typing, Leads, BranchLeads, IsTyping}
+use Rattle.jc_check.specs.Carried.{state_at, Arrives, GoesOn, Behind, Carries}
 
 leads : (states : List Stated) (typing : Typing) (t : Types) (pc : ℕ) (o : Option Types) → state_at states pc ≡ o → ((q : ℕ) (s : Types) → state_at states q ≡ Some s → typing q ≡ Some s) → GoesOn o (typing pc) t → Leads typing t pc
 leads states typing t pc None e stated h = (t, h, types_below_self t)

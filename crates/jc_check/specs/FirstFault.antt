@@ -11,8 +11,8 @@ use Rattle.jc_code.specs.Listing.{Placed, IsListing, StopsAt, begins}
 use Rattle.jc_code.specs.Targets.{targets_of, falls_of}
 use Rattle.jc_types.specs.Types.{Types, types_below}
 use Rattle.jc_step.specs.Effect.{effect_of}
-use Rattle.jc_cert.specs.Rows.{Stated, Row}
-use Rattle.jc_check.specs.Method.{Method, entry_of, word_method, states_of}
+use Rattle.jc_cert.specs.Rows.{Stated}
+use Rattle.jc_check.specs.Method.{Method, entry_of, word_method}
 use Rattle.jc_check.specs.Carried.{state_at, has_shape}
 
 -- a reason, and the pc of the instruction that it is told of

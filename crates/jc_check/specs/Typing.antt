@@ -1,6 +1,6 @@
 -- Well-typed methods (Java Card Virtual Machine Specification, verification of CAP files: the state of the locals and
 -- of the operand stack at each instruction).
-use Rattle.std.specs.Prelude.{◌≡◌, ℕ, ℤ, pos, List, Option, Some, Bool, true}
+use Rattle.std.specs.Prelude.{◌≡◌, ℕ, ℤ, pos, List, Option, Some, true}
 use Rattle.std.specs.List.{AllByRecursion}
 use Rattle.std.specs.Prelude.{Ok}
 use Rattle.jc_code.specs.Listing.{Placed, IsListing, placed_at}

@@ -1,14 +1,12 @@
 -- Reading goes forward: an instruction ends behind its pc, and within the code.
-use Rattle.std.proofs.Common.{◌≡◌, ℕ, zero, suc, ◌+◌, ◌-◌, ◌*◌, ◌/◌, ◌%◌, ◌==◌, ◌≤◌, ◌<◌, List, [], ◌∷◌, length, take, drop, Bool, true, false, cond, nat_lt, Option, Some, None, Result, Ok, Err, refl, sym, ap, subst, ◌∙◌, ◌⊎◌, inl, inr, arith, length-drop}
-use Rattle.std.specs.Prelude.{ℤ, pos, negsuc, ◌-ℤ◌, unsigned_abs, int_lt}
+use Rattle.std.proofs.Common.{◌≡◌, ℕ, suc, ◌+◌, ◌-◌, ◌*◌, ◌/◌, ◌%◌, ◌==◌, ◌≤◌, ◌<◌, List, [], ◌∷◌, length, take, drop, Bool, true, false, cond, nat_lt, Option, Some, None, Result, Ok, Err, ap, subst, arith, length-drop}
+use Rattle.std.specs.Prelude.{◌-ℤ◌, unsigned_abs, int_lt}
 use Rattle.jc_base.specs.Reading.{Read, Steps, u1_at, u2_at, s1_at, s2_at, bytes_at}
 use Rattle.jc_base.specs.Reading as reading
 use Rattle.jc_code.specs.declared.fault.CodeFault.{CodeFault}
-use Rattle.jc_code.specs.declared.fault.CodeFault.TheVariants.{BadOpcode, BadOperand, CutShort}
+use Rattle.jc_code.specs.declared.fault.CodeFault.TheVariants.{BadOpcode, BadOperand}
 use Rattle.jc_code.specs.declared.instr.Instr.{Instr}
 use Rattle.jc_code.specs.declared.instr.Operation.{Operation}
-use Rattle.jc_code.specs.declared.instr.Operation.TheVariants.{Branch, Binary}
-use Rattle.jc_code.specs.declared.tables.Case.{Case}
 use Rattle.jc_code.specs.Tables.{offsets_at, cases_at, offsets_of_bytes, cases_of_bytes}
 use Rattle.jc_code.specs.Spelling.{◌>>=◌, done, listed, stable_switch_at, lookup_switch_at, wide_increment_at, when_of, wide_branch_at, control_at, branch_at, operator_of, arithmetic_at, is_duplicate, is_swap, shuffle_at, local_at, operation_of, operation_at, placed, instr_at}
 

@@ -1,9 +1,8 @@
 -- Operands of a state as the slots hold them.
-use Rattle.std.proofs.Common.{◌≡◌, ℕ, ◌-◌, ◌+◌, ◌<◌, ◌≤◌, List, length, take, drop, reverse, Result, Ok, Err, Bool, true, false, cond, nat_lt, refl, sym, ap, ◌∙◌, arith}
+use Rattle.std.proofs.Common.{◌≡◌, ℕ, ◌-◌, ◌+◌, ◌≤◌, List, length, take, drop, reverse, Ok, Err, Bool, false, cond, nat_lt, refl, sym, ap, ◌∙◌, arith}
 use Rattle.std.proofs.lemmas.Bool.{le-ltb}
 use Rattle.std.proofs.lemmas.List.{length-reverse, length-take-le, drop-take}
-use Rattle.jc_base.specs.declared.reason.Reason.{Reason}
-use Rattle.jc_base.specs.declared.reason.Reason.TheVariants.{StackUnder, WrongType}
+use Rattle.jc_base.specs.declared.reason.Reason.TheVariants.{WrongType}
 use Rattle.jc_base.proofs.StackViews.{dropped, topmost}
 use Rattle.jc_types.specs.declared.ty.Ty.{Ty}
 use Rattle.jc_types.specs.Types.{Types, all_below}

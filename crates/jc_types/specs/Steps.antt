@@ -5,7 +5,7 @@ use Rattle.jc_base.specs.declared.reason.Reason.{Reason}
 use Rattle.jc_base.specs.declared.reason.Reason.TheVariants.{BadLocal, StackUnder, WrongType, StackOver}
 use Rattle.jc_base.specs.Stack.{duplicated, swapped}
 use Rattle.jc_types.specs.declared.ty.Ty.{Ty}
-use Rattle.jc_types.specs.Types.{Types, is_below, all_below}
+use Rattle.jc_types.specs.Types.{Types, all_below}
 
 -- an answer of the code, with the types that it leaves, is this one
 abbrev pub Became : Result ⊤ Reason → Types → Result Types Reason → Type 0

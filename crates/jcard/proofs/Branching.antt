@@ -1,29 +1,24 @@
 -- Branches and switches.
-use Rattle.std.proofs.Common.{◌≡◌, ℕ, zero, suc, ◌+◌, ◌-◌, ◌≤◌, ◌<◌, ◌==◌, List, [], ◌∷◌, length, drop, nat_lt, Option, Some, None, Result, Ok, Err, Bool, true, false, cond, refl, sym, ap, ◌∙◌, subst, arith}
-use Rattle.std.specs.Prelude.{⊤, ℤ, pos, negsuc, slice_get, int_lt, unsigned_abs, ◌-ℤ◌, unwrap_or, map}
+use Rattle.std.proofs.Common.{◌≡◌, ℕ, zero, suc, ◌==◌, List, [], ◌∷◌, Bool, true, false, cond, refl, sym, subst, arith}
+use Rattle.std.specs.Prelude.{ℤ, slice_get, int_lt, unsigned_abs, ◌-ℤ◌, unwrap_or, map}
 use Rattle.std.specs.List.{AllByRecursion}
-use Rattle.jc_base.specs.Results.{◌>>=◌}
 use Rattle.jc_base.proofs.Binding.{the_ok}
-use Rattle.jc_code.specs.declared.instr.Operation.{Operation}
 use Rattle.jc_code.specs.declared.instr.Operation.TheVariants.{Branch, StableSwitch, LookupSwitch}
 use Rattle.jc_code.specs.declared.instr.When.{When}
 use Rattle.jc_code.specs.declared.instr.When.TheVariants.{Always, Zero, Compare}
-use Rattle.jc_code.specs.declared.instr.Condition.{Condition}
 use Rattle.jc_code.specs.declared.tables.Case.{Case}
 use Rattle.jc_code.specs.Listing.{Placed}
-use Rattle.jc_code.specs.Targets.{offsets_of, target_of, targets_of, falls_of}
+use Rattle.jc_code.specs.Targets.{target_of}
 use Rattle.jc_types.specs.declared.ty.Ty.{Ty}
-use Rattle.jc_types.specs.declared.ty.Ty.TheVariants as types
 use Rattle.jc_types.specs.Types.{Types}
-use Rattle.jc_types.specs.Steps.{take_types}
-use Rattle.jc_step.specs.Effect.{branch_effect, effect_of}
+use Rattle.jc_step.specs.Effect.{effect_of}
 use Rattle.jc_check.specs.Method.{Method}
-use Rattle.jc_check.specs.Typing.{Typing, Leads, BranchLeads}
+use Rattle.jc_check.specs.Typing.{Typing, BranchLeads}
 use Rattle.jcard.specs.Shorts.{short, word_of, holds}
-use Rattle.jcard.specs.Tagged.{TaggedValue, Word, Frame, Outcome, goes, jumps, stable_offset, lookup_offset, act}
-use Rattle.jcard.specs.Words.{Words, runs, place, branched, do_operation, IsPc, CanBranch, Ready}
-use Rattle.jcard.specs.Agree.{Pointwise, Reads, HasType, Simulates}
-use Rattle.jcard.proofs.Taking.{TakesOne, takes_one, TakesTwo, takes_two}
+use Rattle.jcard.specs.Tagged.{TaggedValue, Frame, goes, jumps, stable_offset, lookup_offset, act}
+use Rattle.jcard.specs.Words.{Words, runs, place}
+use Rattle.jcard.specs.Agree.{Pointwise, HasType, Simulates}
+use Rattle.jcard.proofs.Taking.{takes_one, takes_two}
 use Rattle.jcard.proofs.Simulation.{goes_on, jumps_on, Owes, owes_at, Known}
 
 -- taken or not, both sides go the same way

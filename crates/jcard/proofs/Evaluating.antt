@@ -1,13 +1,11 @@
 -- What eval answers of a run.
 use Rattle.std.proofs.Common.{◌≡◌, ℕ, List, refl, sym, ap, ◌∙◌, subst}
-use Rattle.jc_code.specs.Listing.{Placed}
 use Rattle.jc_check.specs.Method.{word_method}
 use Rattle.jc_check.specs.Typing.{Typing, IsTyping}
 use Rattle.jc_check.specs.Carried.{CarriesCode}
 use Rattle.jc_check.proofs.Typed.{typed}
 use Rattle.jc_cert.specs.Rows.{Row}
 use Rattle.jcard.specs.declared.answer.EvalAnswer.{EvalAnswer}
-use Rattle.jcard.specs.declared.answer.EvalAnswer.TheVariants as answers
 use Rattle.jcard.specs.declared.run.Ending.{Ending}
 use Rattle.jcard.specs.declared.run.Ending.TheVariants as endings
 use Rattle.jcard.specs.Tagged.{Word, Ref, Null, Unset, RunEnd, Gave, Threw, UsedUp, IsStuck, ArithmeticException, runtime_call, first_frame}

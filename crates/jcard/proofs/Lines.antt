@@ -1,5 +1,5 @@
 -- What clap reads of a command line, as the job that it says.
-use Rattle.std.proofs.Common.{◌≡◌, ◌∙◌, ap, ap₂, true, false, ◌||◌, sym, subst, refl, ℕ, ◌<◌, ◌^◌, List, Result, Ok, Err, arith, codes}
+use Rattle.std.proofs.Common.{◌≡◌, ◌∙◌, ap₂, true, false, ◌||◌, sym, subst, refl, ℕ, ◌<◌, ◌^◌, List, Result, Ok, Err, arith, codes}
 use Rattle.std.specs.Prelude.{⊤, Option, Some, None, IfErr}
 use Rattle.std.specs.Result.{IsErr, IsErrAnd}
 use Rattle.std.specs.Str.Parse.{ParsesUnsigned}

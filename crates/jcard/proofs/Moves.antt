@@ -1,12 +1,9 @@
 -- The operations on operands: moved, computed with, and returned.
-use Rattle.std.proofs.Common.{◌≡◌, ℕ, zero, suc, ◌+◌, ◌-◌, ◌≤◌, ◌<◌, ◌==◌, List, [], ◌∷◌, length, take, drop, nat_lt, max, Option, Some, None, Result, Ok, Err, Bool, true, false, cond, refl, sym, ap, ◌∙◌, subst, arith}
-use Rattle.std.specs.Prelude.{⊤}
-use Rattle.std.proofs.lemmas.Bool.{ltb-true, ltb-false, lt-ltb, le-ltb}
+use Rattle.std.proofs.Common.{◌≡◌, ℕ, ◌+◌, ◌≤◌, ◌<◌, List, [], ◌∷◌, length, drop, nat_lt, max, Option, Some, None, Ok, Err, true, cond, refl, sym, subst, arith}
+use Rattle.std.proofs.lemmas.Bool.{ltb-false, le-ltb}
 use Rattle.jc_base.specs.declared.reason.Reason.TheVariants.{StackUnder, StackOver}
-use Rattle.jc_base.specs.Results.{◌>>=◌}
 use Rattle.jc_base.proofs.Binding.{bind_ok, guard_ok, the_ok}
 use Rattle.jc_base.specs.Stack.{duplicated, swapped}
-use Rattle.jc_code.specs.declared.instr.Operation.{Operation}
 use Rattle.jc_code.specs.declared.instr.Operation.TheVariants.{Shuffle, Binary, Unary, ReturnWord}
 use Rattle.jc_code.specs.declared.instr.Shuffle as shuffles
 use Rattle.jc_code.specs.declared.instr.Shuffle.TheVariants.{Pop, Duplicate, Swap}
@@ -17,15 +14,15 @@ use Rattle.jc_types.specs.declared.ty.Ty.{Ty}
 use Rattle.jc_types.specs.declared.ty.Ty.TheVariants as types
 use Rattle.jc_types.specs.Types.{Types, is_below}
 use Rattle.jc_types.specs.Steps.{with_operands, push_type, take_types, drop_types, duplicate_types, swap_types}
-use Rattle.jc_step.specs.Effect.{fits, fits_result, shuffle_effect, effect_of}
+use Rattle.jc_step.specs.Effect.{fits, fits_result, effect_of}
 use Rattle.jc_check.specs.Method.{Method}
 use Rattle.jc_check.specs.Typing.{Typing, Leads}
 use Rattle.jcard.specs.Shorts.{binary_of, unary_of}
-use Rattle.jcard.specs.Tagged.{TaggedValue, Word, Frame, goes, pushed, on_result, shuffled, is_result, act}
-use Rattle.jcard.specs.Words.{Words, runs, result_of, moved, do_operation, CanMove, Ready}
+use Rattle.jcard.specs.Tagged.{TaggedValue, Word, Frame, goes, pushed, on_result, is_result, act}
+use Rattle.jcard.specs.Words.{Words, runs, result_of, moved}
 use Rattle.jcard.specs.Agree.{Pointwise, Reads, HasType, Simulates}
 use Rattle.jcard.proofs.Points.{point_length, point_drop, point_duplicated, point_swapped}
-use Rattle.jcard.proofs.Taking.{under, TakesOne, takes_one, TakesTwo, takes_two}
+use Rattle.jcard.proofs.Taking.{under, takes_one, takes_two}
 use Rattle.jcard.proofs.Simulation.{goes_on, pushes, Owes, owes_at, Known}
 
 -- operands that were moved on both sides

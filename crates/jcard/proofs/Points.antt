@@ -1,6 +1,6 @@
 -- Lists that are related point by point.
-use Rattle.std.proofs.Common.{◌≡◌, ℕ, zero, suc, ◌+◌, ◌<◌, ◌≤◌, List, [], ◌∷◌, ◌++◌, length, take, drop, Option, Some, None, Bool, true, ◌&&◌, refl, sym, ap, ◌∙◌, subst, arith}
-use Rattle.std.specs.Prelude.{⊤, slice_get, slice_set, slice_index}
+use Rattle.std.proofs.Common.{◌≡◌, ℕ, zero, suc, ◌+◌, List, [], ◌∷◌, ◌++◌, length, take, drop, Some, true, refl, subst, arith}
+use Rattle.std.specs.Prelude.{slice_get, slice_set}
 use Rattle.jc_base.proofs.Binding.{none_some, the_some}
 use Rattle.jc_base.specs.Stack.{duplicated, swapped}
 use Rattle.jc_types.specs.declared.ty.Ty.{Ty}

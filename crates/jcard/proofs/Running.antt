@@ -1,6 +1,5 @@
 -- A step of the runner against the defensive machine's, and a run of steps.
-use Rattle.std.proofs.Common.{◌≡◌, ℕ, zero, suc, ◌+◌, ◌-◌, ◌≤◌, ◌<◌, List, [], ◌∷◌, length, Ok, Err, refl, sym, ap, ◌∙◌, subst, arith}
-use Rattle.std.specs.Prelude.{⊤}
+use Rattle.std.proofs.Common.{◌≡◌, ℕ, suc, ◌+◌, ◌-◌, ◌≤◌, ◌<◌, List, length, Ok, Err, refl, sym, ◌∙◌, subst, arith}
 use native.Mathlib.Numerals.{unary_clauses}
 use Rattle.jc_base.proofs.Binding.{ok_err}
 use Rattle.jc_base.proofs.Binding as binding
@@ -20,7 +19,7 @@ use Rattle.jcard.specs.Tagged.{Word, Ref, Null, Unset, Frame, Outcome, Next, Ret
 use Rattle.jcard.specs.Tagged as tagged
 use Rattle.jcard.specs.Words.{Words, End, Runs, Gives, Ready, do_operation}
 use Rattle.jcard.specs.Words as words
-use Rattle.jcard.specs.Agree.{Agree, WellTyped, IsReal, Simulates}
+use Rattle.jcard.specs.Agree.{Agree, WellTyped, Simulates}
 use Rattle.jcard.specs.Runs.{Ended, Follows, Steps, EndsAs, CanRun}
 use Rattle.jcard.proofs.Stepping.{at_step, AtStep, first_agrees, first_typed, first_words}
 

@@ -1,38 +1,27 @@
 -- Each instruction on words is the defensive machine's without its tags, and the defensive machine isn't stuck.
-use Rattle.std.proofs.Common.{◌≡◌, ℕ, zero, suc, ◌+◌, ◌-◌, ◌≤◌, ◌<◌, ◌==◌, List, [], ◌∷◌, length, take, drop, nat_lt, max, Option, Some, None, Result, Ok, Err, Bool, true, false, cond, refl, sym, ap, ◌∙◌, subst, arith}
-use Rattle.std.specs.Prelude.{⊤, ℤ, pos, negsuc, slice_get, slice_set, slice_index, int_lt, unsigned_abs, ◌-ℤ◌, unwrap_or, map}
+use Rattle.std.proofs.Common.{◌≡◌, ℕ, zero, suc, ◌<◌, List, [], ◌∷◌, length, nat_lt, Some, Ok, true, refl, sym, ap, ◌∙◌, subst, arith}
+use Rattle.std.specs.Prelude.{ℤ, pos, negsuc, slice_get, slice_set}
 use Rattle.std.specs.List.{AllByRecursion}
-use Rattle.std.proofs.lemmas.Bool.{ltb-true, lt-ltb, le-ltb}
-use Rattle.jc_base.specs.declared.reason.Reason.{Reason}
-use Rattle.jc_base.specs.Results.{◌>>=◌}
-use Rattle.jc_base.proofs.Binding.{bind_ok, guard_ok, the_ok, choice}
-use Rattle.jc_base.specs.Stack.{duplicated, swapped}
+use Rattle.std.proofs.lemmas.Bool.{ltb-true, lt-ltb}
+use Rattle.jc_base.proofs.Binding.{bind_ok, guard_ok, the_ok}
 use Rattle.jc_code.specs.declared.instr.Operation.{Operation}
-use Rattle.jc_code.specs.declared.instr.Operation.TheVariants.{Nop, Push, Load, Store, Increment, Shuffle, Binary, Unary, Branch, StableSwitch, LookupSwitch, ReturnWord}
-use Rattle.jc_code.specs.declared.instr.Shuffle as shuffles
-use Rattle.jc_code.specs.declared.instr.Shuffle.TheVariants.{Pop, Duplicate, Swap}
-use Rattle.jc_code.specs.declared.instr.BinaryOperator.{BinaryOperator}
-use Rattle.jc_code.specs.declared.instr.UnaryOperator.{UnaryOperator}
-use Rattle.jc_code.specs.declared.instr.When.{When}
-use Rattle.jc_code.specs.declared.instr.When.TheVariants.{Always, Zero, Compare}
-use Rattle.jc_code.specs.declared.instr.Condition.{Condition}
-use Rattle.jc_code.specs.declared.tables.Case.{Case}
+use Rattle.jc_code.specs.declared.instr.Operation.TheVariants.{Nop, Push, Load, Store, Increment}
 use Rattle.jc_code.specs.Listing.{Placed}
-use Rattle.jc_code.specs.Targets.{offsets_of, target_of, targets_of, falls_of}
+use Rattle.jc_code.specs.Targets.{targets_of, falls_of}
 use Rattle.jc_types.specs.declared.ty.Ty.{Ty}
 use Rattle.jc_types.specs.declared.ty.Ty.TheVariants as types
-use Rattle.jc_types.specs.Types.{Types, is_below, all_below, types_below}
+use Rattle.jc_types.specs.Types.{Types, all_below}
 use Rattle.jc_types.specs.Order.{both_true}
-use Rattle.jc_types.specs.Steps.{with_operands, local_type, set_local_type, push_type, take_types, drop_types, duplicate_types, swap_types}
-use Rattle.jc_step.specs.Effect.{fits, fits_result, shuffle_effect, branch_effect, effect_of}
+use Rattle.jc_types.specs.Steps.{local_type, set_local_type, push_type, take_types}
+use Rattle.jc_step.specs.Effect.{fits, effect_of}
 use Rattle.jc_check.specs.Method.{Method}
 use Rattle.jc_check.specs.Typing.{Typing, Leads, BranchLeads}
-use Rattle.jcard.specs.Shorts.{short, word_of, binary_of, unary_of, holds, incremented}
-use Rattle.jcard.specs.Tagged.{TaggedValue, Word, Frame, Outcome, goes, jumps, pushed, on_result, shuffled, stable_offset, lookup_offset, is_result, act}
-use Rattle.jcard.specs.Words.{Words, End, runs, place, result_of, moved, branched, do_operation, IsPc, CanMove, CanBranch, Ready}
-use Rattle.jcard.specs.Agree.{Pointwise, Reads, HasType, Agree, WellTyped, Simulates}
-use Rattle.jcard.proofs.Points.{point_length, point_drop, point_duplicated, point_swapped, point_set, widen}
-use Rattle.jcard.proofs.Taking.{push_ok, under, TakesOne, takes_one, TakesTwo, takes_two, ReadsLocal, reads_local, local_there, is_within}
+use Rattle.jcard.specs.Shorts.{word_of, incremented}
+use Rattle.jcard.specs.Tagged.{TaggedValue, Word, Frame, goes, jumps, pushed, act}
+use Rattle.jcard.specs.Words.{Words, runs, place, do_operation, IsPc, Ready}
+use Rattle.jcard.specs.Agree.{Pointwise, Reads, HasType, Simulates}
+use Rattle.jcard.proofs.Points.{point_length, point_set, widen}
+use Rattle.jcard.proofs.Taking.{push_ok, takes_one, reads_local, local_there}
 
 -- the frame goes on, and both machines still agree and are well typed
 pub goes_on : (typing : Typing) (pc : ℕ) (wl ws : List ℕ) (vl vs : List TaggedValue) (after : Types) → Pointwise Reads wl vl → Pointwise Reads ws vs → Pointwise HasType vl after.locals → Pointwise HasType vs after.operands → Leads typing after pc

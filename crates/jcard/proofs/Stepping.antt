@@ -1,22 +1,18 @@
 -- One step, and a run of steps.
-use Rattle.std.proofs.Common.{◌≡◌, ℕ, zero, suc, ◌+◌, ◌-◌, ◌≤◌, ◌<◌, List, [], ◌∷◌, length, Option, Some, None, Result, Ok, Err, Bool, true, false, refl, sym, ap, ◌∙◌, subst, arith}
-use Rattle.std.specs.Prelude.{⊤, ℤ}
-use Rattle.jc_base.proofs.Binding.{ok_err}
-use Rattle.jc_code.specs.declared.fault.CodeFault.{CodeFault}
+use Rattle.std.proofs.Common.{◌≡◌, ℕ, zero, suc, ◌<◌, List, [], ◌∷◌, length, Option, Ok, refl, sym, ap, ◌∙◌, subst, arith}
 use Rattle.jc_code.specs.declared.instr.Instr.{Instr}
 use Rattle.jc_code.specs.declared.instr.Operation.{Operation}
 use Rattle.jc_code.specs.declared.instr.Operation.TheVariants.{Nop, Push, Load, Store, Increment, Shuffle, Binary, Unary, Branch, StableSwitch, LookupSwitch, ReturnWord}
 use Rattle.jc_code.specs.Spelling.{instr_at}
-use Rattle.jc_code.specs.Listing.{Placed, placed_at}
+use Rattle.jc_code.specs.Listing.{Placed}
 use Rattle.jc_code.proofs.Listings.{there, next_within}
-use Rattle.jc_types.specs.declared.ty.Ty.{Ty}
 use Rattle.jc_types.specs.Types.{Types, all_below, tops}
 use Rattle.jc_types.specs.Order.{both_true}
 use Rattle.jc_check.specs.Method.{Method, entry_of, word_method}
 use Rattle.jc_check.specs.Typing.{Typing, IsTyping}
-use Rattle.jcard.specs.Tagged.{TaggedValue, Unset, unset, Frame, Outcome, act, act_at, defensive_step, RunEnd, run_on, runtime_call, first_frame}
-use Rattle.jcard.specs.Words.{Words, End, do_operation, Ready}
-use Rattle.jcard.specs.Agree.{Pointwise, Reads, HasType, Agree, WellTyped, IsReal, Simulates}
+use Rattle.jcard.specs.Tagged.{unset, Frame, Outcome, act, act_at, defensive_step, first_frame}
+use Rattle.jcard.specs.Words.{Words, do_operation, Ready}
+use Rattle.jcard.specs.Agree.{Pointwise, HasType, Agree, WellTyped, Simulates}
 use Rattle.jcard.proofs.Points.{widen}
 use Rattle.jcard.proofs.Simulation.{Owes, Known, nop_owes, push_owes, load_owes, store_owes, increment_owes}
 use Rattle.jcard.proofs.Moves.{shuffle_owes, binary_owes, unary_owes, return_owes}

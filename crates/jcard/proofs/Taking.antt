@@ -1,19 +1,17 @@
 -- What the effect on types says of words and values.
-use Rattle.std.proofs.Common.{◌≡◌, ℕ, zero, suc, ◌+◌, ◌<◌, ◌≤◌, List, [], ◌∷◌, length, take, drop, reverse, nat_lt, Option, Some, None, Result, Ok, Err, Bool, true, false, ◌&&◌, cond, refl, sym, ap, ◌∙◌, subst, arith}
-use Rattle.std.specs.Prelude.{⊤, slice_get, slice_index}
-use Rattle.std.proofs.lemmas.Bool.{ltb-true, ltb-false}
+use Rattle.std.proofs.Common.{◌≡◌, ℕ, zero, suc, ◌<◌, List, [], ◌∷◌, length, nat_lt, Option, Some, None, Result, Ok, Err, Bool, true, false, ◌&&◌, cond, refl, sym, ap, ◌∙◌, subst, arith}
+use Rattle.std.specs.Prelude.{slice_get, slice_index}
+use Rattle.std.proofs.lemmas.Bool.{ltb-true}
 use Rattle.std.proofs.lemmas.Option.{get_or_from_slice_get}
-use Rattle.jc_base.specs.declared.reason.Reason.{Reason}
-use Rattle.jc_base.specs.declared.reason.Reason.TheVariants.{BadLocal, StackUnder, StackOver, WrongType}
-use Rattle.jc_base.specs.Results.{◌>>=◌}
-use Rattle.jc_base.proofs.Binding.{bind_ok, guard_ok, the_ok, choice}
+use Rattle.jc_base.specs.declared.reason.Reason.TheVariants.{StackUnder, StackOver, WrongType}
+use Rattle.jc_base.proofs.Binding.{guard_ok, the_ok}
 use Rattle.jc_types.specs.declared.ty.Ty.{Ty}
 use Rattle.jc_types.specs.declared.ty.Ty.TheVariants as types
-use Rattle.jc_types.specs.Types.{Types, is_below, all_below}
+use Rattle.jc_types.specs.Types.{Types, is_below}
 use Rattle.jc_types.specs.Order.{both_true}
 use Rattle.jc_types.specs.Steps.{with_operands, found, local_type, push_type, take_types}
 use Rattle.jc_step.specs.Effect.{fits}
-use Rattle.jcard.specs.Tagged.{TaggedValue, Word, Ref, Null, Unset}
+use Rattle.jcard.specs.Tagged.{TaggedValue, Word}
 use Rattle.jcard.specs.Agree.{Pointwise, Reads, HasType}
 use Rattle.jcard.proofs.Points.{as_word, point_get}
 

@@ -1,11 +1,9 @@
 -- When a frame of words is a tagged frame without its tags, and when a tagged frame is well typed.
-use Rattle.std.specs.Prelude.{⊤, ◌≡◌, ℕ, List, [], ◌∷◌, Option, Some}
-use Rattle.jc_code.specs.Listing.{Placed}
+use Rattle.std.specs.Prelude.{⊤, ◌≡◌, ℕ, List, [], ◌∷◌, Some}
 use Rattle.jc_types.specs.declared.ty.Ty.{Ty}
 use Rattle.jc_types.specs.declared.ty.Ty.TheVariants as types
 use Rattle.jc_types.specs.Types.{Types}
-use Rattle.jc_check.specs.Method.{Method}
-use Rattle.jc_check.specs.Typing.{Typing, IsTyping}
+use Rattle.jc_check.specs.Typing.{Typing}
 use Rattle.jcard.specs.Tagged.{TaggedValue, Word, Ref, Null, Unset, Frame, Outcome, Next, Returns}
 use Rattle.jcard.specs.Tagged as tagged
 use Rattle.jcard.specs.Words.{Words, End, Runs, Gives}

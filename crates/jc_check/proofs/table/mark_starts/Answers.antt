@@ -1,6 +1,6 @@
 use Rattle.std.proofs.Common.{arith, sym, ◌∙◌}
 use Rattle.jc_code.proofs.Listings.{next_within}
-use Rattle.jc_check.proofs.Marking.{none_yet, goes_on, is_done}
+use Rattle.jc_check.proofs.Marking.{none_yet, goes_on}
 use Rattle.jc_check.proofs.table.mark_starts.Goals as goal
 
 pub loop-pc-init : goal.loop-pc-init

@@ -1,4 +1,4 @@
-use Rattle.std.proofs.Common.{◌≡◌, List, map, length}
+use Rattle.std.proofs.Common.{List, map}
 use Rattle.jc_code.specs.Listing.{Placed, IsListing}
 use Rattle.jc_cert.specs.Views.{stated}
 use Rattle.jc_check.specs.Places.{IsMarked}

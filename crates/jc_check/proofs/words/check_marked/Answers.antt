@@ -1,7 +1,7 @@
 use Rattle.std.proofs.Common.{map}
 use Rattle.std.proofs.lemmas.Result.{err_from_is_err_and}
 use Rattle.jc_cert.specs.Views.{stated}
-use Rattle.jc_check.proofs.Verdicts.{safe, accepted, refused, refused_states}
+use Rattle.jc_check.proofs.Verdicts.{accepted, refused, refused_states}
 use Rattle.jc_check.proofs.words.check_marked.Goals as goal
 
 pub returns-in_err-mark_states-clause-refused : goal.returns-in_err-mark_states-clause-refused

@@ -1,4 +1,4 @@
-use Rattle.std.proofs.Common.{◌≡◌, drop, length}
+use Rattle.std.proofs.Common.{◌≡◌, drop}
 use Rattle.jc_types.specs.Types.{all_below}
 use Rattle.jc_types.proofs.steps.are_below.Given as goal
 

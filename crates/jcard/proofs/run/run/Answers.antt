@@ -1,4 +1,4 @@
-use Rattle.std.proofs.Common.{arith, sym, subst, ◌∙◌}
+use Rattle.std.proofs.Common.{arith, subst}
 use Rattle.jcard.specs.declared.run.Step.{Step}
 use Rattle.jcard.specs.Runs.{Steps}
 use Rattle.jcard.proofs.Running.{starts, can_run, onward, throws, gives, uses_up}

@@ -1,5 +1,4 @@
-use Rattle.std.proofs.Common.{arith, sym, ap, ◌≡◌, ◌∙◌, Ok, Err}
-use Rattle.jc_code.specs.Spelling.{instr_at}
+use Rattle.std.proofs.Common.{arith, sym, ◌∙◌}
 use Rattle.jcard.proofs.Running.{can_step, never_err, steps_on}
 use Rattle.jcard.proofs.run.take_step.Goals as goal
 

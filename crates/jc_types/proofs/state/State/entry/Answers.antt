@@ -1,4 +1,4 @@
-use Rattle.std.proofs.Common.{arith, rules}
+use Rattle.std.proofs.Common.{arith}
 use Rattle.std.proofs.lemmas.Grind.{common_steps}
 use Rattle.jc_types.proofs.Tops.{length-tops}
 use Rattle.jc_types.proofs.state.State.entry.Goals as goal

@@ -26,6 +26,10 @@ pub enum TextFault {
 }
 
 impl fmt::Display for TextFault {
+    ghost use Rattle.jcard.specs.Lines.{fault_line_of};
+
+    ghost output = { fault_line_of };
+
     fn fmt<W: fmt::Write>(&self, f: &mut fmt::Formatter<W>) -> fmt::Result {
         match self {
             TextFault::BadCode(error) => write!(f, "CODE isn't hexadecimal: {error}"),

@@ -1,14 +1,17 @@
 -- What clap reads of a command line, as the job that it says.
-use Rattle.std.proofs.Common.{◌≡◌, ◌∙◌, ap₂, true, false, ◌||◌, sym, subst, refl, ℕ, ◌<◌, ◌^◌, List, Result, Ok, Err, arith, codes}
+use Rattle.std.proofs.Common.{◌≡◌, ◌∙◌, ap₂, false, ◌||◌, sym, subst, refl, ℕ, ◌<◌, ◌^◌, List, Result, Ok, Err, arith, codes, inl, inr}
 use Rattle.std.specs.Prelude.{⊤, Option, Some, None, IfErr}
 use Rattle.std.specs.Result.{IsErr, IsErrAnd}
 use Rattle.std.specs.Str.Parse.{ParsesUnsigned}
 use Rattle.std.proofs.lemmas.Option.{none-some}
-use Rattle.clap.specs.Words.{AddsArg, App, ReadsOne, Row, Rule, Text, app_of, first_of, rule_of, takes, with_rule}
+use Rattle.clap.specs.Words.{AddsArg, App, ReadsOne, Row, Rule, Text, app_of, fault_of, first_of, kind_of, rule_of, subcommand_of, with_rule}
+use Rattle.clap.specs.Kinds.{HasKind, IsAmong}
+use Rattle.clap.specs.declared.error.Error.{Error}
+use Rattle.clap.specs.declared.error.kind.ErrorKind.TheVariants.{OutOfMemory}
 use Rattle.clap.specs.declared.builder.arg.Arg.{Arg}
 use Rattle.clap.specs.declared.builder.command.Command.{Command}
 use Rattle.clap.specs.declared.builder.command.Command.TheViews.{out-Command}
-use Rattle.jcard.specs.Jobs.{AreSteps, IsJobFor, IsJobOf, IsSteps, Refuses, card_app}
+use Rattle.jcard.specs.Jobs.{AreSteps, IsJobAmong, IsJobOf, IsSteps, Refuses, card_app}
 use Rattle.jcard.specs.declared.job.Job.{Job}
 use Rattle.jcard.specs.declared.job.Job.TheVariants.{Eval}
 use Rattle.jcard.specs.declared.line.LineFault.{LineFault}
@@ -55,15 +58,16 @@ abbrev IsLine : LineFault → Type 0
 IsLine (Line error) = ⊤
 IsLine Memory = ⊥
 
--- words that would be taken, were memory there, are refused for want of it
-pub refused_for_memory : {Wants : Type 0} (fault : LineFault) (words : List Text) → (takes card_app words ≡ true → Wants) → (Wants → fault ≡ Memory) → Refuses fault words
-refused_for_memory Memory words wants memory = tt
-refused_for_memory (Line error) words wants memory = record { none = λ taken job said. subst IsLine (memory (wants taken)) tt }
+-- a line that clap refuses says no job, or memory was wanting
+pub refused_for_fault : (error : Error) (fault : LineFault) (words : List Text) → HasKind (fault_of card_app words) error → (kind_of error ≡ OutOfMemory → fault ≡ Memory) → Refuses fault words
+refused_for_fault error Memory words kind memory = tt
+refused_for_fault error (Line e) words (inl out) memory = λ job said. subst IsLine (memory out) tt
+refused_for_fault error (Line e) words (inr among) memory = λ job said. subst (λ kinds. IsAmong (kind_of error) kinds) said.faultless among
 
 -- words in which no job was found
-pub refused_for_no_job : (fault : LineFault) (words : List Text) → ((job : Job) → IsJobFor words job → ⊥) → Refuses fault words
+pub refused_for_no_job : (fault : LineFault) (words : List Text) → ((job : Job) → IsJobAmong (subcommand_of card_app words) job → ⊥) → Refuses fault words
 refused_for_no_job Memory words none = tt
-refused_for_no_job (Line error) words none = record { none = λ taken job said. none job said }
+refused_for_no_job (Line error) words none = λ job said. none job said.met
 
 -- the fault of what is one
 pub refused_by : {T : Type 0} (result : Result T LineFault) (gives : LineFault → Type 0) (words : List Text) → IsErr result × IsErrAnd result gives

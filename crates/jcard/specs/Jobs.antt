@@ -1,7 +1,7 @@
 -- What a command line asks for, over what clap makes of its words.
 use Rattle.std.specs.Prelude.{⊤, ◌≡◌, ◌<◌, ◌^◌, ℕ, List, [], ◌∷◌, Some, None, pos, true, false, Option, codes}
 use Rattle.std.specs.Str.Parse.{IsNumeral, digits_value, without_leading_plus}
-use Rattle.clap.specs.Words.{App, Row, Rule, Text, app_of, first_of, new_app, new_rule, one_of, subcommand_of, takes, with_rule, with_subcommand}
+use Rattle.clap.specs.Words.{App, Row, Rule, Text, app_of, fault_of, first_of, new_app, new_rule, one_of, subcommand_of, with_rule, with_subcommand}
 use Rattle.clap.specs.declared.builder.command.Command.{Command}
 use Rattle.clap.specs.declared.builder.command.Command.TheViews.{out-Command}
 use Rattle.clap.specs.declared.builder.value_parser.ValueParser.TheVariants.{Signed}
@@ -66,17 +66,14 @@ pub record IsJobAmong (met : Option (Text × List Row)) (job : Job) : Type 0 whe
   pub entries : met ≡ Some (codes "eval", rows)
   pub said : IsJobOf rows job
 
--- the job that the words of a command line say
-abbrev pub IsJobFor : List Text → Job → Type 0
-IsJobFor words job = IsJobAmong (subcommand_of card_app words) job
-
--- words that say no job: clap's definition of a parse doesn't take them, or they say none
-pub record SaysNoJob (words : List Text) : Type 0 where
-  pub none : takes card_app words ≡ true → (job : Job) → IsJobFor words job → ⊥
+-- the job that the words of a command line say, if clap's definition of a parse finds no fault with them
+pub record IsJobFor (words : List Text) (job : Job) : Type 0 where
+  pub faultless : fault_of card_app words ≡ []
+  pub met : IsJobAmong (subcommand_of card_app words) job
 
 -- why there is no job: the words say none, or no memory was left
 abbrev pub Refuses : LineFault → List Text → Type 0
-Refuses (Line error) words = SaysNoJob words
+Refuses (Line error) words = (job : Job) → IsJobFor words job → ⊥
 Refuses Memory words = ⊤
 
 -- what was found: one of which it holds, or nothing where it holds of none

@@ -142,3 +142,42 @@ fn components_in_any_order(rt: HostRuntime) {
         Some(LoadFault::MissingComponent(11))
     );
 }
+
+/// Each refusal, in order, and its text.
+const TEXTS: [(LoadFault, &str); 19] = [
+    (LoadFault::ShortComponent, "1 ShortComponent"),
+    (LoadFault::ExtraBytes, "2 ExtraBytes"),
+    (LoadFault::MissingComponent(11), "3 MissingComponent 11"),
+    (LoadFault::RepeatedComponent(4), "4 RepeatedComponent 4"),
+    (LoadFault::BadMagic, "5 BadMagic"),
+    (LoadFault::FormatVersion, "6 FormatVersion"),
+    (LoadFault::IntPackage, "7 IntPackage"),
+    (LoadFault::BadAid, "8 BadAid"),
+    (LoadFault::Malformed(1), "9 Malformed 1"),
+    (LoadFault::MissingImport(0), "10 MissingImport 0"),
+    (LoadFault::Unresolved(65535), "11 Unresolved 65535"),
+    (LoadFault::TypeMismatch(7), "12 TypeMismatch 7"),
+    (LoadFault::BadClass(256), "13 BadClass 256"),
+    (LoadFault::BadStatic(2), "14 BadStatic 2"),
+    (LoadFault::DuplicatePackage, "15 DuplicatePackage"),
+    (LoadFault::BadCertificate, "16 BadCertificate"),
+    (
+        LoadFault::MethodRefused {
+            method: 20,
+            pc: 3,
+            reason: Reason::WrongType,
+        },
+        "17 MethodRefused 20 3 WrongType",
+    ),
+    (LoadFault::Full, "18 Full"),
+    (LoadFault::Memory, "19 Memory"),
+];
+
+#[test]
+fn texts_of_refusals(rt: HostRuntime) -> Result<(), Fail> {
+    for (fault, text) in TEXTS {
+        let got = fault.to_string(rt.alloc())?;
+        assert_eq!(rt; got.as_str(), text);
+    }
+    Ok(())
+}

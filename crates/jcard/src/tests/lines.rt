@@ -5,13 +5,15 @@ use crate::answer::EvalAnswer;
 use crate::job::Job;
 use crate::line::{LineFault, job};
 use crate::program::{TextFault, answer_of};
+use crate::work;
 use hex::FromHexError;
 use jc_base::Reason;
 use std::alloc::Global;
+use std::process::ExitCode;
 use std::test::Fail;
 
 // A line, and the job that it names.
-const JOBS: [(&str, &str, &str, u32); 9] = [
+const JOBS: [(&str, &str, &str, u32); 10] = [
     ("jcard eval 0378", "0378", "0000", 100000),
     ("jcard eval 0378 0001", "0378", "0001", 100000),
     ("jcard eval 0378 --steps 1", "0378", "0000", 1),
@@ -23,6 +25,7 @@ const JOBS: [(&str, &str, &str, u32); 9] = [
         4294967295,
     ),
     ("jcard eval 0378 0001 --steps 0005", "0378", "0001", 5),
+    ("jcard eval 0378 --steps +5", "0378", "0000", 5),
     // Hexadecimal is not looked at yet.
     ("jcard eval zz ..", "zz", "..", 100000),
     ("jcard eval -- -1", "-1", "0000", 100000),
@@ -196,6 +199,30 @@ fn want_of_memory_is_told(rt: HostRuntime) -> Result<(), Fail> {
         },
         Err(LineFault::Memory) => (),
         Err(LineFault::Line(error)) => assert!(rt; false, "{error}"),
+    }
+    Ok(())
+}
+
+// Lines, and the status that the program ends with.
+const STATUSES: [(&str, u8); 8] = [
+    ("jcard eval 0378", 0),
+    ("jcard eval 4178", 0),
+    ("jcard eval 0378 00", 0),
+    ("jcard --help", 0),
+    ("jcard eval zz", 1),
+    ("jcard eval 0378 0", 1),
+    ("jcard", 2),
+    ("jcard eval 0378 --steps 0", 2),
+];
+
+#[test]
+fn statuses_of_lines(rt: HostRuntime) -> Result<(), Fail> {
+    for (line, status) in STATUSES {
+        let mut words = Vec::new(rt.alloc());
+        for word in line.split(' ') {
+            words.push(word.to_string(rt.alloc())?)?;
+        }
+        assert_eq!(rt; work(&rt, &words)?, ExitCode::from(status), "{line}");
     }
     Ok(())
 }

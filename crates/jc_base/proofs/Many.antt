@@ -2,7 +2,7 @@
 use Rattle.std.proofs.Common.{◌≡◌, ℕ, zero, suc, ◌<◌, ◌≤◌, List, [], ◌∷◌, ◌++◌, length, take, drop, Option, Some, None, IsSome, IsTrue, is_some, nat_eq, refl, sym, ap, ◌∙◌, Bool, true, false, cond, ltb, arith}
 use Rattle.std.proofs.lemmas.Bool.{ltb-false, ltb-true, ne_eqb}
 use Rattle.std.specs.Option.{option_map, option_map_or}
-use Rattle.jc_base.specs.Reading.{Read, ◌>>=◌, bytes_at, Gives}
+use Rattle.jc_base.specs.Cursor.{Read, ◌>>=◌, next_bytes, GivesSome}
 use Rattle.jc_base.specs.Many.{many_at, values_of, whole}
 use Rattle.jc_base.proofs.Binding.{the_some, none_some}
 
@@ -16,7 +16,7 @@ abbrev pub reading : {A : Type 0} → A → List ℕ → Read A
 reading v bytes = record { value = v; rest = bytes }
 
 -- so many bytes were there
-pub taken : (k : ℕ) (bytes : List ℕ) (r : Read (List ℕ)) → bytes_at k bytes ≡ Some r → (k ≤ length bytes) × (r.rest ≡ drop k bytes)
+pub taken : (k : ℕ) (bytes : List ℕ) (r : Read (List ℕ)) → next_bytes k bytes ≡ Some r → (k ≤ length bytes) × (r.rest ≡ drop k bytes)
 taken k bytes r e = part (ltb (length bytes) k) refl e
   where
     part : (b : Bool) → ltb (length bytes) k ≡ b → cond b None (Some (reading (take k bytes) (drop k bytes))) ≡ Some r → (k ≤ length bytes) × (r.rest ≡ drop k bytes)
@@ -24,7 +24,7 @@ taken k bytes r e = part (ltb (length bytes) k) refl e
     part false is h = (ltb-false _ _ is, ap (λ (x : Read (List ℕ)). x.rest) (sym (the_some _ r h)))
 
 -- they were not
-pub not_taken : (k : ℕ) (bytes : List ℕ) → bytes_at k bytes ≡ None → length bytes < k
+pub not_taken : (k : ℕ) (bytes : List ℕ) → next_bytes k bytes ≡ None → length bytes < k
 not_taken k bytes e = part (ltb (length bytes) k) refl e
   where
     part : (b : Bool) → ltb (length bytes) k ≡ b → cond b None (Some (reading (take k bytes) (drop k bytes))) ≡ None → length bytes < k
@@ -36,7 +36,7 @@ abbrev pub read_value : {A : Type 0} → Read A → A
 read_value r = r.value
 
 -- what a reader gave is what reading gives
-pub gives_is : {A : Type 0} (result : Option A) (new : List ℕ) (read : Option (Read A)) → Gives (λ x. x) result new read → result ≡ option_map read_value read
+pub gives_is : {A : Type 0} (result : Option A) (new : List ℕ) (read : Option (Read A)) → GivesSome (λ x. x) result new read → result ≡ option_map read_value read
 gives_is None new read g = ap (option_map read_value) (sym g)
 gives_is (Some x) new read g = ap (option_map read_value) (sym g)
 
@@ -97,14 +97,14 @@ module _ {A : Type 0} (one : List ℕ → Option (Read A)) where
       rw (values-are n bytes t.0 t.1) (length-many n bytes t.0 t.1)
 
   -- reading one of them leaves the others
-  pub many-next : (n m : ℕ) (bytes new : List ℕ) (result : Option A) → m ≡ suc n → IsSome (many_at one m bytes) → Gives (λ x. x) result new (one bytes)
+  pub many-next : (n m : ℕ) (bytes new : List ℕ) (result : Option A) → m ≡ suc n → IsSome (many_at one m bytes) → GivesSome (λ x. x) result new (one bytes)
       → (x : A) × (result ≡ Some x) × IsSome (many_at one n new) × (values_of one m bytes ≡ x ∷ values_of one n new)
   many-next n m bytes new result is h g =
       let t = some_is (many_at one m bytes) h in
       let f = many-head n bytes t.0 (ap (λ (k : ℕ). many_at one k bytes) (sym is) ∙ t.1) in
       part result f.0 f.1 g f.2 f.3 (values-are m bytes t.0 t.1 ∙ ap (λ (r : Read (List A)). r.value) (sym f.4))
     where
-      part : (result : Option A) (x : Read A) (others : Read (List A)) → Gives (λ x. x) result new (one bytes) → one bytes ≡ Some x → many_at one n x.rest ≡ Some others
+      part : (result : Option A) (x : Read A) (others : Read (List A)) → GivesSome (λ x. x) result new (one bytes) → one bytes ≡ Some x → many_at one n x.rest ≡ Some others
           → values_of one m bytes ≡ x.value ∷ others.value → (v : A) × (result ≡ Some v) × IsSome (many_at one n new) × (values_of one m bytes ≡ v ∷ values_of one n new)
       part None x others g e f v = absurd (none_some x (sym g ∙ e))
       part (Some v) x others g e f w =

@@ -3,7 +3,7 @@ use Rattle.std.proofs.Common.{◌≡◌, ℕ, zero, suc, ◌<◌, ◌≤◌, ◌
 use Rattle.std.specs.List.{slice_get}
 use Rattle.std.proofs.lemmas.Option.{slice_get_past}
 use Rattle.std.specs.Result.{result_ok}
-use Rattle.jc_base.specs.Reading.{Read, Reads}
+use Rattle.jc_base.specs.Cursor.{Read, Gives}
 use Rattle.jc_base.specs.Results.{◌>>=◌}
 use Rattle.jc_base.specs.Repeats.{repeat, rows_of, rest_of}
 use Rattle.jc_base.proofs.Binding.{bind_ok, the_ok, ok_err}
@@ -107,7 +107,7 @@ module _ {A E : Type 0} (row_at : List ℕ → Result (Read A) E) where
 
   -- a look-up: the rows before the one that is asked for are passed over, and it is read
   pub look_up : (n k : ℕ) (rows start rest place new : List ℕ) (r : Result A E) → start ≡ rows → rest_of (repeat row_at n rows) ≡ Ok rest → k < n
-      → Ok place ≡ rest_of (repeat row_at k start) → Reads (λ x. x) r new (row_at place) → result_ok r ≡ slice_get (rows_of (repeat row_at n rows)) k
+      → Ok place ≡ rest_of (repeat row_at k start) → Gives (λ x. x) r new (row_at place) → result_ok r ≡ slice_get (rows_of (repeat row_at n rows)) k
   look_up n k rows start rest place new r begins e lt passed reads =
       let a = all_of (repeat row_at n rows) rest e in
       let q = is_at n k rows a.0 a.1 lt in
@@ -116,7 +116,7 @@ module _ {A E : Type 0} (row_at : List ℕ → Result (Read A) E) where
       let here : row_at place ≡ Ok q.row = ap row_at (sym same) ∙ q.here in
       read r here reads ∙ sym q.found ∙ ap (λ (w : List A). slice_get w k) a.2
     where
-      read : {row : Read A} (r : Result A E) → row_at place ≡ Ok row → Reads (λ x. x) r new (row_at place) → result_ok r ≡ Some row.value
+      read : {row : Read A} (r : Result A E) → row_at place ≡ Ok row → Gives (λ x. x) r new (row_at place) → result_ok r ≡ Some row.value
       read (Ok x) here reads = ap (λ (w : Read A). Some w.value) (the_ok _ _ (sym reads ∙ here))
       read (Err fault) here reads = absurd (ok_err _ _ (sym here ∙ reads))
 

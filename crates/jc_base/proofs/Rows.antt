@@ -5,7 +5,7 @@ use Rattle.std.proofs.lemmas.List.{length-drop}
 use Rattle.std.proofs.lemmas.Option.{slice_get_past}
 use Rattle.std.specs.Option.{option_map}
 use Rattle.std.proofs.Math.Seq.{drop-nil}
-use Rattle.jc_base.specs.Reading.{Read}
+use Rattle.jc_base.specs.Cursor.{Read}
 use Rattle.jc_base.specs.Many.{many_at, values_of}
 use Rattle.jc_base.proofs.Binding.{the_some}
 use Rattle.jc_base.proofs.Many.{reading, read_value, some_is, holds_some, many-head, many-none, many-cons, length-values, values-are}

@@ -5,7 +5,7 @@ use Rattle.std.specs.List.{flat_map, find, AllByRecursion, range_with_len}
 use Rattle.jc_base.specs.Results.{◌>>=◌}
 use Rattle.jc_base.specs.declared.fault.LoadFault.{LoadFault}
 use Rattle.jc_base.specs.declared.fault.LoadFault.TheVariants.{ShortComponent, ExtraBytes, MissingComponent, RepeatedComponent}
-use Rattle.jc_base.specs.Tags.{header_tag, applet_tag, import_tag, constant_pool_tag, class_tag, method_tag, static_field_tag, export_tag, descriptor_tag}
+use Rattle.jc_base.specs.Tag.{header_tag, applet_tag, import_tag, constant_pool_tag, class_tag, method_tag, static_field_tag, export_tag, descriptor_tag}
 
 -- the infos of an image: those that it must have, and those that it may have
 pub record Infos : Type 0 where

@@ -1,7 +1,7 @@
 -- Counted lists: so many of one kind, one behind the other.
 use Rattle.std.specs.Prelude.{ℕ, zero, suc, List, [], ◌∷◌, length, Option, Some, None, nat_eq, if◌then◌else◌}
 use Rattle.std.specs.Option.{option_map_or}
-use Rattle.jc_base.specs.Reading.{Read, ◌>>=◌}
+use Rattle.jc_base.specs.Cursor.{Read, ◌>>=◌}
 
 -- n of what one reads
 unfoldable pub many_at : {A : Type 0} → (List ℕ → Option (Read A)) → ℕ → List ℕ → Option (Read (List A))

@@ -1,6 +1,6 @@
 -- Rows one behind the other.
 use Rattle.std.specs.Prelude.{ℕ, zero, suc, List, [], ◌∷◌, Result, Ok, Err}
-use Rattle.jc_base.specs.Reading.{Read}
+use Rattle.jc_base.specs.Cursor.{Read}
 use Rattle.jc_base.specs.Results.{◌>>=◌}
 
 -- so many rows, each read behind the one before it

@@ -3,9 +3,9 @@
 ghost use Rattle.std.specs.Prelude.{◌≡◌, ◌≤◌, length, bytes_eq};
 ghost use Rattle.std.specs.Cmp.{partial_equiv_from_equiv};
 ghost use Rattle.std.specs.Cmp.Lexicographic.{nat_list_eq_equiv};
-ghost use Rattle.jc_base.specs.Aids.{aid_of, has_aid_length};
-ghost use Rattle.jc_base.specs.Reading.{Reads};
-ghost use Rattle.jc_base.specs.Packages.{aid_at};
+ghost use Rattle.jc_base.specs.Aid.{aid_of, has_aid_length};
+ghost use Rattle.jc_base.specs.Cursor.{Gives};
+ghost use Rattle.jc_base.specs.PackageInfo.{next_aid};
 
 use crate::cursor::Cursor;
 use crate::fault::LoadFault;
@@ -23,7 +23,7 @@ impl Model for Aid {
 
     ghost Value = { List ℕ };
 
-    ghost use Rattle.jc_base.specs.Aids.{held, IsHeld, padded, same_held};
+    ghost use Rattle.jc_base.specs.Aid.{held, IsHeld, padded, same_held};
 
     ghost view = { held };
 
@@ -57,9 +57,9 @@ impl Aid {
 
     /// The next AID in the component with a tag: its length, and its bytes. A length that isn't 5 to 16 is
     /// `BadAid`, also where fewer bytes follow.
-    #[tactic(auto, unfolding(crate::specs::Packages::aid_at))]
+    #[tactic(auto, unfolding(crate::specs::PackageInfo::next_aid))]
     pub fn read(cursor: &mut Cursor, tag: u8) -> Result<Aid, LoadFault>
-        ensures { Reads (λ aid. aid) result cursor.new (aid_at tag cursor.old) }
+        ensures { Gives (λ aid. aid) result cursor.new (next_aid tag cursor.old) }
     {
         let len = usize::from(cursor.u1().ok_or(LoadFault::Malformed(tag))?);
         if !is_aid_len(len) {

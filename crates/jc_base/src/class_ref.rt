@@ -1,7 +1,7 @@
 //! References to classes.
 
 ghost use Rattle.std.specs.Prelude.{◌≡◌};
-ghost use Rattle.jc_base.specs.ClassRefs.{class_ref_of};
+ghost use Rattle.jc_base.specs.ClassRef.{class_ref_of};
 
 /// Numbers from here on name classes of other packages.
 const EXTERNAL: u16 = 0x8000;

@@ -1,7 +1,7 @@
 //! A place in a list of bytes.
 
 ghost use Rattle.std.specs.Prelude.{◌≡◌, ◌↔◌, ℕ, List, [], length, drop, IsTrue};
-ghost use Rattle.jc_base.specs.Reading.{u1_at, u2_at, u4_at, s1_at, s2_at, bytes_at, Steps};
+ghost use Rattle.jc_base.specs.Cursor.{next_u1, next_u2, next_u4, next_s1, next_s2, next_bytes, Takes};
 
 use byteorder::{BigEndian, ByteOrder};
 use std::marker::Model;
@@ -69,7 +69,7 @@ impl<'a> Cursor<'a> {
     /// The next byte.
     #[inline(always)]
     pub fn u1(&mut self) -> Option<u8>
-        ensures { Steps (λ x. x) result self.old self.new (u1_at self.old) }
+        ensures { Takes (λ x. x) result self.old self.new (next_u1 self.old) }
     {
         let (first, rest) = self.rest.split_first()?;
         self.rest = rest;
@@ -79,7 +79,7 @@ impl<'a> Cursor<'a> {
     /// The next two bytes, the high one first.
     #[inline(always)]
     pub fn u2(&mut self) -> Option<u16>
-        ensures { Steps (λ x. x) result self.old self.new (u2_at self.old) }
+        ensures { Takes (λ x. x) result self.old self.new (next_u2 self.old) }
     {
         if self.rest.len() < 2 {
             return None;
@@ -92,7 +92,7 @@ impl<'a> Cursor<'a> {
     /// The next four bytes, the highest one first.
     #[inline(always)]
     pub fn u4(&mut self) -> Option<u32>
-        ensures { Steps (λ x. x) result self.old self.new (u4_at self.old) }
+        ensures { Takes (λ x. x) result self.old self.new (next_u4 self.old) }
     {
         if self.rest.len() < 4 {
             return None;
@@ -105,7 +105,7 @@ impl<'a> Cursor<'a> {
     /// The next byte, with its sign.
     #[inline(always)]
     pub fn s1(&mut self) -> Option<i8>
-        ensures { Steps (λ x. x) result self.old self.new (s1_at self.old) }
+        ensures { Takes (λ x. x) result self.old self.new (next_s1 self.old) }
     {
         let (first, rest) = self.rest.split_first()?;
         self.rest = rest;
@@ -115,7 +115,7 @@ impl<'a> Cursor<'a> {
     /// The next two bytes, the high one first, with the sign of the whole.
     #[inline(always)]
     pub fn s2(&mut self) -> Option<i16>
-        ensures { Steps (λ x. x) result self.old self.new (s2_at self.old) }
+        ensures { Takes (λ x. x) result self.old self.new (next_s2 self.old) }
     {
         if self.rest.len() < 2 {
             return None;
@@ -128,7 +128,7 @@ impl<'a> Cursor<'a> {
     /// The next `count` bytes.
     #[inline(always)]
     pub fn take(&mut self, count: usize) -> Option<&'a [u8]>
-        ensures { Steps (λ bytes. bytes.now) result self.old self.new (bytes_at count self.old) }
+        ensures { Takes (λ bytes. bytes.now) result self.old self.new (next_bytes count self.old) }
     {
         if self.rest.len() < count {
             return None;

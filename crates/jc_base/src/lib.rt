@@ -6,7 +6,7 @@ mod class_ref;
 mod cursor;
 mod cutting;
 mod fault;
-mod package;
+mod package_info;
 mod parts;
 mod reason;
 pub mod stack;
@@ -17,7 +17,7 @@ pub use class_ref::{ClassRef, class_ref_of};
 pub use cursor::Cursor;
 pub use cutting::cut;
 pub use fault::LoadFault;
-pub use package::Package;
+pub use package_info::PackageInfo;
 pub use parts::Parts;
 pub use reason::Reason;
 

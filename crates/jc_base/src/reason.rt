@@ -1,7 +1,7 @@
 //! Why a method is refused.
 
 ghost use Rattle.std.specs.Prelude.{◌≡◌, Some};
-ghost use Rattle.jc_base.specs.Names.{name_of};
+ghost use Rattle.jc_base.specs.Reason.{name_of};
 
 use std::fmt;
 

@@ -1,11 +1,11 @@
 -- The initialised arrays of the StaticField component (Java Card Virtual Machine Specification, CAP file format:
 -- StaticField component, array_init_info).
 use Rattle.std.specs.Prelude.{ℕ, ◌%◌, ◌==◌, ◌&&◌, nat_le, List, length, Option, Some, None, Result, Ok, if◌then◌else◌}
-use Rattle.jc_base.specs.Reading.{Read, u1_at, u2_at, bytes_at}
+use Rattle.jc_base.specs.Cursor.{Read, next_u1, next_u2, next_bytes}
 use Rattle.jc_base.specs.Results.{◌>>=◌}
-use Rattle.jc_base.specs.Packages.{field}
+use Rattle.jc_base.specs.PackageInfo.{field}
 use Rattle.jc_base.specs.declared.fault.LoadFault.{LoadFault}
-use Rattle.jc_base.specs.Tags.{static_field_tag}
+use Rattle.jc_base.specs.Tag.{static_field_tag}
 use Rattle.jc_cap_data.specs.Numbers.{s1s, s2s}
 use Rattle.jc_cap_data.specs.declared.arrays.StaticArray.{StaticArray}
 use Rattle.jc_cap_data.specs.declared.arrays.StaticArray.TheVariants.{Boolean, Byte, Short}
@@ -34,8 +34,8 @@ array_of kind bytes =
 -- a type, a number of bytes, and the bytes
 unfoldable pub array_at : List ℕ → Result (Read StaticArray) LoadFault
 array_at bytes = do
-  kind ← field static_field_tag (u1_at bytes)
-  size ← field static_field_tag (u2_at kind.rest)
-  values ← field static_field_tag (bytes_at size.value size.rest)
+  kind ← field static_field_tag (next_u1 bytes)
+  size ← field static_field_tag (next_u2 kind.rest)
+  values ← field static_field_tag (next_bytes size.value size.rest)
   array ← field static_field_tag (array_of kind.value values.value)
   Ok (record { value = array; rest = values.rest })

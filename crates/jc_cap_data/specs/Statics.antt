@@ -1,12 +1,12 @@
 -- The StaticField component (Java Card Virtual Machine Specification, CAP file format: StaticField component).
 use Rattle.std.specs.Prelude.{ℕ, ◌+◌, ◌*◌, ◌==◌, ◌&&◌, nat_le, Bool, List, length, Result, Ok, Err, if◌then◌else◌}
-use Rattle.jc_base.specs.Reading.{Read, u2_at, bytes_at}
+use Rattle.jc_base.specs.Cursor.{Read, next_u2, next_bytes}
 use Rattle.jc_base.specs.Results.{◌>>=◌}
-use Rattle.jc_base.specs.Packages.{field, only}
+use Rattle.jc_base.specs.PackageInfo.{field, only}
 use Rattle.jc_base.specs.Repeats.{repeat}
 use Rattle.jc_base.specs.declared.fault.LoadFault.{LoadFault}
 use Rattle.jc_base.specs.declared.fault.LoadFault.TheVariants.{Malformed}
-use Rattle.jc_base.specs.Tags.{static_field_tag}
+use Rattle.jc_base.specs.Tag.{static_field_tag}
 use Rattle.jc_cap_data.specs.Arrays.{array_at}
 use Rattle.jc_cap_data.specs.declared.arrays.StaticArray.{StaticArray}
 
@@ -26,13 +26,13 @@ fits image = image.size == 2 * image.references + image.defaults + length image.
 -- the fields of the component in their order
 unfoldable pub fields_at : List ℕ → Result (Read StaticImage) LoadFault
 fields_at info = do
-  size ← field static_field_tag (u2_at info)
-  references ← field static_field_tag (u2_at size.rest)
-  count ← field static_field_tag (u2_at references.rest)
+  size ← field static_field_tag (next_u2 info)
+  references ← field static_field_tag (next_u2 size.rest)
+  count ← field static_field_tag (next_u2 references.rest)
   arrays ← repeat array_at count.value count.rest
-  defaults ← field static_field_tag (u2_at arrays.rest)
-  given ← field static_field_tag (u2_at defaults.rest)
-  values ← field static_field_tag (bytes_at given.value given.rest)
+  defaults ← field static_field_tag (next_u2 arrays.rest)
+  given ← field static_field_tag (next_u2 defaults.rest)
+  values ← field static_field_tag (next_bytes given.value given.rest)
   Ok (record {
     value = record { size = size.value; references = references.value; arrays = arrays.value; defaults = defaults.value; values = values.value };
     rest = values.rest;

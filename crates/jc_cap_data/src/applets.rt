@@ -1,9 +1,9 @@
 //! The Applet component.
 
 ghost use Rattle.std.specs.Prelude.{◌≡◌, [], length, slice_get, IfOk, IfErr, Err, Ok};
-ghost use Rattle.jc_base.specs.Packages.{only};
-ghost use Rattle.jc_base.specs.Tags.{applet_tag};
-ghost use Rattle.jc_base.specs.Reading.{Reads};
+ghost use Rattle.jc_base.specs.PackageInfo.{only};
+ghost use Rattle.jc_base.specs.Tag.{applet_tag};
+ghost use Rattle.jc_base.specs.Cursor.{Gives};
 ghost use Rattle.jc_base.specs.Repeats.{repeat, rest_of, left_by};
 ghost use Rattle.jc_cap_data.specs.Applets.{applet_at, rows_in, applets_of};
 
@@ -24,7 +24,7 @@ impl Applet {
     /// The next applet.
     #[tactic(auto, unfolding(crate::specs::Applets::applet_at))]
     fn read(cursor: &mut Cursor) -> Result<Applet, LoadFault>
-        ensures { Reads (λ a. a) result cursor.new (applet_at cursor.old) }
+        ensures { Gives (λ a. a) result cursor.new (applet_at cursor.old) }
     {
         let aid = Aid::read(cursor, APPLET)?;
         let install = cursor.u2().ok_or(LoadFault::Malformed(APPLET))?;

@@ -1,7 +1,7 @@
 //! The initialised arrays of the StaticField component.
 
 ghost use Rattle.std.specs.Prelude.{◌≡◌, ◌∷◌, [], length, slice_get, IfSome, IfNone};
-ghost use Rattle.jc_base.specs.Reading.{Reads};
+ghost use Rattle.jc_base.specs.Cursor.{Gives};
 ghost use Rattle.jc_base.specs.Repeats.{repeat, rest_of, left_by};
 ghost use Rattle.jc_cap_data.specs.Arrays.{array_of, array_at};
 
@@ -46,7 +46,7 @@ impl<'a> StaticArray<'a> {
     /// The next array.
     #[tactic(auto, unfolding(crate::specs::Arrays::array_at))]
     fn read(cursor: &mut Cursor<'a>) -> Result<StaticArray<'a>, LoadFault>
-        ensures { Reads (λ a. a) result cursor.new (array_at cursor.old) }
+        ensures { Gives (λ a. a) result cursor.new (array_at cursor.old) }
     {
         let kind = cursor.u1().ok_or(LoadFault::Malformed(STATIC_FIELD))?;
         let size = cursor.u2().ok_or(LoadFault::Malformed(STATIC_FIELD))?;
@@ -80,7 +80,7 @@ impl<'a> Model for StaticArrays<'a> {
 impl<'a> StaticArrays<'a> {
     /// The next `count` arrays.
     pub(crate) fn read(cursor: &mut Cursor<'a>, count: u16) -> Result<StaticArrays<'a>, LoadFault>
-        ensures { Reads (λ a. a) result cursor.new (repeat array_at count cursor.old) }
+        ensures { Gives (λ a. a) result cursor.new (repeat array_at count cursor.old) }
     {
         let rows = cursor.rest();
         skip(cursor, count)?;

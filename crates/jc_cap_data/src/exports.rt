@@ -1,9 +1,9 @@
 //! The Export component.
 
 ghost use Rattle.std.specs.Prelude.{◌≡◌, [], length, slice_get, IfOk, IfErr, Err, Ok};
-ghost use Rattle.jc_base.specs.Packages.{only};
-ghost use Rattle.jc_base.specs.Tags.{export_tag};
-ghost use Rattle.jc_base.specs.Reading.{Reads};
+ghost use Rattle.jc_base.specs.PackageInfo.{only};
+ghost use Rattle.jc_base.specs.Tag.{export_tag};
+ghost use Rattle.jc_base.specs.Cursor.{Gives};
 ghost use Rattle.jc_base.specs.Repeats.{repeat, rest_of, left_by};
 ghost use Rattle.jc_cap_data.specs.Exports.{exported_at, classes_of, exports_of};
 
@@ -27,7 +27,7 @@ impl<'a> ExportedClass<'a> {
     /// The next class.
     #[tactic(auto, unfolding(crate::specs::Exports::exported_at))]
     fn read(cursor: &mut Cursor<'a>) -> Result<ExportedClass<'a>, LoadFault>
-        ensures { Reads (λ e. e) result cursor.new (exported_at cursor.old) }
+        ensures { Gives (λ e. e) result cursor.new (exported_at cursor.old) }
     {
         let class = cursor.u2().ok_or(LoadFault::Malformed(EXPORT))?;
         let fields_count = cursor.u1().ok_or(LoadFault::Malformed(EXPORT))?;

@@ -1,13 +1,13 @@
 //! The Import component.
 
 ghost use Rattle.std.specs.Prelude.{◌≡◌, [], length, slice_get, IfOk, IfErr, Err, Ok};
-ghost use Rattle.jc_base.specs.Packages.{only};
-ghost use Rattle.jc_base.specs.Tags.{import_tag};
+ghost use Rattle.jc_base.specs.PackageInfo.{only};
+ghost use Rattle.jc_base.specs.Tag.{import_tag};
 ghost use Rattle.jc_base.specs.Repeats.{repeat, rest_of, left_by};
 ghost use Rattle.jc_cap_data.specs.Imports.{import_at, packages_of, imports_of};
 
 use jc_base::tag::IMPORT;
-use jc_base::{Cursor, LoadFault, Package, Parts};
+use jc_base::{Cursor, LoadFault, PackageInfo, Parts};
 use std::marker::Model;
 
 /// The packages that a package imports, by their package tokens. They are read where they are asked for.
@@ -20,10 +20,10 @@ pub struct Imports<'a> {
 impl<'a> Model for Imports<'a> {
     ghost use Rattle.std.specs.Prelude.{◌≡◌, List, [], Ok};
     ghost use Rattle.jc_base.specs.Repeats.{repeat, rows_of, rest_of};
-    ghost use Rattle.jc_base.specs.declared.package.Package.{Package};
+    ghost use Rattle.jc_base.specs.declared.package_info.PackageInfo.{PackageInfo};
     ghost use Rattle.jc_cap_data.specs.Imports.{import_at};
 
-    ghost Value = { List Package };
+    ghost Value = { List PackageInfo };
 
     ghost view = { λ i. rows_of (repeat import_at i.count i.rows.now) };
 
@@ -50,7 +50,7 @@ impl<'a> Imports<'a> {
     }
 
     /// The package with this package token.
-    pub fn get(&self, token: u8) -> Option<Package>
+    pub fn get(&self, token: u8) -> Option<PackageInfo>
         ensures { result ≡ slice_get self.now token }
     {
         if self.count <= token {
@@ -60,7 +60,7 @@ impl<'a> Imports<'a> {
         let Ok(()) = skip(&mut cursor, token) else {
             return None;
         };
-        Package::read(&mut cursor, IMPORT).ok()
+        PackageInfo::read(&mut cursor, IMPORT).ok()
     }
 }
 
@@ -69,7 +69,7 @@ fn skip(cursor: &mut Cursor, count: u8) -> Result<(), LoadFault>
     ensures { left_by result cursor.new ≡ rest_of (repeat import_at count cursor.old) }
 {
     for _ in 0..count {
-        Package::read(cursor, IMPORT)?;
+        PackageInfo::read(cursor, IMPORT)?;
     }
     Ok(())
 }

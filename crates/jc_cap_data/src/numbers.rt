@@ -1,7 +1,7 @@
 //! Numbers one behind the other, lent from an image.
 
 ghost use Rattle.std.specs.Prelude.{◌≡◌, length, slice_get};
-ghost use Rattle.jc_base.specs.Reading.{Gives};
+ghost use Rattle.jc_base.specs.Cursor.{GivesSome};
 ghost use Rattle.jc_cap_data.specs.Numbers.{u2s, u2s_at, s1s, s2s};
 
 use byteorder::{BigEndian, ByteOrder};
@@ -27,7 +27,7 @@ impl<'a> U2s<'a> {
     /// The next `count` numbers.
     #[tactic(auto, unfolding(crate::specs::Numbers::u2s_at))]
     pub(crate) fn read(cursor: &mut Cursor<'a>, count: u8) -> Option<U2s<'a>>
-        ensures { Gives (λ t. t) result cursor.new (u2s_at count cursor.old) }
+        ensures { GivesSome (λ t. t) result cursor.new (u2s_at count cursor.old) }
     {
         let bytes = cursor.take(2 * usize::from(count))?;
         Some(U2s { bytes })

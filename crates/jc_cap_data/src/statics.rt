@@ -1,8 +1,8 @@
 //! The StaticField component.
 
 ghost use Rattle.std.specs.Prelude.{◌≡◌, ◌+◌, ◌*◌, ◌≤◌, length, IfOk};
-ghost use Rattle.jc_base.specs.Packages.{only};
-ghost use Rattle.jc_base.specs.Tags.{static_field_tag};
+ghost use Rattle.jc_base.specs.PackageInfo.{only};
+ghost use Rattle.jc_base.specs.Tag.{static_field_tag};
 ghost use Rattle.jc_cap_data.specs.Statics.{fits, fields_at, statics_of};
 
 use crate::arrays::StaticArrays;

@@ -1,12 +1,12 @@
 -- The Header component (Java Card Virtual Machine Specification, CAP file format: Header component) of format 2.1:
 -- a magic number, the format's minor and major version, flags, and the package.
 use Rattle.std.specs.Prelude.{ℕ, ◌==◌, List, Option, Some, None, Result, Ok, Err, bit_and, if◌then◌else◌}
-use Rattle.jc_base.specs.Reading.{Read, u1_at, u4_at}
+use Rattle.jc_base.specs.Cursor.{Read, next_u1, next_u4}
 use Rattle.jc_base.specs.Results.{◌>>=◌}
-use Rattle.jc_base.specs.Packages.{field, only, package_at}
+use Rattle.jc_base.specs.PackageInfo.{field, only, next_package_info}
 use Rattle.jc_base.specs.declared.fault.LoadFault.{LoadFault}
 use Rattle.jc_base.specs.declared.fault.LoadFault.TheVariants.{BadMagic, FormatVersion, IntPackage}
-use Rattle.jc_base.specs.Tags.{header_tag}
+use Rattle.jc_base.specs.Tag.{header_tag}
 use Rattle.jc_cap_head.specs.declared.header.Header.{Header}
 
 -- what a Header begins with
@@ -32,9 +32,9 @@ behind fault wanted (Some x) = if x.value == wanted then Ok x.rest else Err faul
 -- what the Header's info gives: of the refusals the first
 unfoldable pub header_of : List ℕ → Result Header LoadFault
 header_of info = do
-  minor ← behind BadMagic magic (u4_at info)
-  major ← behind FormatVersion format_minor (u1_at minor)
-  rest ← behind FormatVersion format_major (u1_at major)
-  flags ← field header_tag (u1_at rest)
-  named ← only header_tag (if bit_and flags.value acc_int == 0 then package_at header_tag flags.rest else Err IntPackage)
+  minor ← behind BadMagic magic (next_u4 info)
+  major ← behind FormatVersion format_minor (next_u1 minor)
+  rest ← behind FormatVersion format_major (next_u1 major)
+  flags ← field header_tag (next_u1 rest)
+  named ← only header_tag (if bit_and flags.value acc_int == 0 then next_package_info header_tag flags.rest else Err IntPackage)
   Ok (record { «package» = named })

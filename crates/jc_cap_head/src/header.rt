@@ -4,7 +4,7 @@ ghost use Rattle.std.specs.Prelude.{◌≡◌};
 ghost use Rattle.jc_cap_head.specs.Headers.{header_of};
 
 use jc_base::tag::HEADER;
-use jc_base::{Cursor, LoadFault, Package, Parts};
+use jc_base::{Cursor, LoadFault, PackageInfo, Parts};
 
 /// What a Header begins with.
 const MAGIC: u32 = 0xDECA_FFED;
@@ -19,7 +19,7 @@ const ACC_INT: u8 = 1;
 #[derive(Clone, Copy, Debug, PartialEq, Eq)]
 pub struct Header {
     /// The package's own AID and version.
-    pub package: Package,
+    pub package: PackageInfo,
 }
 
 /// Reads the Header component of format 2.1 (Java Card Virtual Machine Specification, CAP file format: Header
@@ -43,7 +43,7 @@ pub fn read_header(parts: &Parts) -> Result<Header, LoadFault>
     if flags & ACC_INT != 0 {
         return Err(LoadFault::IntPackage);
     }
-    let package = Package::read(&mut cursor, HEADER)?;
+    let package = PackageInfo::read(&mut cursor, HEADER)?;
     if !cursor.is_empty() {
         return Err(LoadFault::Malformed(HEADER));
     }

@@ -1,7 +1,7 @@
 -- The handler table: rows of eight bytes.
 use Rattle.std.proofs.Common.{◌≡◌, ℕ, ◌+◌, ◌*◌, ◌<◌, ◌≤◌, true, false, ltb, List, ◌∷◌, length, drop, Option, Some, None, IsSome, refl, sym, ap, ◌∙◌, arith}
 use Rattle.std.proofs.lemmas.Bool.{lt-ltb, le-ltb}
-use Rattle.jc_base.specs.Reading.{Read, bytes_at}
+use Rattle.jc_base.specs.Cursor.{Read, next_bytes}
 use Rattle.jc_base.specs.Many.{many_at, values_of}
 use Rattle.jc_base.proofs.Binding.{the_some}
 use Rattle.jc_base.proofs.Many.{reading, taken, not_taken, values-are, length-values}
@@ -20,14 +20,14 @@ row_made (a ∷ b ∷ c ∷ d ∷ e ∷ f ∷ g ∷ h ∷ bytes) le = (_, refl)
 row_made _ le = absurd (omega arith)
 
 -- n rows take 8 * n bytes
-pub table : (n : ℕ) (bytes : List ℕ) (r : Read (List ℕ)) → bytes_at (8 * n) bytes ≡ Some r → many_at handler_at n bytes ≡ Some (reading (values_of handler_at n bytes) r.rest)
+pub table : (n : ℕ) (bytes : List ℕ) (r : Read (List ℕ)) → next_bytes (8 * n) bytes ≡ Some r → many_at handler_at n bytes ≡ Some (reading (values_of handler_at n bytes) r.rest)
 table n bytes r e =
     let t = taken (8 * n) bytes r e in
     let m = many-made handler_at 8 row_takes row_made n bytes t.0 in
     m.1 ∙ ap (λ (p : List ℕ). Some (reading m.0.value p)) (rest-many handler_at 8 row_takes n bytes m.0 m.1 ∙ sym t.1)
     ∙ ap (λ (v : List Handler). Some (reading v r.rest)) (sym (values-are handler_at n bytes m.0 m.1))
 
-pub no_table : (n : ℕ) (bytes : List ℕ) → bytes_at (8 * n) bytes ≡ None → many_at handler_at n bytes ≡ None
+pub no_table : (n : ℕ) (bytes : List ℕ) → next_bytes (8 * n) bytes ≡ None → many_at handler_at n bytes ≡ None
 no_table n bytes e = part (many_at handler_at n bytes) refl
   where
     part : (o : Option (Read (List Handler))) → many_at handler_at n bytes ≡ o → o ≡ None

@@ -1,7 +1,7 @@
 -- The Method component (Java Card Virtual Machine Specification, CAP file format: Method component).
 use Rattle.std.specs.Prelude.{ℕ, List, drop, Option, Some}
 use Rattle.std.specs.Option.{option_map}
-use Rattle.jc_base.specs.Reading.{◌>>=◌, u1_at}
+use Rattle.jc_base.specs.Cursor.{◌>>=◌, next_u1}
 use Rattle.jc_base.specs.Many.{many_at}
 use Rattle.jc_cap_method.specs.declared.handler.Handler.{Handler}
 use Rattle.jc_cap_method.specs.declared.header.MethodHeader.{MethodHeader}
@@ -16,7 +16,7 @@ pub record Methods : Type 0 where
 -- a byte that counts the handlers, the handlers, and whatever follows
 unfoldable pub methods_of : List ℕ → Option Methods
 methods_of info = do
-  count ← u1_at info
+  count ← next_u1 info
   table ← many_at handler_at count.value count.rest
   Some (record { handlers = table.value; info = info })
 

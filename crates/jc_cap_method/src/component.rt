@@ -2,7 +2,7 @@
 
 ghost use Rattle.std.specs.Prelude.{◌≡◌, length};
 ghost use Rattle.std.specs.Option.{ok_or, option_copied};
-ghost use Rattle.jc_base.specs.Tags.{method_tag};
+ghost use Rattle.jc_base.specs.Tag.{method_tag};
 ghost use Rattle.jc_cap_method.specs.Handlers.{rows_named};
 ghost use Rattle.jc_cap_method.specs.Methods.{methods_of, header_of, code_of};
 

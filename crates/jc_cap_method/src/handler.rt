@@ -1,7 +1,7 @@
 //! Exception handlers.
 
 ghost use Rattle.std.specs.Prelude.{◌≡◌, ◌↔◌, ℕ, [], length, slice_get, IsTrue};
-ghost use Rattle.jc_base.specs.Reading.{Gives};
+ghost use Rattle.jc_base.specs.Cursor.{GivesSome};
 ghost use Rattle.jc_base.specs.Many.{many_at};
 ghost use Rattle.jc_cap_method.specs.Handlers.{handler_at, rows_named};
 
@@ -88,7 +88,7 @@ impl<'a> Handlers<'a> {
 /// The next handler.
 #[tactic(auto, unfolding(crate::specs::Handlers::handler_at))]
 fn next_handler(cursor: &mut Cursor) -> Option<Handler>
-    ensures { Gives (λ h. h) result cursor.new (handler_at cursor.old) }
+    ensures { GivesSome (λ h. h) result cursor.new (handler_at cursor.old) }
 {
     let start = cursor.u2()?;
     let length = cursor.u2()?;
@@ -104,7 +104,7 @@ fn next_handler(cursor: &mut Cursor) -> Option<Handler>
 
 /// The next `count` handlers. Costs the same for each count.
 pub(crate) fn next_handlers<'a>(cursor: &mut Cursor<'a>, count: u8) -> Option<Handlers<'a>>
-    ensures { Gives (λ h. h) result cursor.new (many_at handler_at count cursor.old) }
+    ensures { GivesSome (λ h. h) result cursor.new (many_at handler_at count cursor.old) }
 {
     let bytes = cursor.rest();
     cursor.take(HANDLER_SIZE * usize::from(count))?;

@@ -1,7 +1,7 @@
 //! Method headers.
 
 ghost use Rattle.std.specs.Prelude.{◌≡◌};
-ghost use Rattle.jc_base.specs.Reading.{Gives};
+ghost use Rattle.jc_base.specs.Cursor.{GivesSome};
 ghost use Rattle.jc_cap_method.specs.Headers.{has_flag, short_header_at, extended_header_at, header_at};
 
 use jc_base::Cursor;
@@ -36,7 +36,7 @@ fn has_flag(flags: u8, flag: u8) -> bool
 /// A header of the short form, behind its first byte.
 #[tactic(auto, unfolding(crate::specs::Headers::short_header_at))]
 fn short_header(front: u8, cursor: &mut Cursor) -> Option<MethodHeader>
-    ensures { Gives (λ h. h) result cursor.new (short_header_at front cursor.old) }
+    ensures { GivesSome (λ h. h) result cursor.new (short_header_at front cursor.old) }
 {
     let counts = cursor.u1()?;
     Some(MethodHeader {
@@ -50,7 +50,7 @@ fn short_header(front: u8, cursor: &mut Cursor) -> Option<MethodHeader>
 /// A header of the extended form, behind its first byte.
 #[tactic(auto, unfolding(crate::specs::Headers::extended_header_at))]
 fn extended_header(front: u8, cursor: &mut Cursor) -> Option<MethodHeader>
-    ensures { Gives (λ h. h) result cursor.new (extended_header_at front cursor.old) }
+    ensures { GivesSome (λ h. h) result cursor.new (extended_header_at front cursor.old) }
 {
     let max_stack = cursor.u1()?;
     let nargs = cursor.u1()?;
@@ -66,7 +66,7 @@ fn extended_header(front: u8, cursor: &mut Cursor) -> Option<MethodHeader>
 /// The next header.
 #[tactic(auto, unfolding(crate::specs::Headers::header_at))]
 pub(crate) fn next_header(cursor: &mut Cursor) -> Option<MethodHeader>
-    ensures { Gives (λ h. h) result cursor.new (header_at cursor.old) }
+    ensures { GivesSome (λ h. h) result cursor.new (header_at cursor.old) }
 {
     let front = cursor.u1()?;
     if has_flag(front / 16, ACC_EXTENDED) {

@@ -1,6 +1,6 @@
 -- Each entry takes four bytes.
 use Rattle.std.proofs.Common.{◌≡◌, ℕ, ◌-◌, ◌==◌, Bool, true, false, cond, ltb, List, [], ◌∷◌, Option, Some, None, is_some, sym, ap, ◌∙◌, arith}
-use Rattle.jc_base.specs.Reading.{Read, u2_at}
+use Rattle.jc_base.specs.Cursor.{Read, next_u2}
 use Rattle.jc_base.proofs.Binding.{the_some}
 use Rattle.jc_base.proofs.Many.{reading, bind_some, exactly-values}
 use Rattle.jc_base.proofs.Rows.{Takes}
@@ -62,6 +62,6 @@ entry_takes [] x e = absurd cc
 entry_takes (tag ∷ bytes) x e = let h = tagged_takes tag bytes x e in (h.0, omega arith)
 
 -- what the parts of a pool's info say of it
-pub pool_is : (info : List ℕ) (count : ℕ) (bytes : List ℕ) → u2_at info ≡ Some (reading count bytes) → is_some (entries_of count bytes) ≡ true → Some (values_of entry_at count bytes) ≡ pool_of info
+pub pool_is : (info : List ℕ) (count : ℕ) (bytes : List ℕ) → next_u2 info ≡ Some (reading count bytes) → is_some (entries_of count bytes) ≡ true → Some (values_of entry_at count bytes) ≡ pool_of info
 unfolding pool_of entries_of
 pool_is info count bytes e are = rw e (sym (exactly-values entry_at count bytes are).1)

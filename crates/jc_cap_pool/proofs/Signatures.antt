@@ -2,7 +2,7 @@
 use Rattle.std.proofs.Common.{◌≡◌, ℕ, zero, suc, ◌+◌, ◌<◌, ◌≤◌, ◌/◌, ◌==◌, IsTrue, Bool, true, false, cond, eqb, List, [], ◌∷◌, ◌++◌, length, append-nil, take, Option, Some, None, refl, sym, ap, ◌∙◌, le_refl, append_assoc, arith}
 use Rattle.std.specs.Option.{option_map}
 use Rattle.std.proofs.lemmas.Bool.{eq-eqb, ne_eqb}
-use Rattle.jc_base.specs.Reading.{Read, ◌>>=◌, bytes_at}
+use Rattle.jc_base.specs.Cursor.{Read, ◌>>=◌, next_bytes}
 use Rattle.jc_base.specs.Many.{many_at, values_of}
 use Rattle.jc_base.specs.declared.class_ref.ClassRef.{ClassRef}
 use Rattle.jc_base.proofs.Binding.{the_some, none_some}
@@ -175,6 +175,6 @@ is_no_end false left t e z = let h = t.1 (nil_from_length left z) in absurd cc
 pub few_nibbles : (n : ℕ) (bytes : List ℕ) (r : Read (List ℕ)) → n < 256 → nibbles_at n bytes ≡ Some r → length r.value < 256
 unfolding nibbles_at
 few_nibbles n bytes r small e =
-    let a = bind_some (bytes_at ((n + 1) / 2) bytes) _ r e in
+    let a = bind_some (next_bytes ((n + 1) / 2) bytes) _ r e in
     let h : length (take n (nibbles_of a.0.value)) ≡ length r.value = ap (λ (x : Read (List ℕ)). length x.value) (the_some _ r a.2) in
     omega (arith, length-take n (nibbles_of a.0.value))

@@ -2,7 +2,7 @@
 use Rattle.std.proofs.Common.{◌≡◌, ◌↔◌, ℕ, zero, suc, ◌<◌, ◌≤◌, ◌==◌, Bool, true, false, cond, eqb, inl, inr, List, [], ◌∷◌, length, Option, Some, None, refl, sym, ap, subst, ◌∙◌, le_refl, arith}
 use Rattle.std.proofs.lemmas.Bool.{eqb-true}
 use Rattle.std.proofs.lemmas.List.{nil_from_length}
-use Rattle.jc_base.specs.Reading.{Read, ◌>>=◌}
+use Rattle.jc_base.specs.Cursor.{Read, ◌>>=◌}
 use Rattle.jc_base.proofs.Binding.{the_some, none_some, choice}
 use Rattle.jc_base.proofs.Many.{reading, bind_some}
 use Rattle.jc_cap_pool.specs.declared.declared_type.DeclaredType.{DeclaredType}

@@ -1,7 +1,7 @@
 -- Type descriptors (Java Card Virtual Machine Specification, Descriptor component: type_descriptor_info).
 use Rattle.std.specs.Prelude.{◌≡◌, ℕ, zero, suc, List, [], ◌∷◌, length, drop, Option, Some, None, nat_eq, if◌then◌else◌}
 use Rattle.std.specs.Option.{option_map}
-use Rattle.jc_base.specs.Reading.{Read, ◌>>=◌, u1_at}
+use Rattle.jc_base.specs.Cursor.{Read, ◌>>=◌, next_u1}
 use Rattle.jc_cap_pool.specs.Nibbles.{nibbles_at}
 use Rattle.jc_cap_pool.specs.Types.{type_at, result_at}
 use Rattle.jc_cap_pool.specs.declared.declared_type.DeclaredType.{DeclaredType}
@@ -36,7 +36,7 @@ signature_of nibbles = signature_in (length nibbles) nibbles
 -- a descriptor in front of bytes: a byte that counts nibbles, and nibbles that are a signature
 unfoldable pub descriptor_at : List ℕ → Option (Read Signature)
 descriptor_at bytes = do
-  count ← u1_at bytes
+  count ← next_u1 bytes
   nibbles ← nibbles_at count.value count.rest
   signature ← signature_of nibbles.value
   Some (record { value = signature; rest = nibbles.rest })

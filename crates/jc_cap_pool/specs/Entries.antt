@@ -1,7 +1,7 @@
 -- Entries of the constant pool (Java Card Virtual Machine Specification, Constant Pool component: cp_info).
 use Rattle.std.specs.Prelude.{ℕ, ◌-◌, ◌==◌, List, Option, Some, None, nat_lt, if◌then◌else◌}
-use Rattle.jc_base.specs.Reading.{Read, ◌>>=◌, u1_at, u2_at}
-use Rattle.jc_base.specs.ClassRefs.{class_ref_of}
+use Rattle.jc_base.specs.Cursor.{Read, ◌>>=◌, next_u1, next_u2}
+use Rattle.jc_base.specs.ClassRef.{class_ref_of}
 use Rattle.jc_cap_pool.specs.declared.entry.MemberRef.{MemberRef}
 use Rattle.jc_cap_pool.specs.declared.entry.StaticRef.{StaticRef}
 use Rattle.jc_cap_pool.specs.declared.entry.StaticRef.TheVariants.{Internal, External}
@@ -30,27 +30,27 @@ static_methodref_tag = 6
 -- a class, and a byte that is a token or padding
 unfoldable pub member_ref_at : List ℕ → Option (Read MemberRef)
 member_ref_at bytes = do
-  class ← u2_at bytes
-  token ← u1_at class.rest
+  class ← next_u2 bytes
+  token ← next_u1 class.rest
   Some (record { value = record { class = class_ref_of class.value; token = token.value }; rest = token.rest })
 
 -- an offset
 abbrev pub internal_at : List ℕ → Option (Read StaticRef)
 internal_at bytes = do
-  offset ← u2_at bytes
+  offset ← next_u2 bytes
   Some (record { value = Internal offset.value; rest = offset.rest })
 
 -- two tokens behind a package's
 abbrev pub external_at : ℕ → List ℕ → Option (Read StaticRef)
 external_at import bytes = do
-  class ← u1_at bytes
-  token ← u1_at class.rest
+  class ← next_u1 bytes
+  token ← next_u1 class.rest
   Some (record { value = External import class.value token.value; rest = token.rest })
 
 -- with the high bit of the first byte clear padding and an offset, with it set three tokens
 unfoldable pub static_ref_at : List ℕ → Option (Read StaticRef)
 static_ref_at bytes = do
-  front ← u1_at bytes
+  front ← next_u1 bytes
   if nat_lt front.value 0x80 then internal_at front.rest
       else external_at (front.value - 0x80) front.rest
 
@@ -72,5 +72,5 @@ entry_with tag bytes =
 -- an entry: a tag, and three bytes that go by it
 unfoldable pub entry_at : List ℕ → Option (Read PoolEntry)
 entry_at bytes = do
-  tag ← u1_at bytes
+  tag ← next_u1 bytes
   entry_with tag.value tag.rest

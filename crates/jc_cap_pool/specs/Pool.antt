@@ -1,6 +1,6 @@
 -- The ConstantPool component (Java Card Virtual Machine Specification, CAP file format: Constant Pool component).
 use Rattle.std.specs.Prelude.{ℕ, List, Option}
-use Rattle.jc_base.specs.Reading.{◌>>=◌, u2_at}
+use Rattle.jc_base.specs.Cursor.{◌>>=◌, next_u2}
 use Rattle.jc_base.specs.Many.{many_at, whole}
 use Rattle.jc_cap_pool.specs.declared.entry.PoolEntry.{PoolEntry}
 use Rattle.jc_cap_pool.specs.Entries.{entry_at}
@@ -14,5 +14,5 @@ entries_of count bytes = do
 -- a number that counts the entries, and the entries
 unfoldable pub pool_of : List ℕ → Option (List PoolEntry)
 pool_of info = do
-  count ← u2_at info
+  count ← next_u2 info
   entries_of count.value count.rest

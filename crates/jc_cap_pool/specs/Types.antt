@@ -1,7 +1,7 @@
 -- Types as nibbles (Java Card Virtual Machine Specification, Descriptor component: type_descriptor_info).
 use Rattle.std.specs.Prelude.{ℕ, ◌+◌, ◌*◌, ◌==◌, List, Option, Some, None, if◌then◌else◌}
-use Rattle.jc_base.specs.Reading.{Read, ◌>>=◌}
-use Rattle.jc_base.specs.ClassRefs.{class_ref_of}
+use Rattle.jc_base.specs.Cursor.{Read, ◌>>=◌}
+use Rattle.jc_base.specs.ClassRef.{class_ref_of}
 use Rattle.jc_base.specs.declared.class_ref.ClassRef.{ClassRef}
 use Rattle.jc_cap_pool.specs.Nibbles.{nibble_at}
 use Rattle.jc_cap_pool.specs.declared.declared_type.DeclaredType.{DeclaredType}

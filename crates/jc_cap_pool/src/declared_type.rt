@@ -1,7 +1,7 @@
 //! The types of fields, parameters and results.
 
 ghost use Rattle.std.specs.Prelude.{◌≡◌};
-ghost use Rattle.jc_base.specs.Reading.{Gives};
+ghost use Rattle.jc_base.specs.Cursor.{GivesSome};
 ghost use Rattle.jc_cap_pool.specs.Types.{class_at, type_with, type_at, result_with, result_at};
 
 use crate::nibbles::Nibbles;
@@ -44,7 +44,7 @@ pub enum DeclaredType {
 /// The class that the next four nibbles name.
 #[tactic(auto, unfolding(crate::specs::Types::class_at))]
 fn class(nibbles: &mut Nibbles) -> Option<ClassRef>
-    ensures { Gives (λ c. c) result nibbles.new (class_at nibbles.old) }
+    ensures { GivesSome (λ c. c) result nibbles.new (class_at nibbles.old) }
 {
     let first = u16::from(nibbles.next()?);
     let second = u16::from(nibbles.next()?);
@@ -56,7 +56,7 @@ fn class(nibbles: &mut Nibbles) -> Option<ClassRef>
 /// The rest of a type, behind its first nibble.
 #[tactic(auto, unfolding(crate::specs::Types::type_with))]
 fn coded_type(code: u8, nibbles: &mut Nibbles) -> Option<DeclaredType>
-    ensures { Gives (λ t. t) result nibbles.new (type_with code nibbles.old) }
+    ensures { GivesSome (λ t. t) result nibbles.new (type_with code nibbles.old) }
 {
     match code {
         BOOLEAN => Some(DeclaredType::Boolean),
@@ -74,7 +74,7 @@ fn coded_type(code: u8, nibbles: &mut Nibbles) -> Option<DeclaredType>
 /// The next type.
 #[tactic(auto, unfolding(crate::specs::Types::type_at))]
 pub(crate) fn next_type(nibbles: &mut Nibbles) -> Option<DeclaredType>
-    ensures { Gives (λ t. t) result nibbles.new (type_at nibbles.old) }
+    ensures { GivesSome (λ t. t) result nibbles.new (type_at nibbles.old) }
 {
     let code = nibbles.next()?;
     coded_type(code, nibbles)
@@ -83,7 +83,7 @@ pub(crate) fn next_type(nibbles: &mut Nibbles) -> Option<DeclaredType>
 /// The next type, or void, which is no type.
 #[tactic(auto, unfolding(crate::specs::Types::result_at, crate::specs::Types::result_with))]
 pub(crate) fn next_result(nibbles: &mut Nibbles) -> Option<Option<DeclaredType>>
-    ensures { Gives (λ r. r) result nibbles.new (result_at nibbles.old) }
+    ensures { GivesSome (λ r. r) result nibbles.new (result_at nibbles.old) }
 {
     let code = nibbles.next()?;
     if code == VOID {

@@ -1,7 +1,7 @@
 //! Type descriptors.
 
 ghost use Rattle.std.specs.Prelude.{◌≡◌, ◌↔◌, ◌<◌, ℕ, List, Some, [], ◌∷◌, length, IsTrue, MatchOption};
-ghost use Rattle.jc_base.specs.Reading.{Gives};
+ghost use Rattle.jc_base.specs.Cursor.{GivesSome};
 ghost use Rattle.jc_cap_pool.specs.Descriptors.{Signature, IsSpelled, signature_of, descriptor_at, descriptor_from, field_type_of};
 
 use crate::declared_type::{DeclaredType, next_result, next_type};
@@ -134,7 +134,7 @@ fn signature<'a>(nibbles: &Nibbles<'a>) -> Option<Descriptor<'a>>
 /// The next descriptor.
 #[tactic(auto, unfolding(crate::specs::Descriptors::descriptor_at))]
 pub fn next_descriptor<'a>(cursor: &mut Cursor<'a>) -> Option<Descriptor<'a>>
-    ensures { Gives (λ d. d) result cursor.new (descriptor_at cursor.old) }
+    ensures { GivesSome (λ d. d) result cursor.new (descriptor_at cursor.old) }
 {
     let count = cursor.u1()?;
     let nibbles = next_nibbles(cursor, count)?;

@@ -1,7 +1,7 @@
 //! Entries of the constant pool.
 
 ghost use Rattle.std.specs.Prelude.{◌≡◌};
-ghost use Rattle.jc_base.specs.Reading.{Gives};
+ghost use Rattle.jc_base.specs.Cursor.{GivesSome};
 ghost use Rattle.jc_cap_pool.specs.Entries.{member_ref_at, static_ref_at, entry_with, entry_at};
 
 use jc_base::{ClassRef, Cursor, class_ref_of};
@@ -61,7 +61,7 @@ pub enum PoolEntry {
 /// The reference to a class, and the byte behind it.
 #[tactic(auto, unfolding(crate::specs::Entries::member_ref_at))]
 fn member_ref(cursor: &mut Cursor) -> Option<MemberRef>
-    ensures { Gives (λ m. m) result cursor.new (member_ref_at cursor.old) }
+    ensures { GivesSome (λ m. m) result cursor.new (member_ref_at cursor.old) }
 {
     let class = class_ref_of(cursor.u2()?);
     let token = cursor.u1()?;
@@ -71,7 +71,7 @@ fn member_ref(cursor: &mut Cursor) -> Option<MemberRef>
 /// The reference to a static member.
 #[tactic(auto, unfolding(crate::specs::Entries::static_ref_at))]
 fn static_ref(cursor: &mut Cursor) -> Option<StaticRef>
-    ensures { Gives (λ s. s) result cursor.new (static_ref_at cursor.old) }
+    ensures { GivesSome (λ s. s) result cursor.new (static_ref_at cursor.old) }
 {
     let front = cursor.u1()?;
     if front < EXTERNAL {
@@ -90,7 +90,7 @@ fn static_ref(cursor: &mut Cursor) -> Option<StaticRef>
 /// The rest of an entry, behind its tag.
 #[tactic(auto, unfolding(crate::specs::Entries::entry_with))]
 fn tagged_entry(tag: u8, cursor: &mut Cursor) -> Option<PoolEntry>
-    ensures { Gives (λ e. e) result cursor.new (entry_with tag cursor.old) }
+    ensures { GivesSome (λ e. e) result cursor.new (entry_with tag cursor.old) }
 {
     match tag {
         CLASSREF => Some(PoolEntry::Classref(member_ref(cursor)?.class)),
@@ -106,7 +106,7 @@ fn tagged_entry(tag: u8, cursor: &mut Cursor) -> Option<PoolEntry>
 /// The next entry.
 #[tactic(auto, unfolding(crate::specs::Entries::entry_at))]
 pub(crate) fn next_entry(cursor: &mut Cursor) -> Option<PoolEntry>
-    ensures { Gives (λ e. e) result cursor.new (entry_at cursor.old) }
+    ensures { GivesSome (λ e. e) result cursor.new (entry_at cursor.old) }
 {
     let tag = cursor.u1()?;
     tagged_entry(tag, cursor)

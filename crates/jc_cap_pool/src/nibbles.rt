@@ -1,7 +1,7 @@
 //! Halves of bytes.
 
 ghost use Rattle.std.specs.Prelude.{◌≡◌, ◌↔◌, [], ◌<◌, length, IsTrue, IfSome};
-ghost use Rattle.jc_base.specs.Reading.{Steps, Gives};
+ghost use Rattle.jc_base.specs.Cursor.{Takes, GivesSome};
 ghost use Rattle.jc_cap_pool.specs.Nibbles.{nibble_at, nibbles_at};
 
 use jc_base::Cursor;
@@ -47,7 +47,7 @@ impl<'a> Nibbles<'a> {
 
     /// The next nibble, below 16.
     pub(crate) fn next(&mut self) -> Option<u8>
-        ensures next { Steps (λ x. x) result self.old self.new (nibble_at self.old) }
+        ensures next { Takes (λ x. x) result self.old self.new (nibble_at self.old) }
         ensures small { IfSome result (λ nibble. nibble < 16) }
     {
         if self.at == self.end {
@@ -67,7 +67,7 @@ impl<'a> Nibbles<'a> {
 /// The next `count` nibbles, in whole bytes.
 #[tactic(auto, unfolding(crate::specs::Nibbles::nibbles_at))]
 pub(crate) fn next_nibbles<'a>(cursor: &mut Cursor<'a>, count: u8) -> Option<Nibbles<'a>>
-    ensures { Gives (λ n. n) result cursor.new (nibbles_at count cursor.old) }
+    ensures { GivesSome (λ n. n) result cursor.new (nibbles_at count cursor.old) }
 {
     let end = usize::from(count);
     let bytes = cursor.take((end + 1) / 2)?;

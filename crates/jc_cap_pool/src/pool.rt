@@ -2,7 +2,7 @@
 
 ghost use Rattle.std.specs.Prelude.{◌≡◌, ◌↔◌, [], length, slice_get, is_some, IsTrue};
 ghost use Rattle.std.specs.Option.{ok_or};
-ghost use Rattle.jc_base.specs.Tags.{constant_pool_tag};
+ghost use Rattle.jc_base.specs.Tag.{constant_pool_tag};
 ghost use Rattle.jc_cap_pool.specs.Pool.{entries_of, pool_of};
 
 use crate::entry::{PoolEntry, next_entry};

@@ -3,7 +3,7 @@ use Rattle.std.proofs.Common.{◌≡◌, ℕ, zero, suc, ◌+◌, ◌*◌, ◌/�
 use Rattle.std.specs.List.{flat_map, AllByRecursion}
 use Rattle.std.specs.Int.{w16, to_be_bytes}
 use Rattle.std.proofs.lemmas.Bool.{ltb-false, le-ltb, eqb-true}
-use Rattle.jc_base.specs.Reading.{Read, ◌>>=◌, u1_at, u2_at}
+use Rattle.jc_base.specs.Cursor.{Read, ◌>>=◌, next_u1, next_u2}
 use Rattle.jc_types.specs.declared.ty.Ty.{Ty}
 use Rattle.jc_types.specs.declared.ty.Ty.TheVariants.{Top, Word, Null}
 use Rattle.jc_cert.specs.Spelling.{type_bytes}
@@ -31,7 +31,7 @@ took_some {A = A} spell Fits bytes (Some y) x rest h e =
 
 -- ---- numbers
 
-pub u1_took : (bytes : List ℕ) → IsBytes bytes → Took (λ b. b ∷ []) (λ b. b < 2 ^ 8) bytes (u1_at bytes)
+pub u1_took : (bytes : List ℕ) → IsBytes bytes → Took (λ b. b ∷ []) (λ b. b < 2 ^ 8) bytes (next_u1 bytes)
 u1_took [] fits = tt
 u1_took (b ∷ bytes) fits = (refl, fits.1, fits.0)
 
@@ -41,12 +41,12 @@ two_bytes b c rest lb lc =
     let low : c ≡ (256 * b + c) % 256 = omega arith in
     ap (λ (x : ℕ). x ∷ c ∷ rest) high ∙ ap (λ (x : ℕ). (256 * b + c) / 256 % 256 ∷ x ∷ rest) low
 
-pub u2_took : (bytes : List ℕ) → IsBytes bytes → Took (to_be_bytes w16) (λ n. n < 2 ^ 16) bytes (u2_at bytes)
+pub u2_took : (bytes : List ℕ) → IsBytes bytes → Took (to_be_bytes w16) (λ n. n < 2 ^ 16) bytes (next_u2 bytes)
 u2_took [] fits = tt
 u2_took (b ∷ []) fits = tt
 u2_took (b ∷ c ∷ rest) fits = (two_bytes b c rest fits.0 fits.1.0, fits.1.1, omega arith)
 
-pub u2_again : (n : ℕ) (rest : List ℕ) → n < 2 ^ 16 → u2_at (to_be_bytes w16 n ++ rest) ≡ Some (read_as n rest)
+pub u2_again : (n : ℕ) (rest : List ℕ) → n < 2 ^ 16 → next_u2 (to_be_bytes w16 n ++ rest) ≡ Some (read_as n rest)
 u2_again n rest lt = let e : 256 * (n / 256 % 256) + n % 256 ≡ n = omega arith in ap (λ (k : ℕ). Some (read_as k rest)) e
 
 -- a number of two bytes, from the least one on
@@ -56,7 +56,7 @@ NumberFits least n = (n < 2 ^ 16) × (least ≤ n)
 pub number_took : (least : ℕ) (bytes : List ℕ) → IsBytes bytes → Took (to_be_bytes w16) (NumberFits least) bytes (number_at least bytes)
 unfolding number_at
 number_took least bytes fits =
-    took_bind (to_be_bytes w16) (λ n. n < 2 ^ 16) (to_be_bytes w16) (NumberFits least) bytes bytes (u2_at bytes) _ (u2_took bytes fits) (λ n rest e more lt. tested n rest e more lt (ltb n least) refl)
+    took_bind (to_be_bytes w16) (λ n. n < 2 ^ 16) (to_be_bytes w16) (NumberFits least) bytes bytes (next_u2 bytes) _ (u2_took bytes fits) (λ n rest e more lt. tested n rest e more lt (ltb n least) refl)
   where
     tested : (n : ℕ) (rest : List ℕ) → bytes ≡ to_be_bytes w16 n ++ rest → IsBytes rest → n < 2 ^ 16 → (b : Bool) → ltb n least ≡ b → Took (to_be_bytes w16) (NumberFits least) bytes (cond b None (Some (read_as n rest)))
     tested n rest e more lt true test = tt
@@ -77,7 +77,7 @@ IsType t = Unit {0}
 pub type_took : (bytes : List ℕ) → IsBytes bytes → Took type_bytes IsType bytes (type_at bytes)
 unfolding type_at
 type_took bytes fits =
-    took_bind (λ b. b ∷ []) (λ b. b < 2 ^ 8) type_bytes IsType bytes bytes (u1_at bytes) _ (u1_took bytes fits) (λ tag rest e more lt. tags tag rest e more (eqb tag 0) (eqb tag 1) (eqb tag 2) refl refl refl)
+    took_bind (λ b. b ∷ []) (λ b. b < 2 ^ 8) type_bytes IsType bytes bytes (next_u1 bytes) _ (u1_took bytes fits) (λ tag rest e more lt. tags tag rest e more (eqb tag 0) (eqb tag 1) (eqb tag 2) refl refl refl)
   where
     at : (tag k : ℕ) (rest : List ℕ) → bytes ≡ tag ∷ rest → eqb tag k ≡ true → bytes ≡ k ∷ rest
     at tag k rest e t = e ∙ ap (λ (n : ℕ). n ∷ rest) (eqb-true tag k t)

@@ -5,7 +5,7 @@ use Rattle.std.specs.List.{flat_map, AllByRecursion}
 use Rattle.std.specs.Int.{w16, to_be_bytes}
 use Rattle.std.proofs.lemmas.Bool.{eqb-true}
 use Rattle.std.proofs.lemmas.List.{append-nil, nil_from_length}
-use Rattle.jc_base.specs.Reading.{Read, u1_at, u2_at}
+use Rattle.jc_base.specs.Cursor.{Read, next_u1, next_u2}
 use Rattle.jc_base.specs.declared.fault.LoadFault.{LoadFault}
 use Rattle.jc_base.specs.declared.fault.LoadFault.TheVariants as fault
 use Rattle.jc_types.specs.declared.ty.Ty.{Ty}
@@ -44,9 +44,9 @@ stated_took : (least : ℕ) (bytes : List ℕ) → IsBytes bytes → Took stated
 unfolding stated_at
 stated_took least bytes fits =
     took_bind (to_be_bytes w16) (NumberFits least) stated_bytes (StatedIn least) bytes bytes (number_at least bytes) _ (number_took least bytes fits) (λ pc r1 e1 m1 f1.
-    took_bind (to_be_bytes w16) (λ n. n < 2 ^ 16) stated_bytes (StatedIn least) r1 bytes (u2_at r1) _ (u2_took r1 m1) (λ count r2 e2 m2 f2.
+    took_bind (to_be_bytes w16) (λ n. n < 2 ^ 16) stated_bytes (StatedIn least) r1 bytes (next_u2 r1) _ (u2_took r1 m1) (λ count r2 e2 m2 f2.
     took_bind (flat_map type_bytes) (Types count) stated_bytes (StatedIn least) r2 bytes (types_at count r2) _ (types_took count r2 m2) (λ locals r3 e3 m3 f3.
-    took_bind (λ b. b ∷ []) (λ b. b < 2 ^ 8) stated_bytes (StatedIn least) r3 bytes (u1_at r3) _ (u1_took r3 m3) (λ depth r4 e4 m4 f4.
+    took_bind (λ b. b ∷ []) (λ b. b < 2 ^ 8) stated_bytes (StatedIn least) r3 bytes (next_u1 r3) _ (u1_took r3 m3) (λ depth r4 e4 m4 f4.
     took_bind (flat_map type_bytes) (Types depth) stated_bytes (StatedIn least) r4 bytes (types_at depth r4) _ (types_took depth r4 m4) (λ operands r5 e5 m5 f5.
     (text pc count depth locals operands r1 r2 r3 r4 r5 e1 e2 e3 e4 e5 f3.0 f5.0, m5, (record { pc = f1.0; locals = fitted (length locals) count (2 ^ 16) f3.0 f2; depth = fitted (length operands) depth (2 ^ 8) f5.0 f4 }, f1.1)))))))
   where
@@ -128,7 +128,7 @@ rows_from least (r ∷ rs) h a = ((h.0, a.0), rows_from (r.offset + 1) rs h.1 a.
 cert_took : (bytes : List ℕ) → IsBytes bytes → Took spelling IsCert bytes (cert_at bytes)
 unfolding cert_at
 cert_took bytes fits =
-    took_bind (to_be_bytes w16) (λ n. n < 2 ^ 16) spelling IsCert bytes bytes (u2_at bytes) _ (u2_took bytes fits) (λ count r1 e1 m1 lt1.
+    took_bind (to_be_bytes w16) (λ n. n < 2 ^ 16) spelling IsCert bytes bytes (next_u2 bytes) _ (u2_took bytes fits) (λ count r1 e1 m1 lt1.
     took_bind (flat_map row_bytes) (λ rs. (length rs ≡ count) × RowsFrom 0 rs) spelling IsCert r1 bytes (rows_at count 0 r1) _
     (repeat_took row_at (λ r. r.offset + 1) row_bytes RowIn (λ s bs f. row_took s bs f) count 0 r1 m1) (λ rs r2 e2 m2 len.
     ended count rs r1 r2 e1 e2 lt1 len (length r2 == 0) refl))

@@ -1,7 +1,7 @@
 -- Reading so many one after the other, as a loop does.
 use Rattle.std.proofs.Common.{◌≡◌, ℕ, suc, ◌+◌, ◌-◌, ◌<◌, ◌≤◌, List, ◌∷◌, [], ◌++◌, Option, Some, None, refl, sym, ap, ◌∙◌, append_assoc, arith}
 use Rattle.std.proofs.lemmas.List.{append-nil}
-use Rattle.jc_base.specs.Reading.{Read, ◌>>=◌}
+use Rattle.jc_base.specs.Cursor.{Read, ◌>>=◌}
 use Rattle.jc_cert.specs.declared.refusal.Refusal.{Refusal}
 use Rattle.jc_cert.specs.declared.refusal.Refusal.TheVariants.{NoSpelling, Memory}
 use Rattle.jc_cert.specs.Reading.{repeat_at, Fails}

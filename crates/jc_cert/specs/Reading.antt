@@ -1,6 +1,6 @@
 -- Reading a certificate from left to right, each part in the state that the one before leaves.
 use Rattle.std.specs.Prelude.{◌≡◌, ℕ, zero, suc, ◌+◌, List, [], ◌∷◌, length, Option, Some, None, Result, Ok, Err, nat_lt, ◌==◌, if◌then◌else◌}
-use Rattle.jc_base.specs.Reading.{Read, ◌>>=◌, u1_at, u2_at}
+use Rattle.jc_base.specs.Cursor.{Read, ◌>>=◌, next_u1, next_u2}
 use Rattle.jc_base.specs.declared.fault.LoadFault.{LoadFault}
 use Rattle.jc_base.specs.declared.fault.LoadFault.TheVariants as fault
 use Rattle.jc_types.specs.declared.ty.Ty.{Ty}
@@ -12,12 +12,12 @@ use Rattle.jc_cert.specs.Rows.{Stated, Row}
 -- two bytes that spell a number from this one on
 unfoldable pub number_at : ℕ → List ℕ → Option (Read ℕ)
 number_at least bytes = do
-  n ← u2_at bytes
+  n ← next_u2 bytes
   if nat_lt n.value least then None else Some n
 
 unfoldable pub type_at : List ℕ → Option (Read Ty)
 type_at bytes = do
-  tag ← u1_at bytes
+  tag ← next_u1 bytes
   if tag.value == 0 then Some (record { value = Top; rest = tag.rest })
       else (if tag.value == 1 then Some (record { value = Word; rest = tag.rest })
       else (if tag.value == 2 then Some (record { value = Null; rest = tag.rest }) else None))
@@ -37,9 +37,9 @@ types_at n bytes = repeat_at (λ (s : ℕ) bs. type_at bs) (λ t. 0) n 0 bytes
 unfoldable pub stated_at : ℕ → List ℕ → Option (Read Stated)
 stated_at least bytes = do
   pc ← number_at least bytes
-  count ← u2_at pc.rest
+  count ← next_u2 pc.rest
   locals ← types_at count.value count.rest
-  depth ← u1_at locals.rest
+  depth ← next_u1 locals.rest
   operands ← types_at depth.value depth.rest
   Some (record { value = record { pc = pc.value; locals = locals.value; operands = operands.value }; rest = operands.rest })
 
@@ -60,7 +60,7 @@ rows_at n least bytes = repeat_at row_at (λ r. r.offset + 1) n least bytes
 -- all of the bytes
 unfoldable pub cert_at : List ℕ → Option (Read (List Row))
 cert_at bytes = do
-  count ← u2_at bytes
+  count ← next_u2 bytes
   rows ← rows_at count.value 0 count.rest
   if length rows.rest == 0 then Some (record { value = rows.value; rest = [] }) else None
 

@@ -1,7 +1,7 @@
 -- Reading goes forward: an instruction ends behind its pc, and within the code.
 use Rattle.std.proofs.Common.{◌≡◌, ℕ, suc, ◌+◌, ◌-◌, ◌*◌, ◌/◌, ◌%◌, ◌==◌, ◌≤◌, ◌<◌, List, [], ◌∷◌, length, take, drop, Bool, true, false, cond, nat_lt, Option, Some, None, Result, Ok, Err, ap, subst, arith, length-drop}
 use Rattle.std.specs.Prelude.{◌-ℤ◌, unsigned_abs, int_lt}
-use Rattle.jc_base.specs.Reading.{Read, Steps, u1_at, u2_at, s1_at, s2_at, bytes_at}
+use Rattle.jc_base.specs.Cursor.{Read, Takes, next_u1, next_u2, next_s1, next_s2, next_bytes}
 use Rattle.jc_base.specs.Reading as reading
 use Rattle.jc_code.specs.declared.fault.CodeFault.{CodeFault}
 use Rattle.jc_code.specs.declared.fault.CodeFault.TheVariants.{BadOpcode, BadOperand}
@@ -40,20 +40,20 @@ none n fault = record { left = tt }
 same : (n : ℕ) (operation : Operation) (rest : List ℕ) → length rest ≤ n → IsLeft n (done operation rest)
 same n operation rest le = record { left = le }
 
-u1_left : (n : ℕ) (bytes : List ℕ) → length bytes ≤ n → Field n (u1_at bytes)
+u1_left : (n : ℕ) (bytes : List ℕ) → length bytes ≤ n → Field n (next_u1 bytes)
 u1_left n [] le = tt
 u1_left n (b ∷ rest) le = omega arith
 
-s1_left : (n : ℕ) (bytes : List ℕ) → length bytes ≤ n → Field n (s1_at bytes)
+s1_left : (n : ℕ) (bytes : List ℕ) → length bytes ≤ n → Field n (next_s1 bytes)
 s1_left n [] le = tt
 s1_left n (b ∷ rest) le = omega arith
 
-u2_left : (n : ℕ) (bytes : List ℕ) → length bytes ≤ n → Field n (u2_at bytes)
+u2_left : (n : ℕ) (bytes : List ℕ) → length bytes ≤ n → Field n (next_u2 bytes)
 u2_left n [] le = tt
 u2_left n (a ∷ []) le = tt
 u2_left n (a ∷ b ∷ rest) le = omega arith
 
-s2_left : (n : ℕ) (bytes : List ℕ) → length bytes ≤ n → Field n (s2_at bytes)
+s2_left : (n : ℕ) (bytes : List ℕ) → length bytes ≤ n → Field n (next_s2 bytes)
 s2_left n [] le = tt
 s2_left n (a ∷ []) le = tt
 s2_left n (a ∷ b ∷ rest) le = omega arith
@@ -68,29 +68,29 @@ table_left n None view h = tt
 
 offsets_left : (n k : ℕ) (bytes : List ℕ) → length bytes ≤ n → Field n (offsets_at k bytes)
 unfolding offsets_at
-offsets_left n k bytes le = table_left n (bytes_at (2 * k) bytes) offsets_of_bytes (bytes_left n (2 * k) bytes (nat_lt (length bytes) (2 * k)) le)
+offsets_left n k bytes le = table_left n (next_bytes (2 * k) bytes) offsets_of_bytes (bytes_left n (2 * k) bytes (nat_lt (length bytes) (2 * k)) le)
 
 cases_left : (n k : ℕ) (bytes : List ℕ) → length bytes ≤ n → Field n (cases_at k bytes)
 unfolding cases_at
-cases_left n k bytes le = table_left n (bytes_at (4 * k) bytes) cases_of_bytes (bytes_left n (4 * k) bytes (nat_lt (length bytes) (4 * k)) le)
+cases_left n k bytes le = table_left n (next_bytes (4 * k) bytes) cases_of_bytes (bytes_left n (4 * k) bytes (nat_lt (length bytes) (4 * k)) le)
 
 stable_switch_left : (n : ℕ) (bytes : List ℕ) → length bytes ≤ n → IsLeft n (stable_switch_at bytes)
 unfolding stable_switch_at
 stable_switch_left n bytes le =
-    field n (s2_at bytes) _ (s2_left n bytes le) (λ d h. field n (s2_at d.rest) _ (s2_left n d.rest h) (λ l i. field n (s2_at l.rest) _ (s2_left n l.rest i) (λ u j.
+    field n (next_s2 bytes) _ (s2_left n bytes le) (λ d h. field n (next_s2 d.rest) _ (s2_left n d.rest h) (λ l i. field n (next_s2 l.rest) _ (s2_left n l.rest i) (λ u j.
     chosen n (int_lt u.value l.value) _ _ (none n BadOperand) (field n (offsets_at (unsigned_abs (u.value -ℤ l.value) + 1) u.rest) _ (offsets_left n _ u.rest j) (λ t k. same n _ t.rest k)))))
 
 lookup_switch_left : (n : ℕ) (bytes : List ℕ) → length bytes ≤ n → IsLeft n (lookup_switch_at bytes)
 unfolding lookup_switch_at
-lookup_switch_left n bytes le = field n (s2_at bytes) _ (s2_left n bytes le) (λ d h. field n (u2_at d.rest) _ (u2_left n d.rest h) (λ c i. field n (cases_at c.value c.rest) _ (cases_left n c.value c.rest i) (λ t k. same n _ t.rest k)))
+lookup_switch_left n bytes le = field n (next_s2 bytes) _ (s2_left n bytes le) (λ d h. field n (next_u2 d.rest) _ (u2_left n d.rest h) (λ c i. field n (cases_at c.value c.rest) _ (cases_left n c.value c.rest i) (λ t k. same n _ t.rest k)))
 
 wide_increment_left : (n : ℕ) (bytes : List ℕ) → length bytes ≤ n → IsLeft n (wide_increment_at bytes)
 unfolding wide_increment_at
-wide_increment_left n bytes le = field n (u1_at bytes) _ (u1_left n bytes le) (λ r h. field n (s2_at r.rest) _ (s2_left n r.rest h) (λ s k. same n _ s.rest k))
+wide_increment_left n bytes le = field n (next_u1 bytes) _ (u1_left n bytes le) (λ r h. field n (next_s2 r.rest) _ (s2_left n r.rest h) (λ s k. same n _ s.rest k))
 
 wide_branch_left : (n op : ℕ) (bytes : List ℕ) → length bytes ≤ n → IsLeft n (wide_branch_at op bytes)
 unfolding wide_branch_at
-wide_branch_left n op bytes le = either n (when_of (op - 56)) _ _ (λ when. field n (s2_at bytes) _ (s2_left n bytes le) (λ r h. same n _ r.rest h)) (none n BadOpcode)
+wide_branch_left n op bytes le = either n (when_of (op - 56)) _ _ (λ when. field n (next_s2 bytes) _ (s2_left n bytes le) (λ r h. same n _ r.rest h)) (none n BadOpcode)
 
 control_left : (n op : ℕ) (bytes : List ℕ) → length bytes ≤ n → IsLeft n (control_at op bytes)
 unfolding control_at
@@ -99,33 +99,33 @@ control_left n op bytes le =
 
 branch_left : (n op : ℕ) (bytes : List ℕ) → length bytes ≤ n → IsLeft n (branch_at op bytes)
 unfolding branch_at
-branch_left n op bytes le = either n (when_of op) _ _ (λ when. field n (s1_at bytes) _ (s1_left n bytes le) (λ r h. same n _ r.rest h)) (control_left n op bytes le)
+branch_left n op bytes le = either n (when_of op) _ _ (λ when. field n (next_s1 bytes) _ (s1_left n bytes le) (λ r h. same n _ r.rest h)) (control_left n op bytes le)
 
 arithmetic_left : (n op : ℕ) (bytes : List ℕ) → length bytes ≤ n → IsLeft n (arithmetic_at op bytes)
 unfolding arithmetic_at
 arithmetic_left n op bytes le =
-    chosen n (op == 75) _ _ (same n _ bytes le) (chosen n (op == 89) _ _ (field n (u1_at bytes) _ (u1_left n bytes le) (λ r h. field n (s1_at r.rest) _ (s1_left n r.rest h) (λ s k. same n _ s.rest k))) (chosen n (op == 91) _ _ (same n _ bytes le) (either n (operator_of op) _ _ (λ x. same n _ bytes le) (branch_left n op bytes le))))
+    chosen n (op == 75) _ _ (same n _ bytes le) (chosen n (op == 89) _ _ (field n (next_u1 bytes) _ (u1_left n bytes le) (λ r h. field n (next_s1 r.rest) _ (s1_left n r.rest h) (λ s k. same n _ s.rest k))) (chosen n (op == 91) _ _ (same n _ bytes le) (either n (operator_of op) _ _ (λ x. same n _ bytes le) (branch_left n op bytes le))))
 
 shuffle_left : (n op : ℕ) (bytes : List ℕ) → length bytes ≤ n → IsLeft n (shuffle_at op bytes)
 unfolding shuffle_at
 shuffle_left n op bytes le =
     chosen n (op == 59) _ _ (same n _ bytes le) (chosen n (op == 60) _ _ (same n _ bytes le) (chosen n (op == 61) _ _ (same n _ bytes le) (chosen n (op == 62) _ _ (same n _ bytes le)
-    (chosen n (op == 63) _ _ (field n (u1_at bytes) _ (u1_left n bytes le) (λ r h. chosen n (is_duplicate (r.value / 16) (r.value % 16)) _ _ (same n _ r.rest h) (none n BadOperand))) (chosen n (op == 64) _ _ (field n (u1_at bytes) _ (u1_left n bytes le) (λ r h. chosen n (is_swap (r.value / 16) (r.value % 16)) _ _ (same n _ r.rest h) (none n BadOperand))) (arithmetic_left n op bytes le))))))
+    (chosen n (op == 63) _ _ (field n (next_u1 bytes) _ (u1_left n bytes le) (λ r h. chosen n (is_duplicate (r.value / 16) (r.value % 16)) _ _ (same n _ r.rest h) (none n BadOperand))) (chosen n (op == 64) _ _ (field n (next_u1 bytes) _ (u1_left n bytes le) (λ r h. chosen n (is_swap (r.value / 16) (r.value % 16)) _ _ (same n _ r.rest h) (none n BadOperand))) (arithmetic_left n op bytes le))))))
 
 local_left : (n op : ℕ) (bytes : List ℕ) → length bytes ≤ n → IsLeft n (local_at op bytes)
 unfolding local_at
 local_left n op bytes le =
-    chosen n (op == 22) _ _ (field n (u1_at bytes) _ (u1_left n bytes le) (λ r h. same n _ r.rest h)) (chosen n (op == 28) _ _ (same n _ bytes le) (chosen n (op == 29) _ _ (same n _ bytes le) (chosen n (op == 30) _ _ (same n _ bytes le) (chosen n (op == 31) _ _ (same n _ bytes le)
-    (chosen n (op == 41) _ _ (field n (u1_at bytes) _ (u1_left n bytes le) (λ r h. same n _ r.rest h)) (chosen n (op == 47) _ _ (same n _ bytes le) (chosen n (op == 48) _ _ (same n _ bytes le) (chosen n (op == 49) _ _ (same n _ bytes le) (chosen n (op == 50) _ _ (same n _ bytes le) (shuffle_left n op bytes le))))))))))
+    chosen n (op == 22) _ _ (field n (next_u1 bytes) _ (u1_left n bytes le) (λ r h. same n _ r.rest h)) (chosen n (op == 28) _ _ (same n _ bytes le) (chosen n (op == 29) _ _ (same n _ bytes le) (chosen n (op == 30) _ _ (same n _ bytes le) (chosen n (op == 31) _ _ (same n _ bytes le)
+    (chosen n (op == 41) _ _ (field n (next_u1 bytes) _ (u1_left n bytes le) (λ r h. same n _ r.rest h)) (chosen n (op == 47) _ _ (same n _ bytes le) (chosen n (op == 48) _ _ (same n _ bytes le) (chosen n (op == 49) _ _ (same n _ bytes le) (chosen n (op == 50) _ _ (same n _ bytes le) (shuffle_left n op bytes le))))))))))
 
 operation_left : (n op : ℕ) (bytes : List ℕ) → length bytes ≤ n → IsLeft n (operation_of op bytes)
 unfolding operation_of
 operation_left n op bytes le =
     chosen n (op == 0) _ _ (same n _ bytes le) (chosen n (op == 2) _ _ (same n _ bytes le) (chosen n (op == 3) _ _ (same n _ bytes le) (chosen n (op == 4) _ _ (same n _ bytes le) (chosen n (op == 5) _ _ (same n _ bytes le) (chosen n (op == 6) _ _ (same n _ bytes le) (chosen n (op == 7) _ _ (same n _ bytes le) (chosen n (op == 8) _ _ (same n _ bytes le)
-    (chosen n (op == 16) _ _ (field n (s1_at bytes) _ (s1_left n bytes le) (λ r h. same n _ r.rest h)) (chosen n (op == 17) _ _ (field n (s2_at bytes) _ (s2_left n bytes le) (λ r h. same n _ r.rest h)) (local_left n op bytes le))))))))))
+    (chosen n (op == 16) _ _ (field n (next_s1 bytes) _ (s1_left n bytes le) (λ r h. same n _ r.rest h)) (chosen n (op == 17) _ _ (field n (next_s2 bytes) _ (s2_left n bytes le) (λ r h. same n _ r.rest h)) (local_left n op bytes le))))))))))
 
 -- what is left behind a byte is no more than there was
-pub left_behind_byte : (bytes left : List ℕ) (x : Option ℕ) → Steps (λ x. x) x bytes left (u1_at bytes) → length left ≤ length bytes
+pub left_behind_byte : (bytes left : List ℕ) (x : Option ℕ) → Takes (λ x. x) x bytes left (next_u1 bytes) → length left ≤ length bytes
 left_behind_byte bytes left (Some x) h = let P : Option (Read ℕ) → Type 0 = λ o. Field (length bytes) o in subst P h (u1_left (length bytes) bytes (omega arith))
 left_behind_byte bytes left None h = omega (arith, ap length h.1)
 

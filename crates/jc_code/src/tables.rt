@@ -1,7 +1,7 @@
 //! The tables of switches, lent from the code.
 
 ghost use Rattle.std.specs.Prelude.{◌≡◌, ◌*◌, ◌<◌, ◌^◌, length, slice_get};
-ghost use Rattle.jc_base.specs.Reading.{Gives};
+ghost use Rattle.jc_base.specs.Cursor.{GivesSome};
 ghost use Rattle.jc_code.specs.Tables.{offsets_at, cases_at};
 
 use byteorder::{BigEndian, ByteOrder};
@@ -51,7 +51,7 @@ impl<'a> Offsets<'a> {
 #[tactic(auto, unfolding(crate::specs::Tables::offsets_at))]
 pub(crate) fn next_offsets<'a>(cursor: &mut Cursor<'a>, count: usize) -> Option<Offsets<'a>>
     requires { count < 2 ^ 17 }
-    ensures { Gives (λ t. t) result cursor.new (offsets_at count cursor.old) }
+    ensures { GivesSome (λ t. t) result cursor.new (offsets_at count cursor.old) }
 {
     let bytes = cursor.take(2 * count)?;
     Some(Offsets { bytes })
@@ -115,7 +115,7 @@ impl<'a> Cases<'a> {
 #[tactic(auto, unfolding(crate::specs::Tables::cases_at))]
 pub(crate) fn next_cases<'a>(cursor: &mut Cursor<'a>, count: usize) -> Option<Cases<'a>>
     requires { count < 2 ^ 17 }
-    ensures { Gives (λ t. t) result cursor.new (cases_at count cursor.old) }
+    ensures { GivesSome (λ t. t) result cursor.new (cases_at count cursor.old) }
 {
     let bytes = cursor.take(4 * count)?;
     Some(Cases { bytes })

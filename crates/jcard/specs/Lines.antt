@@ -1,7 +1,7 @@
 -- The lines that answers and faults are printed as.
 use Rattle.std.specs.Prelude.{ℕ, List, ◌++◌, Option, Some, None, codes}
 use Rattle.std.specs.Fmt.{decimal, signed_decimal}
-use Rattle.jc_base.specs.Names.{name_of}
+use Rattle.jc_base.specs.Reason.{name_of}
 use Rattle.jcard.specs.declared.answer.EvalAnswer.{EvalAnswer}
 use Rattle.jcard.specs.declared.answer.EvalAnswer.TheVariants.{Value, Throws, Refused, BadCertificate, StepsUsedUp, Memory}
 use Rattle.jcard.specs.declared.program.TextFault.{TextFault}

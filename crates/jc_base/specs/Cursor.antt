@@ -1,0 +1,61 @@
+-- Reading from the front of a list of bytes: a value and the bytes behind it, or nothing.
+-- Numbers are big-endian (Java Card Virtual Machine Specification, CAP file format: u1, u2 and u4; and s1 and s2 with
+-- a sign).
+use Rattle.std.specs.Prelude.{◌≡◌, ℕ, ℤ, ◌+◌, ◌*◌, List, [], ◌∷◌, length, take, drop, Option, Some, None, Result, Ok, Err, nat_lt, if◌then◌else◌}
+use Rattle.std.specs.Int.{w8, w16, cast_signed}
+use Rattle.std.specs.Option.{option_and_then}
+
+-- what was read, and the bytes behind it
+pub record Read (A : Type 0) : Type 0 where
+  pub value : A
+  pub rest : List ℕ
+
+-- read on behind a value, if there was one
+infixl 10 ◌>>=◌
+abbrev pub ◌>>=◌ : {A B : Type 0} → Option A → (A → Option B) → Option B
+o >>= f = option_and_then f o
+
+-- one byte
+abbrev pub next_u1 : List ℕ → Option (Read ℕ)
+next_u1 [] = None
+next_u1 (b ∷ rest) = Some (record { value = b; rest = rest })
+
+-- two bytes, the high one first
+abbrev pub next_u2 : List ℕ → Option (Read ℕ)
+next_u2 (high ∷ low ∷ rest) = Some (record { value = 256 * high + low; rest = rest })
+next_u2 _ = None
+
+-- four bytes, the highest one first
+abbrev pub next_u4 : List ℕ → Option (Read ℕ)
+next_u4 (a ∷ b ∷ c ∷ d ∷ rest) = Some (record { value = 256 * (256 * (256 * a + b) + c) + d; rest = rest })
+next_u4 _ = None
+
+-- one byte, with its sign
+abbrev pub next_s1 : List ℕ → Option (Read ℤ)
+next_s1 [] = None
+next_s1 (b ∷ rest) = Some (record { value = cast_signed w8 b; rest = rest })
+
+-- two bytes, the high one first, with the sign of the whole
+abbrev pub next_s2 : List ℕ → Option (Read ℤ)
+next_s2 (high ∷ low ∷ rest) = Some (record { value = cast_signed w16 (256 * high + low); rest = rest })
+next_s2 _ = None
+
+-- the next n bytes
+abbrev pub next_bytes : ℕ → List ℕ → Option (Read (List ℕ))
+next_bytes n bytes = if nat_lt (length bytes) n then None else Some (record { value = take n bytes; rest = drop n bytes })
+
+-- What a call on a cursor gave, seen by view: what reading gives, with the cursor behind it, or
+-- nothing, with the cursor where it was.
+abbrev pub Takes : {X Y : Type 0} → (X → Y) → Option X → List ℕ → List ℕ → Option (Read Y) → Type 0
+Takes view (Some x) old new read = read ≡ Some (record { value = view x; rest = new })
+Takes view None old new read = (read ≡ None) × (new ≡ old)
+
+-- What a reader of several fields gave, seen by view. Where it gave nothing, the cursor stands anywhere.
+abbrev pub GivesSome : {X Y : Type 0} → (X → Y) → Option X → List ℕ → Option (Read Y) → Type 0
+GivesSome view (Some x) new read = read ≡ Some (record { value = view x; rest = new })
+GivesSome view None new read = read ≡ None
+
+-- What a reader gave, seen by view, or why it gave nothing. Then the cursor stands anywhere.
+abbrev pub Gives : {X Y E : Type 0} → (X → Y) → Result X E → List ℕ → Result (Read Y) E → Type 0
+Gives view (Ok x) new read = read ≡ Ok (record { value = view x; rest = new })
+Gives view (Err e) new read = read ≡ Err e

@@ -1,6 +1,7 @@
 pub mod Cursor
 pub mod Results
 pub mod Reason
+pub mod Fault
 pub mod Image
 pub mod Aid
 pub mod Components

@@ -1,11 +1,15 @@
 //! Why an image isn't loaded.
 
+ghost use Rattle.std.specs.Prelude.{◌≡◌, Some};
+ghost use Rattle.jc_base.specs.Fault.{is_told_before, least_of, number_of, place_of, words_of};
+
 use crate::reason::Reason;
+use std::fmt;
 use thiserror::Error;
 
 /// Why an image isn't loaded, with the place. Of several refusals that apply the one with the smallest
-/// number is told, and of several places of one refusal the first. Its text is the printed refusal
-/// without the word `refused`, numbers in decimal.
+/// number is told, and of several places of one refusal the first. The words of its printed line are those of
+/// `words`; the text that is derived says the same.
 #[derive(Clone, Copy, Debug, PartialEq, Eq, Drop, Error)]
 pub enum LoadFault {
     /// A component's size runs past the image.
@@ -69,4 +73,120 @@ pub enum LoadFault {
     /// No memory was left.
     #[error("19 Memory")]
     Memory,
+}
+
+impl LoadFault {
+    /// The refusal's number, 1 to 19.
+    pub fn number(&self) -> u8
+        ensures { result ≡ number_of self.now }
+    {
+        match self {
+            LoadFault::ShortComponent => 1,
+            LoadFault::ExtraBytes => 2,
+            LoadFault::MissingComponent(_) => 3,
+            LoadFault::RepeatedComponent(_) => 4,
+            LoadFault::BadMagic => 5,
+            LoadFault::FormatVersion => 6,
+            LoadFault::IntPackage => 7,
+            LoadFault::BadAid => 8,
+            LoadFault::Malformed(_) => 9,
+            LoadFault::MissingImport(_) => 10,
+            LoadFault::Unresolved(_) => 11,
+            LoadFault::TypeMismatch(_) => 12,
+            LoadFault::BadClass(_) => 13,
+            LoadFault::BadStatic(_) => 14,
+            LoadFault::DuplicatePackage => 15,
+            LoadFault::BadCertificate => 16,
+            LoadFault::MethodRefused { .. } => 17,
+            LoadFault::Full => 18,
+            LoadFault::Memory => 19,
+        }
+    }
+
+    /// Where it was found: a tag, a token, an index or an offset. 0 for a refusal that names no place.
+    pub fn place(&self) -> u16
+        ensures { result ≡ place_of self.now }
+    {
+        match self {
+            LoadFault::MissingComponent(tag)
+            | LoadFault::RepeatedComponent(tag)
+            | LoadFault::Malformed(tag) => u16::from(*tag),
+            LoadFault::MissingImport(token) => u16::from(*token),
+            LoadFault::Unresolved(index) | LoadFault::TypeMismatch(index) => *index,
+            LoadFault::BadClass(offset) | LoadFault::BadStatic(offset) => *offset,
+            LoadFault::MethodRefused { method, .. } => *method,
+            LoadFault::ShortComponent
+            | LoadFault::ExtraBytes
+            | LoadFault::BadMagic
+            | LoadFault::FormatVersion
+            | LoadFault::IntPackage
+            | LoadFault::BadAid
+            | LoadFault::DuplicatePackage
+            | LoadFault::BadCertificate
+            | LoadFault::Full
+            | LoadFault::Memory => 0,
+        }
+    }
+
+    /// Whether it is told where the other applies too: it has the smaller number, or the smaller place of one number.
+    pub fn is_told_before(&self, other: &LoadFault) -> bool
+        ensures { result ≡ is_told_before self.now other.now }
+    {
+        let (number, others_number) = (self.number(), other.number());
+        number < others_number || number == others_number && self.place() < other.place()
+    }
+
+    /// The one of two that is told.
+    pub fn least_of(self, other: LoadFault) -> LoadFault
+        ensures { result ≡ least_of self other }
+    {
+        if other.is_told_before(&self) {
+            other
+        } else {
+            self
+        }
+    }
+
+    /// The words of the printed line behind `refused`: number, name and places, numbers in decimal.
+    pub fn words(self) -> RefusalWords
+        ensures { result ≡ record { fault = self } }
+    {
+        RefusalWords { fault: self }
+    }
+}
+
+/// A refusal as it is printed behind the word `refused`.
+#[derive(Clone, Copy, Debug, PartialEq, Eq)]
+pub struct RefusalWords {
+    pub fault: LoadFault,
+}
+
+impl fmt::Display for RefusalWords {
+    ghost output = { λ w. Some (words_of w.fault) };
+
+    fn fmt<W: fmt::Write>(&self, f: &mut fmt::Formatter<W>) -> fmt::Result {
+        match self.fault {
+            LoadFault::ShortComponent => write!(f, "1 ShortComponent"),
+            LoadFault::ExtraBytes => write!(f, "2 ExtraBytes"),
+            LoadFault::MissingComponent(tag) => write!(f, "3 MissingComponent {tag}"),
+            LoadFault::RepeatedComponent(tag) => write!(f, "4 RepeatedComponent {tag}"),
+            LoadFault::BadMagic => write!(f, "5 BadMagic"),
+            LoadFault::FormatVersion => write!(f, "6 FormatVersion"),
+            LoadFault::IntPackage => write!(f, "7 IntPackage"),
+            LoadFault::BadAid => write!(f, "8 BadAid"),
+            LoadFault::Malformed(tag) => write!(f, "9 Malformed {tag}"),
+            LoadFault::MissingImport(token) => write!(f, "10 MissingImport {token}"),
+            LoadFault::Unresolved(index) => write!(f, "11 Unresolved {index}"),
+            LoadFault::TypeMismatch(index) => write!(f, "12 TypeMismatch {index}"),
+            LoadFault::BadClass(offset) => write!(f, "13 BadClass {offset}"),
+            LoadFault::BadStatic(offset) => write!(f, "14 BadStatic {offset}"),
+            LoadFault::DuplicatePackage => write!(f, "15 DuplicatePackage"),
+            LoadFault::BadCertificate => write!(f, "16 BadCertificate"),
+            LoadFault::MethodRefused { method, pc, reason } => {
+                write!(f, "17 MethodRefused {method} {pc} {reason}")
+            }
+            LoadFault::Full => write!(f, "18 Full"),
+            LoadFault::Memory => write!(f, "19 Memory"),
+        }
+    }
 }

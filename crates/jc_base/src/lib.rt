@@ -16,7 +16,7 @@ pub use aid::Aid;
 pub use class_ref::{ClassRef, class_ref_of};
 pub use cursor::Cursor;
 pub use cutting::cut;
-pub use fault::LoadFault;
+pub use fault::{LoadFault, RefusalWords};
 pub use package_info::PackageInfo;
 pub use parts::Parts;
 pub use reason::Reason;

@@ -5,7 +5,7 @@ ghost use Rattle.jc_base.specs.Reason.{name_of};
 
 use std::fmt;
 
-/// Why a method isn't accepted at a pc, in the order in which one instruction is tested.
+/// Why a method isn't accepted at a pc.
 #[derive(Clone, Copy, Debug, PartialEq, Eq)]
 pub enum Reason {
     /// No instruction of the profile has this opcode.

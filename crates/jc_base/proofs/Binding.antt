@@ -1,5 +1,5 @@
 -- What an answer says of the steps that led to it.
-use Rattle.std.proofs.Common.{◌≡◌, Option, Some, None, Result, Ok, Err, Bool, true, false, cond, ◌⊎◌, inl, inr, refl, subst}
+use Rattle.std.proofs.Common.{◌≡◌, Option, Some, None, Result, Ok, Err, Bool, true, false, ◌&&◌, cond, ◌⊎◌, inl, inr, refl, subst}
 use Rattle.jc_base.specs.Results.{◌>>=◌}
 
 pub bind_ok : {A B E : Type 0} (r : Result A E) (f : A → Result B E) (y : B) → (r >>= f) ≡ Ok y → (x : A) × (r ≡ Ok x) × (f x ≡ Ok y)
@@ -28,3 +28,8 @@ chosen {b} e x y z h = let P : Bool → Type 0 = λ v. cond v x y ≡ z in subst
 pub choice : (b : Bool) {A : Type 0} (x y z : A) → cond b x y ≡ z → ((b ≡ true) × (x ≡ z)) ⊎ ((b ≡ false) × (y ≡ z))
 choice true x y z h = inl (refl, h)
 choice false x y z h = inr (refl, h)
+
+pub both_true : (a b : Bool) → a && b ≡ true → (a ≡ true) × (b ≡ true)
+both_true true true h = (refl, refl)
+both_true true false h = absurd cc
+both_true false b h = absurd cc

@@ -3,7 +3,7 @@ use Rattle.std.proofs.Common.{◌≡◌, ℕ, ℤ, ◌+◌, ◌≤◌, List, len
 use Rattle.std.specs.Prelude.{⊤, slice_get}
 use Rattle.jc_base.specs.declared.reason.Reason.{Reason}
 use Rattle.jc_base.specs.Results.{◌>>=◌}
-use Rattle.jc_types.specs.Types.{Types}
+use Rattle.jc_types.specs.State.{Types}
 use Rattle.jc_code.specs.Listing.{Placed}
 use Rattle.jc_cert.specs.Rows.{Stated}
 use Rattle.jc_check.specs.FirstFault.{arrives, all_arrive}

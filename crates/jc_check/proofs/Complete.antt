@@ -7,7 +7,7 @@ use Rattle.jc_base.specs.Results.{◌>>=◌}
 use Rattle.jc_code.specs.Listing.{Placed, Runs, placed_at}
 use Rattle.jc_code.specs.Targets.{targets_of, falls_of}
 use Rattle.jc_code.proofs.Listings.{next_within, placed_behind, placed_front}
-use Rattle.jc_types.specs.Types.{Types}
+use Rattle.jc_types.specs.State.{Types}
 use Rattle.jc_cert.specs.Rows.{Stated}
 use Rattle.jc_check.specs.Method.{Method, entry_of}
 use Rattle.jc_check.specs.Typing.{Typing}

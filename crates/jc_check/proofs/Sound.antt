@@ -8,7 +8,7 @@ use Rattle.jc_base.proofs.Binding.{bind_ok, guard_ok, the_ok, the_some, none_som
 use Rattle.jc_code.specs.Listing.{Placed, Runs, IsListing, placed_at, begins}
 use Rattle.jc_code.specs.Targets.{targets_of, falls_of}
 use Rattle.jc_code.proofs.Listings.{next_within}
-use Rattle.jc_types.specs.Types.{Types, types_below}
+use Rattle.jc_types.specs.State.{Types, types_below}
 use Rattle.jc_step.specs.Effect.{effect_of}
 use Rattle.jc_cert.specs.Rows.{Stated}
 use Rattle.jc_check.specs.Method.{Method, entry_of}

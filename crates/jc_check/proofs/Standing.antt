@@ -6,7 +6,7 @@ use Rattle.std.proofs.lemmas.Option.{slice_get_read, slice_get-map}
 use Rattle.std.proofs.lemmas.List.{length-take-le}
 use Rattle.jc_base.specs.declared.reason.Reason.TheVariants.{CertMismatch}
 use Rattle.jc_base.proofs.Binding.{none_some, the_some}
-use Rattle.jc_types.specs.Types.{Types}
+use Rattle.jc_types.specs.State.{Types}
 use Rattle.jc_code.specs.Listing.{Placed, IsListing, begins}
 use Rattle.jc_code.proofs.Listings.{placed_begins, there, next_within}
 use Rattle.jc_cert.specs.declared.cert.StateRow.{StateRow}

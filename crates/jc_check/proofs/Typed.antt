@@ -4,7 +4,7 @@ use Rattle.std.specs.List.{AllByRecursion}
 use Rattle.jc_code.specs.Listing.{Placed}
 use Rattle.jc_code.specs.Targets.{targets_of, falls_of}
 use Rattle.jc_code.proofs.Listings.{placed_begins}
-use Rattle.jc_types.specs.Types.{Types}
+use Rattle.jc_types.specs.State.{Types}
 use Rattle.jc_types.specs.Order.{types_below_self}
 use Rattle.jc_cert.specs.Rows.{Stated}
 use Rattle.jc_check.specs.Method.{Method, entry_of}

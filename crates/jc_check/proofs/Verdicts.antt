@@ -7,7 +7,7 @@ use Rattle.jc_base.proofs.Binding.{ok_err, the_some}
 use Rattle.jc_code.specs.declared.fault.CodeFault.{CodeFault}
 use Rattle.jc_code.specs.Listing.{Placed, IsListing, StopsAt}
 use Rattle.jc_code.proofs.Listings.{one_listing, listed_or_stopped}
-use Rattle.jc_types.specs.Types.{Types, Roomy, tops}
+use Rattle.jc_types.specs.State.{Types, StateWithRoom, tops}
 use Rattle.jc_types.proofs.Tops.{length-tops}
 use Rattle.jc_cert.specs.Rows.{Stated, Row}
 use Rattle.jc_check.specs.Method.{Method, entry_of, word_method, states_of}
@@ -81,7 +81,7 @@ carried_or_memory code states rows (faults.Refused pc reason) e t c =
     absurd (no_fault (word_method code) states (fault_at pc reason) t (subst C same c.carried))
 
 -- the entry state has the method's shape
-pub entry_room : (m : Method) (s : Roomy) → s.types ≡ entry_of m → s.room ≡ m.max_stack → HasRoom m s
+pub entry_room : (m : Method) (s : StateWithRoom) → s.types ≡ entry_of m → s.room ≡ m.max_stack → HasRoom m s
 entry_room m s types room = record { locals = ap (λ (t : Types). length t.locals) types ∙ length-append m.arguments (tops m.others) ∙ ap (λ (n : ℕ). length m.arguments + n) (length-tops m.others); room = room }
 
 pub nothing_in : {A : Type 0} (xs ys : List A) → ys ≡ xs → true ≡ (length ys == 0) → xs ≡ []

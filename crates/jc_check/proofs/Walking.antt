@@ -9,7 +9,7 @@ use Rattle.jc_code.specs.declared.instr.Instr.{Instr}
 use Rattle.jc_code.specs.Spelling.{instr_at}
 use Rattle.jc_code.specs.Listing.{Placed, Runs}
 use Rattle.jc_code.proofs.Listings.{next_within}
-use Rattle.jc_types.specs.Types.{Types}
+use Rattle.jc_types.specs.State.{Types}
 use Rattle.jc_cert.specs.Rows.{Stated}
 use Rattle.jc_check.specs.Method.{Method}
 use Rattle.jc_check.specs.FirstFault.{Fault, fault_at, told, visit, walk}

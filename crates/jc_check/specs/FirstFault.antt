@@ -9,7 +9,7 @@ use Rattle.jc_code.specs.declared.fault.CodeFault.{CodeFault}
 use Rattle.jc_code.specs.declared.fault.CodeFault.TheVariants as faults
 use Rattle.jc_code.specs.Listing.{Placed, IsListing, StopsAt, begins}
 use Rattle.jc_code.specs.Targets.{targets_of, falls_of}
-use Rattle.jc_types.specs.Types.{Types, types_below}
+use Rattle.jc_types.specs.State.{Types, types_below}
 use Rattle.jc_step.specs.Effect.{effect_of}
 use Rattle.jc_cert.specs.Rows.{Stated}
 use Rattle.jc_check.specs.Method.{Method, entry_of, word_method}

@@ -2,7 +2,7 @@
 use Rattle.std.specs.Prelude.{ℕ, ◌==◌, List, [], ◌∷◌, Option, Some, None, if◌then◌else◌}
 use Rattle.jc_types.specs.declared.ty.Ty.{Ty}
 use Rattle.jc_types.specs.declared.ty.Ty.TheVariants.{Word}
-use Rattle.jc_types.specs.Types.{Types, entry_types}
+use Rattle.jc_types.specs.State.{Types, entry_types}
 use Rattle.jc_cert.specs.Rows.{Stated, Row}
 
 -- its code, the types of its arguments, how many other locals and how many operands it may have, and the type of

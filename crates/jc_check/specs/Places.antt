@@ -2,7 +2,7 @@
 use Rattle.std.specs.Prelude.{⊤, ◌≡◌, ℕ, ◌+◌, ◌<◌, List, length, Option, Some, None, Result, Ok, Err, Bool, true, false, slice_get, slice_index_or, if◌then◌else◌}
 use Rattle.jc_base.specs.declared.reason.Reason.{Reason}
 use Rattle.jc_code.specs.Listing.{Placed, IsListing, begins}
-use Rattle.jc_types.specs.Types.{Types, Roomy}
+use Rattle.jc_types.specs.State.{Types, StateWithRoom}
 use Rattle.jc_code.specs.declared.instr.Instr.{Instr}
 use Rattle.jc_cert.specs.Rows.{Stated}
 use Rattle.jc_check.specs.Method.{Method}
@@ -68,7 +68,7 @@ Verdict (Ok _) verdict = verdict ≡ Ok tt
 Verdict (Err fault) verdict = Told fault (λ f. verdict ≡ Err f)
 
 -- a state has the method's number of locals, and room for the operands that the method may have
-pub record HasRoom (m : Method) (s : Roomy) : Type 0 where
+pub record HasRoom (m : Method) (s : StateWithRoom) : Type 0 where
   pub locals : length s.types.locals ≡ length m.arguments + m.others
   pub room : s.room ≡ m.max_stack
 

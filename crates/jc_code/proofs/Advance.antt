@@ -2,7 +2,7 @@
 use Rattle.std.proofs.Common.{◌≡◌, ℕ, suc, ◌+◌, ◌-◌, ◌*◌, ◌/◌, ◌%◌, ◌==◌, ◌≤◌, ◌<◌, List, [], ◌∷◌, length, take, drop, Bool, true, false, cond, nat_lt, Option, Some, None, Result, Ok, Err, ap, subst, arith, length-drop}
 use Rattle.std.specs.Prelude.{◌-ℤ◌, unsigned_abs, int_lt}
 use Rattle.jc_base.specs.Cursor.{Read, Takes, next_u1, next_u2, next_s1, next_s2, next_bytes}
-use Rattle.jc_base.specs.Reading as reading
+use Rattle.jc_base.specs.Cursor as reading
 use Rattle.jc_code.specs.declared.fault.CodeFault.{CodeFault}
 use Rattle.jc_code.specs.declared.fault.CodeFault.TheVariants.{BadOpcode, BadOperand}
 use Rattle.jc_code.specs.declared.instr.Instr.{Instr}

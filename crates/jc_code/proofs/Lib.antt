@@ -1,3 +1,4 @@
 mod TableLemmas
 pub mod Advance
 pub mod Listings
+mod Stops

@@ -13,8 +13,9 @@ use Rattle.jc_code.specs.declared.instr.When.{When}
 use Rattle.jc_code.specs.declared.instr.When.TheVariants.{Always, Zero, Compare}
 use Rattle.jc_types.specs.declared.ty.Ty.{Ty}
 use Rattle.jc_types.specs.declared.ty.Ty.TheVariants.{Word}
-use Rattle.jc_types.specs.Types.{Types, is_below}
-use Rattle.jc_types.specs.Steps.{local_type, set_local_type, push_type, take_types, drop_types, duplicate_types, swap_types}
+use Rattle.jc_types.specs.Ty.{is_below}
+use Rattle.jc_types.specs.State.{Types}
+use Rattle.jc_types.specs.Changes.{local_type, set_local_type, push_type, take_types, drop_types, duplicate_types, swap_types}
 
 -- a value of one type where another is wanted
 unfoldable pub fits : Ty → Ty → Result ⊤ Reason

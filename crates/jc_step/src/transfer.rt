@@ -2,7 +2,7 @@
 
 ghost use Rattle.std.specs.Prelude.{◌≡◌, ◌≤◌, length};
 ghost use Rattle.std.specs.Option.{option_copied};
-ghost use Rattle.jc_types.specs.Steps.{Became};
+ghost use Rattle.jc_types.specs.Changes.{Became};
 ghost use Rattle.jc_step.specs.Effect.{fits, fits_result, shuffle_effect, branch_effect, effect_of};
 
 use jc_base::Reason;

@@ -1,4 +1,5 @@
-pub mod Tops
+mod Order
+mod Tops
 mod Points
 mod Operands
 mod Turned

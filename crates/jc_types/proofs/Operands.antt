@@ -5,8 +5,8 @@ use Rattle.std.proofs.lemmas.List.{length-reverse, length-take-le, drop-take}
 use Rattle.jc_base.specs.declared.reason.Reason.TheVariants.{WrongType}
 use Rattle.jc_base.proofs.StackViews.{dropped, topmost}
 use Rattle.jc_types.specs.declared.ty.Ty.{Ty}
-use Rattle.jc_types.specs.Types.{Types, all_below}
-use Rattle.jc_types.specs.Steps.{drop_types, take_types}
+use Rattle.jc_types.specs.State.{Types, all_below}
+use Rattle.jc_types.specs.Changes.{drop_types, take_types}
 
 abbrev pub state_of : List Ty → ℕ → List Ty → Types
 state_of locals depth slots = record { locals = locals; operands = reverse (take depth slots) }

@@ -2,7 +2,8 @@
 use Rattle.std.proofs.Common.{◌≡◌, ℕ, zero, suc, ◌+◌, ◌<◌, ◌≤◌, List, [], ◌∷◌, length, drop, get_or, Bool, true, false, ◌&&◌, refl, sym, ap, ◌∙◌, arith}
 use Rattle.jc_types.specs.declared.ty.Ty.{Ty}
 use Rattle.jc_types.specs.declared.ty.Ty.TheVariants.{Top}
-use Rattle.jc_types.specs.Types.{is_below, all_below}
+use Rattle.jc_types.specs.Ty.{is_below}
+use Rattle.jc_types.specs.State.{all_below}
 
 pub other_lengths : (a b : List Ty) → (length a ≡ length b → ⊥) → all_below a b ≡ false
 other_lengths [] [] ne = absurd (ne refl)

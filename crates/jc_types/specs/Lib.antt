@@ -1,3 +1,4 @@
-pub mod Types
-pub mod Order
-pub mod Steps
+pub mod Ty
+pub mod State
+pub mod Changes
+pub mod PrivateOrder

@@ -1,12 +1,12 @@
 //! Verification types, and states of a method's locals and operands.
 #![tactic(auto)]
 
+mod changes;
 mod lattice;
 mod state;
-mod steps;
 mod ty;
 
-pub use lattice::Lattice;
+pub use changes::are_below;
+pub use lattice::{Lattice, order_laws};
 pub use state::State;
-pub use steps::are_below;
 pub use ty::Ty;

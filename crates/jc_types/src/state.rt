@@ -1,7 +1,7 @@
 //! The state of a method at a place: the types of its locals and operands.
 
-ghost use Rattle.std.specs.Prelude.{◌≡◌, ◌++◌, IfOk, OnOk};
-ghost use Rattle.jc_types.specs.Types.{Types, tops, entry_types};
+ghost use Rattle.std.specs.Prelude.{◌≡◌, ◌++◌, replicate, IfOk, OnOk};
+ghost use Rattle.jc_types.specs.State.{entry_types};
 
 use crate::ty::Ty;
 use std::alloc::{AllocError, Global};
@@ -17,9 +17,9 @@ pub struct State {
 
 impl Model for State {
     ghost use Rattle.std.specs.Prelude.{reverse, take, length, ◌≤◌};
-    ghost use Rattle.jc_types.specs.Types.{Roomy};
+    ghost use Rattle.jc_types.specs.State.{StateWithRoom};
 
-    ghost Value = { Roomy };
+    ghost Value = { StateWithRoom };
 
     ghost view = { λ s. record { types = record { locals = s.locals.items; operands = reverse (take s.depth s.slots.items) }; room = length s.slots.items } };
 
@@ -27,7 +27,7 @@ impl Model for State {
 }
 
 fn push_tops(types: &mut Vec<Ty>, count: usize) -> Result<(), AllocError>
-    ensures { OnOk result (types.new.items ≡ types.old.items ++ tops count) }
+    ensures { OnOk result (types.new.items ≡ types.old.items ++ replicate count Ty.Top) }
 {
     for _ in 0..count {
         types.push(Ty::Top)?;
@@ -36,19 +36,19 @@ fn push_tops(types: &mut Vec<Ty>, count: usize) -> Result<(), AllocError>
 }
 
 impl State {
-    /// The state at the entry of a method: its arguments, `others` locals of which nothing is known, and no
-    /// operands, with room for `max_stack` of them. Memory is taken here and nowhere else.
+    /// The state at the entry of a method: its arguments, `max_locals` locals more of which nothing is known,
+    /// and no operands, with room for `max_stack` of them. Memory is taken here and nowhere else.
     pub fn entry(
         alloc: Global,
         arguments: &[Ty],
-        others: u8,
+        max_locals: u8,
         max_stack: u8,
     ) -> Result<State, AllocError>
-        ensures types { IfOk result (λ state. state.types ≡ entry_types arguments.now others) }
+        ensures types { IfOk result (λ state. state.types ≡ entry_types arguments.now max_locals) }
         ensures room { IfOk result (λ state. state.room ≡ max_stack) }
     {
         let mut locals = Vec::from_slice(alloc, arguments)?;
-        push_tops(&mut locals, usize::from(others))?;
+        push_tops(&mut locals, usize::from(max_locals))?;
         let mut slots = Vec::new(alloc);
         push_tops(&mut slots, usize::from(max_stack))?;
         Ok(State {

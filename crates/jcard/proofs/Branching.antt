@@ -10,7 +10,7 @@ use Rattle.jc_code.specs.declared.tables.Case.{Case}
 use Rattle.jc_code.specs.Listing.{Placed}
 use Rattle.jc_code.specs.Targets.{target_of}
 use Rattle.jc_types.specs.declared.ty.Ty.{Ty}
-use Rattle.jc_types.specs.Types.{Types}
+use Rattle.jc_types.specs.State.{Types}
 use Rattle.jc_step.specs.Effect.{effect_of}
 use Rattle.jc_check.specs.Method.{Method}
 use Rattle.jc_check.specs.Typing.{Typing, BranchLeads}

@@ -12,8 +12,9 @@ use Rattle.jc_code.specs.declared.instr.UnaryOperator.{UnaryOperator}
 use Rattle.jc_code.specs.Listing.{Placed}
 use Rattle.jc_types.specs.declared.ty.Ty.{Ty}
 use Rattle.jc_types.specs.declared.ty.Ty.TheVariants as types
-use Rattle.jc_types.specs.Types.{Types, is_below}
-use Rattle.jc_types.specs.Steps.{with_operands, push_type, take_types, drop_types, duplicate_types, swap_types}
+use Rattle.jc_types.specs.Ty.{is_below}
+use Rattle.jc_types.specs.State.{Types}
+use Rattle.jc_types.specs.Changes.{with_operands, push_type, take_types, drop_types, duplicate_types, swap_types}
 use Rattle.jc_step.specs.Effect.{fits, fits_result, effect_of}
 use Rattle.jc_check.specs.Method.{Method}
 use Rattle.jc_check.specs.Typing.{Typing, Leads}

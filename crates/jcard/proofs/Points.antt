@@ -5,8 +5,9 @@ use Rattle.jc_base.proofs.Binding.{none_some, the_some}
 use Rattle.jc_base.specs.Stack.{duplicated, swapped}
 use Rattle.jc_types.specs.declared.ty.Ty.{Ty}
 use Rattle.jc_types.specs.declared.ty.Ty.TheVariants as types
-use Rattle.jc_types.specs.Types.{is_below, all_below}
-use Rattle.jc_types.specs.Order.{both_true}
+use Rattle.jc_types.specs.Ty.{is_below}
+use Rattle.jc_types.specs.State.{all_below}
+use Rattle.jc_base.proofs.Binding.{both_true}
 use Rattle.jcard.specs.Tagged.{TaggedValue, Word, Ref, Null, Unset}
 use Rattle.jcard.specs.Agree.{Pointwise, HasType}
 

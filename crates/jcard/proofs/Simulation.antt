@@ -10,9 +10,9 @@ use Rattle.jc_code.specs.Listing.{Placed}
 use Rattle.jc_code.specs.Targets.{targets_of, falls_of}
 use Rattle.jc_types.specs.declared.ty.Ty.{Ty}
 use Rattle.jc_types.specs.declared.ty.Ty.TheVariants as types
-use Rattle.jc_types.specs.Types.{Types, all_below}
-use Rattle.jc_types.specs.Order.{both_true}
-use Rattle.jc_types.specs.Steps.{local_type, set_local_type, push_type, take_types}
+use Rattle.jc_types.specs.State.{Types, all_below}
+use Rattle.jc_base.proofs.Binding.{both_true}
+use Rattle.jc_types.specs.Changes.{local_type, set_local_type, push_type, take_types}
 use Rattle.jc_step.specs.Effect.{fits, effect_of}
 use Rattle.jc_check.specs.Method.{Method}
 use Rattle.jc_check.specs.Typing.{Typing, Leads, BranchLeads}

@@ -6,8 +6,8 @@ use Rattle.jc_code.specs.declared.instr.Operation.TheVariants.{Nop, Push, Load, 
 use Rattle.jc_code.specs.Spelling.{instr_at}
 use Rattle.jc_code.specs.Listing.{Placed}
 use Rattle.jc_code.proofs.Listings.{there, next_within}
-use Rattle.jc_types.specs.Types.{Types, all_below, tops}
-use Rattle.jc_types.specs.Order.{both_true}
+use Rattle.jc_types.specs.State.{Types, all_below, tops}
+use Rattle.jc_base.proofs.Binding.{both_true}
 use Rattle.jc_check.specs.Method.{Method, entry_of, word_method}
 use Rattle.jc_check.specs.Typing.{Typing, IsTyping}
 use Rattle.jcard.specs.Tagged.{unset, Frame, Outcome, act, act_at, defensive_step, first_frame}

@@ -7,9 +7,10 @@ use Rattle.jc_base.specs.declared.reason.Reason.TheVariants.{StackUnder, StackOv
 use Rattle.jc_base.proofs.Binding.{guard_ok, the_ok}
 use Rattle.jc_types.specs.declared.ty.Ty.{Ty}
 use Rattle.jc_types.specs.declared.ty.Ty.TheVariants as types
-use Rattle.jc_types.specs.Types.{Types, is_below}
-use Rattle.jc_types.specs.Order.{both_true}
-use Rattle.jc_types.specs.Steps.{with_operands, found, local_type, push_type, take_types}
+use Rattle.jc_types.specs.Ty.{is_below}
+use Rattle.jc_types.specs.State.{Types}
+use Rattle.jc_base.proofs.Binding.{both_true}
+use Rattle.jc_types.specs.Changes.{with_operands, found, local_type, push_type, take_types}
 use Rattle.jc_step.specs.Effect.{fits}
 use Rattle.jcard.specs.Tagged.{TaggedValue, Word}
 use Rattle.jcard.specs.Agree.{Pointwise, Reads, HasType}

@@ -2,7 +2,7 @@
 use Rattle.std.specs.Prelude.{⊤, ◌≡◌, ℕ, List, [], ◌∷◌, Some}
 use Rattle.jc_types.specs.declared.ty.Ty.{Ty}
 use Rattle.jc_types.specs.declared.ty.Ty.TheVariants as types
-use Rattle.jc_types.specs.Types.{Types}
+use Rattle.jc_types.specs.State.{Types}
 use Rattle.jc_check.specs.Typing.{Typing}
 use Rattle.jcard.specs.Tagged.{TaggedValue, Word, Ref, Null, Unset, Frame, Outcome, Next, Returns}
 use Rattle.jcard.specs.Tagged as tagged

@@ -1,7 +1,7 @@
 use Rattle.std.proofs.Common.{arith}
 use Rattle.std.proofs.lemmas.Grind.{common_steps}
-use Rattle.jc_types.proofs.Tops.{length-tops}
+use Rattle.std.proofs.lemmas.List.{length-replicate}
 use Rattle.jc_types.proofs.state.State.entry.Goals as goal
 
 pub returns-clause-room : goal.returns-clause-room
-returns-clause-room c = grind (arith, common_steps, length-tops, c.in_ok-push_tops-2.ensures)
+returns-clause-room c = grind (arith, common_steps, length-replicate, c.in_ok-push_tops-2.ensures)

@@ -1,6 +1,6 @@
 use Rattle.jc_types.proofs.Points.{other_lengths, goes_on, stops}
 use Rattle.std.proofs.Common.{sym, ◌∙◌}
-use Rattle.jc_types.proofs.steps.are_below.Goals as goal
+use Rattle.jc_types.proofs.changes.are_below.Goals as goal
 
 pub returns-then-lower-upper : goal.returns-then-lower-upper
 returns-then-lower-upper c = sym (other_lengths c.args.lower.now c.args.upper.now c.if-lower-upper.true)

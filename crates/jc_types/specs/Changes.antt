@@ -5,7 +5,7 @@ use Rattle.jc_base.specs.declared.reason.Reason.{Reason}
 use Rattle.jc_base.specs.declared.reason.Reason.TheVariants.{BadLocal, StackUnder, WrongType, StackOver}
 use Rattle.jc_base.specs.Stack.{duplicated, swapped}
 use Rattle.jc_types.specs.declared.ty.Ty.{Ty}
-use Rattle.jc_types.specs.Types.{Types, all_below}
+use Rattle.jc_types.specs.State.{Types, all_below}
 
 -- an answer of the code, with the types that it leaves, is this one
 abbrev pub Became : Result ⊤ Reason → Types → Result Types Reason → Type 0
@@ -16,21 +16,21 @@ Became (Err reason) new effect = effect ≡ Err reason
 abbrev pub with_operands : Types → List Ty → Types
 with_operands s operands = record { locals = s.locals; operands = operands }
 
-abbrev pub found : Option Ty → Result Ty Reason
-found None = Err BadLocal
-found (Some t) = Ok t
+abbrev pub local_or_fault : Option Ty → Result Ty Reason
+local_or_fault None = Err BadLocal
+local_or_fault (Some t) = Ok t
 
 -- the type of a local
 unfoldable pub local_type : ℕ → Types → Result Ty Reason
-local_type i s = found (slice_get s.locals i)
+local_type i s = local_or_fault (slice_get s.locals i)
 
 -- a local gets a type
 unfoldable pub set_local_type : ℕ → Ty → Types → Result Types Reason
 set_local_type i t s = if nat_lt i (length s.locals) then Ok (record { locals = slice_set s.locals i t; operands = s.operands }) else Err BadLocal
 
--- an operand more, of so many at most
+-- an operand more, of so many at max_stack
 unfoldable pub push_type : ℕ → Ty → Types → Result Types Reason
-push_type most t s = if nat_lt (length s.operands) most then Ok (with_operands s (t ∷ s.operands)) else Err StackOver
+push_type max_stack t s = if nat_lt (length s.operands) max_stack then Ok (with_operands s (t ∷ s.operands)) else Err StackOver
 
 -- operands of these types are taken, the last of them from the top
 unfoldable pub take_types : List Ty → Types → Result Types Reason
@@ -44,9 +44,9 @@ drop_types count s = if nat_lt (length s.operands) count then Err StackUnder els
 
 -- the top operands are put again below so many
 unfoldable pub duplicate_types : ℕ → ℕ → ℕ → Types → Result Types Reason
-duplicate_types most count below s =
+duplicate_types max_stack count below s =
     if nat_lt (length s.operands) (max count below) then Err StackUnder
-    else if nat_lt most (length s.operands + count) then Err StackOver else Ok (with_operands s (duplicated count below s.operands))
+    else if nat_lt max_stack (length s.operands + count) then Err StackOver else Ok (with_operands s (duplicated count below s.operands))
 
 -- the top operands and those below them change places
 unfoldable pub swap_types : ℕ → ℕ → Types → Result Types Reason

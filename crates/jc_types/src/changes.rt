@@ -1,8 +1,8 @@
 //! What code may do to a state.
 
-ghost use Rattle.std.specs.Prelude.{◌≡◌, ◌≤◌, ◌&&◌, ◌==◌, ◌+◌, length, take};
-ghost use Rattle.jc_types.specs.Types.{Types, all_below, stated_types, types_below};
-ghost use Rattle.jc_types.specs.Steps.{Became, local_type, set_local_type, push_type, take_types, drop_types, duplicate_types, swap_types};
+ghost use Rattle.std.specs.Prelude.{◌≡◌, ◌≤◌, ◌&&◌, ◌==◌, ◌+◌, length, take, IfErr};
+ghost use Rattle.jc_types.specs.State.{Types, all_below, stated_types, types_below};
+ghost use Rattle.jc_types.specs.Changes.{Became, local_type, set_local_type, push_type, take_types, drop_types, duplicate_types, swap_types};
 
 use crate::lattice::Lattice;
 use crate::state::State;
@@ -35,7 +35,7 @@ fn copy_front(to: &mut [Ty], from: &[Ty])
 
 impl State {
     /// The type of a local, or `BadLocal`.
-    #[tactic(auto, unfolding(crate::specs::Steps::local_type))]
+    #[tactic(auto, unfolding(crate::specs::Changes::local_type))]
     pub fn local(&self, index: u8) -> Result<Ty, Reason>
         ensures { result ≡ local_type index self.now.types }
     {
@@ -47,10 +47,11 @@ impl State {
         }
     }
 
-    /// Gives a local a type, or `BadLocal`.
-    #[tactic(auto, unfolding(crate::specs::Steps::set_local_type))]
+    /// Gives a local a type, or `BadLocal`; the state is unchanged then.
+    #[tactic(auto, unfolding(crate::specs::Changes::set_local_type))]
     pub fn set_local(&mut self, index: u8, ty: Ty) -> Result<(), Reason>
         ensures became { Became result self.new.types (set_local_type index ty self.old.types) }
+        ensures kept { IfErr result (λ _. self.new.types ≡ self.old.types) }
         ensures room { self.new.room ≡ self.old.room }
         ensures locals { length self.new.types.locals ≡ length self.old.types.locals }
     {
@@ -63,11 +64,12 @@ impl State {
         }
     }
 
-    /// Puts an operand on top, of at most `max_stack`, or `StackOver`.
-    #[tactic(auto, unfolding(crate::specs::Steps::push_type))]
+    /// Puts an operand on top, of at most `max_stack`, or `StackOver`; the state is unchanged then.
+    #[tactic(auto, unfolding(crate::specs::Changes::push_type))]
     pub fn push(&mut self, max_stack: u8, ty: Ty) -> Result<(), Reason>
         requires { max_stack ≤ self.old.room }
         ensures became { Became result self.new.types (push_type max_stack ty self.old.types) }
+        ensures kept { IfErr result (λ _. self.new.types ≡ self.old.types) }
         ensures room { self.new.room ≡ self.old.room }
         ensures locals { length self.new.types.locals ≡ length self.old.types.locals }
     {
@@ -79,10 +81,12 @@ impl State {
         Ok(())
     }
 
-    /// Takes operands of these types, the last of them from the top: `StackUnder`, then `WrongType`.
-    #[tactic(auto, unfolding(crate::specs::Steps::take_types))]
+    /// Takes operands of these types, the last of them from the top: `StackUnder`, then `WrongType`; the state is
+    /// unchanged then.
+    #[tactic(auto, unfolding(crate::specs::Changes::take_types))]
     pub fn take(&mut self, wanted: &[Ty]) -> Result<(), Reason>
         ensures became { Became result self.new.types (take_types wanted.now self.old.types) }
+        ensures kept { IfErr result (λ _. self.new.types ≡ self.old.types) }
         ensures room { self.new.room ≡ self.old.room }
         ensures locals { length self.new.types.locals ≡ length self.old.types.locals }
     {
@@ -97,10 +101,11 @@ impl State {
         Ok(())
     }
 
-    /// Drops the top operands, or `StackUnder`.
-    #[tactic(auto, unfolding(crate::specs::Steps::drop_types))]
+    /// Drops the top operands, or `StackUnder`; the state is unchanged then.
+    #[tactic(auto, unfolding(crate::specs::Changes::drop_types))]
     pub fn drop_top(&mut self, count: u8) -> Result<(), Reason>
         ensures became { Became result self.new.types (drop_types count self.old.types) }
+        ensures kept { IfErr result (λ _. self.new.types ≡ self.old.types) }
         ensures room { self.new.room ≡ self.old.room }
         ensures locals { length self.new.types.locals ≡ length self.old.types.locals }
     {
@@ -112,11 +117,13 @@ impl State {
         Ok(())
     }
 
-    /// Puts the top `count` operands again below the top `below`: `StackUnder`, then `StackOver`.
-    #[tactic(auto, unfolding(crate::specs::Steps::duplicate_types))]
+    /// Puts the top `count` operands again below the top `below`: `StackUnder`, then `StackOver`;
+    /// the state is unchanged then.
+    #[tactic(auto, unfolding(crate::specs::Changes::duplicate_types))]
     pub fn duplicate(&mut self, max_stack: u8, count: u8, below: u8) -> Result<(), Reason>
         requires { max_stack ≤ self.old.room }
         ensures became { Became result self.new.types (duplicate_types max_stack count below self.old.types) }
+        ensures kept { IfErr result (λ _. self.new.types ≡ self.old.types) }
         ensures room { self.new.room ≡ self.old.room }
         ensures locals { length self.new.types.locals ≡ length self.old.types.locals }
     {
@@ -133,10 +140,12 @@ impl State {
         Ok(())
     }
 
-    /// Lets the top `upper` operands and the `lower` below them change places, or `StackUnder`.
-    #[tactic(auto, unfolding(crate::specs::Steps::swap_types))]
+    /// Lets the top `upper` operands and the `lower` below them change places, or `StackUnder`; the
+    /// state is unchanged then.
+    #[tactic(auto, unfolding(crate::specs::Changes::swap_types))]
     pub fn swap(&mut self, upper: u8, lower: u8) -> Result<(), Reason>
         ensures became { Became result self.new.types (swap_types upper lower self.old.types) }
+        ensures kept { IfErr result (λ _. self.new.types ≡ self.old.types) }
         ensures room { self.new.room ≡ self.old.room }
         ensures locals { length self.new.types.locals ≡ length self.old.types.locals }
     {

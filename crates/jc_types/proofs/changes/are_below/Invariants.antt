@@ -1,6 +1,6 @@
 use Rattle.std.proofs.Common.{◌≡◌, drop}
-use Rattle.jc_types.specs.Types.{all_below}
-use Rattle.jc_types.proofs.steps.are_below.Given as goal
+use Rattle.jc_types.specs.State.{all_below}
+use Rattle.jc_types.proofs.changes.are_below.Given as goal
 
 abbrev pub invariant-loop-index : goal.invariant-loop-index
 invariant-loop-index l = all_below (drop l.index l.lower) (drop l.index l.upper) ≡ all_below l.lower l.upper

@@ -1,8 +1,9 @@
--- The order of types is a partial order, on single types and point by point.
-use Rattle.std.proofs.Common.{◌≡◌, List, [], ◌∷◌, Bool, true, false, ◌&&◌, refl}
+-- That the order of types is a partial order: the laws that the impl of `Lattice` carries. They stand here since an impl
+-- cites nothing else of its crate.
+use Rattle.std.proofs.Common.{◌≡◌, true, refl}
 use Rattle.jc_types.specs.declared.ty.Ty.{Ty}
 use Rattle.jc_types.specs.declared.ty.Ty.TheVariants.{Top, Word, Null}
-use Rattle.jc_types.specs.Types.{Types, is_below, all_below, types_below}
+use Rattle.jc_types.specs.Ty.{is_below}
 
 pub below_self : (t : Ty) → is_below t t ≡ true
 below_self Top = refl
@@ -20,8 +21,13 @@ below_both Word Null h k = absurd cc
 below_both Null Top h k = absurd cc
 below_both Null Word h k = absurd cc
 
+below_top : (a : Ty) → is_below a Top ≡ true
+below_top Top = refl
+below_top Word = refl
+below_top Null = refl
+
 pub below_through : (a b c : Ty) → is_below a b ≡ true → is_below b c ≡ true → is_below a c ≡ true
-below_through a b Top h k = refl
+below_through a b Top h k = below_top a
 below_through Word b Word h k = refl
 below_through Null b Null h k = refl
 below_through Top Top Word h k = absurd cc
@@ -36,15 +42,3 @@ below_through Top Null Null h k = absurd cc
 below_through Word Top Null h k = absurd cc
 below_through Word Word Null h k = absurd cc
 below_through Word Null Null h k = absurd cc
-
-pub both_true : (a b : Bool) → a && b ≡ true → (a ≡ true) × (b ≡ true)
-both_true true true h = (refl, refl)
-both_true true false h = absurd cc
-both_true false b h = absurd cc
-
-pub all_below_self : (ts : List Ty) → all_below ts ts ≡ true
-all_below_self [] = refl
-all_below_self (t ∷ ts) = rw (below_self t, all_below_self ts) refl
-
-pub types_below_self : (s : Types) → types_below s s ≡ true
-types_below_self s = rw (all_below_self s.locals, all_below_self s.operands) refl

@@ -1,0 +1,67 @@
+-- Code is a list of instructions, or decoding stops in it.
+use Rattle.std.proofs.Common.{◌≡◌, ℕ, zero, suc, ◌+◌, ◌≤◌, ◌<◌, List, [], ◌∷◌, ◌++◌, length, nat_lt, Bool, true, false, ◌⊎◌, inl, inr, Result, Ok, Err, refl, sym, ◌∙◌, subst, arith}
+use Rattle.std.proofs.lemmas.Bool.{ltb-true, ltb-false}
+use Rattle.jc_base.proofs.Binding.{the_ok, ok_err}
+use Rattle.jc_code.specs.declared.fault.CodeFault.{CodeFault}
+use Rattle.jc_code.specs.declared.instr.Instr.{Instr}
+use Rattle.jc_code.specs.Spelling.{instr_at}
+use Rattle.jc_code.specs.Listing.{Placed, Runs, IsListing, StopsAt, ListingLaws}
+use Rattle.jc_code.proofs.Listings.{next_within, Runs-append, runs_on, one_listing, listed_or_stopped}
+
+abbrev IsListed : List ℕ → Type 0
+IsListed code = (listing : List Placed) × IsListing code listing
+
+abbrev IsStopped : List ℕ → Type 0
+IsStopped code = (pc : ℕ) × (fault : CodeFault) × StopsAt code pc fault
+
+ended : (code : List ℕ) (pc : ℕ) (front : List Placed) → length code ≤ pc → pc ≤ length code → Runs code 0 front pc → IsListed code ⊎ IsStopped code
+ended code pc front le within runs =
+    let end : pc ≡ length code = omega arith in
+    let R : ℕ → Type 0 = λ n. Runs code 0 front n in
+    inl (front, subst R end runs)
+
+-- where the rest is decided behind each instruction, it is decided here
+one_on : (code : List ℕ) (pc : ℕ) (front : List Placed) (r : Result Instr CodeFault) → pc < length code → Runs code 0 front pc → instr_at code pc ≡ r
+    → ((i : Instr) → instr_at code pc ≡ Ok i → IsListed code ⊎ IsStopped code) → IsListed code ⊎ IsStopped code
+one_on code pc front (Err fault) lt runs e behind = inr (pc, fault, (front, runs, lt, e))
+one_on code pc front (Ok i) lt runs e behind = behind i e
+
+by_place : (code : List ℕ) (pc : ℕ) (front : List Placed) (t : Bool) → nat_lt pc (length code) ≡ t → pc ≤ length code → Runs code 0 front pc
+    → ((i : Instr) → instr_at code pc ≡ Ok i → IsListed code ⊎ IsStopped code) → IsListed code ⊎ IsStopped code
+by_place code pc front true h within runs behind = one_on code pc front (instr_at code pc) (ltb-true pc (length code) h) runs refl behind
+by_place code pc front false h within runs behind = ended code pc front (ltb-false pc (length code) h) within runs
+
+-- from a pc on, with so many bytes left at most
+decides_from : (left : ℕ) (code : List ℕ) (pc : ℕ) (front : List Placed) → length code ≤ pc + left → pc ≤ length code → Runs code 0 front pc → IsListed code ⊎ IsStopped code
+decides_from zero code pc front enough within runs = ended code pc front (omega arith) within runs
+decides_from (suc n) code pc front enough within runs =
+    by_place code pc front (nat_lt pc (length code)) refl within runs (λ i e.
+      let w = next_within code pc i e in
+      decides_from n code i.next_pc (front ++ record { pc = pc; instr = i } ∷ []) (omega arith) w.1 (Runs-append code 0 pc i.next_pc front (record { pc = pc; instr = i } ∷ []) runs (refl, e, refl)))
+
+pub decides : (code : List ℕ) → IsListed code ⊎ IsStopped code
+decides code = decides_from (length code) code 0 [] (omega arith) (omega arith) refl
+
+one_stop_from : (code : List ℕ) (from p q : ℕ) (xs ys : List Placed) (a b : CodeFault) → Runs code from xs p → Runs code from ys q → instr_at code p ≡ Err a → instr_at code q ≡ Err b → (p ≡ q) × (a ≡ b)
+one_stop_from code from p q [] [] a b h k e f =
+    let same : p ≡ q = sym h ∙ k in
+    let I : ℕ → Type 0 = λ n. instr_at code n ≡ Err a in
+    (same, the_err a b (sym (subst I same e) ∙ f))
+  where
+    the_err : (x y : CodeFault) → ◌≡◌ {A = Result Instr CodeFault} (Err x) (Err y) → x ≡ y
+    the_err x y g = cc
+one_stop_from code from p q [] (y ∷ ys) a b h k e f = let I : ℕ → Type 0 = λ n. instr_at code n ≡ Ok y.instr in absurd (ok_err y.instr a (sym (subst I h k.1) ∙ e))
+one_stop_from code from p q (x ∷ xs) [] a b h k e f = let I : ℕ → Type 0 = λ n. instr_at code n ≡ Ok x.instr in absurd (ok_err x.instr b (sym (subst I k h.1) ∙ f))
+one_stop_from code from p q (x ∷ xs) (y ∷ ys) a b h k e f =
+    let i : y.instr ≡ x.instr = the_ok y.instr x.instr (sym k.1 ∙ h.1) in
+    let R : Instr → Type 0 = λ j. Runs code j.next_pc ys q in
+    one_stop_from code x.instr.next_pc p q xs ys a b h.2 (subst R i k.2) e f
+
+pub laws : ListingLaws
+laws = record {
+  ascends = next_within;
+  decides = decides;
+  never_both = λ code listing pc fault l s. listed_or_stopped code pc fault listing s l;
+  one_listing = λ code a b h k. one_listing code 0 a b h k;
+  one_stop = λ code p q a b s t. one_stop_from code 0 p q s.0 t.0 a b s.1 t.1 s.3 t.3;
+}

@@ -1,0 +1,9 @@
+//! The laws of code as a list of instructions.
+
+ghost use Rattle.jc_code.specs.Listing.{ListingLaws};
+
+/// What holds of every code: an instruction ends behind its pc and within the code; the code either is a list of
+/// instructions, and of one only, or decoding stops in it, at one pc with one fault. It does nothing.
+pub fn listing_laws()
+    ensures { ListingLaws }
+{}

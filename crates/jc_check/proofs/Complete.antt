@@ -4,15 +4,15 @@ use Rattle.std.specs.List.{AllByRecursion}
 use Rattle.std.proofs.lemmas.Bool.{lt-ltb}
 use Rattle.jc_base.specs.declared.reason.Reason.{Reason}
 use Rattle.jc_base.specs.Results.{◌>>=◌}
-use Rattle.jc_code.specs.Listing.{Placed, Runs, placed_at}
+use Rattle.jc_code.specs.Listing.{Placed, Runs, placed_at, ListingLaws}
 use Rattle.jc_code.specs.Targets.{targets_of, falls_of}
-use Rattle.jc_code.proofs.Listings.{next_within, placed_behind, placed_front}
+use Rattle.jc_check.proofs.Listings.{placed_behind, placed_front}
 use Rattle.jc_types.specs.State.{Types}
 use Rattle.jc_cert.specs.Rows.{Stated}
 use Rattle.jc_check.specs.Method.{Method, entry_of}
 use Rattle.jc_check.specs.Typing.{Typing}
-use Rattle.jc_check.specs.Carried.{state_at, Stands, Arrives, GoesOn, NothingGoesOn, Behind, IsCarried, Carries}
-use Rattle.jc_check.specs.FirstFault.{told, states_stand, arrives, all_arrive, flows, falls_to, goes_on, visit_live, visit_on, visit, walk, verdict_of}
+use Rattle.jc_check.specs.Carried.{state_at, Stands, Arrives, GoesOn, NothingGoesOn, GoesOnIf, IsCarriedAt, Carries}
+use Rattle.jc_check.specs.FirstFault.{told_at, states_stand, arrives, all_arrive, flows, falls_to, falls_if, visit_live, visit_on, visit, walk, findings_of}
 
 -- what flows into a pc fits its state
 abbrev Flow : Option Types → Option Types → Option Types → Type 0
@@ -49,11 +49,11 @@ branches_ok : (listing : List Placed) (states : List Stated) (t : Types) (places
 branches_ok listing states t [] h = refl
 branches_ok listing states t (p ∷ ps) h = rw (branch_ok listing states t p h.0) (branches_ok listing states t ps h.1)
 
-behind_goes : (m : Method) (states : List Stated) (typing : Typing) (b : Bool) (t : Types) (pc : ℕ) → Behind m states typing b t pc → Goes states typing (goes_on m states b t pc) pc
+behind_goes : (m : Method) (states : List Stated) (typing : Typing) (b : Bool) (t : Types) (pc : ℕ) → GoesOnIf m states typing b t pc → Goes states typing (falls_if m states b t pc) pc
 behind_goes m states typing true t pc h = falls_goes m states typing t pc h.0 h.1
 behind_goes m states typing false t pc h = record { flow = None; is = refl; fits = h }
 
-live_goes : (m : Method) (listing : List Placed) (states : List Stated) (typing : Typing) (x : Placed) (s : Types) → IsCarried m listing states typing x s → Goes states typing (visit_live m listing states x s) x.instr.next_pc
+live_goes : (m : Method) (listing : List Placed) (states : List Stated) (typing : Typing) (x : Placed) (s : Types) → IsCarriedAt m listing states typing x s → Goes states typing (visit_live m listing states x s) x.instr.next_pc
 unfolding visit_live
 live_goes m listing states typing x s c =
     let g = behind_goes m states typing (falls_of x.instr.operation) c.after x.instr.next_pc c.behind in
@@ -65,20 +65,20 @@ visit_goes m states c x flow (Some s) e at f = live_goes m c.listing states c.ty
 visit_goes m states c x (Some t) None e at f = live_goes m c.listing states c.typing x t (c.live x.pc x t at f)
 visit_goes m states c x None None e at f = record { flow = None; is = refl; fits = c.dead x.pc x at f }
 
-walk_ok : (m : Method) (states : List Stated) (c : Carries m states) (xs : List Placed) (pc : ℕ) (flow : Option Types) → Runs m.code pc xs (length m.code) → ((q : ℕ) → pc ≤ q → placed_at c.listing q ≡ placed_at xs q)
+walk_ok : (laws : ListingLaws) (m : Method) (states : List Stated) (c : Carries m states) (xs : List Placed) (pc : ℕ) (flow : Option Types) → Runs m.code pc xs (length m.code) → ((q : ℕ) → pc ≤ q → placed_at c.listing q ≡ placed_at xs q)
     → Flow (state_at states pc) (c.typing pc) flow → walk m c.listing states flow xs ≡ Ok tt
 unfolding walk visit
-walk_ok m states c [] pc flow runs same f = refl
-walk_ok m states c (x ∷ xs) pc flow runs same f =
-    let n = next_within m.code pc x.instr runs.1 in
+walk_ok laws m states c [] pc flow runs same f = refl
+walk_ok laws m states c (x ∷ xs) pc flow runs same f =
+    let n = laws.ascends m.code pc x.instr runs.1 in
     let at : placed_at c.listing x.pc ≡ Some x = same x.pc (omega (arith, runs.0)) ∙ placed_front x xs x.pc refl in
     let F : ℕ → Type 0 = λ q. Flow (state_at states q) (c.typing q) flow in
     let g = visit_goes m states c x flow (state_at states x.pc) refl at (subst F (sym runs.0) f) in
-    let W : Result (Option Types) Reason → Type 0 = λ r. (told x.pc r >>= λ next. walk m c.listing states next xs) ≡ Ok tt in
-    subst W (sym g.is) (walk_ok m states c xs x.instr.next_pc g.flow runs.2 (λ q le. same q (omega arith) ∙ placed_behind m.code pc (length m.code) x xs q runs le) g.fits)
+    let W : Result (Option Types) Reason → Type 0 = λ r. (told_at x.pc r >>= λ next. walk m c.listing states next xs) ≡ Ok tt in
+    subst W (sym g.is) (walk_ok laws m states c xs x.instr.next_pc g.flow runs.2 (λ q le. same q (omega arith) ∙ placed_behind laws m.code pc (length m.code) x xs q runs le) g.fits)
 
-pub complete : (m : Method) (states : List Stated) (c : Carries m states) → verdict_of m c.listing states ≡ Ok tt
-unfolding verdict_of
-complete m states c =
+pub complete : (laws : ListingLaws) (m : Method) (states : List Stated) (c : Carries m states) → findings_of m c.listing states ≡ Ok tt
+unfolding findings_of
+complete laws m states c =
     let g = falls_goes m states c.typing (entry_of m) 0 c.entry.0 c.entry.1 in
-    rw (all_stand m c.listing states c.fitting, g.is) (walk_ok m states c c.listing 0 g.flow c.whole (λ q le. refl) g.fits)
+    rw (all_stand m c.listing states c.fitting, g.is) (walk_ok laws m states c c.listing 0 g.flow c.whole (λ q le. refl) g.fits)

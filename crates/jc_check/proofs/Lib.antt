@@ -1,8 +1,9 @@
 mod Complete
 mod Sound
-pub mod Typed
+mod Typed
 mod Marking
 mod Standing
 mod Branches
 mod Walking
 mod Verdicts
+mod Listings

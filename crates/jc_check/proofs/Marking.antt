@@ -6,30 +6,30 @@ use Rattle.std.proofs.lemmas.Bool.{cases_eq, eq-eqb, ne_eqb}
 use Rattle.jc_code.specs.declared.instr.Instr.{Instr}
 use Rattle.jc_code.specs.Spelling.{instr_at}
 use Rattle.jc_code.specs.Listing.{Placed, Runs, IsListing, begins}
-use Rattle.jc_code.proofs.Listings.{Runs-append, begins-push}
-use Rattle.jc_check.specs.declared.place.Place.{Place}
-use Rattle.jc_check.specs.declared.place.Place.TheVariants.{Inside, Start}
-use Rattle.jc_check.specs.Places.{mark_of, IsMarked, placed}
+use Rattle.jc_check.proofs.Listings.{Runs-append, begins-push}
+use Rattle.jc_check.specs.declared.mark.Mark.{Mark}
+use Rattle.jc_check.specs.declared.mark.Mark.TheVariants.{Inside, Start}
+use Rattle.jc_check.specs.PrivateMarks.{mark_of, MarksStarts, placed}
 
 -- what is marked once the instructions up to a pc have been decoded
-pub record SoFar (code : List ℕ) (pc : ℕ) (places : List Place) : Type 0 where
+pub record SoFar (code : List ℕ) (pc : ℕ) (marks : List Mark) : Type 0 where
   pub front : List Placed
   pub runs : Runs code 0 front pc
   pub within : pc ≤ length code
-  pub marked : IsMarked code front places
+  pub marked : MarksStarts code front marks
 
 all_inside : (n pc : ℕ) → get_or (replicate n Inside) pc Inside ≡ Inside
 all_inside zero pc = refl
 all_inside (suc n) zero = refl
 all_inside (suc n) (suc pc) = all_inside n pc
 
-pub none_yet : (code : List ℕ) (places : List Place) → places ≡ replicate (length code) Inside → SoFar code 0 places
+pub none_yet : (code : List ℕ) (marks : List Mark) → marks ≡ replicate (length code) Inside → SoFar code 0 marks
 unfolding begins
-none_yet code places e = record {
+none_yet code marks e = record {
   front = [];
   runs = refl;
   within = omega arith;
-  marked = record { len = ap (λ (ps : List Place). length ps) e ∙ length-replicate (length code) Inside; each = λ pc lt. ap (λ (ps : List Place). get_or ps pc Inside) e ∙ all_inside (length code) pc };
+  marked = record { len = ap (λ (ps : List Mark). length ps) e ∙ length-replicate (length code) Inside; each = λ pc lt. ap (λ (ps : List Mark). get_or ps pc Inside) e ∙ all_inside (length code) pc };
 }
 
 true_last : (b : Bool) → b || true ≡ true
@@ -40,32 +40,32 @@ false_last : (b : Bool) → b || false ≡ b
 false_last true = refl
 false_last false = refl
 
-one_more : (code : List ℕ) (pc : ℕ) (i : Instr) (front : List Placed) (places : List Place) → pc < length code → IsMarked code front places → IsMarked code (front ++ placed pc i ∷ []) (set places pc Start)
-one_more code pc i front places lt marked = record {
-  len = length-set places pc Start ∙ marked.len;
+one_more : (code : List ℕ) (pc : ℕ) (i : Instr) (front : List Placed) (marks : List Mark) → pc < length code → MarksStarts code front marks → MarksStarts code (front ++ placed pc i ∷ []) (set marks pc Start)
+one_more code pc i front marks lt marked = record {
+  len = length-set marks pc Start ∙ marked.len;
   each = λ q q_in. elim (cases_eq pc q) [
     | inl same ↦
         let e : (pc == q) ≡ true = eq-eqb pc q same in
         let b : begins (front ++ placed pc i ∷ []) q ≡ true = begins-push front (placed pc i) q ∙ ap (λ (t : Bool). begins front q || t) e ∙ true_last (begins front q) in
-        let G : ℕ → Type 0 = λ k. get_or (set places pc Start) k Inside ≡ Start in
-        subst G same (get_or-set_same places pc Start Inside (omega (arith, marked.len))) ∙ ap mark_of (sym b)
+        let G : ℕ → Type 0 = λ k. get_or (set marks pc Start) k Inside ≡ Start in
+        subst G same (get_or-set_same marks pc Start Inside (omega (arith, marked.len))) ∙ ap mark_of (sym b)
     | inr ne ↦
         let e : (pc == q) ≡ false = ne_eqb pc q ne in
         let b : begins (front ++ placed pc i ∷ []) q ≡ begins front q = begins-push front (placed pc i) q ∙ ap (λ (t : Bool). begins front q || t) e ∙ false_last (begins front q) in
-        get_or-set_other places pc q Start Inside (λ h. ne (sym h)) ∙ marked.each q q_in ∙ ap mark_of (sym b)
+        get_or-set_other marks pc q Start Inside (λ h. ne (sym h)) ∙ marked.each q q_in ∙ ap mark_of (sym b)
   ];
 }
 
-pub goes_on : (code : List ℕ) (pc : ℕ) (i : Instr) (places : List Place) → pc < length code → instr_at code pc ≡ Ok i → i.next_pc ≤ length code → SoFar code pc places → SoFar code i.next_pc (set places pc Start)
-goes_on code pc i places lt at within s = record {
+pub goes_on : (code : List ℕ) (pc : ℕ) (i : Instr) (marks : List Mark) → pc < length code → instr_at code pc ≡ Ok i → i.next_pc ≤ length code → SoFar code pc marks → SoFar code i.next_pc (set marks pc Start)
+goes_on code pc i marks lt at within s = record {
   front = s.front ++ placed pc i ∷ [];
   runs = Runs-append code 0 pc i.next_pc s.front (placed pc i ∷ []) s.runs (refl, at, refl);
   within = within;
-  marked = one_more code pc i s.front places lt s.marked;
+  marked = one_more code pc i s.front marks lt s.marked;
 }
 
-pub is_done : (code : List ℕ) (pc : ℕ) (places : List Place) → length code ≤ pc → SoFar code pc places → (listing : List Placed) × IsListing code listing × IsMarked code listing places
-is_done code pc places le s =
+pub is_done : (code : List ℕ) (pc : ℕ) (marks : List Mark) → length code ≤ pc → SoFar code pc marks → (listing : List Placed) × IsListing code listing × MarksStarts code listing marks
+is_done code pc marks le s =
     let end : pc ≡ length code = omega (arith, s.within) in
     let R : ℕ → Type 0 = λ n. Runs code 0 s.front n in
     (s.front, subst R end s.runs, s.marked)

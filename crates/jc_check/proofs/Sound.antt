@@ -4,24 +4,18 @@ use Rattle.std.specs.List.{AllByRecursion}
 use Rattle.std.proofs.lemmas.Bool.{ltb-true, ltb-false, eqb-true, eq-eqb, ne_eqb}
 use Rattle.jc_base.specs.declared.reason.Reason.{Reason}
 use Rattle.jc_base.specs.declared.reason.Reason.TheVariants.{CertMismatch, FallsOff, NoTarget}
-use Rattle.jc_base.proofs.Binding.{bind_ok, guard_ok, the_ok, the_some, none_some, choice}
-use Rattle.jc_code.specs.Listing.{Placed, Runs, IsListing, placed_at, begins}
+use Rattle.jc_base.proofs.Binding.{both_true, bind_ok, guard_ok, the_ok, the_some, none_some, choice}
+use Rattle.jc_code.specs.Listing.{Placed, Runs, IsListing, placed_at, begins, ListingLaws}
 use Rattle.jc_code.specs.Targets.{targets_of, falls_of}
-use Rattle.jc_code.proofs.Listings.{next_within}
 use Rattle.jc_types.specs.State.{Types, types_below}
 use Rattle.jc_step.specs.Effect.{effect_of}
 use Rattle.jc_cert.specs.Rows.{Stated}
 use Rattle.jc_check.specs.Method.{Method, entry_of}
 use Rattle.jc_check.specs.Typing.{Typing}
-use Rattle.jc_check.specs.Carried.{state_at, has_shape, Stands, Arrives, GoesOn, NothingGoesOn, Behind, IsCarried, Carries}
-use Rattle.jc_check.specs.FirstFault.{told, fault_at, states_stand, meets, arrives, all_arrive, flows, falls_to, goes_on, visit_live, visit_on, visit, walk, verdict_of}
+use Rattle.jc_check.specs.Carried.{state_at, has_shape, Stands, Arrives, GoesOn, NothingGoesOn, GoesOnIf, IsCarriedAt, Carries}
+use Rattle.jc_check.specs.FirstFault.{told_at, fault_at, states_stand, meets, arrives, all_arrive, flows, falls_to, falls_if, visit_live, visit_on, visit, walk, findings_of}
 
-both_true : (a b : Bool) → a && b ≡ true → (a ≡ true) × (b ≡ true)
-both_true true true h = (refl, refl)
-both_true true false h = absurd cc
-both_true false b h = absurd cc
-
-told_ok : {A : Type 0} (pc : ℕ) (r : Result A Reason) (x : A) → told pc r ≡ Ok x → r ≡ Ok x
+told_ok : {A : Type 0} (pc : ℕ) (r : Result A Reason) (x : A) → told_at pc r ≡ Ok x → r ≡ Ok x
 told_ok pc (Ok y) x h = ap Ok (the_ok y x h)
 told_ok pc (Err e) x h = absurd cc
 
@@ -89,7 +83,7 @@ has_stated m listing states flow (x ∷ xs) q s b e = step (x.pc == q) b (λ k. 
     step true b later = rw e refl
     step false b later = later b
 
--- behind the first instruction it is the typing of the others
+-- behind the first instruction it is the typing of the max_locals
 later : (m : Method) (listing : List Placed) (states : List Stated) (flow : Option Types) (x : Placed) (xs : List Placed) (q : ℕ) (f : Option Types) → visit m listing states x flow ≡ Ok f → (x.pc ≡ q → ⊥)
     → typing_of m listing states flow (x ∷ xs) q ≡ typing_of m listing states f xs q
 later m listing states flow x xs q f v ne = rw (ne_eqb x.pc q ne, v) refl
@@ -117,7 +111,7 @@ goes_by t (Some c) f state e h = (guard_ok (types_below t c) (Ok None) CertMisma
 
 -- what goes on behind an instruction
 behind : (m : Method) (listing : List Placed) (states : List Stated) (typing : Typing) (xs : List Placed) (falls : Bool) (t : Types) (pc : ℕ) (f : Option Types) → Runs m.code pc xs (length m.code)
-    → typing pc ≡ typing_of m listing states f xs pc → goes_on m states falls t pc ≡ Ok f → Behind m states typing falls t pc
+    → typing pc ≡ typing_of m listing states f xs pc → falls_if m states falls t pc ≡ Ok f → GoesOnIf m states typing falls t pc
 unfolding falls_to
 behind m listing states typing xs true t pc f runs same h =
     let g = guard_ok (nat_lt pc (length m.code)) (flows t (state_at states pc)) FallsOff f h in
@@ -147,7 +141,7 @@ all_arrived listing states t (p ∷ ps) h =
 
 -- an instruction at which no fault is found is carried
 live_carried : (m : Method) (listing : List Placed) (states : List Stated) (typing : Typing) (x : Placed) (xs : List Placed) (s : Types) (f : Option Types) → Runs m.code x.instr.next_pc xs (length m.code)
-    → typing x.instr.next_pc ≡ typing_of m listing states f xs x.instr.next_pc → visit_live m listing states x s ≡ Ok f → IsCarried m listing states typing x s
+    → typing x.instr.next_pc ≡ typing_of m listing states f xs x.instr.next_pc → visit_live m listing states x s ≡ Ok f → IsCarriedAt m listing states typing x s
 unfolding visit_live
 live_carried m listing states typing x xs s f runs same h =
     let one = bind_ok (effect_of m.max_stack m.returned x.instr.operation s) _ f h in
@@ -161,19 +155,19 @@ live_carried m listing states typing x xs s f runs same h =
 
 -- what a pc owes
 record AtPlace (m : Method) (listing : List Placed) (states : List Stated) (typing : Typing) (pc : ℕ) (x : Placed) : Type 0 where
-  pub live : (s : Types) → typing pc ≡ Some s → IsCarried m listing states typing x s
+  pub live : (s : Types) → typing pc ≡ Some s → IsCarriedAt m listing states typing x s
   pub dead : typing pc ≡ None → NothingGoesOn (state_at states x.instr.next_pc) (typing x.instr.next_pc)
 
 -- by what the certificate has there, and what flows in
 visited : (m : Method) (listing : List Placed) (states : List Stated) (typing : Typing) (x : Placed) (xs : List Placed) (o flow f : Option Types) → Runs m.code x.instr.next_pc xs (length m.code)
     → typing x.instr.next_pc ≡ typing_of m listing states f xs x.instr.next_pc → typing x.pc ≡ choose o flow → visit_on m listing states x o flow ≡ Ok f → AtPlace m listing states typing x.pc x
 visited m listing states typing x xs (Some c) flow f runs same is h =
-    let C : Types → Type 0 = λ v. IsCarried m listing states typing x v in record {
+    let C : Types → Type 0 = λ v. IsCarriedAt m listing states typing x v in record {
       live = λ s e. subst C (the_some c s (sym is ∙ e)) (live_carried m listing states typing x xs c f runs same h);
       dead = λ e. absurd (none_some c (sym e ∙ is));
     }
 visited m listing states typing x xs None (Some t) f runs same is h =
-    let C : Types → Type 0 = λ v. IsCarried m listing states typing x v in record {
+    let C : Types → Type 0 = λ v. IsCarriedAt m listing states typing x v in record {
       live = λ s e. subst C (the_some t s (sym is ∙ e)) (live_carried m listing states typing x xs t f runs same h);
       dead = λ e. absurd (none_some t (sym e ∙ is));
     }
@@ -185,14 +179,14 @@ visited m listing states typing x xs None None f runs same is h =
     }
 
 -- from a pc on, each instruction
-each_place : (m : Method) (listing : List Placed) (states : List Stated) (typing : Typing) (flow : Option Types) (xs : List Placed) (pc : ℕ) → Runs m.code pc xs (length m.code)
+each_place : (laws : ListingLaws) (m : Method) (listing : List Placed) (states : List Stated) (typing : Typing) (flow : Option Types) (xs : List Placed) (pc : ℕ) → Runs m.code pc xs (length m.code)
     → ((q : ℕ) → pc ≤ q → typing q ≡ typing_of m listing states flow xs q) → walk m listing states flow xs ≡ Ok tt → (q : ℕ) (y : Placed) → placed_at xs q ≡ Some y → AtPlace m listing states typing q y
 unfolding walk visit placed_at
-each_place m listing states typing flow [] pc runs same h q y e = absurd (none_some y e)
-each_place m listing states typing flow (x ∷ xs) pc runs same h q y e =
-    let one = bind_ok (told x.pc (visit m listing states x flow)) _ tt h in
+each_place laws m listing states typing flow [] pc runs same h q y e = absurd (none_some y e)
+each_place laws m listing states typing flow (x ∷ xs) pc runs same h q y e =
+    let one = bind_ok (told_at x.pc (visit m listing states x flow)) _ tt h in
     let v : visit m listing states x flow ≡ Ok one.0 = told_ok x.pc _ one.0 one.1 in
-    let n = next_within m.code pc x.instr runs.1 in
+    let n = laws.ascends m.code pc x.instr runs.1 in
     let next : (k : ℕ) → x.instr.next_pc ≤ k → typing k ≡ typing_of m listing states one.0 xs k =
     λ k above. same k (omega arith) ∙ later m listing states flow x xs k one.0 v (λ (z : x.pc ≡ k). omega (arith, runs.0)) in
     elim (choice (x.pc == q) _ _ _ e) [
@@ -202,17 +196,17 @@ each_place m listing states typing flow (x ∷ xs) pc runs same h q y e =
           let Q : ℕ → Type 0 = λ k. AtPlace m listing states typing k x in
           let Y : Placed → Type 0 = λ z. AtPlace m listing states typing q z in
           subst Y (the_some x y p.1) (subst Q (eqb-true x.pc q p.0) here)
-      | inr p ↦ each_place m listing states typing one.0 xs x.instr.next_pc runs.2 next one.2 q y p.1
+      | inr p ↦ each_place laws m listing states typing one.0 xs x.instr.next_pc runs.2 next one.2 q y p.1
     ]
 
-pub sound : (m : Method) (listing : List Placed) (states : List Stated) → IsListing m.code listing → verdict_of m listing states ≡ Ok tt → Carries m states
-unfolding verdict_of
-sound m listing states whole h =
+pub sound : (laws : ListingLaws) (m : Method) (listing : List Placed) (states : List Stated) → IsListing m.code listing → findings_of m listing states ≡ Ok tt → Carries m states
+unfolding findings_of
+sound laws m listing states whole h =
     let one = bind_ok (states_stand m listing states) _ tt h in
-    let two = bind_ok (told 0 (falls_to m states (entry_of m) 0)) _ tt one.2 in
+    let two = bind_ok (told_at 0 (falls_to m states (entry_of m) 0)) _ tt one.2 in
     let stand : AllByRecursion (Stands m listing) states = all_stand m listing states one.1 in
     let typing : Typing = typing_of m listing states two.0 listing in
-    let places : (q : ℕ) (y : Placed) → placed_at listing q ≡ Some y → AtPlace m listing states typing q y = each_place m listing states typing two.0 listing 0 whole (λ q le. refl) two.2 in
+    let places : (q : ℕ) (y : Placed) → placed_at listing q ≡ Some y → AtPlace m listing states typing q y = each_place laws m listing states typing two.0 listing 0 whole (λ q le. refl) two.2 in
     record {
       listing = listing;
       whole = whole;

@@ -7,17 +7,17 @@ use Rattle.std.proofs.lemmas.List.{length-take-le}
 use Rattle.jc_base.specs.declared.reason.Reason.TheVariants.{CertMismatch}
 use Rattle.jc_base.proofs.Binding.{none_some, the_some}
 use Rattle.jc_types.specs.State.{Types}
-use Rattle.jc_code.specs.Listing.{Placed, IsListing, begins}
-use Rattle.jc_code.proofs.Listings.{placed_begins, there, next_within}
+use Rattle.jc_code.specs.Listing.{Placed, IsListing, begins, ListingLaws}
+use Rattle.jc_check.proofs.Listings.{none_past}
 use Rattle.jc_cert.specs.declared.cert.StateRow.{StateRow}
 use Rattle.jc_cert.specs.Rows.{Stated}
 use Rattle.jc_cert.specs.Views.{stated}
 use Rattle.jc_check.specs.Method.{Method}
 use Rattle.jc_check.specs.Carried.{types_of, state_at, has_shape}
 use Rattle.jc_check.specs.FirstFault.{fault_at, states_stand}
-use Rattle.jc_check.specs.declared.place.Place.{Place}
-use Rattle.jc_check.specs.declared.place.Place.TheVariants.{Inside, Start, Holds}
-use Rattle.jc_check.specs.Places.{mark_of, IsMarked, IsPlace, IsTable}
+use Rattle.jc_check.specs.declared.mark.Mark.{Mark}
+use Rattle.jc_check.specs.declared.mark.Mark.TheVariants.{Inside, Start, Holds}
+use Rattle.jc_check.specs.PrivateMarks.{mark_of, MarksStarts, IsMark, IsTable}
 
 pub drop_get : {A : Type 0} (xs : List A) (k : ℕ) (x : A) → slice_get xs k ≡ Some x → drop k xs ≡ x ∷ drop (k + 1) xs
 drop_get [] k x e = absurd (none_some x e)
@@ -59,80 +59,75 @@ keeps (Some x) = refl
 elsewhere : (cs : List Stated) (c : Stated) (q : ℕ) → (c.pc ≡ q → ⊥) → state_at (cs ++ c ∷ []) q ≡ state_at cs q
 elsewhere cs c q ne = state_at-push cs c q ∙ ap (λ (b : Bool). first_some (state_at cs q) (cond b (Some (types_of c)) None)) (ne_eqb c.pc q ne) ∙ keeps (state_at cs q)
 
-same_place : (m : Method) (listing : List Placed) (cs : List Stated) (c : Stated) (q : ℕ) (p : Place) → state_at (cs ++ c ∷ []) q ≡ state_at cs q → IsPlace m listing cs q p → IsPlace m listing (cs ++ c ∷ []) q p
+same_place : (m : Method) (listing : List Placed) (cs : List Stated) (c : Stated) (q : ℕ) (p : Mark) → state_at (cs ++ c ∷ []) q ≡ state_at cs q → IsMark m listing cs q p → IsMark m listing (cs ++ c ∷ []) q p
 same_place m listing cs c q Inside e h = (h.0, e ∙ h.1)
 same_place m listing cs c q Start e h = (h.0, e ∙ h.1)
 same_place m listing cs c q (Holds k) e h = (h.0, h.1, get_kept cs c h.1 k h.2, e ∙ h.3, h.4)
 
 -- a state more, where none stood
-stands_new : (m : Method) (listing : List Placed) (cs : List Stated) (c : Stated) (places : List Place) → IsTable m listing cs places → c.pc < length m.code → has_shape m c ≡ true → get_or places c.pc Inside ≡ Start
-    → IsTable m listing (cs ++ c ∷ []) (set places c.pc (Holds (length cs)))
-stands_new m listing cs c places t lt shape was = record {
+stands_new : (m : Method) (listing : List Placed) (cs : List Stated) (c : Stated) (marks : List Mark) → IsTable m listing cs marks → c.pc < length m.code → has_shape m c ≡ true → get_or marks c.pc Inside ≡ Start
+    → IsTable m listing (cs ++ c ∷ []) (set marks c.pc (Holds (length cs)))
+stands_new m listing cs c marks t lt shape was = record {
   whole = t.whole;
-  len = length-set places c.pc (Holds (length cs)) ∙ t.len;
+  len = length-set marks c.pc (Holds (length cs)) ∙ t.len;
+  past = t.past;
   each = λ q q_in. elim (cases_eq c.pc q) [
     | inl same ↦
-        let P : Place → Type 0 = λ p. IsPlace m listing cs c.pc p in
+        let P : Mark → Type 0 = λ p. IsMark m listing cs c.pc p in
         let start = subst P was (t.each c.pc lt) in
         let new : state_at (cs ++ c ∷ []) c.pc ≡ Some (types_of c) = state_at-push cs c c.pc ∙ rw (start.1, eq-eqb c.pc c.pc refl) refl in
-        let here : IsPlace m listing (cs ++ c ∷ []) c.pc (Holds (length cs)) = (start.0, c, get_past cs c, new, shape) in
-        let G : Place → Type 0 = λ p. IsPlace m listing (cs ++ c ∷ []) c.pc p in
-        let Q : ℕ → Type 0 = λ k. IsPlace m listing (cs ++ c ∷ []) k (get_or (set places c.pc (Holds (length cs))) k Inside) in
-        subst Q same (subst G (sym (get_or-set_same places c.pc (Holds (length cs)) Inside (omega (arith, t.len)))) here)
+        let here : IsMark m listing (cs ++ c ∷ []) c.pc (Holds (length cs)) = (start.0, c, get_past cs c, new, shape) in
+        let G : Mark → Type 0 = λ p. IsMark m listing (cs ++ c ∷ []) c.pc p in
+        let Q : ℕ → Type 0 = λ k. IsMark m listing (cs ++ c ∷ []) k (get_or (set marks c.pc (Holds (length cs))) k Inside) in
+        subst Q same (subst G (sym (get_or-set_same marks c.pc (Holds (length cs)) Inside (omega (arith, t.len)))) here)
     | inr ne ↦
-        let G : Place → Type 0 = λ p. IsPlace m listing (cs ++ c ∷ []) q p in
-        subst G (sym (get_or-set_other places c.pc q (Holds (length cs)) Inside (λ h. ne (sym h)))) (same_place m listing cs c q (get_or places q Inside) (elsewhere cs c q ne) (t.each q q_in))
+        let G : Mark → Type 0 = λ p. IsMark m listing (cs ++ c ∷ []) q p in
+        subst G (sym (get_or-set_other marks c.pc q (Holds (length cs)) Inside (λ h. ne (sym h)))) (same_place m listing cs c q (get_or marks q Inside) (elsewhere cs c q ne) (t.each q q_in))
   ];
 }
 
 -- a state more, where one stands already: the first counts
-stands_again : (m : Method) (listing : List Placed) (cs : List Stated) (c : Stated) (places : List Place) (k : ℕ) → IsTable m listing cs places → c.pc < length m.code → get_or places c.pc Inside ≡ Holds k
-    → IsTable m listing (cs ++ c ∷ []) places
-stands_again m listing cs c places k t lt was = record {
+stands_again : (m : Method) (listing : List Placed) (cs : List Stated) (c : Stated) (marks : List Mark) (k : ℕ) → IsTable m listing cs marks → c.pc < length m.code → get_or marks c.pc Inside ≡ Holds k
+    → IsTable m listing (cs ++ c ∷ []) marks
+stands_again m listing cs c marks k t lt was = record {
   whole = t.whole;
   len = t.len;
+  past = t.past;
   each = λ q q_in. elim (cases_eq c.pc q) [
     | inl same ↦
-        let P : Place → Type 0 = λ p. IsPlace m listing cs c.pc p in
+        let P : Mark → Type 0 = λ p. IsMark m listing cs c.pc p in
         let held = subst P was (t.each c.pc lt) in
         let e : state_at (cs ++ c ∷ []) c.pc ≡ state_at cs c.pc = state_at-push cs c c.pc ∙ ap (λ (o : Option Types). first_some o (cond (c.pc == c.pc) (Some (types_of c)) None)) held.3 ∙ sym held.3 in
-        let Q : ℕ → Type 0 = λ j. IsPlace m listing (cs ++ c ∷ []) j (get_or places j Inside) in
-        subst Q same (same_place m listing cs c c.pc (get_or places c.pc Inside) e (t.each c.pc lt))
-    | inr ne ↦ same_place m listing cs c q (get_or places q Inside) (elsewhere cs c q ne) (t.each q q_in)
+        let Q : ℕ → Type 0 = λ j. IsMark m listing (cs ++ c ∷ []) j (get_or marks j Inside) in
+        subst Q same (same_place m listing cs c c.pc (get_or marks c.pc Inside) e (t.each c.pc lt))
+    | inr ne ↦ same_place m listing cs c q (get_or marks q Inside) (elsewhere cs c q ne) (t.each q q_in)
   ];
 }
 
 -- what is marked once some of the states have been looked at
-pub record StatesSoFar (m : Method) (listing : List Placed) (states : List Stated) (k : ℕ) (places : List Place) : Type 0 where
+pub record StatesSoFar (m : Method) (listing : List Placed) (states : List Stated) (k : ℕ) (marks : List Mark) : Type 0 where
   pub rest : states_stand m listing (drop k states) ≡ states_stand m listing states
-  pub table : IsTable m listing (take k states) places
+  pub table : IsTable m listing (take k states) marks
 
-pub no_states : (m : Method) (listing : List Placed) (states : List Stated) (places : List Place) → IsListing m.code listing → IsMarked m.code listing places → StatesSoFar m listing states 0 places
+pub no_states : (laws : ListingLaws) (m : Method) (listing : List Placed) (states : List Stated) (marks : List Mark) → IsListing m.code listing → MarksStarts m.code listing marks → StatesSoFar m listing states 0 marks
 unfolding state_at
-no_states m listing states places whole marked = record {
+no_states laws m listing states marks whole marked = record {
   rest = refl;
   table = record {
     whole = whole;
     len = marked.len;
-    each = λ q q_in. let P : Place → Type 0 = λ p. IsPlace m listing [] q p in subst P (sym (marked.each q q_in)) (unmarked q (begins listing q) refl);
+    past = λ q past. none_past laws m.code listing q whole past;
+    each = λ q q_in. let P : Mark → Type 0 = λ p. IsMark m listing [] q p in subst P (sym (marked.each q q_in)) (unmarked q (begins listing q) refl);
   };
 }
   where
-    unmarked : (q : ℕ) (b : Bool) → begins listing q ≡ b → IsPlace m listing [] q (mark_of b)
+    unmarked : (q : ℕ) (b : Bool) → begins listing q ≡ b → IsMark m listing [] q (mark_of b)
     unmarked q true e = (e, refl)
     unmarked q false e = (e, refl)
 
 -- no instruction begins past the code
-pub past_code : (code : List ℕ) (listing : List Placed) (pc : ℕ) → IsListing code listing → length code ≤ pc → begins listing pc ≡ false
-past_code code listing pc whole le = by (begins listing pc) refl
-  where
-    by : (b : Bool) → begins listing pc ≡ b → b ≡ false
-    by false e = refl
-    by true e =
-        let x = placed_begins listing pc e in
-        let t = there code 0 (length code) listing pc x.0 whole x.1 in
-        let n = next_within code pc x.0.instr t.instr in
-        absurd (omega arith)
+pub past_code : (m : Method) (listing : List Placed) (states : List Stated) (marks : List Mark) (pc : ℕ) → IsTable m listing states marks → length m.code ≤ pc → begins listing pc ≡ false
+past_code m listing states marks pc table le = table.past pc le
 
 one_stands : (m : Method) (listing : List Placed) (c : Stated) (cs : List Stated) → begins listing c.pc ≡ true → has_shape m c ≡ true → states_stand m listing (c ∷ cs) ≡ states_stand m listing cs
 unfolding states_stand
@@ -146,26 +141,26 @@ and_false : (b : Bool) → b && false ≡ false
 and_false true = refl
 and_false false = refl
 
-begins_at : (m : Method) (listing : List Placed) (cs : List Stated) (q : ℕ) (p : Place) → (p ≡ Inside → ⊥) → IsPlace m listing cs q p → begins listing q ≡ true
+begins_at : (m : Method) (listing : List Placed) (cs : List Stated) (q : ℕ) (p : Mark) → (p ≡ Inside → ⊥) → IsMark m listing cs q p → begins listing q ≡ true
 begins_at m listing cs q Inside ne h = absurd (ne refl)
 begins_at m listing cs q Start ne h = h.0
 begins_at m listing cs q (Holds k) ne h = h.0
 
 -- the first state that doesn't stand is told
-pub told_shape : (m : Method) (listing : List Placed) (states : List Stated) (k : ℕ) (places : List Place) (c : Stated) → slice_get states k ≡ Some c → StatesSoFar m listing states k places → has_shape m c ≡ false → states_stand m listing states ≡ Err (fault_at c.pc CertMismatch)
-told_shape m listing states k places c at s none =
+pub told_shape : (m : Method) (listing : List Placed) (states : List Stated) (k : ℕ) (marks : List Mark) (c : Stated) → slice_get states k ≡ Some c → StatesSoFar m listing states k marks → has_shape m c ≡ false → states_stand m listing states ≡ Err (fault_at c.pc CertMismatch)
+told_shape m listing states k marks c at s none =
     sym s.rest ∙ ap (λ cs. states_stand m listing cs) (drop_get states k c at) ∙ none_stands m listing c (drop (k + 1) states) (ap (λ (b : Bool). begins listing c.pc && b) none ∙ and_false (begins listing c.pc))
 
-pub told_place : (m : Method) (listing : List Placed) (states : List Stated) (k : ℕ) (places : List Place) (c : Stated) → slice_get states k ≡ Some c → StatesSoFar m listing states k places → begins listing c.pc ≡ false → states_stand m listing states ≡ Err (fault_at c.pc CertMismatch)
-told_place m listing states k places c at s none =
+pub told_place : (m : Method) (listing : List Placed) (states : List Stated) (k : ℕ) (marks : List Mark) (c : Stated) → slice_get states k ≡ Some c → StatesSoFar m listing states k marks → begins listing c.pc ≡ false → states_stand m listing states ≡ Err (fault_at c.pc CertMismatch)
+told_place m listing states k marks c at s none =
     sym s.rest ∙ ap (λ cs. states_stand m listing cs) (drop_get states k c at) ∙ none_stands m listing c (drop (k + 1) states) (ap (λ (b : Bool). b && has_shape m c) none)
 
-pub told_inside : (m : Method) (listing : List Placed) (states : List Stated) (k : ℕ) (places : List Place) (c : Stated) → slice_get states k ≡ Some c → StatesSoFar m listing states k places → c.pc < length m.code → get_or places c.pc Inside ≡ Inside
+pub told_inside : (m : Method) (listing : List Placed) (states : List Stated) (k : ℕ) (marks : List Mark) (c : Stated) → slice_get states k ≡ Some c → StatesSoFar m listing states k marks → c.pc < length m.code → get_or marks c.pc Inside ≡ Inside
     → states_stand m listing states ≡ Err (fault_at c.pc CertMismatch)
-told_inside m listing states k places c at s lt was =
-    let P : Place → Type 0 = λ p. IsPlace m listing (take k states) c.pc p in
+told_inside m listing states k marks c at s lt was =
+    let P : Mark → Type 0 = λ p. IsMark m listing (take k states) c.pc p in
     let inside = subst P was (s.table.each c.pc lt) in
-    told_place m listing states k places c at s inside.0
+    told_place m listing states k marks c at s inside.0
 
 rest_on : (m : Method) (listing : List Placed) (states : List Stated) (k : ℕ) (c : Stated) → slice_get states k ≡ Some c → begins listing c.pc ≡ true → has_shape m c ≡ true → states_stand m listing (drop k states) ≡ states_stand m listing states
     → states_stand m listing (drop (k + 1) states) ≡ states_stand m listing states
@@ -178,23 +173,23 @@ holds_not_inside : (k : ℕ) → Holds k ≡ Inside → ⊥
 holds_not_inside k e = cc
 
 -- one state more, by what stood there
-pub new_stands : (m : Method) (listing : List Placed) (states : List Stated) (k : ℕ) (places : List Place) (c : Stated) → k < length states → slice_get states k ≡ Some c → c.pc < length m.code → has_shape m c ≡ true → get_or places c.pc Inside ≡ Start
-    → StatesSoFar m listing states k places → StatesSoFar m listing states (k + 1) (set places c.pc (Holds k))
-new_stands m listing states k places c k_in at lt shape was s =
-    let P : Place → Type 0 = λ p. IsPlace m listing (take k states) c.pc p in
+pub new_stands : (m : Method) (listing : List Placed) (states : List Stated) (k : ℕ) (marks : List Mark) (c : Stated) → k < length states → slice_get states k ≡ Some c → c.pc < length m.code → has_shape m c ≡ true → get_or marks c.pc Inside ≡ Start
+    → StatesSoFar m listing states k marks → StatesSoFar m listing states (k + 1) (set marks c.pc (Holds k))
+new_stands m listing states k marks c k_in at lt shape was s =
+    let P : Mark → Type 0 = λ p. IsMark m listing (take k states) c.pc p in
     let start = subst P was (s.table.each c.pc lt) in
     let len : length (take k states) ≡ k = length-take-le k states (omega arith) in
-    let T : List Stated → Type 0 = λ cs. IsTable m listing cs (set places c.pc (Holds k)) in
-    let N : ℕ → Type 0 = λ n. IsTable m listing (take k states ++ c ∷ []) (set places c.pc (Holds n)) in
-    record { rest = rest_on m listing states k c at start.0 shape s.rest; table = subst T (sym (take_get states k c at)) (subst N len (stands_new m listing (take k states) c places s.table lt shape was)) }
+    let T : List Stated → Type 0 = λ cs. IsTable m listing cs (set marks c.pc (Holds k)) in
+    let N : ℕ → Type 0 = λ n. IsTable m listing (take k states ++ c ∷ []) (set marks c.pc (Holds n)) in
+    record { rest = rest_on m listing states k c at start.0 shape s.rest; table = subst T (sym (take_get states k c at)) (subst N len (stands_new m listing (take k states) c marks s.table lt shape was)) }
 
-pub again_stands : (m : Method) (listing : List Placed) (states : List Stated) (k j : ℕ) (places : List Place) (c : Stated) → slice_get states k ≡ Some c → c.pc < length m.code → has_shape m c ≡ true → get_or places c.pc Inside ≡ Holds j
-    → StatesSoFar m listing states k places → StatesSoFar m listing states (k + 1) places
-again_stands m listing states k j places c at lt shape was s =
-    let P : Place → Type 0 = λ p. IsPlace m listing (take k states) c.pc p in
+pub again_stands : (m : Method) (listing : List Placed) (states : List Stated) (k j : ℕ) (marks : List Mark) (c : Stated) → slice_get states k ≡ Some c → c.pc < length m.code → has_shape m c ≡ true → get_or marks c.pc Inside ≡ Holds j
+    → StatesSoFar m listing states k marks → StatesSoFar m listing states (k + 1) marks
+again_stands m listing states k j marks c at lt shape was s =
+    let P : Mark → Type 0 = λ p. IsMark m listing (take k states) c.pc p in
     let held = subst P was (s.table.each c.pc lt) in
-    let T : List Stated → Type 0 = λ cs. IsTable m listing cs places in
-    record { rest = rest_on m listing states k c at held.0 shape s.rest; table = subst T (sym (take_get states k c at)) (stands_again m listing (take k states) c places j s.table lt was) }
+    let T : List Stated → Type 0 = λ cs. IsTable m listing cs marks in
+    record { rest = rest_on m listing states k c at held.0 shape s.rest; table = subst T (sym (take_get states k c at)) (stands_again m listing (take k states) c marks j s.table lt was) }
 
 take_all : {A : Type 0} (xs : List A) (k : ℕ) → length xs ≤ k → take k xs ≡ xs
 take_all [] zero le = refl
@@ -208,10 +203,10 @@ drop_all [] (suc k) le = refl
 drop_all (x ∷ xs) zero le = absurd (omega arith)
 drop_all (x ∷ xs) (suc k) le = drop_all xs k (omega arith)
 
-pub all_states : (m : Method) (listing : List Placed) (states : List Stated) (k : ℕ) (places : List Place) → length states ≤ k → StatesSoFar m listing states k places → (states_stand m listing states ≡ Ok tt) × IsTable m listing states places
+pub all_states : (m : Method) (listing : List Placed) (states : List Stated) (k : ℕ) (marks : List Mark) → length states ≤ k → StatesSoFar m listing states k marks → (states_stand m listing states ≡ Ok tt) × IsTable m listing states marks
 unfolding states_stand
-all_states m listing states k places le s =
-    let T : List Stated → Type 0 = λ cs. IsTable m listing cs places in
+all_states m listing states k marks le s =
+    let T : List Stated → Type 0 = λ cs. IsTable m listing cs marks in
     (sym s.rest ∙ ap (λ cs. states_stand m listing cs) (drop_all states k le), subst T (take_all states k le) s.table)
 
 -- the row that the code looks at

@@ -1,10 +1,10 @@
 -- What it means that a certificate carries a method: with the certificate's states there is one typing that goes
 -- from instruction to instruction, and it is well typed.
-use Rattle.std.specs.Prelude.{⊤, ◌≡◌, ℕ, ℤ, pos, ◌+◌, ◌^◌, ◌<◌, ◌==◌, ◌&&◌, List, [], ◌∷◌, length, reverse, Option, Some, None, Ok, Bool, true, false, nat_le, if◌then◌else◌}
+use Rattle.std.specs.Prelude.{⊤, ◌≡◌, ℕ, ℤ, pos, ◌+◌, ◌^◌, ◌<◌, ◌==◌, ◌&&◌, List, [], ◌∷◌, length, Option, Some, None, Ok, Bool, true, false, nat_le, if◌then◌else◌}
 use Rattle.std.specs.List.{AllByRecursion}
 use Rattle.jc_code.specs.Listing.{Placed, IsListing, placed_at, begins}
 use Rattle.jc_code.specs.Targets.{targets_of, falls_of}
-use Rattle.jc_types.specs.State.{Types, types_below}
+use Rattle.jc_types.specs.State.{Types, types_below, stated_types}
 use Rattle.jc_step.specs.Effect.{effect_of}
 use Rattle.jc_cert.specs.Rows.{Stated, Row}
 use Rattle.jc_check.specs.Method.{Method, entry_of, word_method, states_of}
@@ -12,7 +12,7 @@ use Rattle.jc_check.specs.Typing.{Typing}
 
 -- the types of a certificate's state
 abbrev pub types_of : Stated → Types
-types_of c = record { locals = c.locals; operands = reverse c.operands }
+types_of c = stated_types c.locals c.operands
 
 -- the certificate's state at a pc
 unfoldable pub state_at : List Stated → ℕ → Option Types
@@ -21,7 +21,7 @@ state_at (c ∷ cs) pc = if c.pc == pc then Some (types_of c) else state_at cs p
 
 -- a state has the method's number of locals, and no more operands than it may have
 abbrev pub has_shape : Method → Stated → Bool
-has_shape m c = (length c.locals == length m.arguments + m.others) && nat_le (length c.operands) m.max_stack
+has_shape m c = (length c.locals == length m.arguments + m.max_locals) && nat_le (length c.operands) m.max_stack
 
 -- a certificate's state stands where an instruction begins, in the method's shape
 pub record Stands (m : Method) (listing : List Placed) (c : Stated) : Type 0 where
@@ -48,16 +48,16 @@ NothingGoesOn None state = state ≡ None
 NothingGoesOn (Some c) state = ⊤
 
 -- what goes on to a pc, which lies within the code where anything does
-abbrev pub Behind : Method → List Stated → Typing → Bool → Types → ℕ → Type 0
-Behind m states typing true t pc = (pc < length m.code) × GoesOn (state_at states pc) (typing pc) t
-Behind m states typing false t pc = NothingGoesOn (state_at states pc) (typing pc)
+abbrev pub GoesOnIf : Method → List Stated → Typing → Bool → Types → ℕ → Type 0
+GoesOnIf m states typing true t pc = (pc < length m.code) × GoesOn (state_at states pc) (typing pc) t
+GoesOnIf m states typing false t pc = NothingGoesOn (state_at states pc) (typing pc)
 
 -- an instruction has an effect on the state before it, and the state after goes where the certificate says
-pub record IsCarried (m : Method) (listing : List Placed) (states : List Stated) (typing : Typing) (x : Placed) (s : Types) : Type 0 where
+pub record IsCarriedAt (m : Method) (listing : List Placed) (states : List Stated) (typing : Typing) (x : Placed) (s : Types) : Type 0 where
   pub after : Types
   pub effect : effect_of m.max_stack m.returned x.instr.operation s ≡ Ok after
   pub branches : AllByRecursion (Arrives listing states after) (targets_of x.pc x.instr.operation)
-  pub behind : Behind m states typing (falls_of x.instr.operation) after x.instr.next_pc
+  pub behind : GoesOnIf m states typing (falls_of x.instr.operation) after x.instr.next_pc
 
 -- the states carry the method
 pub record Carries (m : Method) (states : List Stated) : Type 0 where
@@ -72,19 +72,19 @@ pub record Carries (m : Method) (states : List Stated) : Type 0 where
   -- it has the certificate's state wherever the certificate has one
   pub stated : (pc : ℕ) (s : Types) → state_at states pc ≡ Some s → typing pc ≡ Some s
   -- the entry state goes to pc 0
-  pub entry : Behind m states typing true (entry_of m) 0
+  pub entry : GoesOnIf m states typing true (entry_of m) 0
   -- each instruction with a state is carried, and behind one without a state nothing goes on
-  pub live : (pc : ℕ) (x : Placed) (s : Types) → placed_at listing pc ≡ Some x → typing pc ≡ Some s → IsCarried m listing states typing x s
+  pub live : (pc : ℕ) (x : Placed) (s : Types) → placed_at listing pc ≡ Some x → typing pc ≡ Some s → IsCarriedAt m listing states typing x s
   pub dead : (pc : ℕ) (x : Placed) → placed_at listing pc ≡ Some x → typing pc ≡ None → NothingGoesOn (state_at states x.instr.next_pc) (typing x.instr.next_pc)
 
 -- a certificate carries code alone
-pub record CarriesCode (code : List ℕ) (rows : List Row) : Type 0 where
+pub record CertCarriesCode (code : List ℕ) (rows : List Row) : Type 0 where
   pub states : List Stated
   pub are : states_of rows ≡ Some states
   pub carried : Carries (word_method code) states
 
 -- code that some certificate carries, of at most 65,535 bytes
-pub record IsCarriedCode (code : List ℕ) : Type 0 where
+pub record IsCarriedBySome (code : List ℕ) : Type 0 where
   pub rows : List Row
-  pub carried : CarriesCode code rows
+  pub carried : CertCarriesCode code rows
   pub short : length code < 2 ^ 16

@@ -12,17 +12,13 @@ use Rattle.jc_code.specs.Targets.{targets_of, falls_of}
 use Rattle.jc_types.specs.State.{Types, types_below}
 use Rattle.jc_step.specs.Effect.{effect_of}
 use Rattle.jc_cert.specs.Rows.{Stated}
+use Rattle.jc_check.specs.declared.fault.Fault.{Fault}
 use Rattle.jc_check.specs.Method.{Method, entry_of, word_method}
 use Rattle.jc_check.specs.Carried.{state_at, has_shape}
 
--- a reason, and the pc of the instruction that it is told of
-pub record Fault : Type 0 where
-  pub pc : ℕ
-  pub reason : Reason
-
-abbrev pub told : {A : Type 0} → ℕ → Result A Reason → Result A Fault
-told pc (Ok x) = Ok x
-told pc (Err reason) = Err (record { pc = pc; reason = reason })
+abbrev pub told_at : {A : Type 0} → ℕ → Result A Reason → Result A Fault
+told_at pc (Ok x) = Ok x
+told_at pc (Err reason) = Err (record { pc = pc; reason = reason })
 
 -- the certificate's states in order: each where an instruction begins, in the method's shape
 unfoldable pub states_stand : Method → List Placed → List Stated → Result ⊤ Fault
@@ -51,15 +47,15 @@ flows t (Some c) = if types_below t c then Ok None else Err CertMismatch
 unfoldable pub falls_to : Method → List Stated → Types → ℕ → Result (Option Types) Reason
 falls_to m states t pc = if nat_lt pc (length m.code) then flows t (state_at states pc) else Err FallsOff
 
-abbrev pub goes_on : Method → List Stated → Bool → Types → ℕ → Result (Option Types) Reason
-goes_on m states falls t pc = if falls then falls_to m states t pc else Ok None
+abbrev pub falls_if : Method → List Stated → Bool → Types → ℕ → Result (Option Types) Reason
+falls_if m states falls t pc = if falls then falls_to m states t pc else Ok None
 
 -- an instruction on a state: its effect, its branches, and then what goes on behind it
 unfoldable pub visit_live : Method → List Placed → List Stated → Placed → Types → Result (Option Types) Reason
 visit_live m listing states x s = do
   after ← effect_of m.max_stack m.returned x.instr.operation s
   _ ← all_arrive listing states after (targets_of x.pc x.instr.operation)
-  goes_on m states (falls_of x.instr.operation) after x.instr.next_pc
+  falls_if m states (falls_of x.instr.operation) after x.instr.next_pc
 
 -- the state at an instruction is the certificate's, if it has one, else what flows in; with neither it is dead
 abbrev pub visit_on : Method → List Placed → List Stated → Placed → Option Types → Option Types → Result (Option Types) Reason
@@ -73,15 +69,15 @@ visit m listing states x flow = visit_on m listing states x (state_at states x.p
 -- the instructions in order, with what flows into the first
 unfoldable pub walk : Method → List Placed → List Stated → Option Types → List Placed → Result ⊤ Fault
 walk m listing states flow [] = Ok tt
-walk m listing states flow (x ∷ xs) = told x.pc (visit m listing states x flow) >>= λ next. walk m listing states next xs
+walk m listing states flow (x ∷ xs) = told_at x.pc (visit m listing states x flow) >>= λ next. walk m listing states next xs
 
 -- the entry state goes to pc 0, and the instructions follow
-abbrev pub flow_verdict : Method → List Placed → List Stated → Result ⊤ Fault
-flow_verdict m listing states = told 0 (falls_to m states (entry_of m) 0) >>= λ flow. walk m listing states flow listing
+abbrev pub flow_findings_of : Method → List Placed → List Stated → Result ⊤ Fault
+flow_findings_of m listing states = told_at 0 (falls_to m states (entry_of m) 0) >>= λ flow. walk m listing states flow listing
 
 -- what is found in code that decodes: a state of the certificate that doesn't stand, or else what the pass finds
-unfoldable pub verdict_of : Method → List Placed → List Stated → Result ⊤ Fault
-verdict_of m listing states = states_stand m listing states >>= λ _. flow_verdict m listing states
+unfoldable pub findings_of : Method → List Placed → List Stated → Result ⊤ Fault
+findings_of m listing states = states_stand m listing states >>= λ _. flow_findings_of m listing states
 
 -- the reason that is told of a fault in decoding
 abbrev pub reason_of : CodeFault → Reason
@@ -95,7 +91,7 @@ fault_at pc reason = record { pc = pc; reason = reason }
 pub data IsFirstFault (m : Method) (states : List Stated) : Fault → Type 0 where
   empty : m.code ≡ [] → IsFirstFault m states (fault_at 0 FallsOff)
   undecoded : (pc : ℕ) (fault : CodeFault) → StopsAt m.code pc fault → IsFirstFault m states (fault_at pc (reason_of fault))
-  found : (listing : List Placed) (fault : Fault) → IsListing m.code listing → m.code ≢ [] → verdict_of m listing states ≡ Err fault → IsFirstFault m states fault
+  found : (listing : List Placed) (fault : Fault) → IsListing m.code listing → m.code ≢ [] → findings_of m listing states ≡ Err fault → IsFirstFault m states fault
 
 -- the first fault of code alone with a certificate
 abbrev pub IsFirstFaultOf : List ℕ → Option (List Stated) → Fault → Type 0

@@ -7,7 +7,7 @@ use Rattle.jc_code.specs.Listing.{Placed, IsListing, placed_at}
 use Rattle.jc_code.specs.Targets.{targets_of, falls_of}
 use Rattle.jc_types.specs.State.{Types, types_below}
 use Rattle.jc_step.specs.Effect.{effect_of}
-use Rattle.jc_check.specs.Method.{Method, entry_of}
+use Rattle.jc_check.specs.Method.{Method, entry_of, word_method}
 
 -- a typing has a state at some pcs
 abbrev pub Typing : Type 0
@@ -34,3 +34,8 @@ pub record IsTyping (m : Method) (typing : Typing) : Type 0 where
   pub whole : IsListing m.code listing
   pub entry : Leads typing (entry_of m) 0
   pub each : (pc : ℕ) (s : Types) → typing pc ≡ Some s → (x : Placed) × (placed_at listing pc ≡ Some x) × IsFine m typing x s
+
+-- code alone that is well typed
+pub record IsWellTyped (code : List ℕ) : Type 0 where
+  pub typing : Typing
+  pub typed : IsTyping (word_method code) typing

@@ -1,21 +1,39 @@
 //! Why code isn't carried.
 
-ghost use Rattle.jc_check.specs.declared.fault.WordFault.TheVariants.{Memory};
 ghost use Rattle.std.specs.Prelude.{◌≡◌};
+ghost use Rattle.jc_check.specs.declared.fault.WordFault.TheVariants.{Memory, Refused};
 
 use jc_base::Reason;
 use std::alloc::{AllocError, AllocFailed};
 use thiserror::Error;
 
+/// A fault of a method: a reason, and the pc of the instruction that it is told of.
+#[derive(Clone, Copy, Debug, PartialEq, Eq)]
+pub struct Fault {
+    pub pc: u16,
+    pub reason: Reason,
+}
+
 /// Why code isn't accepted with a certificate.
 #[derive(Clone, Copy, Debug, PartialEq, Eq, Drop, Error)]
 pub enum WordFault {
     /// The first fault, at the pc of the instruction that it is told of.
-    #[error("pc {pc} {reason}")]
+    #[error("refused")]
     Refused { pc: u16, reason: Reason },
     /// No memory was left.
-    #[error("out of memory")]
+    #[error("memory")]
     Memory,
+}
+
+impl From<Fault> for WordFault {
+    ghost from_gives = { λ fault e. e ≡ Refused fault.pc fault.reason };
+
+    fn from(fault: Fault) -> WordFault {
+        WordFault::Refused {
+            pc: fault.pc,
+            reason: fault.reason,
+        }
+    }
 }
 
 impl From<AllocError> for WordFault {

@@ -8,22 +8,22 @@ ghost use Rattle.jc_cert.specs.Views.{stated};
 ghost use Rattle.jc_types.specs.State.{types_below};
 ghost use Rattle.jc_check.specs.Carried.{has_shape, types_of};
 ghost use Rattle.jc_check.specs.FirstFault.{arrives, all_arrive, falls_to, visit_live, visit, walk};
-ghost use Rattle.jc_check.specs.Places.{IsTable, AreSafe, Flowed, flowing, HasRoom, Verdict, placed};
+ghost use Rattle.jc_check.specs.PrivateMarks.{IsTable, AreSafe, Flowed, flowing, HasRoom, placed};
 
-use crate::fault::WordFault;
+use crate::fault::Fault;
+use crate::mark::Mark;
 use crate::method::Method;
-use crate::place::Place;
 use jc_base::Reason;
 use jc_cert::StateRow;
-use jc_code::{Instr, Targets, decode};
+use jc_code::{Instr, Targets, decode, listing_laws};
 use jc_step::transfer_words;
 use jc_types::State;
 
-/// What the pass goes by: the method, the table of its places, and the certificate's states.
+/// What the pass goes by: the method, the table of its marks, and the certificate's states.
 #[derive(Drop)]
-pub(crate) struct Ground<'c, 'a> {
+pub(crate) struct PassInput<'c, 'a> {
     pub(crate) method: &'c Method<'a>,
-    pub(crate) places: &'c [Place],
+    pub(crate) marks: &'c [Mark],
     pub(crate) states: &'c [StateRow],
 }
 
@@ -35,19 +35,19 @@ fn is_met(state: &State, row: &StateRow) -> bool
 
 /// A branch from a state to a pc.
 #[tactic(auto, unfolding(crate::specs::FirstFault::arrives), using(crate::proofs::Standing::past_code))]
-fn arrive_at(ground: &Ground, state: &State, pc: usize) -> Result<(), Reason>
-    requires { AreSafe ground.now.method.now (map stated ground.now.states.now) ground.now.places.now }
-    ensures { (listing : List Placed) → IsTable ground.now.method.now listing (map stated ground.now.states.now) ground.now.places.now
-        → result ≡ arrives listing (map stated ground.now.states.now) state.now.types (pos pc) }
+fn arrive_at(input: &PassInput, state: &State, pc: usize) -> Result<(), Reason>
+    requires { AreSafe input.now.method.now (map stated input.now.states.now) input.now.marks.now }
+    ensures { (listing : List Placed) → IsTable input.now.method.now listing (map stated input.now.states.now) input.now.marks.now
+        → result ≡ arrives listing (map stated input.now.states.now) state.now.types (pos pc) }
 {
-    if pc >= ground.places.len() {
+    if pc >= input.marks.len() {
         return Err(Reason::NoTarget);
     }
-    match ground.places[pc] {
-        Place::Inside => Err(Reason::NoTarget),
-        Place::Start => Err(Reason::CertMismatch),
-        Place::Holds(number) => {
-            if is_met(state, &ground.states[usize::from(number)]) {
+    match input.marks[pc] {
+        Mark::Inside => Err(Reason::NoTarget),
+        Mark::Start => Err(Reason::CertMismatch),
+        Mark::Holds(number) => {
+            if is_met(state, &input.states[usize::from(number)]) {
                 Ok(())
             } else {
                 Err(Reason::CertMismatch)
@@ -58,47 +58,47 @@ fn arrive_at(ground: &Ground, state: &State, pc: usize) -> Result<(), Reason>
 
 /// The branch of an index from a state to its place.
 #[tactic(auto, unfolding(crate::specs::FirstFault::arrives))]
-fn arrive(ground: &Ground, state: &State, targets: &Targets, index: usize) -> Result<(), Reason>
-    requires table { AreSafe ground.now.method.now (map stated ground.now.states.now) ground.now.places.now }
+fn arrive(input: &PassInput, state: &State, targets: &Targets, index: usize) -> Result<(), Reason>
+    requires table { AreSafe input.now.method.now (map stated input.now.states.now) input.now.marks.now }
     requires index { index < length targets.now }
-    ensures { (listing : List Placed) → IsTable ground.now.method.now listing (map stated ground.now.states.now) ground.now.places.now
-        → (place : ℤ) → slice_get targets.now index ≡ Some place → result ≡ arrives listing (map stated ground.now.states.now) state.now.types place }
+    ensures { (listing : List Placed) → IsTable input.now.method.now listing (map stated input.now.states.now) input.now.marks.now
+        → (place : ℤ) → slice_get targets.now index ≡ Some place → result ≡ arrives listing (map stated input.now.states.now) state.now.types place }
 {
     let target = targets.get(index).unwrap();
     if target < 0 {
         Err(Reason::NoTarget)
     } else {
-        arrive_at(ground, state, target.unsigned_abs() as usize)
+        arrive_at(input, state, target.unsigned_abs() as usize)
     }
 }
 
 /// Each branch of an instruction in turn.
-fn arrive_all(ground: &Ground, state: &State, pc: u16, instr: &Instr) -> Result<(), Reason>
-    requires { AreSafe ground.now.method.now (map stated ground.now.states.now) ground.now.places.now }
-    ensures { (listing : List Placed) → IsTable ground.now.method.now listing (map stated ground.now.states.now) ground.now.places.now
-        → result ≡ all_arrive listing (map stated ground.now.states.now) state.now.types (targets_of pc instr.now.operation) }
+fn arrive_all(input: &PassInput, state: &State, pc: u16, instr: &Instr) -> Result<(), Reason>
+    requires { AreSafe input.now.method.now (map stated input.now.states.now) input.now.marks.now }
+    ensures { (listing : List Placed) → IsTable input.now.method.now listing (map stated input.now.states.now) input.now.marks.now
+        → result ≡ all_arrive listing (map stated input.now.states.now) state.now.types (targets_of pc instr.now.operation) }
 {
     let targets = instr.targets(pc);
     for index in 0..targets.len() {
-        arrive(ground, state, &targets, index)?;
+        arrive(input, state, &targets, index)?;
     }
     Ok(())
 }
 
 /// What goes on to a pc: the state as it is (true), or nothing, where the certificate has a state above it.
 #[tactic(auto, unfolding(crate::specs::FirstFault::falls_to))]
-pub(crate) fn fall_to(ground: &Ground, state: &State, pc: usize) -> Result<bool, Reason>
-    requires { AreSafe ground.now.method.now (map stated ground.now.states.now) ground.now.places.now }
-    ensures { (listing : List Placed) → IsTable ground.now.method.now listing (map stated ground.now.states.now) ground.now.places.now
-        → Flowed result state.now.types (falls_to ground.now.method.now (map stated ground.now.states.now) state.now.types pc) }
+pub(crate) fn fall_to(input: &PassInput, state: &State, pc: usize) -> Result<bool, Reason>
+    requires { AreSafe input.now.method.now (map stated input.now.states.now) input.now.marks.now }
+    ensures { (listing : List Placed) → IsTable input.now.method.now listing (map stated input.now.states.now) input.now.marks.now
+        → Flowed result state.now.types (falls_to input.now.method.now (map stated input.now.states.now) state.now.types pc) }
 {
-    if pc >= ground.places.len() {
+    if pc >= input.marks.len() {
         return Err(Reason::FallsOff);
     }
-    match ground.places[pc] {
-        Place::Inside | Place::Start => Ok(true),
-        Place::Holds(number) => {
-            if is_met(state, &ground.states[usize::from(number)]) {
+    match input.marks[pc] {
+        Mark::Inside | Mark::Start => Ok(true),
+        Mark::Holds(number) => {
+            if is_met(state, &input.states[usize::from(number)]) {
                 Ok(false)
             } else {
                 Err(Reason::CertMismatch)
@@ -109,18 +109,18 @@ pub(crate) fn fall_to(ground: &Ground, state: &State, pc: usize) -> Result<bool,
 
 /// An instruction on the state before it: whether the state goes on to the instruction behind it.
 #[tactic(auto, unfolding(crate::specs::FirstFault::visit_live))]
-fn visit_live_at(ground: &Ground, state: &mut State, pc: u16, instr: &Instr) -> Result<bool, Reason>
-    requires table { AreSafe ground.now.method.now (map stated ground.now.states.now) ground.now.places.now }
-    requires room { HasRoom ground.now.method.now state.old }
-    ensures flow { (listing : List Placed) → IsTable ground.now.method.now listing (map stated ground.now.states.now) ground.now.places.now
-        → Flowed result state.new.types (visit_live ground.now.method.now listing (map stated ground.now.states.now) (placed pc instr.now) state.old.types) }
-    ensures room { HasRoom ground.now.method.now state.new }
+fn visit_live_at(input: &PassInput, state: &mut State, pc: u16, instr: &Instr) -> Result<bool, Reason>
+    requires table { AreSafe input.now.method.now (map stated input.now.states.now) input.now.marks.now }
+    requires room { HasRoom input.now.method.now state.old }
+    ensures flow { (listing : List Placed) → IsTable input.now.method.now listing (map stated input.now.states.now) input.now.marks.now
+        → Flowed result state.new.types (visit_live input.now.method.now listing (map stated input.now.states.now) (placed pc instr.now) state.old.types) }
+    ensures room { HasRoom input.now.method.now state.new }
 {
-    let method = ground.method;
+    let method = input.method;
     transfer_words(instr, state, method.max_stack, method.returned.as_ref())?;
-    arrive_all(ground, state, pc, instr)?;
+    arrive_all(input, state, pc, instr)?;
     if instr.falls_through() {
-        fall_to(ground, state, instr.next_pc)
+        fall_to(input, state, instr.next_pc)
     } else {
         Ok(false)
     }
@@ -130,28 +130,28 @@ fn visit_live_at(ground: &Ground, state: &mut State, pc: u16, instr: &Instr) -> 
 /// (where it is live); with neither it is skipped.
 #[tactic(auto, unfolding(crate::specs::FirstFault::visit))]
 fn visit_at(
-    ground: &Ground,
+    input: &PassInput,
     state: &mut State,
     live: bool,
     pc: u16,
     instr: &Instr,
 ) -> Result<bool, Reason>
-    requires table { AreSafe ground.now.method.now (map stated ground.now.states.now) ground.now.places.now }
-    requires room { HasRoom ground.now.method.now state.old }
-    requires within { pc < length ground.now.method.now.code }
-    ensures flow { (listing : List Placed) → IsTable ground.now.method.now listing (map stated ground.now.states.now) ground.now.places.now
-        → Flowed result state.new.types (visit ground.now.method.now listing (map stated ground.now.states.now) (placed pc instr.now) (flowing live state.old.types)) }
-    ensures room { HasRoom ground.now.method.now state.new }
+    requires table { AreSafe input.now.method.now (map stated input.now.states.now) input.now.marks.now }
+    requires room { HasRoom input.now.method.now state.old }
+    requires within { pc < length input.now.method.now.code }
+    ensures flow { (listing : List Placed) → IsTable input.now.method.now listing (map stated input.now.states.now) input.now.marks.now
+        → Flowed result state.new.types (visit input.now.method.now listing (map stated input.now.states.now) (placed pc instr.now) (flowing live state.old.types)) }
+    ensures room { HasRoom input.now.method.now state.new }
 {
-    match ground.places[usize::from(pc)] {
-        Place::Holds(number) => {
-            let row = &ground.states[usize::from(number)];
+    match input.marks[usize::from(pc)] {
+        Mark::Holds(number) => {
+            let row = &input.states[usize::from(number)];
             state.load(&row.locals, &row.operands);
-            visit_live_at(ground, state, pc, instr)
+            visit_live_at(input, state, pc, instr)
         }
-        Place::Inside | Place::Start => {
+        Mark::Inside | Mark::Start => {
             if live {
-                visit_live_at(ground, state, pc, instr)
+                visit_live_at(input, state, pc, instr)
             } else {
                 Ok(false)
             }
@@ -159,26 +159,28 @@ fn visit_at(
     }
 }
 
-/// The instructions by ascending pc, the first with the state that flows into it (where it is live).
-pub(crate) fn walk_code(ground: &Ground, state: &mut State, live: bool) -> Result<(), WordFault>
-    requires listed { (listing : List Placed) × IsTable ground.now.method.now listing (map stated ground.now.states.now) ground.now.places.now }
-    requires table { AreSafe ground.now.method.now (map stated ground.now.states.now) ground.now.places.now }
-    requires room { HasRoom ground.now.method.now state.old }
-    requires short { length ground.now.method.now.code < 2 ^ 16 }
-    ensures { (listing : List Placed) → IsTable ground.now.method.now listing (map stated ground.now.states.now) ground.now.places.now
-        → Verdict result (walk ground.now.method.now listing (map stated ground.now.states.now) (flowing live state.old.types) listing) }
+/// The instructions by ascending pc, the first with the state that flows into it (where it is live). The state isn't to
+/// be used behind it.
+pub(crate) fn walk_code(input: &PassInput, state: &mut State, live: bool) -> Result<(), Fault>
+    requires listed { (listing : List Placed) × IsTable input.now.method.now listing (map stated input.now.states.now) input.now.marks.now }
+    requires table { AreSafe input.now.method.now (map stated input.now.states.now) input.now.marks.now }
+    requires room { HasRoom input.now.method.now state.old }
+    requires short { length input.now.method.now.code < 2 ^ 16 }
+    ensures { (listing : List Placed) → IsTable input.now.method.now listing (map stated input.now.states.now) input.now.marks.now
+        → result ≡ walk input.now.method.now listing (map stated input.now.states.now) (flowing live state.old.types) listing }
 {
-    let code = ground.method.code();
+    listing_laws();
+    let code = input.method.code();
     let mut live = live;
     let mut pc = 0;
     while pc < code.len() {
         let Ok(instr) = decode(code, pc) else {
             unreachable!()
         };
-        match visit_at(ground, state, live, pc as u16, &instr) {
-            Ok(goes_on) => live = goes_on,
+        match visit_at(input, state, live, pc as u16, &instr) {
+            Ok(falls) => live = falls,
             Err(reason) => {
-                return Err(WordFault::Refused {
+                return Err(Fault {
                     pc: pc as u16,
                     reason,
                 });

@@ -1,30 +1,29 @@
 //! Code alone, checked with its certificate.
 
-ghost use Rattle.std.specs.Prelude.{⊤, ◌≡◌, ◌≢◌, ◌<◌, ◌^◌, [], List, map, length, option_map, OnOk, IfOk, IfErr, IfSome, MatchResult};
-ghost use Rattle.jc_code.specs.Listing.{Placed, IsListing};
+ghost use Rattle.std.specs.Prelude.{⊤, ◌≡◌, ◌≢◌, ◌<◌, ◌^◌, [], List, map, length, replicate, option_map, OnOk, IfOk, IfErr, IfSome, MatchResult};
+ghost use Rattle.jc_code.specs.Listing.{Placed};
 ghost use Rattle.jc_cert.specs.Rows.{Row};
 ghost use Rattle.jc_cert.specs.Views.{stated};
-ghost use Rattle.jc_check.specs.Method.{states_of};
-ghost use Rattle.jc_check.specs.Carried.{Carries, CarriesCode};
-ghost use Rattle.jc_check.specs.FirstFault.{IsFirstFault, IsFirstFaultOf, flow_verdict};
-ghost use Rattle.jc_check.specs.Places.{IsMarked, IsTable, AreSafe, Told, Verdict};
+ghost use Rattle.jc_check.specs.Fault.{IfRefused};
+ghost use Rattle.jc_check.specs.Method.{entry_of, states_of};
+ghost use Rattle.jc_check.specs.Typing.{IsWellTyped};
+ghost use Rattle.jc_check.specs.Carried.{Carries, CertCarriesCode};
+ghost use Rattle.jc_check.specs.FirstFault.{IsFirstFault, IsFirstFaultOf, flow_findings_of};
+ghost use Rattle.jc_check.specs.PrivateMarks.{IsTable, AreSafe, HasRoom};
+ghost use Rattle.jc_check.specs.declared.mark.Mark.TheVariants.{Inside};
 
-use crate::fault::WordFault;
+use crate::fault::{Fault, WordFault};
+use crate::law::first_fault_laws;
+use crate::mark::Mark;
 use crate::method::Method;
-use crate::pass::{Ground, fall_to, walk_code};
-use crate::place::Place;
-use crate::table::{mark_starts, mark_states};
+use crate::pass::{PassInput, fall_to, walk_code};
+use crate::table::{mark_starts, mark_states, no_marks};
 use jc_base::Reason;
 use jc_cert::{Cert, StateRow};
-use jc_types::{State, Ty};
+use jc_code::listing_laws;
+use jc_types::{State, order_laws};
 use std::alloc::Global;
 use std::marker::Model;
-
-/// How many locals code alone has.
-const LOCALS: u8 = 2;
-
-/// How many operands code alone may have.
-const MAX_STACK: u8 = 8;
 
 /// Code that a certificate carries. Only `check_words` makes one.
 #[derive(Drop)]
@@ -34,86 +33,90 @@ pub struct CheckedWords<'a> {
 
 impl<'a> Model for CheckedWords<'a> {
     ghost use Rattle.std.specs.Prelude.{List, ℕ};
-    ghost use Rattle.jc_check.specs.Carried.{IsCarriedCode};
+    ghost use Rattle.jc_check.specs.Carried.{IsCarriedBySome};
+    ghost use Rattle.jc_check.specs.Typing.{IsWellTyped};
 
     ghost Value = { List ℕ };
 
     ghost view = { λ c. c.code.now };
 
-    ghost invariant = { λ c. IsCarriedCode c.code.now };
+    ghost invariant = { λ c. IsCarriedBySome c.code.now × IsWellTyped c.code.now };
 }
 
 impl<'a> CheckedWords<'a> {
-    ghost use Rattle.jc_check.specs.Carried.{IsCarriedCode};
+    ghost use Rattle.jc_check.specs.Carried.{IsCarriedBySome};
+    ghost use Rattle.jc_check.specs.Typing.{IsWellTyped};
 
-    /// The code, which a certificate carries.
+    /// The code, which a certificate carries and which is well typed.
     pub fn code(&self) -> &'a [u8]
         ensures code { result.now ≡ self.now }
-        ensures carried { IsCarriedCode self.now }
+        ensures carried { IsCarriedBySome self.now }
+        ensures typed { IsWellTyped self.now }
     {
         self.code
     }
 }
 
 // What goes on from the entry, and the pass from there.
-fn check_flow(
-    alloc: Global,
-    method: &Method,
-    places: &[Place],
-    states: &[StateRow],
-) -> Result<(), WordFault>
-    requires listed { (listing : List Placed) × IsTable method.now listing (map stated states.now) places.now }
-    requires table { AreSafe method.now (map stated states.now) places.now }
-    requires short { length method.now.code < 2 ^ 16 }
-    ensures { (listing : List Placed) → IsTable method.now listing (map stated states.now) places.now
-        → Verdict result (flow_verdict method.now listing (map stated states.now)) }
+fn check_flow(input: &PassInput, state: &mut State) -> Result<(), Fault>
+    requires listed { (listing : List Placed) × IsTable input.now.method.now listing (map stated input.now.states.now) input.now.marks.now }
+    requires table { AreSafe input.now.method.now (map stated input.now.states.now) input.now.marks.now }
+    requires short { length input.now.method.now.code < 2 ^ 16 }
+    requires entry { state.old.types ≡ entry_of input.now.method.now }
+    requires room { HasRoom input.now.method.now state.old }
+    ensures { (listing : List Placed) → IsTable input.now.method.now listing (map stated input.now.states.now) input.now.marks.now
+        → result ≡ flow_findings_of input.now.method.now listing (map stated input.now.states.now) }
 {
-    let ground = Ground {
-        method,
-        places,
-        states,
-    };
-    let mut state = State::entry(alloc, method.arguments, method.others, method.max_stack)?;
-    match fall_to(&ground, &state, 0) {
-        Ok(live) => walk_code(&ground, &mut state, live),
-        Err(reason) => Err(WordFault::Refused { pc: 0, reason }),
+    match fall_to(input, state, 0) {
+        Ok(live) => walk_code(input, state, live),
+        Err(reason) => Err(Fault { pc: 0, reason }),
     }
 }
 
-// A method whose code decodes, with a table that marks where its instructions begin.
-fn check_marked(
-    alloc: Global,
+// A method with some code whose marks are blank, and the state at its entry.
+fn check_method(
     method: &Method,
-    places: &mut [Place],
+    marks: &mut [Mark],
+    state: &mut State,
     states: &[StateRow],
-) -> Result<(), WordFault>
+) -> Result<(), Fault>
     requires some { method.now.code ≢ [] }
-    requires listed { (listing : List Placed) × IsListing method.now.code listing × IsMarked method.now.code listing places.old }
     requires short { length method.now.code < 2 ^ 16 }
     requires count { length states.now < 2 ^ 16 }
+    requires none { marks.old ≡ replicate (length method.now.code) Inside }
+    requires entry { state.old.types ≡ entry_of method.now }
+    requires room { HasRoom method.now state.old }
     ensures accepted { OnOk result (Carries method.now (map stated states.now)) }
-    ensures refused { IfErr result (λ fault. Told fault (λ f. IsFirstFault method.now (map stated states.now) f)) }
+    ensures refused { IfErr result (IsFirstFault method.now (map stated states.now)) }
 {
-    mark_states(method, places, states)?;
-    check_flow(alloc, method, places, states)
+    listing_laws();
+    mark_starts(method.code(), marks)?;
+    mark_states(method, marks, states)?;
+    let input = PassInput {
+        method,
+        marks,
+        states,
+    };
+    check_flow(&input, state)
 }
 
-// A method with the certificate's states for it.
-fn check_method(alloc: Global, method: &Method, states: &[StateRow]) -> Result<(), WordFault>
+// A method with the certificate's states for it. All that is allocated for the check is allocated here.
+fn check_in_memory(alloc: Global, method: &Method, states: &[StateRow]) -> Result<(), WordFault>
     requires short { length method.now.code < 2 ^ 16 }
     requires count { length states.now < 2 ^ 16 }
     ensures accepted { OnOk result (Carries method.now (map stated states.now)) }
-    ensures refused { IfErr result (λ fault. Told fault (λ f. IsFirstFault method.now (map stated states.now) f)) }
+    ensures refused { IfErr result (λ fault. IfRefused fault (IsFirstFault method.now (map stated states.now))) }
 {
-    let code = method.code();
-    if code.is_empty() {
+    if method.code().is_empty() {
         return Err(WordFault::Refused {
             pc: 0,
             reason: Reason::FallsOff,
         });
     }
-    let mut places = mark_starts(alloc, code)?;
-    check_marked(alloc, method, &mut places, states)
+    let mut marks = no_marks(alloc, method.code().len())?;
+    let mut state = State::entry(alloc, method.arguments, method.max_locals, method.max_stack)?;
+    check_method(method, &mut marks, &mut state, states)?;
+    Ok(())
 }
 
 // The certificate's states for code alone.
@@ -128,32 +131,29 @@ fn states_for(cert: &Cert) -> Option<&[StateRow]>
     }
 }
 
-/// Checks that a certificate carries code, which is a static method without arguments, with a short result, two
-/// locals and at most eight operands. The first fault is told, in the order of the tests: a row of the certificate
-/// for another method, empty code, decoding, the certificate's states, and the instructions by ascending pc.
+/// Checks that a certificate carries code, which is a static method without arguments, with a short result,
+/// `WORD_LOCALS` locals and at most `WORD_MAX_STACK` operands. The first fault is told, in the order of the tests: a row
+/// of the certificate for another method, empty code, decoding, the certificate's states, and the instructions by
+/// ascending pc.
 pub fn check_words<'a>(
     alloc: Global,
     code: &'a [u8],
     cert: &Cert,
 ) -> Result<CheckedWords<'a>, WordFault>
     requires { length code.now < 2 ^ 16 }
-    ensures accepted { IfOk result (λ checked. (checked ≡ code.now) × CarriesCode code.now cert.now) }
-    ensures carried { CarriesCode code.now cert.now → MatchResult result (λ checked. ⊤) (λ fault. fault ≡ WordFault.Memory) }
-    ensures refused { IfErr result (λ fault. Told fault (λ f. IsFirstFaultOf code.now (states_of cert.now) f)) }
+    ensures accepted { IfOk result (λ checked. (checked ≡ code.now) × CertCarriesCode code.now cert.now) }
+    ensures typed { IfOk result IsWellTyped }
+    ensures carried { CertCarriesCode code.now cert.now → MatchResult result (λ checked. ⊤) (λ fault. fault ≡ WordFault.Memory) }
+    ensures refused { IfErr result (λ fault. IfRefused fault (IsFirstFaultOf code.now (states_of cert.now))) }
 {
+    first_fault_laws();
+    order_laws();
     let Some(states) = states_for(cert) else {
         return Err(WordFault::Refused {
             pc: 0,
             reason: Reason::CertMismatch,
         });
     };
-    let method = Method {
-        code,
-        arguments: &[],
-        others: LOCALS,
-        max_stack: MAX_STACK,
-        returned: Some(Ty::Word),
-    };
-    check_method(alloc, &method, states)?;
+    check_in_memory(alloc, &Method::of_words(code), states)?;
     Ok(CheckedWords { code })
 }

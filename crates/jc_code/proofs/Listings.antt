@@ -44,49 +44,6 @@ there code from to (y ∷ ys) pc x h e = step (y.pc == pc) refl (λ k. there cod
         let n = next_within code from y.instr h.1 in
         record { from_on = omega (arith, r.from_on); at = r.at; instr = r.instr; ends = r.ends }
 
-pub begins_placed : (xs : List Placed) (pc : ℕ) (x : Placed) → placed_at xs pc ≡ Some x → begins xs pc ≡ true
-unfolding placed_at begins
-begins_placed [] pc x e = absurd (none_some x e)
-begins_placed (y ∷ ys) pc x e = step (y.pc == pc) (λ k. begins_placed ys pc x k) e
-  where
-    step : (b : Bool) → (placed_at ys pc ≡ Some x → begins ys pc ≡ true) → cond b (Some y) (placed_at ys pc) ≡ Some x → b || begins ys pc ≡ true
-    step true later e = refl
-    step false later e = later e
-
-pub placed_begins : (xs : List Placed) (pc : ℕ) → begins xs pc ≡ true → (x : Placed) × (placed_at xs pc ≡ Some x)
-unfolding placed_at begins
-placed_begins [] pc e = absurd cc
-placed_begins (y ∷ ys) pc e = step (y.pc == pc) (λ k. placed_begins ys pc k) e
-  where
-    step : (b : Bool) → (begins ys pc ≡ true → (x : Placed) × (placed_at ys pc ≡ Some x)) → b || begins ys pc ≡ true → (x : Placed) × (cond b (Some y) (placed_at ys pc) ≡ Some x)
-    step true later e = (y, refl)
-    step false later e = later e
-
--- from one instruction on, a listing has those behind it
-pub placed_behind : (code : List ℕ) (from to : ℕ) (x : Placed) (xs : List Placed) (pc : ℕ) → Runs code from (x ∷ xs) to → x.instr.next_pc ≤ pc → placed_at (x ∷ xs) pc ≡ placed_at xs pc
-unfolding placed_at
-placed_behind code from to x xs pc h le =
-    let n = next_within code from x.instr h.1 in
-    let ne : x.pc ≡ pc → ⊥ = λ e. omega (arith, h.0) in
-    rw (ne_eqb x.pc pc ne) refl
-
-pub placed_front : (x : Placed) (xs : List Placed) (pc : ℕ) → x.pc ≡ pc → placed_at (x ∷ xs) pc ≡ Some x
-unfolding placed_at
-placed_front x xs pc e = rw (eq-eqb x.pc pc e) refl
-
-pub begins-push : (xs : List Placed) (x : Placed) (pc : ℕ) → begins (xs ++ x ∷ []) pc ≡ begins xs pc || (x.pc == pc)
-unfolding begins
-begins-push [] x pc = flip (x.pc == pc)
-  where
-    flip : (b : Bool) → b || false ≡ b
-    flip true = refl
-    flip false = refl
-begins-push (y ∷ ys) x pc = rw (begins-push ys x pc) (regroup (y.pc == pc) (begins ys pc) (x.pc == pc))
-  where
-    regroup : (a b c : Bool) → a || (b || c) ≡ (a || b) || c
-    regroup true b c = refl
-    regroup false b c = refl
-
 abbrev placed : ℕ → Instr → Placed
 placed pc instr = record { pc = pc; instr = instr }
 

@@ -6,7 +6,7 @@ use Rattle.jc_code.specs.declared.fault.CodeFault.{CodeFault}
 use Rattle.jc_code.specs.declared.instr.Instr.{Instr}
 use Rattle.jc_code.specs.Spelling.{instr_at}
 use Rattle.jc_code.specs.Listing.{Placed, Runs, IsListing, StopsAt, ListingLaws}
-use Rattle.jc_code.proofs.Listings.{next_within, Runs-append, runs_on, one_listing, listed_or_stopped}
+use Rattle.jc_code.proofs.Listings.{next_within, there, Runs-append, one_listing, listed_or_stopped}
 
 abbrev IsListed : List ℕ → Type 0
 IsListed code = (listing : List Placed) × IsListing code listing
@@ -60,6 +60,7 @@ one_stop_from code from p q (x ∷ xs) (y ∷ ys) a b h k e f =
 pub laws : ListingLaws
 laws = record {
   ascends = next_within;
+  has = λ code listing pc x whole e. let t = there code 0 (length code) listing pc x whole e in (t.at, t.instr);
   decides = decides;
   never_both = λ code listing pc fault l s. listed_or_stopped code pc fault listing s l;
   one_listing = λ code a b h k. one_listing code 0 a b h k;

@@ -26,11 +26,11 @@ unfoldable pub fits_result : Option Ty → Result ⊤ Reason
 fits_result None = Err WrongType
 fits_result (Some t) = fits Word t
 
--- operands that change places, of so many at most
+-- operands that are moved, of max_stack at most
 abbrev pub shuffle_effect : ℕ → shuffles.Shuffle → Types → Result Types Reason
-shuffle_effect most (Pop count) s = drop_types count s
-shuffle_effect most (Duplicate count below) s = duplicate_types most count below s
-shuffle_effect most (Swap upper lower) s = swap_types upper lower s
+shuffle_effect max_stack (Pop count) s = drop_types count s
+shuffle_effect max_stack (Duplicate count below) s = duplicate_types max_stack count below s
+shuffle_effect max_stack (Swap upper lower) s = swap_types upper lower s
 
 -- the words that a branch compares
 abbrev pub branch_effect : When → Types → Result Types Reason
@@ -38,17 +38,17 @@ branch_effect Always s = Ok s
 branch_effect (Zero condition) s = take_types (Word ∷ []) s
 branch_effect (Compare condition) s = take_types (Word ∷ Word ∷ []) s
 
--- the state after an operation in a method of so many operands at most and this result
+-- the state after an operation, in a method of max_stack operands at most that returns a value of this type, or none
 unfoldable pub effect_of : ℕ → Option Ty → Operation → Types → Result Types Reason
-effect_of most result Nop s = Ok s
-effect_of most result (Push value) s = push_type most Word s
-effect_of most result (Load local) s = local_type local s >>= λ t. fits t Word >>= λ _. push_type most Word s
-effect_of most result (Store local) s = local_type local s >>= λ t. take_types (Word ∷ []) s >>= set_local_type local Word
-effect_of most result (Increment local by) s = local_type local s >>= λ t. fits t Word >>= λ _. Ok s
-effect_of most result (Shuffle shuffle) s = shuffle_effect most shuffle s
-effect_of most result (Binary operator) s = take_types (Word ∷ Word ∷ []) s >>= push_type most Word
-effect_of most result (Unary operator) s = take_types (Word ∷ []) s >>= push_type most Word
-effect_of most result (Branch when offset) s = branch_effect when s
-effect_of most result (StableSwitch default low offsets) s = take_types (Word ∷ []) s
-effect_of most result (LookupSwitch default cases) s = take_types (Word ∷ []) s
-effect_of most result ReturnWord s = take_types (Word ∷ []) s >>= λ after. fits_result result >>= λ _. Ok after
+effect_of max_stack returned Nop s = Ok s
+effect_of max_stack returned (Push value) s = push_type max_stack Word s
+effect_of max_stack returned (Load local) s = local_type local s >>= λ t. fits t Word >>= λ _. push_type max_stack Word s
+effect_of max_stack returned (Store local) s = local_type local s >>= λ t. take_types (Word ∷ []) s >>= set_local_type local Word
+effect_of max_stack returned (Increment local by) s = local_type local s >>= λ t. fits t Word >>= λ _. Ok s
+effect_of max_stack returned (Shuffle shuffle) s = shuffle_effect max_stack shuffle s
+effect_of max_stack returned (Binary operator) s = take_types (Word ∷ Word ∷ []) s >>= push_type max_stack Word
+effect_of max_stack returned (Unary operator) s = take_types (Word ∷ []) s >>= push_type max_stack Word
+effect_of max_stack returned (Branch when offset) s = branch_effect when s
+effect_of max_stack returned (StableSwitch default low offsets) s = take_types (Word ∷ []) s
+effect_of max_stack returned (LookupSwitch default cases) s = take_types (Word ∷ []) s
+effect_of max_stack returned ReturnWord s = take_types (Word ∷ []) s >>= λ after. fits_result returned >>= λ _. Ok after

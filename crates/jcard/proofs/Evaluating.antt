@@ -2,7 +2,7 @@
 use Rattle.std.proofs.Common.{◌≡◌, ℕ, List, refl, sym, ap, ◌∙◌, subst}
 use Rattle.jc_check.specs.Method.{word_method}
 use Rattle.jc_check.specs.Typing.{Typing, IsTyping}
-use Rattle.jc_check.specs.Carried.{CarriesCode}
+use Rattle.jc_check.specs.Carried.{CertCarriesCode}
 use Rattle.jc_check.proofs.Typed.{typed}
 use Rattle.jc_cert.specs.Rows.{Row}
 use Rattle.jcard.specs.declared.answer.EvalAnswer.{EvalAnswer}
@@ -17,7 +17,7 @@ use Rattle.jcard.proofs.Running.{EndsSo}
 record Ground (code bytes : List ℕ) : Type 0 where
   pub rows : List Row
   pub spelled : Spells bytes rows
-  pub carried : CarriesCode code rows
+  pub carried : CertCarriesCode code rows
   pub typing : Typing
   pub typed : IsTyping (word_method code) typing
 
@@ -48,7 +48,7 @@ answered code bytes steps g endings.UsedUp answer (Gave value) a e same = elim s
 answered code bytes steps g endings.UsedUp answer (Threw exception) a e same = elim same [ ]
 answered code bytes steps g endings.UsedUp answer IsStuck a e same = elim same [ ]
 
-pub ran : (code bytes : List ℕ) (steps : ℕ) (rows : List Row) (ending : Ending) (answer : EvalAnswer) → Spells bytes rows → CarriesCode code rows → EndsSo ending code steps → AnswersEnding ending answer → Answers answer code bytes steps
+pub ran : (code bytes : List ℕ) (steps : ℕ) (rows : List Row) (ending : Ending) (answer : EvalAnswer) → Spells bytes rows → CertCarriesCode code rows → EndsSo ending code steps → AnswersEnding ending answer → Answers answer code bytes steps
 ran code bytes steps rows ending answer spelled carried so a =
     let t = typed (word_method code) carried.states carried.carried in
     answered code bytes steps (record { rows = rows; spelled = spelled; carried = carried; typing = carried.carried.typing; typed = t }) ending answer _ a refl (so carried.carried.typing t)

@@ -9,7 +9,7 @@ use Rattle.jc_code.specs.Spelling.{instr_at}
 use Rattle.jc_code.specs.Listing.{Placed}
 use Rattle.jc_check.specs.Method.{Method, word_method}
 use Rattle.jc_check.specs.Typing.{Typing, IsTyping}
-use Rattle.jc_check.specs.Carried.{IsCarriedCode}
+use Rattle.jc_check.specs.Carried.{IsCarriedBySome}
 use Rattle.jc_check.proofs.Typed.{typed}
 use Rattle.jcard.specs.declared.run.Step.{Step}
 use Rattle.jcard.specs.declared.run.Step.TheVariants as went
@@ -90,7 +90,7 @@ IsGoing code done steps w = (typing : Typing) → (t : IsTyping (word_method cod
 pub starts : (code : List ℕ) (steps : ℕ) → IsGoing code 0 steps first_words
 starts code steps typing t = record { frame = first_frame (word_method code); agree = first_agrees code; well = first_typed code typing t; rest = simp unary_clauses refl }
 
-pub can_run : (code : List ℕ) (done steps : ℕ) (w : Words) → IsCarriedCode code → IsGoing code done steps w → CanRun code w
+pub can_run : (code : List ℕ) (done steps : ℕ) (w : Words) → IsCarriedBySome code → IsGoing code done steps w → CanRun code w
 can_run code done steps w carried going =
     let c = carried.carried.carried in
     let t = typed (word_method code) carried.carried.states c in

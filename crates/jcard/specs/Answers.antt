@@ -5,7 +5,7 @@ use Rattle.jc_cert.specs.Rows.{Row, IsCert}
 use Rattle.jc_cert.specs.Spelling.{spelling}
 use Rattle.jc_code.specs.Listing.{Placed, IsListing}
 use Rattle.jc_check.specs.Method.{word_method, states_of}
-use Rattle.jc_check.specs.Carried.{CarriesCode}
+use Rattle.jc_check.specs.Carried.{CertCarriesCode}
 use Rattle.jc_check.specs.FirstFault.{fault_at, IsFirstFaultOf}
 use Rattle.jcard.specs.declared.answer.EvalAnswer.{EvalAnswer}
 use Rattle.jcard.specs.declared.answer.EvalAnswer.TheVariants as answers
@@ -21,7 +21,7 @@ pub record Spells (bytes : List ℕ) (rows : List Row) : Type 0 where
 pub record RunEnds (code bytes : List ℕ) (steps : ℕ) (end : machine.RunEnd) : Type 0 where
   pub rows : List Row
   pub spelled : Spells bytes rows
-  pub carried : CarriesCode code rows
+  pub carried : CertCarriesCode code rows
   pub listing : List Placed
   pub whole : IsListing code listing
   pub run : machine.runtime_call (word_method code) listing steps (machine.first_frame (word_method code)) ≡ end

@@ -11,10 +11,10 @@ pub returns-in_err-arrive : goal.returns-in_err-arrive
 returns-in_err-arrive c listing table =
     let p = err_from_is_err_and c.from_residual.result c.from_residual.ensures.1 in
     let at = slice_get-get_or c.targets-targets.result c.loop-index.index (pos 0) (omega (arith, c.loop-index-test.true, c.len-index-end.ensures)) in
-    let e = stops listing (map stated c.args.ground.now.states.now) c.args.state.now.types c.targets-targets.result c.loop-index.index _ _ c.in_err-arrive.field-0.0 at (c.in_err-arrive.ensures listing table _ at) (c.loop-index.invariant listing table) in
-    rw (p.1, p.2) (e ∙ ap (λ (ts : List ℤ). all_arrive listing (map stated c.args.ground.now.states.now) c.args.state.now.types ts) c.targets-targets.ensures)
+    let e = stops listing (map stated c.args.input.now.states.now) c.args.state.now.types c.targets-targets.result c.loop-index.index _ _ c.in_err-arrive.field-0.0 at (c.in_err-arrive.ensures listing table _ at) (c.loop-index.invariant listing table) in
+    rw (p.1, p.2) (e ∙ ap (λ (ts : List ℤ). all_arrive listing (map stated c.args.input.now.states.now) c.args.state.now.types ts) c.targets-targets.ensures)
 
 pub loop-index-preserved : goal.loop-index-preserved
 loop-index-preserved c listing table =
     let at = slice_get-get_or c.targets-targets.result c.loop-index.index (pos 0) (omega (arith, c.loop-index-test.true, c.len-index-end.ensures)) in
-    goes_on listing (map stated c.args.ground.now.states.now) c.args.state.now.types c.targets-targets.result c.loop-index.index _ _ at (c.in_ok-arrive.ensures listing table _ at) (c.loop-index.invariant listing table)
+    goes_on listing (map stated c.args.input.now.states.now) c.args.state.now.types c.targets-targets.result c.loop-index.index _ _ at (c.in_ok-arrive.ensures listing table _ at) (c.loop-index.invariant listing table)

@@ -1,6 +1,5 @@
 use Rattle.std.proofs.Common.{arith, map, sym, ◌∙◌, refl}
 use Rattle.jc_cert.specs.Views.{stated}
-use Rattle.jc_code.proofs.Listings.{next_within}
 use Rattle.jc_check.proofs.Walking.{goes_on, stops, is_done, decodes}
 use Rattle.jc_check.proofs.pass.walk_code.Goals as goal
 
@@ -14,18 +13,18 @@ pub unreachable-requires : goal.unreachable-requires
 unreachable-requires c =
     let lt = rw c.code-code.ensures at c.loop-pc-test.true in
     let fails = rw c.code-code.ensures at (sym c.decode.ensures ∙ c.in_default.is) in
-    decodes c.args.ground.now.method.now c.requires.listed.0 (map stated c.args.ground.now.states.now) _ c.loop-pc.pc _ c.in_default.field-0 lt (c.loop-pc.invariant.left c.requires.listed.0 c.requires.listed.1) fails
+    decodes c.args.input.now.method.now c.requires.listed.0 (map stated c.args.input.now.states.now) _ c.loop-pc.pc _ c.in_default.field-0 lt (c.loop-pc.invariant.left c.requires.listed.0 c.requires.listed.1) fails
 
 pub returns-in-Err : goal.returns-in-Err
 returns-in-Err c listing table =
     let lt = rw c.code-code.ensures at c.loop-pc-test.true in
     let at = rw c.code-code.ensures at (sym c.decode.ensures ∙ c.in-Ok.is) in
-    stops c.args.ground.now.method.now listing (map stated c.args.ground.now.states.now) _ c.loop-pc.pc c.in-Ok.instr c.visit_at.new.state.types c.in-Err.reason _ lt at (c.in-Err.ensures.flow listing table) (c.loop-pc.invariant.left listing table)
+    sym (stops c.args.input.now.method.now listing (map stated c.args.input.now.states.now) _ c.loop-pc.pc c.in-Ok.instr c.visit_at.new.state.types c.in-Err.reason _ lt at (c.in-Err.ensures.flow listing table) (c.loop-pc.invariant.left listing table))
 
 pub loop-pc-smaller : goal.loop-pc-smaller
 loop-pc-smaller c =
     let lt = rw c.code-code.ensures at c.loop-pc-test.true in
-    let n = next_within c.args.ground.now.method.now.code c.loop-pc.pc c.in-Ok.instr (rw c.code-code.ensures at (sym c.decode.ensures ∙ c.in-Ok.is)) in
+    let n = c.listing_laws.ensures.ascends c.args.input.now.method.now.code c.loop-pc.pc c.in-Ok.instr (rw c.code-code.ensures at (sym c.decode.ensures ∙ c.in-Ok.is)) in
     omega arith
 
 pub loop-pc-preserved : goal.loop-pc-preserved
@@ -34,9 +33,9 @@ loop-pc-preserved c =
     let at = rw c.code-code.ensures at (sym c.decode.ensures ∙ c.in-Ok.is) in record {
       room = c.visit_at.ensures.room;
       left = λ listing table.
-          goes_on c.args.ground.now.method.now listing (map stated c.args.ground.now.states.now) _ c.loop-pc.pc c.in-Ok.instr c.in-Ok-visit_at.goes_on c.visit_at.new.state.types _ lt at (c.in-Ok-visit_at.ensures.flow listing table) (c.loop-pc.invariant.left listing table);
+          goes_on c.args.input.now.method.now listing (map stated c.args.input.now.states.now) _ c.loop-pc.pc c.in-Ok.instr c.in-Ok-visit_at.falls c.visit_at.new.state.types _ lt at (c.in-Ok-visit_at.ensures.flow listing table) (c.loop-pc.invariant.left listing table);
     }
 
 pub returns : goal.returns
 returns c listing table =
-    is_done c.args.ground.now.method.now listing (map stated c.args.ground.now.states.now) _ c.loop-pc.pc _ (rw c.code-code.ensures at c.loop-pc-test.false) (c.loop-pc.invariant.left listing table)
+    sym (is_done c.listing_laws.ensures c.args.input.now.method.now listing (map stated c.args.input.now.states.now) _ c.loop-pc.pc _ (rw c.code-code.ensures at c.loop-pc-test.false) (c.loop-pc.invariant.left listing table))

@@ -1,9 +1,17 @@
-use Rattle.std.proofs.Common.{sym}
-use Rattle.std.proofs.lemmas.Result.{err_from_is_err_and}
-use Rattle.jc_check.proofs.Verdicts.{carried_or_memory}
+use Rattle.std.proofs.Common.{map, sym}
+use Rattle.jc_cert.specs.Views.{stated}
+use Rattle.jc_check.specs.Method.{word_method}
+use Rattle.jc_check.proofs.Typed.{well_typed}
 use Rattle.jc_check.proofs.words.check_words.Goals as goal
 
-pub returns-in_err-check_method-clause-carried : goal.returns-in_err-check_method-clause-carried
-returns-in_err-check_method-clause-carried c carries =
-    let p = err_from_is_err_and c.from_residual.result c.from_residual.ensures.1 in
-    rw (p.1, p.2) (carried_or_memory c.args.code.now _ c.args.cert.now c.in_err-check_method.field-0.0 (sym c.in-Some.ensures.states) c.in_err-check_method.ensures.refused carries)
+pub invariant_of-result : goal.invariant_of-result
+invariant_of-result c =
+    let carries = rw c.of_words.ensures at c.in_ok-check_in_memory.ensures.accepted in (
+      record { rows = c.args.cert.now; carried = record { states = map stated c.in-Some.states.now; are = sym c.in-Some.ensures.states; carried = carries }; short = c.requires },
+      well_typed c.order_laws.ensures.reflexive c.args.code.now (map stated c.in-Some.states.now) carries,
+    )
+
+pub returns-clause-typed : goal.returns-clause-typed
+returns-clause-typed c =
+    let carries = rw c.of_words.ensures at c.in_ok-check_in_memory.ensures.accepted in
+    well_typed c.order_laws.ensures.reflexive c.args.code.now (map stated c.in-Some.states.now) carries

@@ -1,37 +1,39 @@
 -- One field after the other: what is read was spelled in front, and what is spelled in front is read.
-use Rattle.std.proofs.Common.{◌≡◌, ℕ, zero, suc, ◌+◌, ◌*◌, ◌/◌, ◌%◌, ◌^◌, ◌<◌, ◌≤◌, Bool, true, false, cond, eqb, ltb, List, [], ◌∷◌, ◌++◌, length, Option, Some, None, refl, sym, ap, subst, ◌∙◌, append_assoc, arith}
+use Rattle.std.proofs.Common.{◌≡◌, ℕ, zero, suc, ◌+◌, ◌*◌, ◌/◌, ◌%◌, ◌^◌, ◌<◌, ◌≤◌, Bool, true, false, cond, eqb, ltb, List, [], ◌∷◌, ◌++◌, length, Result, Ok, Err, refl, sym, ap, subst, ◌∙◌, append_assoc, arith}
 use Rattle.std.specs.List.{flat_map, AllByRecursion}
 use Rattle.std.specs.Int.{w16, to_be_bytes}
 use Rattle.std.proofs.lemmas.Bool.{ltb-false, le-ltb, eqb-true}
-use Rattle.jc_base.specs.Cursor.{Read, ◌>>=◌, next_u1, next_u2}
+use Rattle.jc_base.specs.Cursor.{Read, next_u1, next_u2}
+use Rattle.jc_base.specs.Results.{◌>>=◌}
 use Rattle.jc_types.specs.declared.ty.Ty.{Ty}
 use Rattle.jc_types.specs.declared.ty.Ty.TheVariants.{Top, Word, Null}
-use Rattle.jc_cert.specs.Spelling.{type_bytes}
-use Rattle.jc_cert.specs.Reading.{repeat_at, number_at, type_at}
+use Rattle.jc_cert.specs.Writing.{type_bytes}
+use Rattle.jc_cert.specs.PrivateReading.{no_spelling, spelled, repeat_at, next_number, next_type}
+use Rattle.jc_cert.specs.declared.refusal.NoSpelling.{NoSpelling}
 use Rattle.jc_cert.proofs.Repeats.{read_as}
 
 abbrev pub IsBytes : List ℕ → Type 0
 IsBytes bytes = AllByRecursion (λ b. b < 256) bytes
 
 -- what was read, and fits, was spelled in front
-abbrev pub Took : {A : Type 0} → (A → List ℕ) → (A → Type 0) → List ℕ → Option (Read A) → Type 0
-Took spell Fits bytes None = Unit {0}
-Took spell Fits bytes (Some x) = (bytes ≡ spell x.value ++ x.rest) × IsBytes x.rest × Fits x.value
+abbrev pub Took : {A : Type 0} → (A → List ℕ) → (A → Type 0) → List ℕ → Result (Read A) NoSpelling → Type 0
+Took spell Fits bytes (Err none) = Unit {0}
+Took spell Fits bytes (Ok x) = (bytes ≡ spell x.value ++ x.rest) × IsBytes x.rest × Fits x.value
 
-pub took_bind : {A B : Type 0} (spell : A → List ℕ) (Fits : A → Type 0) (whole : B → List ℕ) (All : B → Type 0) (bytes big : List ℕ) (o : Option (Read A)) (f : Read A → Option (Read B))
+pub took_bind : {A B : Type 0} (spell : A → List ℕ) (Fits : A → Type 0) (whole : B → List ℕ) (All : B → Type 0) (bytes big : List ℕ) (o : Result (Read A) NoSpelling) (f : Read A → Result (Read B) NoSpelling)
     → Took spell Fits bytes o → ((x : A) (rest : List ℕ) → bytes ≡ spell x ++ rest → IsBytes rest → Fits x → Took whole All big (f (read_as x rest))) → Took whole All big (o >>= f)
-took_bind spell Fits whole All bytes big None f h k = tt
-took_bind spell Fits whole All bytes big (Some x) f h k = k x.value x.rest h.0 h.1 h.2
+took_bind spell Fits whole All bytes big (Err none) f h k = tt
+took_bind spell Fits whole All bytes big (Ok x) f h k = k x.value x.rest h.0 h.1 h.2
 
-pub took_some : {A : Type 0} (spell : A → List ℕ) (Fits : A → Type 0) (bytes : List ℕ) (o : Option (Read A)) (x : A) (rest : List ℕ) → Took spell Fits bytes o → o ≡ Some (read_as x rest) → (bytes ≡ spell x ++ rest) × Fits x
-took_some {A = A} spell Fits bytes None x rest h e = absurd cc
-took_some {A = A} spell Fits bytes (Some y) x rest h e =
+pub took_some : {A : Type 0} (spell : A → List ℕ) (Fits : A → Type 0) (bytes : List ℕ) (o : Result (Read A) NoSpelling) (x : A) (rest : List ℕ) → Took spell Fits bytes o → o ≡ Ok (read_as x rest) → (bytes ≡ spell x ++ rest) × Fits x
+took_some {A = A} spell Fits bytes (Err none) x rest h e = absurd cc
+took_some {A = A} spell Fits bytes (Ok y) x rest h e =
     let s : y ≡ read_as x rest = cc in
     subst (λ (z : Read A). (bytes ≡ spell z.value ++ z.rest) × Fits z.value) s (h.0, h.2)
 
 -- ---- numbers
 
-pub u1_took : (bytes : List ℕ) → IsBytes bytes → Took (λ b. b ∷ []) (λ b. b < 2 ^ 8) bytes (next_u1 bytes)
+pub u1_took : (bytes : List ℕ) → IsBytes bytes → Took (λ b. b ∷ []) (λ b. b < 2 ^ 8) bytes (spelled (next_u1 bytes))
 u1_took [] fits = tt
 u1_took (b ∷ bytes) fits = (refl, fits.1, fits.0)
 
@@ -41,29 +43,32 @@ two_bytes b c rest lb lc =
     let low : c ≡ (256 * b + c) % 256 = omega arith in
     ap (λ (x : ℕ). x ∷ c ∷ rest) high ∙ ap (λ (x : ℕ). (256 * b + c) / 256 % 256 ∷ x ∷ rest) low
 
-pub u2_took : (bytes : List ℕ) → IsBytes bytes → Took (to_be_bytes w16) (λ n. n < 2 ^ 16) bytes (next_u2 bytes)
+pub u2_took : (bytes : List ℕ) → IsBytes bytes → Took (to_be_bytes w16) (λ n. n < 2 ^ 16) bytes (spelled (next_u2 bytes))
 u2_took [] fits = tt
 u2_took (b ∷ []) fits = tt
 u2_took (b ∷ c ∷ rest) fits = (two_bytes b c rest fits.0 fits.1.0, fits.1.1, omega arith)
 
-pub u2_again : (n : ℕ) (rest : List ℕ) → n < 2 ^ 16 → next_u2 (to_be_bytes w16 n ++ rest) ≡ Some (read_as n rest)
-u2_again n rest lt = let e : 256 * (n / 256 % 256) + n % 256 ≡ n = omega arith in ap (λ (k : ℕ). Some (read_as k rest)) e
+abbrev read_ok : ℕ → List ℕ → Result (Read ℕ) NoSpelling
+read_ok k rest = Ok (read_as k rest)
+
+pub u2_again : (n : ℕ) (rest : List ℕ) → n < 2 ^ 16 → spelled (next_u2 (to_be_bytes w16 n ++ rest)) ≡ Ok (read_as n rest)
+u2_again n rest lt = let e : 256 * (n / 256 % 256) + n % 256 ≡ n = omega arith in ap (λ (k : ℕ). read_ok k rest) e
 
 -- a number of two bytes, from the least one on
 abbrev pub NumberFits : ℕ → ℕ → Type 0
 NumberFits least n = (n < 2 ^ 16) × (least ≤ n)
 
-pub number_took : (least : ℕ) (bytes : List ℕ) → IsBytes bytes → Took (to_be_bytes w16) (NumberFits least) bytes (number_at least bytes)
-unfolding number_at
+pub number_took : (least : ℕ) (bytes : List ℕ) → IsBytes bytes → Took (to_be_bytes w16) (NumberFits least) bytes (next_number least bytes)
+unfolding next_number
 number_took least bytes fits =
-    took_bind (to_be_bytes w16) (λ n. n < 2 ^ 16) (to_be_bytes w16) (NumberFits least) bytes bytes (next_u2 bytes) _ (u2_took bytes fits) (λ n rest e more lt. tested n rest e more lt (ltb n least) refl)
+    took_bind (to_be_bytes w16) (λ n. n < 2 ^ 16) (to_be_bytes w16) (NumberFits least) bytes bytes (spelled (next_u2 bytes)) _ (u2_took bytes fits) (λ n rest e more lt. tested n rest e more lt (ltb n least) refl)
   where
-    tested : (n : ℕ) (rest : List ℕ) → bytes ≡ to_be_bytes w16 n ++ rest → IsBytes rest → n < 2 ^ 16 → (b : Bool) → ltb n least ≡ b → Took (to_be_bytes w16) (NumberFits least) bytes (cond b None (Some (read_as n rest)))
+    tested : (n : ℕ) (rest : List ℕ) → bytes ≡ to_be_bytes w16 n ++ rest → IsBytes rest → n < 2 ^ 16 → (b : Bool) → ltb n least ≡ b → Took (to_be_bytes w16) (NumberFits least) bytes (cond b (Err no_spelling) (Ok (read_as n rest)))
     tested n rest e more lt true test = tt
     tested n rest e more lt false test = (e, more, (lt, ltb-false _ _ test))
 
-pub number_again : (least n : ℕ) (rest : List ℕ) → NumberFits least n → number_at least (to_be_bytes w16 n ++ rest) ≡ Some (read_as n rest)
-unfolding number_at
+pub number_again : (least n : ℕ) (rest : List ℕ) → NumberFits least n → next_number least (to_be_bytes w16 n ++ rest) ≡ Ok (read_as n rest)
+unfolding next_number
 number_again least n rest fits =
     let above : ltb n least ≡ false = le-ltb _ _ fits.1 in
     let whole : 256 * (n / 256 % 256) + n % 256 ≡ n = let lt = fits.0 in omega arith in
@@ -74,30 +79,30 @@ number_again least n rest fits =
 abbrev pub IsType : Ty → Type 0
 IsType t = Unit {0}
 
-pub type_took : (bytes : List ℕ) → IsBytes bytes → Took type_bytes IsType bytes (type_at bytes)
-unfolding type_at
+pub type_took : (bytes : List ℕ) → IsBytes bytes → Took type_bytes IsType bytes (next_type bytes)
+unfolding next_type
 type_took bytes fits =
-    took_bind (λ b. b ∷ []) (λ b. b < 2 ^ 8) type_bytes IsType bytes bytes (next_u1 bytes) _ (u1_took bytes fits) (λ tag rest e more lt. tags tag rest e more (eqb tag 0) (eqb tag 1) (eqb tag 2) refl refl refl)
+    took_bind (λ b. b ∷ []) (λ b. b < 2 ^ 8) type_bytes IsType bytes bytes (spelled (next_u1 bytes)) _ (u1_took bytes fits) (λ tag rest e more lt. tags tag rest e more (eqb tag 0) (eqb tag 1) (eqb tag 2) refl refl refl)
   where
     at : (tag k : ℕ) (rest : List ℕ) → bytes ≡ tag ∷ rest → eqb tag k ≡ true → bytes ≡ k ∷ rest
     at tag k rest e t = e ∙ ap (λ (n : ℕ). n ∷ rest) (eqb-true tag k t)
 
     tags : (tag : ℕ) (rest : List ℕ) → bytes ≡ tag ∷ rest → IsBytes rest → (b0 b1 b2 : Bool) → eqb tag 0 ≡ b0 → eqb tag 1 ≡ b1 → eqb tag 2 ≡ b2
-        → Took type_bytes IsType bytes (cond b0 (Some (read_as Top rest)) (cond b1 (Some (read_as Word rest)) (cond b2 (Some (read_as Null rest)) None)))
+        → Took type_bytes IsType bytes (cond b0 (Ok (read_as Top rest)) (cond b1 (Ok (read_as Word rest)) (cond b2 (Ok (read_as Null rest)) (Err no_spelling))))
     tags tag rest e more true b1 b2 t0 t1 t2 = (at tag 0 rest e t0, more, tt)
     tags tag rest e more false true b2 t0 t1 t2 = (at tag 1 rest e t1, more, tt)
     tags tag rest e more false false true t0 t1 t2 = (at tag 2 rest e t2, more, tt)
     tags tag rest e more false false false t0 t1 t2 = tt
 
-pub type_again : (t : Ty) (rest : List ℕ) → type_at (type_bytes t ++ rest) ≡ Some (read_as t rest)
-unfolding type_at
+pub type_again : (t : Ty) (rest : List ℕ) → next_type (type_bytes t ++ rest) ≡ Ok (read_as t rest)
+unfolding next_type
 type_again Top rest = refl
 type_again Word rest = refl
 type_again Null rest = refl
 
 -- ---- so many, one after the other
 
-module _ {S A : Type 0} (read : S → List ℕ → Option (Read A)) (next : A → S) (spell : A → List ℕ) (Fits : S → A → Type 0) where
+module _ {S A : Type 0} (read : S → List ℕ → Result (Read A) NoSpelling) (next : A → S) (spell : A → List ℕ) (Fits : S → A → Type 0) where
   -- each fits in the state that the one before leaves
   abbrev pub Chain : S → List A → Type 0
   Chain s [] = Unit {0}
@@ -111,12 +116,12 @@ module _ {S A : Type 0} (read : S → List ℕ → Option (Read A)) (next : A �
       took_bind spell (Fits s) (flat_map spell) (λ xs. (length xs ≡ suc n) × Chain s xs) bytes bytes (read s bytes) _ (reads s bytes fits) (λ x rest e more fx. further x rest e more fx (repeat_took reads n (next x) rest more))
     where
       further : (x : A) (rest : List ℕ) → bytes ≡ spell x ++ rest → IsBytes rest → Fits s x → Took (flat_map spell) (λ xs. (length xs ≡ n) × Chain (next x) xs) rest (repeat_at read next n (next x) rest)
-          → Took (flat_map spell) (λ xs. (length xs ≡ suc n) × Chain s xs) bytes (repeat_at read next n (next x) rest >>= λ others. Some (read_as (x ∷ others.value) others.rest))
+          → Took (flat_map spell) (λ xs. (length xs ≡ suc n) × Chain s xs) bytes (repeat_at read next n (next x) rest >>= λ others. Ok (read_as (x ∷ others.value) others.rest))
       further x rest e more fx h = took_bind (flat_map spell) (λ xs. (length xs ≡ n) × Chain (next x) xs) (flat_map spell) (λ xs. (length xs ≡ suc n) × Chain s xs) rest bytes (repeat_at read next n (next x) rest) _ h
           (λ xs last f lasts fits. (e ∙ ap (λ (w : List ℕ). spell x ++ w) f ∙ sym (append_assoc (spell x) (flat_map spell xs) last), lasts, (ap suc fits.0, (fx, fits.1))))
 
-  pub repeat_again : ((s : S) (x : A) (rest : List ℕ) → Fits s x → read s (spell x ++ rest) ≡ Some (read_as x rest)) → (s : S) (xs : List A) (rest : List ℕ) → Chain s xs
-      → repeat_at read next (length xs) s (flat_map spell xs ++ rest) ≡ Some (read_as xs rest)
+  pub repeat_again : ((s : S) (x : A) (rest : List ℕ) → Fits s x → read s (spell x ++ rest) ≡ Ok (read_as x rest)) → (s : S) (xs : List A) (rest : List ℕ) → Chain s xs
+      → repeat_at read next (length xs) s (flat_map spell xs ++ rest) ≡ Ok (read_as xs rest)
   unfolding repeat_at
   repeat_again again s [] rest fits = refl
   repeat_again again s (x ∷ xs) rest fits =

@@ -1,4 +1,3 @@
-pub mod Rows
-pub mod Spelling
-pub mod Views
-pub mod Reading
+pub mod Cert
+pub mod Writing
+pub mod PrivateReading

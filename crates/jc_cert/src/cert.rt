@@ -1,7 +1,7 @@
 //! What a certificate holds.
 
 ghost use Rattle.std.specs.Prelude.{◌≡◌, []};
-ghost use Rattle.jc_cert.specs.Rows.{IsCert};
+ghost use Rattle.jc_cert.specs.Cert.{IsCert};
 
 use jc_types::Ty;
 use std::alloc::Global;
@@ -35,11 +35,9 @@ pub struct Cert {
 
 impl Model for Cert {
     ghost use Rattle.std.specs.Prelude.{List};
-    ghost use Rattle.jc_cert.specs.Rows.{Row, IsCert};
+    ghost use Rattle.jc_cert.specs.Cert.{Row, IsCert, rows};
 
     ghost Value = { List Row };
-
-    ghost use Rattle.jc_cert.specs.Views.{rows};
 
     ghost view = { λ c. rows c.methods.items };
 
@@ -47,7 +45,7 @@ impl Model for Cert {
 }
 
 impl Cert {
-    ghost use Rattle.jc_cert.specs.Views.{rows};
+    ghost use Rattle.jc_cert.specs.Cert.{rows};
 
     /// The certificate that claims nothing. It takes no memory.
     pub fn empty(alloc: Global) -> Cert

@@ -1,43 +1,43 @@
 //! Reading a certificate, in one pass.
 
 ghost use Rattle.std.specs.Prelude.{◌≡◌, ◌⊎◌, List, [], IfOk, IfErr, IsErrOf, MatchResult, map};
-ghost use Rattle.jc_cert.specs.Rows.{Row, IsCert};
-ghost use Rattle.jc_cert.specs.Spelling.{spelling};
-ghost use Rattle.jc_cert.specs.Views.{stated, row, rows};
-ghost use Rattle.jc_cert.specs.Reading.{number_at, type_at, types_at, stated_at, states_at, row_at, rows_at, cert_at, Reads};
+ghost use Rattle.jc_base.specs.Cursor.{Gives};
+ghost use Rattle.jc_cert.specs.Cert.{Row, IsCert, stated, row, rows};
+ghost use Rattle.jc_cert.specs.Writing.{spelling};
+ghost use Rattle.jc_cert.specs.PrivateReading.{next_number, next_type, next_types, next_stated, next_states, next_row, next_rows, next_cert, GivesUnlessMemory};
 
 use crate::cert::{Cert, MethodRow, StateRow};
-use crate::refusal::Refusal;
+use crate::refusal::{NoSpelling, Refusal};
 use jc_base::{Cursor, LoadFault};
 use jc_types::Ty;
 use std::alloc::Global;
 
 /// The next two bytes, where they spell a number from `least` on.
-#[tactic(auto, unfolding(crate::specs::Reading::number_at))]
-fn read_number(cursor: &mut Cursor, least: u32) -> Result<u16, Refusal>
-    ensures { Reads (λ n. n) result cursor.new (number_at least cursor.old) }
+#[tactic(auto, unfolding(crate::specs::PrivateReading::next_number))]
+fn read_number(cursor: &mut Cursor, least: u32) -> Result<u16, NoSpelling>
+    ensures { Gives (λ n. n) result cursor.new (next_number least cursor.old) }
 {
-    let number = cursor.u2().ok_or(Refusal::NoSpelling)?;
+    let number = cursor.u2().ok_or(NoSpelling)?;
     if u32::from(number) < least {
-        return Err(Refusal::NoSpelling);
+        return Err(NoSpelling);
     }
     Ok(number)
 }
 
-#[tactic(auto, unfolding(crate::specs::Reading::type_at))]
-fn read_type(cursor: &mut Cursor) -> Result<Ty, Refusal>
-    ensures { Reads (λ ty. ty) result cursor.new (type_at cursor.old) }
+#[tactic(auto, unfolding(crate::specs::PrivateReading::next_type))]
+fn read_type(cursor: &mut Cursor) -> Result<Ty, NoSpelling>
+    ensures { Gives (λ ty. ty) result cursor.new (next_type cursor.old) }
 {
-    match cursor.u1().ok_or(Refusal::NoSpelling)? {
+    match cursor.u1().ok_or(NoSpelling)? {
         0 => Ok(Ty::Top),
         1 => Ok(Ty::Word),
         2 => Ok(Ty::Null),
-        _ => Err(Refusal::NoSpelling),
+        _ => Err(NoSpelling),
     }
 }
 
 fn read_types(alloc: Global, cursor: &mut Cursor, count: u16) -> Result<Vec<Ty>, Refusal>
-    ensures { Reads (λ types. types.items) result cursor.new (types_at count cursor.old) }
+    ensures { GivesUnlessMemory (λ types. types.items) result cursor.new (next_types count cursor.old) }
 {
     let mut types = Vec::new(alloc);
     for _ in 0..count {
@@ -47,14 +47,14 @@ fn read_types(alloc: Global, cursor: &mut Cursor, count: u16) -> Result<Vec<Ty>,
     Ok(types)
 }
 
-#[tactic(auto, unfolding(crate::specs::Reading::stated_at))]
+#[tactic(auto, unfolding(crate::specs::PrivateReading::next_stated))]
 fn read_state(alloc: Global, cursor: &mut Cursor, least: u32) -> Result<StateRow, Refusal>
-    ensures { Reads stated result cursor.new (stated_at least cursor.old) }
+    ensures { GivesUnlessMemory stated result cursor.new (next_stated least cursor.old) }
 {
     let pc = read_number(cursor, least)?;
-    let count = cursor.u2().ok_or(Refusal::NoSpelling)?;
+    let count = cursor.u2().ok_or(NoSpelling)?;
     let locals = read_types(alloc, cursor, count)?;
-    let depth = cursor.u1().ok_or(Refusal::NoSpelling)?;
+    let depth = cursor.u1().ok_or(NoSpelling)?;
     let operands = read_types(alloc, cursor, u16::from(depth))?;
     Ok(StateRow {
         pc,
@@ -64,7 +64,7 @@ fn read_state(alloc: Global, cursor: &mut Cursor, least: u32) -> Result<StateRow
 }
 
 fn read_states(alloc: Global, cursor: &mut Cursor, count: u16) -> Result<Vec<StateRow>, Refusal>
-    ensures { Reads (λ states. map stated states.items) result cursor.new (states_at count 0 cursor.old) }
+    ensures { GivesUnlessMemory (λ states. map stated states.items) result cursor.new (next_states count 0 cursor.old) }
 {
     let mut states = Vec::new(alloc);
     let mut least = 0u32;
@@ -76,9 +76,9 @@ fn read_states(alloc: Global, cursor: &mut Cursor, count: u16) -> Result<Vec<Sta
     Ok(states)
 }
 
-#[tactic(auto, unfolding(crate::specs::Reading::row_at))]
+#[tactic(auto, unfolding(crate::specs::PrivateReading::next_row))]
 fn read_row(alloc: Global, cursor: &mut Cursor, least: u32) -> Result<MethodRow, Refusal>
-    ensures { Reads row result cursor.new (row_at least cursor.old) }
+    ensures { GivesUnlessMemory row result cursor.new (next_row least cursor.old) }
 {
     let offset = read_number(cursor, least)?;
     let count = read_number(cursor, 1)?;
@@ -87,7 +87,7 @@ fn read_row(alloc: Global, cursor: &mut Cursor, least: u32) -> Result<MethodRow,
 }
 
 fn read_rows(alloc: Global, cursor: &mut Cursor, count: u16) -> Result<Vec<MethodRow>, Refusal>
-    ensures { Reads (λ methods. rows methods.items) result cursor.new (rows_at count 0 cursor.old) }
+    ensures { GivesUnlessMemory (λ methods. rows methods.items) result cursor.new (next_rows count 0 cursor.old) }
 {
     let mut methods = Vec::new(alloc);
     let mut least = 0u32;
@@ -99,15 +99,15 @@ fn read_rows(alloc: Global, cursor: &mut Cursor, count: u16) -> Result<Vec<Metho
     Ok(methods)
 }
 
-#[tactic(auto, unfolding(crate::specs::Reading::cert_at))]
+#[tactic(auto, unfolding(crate::specs::PrivateReading::next_cert))]
 fn read_all(alloc: Global, bytes: &[u8]) -> Result<Vec<MethodRow>, Refusal>
-    ensures { Reads (λ methods. rows methods.items) result [] (cert_at bytes.now) }
+    ensures { GivesUnlessMemory (λ methods. rows methods.items) result [] (next_cert bytes.now) }
 {
     let mut cursor = Cursor::new(bytes);
-    let count = cursor.u2().ok_or(Refusal::NoSpelling)?;
+    let count = cursor.u2().ok_or(NoSpelling)?;
     let methods = read_rows(alloc, &mut cursor, count)?;
     if !cursor.is_empty() {
-        return Err(Refusal::NoSpelling);
+        return Err(Refusal::Unspelled);
     }
     Ok(methods)
 }

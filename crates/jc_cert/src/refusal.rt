@@ -1,19 +1,31 @@
 //! Why no certificate was read.
 
 ghost use Rattle.std.specs.Prelude.{◌≡◌};
-ghost use Rattle.jc_cert.specs.declared.refusal.Refusal.TheVariants.{Memory};
-ghost use Rattle.jc_cert.specs.Reading.{fault_of};
+ghost use Rattle.jc_cert.specs.declared.refusal.Refusal.TheVariants.{Unspelled, Memory};
+ghost use Rattle.jc_cert.specs.PrivateReading.{fault_of};
 
 use jc_base::LoadFault;
 use std::alloc::{AllocError, AllocFailed};
+
+/// The bytes spell no certificate. What allocates nothing tells only this.
+#[derive(Clone, Copy, Debug, PartialEq, Eq)]
+pub(crate) struct NoSpelling;
 
 /// Why no certificate was read.
 #[derive(Clone, Copy, Debug, PartialEq, Eq)]
 pub(crate) enum Refusal {
     /// The bytes spell no certificate.
-    NoSpelling,
+    Unspelled,
     /// No memory was left.
     Memory,
+}
+
+impl From<NoSpelling> for Refusal {
+    ghost from_gives = { λ _ refusal. refusal ≡ Unspelled };
+
+    fn from(_none: NoSpelling) -> Refusal {
+        Refusal::Unspelled
+    }
 }
 
 impl From<AllocError> for Refusal {
@@ -37,7 +49,7 @@ impl From<Refusal> for LoadFault {
 
     fn from(refusal: Refusal) -> LoadFault {
         match refusal {
-            Refusal::NoSpelling => LoadFault::BadCertificate,
+            Refusal::Unspelled => LoadFault::BadCertificate,
             Refusal::Memory => LoadFault::Memory,
         }
     }

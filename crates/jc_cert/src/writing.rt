@@ -2,9 +2,8 @@
 
 ghost use Rattle.std.specs.Prelude.{◌≡◌, [], ◌∷◌, ◌++◌, OnOk, IfOk};
 ghost use Rattle.std.specs.List.{flat_map};
-ghost use Rattle.jc_cert.specs.Rows.{IsStated, IsRow, IsCert};
-ghost use Rattle.jc_cert.specs.Spelling.{type_bytes, stated_bytes, row_bytes, spelling};
-ghost use Rattle.jc_cert.specs.Views.{stated, row, rows};
+ghost use Rattle.jc_cert.specs.Cert.{IsStated, IsRow, IsCert, stated, row, rows};
+ghost use Rattle.jc_cert.specs.Writing.{type_bytes, stated_bytes, row_bytes, spelling};
 
 use crate::cert::{Cert, MethodRow, StateRow};
 use jc_types::Ty;

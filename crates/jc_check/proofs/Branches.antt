@@ -5,7 +5,7 @@ use Rattle.jc_base.specs.declared.reason.Reason.{Reason}
 use Rattle.jc_base.specs.Results.{◌>>=◌}
 use Rattle.jc_types.specs.State.{Types}
 use Rattle.jc_code.specs.Listing.{Placed}
-use Rattle.jc_cert.specs.Rows.{Stated}
+use Rattle.jc_cert.specs.Cert.{Stated}
 use Rattle.jc_check.specs.FirstFault.{arrives, all_arrive}
 use Rattle.jc_check.proofs.Standing.{drop_get, drop_all}
 

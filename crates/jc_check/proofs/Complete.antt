@@ -8,7 +8,7 @@ use Rattle.jc_code.specs.Listing.{Placed, Runs, placed_at, ListingLaws}
 use Rattle.jc_code.specs.Targets.{targets_of, falls_of}
 use Rattle.jc_check.proofs.Listings.{placed_behind, placed_front}
 use Rattle.jc_types.specs.State.{Types}
-use Rattle.jc_cert.specs.Rows.{Stated}
+use Rattle.jc_cert.specs.Cert.{Stated}
 use Rattle.jc_check.specs.Method.{Method, entry_of}
 use Rattle.jc_check.specs.Typing.{Typing}
 use Rattle.jc_check.specs.Carried.{state_at, Stands, Arrives, GoesOn, NothingGoesOn, GoesOnIf, IsCarriedAt, Carries}

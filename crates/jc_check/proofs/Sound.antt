@@ -9,7 +9,7 @@ use Rattle.jc_code.specs.Listing.{Placed, Runs, IsListing, placed_at, begins, Li
 use Rattle.jc_code.specs.Targets.{targets_of, falls_of}
 use Rattle.jc_types.specs.State.{Types, types_below}
 use Rattle.jc_step.specs.Effect.{effect_of}
-use Rattle.jc_cert.specs.Rows.{Stated}
+use Rattle.jc_cert.specs.Cert.{Stated}
 use Rattle.jc_check.specs.Method.{Method, entry_of}
 use Rattle.jc_check.specs.Typing.{Typing}
 use Rattle.jc_check.specs.Carried.{state_at, has_shape, Stands, Arrives, GoesOn, NothingGoesOn, GoesOnIf, IsCarriedAt, Carries}

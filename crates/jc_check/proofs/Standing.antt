@@ -10,8 +10,7 @@ use Rattle.jc_types.specs.State.{Types}
 use Rattle.jc_code.specs.Listing.{Placed, IsListing, begins, ListingLaws}
 use Rattle.jc_check.proofs.Listings.{none_past}
 use Rattle.jc_cert.specs.declared.cert.StateRow.{StateRow}
-use Rattle.jc_cert.specs.Rows.{Stated}
-use Rattle.jc_cert.specs.Views.{stated}
+use Rattle.jc_cert.specs.Cert.{Stated, stated}
 use Rattle.jc_check.specs.Method.{Method}
 use Rattle.jc_check.specs.Carried.{types_of, state_at, has_shape}
 use Rattle.jc_check.specs.FirstFault.{fault_at, states_stand}

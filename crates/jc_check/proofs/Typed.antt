@@ -5,7 +5,7 @@ use Rattle.jc_code.specs.Listing.{Placed}
 use Rattle.jc_code.specs.Targets.{targets_of, falls_of}
 use Rattle.jc_check.proofs.Listings.{placed_begins}
 use Rattle.jc_types.specs.State.{Types, types_below}
-use Rattle.jc_cert.specs.Rows.{Stated}
+use Rattle.jc_cert.specs.Cert.{Stated}
 use Rattle.jc_check.specs.Method.{Method, entry_of, word_method}
 use Rattle.jc_check.specs.Typing.{Typing, Leads, BranchLeads, IsTyping, IsWellTyped}
 use Rattle.jc_check.specs.Carried.{state_at, Arrives, GoesOn, GoesOnIf, Carries}

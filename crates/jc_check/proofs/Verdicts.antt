@@ -10,7 +10,7 @@ use Rattle.jc_base.proofs.Binding.{ok_err, the_some}
 use Rattle.jc_code.specs.declared.fault.CodeFault.{CodeFault}
 use Rattle.jc_code.specs.Listing.{Placed, IsListing, StopsAt, ListingLaws}
 use Rattle.jc_types.specs.State.{Types, StateWithRoom}
-use Rattle.jc_cert.specs.Rows.{Stated, Row}
+use Rattle.jc_cert.specs.Cert.{Stated, Row}
 use Rattle.jc_check.specs.Method.{Method, entry_of, word_method, states_of}
 use Rattle.jc_check.specs.Carried.{Carries, CertCarriesCode}
 use Rattle.jc_check.specs.FirstFault.{fault_at, reason_of, states_stand, flow_findings_of, findings_of, IsFirstFault, empty, undecoded, found}

@@ -9,7 +9,7 @@ use Rattle.jc_code.specs.declared.instr.Instr.{Instr}
 use Rattle.jc_code.specs.Spelling.{instr_at}
 use Rattle.jc_code.specs.Listing.{Placed, Runs, ListingLaws}
 use Rattle.jc_types.specs.State.{Types}
-use Rattle.jc_cert.specs.Rows.{Stated}
+use Rattle.jc_cert.specs.Cert.{Stated}
 use Rattle.jc_check.specs.Method.{Method}
 use Rattle.jc_check.specs.FirstFault.{fault_at, told_at, visit, walk}
 use Rattle.jc_check.specs.declared.fault.Fault.{Fault}

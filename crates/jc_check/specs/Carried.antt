@@ -6,7 +6,7 @@ use Rattle.jc_code.specs.Listing.{Placed, IsListing, placed_at, begins}
 use Rattle.jc_code.specs.Targets.{targets_of, falls_of}
 use Rattle.jc_types.specs.State.{Types, types_below, stated_types}
 use Rattle.jc_step.specs.Effect.{effect_of}
-use Rattle.jc_cert.specs.Rows.{Stated, Row}
+use Rattle.jc_cert.specs.Cert.{Stated, Row}
 use Rattle.jc_check.specs.Method.{Method, entry_of, word_method, states_of}
 use Rattle.jc_check.specs.Typing.{Typing}
 

@@ -11,7 +11,7 @@ use Rattle.jc_code.specs.Listing.{Placed, IsListing, StopsAt, begins}
 use Rattle.jc_code.specs.Targets.{targets_of, falls_of}
 use Rattle.jc_types.specs.State.{Types, types_below}
 use Rattle.jc_step.specs.Effect.{effect_of}
-use Rattle.jc_cert.specs.Rows.{Stated}
+use Rattle.jc_cert.specs.Cert.{Stated}
 use Rattle.jc_check.specs.declared.fault.Fault.{Fault}
 use Rattle.jc_check.specs.Method.{Method, entry_of, word_method}
 use Rattle.jc_check.specs.Carried.{state_at, has_shape}

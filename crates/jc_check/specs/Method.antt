@@ -3,7 +3,7 @@ use Rattle.std.specs.Prelude.{ℕ, ◌==◌, List, [], ◌∷◌, Option, Some, 
 use Rattle.jc_types.specs.declared.ty.Ty.{Ty}
 use Rattle.jc_types.specs.declared.ty.Ty.TheVariants.{Word}
 use Rattle.jc_types.specs.State.{Types, entry_types}
-use Rattle.jc_cert.specs.Rows.{Stated, Row}
+use Rattle.jc_cert.specs.Cert.{Stated, Row}
 
 -- its code, the types of its arguments, how many locals it has beside them, how many operands it may have, and the type
 -- of its result, if it isn't void

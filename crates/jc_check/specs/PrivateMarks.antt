@@ -4,7 +4,7 @@ use Rattle.jc_base.specs.declared.reason.Reason.{Reason}
 use Rattle.jc_code.specs.Listing.{Placed, IsListing, begins}
 use Rattle.jc_types.specs.State.{Types, StateWithRoom}
 use Rattle.jc_code.specs.declared.instr.Instr.{Instr}
-use Rattle.jc_cert.specs.Rows.{Stated}
+use Rattle.jc_cert.specs.Cert.{Stated}
 use Rattle.jc_check.specs.Method.{Method}
 use Rattle.jc_check.specs.Carried.{state_at, types_of, has_shape}
 use Rattle.jc_check.specs.FirstFault.{states_stand}

@@ -1,7 +1,7 @@
 //! The law of first faults.
 
 ghost use Rattle.std.specs.Prelude.{◌≡◌, ◌⊎◌, List};
-ghost use Rattle.jc_cert.specs.Rows.{Stated};
+ghost use Rattle.jc_cert.specs.Cert.{Stated};
 ghost use Rattle.jc_check.specs.Method.{Method};
 ghost use Rattle.jc_check.specs.Carried.{Carries};
 ghost use Rattle.jc_check.specs.FirstFault.{IsFirstFault};

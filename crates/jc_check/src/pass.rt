@@ -4,7 +4,7 @@ ghost use Rattle.std.specs.Prelude.{◌≡◌, ◌<◌, ◌^◌, ℤ, Some, List
 ghost use Rattle.jc_code.specs.Listing.{Placed};
 ghost use Rattle.jc_code.specs.Spelling.{instr_at};
 ghost use Rattle.jc_code.specs.Targets.{targets_of};
-ghost use Rattle.jc_cert.specs.Views.{stated};
+ghost use Rattle.jc_cert.specs.Cert.{stated};
 ghost use Rattle.jc_types.specs.State.{types_below};
 ghost use Rattle.jc_check.specs.Carried.{has_shape, types_of};
 ghost use Rattle.jc_check.specs.FirstFault.{arrives, all_arrive, falls_to, visit_live, visit, walk};

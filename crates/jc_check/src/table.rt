@@ -2,7 +2,7 @@
 
 ghost use Rattle.std.specs.Prelude.{◌≡◌, ◌<◌, ◌^◌, ℕ, List, map, length, replicate, IfOk, IfErr, OnOk};
 ghost use Rattle.jc_code.specs.Listing.{Placed, IsListing, StopsAt};
-ghost use Rattle.jc_cert.specs.Views.{stated};
+ghost use Rattle.jc_cert.specs.Cert.{stated};
 ghost use Rattle.jc_check.specs.FirstFault.{reason_of};
 ghost use Rattle.jc_check.specs.PrivateMarks.{MarksStarts, StatesMarked};
 ghost use Rattle.jc_check.specs.Carried.{has_shape};

@@ -2,8 +2,7 @@
 
 ghost use Rattle.std.specs.Prelude.{⊤, ◌≡◌, ◌≢◌, ◌<◌, ◌^◌, [], List, map, length, replicate, option_map, OnOk, IfOk, IfErr, IfSome, MatchResult};
 ghost use Rattle.jc_code.specs.Listing.{Placed};
-ghost use Rattle.jc_cert.specs.Rows.{Row};
-ghost use Rattle.jc_cert.specs.Views.{stated};
+ghost use Rattle.jc_cert.specs.Cert.{Row, stated};
 ghost use Rattle.jc_check.specs.Fault.{IfRefused};
 ghost use Rattle.jc_check.specs.Method.{entry_of, states_of};
 ghost use Rattle.jc_check.specs.Typing.{IsWellTyped};

@@ -4,7 +4,7 @@ use Rattle.jc_check.specs.Method.{word_method}
 use Rattle.jc_check.specs.Typing.{Typing, IsTyping}
 use Rattle.jc_check.specs.Carried.{CertCarriesCode}
 use Rattle.jc_check.proofs.Typed.{typed}
-use Rattle.jc_cert.specs.Rows.{Row}
+use Rattle.jc_cert.specs.Cert.{Row}
 use Rattle.jcard.specs.declared.answer.EvalAnswer.{EvalAnswer}
 use Rattle.jcard.specs.declared.run.Ending.{Ending}
 use Rattle.jcard.specs.declared.run.Ending.TheVariants as endings

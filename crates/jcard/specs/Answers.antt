@@ -1,8 +1,8 @@
 -- What `eval` answers: the bad certificate first, then the first fault, then the end of the defensive machine's run
 -- with the given steps.
 use Rattle.std.specs.Prelude.{⊤, ◌≡◌, ℕ, List}
-use Rattle.jc_cert.specs.Rows.{Row, IsCert}
-use Rattle.jc_cert.specs.Spelling.{spelling}
+use Rattle.jc_cert.specs.Cert.{Row, IsCert}
+use Rattle.jc_cert.specs.Writing.{spelling}
 use Rattle.jc_code.specs.Listing.{Placed, IsListing}
 use Rattle.jc_check.specs.Method.{word_method, states_of}
 use Rattle.jc_check.specs.Carried.{CertCarriesCode}

@@ -1,6 +1,6 @@
 use Rattle.std.proofs.Common.{refl, ◌∙◌, arith}
 use Rattle.std.proofs.lemmas.Result.{err_from_is_err_and}
-use Rattle.jc_cert.specs.Views.{rows}
+use Rattle.jc_cert.specs.Cert.{rows}
 use Rattle.jc_cert.proofs.Laws.{is_found, is_only, memory_only, never_refused}
 use Rattle.jc_cert.proofs.reading.read.Goals as goal
 

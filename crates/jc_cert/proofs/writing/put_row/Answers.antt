@@ -1,5 +1,4 @@
-use Rattle.jc_cert.specs.Rows.{IsStated}
-use Rattle.jc_cert.specs.Views.{stated}
+use Rattle.jc_cert.specs.Cert.{IsStated, stated}
 use Rattle.jc_cert.proofs.Each.{each_at}
 use Rattle.jc_cert.proofs.writing.put_row.Goals as goal
 

@@ -1,8 +1,8 @@
 use Rattle.std.proofs.Common.{◌≡◌, ◌++◌, length, take, map}
 use Rattle.std.specs.Int.{w16, to_be_bytes}
 use Rattle.std.specs.List.{flat_map}
-use Rattle.jc_cert.specs.Spelling.{stated_bytes}
-use Rattle.jc_cert.specs.Views.{stated}
+use Rattle.jc_cert.specs.Writing.{stated_bytes}
+use Rattle.jc_cert.specs.Cert.{stated}
 use Rattle.jc_cert.proofs.writing.put_row.Given as goal
 
 abbrev pub invariant-loop-state : goal.invariant-loop-state

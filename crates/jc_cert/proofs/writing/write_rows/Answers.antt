@@ -1,5 +1,4 @@
-use Rattle.jc_cert.specs.Rows.{IsRow}
-use Rattle.jc_cert.specs.Views.{row}
+use Rattle.jc_cert.specs.Cert.{IsRow, row}
 use Rattle.jc_cert.proofs.Each.{each_at}
 use Rattle.jc_cert.proofs.writing.write_rows.Goals as goal
 

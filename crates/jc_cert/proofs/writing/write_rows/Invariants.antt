@@ -1,8 +1,8 @@
 use Rattle.std.proofs.Common.{◌≡◌, ◌++◌, length, take}
 use Rattle.std.specs.Int.{w16, to_be_bytes}
 use Rattle.std.specs.List.{flat_map}
-use Rattle.jc_cert.specs.Spelling.{row_bytes}
-use Rattle.jc_cert.specs.Views.{rows}
+use Rattle.jc_cert.specs.Writing.{row_bytes}
+use Rattle.jc_cert.specs.Cert.{rows}
 use Rattle.jc_cert.proofs.writing.write_rows.Given as goal
 
 abbrev pub invariant-loop-method : goal.invariant-loop-method

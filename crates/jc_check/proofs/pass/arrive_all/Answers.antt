@@ -2,7 +2,7 @@ use Rattle.std.proofs.Common.{ℤ, List, map, ap, ◌∙◌, arith}
 use Rattle.std.specs.Prelude.{pos}
 use Rattle.std.proofs.lemmas.Option.{slice_get-get_or}
 use Rattle.std.proofs.lemmas.Result.{err_from_is_err_and}
-use Rattle.jc_cert.specs.Views.{stated}
+use Rattle.jc_cert.specs.Cert.{stated}
 use Rattle.jc_check.specs.FirstFault.{all_arrive}
 use Rattle.jc_check.proofs.Branches.{goes_on, stops}
 use Rattle.jc_check.proofs.pass.arrive_all.Goals as goal

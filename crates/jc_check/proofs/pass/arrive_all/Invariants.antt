@@ -1,6 +1,6 @@
 use Rattle.std.proofs.Common.{◌≡◌, List, map, drop}
 use Rattle.jc_code.specs.Listing.{Placed}
-use Rattle.jc_cert.specs.Views.{stated}
+use Rattle.jc_cert.specs.Cert.{stated}
 use Rattle.jc_check.specs.FirstFault.{all_arrive}
 use Rattle.jc_check.specs.PrivateMarks.{IsTable}
 use Rattle.jc_check.proofs.pass.arrive_all.Given as goal

@@ -1,5 +1,5 @@
 use Rattle.std.proofs.Common.{arith, map, sym, ◌∙◌, refl}
-use Rattle.jc_cert.specs.Views.{stated}
+use Rattle.jc_cert.specs.Cert.{stated}
 use Rattle.jc_check.proofs.Walking.{goes_on, stops, is_done, decodes}
 use Rattle.jc_check.proofs.pass.walk_code.Goals as goal
 

@@ -1,6 +1,6 @@
 use Rattle.std.proofs.Common.{List, map, length, ◌-◌}
 use Rattle.jc_code.specs.Listing.{Placed}
-use Rattle.jc_cert.specs.Views.{stated}
+use Rattle.jc_cert.specs.Cert.{stated}
 use Rattle.jc_check.specs.FirstFault.{walk}
 use Rattle.jc_check.specs.PrivateMarks.{IsTable, HasRoom, flowing}
 use Rattle.jc_check.proofs.Walking.{IsLeft}

@@ -1,7 +1,7 @@
 use Rattle.std.proofs.Common.{◌≡◌, ◌<◌, length, sym, ◌∙◌, arith, rules, map, get_or}
 use Rattle.std.proofs.lemmas.List.{length-map}
 use Rattle.jc_check.specs.declared.mark.Mark.TheVariants.{Inside}
-use Rattle.jc_cert.specs.Views.{stated}
+use Rattle.jc_cert.specs.Cert.{stated}
 use Rattle.jc_check.proofs.Standing.{no_states, told_shape, told_place, told_inside, new_stands, again_stands, all_states, row_there}
 use Rattle.jc_check.proofs.Listings.{none_past}
 use Rattle.jc_check.proofs.table.mark_states.Goals as goal

@@ -1,6 +1,6 @@
 use Rattle.std.proofs.Common.{List, map}
 use Rattle.jc_code.specs.Listing.{Placed, IsListing}
-use Rattle.jc_cert.specs.Views.{stated}
+use Rattle.jc_cert.specs.Cert.{stated}
 use Rattle.jc_check.specs.PrivateMarks.{MarksStarts}
 use Rattle.jc_check.proofs.Standing.{StatesSoFar}
 use Rattle.jc_check.proofs.table.mark_states.Given as goal

@@ -1,6 +1,6 @@
 use Rattle.std.proofs.Common.{map, sym, ◌∙◌}
 use Rattle.std.proofs.lemmas.Result.{err_from_is_err_and}
-use Rattle.jc_cert.specs.Views.{stated}
+use Rattle.jc_cert.specs.Cert.{stated}
 use Rattle.jc_check.proofs.Verdicts.{stopped, accepted, refused, refused_states}
 use Rattle.jc_check.proofs.words.check_method.Goals as goal
 

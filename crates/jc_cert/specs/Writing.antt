@@ -4,7 +4,7 @@ use Rattle.std.specs.List.{flat_map}
 use Rattle.std.specs.Int.{w16, to_be_bytes}
 use Rattle.jc_types.specs.declared.ty.Ty.{Ty}
 use Rattle.jc_types.specs.declared.ty.Ty.TheVariants.{Top, Word, Null}
-use Rattle.jc_cert.specs.Rows.{Stated, Row}
+use Rattle.jc_cert.specs.Cert.{Stated, Row}
 
 abbrev pub type_bytes : Ty → List ℕ
 type_bytes Top = 0 ∷ []

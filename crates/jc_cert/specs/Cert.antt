@@ -1,7 +1,9 @@
 -- What a certificate says: for methods, the types of the locals and the operands at places of their code.
-use Rattle.std.specs.Prelude.{ℕ, ◌+◌, ◌<◌, ◌≤◌, ◌^◌, List, [], ◌∷◌, length}
+use Rattle.std.specs.Prelude.{ℕ, ◌+◌, ◌<◌, ◌≤◌, ◌^◌, List, [], ◌∷◌, length, map}
 use Rattle.std.specs.List.{AllByRecursion}
 use Rattle.jc_types.specs.declared.ty.Ty.{Ty}
+use Rattle.jc_cert.specs.declared.cert.StateRow.{StateRow}
+use Rattle.jc_cert.specs.declared.cert.MethodRow.{MethodRow}
 
 -- the types at a pc, the operands bottom first
 pub record Stated : Type 0 where
@@ -43,3 +45,13 @@ pub record IsCert (rows : List Row) : Type 0 where
   pub count : length rows < 2 ^ 16
   pub each : AllByRecursion IsRow rows
   pub ascend : OffsetsAscend 0 rows
+
+-- the rows of the code without where they lie in memory
+abbrev pub stated : StateRow → Stated
+stated s = record { pc = s.pc; locals = s.locals.items; operands = s.operands.items }
+
+abbrev pub row : MethodRow → Row
+row m = record { offset = m.offset; states = map stated m.states.items }
+
+abbrev pub rows : List MethodRow → List Row
+rows methods = map row methods

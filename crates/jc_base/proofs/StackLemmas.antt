@@ -1,9 +1,11 @@
 -- Operands that change places in a slice, the bottom one first, and in a list, the top one first.
-use Rattle.std.proofs.Common.{◌≡◌, ℕ, ◌+◌, ◌-◌, ◌≤◌, List, ◌++◌, length, take, drop, reverse, refl, sym, ap, ◌∙◌, arith, append_assoc, length-append, length-drop}
+use Rattle.std.proofs.Common.{◌≡◌, ℕ, ◌+◌, ◌-◌, ◌<◌, ◌≤◌, List, [], ◌++◌, length, take, drop, reverse, refl, sym, ap, ◌∙◌, arith, append_assoc, length-append, length-drop}
 use Rattle.std.proofs.lemmas.List.{take_at, drop_at, take-append-drop, length-take-le, reverse-append, length-reverse, drop-drop}
 use Rattle.std.proofs.Math.Seq.{take-append-add, take-length}
+use Rattle.std.proofs.lemmas.Grind.{common_steps}
 use borrow.Rule.Slice.PartMut.{put_mid, mid_of}
 use Rattle.jc_base.specs.Stack.{duplicated, swapped}
+use Rattle.jc_base.specs.PrivateStack.{turned}
 
 -- where the operands are U above L above A, the top first
 swapped_parts : {X : Type 0} (Y U L A : List X) → Y ≡ U ++ (L ++ A) → swapped (length U) (length L) Y ≡ (L ++ U) ++ A
@@ -27,14 +29,33 @@ core {X} A L U R =
     let goal : reverse (A ++ (U ++ L)) ≡ (reverse L ++ reverse U) ++ reverse A = reverse-append A (U ++ L) ∙ ap (λ (Z : List X). Z ++ reverse A) (reverse-append U L) in
     rw (new, old, goal, sym parts, length-reverse U, length-reverse L) refl
 
--- what stands in a window, and what the turned window is
-abbrev turned : {X : Type 0} → ℕ → List X → List X
-turned upper window = drop (length window - upper) window ++ take (length window - upper) window
-
+-- what the turned window is
 turned_parts : {X : Type 0} (L U : List X) → turned (length U) (L ++ U) ≡ U ++ L
 turned_parts {X} L U =
     let n : length (L ++ U) - length U ≡ length L = omega (arith, length-append L U) in
     rw (n, drop_at L U (length L) refl, take_at L U (length L) refl) refl
+
+by_turns : {X : Type 0} (A T B : List X) (w : List X) (i : ℕ) → w ≡ A ++ (T ++ B) → length T ≡ 1 → length B ≡ i → turned 1 (turned i w) ≡ turned (i + 1) w
+by_turns {X} A T B w i e one more =
+    let far : turned i w ≡ B ++ (A ++ T) = ap (λ (z : List X). turned i z) (e ∙ sym (append_assoc A T B)) ∙ ap (λ (k : ℕ). turned k ((A ++ T) ++ B)) (sym more) ∙ turned_parts (A ++ T) B in
+    let then : turned 1 (B ++ (A ++ T)) ≡ T ++ (B ++ A) = ap (λ (z : List X). turned 1 z) (sym (append_assoc B A T)) ∙ ap (λ (k : ℕ). turned k ((B ++ A) ++ T)) (sym one) ∙ turned_parts (B ++ A) T in
+    let both : length (T ++ B) ≡ i + 1 = omega (arith, length-append T B) in
+    let whole : turned (i + 1) w ≡ (T ++ B) ++ A = ap (λ (z : List X). turned (i + 1) z) e ∙ ap (λ (k : ℕ). turned k (A ++ (T ++ B))) (sym both) ∙ turned_parts A (T ++ B) in
+    ap (λ (z : List X). turned 1 z) far ∙ then ∙ sym (append_assoc T B A) ∙ sym whole
+
+-- turned once more
+pub turned_more : {X : Type 0} (w : List X) (i : ℕ) → i < length w → turned 1 (turned i w) ≡ turned (i + 1) w
+turned_more {X} w i lt =
+    let k = length w - (i + 1) in
+    let C = drop k w in
+    let lc : length C ≡ i + 1 = omega (arith, length-drop k w) in
+    by_turns (take k w) (take 1 C) (drop 1 C) w i (sym (take-append-drop k w) ∙ ap (λ (z : List X). take k w ++ z) (sym (take-append-drop 1 C))) (length-take-le 1 C (omega arith)) (omega (arith, length-drop 1 C))
+
+pub turned_none : {X : Type 0} (w : List X) → w ≡ turned 0 w
+turned_none {X} w =
+    let none : drop (length w - 0) w ≡ [] = grind (arith, common_steps) in
+    let all : take (length w - 0) w ≡ w = grind (arith, common_steps) in
+    rw (none, all) refl
 
 by_parts : {X : Type 0} (A L U R xs ys : List X) (a k d u l : ℕ) → a ≡ length A → k ≡ length L + length U → d ≡ length A + (length L + length U) → u ≡ length U → l ≡ length L → xs ≡ A ++ ((L ++ U) ++ R)
     → ys ≡ turned u (mid_of a k xs) → reverse (take d (put_mid a k xs ys)) ≡ swapped u l (reverse (take d xs))
@@ -110,3 +131,12 @@ duplicate_is {X} old repeated moved depth count below le room er em =
     let last : reverse (drop (depth - count) T) ≡ take count (reverse T) = ap (λ (n : ℕ). reverse (drop (n - count) T)) (sym lt) ∙ last_turned T count (omega arith) in
     let stack : reverse (take (depth + count) repeated) ≡ take count (reverse T) ++ reverse T = ap (λ (w : List X). reverse w) er ∙ reverse-append T (drop (depth - count) T) ∙ ap (λ (w : List X). w ++ reverse T) last in
     em ∙ ap (λ (w : List X). swapped count below w) stack ∙ moved_below (reverse T) count below (omega arith)
+
+-- operands that are repeated on top alone
+pub repeated_on_top : {X : Type 0} (old repeated : List X) (depth count : ℕ) → count ≤ depth → depth + count ≤ length old
+    → take (depth + count) repeated ≡ take depth old ++ drop (depth - count) (take depth old) → reverse (take (depth + count) repeated) ≡ duplicated count 0 (reverse (take depth old))
+repeated_on_top {X} old repeated depth count le room er =
+    let Y = reverse (take (depth + count) repeated) in
+    let bare : count + 0 ≡ count = omega arith in
+    let still : Y ≡ swapped count 0 Y = rw bare (sym (take-append-drop count Y)) in
+    duplicate_is old repeated repeated depth count 0 le room er still

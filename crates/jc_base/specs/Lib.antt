@@ -10,5 +10,6 @@ pub mod PackageInfo
 pub mod Repeats
 pub mod Tag
 pub mod Stack
+pub mod PrivateStack
 pub mod Many
 pub mod ClassRef

@@ -22,4 +22,6 @@ pub use parts::Parts;
 pub use reason::Reason;
 
 #[cfg(test)]
+mod fault_rows;
+#[cfg(test)]
 mod tests;

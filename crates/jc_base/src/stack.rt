@@ -1,7 +1,30 @@
 //! Moving the operands of a stack that stands in a slice, the bottom one first.
 
-ghost use Rattle.std.specs.Prelude.{◌≡◌, ◌≤◌, ◌+◌, ◌-◌, ◌++◌, length, reverse, take, drop};
+ghost use Rattle.std.specs.Prelude.{◌≡◌, ◌<◌, ◌≤◌, ◌+◌, ◌-◌, ◌++◌, length, reverse, take, drop};
 ghost use Rattle.jc_base.specs.Stack.{duplicated, swapped};
+ghost use Rattle.jc_base.specs.PrivateStack.{turned};
+
+// The last of a slice becomes the first: two moves, where a rotation by any count costs many times as much.
+fn turn_once<T: Copy>(window: &mut [T])
+    requires { 0 < length window.old }
+    ensures turned { window.new ≡ turned 1 window.old }
+    ensures same { length window.new ≡ length window.old }
+{
+    let last = window.len() - 1;
+    let top = window[last];
+    window.copy_within(0..last, 1);
+    window[0] = top;
+}
+
+// The last `count` of a slice come before the others.
+fn turn<T: Copy>(window: &mut [T], count: usize)
+    requires { count ≤ length window.old }
+    ensures { window.new ≡ turned count window.old }
+{
+    for _ in 0..count {
+        turn_once(window);
+    }
+}
 
 /// The top `upper` of the `depth` operands and the `lower` below them change places.
 pub fn swap_top<T: Copy>(slots: &mut [T], depth: usize, upper: usize, lower: usize)
@@ -9,7 +32,7 @@ pub fn swap_top<T: Copy>(slots: &mut [T], depth: usize, upper: usize, lower: usi
     requires room { depth ≤ length slots.old }
     ensures { reverse (take depth slots.new) ≡ swapped upper lower (reverse (take depth slots.old)) }
 {
-    slots[depth - upper - lower..depth].rotate_right(upper);
+    turn(&mut slots[depth - upper - lower..depth], upper);
 }
 
 // Writes the top `count` operands once more above them.
@@ -30,5 +53,7 @@ pub fn duplicate_top<T: Copy>(slots: &mut [T], depth: usize, count: usize, below
     ensures { reverse (take (depth + count) slots.new) ≡ duplicated count below (reverse (take depth slots.old)) }
 {
     repeat_top(slots, depth, count);
-    swap_top(slots, depth + count, count, below);
+    if 0 < below {
+        swap_top(slots, depth + count, count, below);
+    }
 }

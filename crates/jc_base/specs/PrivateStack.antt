@@ -1,0 +1,6 @@
+-- How the operands are moved in their slice, the bottom one first. No public clause speaks of this.
+use Rattle.std.specs.Prelude.{ℕ, ◌-◌, List, ◌++◌, length, take, drop}
+
+-- the last so many come before the others
+abbrev pub turned : {A : Type 0} → ℕ → List A → List A
+turned count window = drop (length window - count) window ++ take (length window - count) window

@@ -1,0 +1,55 @@
+//! One row a fault: the derived text says the same as the proved words, and no two faults are equal.
+
+use crate::fault::LoadFault;
+use crate::reason::Reason;
+use std::test::Fail;
+
+const FAULTS: [LoadFault; 20] = [
+    LoadFault::ShortComponent,
+    LoadFault::ExtraBytes,
+    LoadFault::MissingComponent(1),
+    LoadFault::RepeatedComponent(12),
+    LoadFault::BadMagic,
+    LoadFault::FormatVersion,
+    LoadFault::IntPackage,
+    LoadFault::BadAid,
+    LoadFault::Malformed(11),
+    LoadFault::MissingImport(127),
+    LoadFault::Unresolved(65_535),
+    LoadFault::TypeMismatch(0),
+    LoadFault::BadClass(32_767),
+    LoadFault::BadStatic(2),
+    LoadFault::DuplicatePackage,
+    LoadFault::BadCertificate,
+    LoadFault::MethodRefused {
+        method: 1,
+        pc: 5,
+        reason: Reason::CertMismatch,
+    },
+    LoadFault::MethodRefused {
+        method: 1,
+        pc: 5,
+        reason: Reason::WrongType,
+    },
+    LoadFault::Full,
+    LoadFault::Memory,
+];
+
+#[test]
+fn the_derived_text_says_the_words(rt: HostRuntime) -> Result<(), Fail> {
+    for fault in FAULTS {
+        let derived = format!(in rt.alloc(); "{fault}")?;
+        let words = format!(in rt.alloc(); "{}", fault.words())?;
+        assert_eq!(rt; derived.as_str(), words.as_str());
+    }
+    Ok(())
+}
+
+#[test]
+fn no_two_faults_are_equal(rt: HostRuntime) {
+    for i in 0..FAULTS.len() {
+        for j in 0..FAULTS.len() {
+            assert_eq!(rt; FAULTS[i] == FAULTS[j], i == j, "at {i} and {j}");
+        }
+    }
+}

@@ -1,6 +1,8 @@
 -- What an operation does to the types of a method's locals and operands (Java Card Virtual Machine Specification,
 -- instruction set: the format, the operand stack and the description of each instruction).
--- Of several reasons against it the first is told: BadLocal, StackUnder, WrongType, StackOver.
+-- The order of reasons is said here, and nowhere else: of several reasons against an instruction the first of BadLocal,
+-- StackUnder, WrongType and StackOver is told. What asks nothing but the code's bytes, BadOpcode, BadOperand and CutShort,
+-- is told by decoding, before any effect; NoTarget, CertMismatch and FallsOff are told of where it goes on, behind it.
 use Rattle.std.specs.Prelude.{⊤, ℕ, ◌∷◌, [], Option, Some, None, Result, Ok, Err, if◌then◌else◌}
 use Rattle.jc_base.specs.declared.reason.Reason.{Reason}
 use Rattle.jc_base.specs.declared.reason.Reason.TheVariants.{WrongType}

@@ -1,7 +1,7 @@
 //! The effect of one instruction on the types of a method's locals and operands.
 #![tactic(auto)]
 
-mod transfer;
+mod effect;
 
 pub use jc_base::Reason;
-pub use transfer::transfer_words;
+pub use effect::transfer_words;

@@ -1,5 +1,4 @@
--- What code may do to a state, or the reason why it may not. Of several reasons the first: a local that isn't
--- there, too few operands, a wrong type, too many operands.
+-- What code may do to a state, or the reason why it may not.
 use Rattle.std.specs.Prelude.{⊤, ◌≡◌, ℕ, ◌+◌, max, List, ◌∷◌, length, take, drop, reverse, Option, Some, None, Result, Ok, Err, nat_lt, if◌then◌else◌, slice_get, slice_set}
 use Rattle.jc_base.specs.declared.reason.Reason.{Reason}
 use Rattle.jc_base.specs.declared.reason.Reason.TheVariants.{BadLocal, StackUnder, WrongType, StackOver}

@@ -56,8 +56,8 @@ fn transfer_branch(when: When, state: &mut State) -> Result<(), Reason>
 }
 
 /// Puts the types after an instruction in place of those before it, in a method of at most `max_stack` operands
-/// that returns a value of the type `returned`, or none. Of several reasons against it the first is told, in the
-/// order BadLocal, StackUnder, WrongType, StackOver; the state isn't to be used then.
+/// that returns a value of the type `returned`, or none. Of several reasons against it the first is told, in the order
+/// of `effect_of`. The state isn't to be used after a reason: some of the instruction's changes may be made.
 #[tactic(auto, unfolding(crate::specs::Effect::effect_of))]
 pub fn transfer_words(
     instr: &Instr,

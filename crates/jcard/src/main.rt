@@ -10,8 +10,6 @@ mod perform;
 mod program;
 mod run;
 mod shorts;
-#[cfg(test)]
-mod tests;
 
 use answer::EvalAnswer;
 use job::Job;

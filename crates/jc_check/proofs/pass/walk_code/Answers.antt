@@ -1,6 +1,5 @@
 use Rattle.std.proofs.Common.{arith, map, sym, ◌∙◌, refl}
 use Rattle.jc_cert.specs.Views.{stated}
-use Rattle.jc_code.proofs.Listings.{next_within}
 use Rattle.jc_check.proofs.Walking.{goes_on, stops, is_done, decodes}
 use Rattle.jc_check.proofs.pass.walk_code.Goals as goal
 
@@ -13,25 +12,26 @@ loop-pc-init c = record {
 pub unreachable-requires : goal.unreachable-requires
 unreachable-requires c =
     let lt = rw c.code-code.ensures at c.loop-pc-test.true in
-    let fails = rw c.code-code.ensures at (sym c.decode.ensures ∙ c.in_default.is) in
+    let fails = rw c.code-code.ensures at (sym c.decode.ensures.instr ∙ c.in_default.is) in
     decodes c.args.ground.now.method.now c.requires.listed.0 (map stated c.args.ground.now.states.now) _ c.loop-pc.pc _ c.in_default.field-0 lt (c.loop-pc.invariant.left c.requires.listed.0 c.requires.listed.1) fails
 
 pub returns-in-Err : goal.returns-in-Err
 returns-in-Err c listing table =
     let lt = rw c.code-code.ensures at c.loop-pc-test.true in
-    let at = rw c.code-code.ensures at (sym c.decode.ensures ∙ c.in-Ok.is) in
+    let at = rw c.code-code.ensures at (sym c.decode.ensures.instr ∙ c.in-Ok.is) in
     stops c.args.ground.now.method.now listing (map stated c.args.ground.now.states.now) _ c.loop-pc.pc c.in-Ok.instr c.visit_at.new.state.types c.in-Err.reason _ lt at (c.in-Err.ensures.flow listing table) (c.loop-pc.invariant.left listing table)
 
 pub loop-pc-smaller : goal.loop-pc-smaller
 loop-pc-smaller c =
     let lt = rw c.code-code.ensures at c.loop-pc-test.true in
-    let n = next_within c.args.ground.now.method.now.code c.loop-pc.pc c.in-Ok.instr (rw c.code-code.ensures at (sym c.decode.ensures ∙ c.in-Ok.is)) in
+    let behind = c.in-Ok.ensures.behind in
+    let within = rw c.code-code.ensures at c.in-Ok.ensures.within in
     omega arith
 
 pub loop-pc-preserved : goal.loop-pc-preserved
 loop-pc-preserved c =
     let lt = rw c.code-code.ensures at c.loop-pc-test.true in
-    let at = rw c.code-code.ensures at (sym c.decode.ensures ∙ c.in-Ok.is) in record {
+    let at = rw c.code-code.ensures at (sym c.decode.ensures.instr ∙ c.in-Ok.is) in record {
       room = c.visit_at.ensures.room;
       left = λ listing table.
           goes_on c.args.ground.now.method.now listing (map stated c.args.ground.now.states.now) _ c.loop-pc.pc c.in-Ok.instr c.in-Ok-visit_at.goes_on c.visit_at.new.state.types _ lt at (c.in-Ok-visit_at.ensures.flow listing table) (c.loop-pc.invariant.left listing table);

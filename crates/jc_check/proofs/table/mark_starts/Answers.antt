@@ -1,5 +1,4 @@
-use Rattle.std.proofs.Common.{arith, sym, ◌∙◌}
-use Rattle.jc_code.proofs.Listings.{next_within}
+use Rattle.std.proofs.Common.{arith, sym}
 use Rattle.jc_check.proofs.Marking.{none_yet, goes_on}
 use Rattle.jc_check.proofs.table.mark_starts.Goals as goal
 
@@ -7,10 +6,7 @@ pub loop-pc-init : goal.loop-pc-init
 loop-pc-init c = none_yet c.args.code.now c.in_ok-places.places.items c.in_ok-places.ensures
 
 pub loop-pc-smaller : goal.loop-pc-smaller
-loop-pc-smaller c = let n = next_within c.args.code.now c.loop-pc.pc c.in-Ok.instr (sym c.decode.ensures ∙ c.in-Ok.is) in omega arith
+loop-pc-smaller c = omega (arith, c.in-Ok.ensures.behind, c.in-Ok.ensures.within)
 
 pub loop-pc-preserved : goal.loop-pc-preserved
-loop-pc-preserved c =
-    let at = sym c.decode.ensures ∙ c.in-Ok.is in
-    let n = next_within c.args.code.now c.loop-pc.pc c.in-Ok.instr at in
-    goes_on c.args.code.now c.loop-pc.pc c.in-Ok.instr c.loop-pc.places.items c.loop-pc-test.true at n.1 c.loop-pc.invariant
+loop-pc-preserved c = goes_on c.args.code.now c.loop-pc.pc c.in-Ok.instr c.loop-pc.places.items c.loop-pc-test.true (sym c.in-Ok.ensures.instr) c.in-Ok.ensures.within c.loop-pc.invariant

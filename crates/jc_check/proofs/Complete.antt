@@ -4,7 +4,7 @@ use Rattle.std.specs.List.{AllByRecursion}
 use Rattle.std.proofs.lemmas.Bool.{lt-ltb}
 use Rattle.jc_base.specs.declared.reason.Reason.{Reason}
 use Rattle.jc_base.specs.Results.{◌>>=◌}
-use Rattle.jc_code.specs.Listing.{Placed, Runs, placed_at, ListingLaws}
+use Rattle.jc_code.specs.Listing.{Placed, StandBetween, placed_at, ListingLaws}
 use Rattle.jc_code.specs.Targets.{targets_of, falls_of}
 use Rattle.jc_check.proofs.Listings.{placed_behind, placed_front}
 use Rattle.jc_types.specs.State.{Types}
@@ -65,7 +65,7 @@ visit_goes m states c x flow (Some s) e at f = live_goes m c.listing states c.ty
 visit_goes m states c x (Some t) None e at f = live_goes m c.listing states c.typing x t (c.live x.pc x t at f)
 visit_goes m states c x None None e at f = record { flow = None; is = refl; fits = c.dead x.pc x at f }
 
-walk_ok : (laws : ListingLaws) (m : Method) (states : List Stated) (c : Carries m states) (xs : List Placed) (pc : ℕ) (flow : Option Types) → Runs m.code pc xs (length m.code) → ((q : ℕ) → pc ≤ q → placed_at c.listing q ≡ placed_at xs q)
+walk_ok : (laws : ListingLaws) (m : Method) (states : List Stated) (c : Carries m states) (xs : List Placed) (pc : ℕ) (flow : Option Types) → StandBetween m.code pc xs (length m.code) → ((q : ℕ) → pc ≤ q → placed_at c.listing q ≡ placed_at xs q)
     → Flow (state_at states pc) (c.typing pc) flow → walk m c.listing states flow xs ≡ Ok tt
 unfolding walk visit
 walk_ok laws m states c [] pc flow runs same f = refl

@@ -1,11 +1,11 @@
 -- Instructions one behind the other.
 use Rattle.std.proofs.Common.{◌≡◌, ℕ, ◌≤◌, ◌<◌, ◌==◌, List, [], ◌∷◌, ◌++◌, length, Bool, true, false, ◌||◌, Some, Ok, cond, refl, sym, subst, ◌∙◌, arith}
 use Rattle.std.proofs.lemmas.Bool.{eqb-true, eq-eqb, ne_eqb}
-use Rattle.jc_code.specs.Listing.{Placed, Runs, IsListing, placed_at, begins, ListingLaws}
+use Rattle.jc_code.specs.Listing.{Placed, StandBetween, IsListing, placed_at, begins, ListingLaws}
 
-pub Runs-append : (code : List ℕ) (from mid to : ℕ) (xs ys : List Placed) → Runs code from xs mid → Runs code mid ys to → Runs code from (xs ++ ys) to
-Runs-append code from mid to [] ys h k = let P : ℕ → Type 0 = λ n. Runs code n ys to in subst P (sym h) k
-Runs-append code from mid to (x ∷ xs) ys h k = (h.0, h.1, Runs-append code x.instr.next_pc mid to xs ys h.2 k)
+pub stand-append : (code : List ℕ) (from mid to : ℕ) (xs ys : List Placed) → StandBetween code from xs mid → StandBetween code mid ys to → StandBetween code from (xs ++ ys) to
+stand-append code from mid to [] ys h k = let P : ℕ → Type 0 = λ n. StandBetween code n ys to in subst P (sym h) k
+stand-append code from mid to (x ∷ xs) ys h k = (h.0, h.1, stand-append code x.instr.next_pc mid to xs ys h.2 k)
 
 pub placed_begins : (xs : List Placed) (pc : ℕ) → begins xs pc ≡ true → (x : Placed) × (placed_at xs pc ≡ Some x)
 unfolding placed_at begins
@@ -17,7 +17,7 @@ placed_begins (y ∷ ys) pc e = step (y.pc == pc) (λ k. placed_begins ys pc k) 
     step false later e = later e
 
 -- from one instruction on, a listing has those behind it
-pub placed_behind : (laws : ListingLaws) (code : List ℕ) (from to : ℕ) (x : Placed) (xs : List Placed) (pc : ℕ) → Runs code from (x ∷ xs) to → x.instr.next_pc ≤ pc → placed_at (x ∷ xs) pc ≡ placed_at xs pc
+pub placed_behind : (laws : ListingLaws) (code : List ℕ) (from to : ℕ) (x : Placed) (xs : List Placed) (pc : ℕ) → StandBetween code from (x ∷ xs) to → x.instr.next_pc ≤ pc → placed_at (x ∷ xs) pc ≡ placed_at xs pc
 unfolding placed_at
 placed_behind laws code from to x xs pc h le =
     let n = laws.ascends code from x.instr h.1 in

@@ -5,7 +5,7 @@ use Rattle.std.proofs.lemmas.Bool.{ltb-true, ltb-false, eqb-true, eq-eqb, ne_eqb
 use Rattle.jc_base.specs.declared.reason.Reason.{Reason}
 use Rattle.jc_base.specs.declared.reason.Reason.TheVariants.{CertMismatch, FallsOff, NoTarget}
 use Rattle.jc_base.proofs.Binding.{both_true, bind_ok, guard_ok, the_ok, the_some, none_some, choice}
-use Rattle.jc_code.specs.Listing.{Placed, Runs, IsListing, placed_at, begins, ListingLaws}
+use Rattle.jc_code.specs.Listing.{Placed, StandBetween, IsListing, placed_at, begins, ListingLaws}
 use Rattle.jc_code.specs.Targets.{targets_of, falls_of}
 use Rattle.jc_types.specs.State.{Types, types_below}
 use Rattle.jc_step.specs.Effect.{effect_of}
@@ -89,16 +89,16 @@ later : (m : Method) (listing : List Placed) (states : List Stated) (flow : Opti
 later m listing states flow x xs q f v ne = rw (ne_eqb x.pc q ne, v) refl
 
 -- at the first pc it is the certificate's state, or else what flows in
-first_state : (m : Method) (listing : List Placed) (states : List Stated) (flow : Option Types) (xs : List Placed) (pc : ℕ) → Runs m.code pc xs (length m.code) → pc < length m.code → typing_of m listing states flow xs pc ≡ choose (state_at states pc) flow
+first_state : (m : Method) (listing : List Placed) (states : List Stated) (flow : Option Types) (xs : List Placed) (pc : ℕ) → StandBetween m.code pc xs (length m.code) → pc < length m.code → typing_of m listing states flow xs pc ≡ choose (state_at states pc) flow
 first_state m listing states flow [] pc runs lt = absurd (omega (arith, runs))
 first_state m listing states flow (x ∷ xs) pc runs lt = rw (eq-eqb x.pc pc runs.0) refl
 
 -- where nothing flows in and the certificate has nothing, there is no state
-first_none : (m : Method) (listing : List Placed) (states : List Stated) (xs : List Placed) (pc : ℕ) → Runs m.code pc xs (length m.code) → state_at states pc ≡ None → typing_of m listing states None xs pc ≡ None
+first_none : (m : Method) (listing : List Placed) (states : List Stated) (xs : List Placed) (pc : ℕ) → StandBetween m.code pc xs (length m.code) → state_at states pc ≡ None → typing_of m listing states None xs pc ≡ None
 first_none m listing states [] pc runs e = refl
 first_none m listing states (x ∷ xs) pc runs e = rw (eq-eqb x.pc pc runs.0, e) refl
 
-nothing_goes : (m : Method) (listing : List Placed) (states : List Stated) (typing : Typing) (xs : List Placed) (pc : ℕ) → Runs m.code pc xs (length m.code) → typing pc ≡ typing_of m listing states None xs pc → NothingGoesOn (state_at states pc) (typing pc)
+nothing_goes : (m : Method) (listing : List Placed) (states : List Stated) (typing : Typing) (xs : List Placed) (pc : ℕ) → StandBetween m.code pc xs (length m.code) → typing pc ≡ typing_of m listing states None xs pc → NothingGoesOn (state_at states pc) (typing pc)
 nothing_goes m listing states typing xs pc runs same = by (state_at states pc) refl
   where
     by : (o : Option Types) → state_at states pc ≡ o → NothingGoesOn o (typing pc)
@@ -110,7 +110,7 @@ goes_by t None f state e h = e ∙ sym (the_ok _ _ h)
 goes_by t (Some c) f state e h = (guard_ok (types_below t c) (Ok None) CertMismatch f h).0
 
 -- what goes on behind an instruction
-behind : (m : Method) (listing : List Placed) (states : List Stated) (typing : Typing) (xs : List Placed) (falls : Bool) (t : Types) (pc : ℕ) (f : Option Types) → Runs m.code pc xs (length m.code)
+behind : (m : Method) (listing : List Placed) (states : List Stated) (typing : Typing) (xs : List Placed) (falls : Bool) (t : Types) (pc : ℕ) (f : Option Types) → StandBetween m.code pc xs (length m.code)
     → typing pc ≡ typing_of m listing states f xs pc → falls_if m states falls t pc ≡ Ok f → GoesOnIf m states typing falls t pc
 unfolding falls_to
 behind m listing states typing xs true t pc f runs same h =
@@ -140,7 +140,7 @@ all_arrived listing states t (p ∷ ps) h =
     (arrived listing states t p g.1, all_arrived listing states t ps g.2)
 
 -- an instruction at which no fault is found is carried
-live_carried : (m : Method) (listing : List Placed) (states : List Stated) (typing : Typing) (x : Placed) (xs : List Placed) (s : Types) (f : Option Types) → Runs m.code x.instr.next_pc xs (length m.code)
+live_carried : (m : Method) (listing : List Placed) (states : List Stated) (typing : Typing) (x : Placed) (xs : List Placed) (s : Types) (f : Option Types) → StandBetween m.code x.instr.next_pc xs (length m.code)
     → typing x.instr.next_pc ≡ typing_of m listing states f xs x.instr.next_pc → visit_live m listing states x s ≡ Ok f → IsCarriedAt m listing states typing x s
 unfolding visit_live
 live_carried m listing states typing x xs s f runs same h =
@@ -159,7 +159,7 @@ record AtPlace (m : Method) (listing : List Placed) (states : List Stated) (typi
   pub dead : typing pc ≡ None → NothingGoesOn (state_at states x.instr.next_pc) (typing x.instr.next_pc)
 
 -- by what the certificate has there, and what flows in
-visited : (m : Method) (listing : List Placed) (states : List Stated) (typing : Typing) (x : Placed) (xs : List Placed) (o flow f : Option Types) → Runs m.code x.instr.next_pc xs (length m.code)
+visited : (m : Method) (listing : List Placed) (states : List Stated) (typing : Typing) (x : Placed) (xs : List Placed) (o flow f : Option Types) → StandBetween m.code x.instr.next_pc xs (length m.code)
     → typing x.instr.next_pc ≡ typing_of m listing states f xs x.instr.next_pc → typing x.pc ≡ choose o flow → visit_on m listing states x o flow ≡ Ok f → AtPlace m listing states typing x.pc x
 visited m listing states typing x xs (Some c) flow f runs same is h =
     let C : Types → Type 0 = λ v. IsCarriedAt m listing states typing x v in record {
@@ -179,7 +179,7 @@ visited m listing states typing x xs None None f runs same is h =
     }
 
 -- from a pc on, each instruction
-each_place : (laws : ListingLaws) (m : Method) (listing : List Placed) (states : List Stated) (typing : Typing) (flow : Option Types) (xs : List Placed) (pc : ℕ) → Runs m.code pc xs (length m.code)
+each_place : (laws : ListingLaws) (m : Method) (listing : List Placed) (states : List Stated) (typing : Typing) (flow : Option Types) (xs : List Placed) (pc : ℕ) → StandBetween m.code pc xs (length m.code)
     → ((q : ℕ) → pc ≤ q → typing q ≡ typing_of m listing states flow xs q) → walk m listing states flow xs ≡ Ok tt → (q : ℕ) (y : Placed) → placed_at xs q ≡ Some y → AtPlace m listing states typing q y
 unfolding walk visit placed_at
 each_place laws m listing states typing flow [] pc runs same h q y e = absurd (none_some y e)

@@ -2,7 +2,7 @@
 
 ghost use Rattle.std.specs.Prelude.{◌≡◌, ◌<◌, ◌^◌, ℤ, Some, List, map, length, pos, slice_get};
 ghost use Rattle.jc_code.specs.Listing.{Placed};
-ghost use Rattle.jc_code.specs.Spelling.{instr_at};
+ghost use Rattle.jc_code.specs.Decoding.{instr_at};
 ghost use Rattle.jc_code.specs.Targets.{targets_of};
 ghost use Rattle.jc_cert.specs.Cert.{stated};
 ghost use Rattle.jc_types.specs.State.{types_below};

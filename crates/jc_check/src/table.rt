@@ -45,7 +45,6 @@ pub(crate) fn mark_starts(code: &[u8], marks: &mut [Mark]) -> Result<(), Fault>
     ensures ok { OnOk result ((listing : List Placed) × IsListing code.now listing × MarksStarts code.now listing marks.new) }
     ensures err { IfErr result (λ fault. (why : CodeFault) × StopsAt code.now fault.pc why × (fault.reason ≡ reason_of why)) }
 {
-    listing_laws();
     let mut pc = 0;
     while pc < code.len() {
         match decode(code, pc) {

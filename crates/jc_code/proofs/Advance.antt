@@ -1,14 +1,15 @@
 -- Reading goes forward: an instruction ends behind its pc, and within the code.
 use Rattle.std.proofs.Common.{◌≡◌, ℕ, suc, ◌+◌, ◌-◌, ◌*◌, ◌/◌, ◌%◌, ◌==◌, ◌≤◌, ◌<◌, List, [], ◌∷◌, length, take, drop, Bool, true, false, cond, nat_lt, Option, Some, None, Result, Ok, Err, ap, subst, arith, length-drop}
 use Rattle.std.specs.Prelude.{◌-ℤ◌, unsigned_abs, int_lt}
-use Rattle.jc_base.specs.Cursor.{Read, Takes, next_u1, next_u2, next_s1, next_s2, next_bytes}
-use Rattle.jc_base.specs.Cursor as reading
+use Rattle.jc_base.proofs.Binding.{the_some}
+use Rattle.jc_base.specs.Cursor.{Read, next_u1, next_u2, next_s1, next_s2, next_bytes}
+use Rattle.jc_base.specs.Results.{◌>>=◌}
 use Rattle.jc_code.specs.declared.fault.CodeFault.{CodeFault}
 use Rattle.jc_code.specs.declared.fault.CodeFault.TheVariants.{BadOpcode, BadOperand}
 use Rattle.jc_code.specs.declared.instr.Instr.{Instr}
 use Rattle.jc_code.specs.declared.instr.Operation.{Operation}
-use Rattle.jc_code.specs.Tables.{offsets_at, cases_at, offsets_of_bytes, cases_of_bytes}
-use Rattle.jc_code.specs.Spelling.{◌>>=◌, done, listed, stable_switch_at, lookup_switch_at, wide_increment_at, when_of, wide_branch_at, control_at, branch_at, operator_of, arithmetic_at, is_duplicate, is_swap, shuffle_at, local_at, operation_of, operation_at, placed, instr_at}
+use Rattle.jc_code.specs.Tables.{operand, next_offsets, next_cases, offsets_of_bytes, cases_of_bytes}
+use Rattle.jc_code.specs.Decoding.{done, listed, next_stable_switch, next_lookup_switch, next_wide_increment, when_of, next_wide_branch, next_control, next_branch, operator_of, next_arithmetic, is_duplicate, is_swap, next_shuffle, next_local, next_constant, next_operation, instr_of, instr_at}
 
 -- what is left is no longer than n
 abbrev pub Left : {A : Type 0} → ℕ → Result (Read A) CodeFault → Type 0
@@ -22,9 +23,13 @@ abbrev Field : {A : Type 0} → ℕ → Option (Read A) → Type 0
 Field n (Some read) = length read.rest ≤ n
 Field n None = Unit {0}
 
-field : {A B : Type 0} (n : ℕ) (o : Option (Read A)) (f : Read A → Result (Read B) CodeFault) → Field n o → ((r : Read A) → length r.rest ≤ n → IsLeft n (f r)) → IsLeft n (o >>= f)
+field : {A B : Type 0} (n : ℕ) (o : Option (Read A)) (f : Read A → Result (Read B) CodeFault) → Field n o → ((r : Read A) → length r.rest ≤ n → IsLeft n (f r)) → IsLeft n (operand o >>= f)
 field n (Some r) f h k = k r h
 field n None f h k = record { left = tt }
+
+read_on : {A B : Type 0} (n : ℕ) (r : Result (Read A) CodeFault) (f : Read A → Result (Read B) CodeFault) → IsLeft n r → ((r : Read A) → length r.rest ≤ n → IsLeft n (f r)) → IsLeft n (r >>= f)
+read_on n (Ok r) f h k = k r h.left
+read_on n (Err fault) f h k = record { left = tt }
 
 chosen : {A : Type 0} (n : ℕ) (b : Bool) (x y : Result (Read A) CodeFault) → IsLeft n x → IsLeft n y → IsLeft n (cond b x y)
 chosen n true x y h k = h
@@ -62,75 +67,75 @@ bytes_left : (n k : ℕ) (bytes : List ℕ) (b : Bool) → length bytes ≤ n �
 bytes_left n k bytes true le = tt
 bytes_left n k bytes false le = omega (arith, length-drop k bytes)
 
-table_left : {A : Type 0} (n : ℕ) (o : Option (Read (List ℕ))) (view : List ℕ → A) → Field n o → Field {A = A} n (reading.◌>>=◌ o (λ table. Some (record { value = view table.value; rest = table.rest })))
-table_left n (Some r) view h = h
-table_left n None view h = tt
+table_left : {A : Type 0} (n : ℕ) (o : Option (Read (List ℕ))) (view : List ℕ → A) → Field n o → IsLeft {A = A} n (operand o >>= (λ table. Ok (record { value = view table.value; rest = table.rest })))
+table_left n (Some r) view h = record { left = h }
+table_left n None view h = record { left = tt }
 
-offsets_left : (n k : ℕ) (bytes : List ℕ) → length bytes ≤ n → Field n (offsets_at k bytes)
-unfolding offsets_at
+offsets_left : (n k : ℕ) (bytes : List ℕ) → length bytes ≤ n → IsLeft n (next_offsets k bytes)
+unfolding next_offsets
 offsets_left n k bytes le = table_left n (next_bytes (2 * k) bytes) offsets_of_bytes (bytes_left n (2 * k) bytes (nat_lt (length bytes) (2 * k)) le)
 
-cases_left : (n k : ℕ) (bytes : List ℕ) → length bytes ≤ n → Field n (cases_at k bytes)
-unfolding cases_at
+cases_left : (n k : ℕ) (bytes : List ℕ) → length bytes ≤ n → IsLeft n (next_cases k bytes)
+unfolding next_cases
 cases_left n k bytes le = table_left n (next_bytes (4 * k) bytes) cases_of_bytes (bytes_left n (4 * k) bytes (nat_lt (length bytes) (4 * k)) le)
 
-stable_switch_left : (n : ℕ) (bytes : List ℕ) → length bytes ≤ n → IsLeft n (stable_switch_at bytes)
-unfolding stable_switch_at
+stable_switch_left : (n : ℕ) (bytes : List ℕ) → length bytes ≤ n → IsLeft n (next_stable_switch bytes)
+unfolding next_stable_switch
 stable_switch_left n bytes le =
     field n (next_s2 bytes) _ (s2_left n bytes le) (λ d h. field n (next_s2 d.rest) _ (s2_left n d.rest h) (λ l i. field n (next_s2 l.rest) _ (s2_left n l.rest i) (λ u j.
-    chosen n (int_lt u.value l.value) _ _ (none n BadOperand) (field n (offsets_at (unsigned_abs (u.value -ℤ l.value) + 1) u.rest) _ (offsets_left n _ u.rest j) (λ t k. same n _ t.rest k)))))
+    chosen n (int_lt u.value l.value) _ _ (none n BadOperand) (read_on n (next_offsets (unsigned_abs (u.value -ℤ l.value) + 1) u.rest) _ (offsets_left n _ u.rest j) (λ t k. same n _ t.rest k)))))
 
-lookup_switch_left : (n : ℕ) (bytes : List ℕ) → length bytes ≤ n → IsLeft n (lookup_switch_at bytes)
-unfolding lookup_switch_at
-lookup_switch_left n bytes le = field n (next_s2 bytes) _ (s2_left n bytes le) (λ d h. field n (next_u2 d.rest) _ (u2_left n d.rest h) (λ c i. field n (cases_at c.value c.rest) _ (cases_left n c.value c.rest i) (λ t k. same n _ t.rest k)))
+lookup_switch_left : (n : ℕ) (bytes : List ℕ) → length bytes ≤ n → IsLeft n (next_lookup_switch bytes)
+unfolding next_lookup_switch
+lookup_switch_left n bytes le = field n (next_s2 bytes) _ (s2_left n bytes le) (λ d h. field n (next_u2 d.rest) _ (u2_left n d.rest h) (λ c i. read_on n (next_cases c.value c.rest) _ (cases_left n c.value c.rest i) (λ t k. same n _ t.rest k)))
 
-wide_increment_left : (n : ℕ) (bytes : List ℕ) → length bytes ≤ n → IsLeft n (wide_increment_at bytes)
-unfolding wide_increment_at
+wide_increment_left : (n : ℕ) (bytes : List ℕ) → length bytes ≤ n → IsLeft n (next_wide_increment bytes)
+unfolding next_wide_increment
 wide_increment_left n bytes le = field n (next_u1 bytes) _ (u1_left n bytes le) (λ r h. field n (next_s2 r.rest) _ (s2_left n r.rest h) (λ s k. same n _ s.rest k))
 
-wide_branch_left : (n op : ℕ) (bytes : List ℕ) → length bytes ≤ n → IsLeft n (wide_branch_at op bytes)
-unfolding wide_branch_at
+wide_branch_left : (n op : ℕ) (bytes : List ℕ) → length bytes ≤ n → IsLeft n (next_wide_branch op bytes)
+unfolding next_wide_branch
 wide_branch_left n op bytes le = either n (when_of (op - 56)) _ _ (λ when. field n (next_s2 bytes) _ (s2_left n bytes le) (λ r h. same n _ r.rest h)) (none n BadOpcode)
 
-control_left : (n op : ℕ) (bytes : List ℕ) → length bytes ≤ n → IsLeft n (control_at op bytes)
-unfolding control_at
+control_left : (n op : ℕ) (bytes : List ℕ) → length bytes ≤ n → IsLeft n (next_control op bytes)
+unfolding next_control
 control_left n op bytes le =
     chosen n (op == 115) _ _ (stable_switch_left n bytes le) (chosen n (op == 117) _ _ (lookup_switch_left n bytes le) (chosen n (op == 120) _ _ (same n _ bytes le) (chosen n (op == 150) _ _ (wide_increment_left n bytes le) (chosen n (nat_lt op 152) _ _ (none n BadOpcode) (wide_branch_left n op bytes le)))))
 
-branch_left : (n op : ℕ) (bytes : List ℕ) → length bytes ≤ n → IsLeft n (branch_at op bytes)
-unfolding branch_at
+branch_left : (n op : ℕ) (bytes : List ℕ) → length bytes ≤ n → IsLeft n (next_branch op bytes)
+unfolding next_branch
 branch_left n op bytes le = either n (when_of op) _ _ (λ when. field n (next_s1 bytes) _ (s1_left n bytes le) (λ r h. same n _ r.rest h)) (control_left n op bytes le)
 
-arithmetic_left : (n op : ℕ) (bytes : List ℕ) → length bytes ≤ n → IsLeft n (arithmetic_at op bytes)
-unfolding arithmetic_at
+arithmetic_left : (n op : ℕ) (bytes : List ℕ) → length bytes ≤ n → IsLeft n (next_arithmetic op bytes)
+unfolding next_arithmetic
 arithmetic_left n op bytes le =
     chosen n (op == 75) _ _ (same n _ bytes le) (chosen n (op == 89) _ _ (field n (next_u1 bytes) _ (u1_left n bytes le) (λ r h. field n (next_s1 r.rest) _ (s1_left n r.rest h) (λ s k. same n _ s.rest k))) (chosen n (op == 91) _ _ (same n _ bytes le) (either n (operator_of op) _ _ (λ x. same n _ bytes le) (branch_left n op bytes le))))
 
-shuffle_left : (n op : ℕ) (bytes : List ℕ) → length bytes ≤ n → IsLeft n (shuffle_at op bytes)
-unfolding shuffle_at
+shuffle_left : (n op : ℕ) (bytes : List ℕ) → length bytes ≤ n → IsLeft n (next_shuffle op bytes)
+unfolding next_shuffle
 shuffle_left n op bytes le =
     chosen n (op == 59) _ _ (same n _ bytes le) (chosen n (op == 60) _ _ (same n _ bytes le) (chosen n (op == 61) _ _ (same n _ bytes le) (chosen n (op == 62) _ _ (same n _ bytes le)
     (chosen n (op == 63) _ _ (field n (next_u1 bytes) _ (u1_left n bytes le) (λ r h. chosen n (is_duplicate (r.value / 16) (r.value % 16)) _ _ (same n _ r.rest h) (none n BadOperand))) (chosen n (op == 64) _ _ (field n (next_u1 bytes) _ (u1_left n bytes le) (λ r h. chosen n (is_swap (r.value / 16) (r.value % 16)) _ _ (same n _ r.rest h) (none n BadOperand))) (arithmetic_left n op bytes le))))))
 
-local_left : (n op : ℕ) (bytes : List ℕ) → length bytes ≤ n → IsLeft n (local_at op bytes)
-unfolding local_at
+local_left : (n op : ℕ) (bytes : List ℕ) → length bytes ≤ n → IsLeft n (next_local op bytes)
+unfolding next_local
 local_left n op bytes le =
     chosen n (op == 22) _ _ (field n (next_u1 bytes) _ (u1_left n bytes le) (λ r h. same n _ r.rest h)) (chosen n (op == 28) _ _ (same n _ bytes le) (chosen n (op == 29) _ _ (same n _ bytes le) (chosen n (op == 30) _ _ (same n _ bytes le) (chosen n (op == 31) _ _ (same n _ bytes le)
     (chosen n (op == 41) _ _ (field n (next_u1 bytes) _ (u1_left n bytes le) (λ r h. same n _ r.rest h)) (chosen n (op == 47) _ _ (same n _ bytes le) (chosen n (op == 48) _ _ (same n _ bytes le) (chosen n (op == 49) _ _ (same n _ bytes le) (chosen n (op == 50) _ _ (same n _ bytes le) (shuffle_left n op bytes le))))))))))
 
-operation_left : (n op : ℕ) (bytes : List ℕ) → length bytes ≤ n → IsLeft n (operation_of op bytes)
-unfolding operation_of
+operation_left : (n op : ℕ) (bytes : List ℕ) → length bytes ≤ n → IsLeft n (next_constant op bytes)
+unfolding next_constant
 operation_left n op bytes le =
     chosen n (op == 0) _ _ (same n _ bytes le) (chosen n (op == 2) _ _ (same n _ bytes le) (chosen n (op == 3) _ _ (same n _ bytes le) (chosen n (op == 4) _ _ (same n _ bytes le) (chosen n (op == 5) _ _ (same n _ bytes le) (chosen n (op == 6) _ _ (same n _ bytes le) (chosen n (op == 7) _ _ (same n _ bytes le) (chosen n (op == 8) _ _ (same n _ bytes le)
     (chosen n (op == 16) _ _ (field n (next_s1 bytes) _ (s1_left n bytes le) (λ r h. same n _ r.rest h)) (chosen n (op == 17) _ _ (field n (next_s2 bytes) _ (s2_left n bytes le) (λ r h. same n _ r.rest h)) (local_left n op bytes le))))))))))
 
--- what is left behind a byte is no more than there was
-pub left_behind_byte : (bytes left : List ℕ) (x : Option ℕ) → Takes (λ x. x) x bytes left (next_u1 bytes) → length left ≤ length bytes
-left_behind_byte bytes left (Some x) h = let P : Option (Read ℕ) → Type 0 = λ o. Field (length bytes) o in subst P h (u1_left (length bytes) bytes (omega arith))
-left_behind_byte bytes left None h = omega (arith, ap length h.1)
+-- what is left behind a byte is one less than there was
+pub left_behind_byte : (bytes left : List ℕ) (x : ℕ) → next_u1 bytes ≡ Some (record { value = x; rest = left }) → suc (length left) ≡ length bytes
+left_behind_byte [] left x e = absurd cc
+left_behind_byte (b ∷ bytes) left x e = let r : bytes ≡ left = ap (λ (r : Read ℕ). r.rest) (the_some _ _ e) in omega (arith, ap length r)
 
 -- what is left behind an operation is no more than there was
-pub left_behind : (op : ℕ) (bytes : List ℕ) (operation : Operation) (rest : List ℕ) → operation_of op bytes ≡ Ok (record { value = operation; rest = rest }) → length rest ≤ length bytes
+pub left_behind : (op : ℕ) (bytes : List ℕ) (operation : Operation) (rest : List ℕ) → next_constant op bytes ≡ Ok (record { value = operation; rest = rest }) → length rest ≤ length bytes
 left_behind op bytes operation rest e =
     let P : Result (Read Operation) CodeFault → Type 0 = λ r. IsLeft (length bytes) r in
     (subst P e (operation_left (length bytes) op bytes (omega arith))).left
@@ -140,14 +145,14 @@ abbrev pub Advances : ℕ → ℕ → Result Instr CodeFault → Type 0
 Advances n pc (Ok instr) = (pc < instr.next_pc) × (instr.next_pc ≤ n)
 Advances n pc (Err fault) = Unit {0}
 
-behind : (code : List ℕ) (pc n : ℕ) (r : Result (Read Operation) CodeFault) → suc n + pc ≡ length code → IsLeft n r → Advances (length code) pc (placed code r)
+behind : (code : List ℕ) (pc n : ℕ) (r : Result (Read Operation) CodeFault) → suc n + pc ≡ length code → IsLeft n r → Advances (length code) pc (r >>= (λ read. Ok (instr_of code read)))
 behind code pc n (Ok read) e h = (omega (arith, h.left), omega (arith, h.left))
 behind code pc n (Err fault) e h = tt
 
-at_front : (code : List ℕ) (pc : ℕ) (bytes : List ℕ) → length bytes ≡ length code - pc → Advances (length code) pc (placed code (operation_at bytes))
-unfolding operation_at
+at_front : (code : List ℕ) (pc : ℕ) (bytes : List ℕ) → length bytes ≡ length code - pc → Advances (length code) pc (next_operation bytes >>= (λ read. Ok (instr_of code read)))
+unfolding next_operation
 at_front code pc [] e = tt
-at_front code pc (op ∷ bytes) e = behind code pc (length bytes) (operation_of op bytes) (omega arith) (operation_left (length bytes) op bytes (omega arith))
+at_front code pc (op ∷ bytes) e = behind code pc (length bytes) (next_constant op bytes) (omega arith) (operation_left (length bytes) op bytes (omega arith))
 
 pub advances : (code : List ℕ) (pc : ℕ) → Advances (length code) pc (instr_at code pc)
 unfolding instr_at

@@ -1,4 +1,4 @@
 pub mod Tables
-pub mod Spelling
+pub mod Decoding
 pub mod Targets
 pub mod Listing

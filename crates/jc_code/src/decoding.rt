@@ -1,7 +1,8 @@
 //! Decoding.
 
-ghost use Rattle.std.specs.Prelude.{◌≡◌, ◌<◌, ◌≤◌, ◌-◌, ◌^◌, length, drop, unsigned_abs};
-ghost use Rattle.jc_code.specs.Spelling.{Spells, stable_switch_at, lookup_switch_at, wide_increment_at, when_of, wide_branch_at, control_at, branch_at, operator_of, arithmetic_at, is_duplicate, is_swap, shuffle_at, local_at, operation_of, operation_at, instr_at, next_of};
+ghost use Rattle.std.specs.Prelude.{◌≡◌, ◌<◌, ◌≤◌, length, IfOk};
+ghost use Rattle.jc_base.specs.Cursor.{Gives};
+ghost use Rattle.jc_code.specs.Decoding.{next_stable_switch, next_lookup_switch, next_wide_increment, when_of, next_wide_branch, next_control, next_branch, operator_of, next_arithmetic, is_duplicate, is_swap, next_shuffle, next_local, next_constant, next_operation, instr_at, next_pc_of};
 
 use crate::fault::CodeFault;
 use crate::instr::{BinaryOperator, Condition, Instr, Operation, Shuffle, UnaryOperator, When};
@@ -9,9 +10,9 @@ use crate::tables::{next_cases, next_offsets};
 use jc_base::Cursor;
 
 #[inline(always)]
-#[tactic(auto, unfolding(crate::specs::Spelling::stable_switch_at))]
+#[tactic(auto, unfolding(crate::specs::Decoding::next_stable_switch))]
 fn stable_switch<'a>(cursor: &mut Cursor<'a>) -> Result<Operation<'a>, CodeFault>
-    ensures { Spells result cursor.new (stable_switch_at cursor.old) }
+    ensures { Gives (λ o. o) result cursor.new (next_stable_switch cursor.old) }
 {
     let default = cursor.s2().ok_or(CodeFault::CutShort)?;
     let low = cursor.s2().ok_or(CodeFault::CutShort)?;
@@ -20,7 +21,7 @@ fn stable_switch<'a>(cursor: &mut Cursor<'a>) -> Result<Operation<'a>, CodeFault
         return Err(CodeFault::BadOperand);
     }
     let count = usize::from(high.abs_diff(low)) + 1;
-    let offsets = next_offsets(cursor, count).ok_or(CodeFault::CutShort)?;
+    let offsets = next_offsets(cursor, count)?;
     Ok(Operation::StableSwitch {
         default,
         low,
@@ -29,20 +30,20 @@ fn stable_switch<'a>(cursor: &mut Cursor<'a>) -> Result<Operation<'a>, CodeFault
 }
 
 #[inline(always)]
-#[tactic(auto, unfolding(crate::specs::Spelling::lookup_switch_at))]
+#[tactic(auto, unfolding(crate::specs::Decoding::next_lookup_switch))]
 fn lookup_switch<'a>(cursor: &mut Cursor<'a>) -> Result<Operation<'a>, CodeFault>
-    ensures { Spells result cursor.new (lookup_switch_at cursor.old) }
+    ensures { Gives (λ o. o) result cursor.new (next_lookup_switch cursor.old) }
 {
     let default = cursor.s2().ok_or(CodeFault::CutShort)?;
     let count = cursor.u2().ok_or(CodeFault::CutShort)?;
-    let cases = next_cases(cursor, usize::from(count)).ok_or(CodeFault::CutShort)?;
+    let cases = next_cases(cursor, usize::from(count))?;
     Ok(Operation::LookupSwitch { default, cases })
 }
 
 #[inline(always)]
-#[tactic(auto, unfolding(crate::specs::Spelling::wide_increment_at))]
+#[tactic(auto, unfolding(crate::specs::Decoding::next_wide_increment))]
 fn wide_increment<'a>(cursor: &mut Cursor<'a>) -> Result<Operation<'a>, CodeFault>
-    ensures { Spells result cursor.new (wide_increment_at cursor.old) }
+    ensures { Gives (λ o. o) result cursor.new (next_wide_increment cursor.old) }
 {
     let local = cursor.u1().ok_or(CodeFault::CutShort)?;
     let by = cursor.s2().ok_or(CodeFault::CutShort)?;
@@ -50,7 +51,7 @@ fn wide_increment<'a>(cursor: &mut Cursor<'a>) -> Result<Operation<'a>, CodeFaul
 }
 
 #[inline(always)]
-#[tactic(auto, unfolding(crate::specs::Spelling::when_of))]
+#[tactic(auto, unfolding(crate::specs::Decoding::when_of))]
 fn branch_condition(opcode: u8) -> Option<When>
     ensures { result ≡ when_of opcode }
 {
@@ -73,10 +74,10 @@ fn branch_condition(opcode: u8) -> Option<When>
 }
 
 #[inline(always)]
-#[tactic(auto, unfolding(crate::specs::Spelling::wide_branch_at))]
+#[tactic(auto, unfolding(crate::specs::Decoding::next_wide_branch))]
 fn wide_branch<'a>(opcode: u8, cursor: &mut Cursor<'a>) -> Result<Operation<'a>, CodeFault>
     requires { 152 ≤ opcode }
-    ensures { Spells result cursor.new (wide_branch_at opcode cursor.old) }
+    ensures { Gives (λ o. o) result cursor.new (next_wide_branch opcode cursor.old) }
 {
     let when = branch_condition(opcode - 56).ok_or(CodeFault::BadOpcode)?;
     let offset = cursor.s2().ok_or(CodeFault::CutShort)?;
@@ -84,9 +85,9 @@ fn wide_branch<'a>(opcode: u8, cursor: &mut Cursor<'a>) -> Result<Operation<'a>,
 }
 
 #[inline(always)]
-#[tactic(auto, unfolding(crate::specs::Spelling::control_at))]
+#[tactic(auto, unfolding(crate::specs::Decoding::next_control))]
 fn control<'a>(opcode: u8, cursor: &mut Cursor<'a>) -> Result<Operation<'a>, CodeFault>
-    ensures { Spells result cursor.new (control_at opcode cursor.old) }
+    ensures { Gives (λ o. o) result cursor.new (next_control opcode cursor.old) }
 {
     match opcode {
         115 => stable_switch(cursor),
@@ -99,9 +100,9 @@ fn control<'a>(opcode: u8, cursor: &mut Cursor<'a>) -> Result<Operation<'a>, Cod
 }
 
 #[inline(always)]
-#[tactic(auto, unfolding(crate::specs::Spelling::branch_at))]
+#[tactic(auto, unfolding(crate::specs::Decoding::next_branch))]
 fn branch<'a>(opcode: u8, cursor: &mut Cursor<'a>) -> Result<Operation<'a>, CodeFault>
-    ensures { Spells result cursor.new (branch_at opcode cursor.old) }
+    ensures { Gives (λ o. o) result cursor.new (next_branch opcode cursor.old) }
 {
     let Some(when) = branch_condition(opcode) else {
         return control(opcode, cursor);
@@ -114,7 +115,7 @@ fn branch<'a>(opcode: u8, cursor: &mut Cursor<'a>) -> Result<Operation<'a>, Code
 }
 
 #[inline(always)]
-#[tactic(auto, unfolding(crate::specs::Spelling::operator_of))]
+#[tactic(auto, unfolding(crate::specs::Decoding::operator_of))]
 fn operator(opcode: u8) -> Option<BinaryOperator>
     ensures { result ≡ operator_of opcode }
 {
@@ -135,9 +136,9 @@ fn operator(opcode: u8) -> Option<BinaryOperator>
 }
 
 #[inline(always)]
-#[tactic(auto, unfolding(crate::specs::Spelling::arithmetic_at))]
+#[tactic(auto, unfolding(crate::specs::Decoding::next_arithmetic))]
 fn arithmetic<'a>(opcode: u8, cursor: &mut Cursor<'a>) -> Result<Operation<'a>, CodeFault>
-    ensures { Spells result cursor.new (arithmetic_at opcode cursor.old) }
+    ensures { Gives (λ o. o) result cursor.new (next_arithmetic opcode cursor.old) }
 {
     match opcode {
         75 => Ok(Operation::Unary(UnaryOperator::Negate)),
@@ -173,9 +174,9 @@ fn can_swap(upper: u8, lower: u8) -> bool
 }
 
 #[inline(always)]
-#[tactic(auto, unfolding(crate::specs::Spelling::shuffle_at))]
+#[tactic(auto, unfolding(crate::specs::Decoding::next_shuffle))]
 fn shuffle_operation<'a>(opcode: u8, cursor: &mut Cursor<'a>) -> Result<Operation<'a>, CodeFault>
-    ensures { Spells result cursor.new (shuffle_at opcode cursor.old) }
+    ensures { Gives (λ o. o) result cursor.new (next_shuffle opcode cursor.old) }
 {
     match opcode {
         59 => Ok(Operation::Shuffle(Shuffle::Pop { count: 1 })),
@@ -207,9 +208,9 @@ fn shuffle_operation<'a>(opcode: u8, cursor: &mut Cursor<'a>) -> Result<Operatio
 }
 
 #[inline(always)]
-#[tactic(auto, unfolding(crate::specs::Spelling::local_at))]
+#[tactic(auto, unfolding(crate::specs::Decoding::next_local))]
 fn local<'a>(opcode: u8, cursor: &mut Cursor<'a>) -> Result<Operation<'a>, CodeFault>
-    ensures { Spells result cursor.new (local_at opcode cursor.old) }
+    ensures { Gives (λ o. o) result cursor.new (next_local opcode cursor.old) }
 {
     match opcode {
         22 => {
@@ -234,9 +235,9 @@ fn local<'a>(opcode: u8, cursor: &mut Cursor<'a>) -> Result<Operation<'a>, CodeF
 
 // The first of the tables. Each hands an opcode that it hasn't on to the next, so that all compile to one jump.
 #[inline(always)]
-#[tactic(auto, unfolding(crate::specs::Spelling::operation_of))]
-fn operation_behind<'a>(opcode: u8, cursor: &mut Cursor<'a>) -> Result<Operation<'a>, CodeFault>
-    ensures { Spells result cursor.new (operation_of opcode cursor.old) }
+#[tactic(auto, unfolding(crate::specs::Decoding::next_constant))]
+fn constant<'a>(opcode: u8, cursor: &mut Cursor<'a>) -> Result<Operation<'a>, CodeFault>
+    ensures { Gives (λ o. o) result cursor.new (next_constant opcode cursor.old) }
 {
     match opcode {
         0 => Ok(Operation::Nop),
@@ -263,17 +264,21 @@ fn operation_behind<'a>(opcode: u8, cursor: &mut Cursor<'a>) -> Result<Operation
 ///
 /// `CutShort` also where the pc lies at the code's end or past it.
 #[inline(always)]
-#[tactic(auto, unfolding(crate::specs::Spelling::instr_at, crate::specs::Spelling::operation_at))]
+#[tactic(auto, unfolding(crate::specs::Decoding::instr_at, crate::specs::Decoding::next_operation))]
 pub fn decode<'a>(code: &'a [u8], pc: usize) -> Result<Instr<'a>, CodeFault>
-    ensures { result ≡ instr_at code.now pc }
+    ensures instr { result ≡ instr_at code.now pc }
+    ensures behind { IfOk result (λ i. pc < i.next_pc) }
+    ensures within { IfOk result (λ i. i.next_pc ≤ length code.now) }
 {
     if code.len() < pc {
         return Err(CodeFault::CutShort);
     }
     let (_, rest) = code.split_at(pc);
     let mut cursor = Cursor::new(rest);
-    let opcode = cursor.u1().ok_or(CodeFault::CutShort)?;
-    let operation = operation_behind(opcode, &mut cursor)?;
+    let Some(opcode) = cursor.u1() else {
+        return Err(CodeFault::CutShort);
+    };
+    let operation = constant(opcode, &mut cursor)?;
     Ok(Instr {
         operation,
         next_pc: code.len() - cursor.len(),
@@ -282,7 +287,7 @@ pub fn decode<'a>(code: &'a [u8], pc: usize) -> Result<Instr<'a>, CodeFault>
 
 /// Where the instruction behind the one at a pc begins.
 pub fn next_pc(code: &[u8], pc: usize) -> Result<usize, CodeFault>
-    ensures { result ≡ next_of (instr_at code.now pc) }
+    ensures { result ≡ next_pc_of (instr_at code.now pc) }
 {
     Ok(decode(code, pc)?.next_pc)
 }

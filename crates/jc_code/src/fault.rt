@@ -6,12 +6,12 @@ use thiserror::Error;
 #[derive(Clone, Copy, Debug, PartialEq, Eq, Drop, Error)]
 pub enum CodeFault {
     /// No instruction of the profile has this opcode.
-    #[error("BadOpcode")]
+    #[error("")]
     BadOpcode,
     /// An operand byte isn't one that the instruction takes.
-    #[error("BadOperand")]
+    #[error("")]
     BadOperand,
     /// The code ends within the instruction, or before it.
-    #[error("CutShort")]
+    #[error("")]
     CutShort,
 }

@@ -1,9 +1,10 @@
 //! The tables of switches, lent from the code.
 
 ghost use Rattle.std.specs.Prelude.{◌≡◌, ◌*◌, ◌<◌, ◌^◌, length, slice_get};
-ghost use Rattle.jc_base.specs.Cursor.{GivesSome};
-ghost use Rattle.jc_code.specs.Tables.{offsets_at, cases_at};
+ghost use Rattle.jc_base.specs.Cursor.{Gives};
+ghost use Rattle.jc_code.specs.Tables.{next_offsets, next_cases};
 
+use crate::fault::CodeFault;
 use byteorder::{BigEndian, ByteOrder};
 use jc_base::Cursor;
 use std::marker::Model;
@@ -48,13 +49,18 @@ impl<'a> Offsets<'a> {
 }
 
 /// The next `count` offsets.
-#[tactic(auto, unfolding(crate::specs::Tables::offsets_at))]
-pub(crate) fn next_offsets<'a>(cursor: &mut Cursor<'a>, count: usize) -> Option<Offsets<'a>>
+#[tactic(auto, unfolding(crate::specs::Tables::next_offsets))]
+pub(crate) fn next_offsets<'a>(
+    cursor: &mut Cursor<'a>,
+    count: usize,
+) -> Result<Offsets<'a>, CodeFault>
     requires { count < 2 ^ 17 }
-    ensures { GivesSome (λ t. t) result cursor.new (offsets_at count cursor.old) }
+    ensures { Gives (λ t. t) result cursor.new (next_offsets count cursor.old) }
 {
-    let bytes = cursor.take(2 * count)?;
-    Some(Offsets { bytes })
+    let Some(bytes) = cursor.take(2 * count) else {
+        return Err(CodeFault::CutShort);
+    };
+    Ok(Offsets { bytes })
 }
 
 /// A case of a switch: the key, and the offset to go by.
@@ -112,11 +118,13 @@ impl<'a> Cases<'a> {
 }
 
 /// The next `count` cases.
-#[tactic(auto, unfolding(crate::specs::Tables::cases_at))]
-pub(crate) fn next_cases<'a>(cursor: &mut Cursor<'a>, count: usize) -> Option<Cases<'a>>
+#[tactic(auto, unfolding(crate::specs::Tables::next_cases))]
+pub(crate) fn next_cases<'a>(cursor: &mut Cursor<'a>, count: usize) -> Result<Cases<'a>, CodeFault>
     requires { count < 2 ^ 17 }
-    ensures { GivesSome (λ t. t) result cursor.new (cases_at count cursor.old) }
+    ensures { Gives (λ t. t) result cursor.new (next_cases count cursor.old) }
 {
-    let bytes = cursor.take(4 * count)?;
-    Some(Cases { bytes })
+    let Some(bytes) = cursor.take(4 * count) else {
+        return Err(CodeFault::CutShort);
+    };
+    Ok(Cases { bytes })
 }

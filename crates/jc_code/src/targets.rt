@@ -40,14 +40,22 @@ impl<'a> Instr<'a> {
         ensures { result ≡ falls_of self.now.operation }
     {
         match &self.operation {
-            Operation::Branch {
-                when: When::Always,
-                ..
-            } => false,
+            Operation::Nop => true,
+            Operation::Push(_) => true,
+            Operation::Load(_) => true,
+            Operation::Store(_) => true,
+            Operation::Increment { .. } => true,
+            Operation::Shuffle(_) => true,
+            Operation::Binary(_) => true,
+            Operation::Unary(_) => true,
+            Operation::Branch { when, .. } => match when {
+                When::Always => false,
+                When::Zero(_) => true,
+                When::Compare(_) => true,
+            },
             Operation::StableSwitch { .. } => false,
             Operation::LookupSwitch { .. } => false,
             Operation::ReturnWord => false,
-            _ => true,
         }
     }
 }
@@ -63,7 +71,15 @@ fn offset_at(operation: &Operation, index: usize) -> Option<i16>
     ensures { result ≡ slice_get (offsets_of operation.now) index }
 {
     match operation {
-        Operation::Branch { offset, .. } if index == 0 => Some(*offset),
+        Operation::Nop => None,
+        Operation::Push(_) => None,
+        Operation::Load(_) => None,
+        Operation::Store(_) => None,
+        Operation::Increment { .. } => None,
+        Operation::Shuffle(_) => None,
+        Operation::Binary(_) => None,
+        Operation::Unary(_) => None,
+        Operation::Branch { offset, .. } => { if index == 0 { Some(*offset) } else { None } }
         Operation::StableSwitch {
             default,
             offsets,
@@ -82,7 +98,7 @@ fn offset_at(operation: &Operation, index: usize) -> Option<i16>
                 Some(cases.get(index - 1)?.offset)
             }
         }
-        _ => None,
+        Operation::ReturnWord => None,
     }
 }
 
@@ -92,10 +108,18 @@ impl<'i, 'a> Targets<'i, 'a> {
         ensures { result ≡ length self.now }
     {
         match self.operation {
+            Operation::Nop => 0,
+            Operation::Push(_) => 0,
+            Operation::Load(_) => 0,
+            Operation::Store(_) => 0,
+            Operation::Increment { .. } => 0,
+            Operation::Shuffle(_) => 0,
+            Operation::Binary(_) => 0,
+            Operation::Unary(_) => 0,
             Operation::Branch { .. } => 1,
             Operation::StableSwitch { offsets, .. } => offsets.len() + 1,
             Operation::LookupSwitch { cases, .. } => cases.len() + 1,
-            _ => 0,
+            Operation::ReturnWord => 0,
         }
     }
 

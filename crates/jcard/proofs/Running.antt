@@ -5,7 +5,7 @@ use Rattle.jc_base.proofs.Binding.{ok_err}
 use Rattle.jc_base.proofs.Binding as binding
 use Rattle.jc_code.specs.declared.fault.CodeFault.{CodeFault}
 use Rattle.jc_code.specs.declared.instr.Instr.{Instr}
-use Rattle.jc_code.specs.Spelling.{instr_at}
+use Rattle.jc_code.specs.Decoding.{instr_at}
 use Rattle.jc_code.specs.Listing.{Placed}
 use Rattle.jc_check.specs.Method.{Method, word_method}
 use Rattle.jc_check.specs.Typing.{Typing, IsTyping}

@@ -3,7 +3,7 @@ use Rattle.std.proofs.Common.{◌≡◌, ℕ, zero, suc, ◌<◌, List, [], ◌�
 use Rattle.jc_code.specs.declared.instr.Instr.{Instr}
 use Rattle.jc_code.specs.declared.instr.Operation.{Operation}
 use Rattle.jc_code.specs.declared.instr.Operation.TheVariants.{Nop, Push, Load, Store, Increment, Shuffle, Binary, Unary, Branch, StableSwitch, LookupSwitch, ReturnWord}
-use Rattle.jc_code.specs.Spelling.{instr_at}
+use Rattle.jc_code.specs.Decoding.{instr_at}
 use Rattle.jc_code.specs.Listing.{Placed}
 use Rattle.jc_code.proofs.Listings.{there, next_within}
 use Rattle.jc_types.specs.State.{Types, all_below, tops}

@@ -6,10 +6,7 @@ pub loop-pc-init : goal.loop-pc-init
 loop-pc-init c = none_yet c.args.code.now c.args.marks.now c.requires.none
 
 pub loop-pc-smaller : goal.loop-pc-smaller
-loop-pc-smaller c = let n = c.listing_laws.ensures.ascends c.args.code.now c.loop-pc.pc c.in-Ok.instr (sym c.decode.ensures ∙ c.in-Ok.is) in omega arith
+loop-pc-smaller c = omega (arith, c.in-Ok.ensures.behind, c.in-Ok.ensures.within)
 
 pub loop-pc-preserved : goal.loop-pc-preserved
-loop-pc-preserved c =
-    let at = sym c.decode.ensures ∙ c.in-Ok.is in
-    let n = c.listing_laws.ensures.ascends c.args.code.now c.loop-pc.pc c.in-Ok.instr at in
-    goes_on c.args.code.now c.loop-pc.pc c.in-Ok.instr c.loop-pc.marks c.loop-pc-test.true at n.1 c.loop-pc.invariant
+loop-pc-preserved c = goes_on c.args.code.now c.loop-pc.pc c.in-Ok.instr c.loop-pc.marks c.loop-pc-test.true (sym c.decode.ensures.instr ∙ c.in-Ok.is) c.in-Ok.ensures.within c.loop-pc.invariant

@@ -2,4 +2,4 @@ use Rattle.jc_code.proofs.TableLemmas.{cases_taken}
 use Rattle.jc_code.proofs.tables.next_cases.Goals as goal
 
 pub invariant_of-result : goal.invariant_of-result
-invariant_of-result c = cases_taken c.args.count c.args.cursor.now c.in_ok-bytes.bytes.now c.take.new.self c.in_ok-bytes.ensures
+invariant_of-result c = cases_taken c.args.count c.args.cursor.now c.in-Some.bytes.now c.take.new.self c.in-Some.ensures

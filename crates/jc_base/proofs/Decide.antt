@@ -1,8 +1,8 @@
 -- What is kept gives what the components give.
 use Rattle.std.proofs.Common.{◌≡◌, ℕ, zero, suc, ◌+◌, ◌<◌, ◌≤◌, Bool, false, cond, ltb, lit<, List, [], get_or, Option, Some, refl, ap, ◌∙◌, arith}
 use Rattle.std.specs.List.{find, range_with_len}
-use Rattle.jc_base.specs.Image.{Piece, info_of, count_of, infos_by, answer, known}
-use Rattle.jc_base.specs.Slots.{Holds, info_in, twice_in}
+use Rattle.jc_base.specs.Cutting.{Piece, info_of, count_of, infos_by, answer, known}
+use Rattle.jc_base.specs.PrivateCutting.{Holds, info_in, twice_in}
 use Rattle.jc_base.specs.declared.cutting.Slots.{Slots}
 
 one_find : (a : ℕ) (p q : Bool) (x y : Option ℕ) → p ≡ q → x ≡ y → cond p (Some a) x ≡ cond q (Some a) y

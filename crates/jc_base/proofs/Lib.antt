@@ -5,7 +5,8 @@ pub mod Steps
 pub mod Once
 pub mod Decide
 pub mod Repeats
+pub mod Fixed
+pub mod PlacedLemmas
 mod StackLemmas
 pub mod StackViews
-pub mod Many
-pub mod Rows
+mod Pairs

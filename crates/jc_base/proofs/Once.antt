@@ -2,7 +2,7 @@
 use Rattle.std.proofs.Common.{◌≡◌, ℕ, List, [], ◌∷◌, ◌++◌, length, take, drop, refl, sym, ap, ◌∙◌, append_assoc, arith}
 use Rattle.std.specs.List.{flat_map, AllByRecursion}
 use Rattle.std.proofs.lemmas.List.{take_at, drop_at, length-append}
-use Rattle.jc_base.specs.Image.{Piece, bytes_of, IsWhole, IsPartial, Splits}
+use Rattle.jc_base.specs.Cutting.{Piece, bytes_of, IsWhole, IsPartial, Splits}
 
 -- less than a component has none in front
 no_piece : (p : Piece) (more rest : List ℕ) → IsWhole p → IsPartial rest → bytes_of p ++ more ≡ rest → ⊥

@@ -2,7 +2,7 @@
 use Rattle.std.proofs.Common.{◌≡◌, ℕ, ◌+◌, ◌<◌, Bool, true, false, cond, eqb, List, [], ◌∷◌, ◌++◌, Option, Some, None, refl, ◌∙◌, arith}
 use Rattle.std.proofs.lemmas.Bool.{eq-eqb}
 use Rattle.std.proofs.lemmas.Bool.Decides.{nat_tests}
-use Rattle.jc_base.specs.Image.{Piece, info_of, count_of}
+use Rattle.jc_base.specs.Cutting.{Piece, info_of, count_of}
 
 -- the first of two
 abbrev or_else : {X : Type 0} → Option X → Option X → Option X

@@ -3,7 +3,7 @@ use Rattle.std.proofs.Common.{◌≡◌, ℕ, ◌<◌, ◌≤◌, Bool, true, fa
 use Rattle.std.specs.Option.{option_map, is_none}
 use Rattle.std.proofs.lemmas.Bool.{cases_eq, lt-ltb}
 use Rattle.std.proofs.lemmas.List.{get_or-set_same, get_or-set_other}
-use Rattle.jc_base.specs.Image.{Piece, info_of, count_of}
+use Rattle.jc_base.specs.Cutting.{Piece, info_of, count_of}
 use Rattle.jc_base.proofs.Pieces.{stays, comes, again}
 
 none_is : {X : Type 0} (o : Option X) → is_none o ≡ true → o ≡ None

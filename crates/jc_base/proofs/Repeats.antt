@@ -5,60 +5,68 @@ use Rattle.std.proofs.lemmas.Option.{slice_get_past}
 use Rattle.std.specs.Result.{result_ok}
 use Rattle.jc_base.specs.Cursor.{Read, Gives}
 use Rattle.jc_base.specs.Results.{◌>>=◌}
-use Rattle.jc_base.specs.Repeats.{repeat, rows_of, rest_of}
+use Rattle.jc_base.specs.PrivateRows.{rows_of, rest_of}
+use Rattle.jc_base.specs.Rows.{repeat}
 use Rattle.jc_base.proofs.Binding.{bind_ok, the_ok, ok_err}
 
 rest_bind : {A B E : Type 0} (r : Result (Read A) E) (f : Read A → Read B) → ((x : Read A) → (f x).rest ≡ x.rest) → rest_of (r >>= λ x. Ok (f x)) ≡ rest_of r
 rest_bind (Ok x) f same = ap (λ (w : List ℕ). Ok w) (same x)
 rest_bind (Err e) f same = refl
 
-module _ {A E : Type 0} (row_at : List ℕ → Result (Read A) E) where
+module _ {A E : Type 0} (next_row : List ℕ → Result (Read A) E) where
   -- one row is passed over
-  pub one_passed : (n : ℕ) (bytes : List ℕ) (x : Read A) → row_at bytes ≡ Ok x → rest_of (repeat row_at (suc n) bytes) ≡ rest_of (repeat row_at n x.rest)
+  pub one_passed : (n : ℕ) (bytes : List ℕ) (x : Read A) → next_row bytes ≡ Ok x → rest_of (repeat next_row (suc n) bytes) ≡ rest_of (repeat next_row n x.rest)
   unfolding repeat
-  one_passed n bytes x e = rw e (rest_bind (repeat row_at n x.rest) (λ more. record { value = x.value ∷ more.value; rest = more.rest }) (λ y. refl))
+  one_passed n bytes x e = rw e (rest_bind (repeat next_row n x.rest) (λ more. record { value = x.value ∷ more.value; rest = more.rest }) (λ y. refl))
 
   -- a row isn't there
-  pub none_there : (n : ℕ) (bytes : List ℕ) (fault : E) → row_at bytes ≡ Err fault → rest_of (repeat row_at (suc n) bytes) ≡ Err fault
+  pub none_there : (n : ℕ) (bytes : List ℕ) (fault : E) → next_row bytes ≡ Err fault → rest_of (repeat next_row (suc n) bytes) ≡ Err fault
   unfolding repeat
   none_there n bytes fault e = rw e refl
 
-  pub nothing_passed : (bytes : List ℕ) → rest_of (repeat row_at zero bytes) ≡ Ok bytes
+  pub nothing_passed : (bytes : List ℕ) → rest_of (repeat next_row zero bytes) ≡ Ok bytes
   unfolding repeat
   nothing_passed bytes = refl
 
   -- a loop that passes over rows: so many are left, and passing over them gives what passing over all gives
-  pub goes_on : (n m : ℕ) (bytes : List ℕ) (x : Read A) (total : Result (List ℕ) E) → n ≡ m + 1 → row_at bytes ≡ Ok x
-      → rest_of (repeat row_at n bytes) ≡ total → rest_of (repeat row_at m x.rest) ≡ total
+  pub goes_on : (n m : ℕ) (bytes : List ℕ) (x : Read A) (total : Result (List ℕ) E) → n ≡ m + 1 → next_row bytes ≡ Ok x
+      → rest_of (repeat next_row n bytes) ≡ total → rest_of (repeat next_row m x.rest) ≡ total
   goes_on zero m bytes x total e here so_far = absurd (omega arith)
   goes_on (suc n) m bytes x total e here so_far =
       let same : m ≡ n = omega arith in
       rw same (sym (one_passed n bytes x here) ∙ so_far)
 
-  pub stops : (n : ℕ) (bytes : List ℕ) (fault : E) (total : Result (List ℕ) E) → 0 < n → row_at bytes ≡ Err fault
-      → rest_of (repeat row_at n bytes) ≡ total → Err fault ≡ total
+  pub stops : (n : ℕ) (bytes : List ℕ) (fault : E) (total : Result (List ℕ) E) → 0 < n → next_row bytes ≡ Err fault
+      → rest_of (repeat next_row n bytes) ≡ total → Err fault ≡ total
   stops zero bytes fault total more here so_far = absurd (omega arith)
   stops (suc n) bytes fault total more here so_far = sym (none_there n bytes fault here) ∙ so_far
 
-  pub ends : (n : ℕ) (bytes : List ℕ) (total : Result (List ℕ) E) → n ≡ 0 → rest_of (repeat row_at n bytes) ≡ total → Ok bytes ≡ total
-  ends n bytes total e so_far = sym (nothing_passed bytes) ∙ ap (λ k. rest_of (repeat row_at k bytes)) (sym e) ∙ so_far
+  pub ends : (n : ℕ) (bytes : List ℕ) (total : Result (List ℕ) E) → n ≡ 0 → rest_of (repeat next_row n bytes) ≡ total → Ok bytes ≡ total
+  ends n bytes total e so_far = sym (nothing_passed bytes) ∙ ap (λ k. rest_of (repeat next_row k bytes)) (sym e) ∙ so_far
 
   -- what rows are made of
   pub record Parts (n : ℕ) (bytes : List ℕ) (all : Read (List A)) : Type 0 where
     pub first : Read A
     pub more : Read (List A)
-    pub here : row_at bytes ≡ Ok first
-    pub there : repeat row_at n first.rest ≡ Ok more
+    pub here : next_row bytes ≡ Ok first
+    pub there : repeat next_row n first.rest ≡ Ok more
     pub rows : first.value ∷ more.value ≡ all.value
+    pub left : more.rest ≡ all.rest
 
-  parts : (n : ℕ) (bytes : List ℕ) (all : Read (List A)) → repeat row_at (suc n) bytes ≡ Ok all → Parts n bytes all
+  pub parts : (n : ℕ) (bytes : List ℕ) (all : Read (List A)) → repeat next_row (suc n) bytes ≡ Ok all → Parts n bytes all
   unfolding repeat
   parts n bytes all e =
-      let a = bind_ok (row_at bytes) _ all e in
-      let b = bind_ok (repeat row_at n a.0.rest) _ all a.2 in
-      record { first = a.0; more = b.0; here = a.1; there = b.1; rows = ap (λ (w : Read (List A)). w.value) (the_ok _ _ b.2) }
+      let a = bind_ok (next_row bytes) _ all e in
+      let b = bind_ok (repeat next_row n a.0.rest) _ all a.2 in
+      record { first = a.0; more = b.0; here = a.1; there = b.1; rows = ap (λ (w : Read (List A)). w.value) (the_ok _ _ b.2); left = ap (λ (w : Read (List A)). w.rest) (the_ok _ _ b.2) }
 
-  pub length-rows : (n : ℕ) (bytes : List ℕ) (all : Read (List A)) → repeat row_at n bytes ≡ Ok all → length all.value ≡ n
+  -- one row in front of others
+  pub joined : (n : ℕ) (bytes : List ℕ) (x : Read A) (more : Read (List A)) → next_row bytes ≡ Ok x → repeat next_row n x.rest ≡ Ok more
+      → repeat next_row (suc n) bytes ≡ Ok (record { value = x.value ∷ more.value; rest = more.rest })
+  unfolding repeat
+  joined n bytes x more here there = rw (here, there) refl
+
+  pub length-rows : (n : ℕ) (bytes : List ℕ) (all : Read (List A)) → repeat next_row n bytes ≡ Ok all → length all.value ≡ n
   unfolding repeat
   length-rows zero bytes all e = ap (λ (w : Read (List A)). length w.value) (sym (the_ok _ _ e))
   length-rows (suc n) bytes all e =
@@ -68,14 +76,14 @@ module _ {A E : Type 0} (row_at : List ℕ → Result (Read A) E) where
       omega arith
 
   -- one of the rows: where it stands, and what stands there
-  record IsAt (k : ℕ) (bytes : List ℕ) (all : Read (List A)) : Type 0 where
+  pub record IsAt (k : ℕ) (bytes : List ℕ) (all : Read (List A)) : Type 0 where
     pub place : List ℕ
-    pub passed : rest_of (repeat row_at k bytes) ≡ Ok place
+    pub passed : rest_of (repeat next_row k bytes) ≡ Ok place
     pub row : Read A
-    pub here : row_at place ≡ Ok row
+    pub here : next_row place ≡ Ok row
     pub found : slice_get all.value k ≡ Some row.value
 
-  is_at : (n k : ℕ) (bytes : List ℕ) (all : Read (List A)) → repeat row_at n bytes ≡ Ok all → k < n → IsAt k bytes all
+  pub is_at : (n k : ℕ) (bytes : List ℕ) (all : Read (List A)) → repeat next_row n bytes ≡ Ok all → k < n → IsAt k bytes all
   is_at zero k bytes all e lt = absurd (omega arith)
   is_at (suc n) zero bytes all e lt =
       let p = parts n bytes all e in
@@ -91,62 +99,62 @@ module _ {A E : Type 0} (row_at : List ℕ → Result (Read A) E) where
         found = ap (λ (w : List A). slice_get w (suc k)) (sym p.rows) ∙ q.found;
       }
 
-  all_of : (r : Result (Read (List A)) E) (rest : List ℕ) → rest_of r ≡ Ok rest → (all : Read (List A)) × (r ≡ Ok all) × (all.value ≡ rows_of r)
+  pub all_of : (r : Result (Read (List A)) E) (rest : List ℕ) → rest_of r ≡ Ok rest → (all : Read (List A)) × (r ≡ Ok all) × (all.value ≡ rows_of r)
   all_of (Ok x) rest e = (x, refl, refl)
   all_of (Err e') rest e = absurd cc
 
-  pub count_is : (n : ℕ) (bytes rest : List ℕ) → rest_of (repeat row_at n bytes) ≡ Ok rest → length (rows_of (repeat row_at n bytes)) ≡ n
+  pub count_is : (n : ℕ) (bytes rest : List ℕ) → rest_of (repeat next_row n bytes) ≡ Ok rest → length (rows_of (repeat next_row n bytes)) ≡ n
   count_is n bytes rest e =
-      let a = all_of (repeat row_at n bytes) rest e in
+      let a = all_of (repeat next_row n bytes) rest e in
       ap (λ (w : List A). length w) (sym a.2) ∙ length-rows n bytes a.0 a.1
 
-  pub past_rows : (n k : ℕ) (bytes rest : List ℕ) → rest_of (repeat row_at n bytes) ≡ Ok rest → n ≤ k → None ≡ slice_get (rows_of (repeat row_at n bytes)) k
+  pub past_rows : (n k : ℕ) (bytes rest : List ℕ) → rest_of (repeat next_row n bytes) ≡ Ok rest → n ≤ k → None ≡ slice_get (rows_of (repeat next_row n bytes)) k
   past_rows n k bytes rest e le =
       let len = count_is n bytes rest e in
-      sym (slice_get_past (rows_of (repeat row_at n bytes)) k (omega arith))
+      sym (slice_get_past (rows_of (repeat next_row n bytes)) k (omega arith))
 
   -- a look-up: the rows before the one that is asked for are passed over, and it is read
-  pub look_up : (n k : ℕ) (rows start rest place new : List ℕ) (r : Result A E) → start ≡ rows → rest_of (repeat row_at n rows) ≡ Ok rest → k < n
-      → Ok place ≡ rest_of (repeat row_at k start) → Gives (λ x. x) r new (row_at place) → result_ok r ≡ slice_get (rows_of (repeat row_at n rows)) k
+  pub look_up : (n k : ℕ) (rows start rest place new : List ℕ) (r : Result A E) → start ≡ rows → rest_of (repeat next_row n rows) ≡ Ok rest → k < n
+      → Ok place ≡ rest_of (repeat next_row k start) → Gives (λ x. x) r new (next_row place) → result_ok r ≡ slice_get (rows_of (repeat next_row n rows)) k
   look_up n k rows start rest place new r begins e lt passed reads =
-      let a = all_of (repeat row_at n rows) rest e in
+      let a = all_of (repeat next_row n rows) rest e in
       let q = is_at n k rows a.0 a.1 lt in
-      let there : Ok place ≡ rest_of (repeat row_at k rows) = passed ∙ ap (λ w. rest_of (repeat row_at k w)) begins in
+      let there : Ok place ≡ rest_of (repeat next_row k rows) = passed ∙ ap (λ w. rest_of (repeat next_row k w)) begins in
       let same : q.place ≡ place = the_ok _ _ (sym q.passed ∙ sym there) in
-      let here : row_at place ≡ Ok q.row = ap row_at (sym same) ∙ q.here in
+      let here : next_row place ≡ Ok q.row = ap next_row (sym same) ∙ q.here in
       read r here reads ∙ sym q.found ∙ ap (λ (w : List A). slice_get w k) a.2
     where
-      read : {row : Read A} (r : Result A E) → row_at place ≡ Ok row → Gives (λ x. x) r new (row_at place) → result_ok r ≡ Some row.value
+      read : {row : Read A} (r : Result A E) → next_row place ≡ Ok row → Gives (λ x. x) r new (next_row place) → result_ok r ≡ Some row.value
       read (Ok x) here reads = ap (λ (w : Read A). Some w.value) (the_ok _ _ (sym reads ∙ here))
       read (Err fault) here reads = absurd (ok_err _ _ (sym here ∙ reads))
 
-  pub not_stuck : (n k : ℕ) (rows start rest : List ℕ) (fault : E) → start ≡ rows → rest_of (repeat row_at n rows) ≡ Ok rest → k < n
-      → Err fault ≡ rest_of (repeat row_at k start) → ⊥
+  pub not_stuck : (n k : ℕ) (rows start rest : List ℕ) (fault : E) → start ≡ rows → rest_of (repeat next_row n rows) ≡ Ok rest → k < n
+      → Err fault ≡ rest_of (repeat next_row k start) → ⊥
   not_stuck n k rows start rest fault begins e lt stuck =
-      let a = all_of (repeat row_at n rows) rest e in
+      let a = all_of (repeat next_row n rows) rest e in
       let q = is_at n k rows a.0 a.1 lt in
-      ok_err _ _ (sym q.passed ∙ sym (stuck ∙ ap (λ w. rest_of (repeat row_at k w)) begins))
+      ok_err _ _ (sym q.passed ∙ sym (stuck ∙ ap (λ w. rest_of (repeat next_row k w)) begins))
 
   -- the first of the rows that are left, and those behind it
-  pub first_left : (n m : ℕ) (rows rest : List ℕ) (x : Read A) → n ≡ m + 1 → row_at rows ≡ Ok x
-      → rest_of (repeat row_at n rows) ≡ Ok rest → rest_of (repeat row_at m x.rest) ≡ Ok rest
+  pub first_left : (n m : ℕ) (rows rest : List ℕ) (x : Read A) → n ≡ m + 1 → next_row rows ≡ Ok x
+      → rest_of (repeat next_row n rows) ≡ Ok rest → rest_of (repeat next_row m x.rest) ≡ Ok rest
   first_left n m rows rest x e here whole = goes_on n m rows x (Ok rest) e here whole
 
-  pub first_of : (n m : ℕ) (rows rest : List ℕ) (x : Read A) → n ≡ m + 1 → row_at rows ≡ Ok x
-      → rest_of (repeat row_at n rows) ≡ Ok rest → rows_of (repeat row_at n rows) ≡ x.value ∷ rows_of (repeat row_at m x.rest)
+  pub first_of : (n m : ℕ) (rows rest : List ℕ) (x : Read A) → n ≡ m + 1 → next_row rows ≡ Ok x
+      → rest_of (repeat next_row n rows) ≡ Ok rest → rows_of (repeat next_row n rows) ≡ x.value ∷ rows_of (repeat next_row m x.rest)
   first_of zero m rows rest x e here whole = absurd (omega arith)
   first_of (suc n) m rows rest x e here whole =
       let same : m ≡ n = omega arith in
-      let a = all_of (repeat row_at (suc n) rows) rest whole in
+      let a = all_of (repeat next_row (suc n) rows) rest whole in
       let p = parts n rows a.0 a.1 in
       let first : p.first ≡ x = the_ok _ _ (sym p.here ∙ here) in
-      let more : repeat row_at m x.rest ≡ Ok p.more = ap (λ k. repeat row_at k x.rest) same ∙ ap (λ (w : Read A). repeat row_at n w.rest) (sym first) ∙ p.there in
+      let more : repeat next_row m x.rest ≡ Ok p.more = ap (λ k. repeat next_row k x.rest) same ∙ ap (λ (w : Read A). repeat next_row n w.rest) (sym first) ∙ p.there in
       sym a.2 ∙ sym p.rows ∙ ap (λ (w : Read A). w.value ∷ p.more.value) first ∙ ap (λ (w : Result (Read (List A)) E). x.value ∷ rows_of w) (sym more)
 
-  pub none_left : (n : ℕ) (rows : List ℕ) → n ≡ 0 → rows_of (repeat row_at n rows) ≡ []
+  pub none_left : (n : ℕ) (rows : List ℕ) → n ≡ 0 → rows_of (repeat next_row n rows) ≡ []
   unfolding repeat
   none_left zero rows e = refl
   none_left (suc n) rows e = absurd (omega arith)
 
-  pub first_there : (n : ℕ) (rows rest : List ℕ) (fault : E) → 0 < n → rest_of (repeat row_at n rows) ≡ Ok rest → row_at rows ≡ Err fault → ⊥
+  pub first_there : (n : ℕ) (rows rest : List ℕ) (fault : E) → 0 < n → rest_of (repeat next_row n rows) ≡ Ok rest → next_row rows ≡ Err fault → ⊥
   first_there n rows rest fault more whole missing = ok_err _ _ (sym (stops n rows fault (Ok rest) more missing whole))

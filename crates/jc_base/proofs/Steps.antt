@@ -6,8 +6,8 @@ use Rattle.std.proofs.lemmas.List.{take-append-drop, length-take, length-drop, a
 use Rattle.std.proofs.lemmas.List.Concat.{flat_map-append}
 use Rattle.jc_base.specs.declared.fault.LoadFault.{LoadFault}
 use Rattle.jc_base.specs.declared.fault.LoadFault.TheVariants.{ShortComponent, ExtraBytes}
-use Rattle.jc_base.specs.Image.{Piece, bytes_of, IsWhole, IsPartial, answer}
-use Rattle.jc_base.specs.Components.{next_of, Ended, Found, Refused}
+use Rattle.jc_base.specs.Cutting.{Piece, bytes_of, IsWhole, IsPartial, answer}
+use Rattle.jc_base.specs.PrivateCutting.{next_of, Ended, Found, Refused}
 
 -- the bytes begin with this component
 pub record Begins (bytes : List ℕ) (tag : ℕ) (info rest : List ℕ) (p : Piece) : Type 0 where

@@ -1,9 +1,11 @@
 -- Reading from the front of a list of bytes: a value and the bytes behind it, or nothing.
 -- Numbers are big-endian (Java Card Virtual Machine Specification, CAP file format: u1, u2 and u4; and s1 and s2 with
 -- a sign).
-use Rattle.std.specs.Prelude.{◌≡◌, ℕ, ℤ, ◌+◌, ◌*◌, List, [], ◌∷◌, length, take, drop, Option, Some, None, Result, Ok, Err, nat_lt, if◌then◌else◌}
+use Rattle.std.specs.Prelude.{◌≡◌, ℕ, ℤ, ◌+◌, ◌*◌, ◌==◌, List, [], ◌∷◌, length, take, drop, Option, Some, None, Result, Ok, Err, nat_lt, if◌then◌else◌}
 use Rattle.std.specs.Int.{w8, w16, cast_signed}
-use Rattle.std.specs.Option.{option_and_then}
+use Rattle.std.specs.Option.{option_and_then, ok_or}
+use Rattle.jc_base.specs.declared.fault.LoadFault.{LoadFault}
+use Rattle.jc_base.specs.declared.fault.LoadFault.TheVariants.{Malformed}
 
 -- what was read, and the bytes behind it
 pub record Read (A : Type 0) : Type 0 where
@@ -43,6 +45,15 @@ next_s2 _ = None
 -- the next n bytes
 abbrev pub next_bytes : ℕ → List ℕ → Option (Read (List ℕ))
 next_bytes n bytes = if nat_lt (length bytes) n then None else Some (record { value = take n bytes; rest = drop n bytes })
+
+-- a field of the component with a tag, which is malformed where the field isn't there
+abbrev pub field : {A : Type 0} → ℕ → Option A → Result A LoadFault
+field tag found = ok_or found (Malformed tag)
+
+-- what was read, where nothing is left behind it
+abbrev pub whole : {A E : Type 0} → E → Result (Read A) E → Result A E
+whole fault (Ok x) = if length x.rest == 0 then Ok x.value else Err fault
+whole fault (Err e) = Err e
 
 -- What a call on a cursor gave, seen by view: what reading gives, with the cursor behind it, or
 -- nothing, with the cursor where it was.

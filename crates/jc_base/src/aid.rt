@@ -3,18 +3,23 @@
 ghost use Rattle.std.specs.Prelude.{◌≡◌, ◌≤◌, length, bytes_eq};
 ghost use Rattle.std.specs.Cmp.{partial_equiv_from_equiv};
 ghost use Rattle.std.specs.Cmp.Lexicographic.{nat_list_eq_equiv};
-ghost use Rattle.jc_base.specs.Aid.{aid_of, has_aid_length};
+ghost use Rattle.jc_base.specs.Aid.{aid_of, has_aid_length, next_aid, shortest_aid, longest_aid};
 ghost use Rattle.jc_base.specs.Cursor.{Gives};
-ghost use Rattle.jc_base.specs.PackageInfo.{next_aid};
 
 use crate::cursor::Cursor;
 use crate::fault::LoadFault;
 use std::marker::Model;
 
+/// How many bytes an AID has at least.
+const SHORTEST_AID: usize = 5;
+
+/// How many bytes an AID has at most.
+const LONGEST_AID: usize = 16;
+
 /// The identifier of a package or an applet: 5 to 16 bytes (ISO/IEC 7816-5).
 #[derive(Clone, Copy, Debug)]
 pub struct Aid {
-    bytes: [u8; 16],
+    bytes: [u8; LONGEST_AID],
     len: usize,
 }
 
@@ -23,7 +28,7 @@ impl Model for Aid {
 
     ghost Value = { List ℕ };
 
-    ghost use Rattle.jc_base.specs.Aid.{held, IsHeld, padded, same_held};
+    ghost use Rattle.jc_base.specs.PrivateAid.{held, IsHeld, padded, same_held};
 
     ghost view = { held };
 
@@ -38,7 +43,7 @@ impl Model for Aid {
 fn is_aid_len(len: usize) -> bool
     ensures { result ≡ has_aid_length len }
 {
-    5 <= len && len <= 16
+    SHORTEST_AID <= len && len <= LONGEST_AID
 }
 
 impl Aid {
@@ -50,23 +55,9 @@ impl Aid {
         if !is_aid_len(len) {
             return None;
         }
-        let mut held = [0; 16];
+        let mut held = [0; LONGEST_AID];
         held[..len].copy_from_slice(bytes);
         Some(Aid { bytes: held, len })
-    }
-
-    /// The next AID in the component with a tag: its length, and its bytes. A length that isn't 5 to 16 is
-    /// `BadAid`, also where fewer bytes follow.
-    #[tactic(auto, unfolding(crate::specs::PackageInfo::next_aid))]
-    pub fn read(cursor: &mut Cursor, tag: u8) -> Result<Aid, LoadFault>
-        ensures { Gives (λ aid. aid) result cursor.new (next_aid tag cursor.old) }
-    {
-        let len = usize::from(cursor.u1().ok_or(LoadFault::Malformed(tag))?);
-        if !is_aid_len(len) {
-            return Err(LoadFault::BadAid);
-        }
-        let bytes = cursor.take(len).ok_or(LoadFault::Malformed(tag))?;
-        Aid::from_slice(bytes).ok_or(LoadFault::BadAid)
     }
 
     /// Its bytes.
@@ -79,8 +70,8 @@ impl Aid {
     /// How many bytes it has, 5 to 16.
     pub fn len(&self) -> usize
         ensures bytes { result ≡ length self.now }
-        ensures least { 5 ≤ result }
-        ensures most { result ≤ 16 }
+        ensures least { shortest_aid ≤ result }
+        ensures most { result ≤ longest_aid }
     {
         self.len
     }
@@ -98,4 +89,18 @@ impl PartialEq for Aid {
 
 impl Eq for Aid {
     ghost laws = { nat_list_eq_equiv };
+}
+
+/// The next AID in the component with a tag: its length, and its bytes. A length that isn't 5 to 16 is `BadAid`, also
+/// where fewer bytes follow. At an `Err` the cursor stands anywhere.
+#[tactic(auto, unfolding(crate::specs::Aid::next_aid))]
+pub fn next_aid(cursor: &mut Cursor, tag: u8) -> Result<Aid, LoadFault>
+    ensures { Gives (λ aid. aid) result cursor.new (next_aid tag cursor.old) }
+{
+    let len = usize::from(cursor.u1().ok_or(LoadFault::Malformed(tag))?);
+    if !is_aid_len(len) {
+        return Err(LoadFault::BadAid);
+    }
+    let bytes = cursor.take(len).ok_or(LoadFault::Malformed(tag))?;
+    Aid::from_slice(bytes).ok_or(LoadFault::BadAid)
 }

@@ -3,9 +3,9 @@
 ghost use Rattle.std.specs.Prelude.{◌≡◌, ◌<◌, ◌∷◌, [], ◌++◌, List, ℕ, Option, IfOk, IfErr, Err, false, slice_index_or};
 ghost use Rattle.std.specs.List.{find};
 ghost use Rattle.std.specs.Option.{option_copied};
-ghost use Rattle.jc_base.specs.Image.{Piece, Splits, answer, infos_by, known};
-ghost use Rattle.jc_base.specs.Slots.{Holds, info_in, twice_in};
-ghost use Rattle.jc_base.specs.Components.{next_of, next_is};
+ghost use Rattle.jc_base.specs.Cutting.{Piece, Splits, answer, infos_by, known};
+ghost use Rattle.jc_base.specs.PrivateCutting.{Holds, info_in, twice_in};
+ghost use Rattle.jc_base.specs.PrivateCutting.{next_of, next_is};
 
 use crate::cursor::Cursor;
 use crate::fault::LoadFault;
@@ -75,7 +75,7 @@ impl<'a> Slots<'a> {
     }
 
     /// The least tag that came twice.
-    #[tactic(auto, unfolding(crate::specs::Image::known))]
+    #[tactic(auto, unfolding(crate::specs::Cutting::known))]
     fn repeated(&self) -> Option<u8>
         ensures { result ≡ twice_in self.now }
     {
@@ -97,7 +97,7 @@ fn components<'a>(image: &'a [u8]) -> Result<Slots<'a>, LoadFault>
 }
 
 /// The parts of what is kept, or the tag that is missing or came twice.
-#[tactic(auto, unfolding(crate::specs::Image::infos_by))]
+#[tactic(auto, unfolding(crate::specs::Cutting::infos_by))]
 fn parts_in<'a>(slots: &Slots<'a>) -> Result<Parts<'a>, LoadFault>
     ensures { result ≡ infos_by (λ tag. info_in slots.now tag) (twice_in slots.now) }
 {

@@ -6,20 +6,26 @@ mod class_ref;
 mod cursor;
 mod cutting;
 mod fault;
+mod numbers;
 mod package_info;
 mod parts;
+mod placed_rows;
 mod reason;
+mod rows;
 pub mod stack;
 pub mod tag;
 
-pub use aid::Aid;
+pub use aid::{Aid, next_aid};
 pub use class_ref::{ClassRef, class_ref_of};
 pub use cursor::Cursor;
 pub use cutting::cut;
 pub use fault::{LoadFault, RefusalWords};
-pub use package_info::PackageInfo;
+pub use numbers::{S1s, S2s, U2s, has_flag};
+pub use package_info::{PackageInfo, next_package_info};
 pub use parts::Parts;
+pub use placed_rows::{Placed, PlacedRow, PlacedRows};
 pub use reason::Reason;
+pub use rows::{FixedRow, Row, Rows, Source};
 
 #[cfg(test)]
 mod fault_rows;

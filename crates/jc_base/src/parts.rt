@@ -21,7 +21,7 @@ pub struct Parts<'a> {
 
 impl<'a> Model for Parts<'a> {
     ghost use Rattle.std.specs.Option.{option_copied};
-    ghost use Rattle.jc_base.specs.Image.{Infos};
+    ghost use Rattle.jc_base.specs.Parts.{Infos};
 
     ghost Value = { Infos };
 

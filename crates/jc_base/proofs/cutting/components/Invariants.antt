@@ -1,6 +1,6 @@
 use Rattle.std.proofs.Common.{List, length}
-use Rattle.jc_base.specs.Image.{Piece}
-use Rattle.jc_base.specs.Slots.{Holds}
+use Rattle.jc_base.specs.Cutting.{Piece}
+use Rattle.jc_base.specs.PrivateCutting.{Holds}
 use Rattle.jc_base.proofs.Steps.{IsSoFar}
 use Rattle.jc_base.proofs.cutting.components.Given as goal
 

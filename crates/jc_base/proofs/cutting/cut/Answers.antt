@@ -1,5 +1,5 @@
 use Rattle.std.proofs.Common.{ap, ◌∙◌}
-use Rattle.jc_base.specs.Image.{answer}
+use Rattle.jc_base.specs.Cutting.{answer}
 use Rattle.jc_base.proofs.Once.{one_split}
 use Rattle.jc_base.proofs.cutting.cut.Goals as goal
 

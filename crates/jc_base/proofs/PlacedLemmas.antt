@@ -1,0 +1,137 @@
+-- Rows until nothing is left.
+use Rattle.std.proofs.Common.{◌≡◌, ℕ, zero, suc, ◌-◌, ◌<◌, ◌≤◌, true, false, eqb, List, [], ◌∷◌, length, Some, None, Result, Ok, Err, refl, sym, ap, ◌∙◌, arith}
+use Rattle.std.proofs.lemmas.Bool.{eq-eqb, ne_eqb}
+use Rattle.jc_base.specs.Cursor.{Read}
+use Rattle.jc_base.specs.Results.{◌>>=◌}
+use Rattle.jc_base.specs.declared.placed_rows.Placed.{Placed}
+use Rattle.jc_base.specs.PlacedRows.{Shrinks, placed_in, row_at}
+use Rattle.jc_base.specs.PrivatePlacedRows.{listed, done}
+
+module _ {A E : Type 0} (next_row : List ℕ → Result (Read A) E) (some : Shrinks next_row) where
+  -- a row in front of others
+  abbrev pub in_front : ℕ → Read A → Result (List (Placed A)) E → Result (List (Placed A)) E
+  in_front offset first more = more >>= λ rows. Ok (record { offset = offset; row = first.value } ∷ rows)
+
+  -- any number of steps that is enough gives the same
+  enough : (total s t : ℕ) (bytes : List ℕ) → length bytes ≤ s → length bytes ≤ t → placed_in next_row total s bytes ≡ placed_in next_row total t bytes
+  enough total s t [] le more = refl
+  enough total zero t (b ∷ bytes) le more = absurd (omega arith)
+  enough total s zero (b ∷ bytes) le more = absurd (omega arith)
+  enough total (suc s) (suc t) (b ∷ bytes) le more = behind (λ n. placed_in next_row total s n) (λ n. placed_in next_row total t n) (next_row (b ∷ bytes)) (λ x is. let less = some (b ∷ bytes) x is in enough total s t x.rest (omega arith) (omega arith))
+    where
+      behind : (f g : List ℕ → Result (List (Placed A)) E) (r : Result (Read A) E) → ((x : Read A) → r ≡ Ok x → f x.rest ≡ g x.rest)
+          → (r >>= λ first. in_front (total - length (b ∷ bytes)) first (f first.rest)) ≡ (r >>= λ first. in_front (total - length (b ∷ bytes)) first (g first.rest))
+      behind f g (Err e) same = refl
+      behind f g (Ok x) same = ap (in_front (total - length (b ∷ bytes)) x) (same x refl)
+
+  -- one row on
+  pub one_on : (total : ℕ) (bytes : List ℕ) (x : Read A) → length bytes ≤ total → next_row bytes ≡ Ok x → placed_in next_row total total bytes ≡ in_front (total - length bytes) x (placed_in next_row total total x.rest)
+  one_on total bytes x le e = steps total bytes le e (some bytes x e)
+    where
+      steps : (s : ℕ) (bytes : List ℕ) → length bytes ≤ s → next_row bytes ≡ Ok x → length x.rest < length bytes → placed_in next_row total s bytes ≡ in_front (total - length bytes) x (placed_in next_row total s x.rest)
+      steps s [] le e less = absurd (omega arith)
+      steps zero (b ∷ bytes) le e less = absurd (omega arith)
+      steps (suc s) (b ∷ bytes) le e less = rw e (ap (in_front (total - length (b ∷ bytes)) x) (enough total s (suc s) x.rest (omega arith) (omega arith)))
+
+  -- no row there
+  pub none_on : (total : ℕ) (bytes : List ℕ) (fault : E) → 0 < length bytes → length bytes ≤ total → next_row bytes ≡ Err fault → placed_in next_row total total bytes ≡ Err fault
+  none_on total bytes fault more le e = steps total bytes more le e
+    where
+      steps : (s : ℕ) (bytes : List ℕ) → 0 < length bytes → length bytes ≤ s → next_row bytes ≡ Err fault → placed_in next_row total s bytes ≡ Err fault
+      steps s [] more le e = absurd (omega arith)
+      steps zero (b ∷ bytes) more le e = absurd (omega arith)
+      steps (suc s) (b ∷ bytes) more le e = rw e refl
+
+  pub no_more : (total s : ℕ) (bytes : List ℕ) → length bytes ≡ 0 → placed_in next_row total s bytes ≡ Ok []
+  no_more total s [] e = refl
+  no_more total s (b ∷ bytes) e = absurd (omega arith)
+
+  done_front : (offset : ℕ) (x : Read A) (r : Result (List (Placed A)) E) → done (in_front offset x r) ≡ done r
+  done_front offset x (Ok rows) = refl
+  done_front offset x (Err e) = refl
+
+  -- what is left of rows that are all there
+  pub record IsLeft (total : ℕ) (bytes : List ℕ) : Type 0 where
+    pub within : length bytes ≤ total
+    pub all : done (placed_in next_row total total bytes) ≡ Ok tt
+
+  -- a loop that looks at each row
+  pub record Decides (total : ℕ) (left bytes : List ℕ) : Type 0 where
+    pub within : length bytes ≤ total
+    pub same : done (placed_in next_row total total bytes) ≡ done (placed_in next_row total total left)
+
+  pub decides_first : (total : ℕ) (left source : List ℕ) → source ≡ left → length left ≤ total → Decides total left source
+  decides_first total left source is le = rw is (record { within = le; same = refl })
+
+  pub decides_on : (total : ℕ) (left bytes : List ℕ) (x : Read A) → Decides total left bytes → next_row bytes ≡ Ok x → Decides total left x.rest
+  decides_on total left bytes x d e =
+      let w = d.within in
+      let less = some bytes x e in
+      record {
+        within = omega arith;
+        same = sym (ap (λ w. done w) (one_on total bytes x d.within e) ∙ done_front _ x _) ∙ d.same;
+      }
+
+  pub decides_not : (total : ℕ) (left bytes : List ℕ) (fault : E) → Decides total left bytes → 0 < length bytes → next_row bytes ≡ Err fault → Err fault ≡ done (placed_in next_row total total left)
+  decides_not total left bytes fault d more e = ap (λ w. done w) (sym (none_on total bytes fault more d.within e)) ∙ d.same
+
+  pub decides_all : (total : ℕ) (left bytes : List ℕ) → Decides total left bytes → length bytes ≡ 0 → Ok tt ≡ done (placed_in next_row total total left)
+  decides_all total left bytes d end = ap (λ w. done w) (sym (no_more total total bytes end)) ∙ d.same
+
+  -- the first of the rows that are left, and those behind it
+  pub record HasFirst (total : ℕ) (bytes : List ℕ) (x : Read A) : Type 0 where
+    pub within : length x.rest ≤ total
+    pub all : done (placed_in next_row total total x.rest) ≡ Ok tt
+    pub rows : listed (placed_in next_row total total bytes) ≡ record { offset = total - length bytes; row = x.value } ∷ listed (placed_in next_row total total x.rest)
+
+  pub has_first : (total : ℕ) (bytes : List ℕ) (x : Read A) → length bytes ≤ total → done (placed_in next_row total total bytes) ≡ Ok tt → next_row bytes ≡ Ok x → HasFirst total bytes x
+  has_first total bytes x le all e =
+      let less = some bytes x e in
+      let on = one_on total bytes x le e in
+      let there : done (placed_in next_row total total x.rest) ≡ Ok tt = sym (ap (λ w. done w) on ∙ done_front _ x _) ∙ all in
+      record { within = omega arith; all = there; rows = ap (λ w. listed w) on ∙ front (placed_in next_row total total x.rest) there }
+    where
+      front : (r : Result (List (Placed A)) E) → done r ≡ Ok tt → listed (in_front (total - length bytes) x r) ≡ record { offset = total - length bytes; row = x.value } ∷ listed r
+      front (Ok rows) there = refl
+      front (Err fault) there = absurd cc
+
+  pub is_there : (total : ℕ) (bytes : List ℕ) (fault : E) → 0 < length bytes → length bytes ≤ total → done (placed_in next_row total total bytes) ≡ Ok tt → next_row bytes ≡ Err fault → ⊥
+  is_there total bytes fault more le all e = wrong (ap (λ w. done w) (sym (none_on total bytes fault more le e)) ∙ all)
+    where
+      wrong : ◌≡◌ {A = Result (Unit {0}) E} (Err fault) (Ok (tt {0})) → ⊥
+      wrong h = cc
+
+  -- a look-up: the row isn't among those before
+  pub record Seeks (total offset : ℕ) (rows : List (Placed A)) (bytes : List ℕ) : Type 0 where
+    pub within : length bytes ≤ total
+    pub all : done (placed_in next_row total total bytes) ≡ Ok tt
+    pub same : row_at offset (listed (placed_in next_row total total bytes)) ≡ row_at offset rows
+
+  pub seeks_first : (total offset : ℕ) (bytes source : List ℕ) (rows : List (Placed A)) → source ≡ bytes → length bytes ≤ total → done (placed_in next_row total total bytes) ≡ Ok tt
+      → listed (placed_in next_row total total bytes) ≡ rows → Seeks total offset rows source
+  seeks_first total offset bytes source rows is le all e = rw is (record { within = le; all = all; same = ap (λ w. row_at offset w) e })
+
+  pub found_here : (total offset : ℕ) (rows : List (Placed A)) (bytes : List ℕ) (x : Read A) → Seeks total offset rows bytes → next_row bytes ≡ Ok x → total - length bytes ≡ offset → Some x.value ≡ row_at offset rows
+  found_here total offset rows bytes x s e here =
+      let t : eqb (total - length bytes) offset ≡ true = eq-eqb _ _ here in
+      rw t at (sym (ap (λ w. row_at offset w) (has_first total bytes x s.within s.all e).rows) ∙ s.same)
+
+  pub seeks_on : (total offset : ℕ) (rows : List (Placed A)) (bytes : List ℕ) (x : Read A) → Seeks total offset rows bytes → next_row bytes ≡ Ok x → (total - length bytes ≡ offset → ⊥) → Seeks total offset rows x.rest
+  seeks_on total offset rows bytes x s e other =
+      let h = has_first total bytes x s.within s.all e in
+      let t : eqb (total - length bytes) offset ≡ false = ne_eqb _ _ other in
+      record { within = h.within; all = h.all; same = rw t at (sym (ap (λ w. row_at offset w) h.rows) ∙ s.same) }
+
+  pub seeks_there : (total offset : ℕ) (rows : List (Placed A)) (bytes : List ℕ) (fault : E) → Seeks total offset rows bytes → 0 < length bytes → next_row bytes ≡ Err fault → ⊥
+  seeks_there total offset rows bytes fault s more e = is_there total bytes fault more s.within s.all e
+
+  pub not_found : (total offset : ℕ) (rows : List (Placed A)) (bytes : List ℕ) → Seeks total offset rows bytes → length bytes ≡ 0 → None ≡ row_at offset rows
+  not_found total offset rows bytes s end = ap (λ w. row_at offset (listed w)) (sym (no_more total total bytes end)) ∙ s.same
+
+pub done_err : {A E : Type 0} (r : Result (List A) E) (fault : E) → Err fault ≡ done r → Err fault ≡ r
+done_err (Ok rows) fault h = absurd cc
+done_err (Err e) fault h = cc
+
+pub done_ok : {A E : Type 0} (r : Result (List A) E) → Ok tt ≡ done r → Ok (listed r) ≡ r
+done_ok (Ok rows) h = refl
+done_ok (Err e) h = absurd cc

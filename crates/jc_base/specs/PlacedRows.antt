@@ -1,0 +1,27 @@
+-- Rows one behind the other until nothing is left, each at an offset.
+use Rattle.std.specs.Prelude.{◌≡◌, ℕ, zero, suc, ◌-◌, ◌<◌, ◌==◌, List, [], ◌∷◌, length, drop, Option, Some, None, Result, Ok, if◌then◌else◌}
+use Rattle.jc_base.specs.Cursor.{Read}
+use Rattle.jc_base.specs.Results.{◌>>=◌}
+use Rattle.jc_base.specs.declared.placed_rows.Placed.{Placed}
+
+-- each row takes a byte at least
+abbrev pub Shrinks : {A E : Type 0} → (List ℕ → Result (Read A) E) → Type 0
+Shrinks {A = A} next_row = (bytes : List ℕ) (x : Read A) → next_row bytes ≡ Ok x → length x.rest < length bytes
+
+-- the rows that bytes are, the last of so many that offsets count, in at most so many steps
+abbrev pub placed_in : {A E : Type 0} → (List ℕ → Result (Read A) E) → ℕ → ℕ → List ℕ → Result (List (Placed A)) E
+placed_in next_row total steps [] = Ok []
+placed_in next_row total zero (b ∷ bytes) = Ok []
+placed_in next_row total (suc steps) (b ∷ bytes) = do
+  first ← next_row (b ∷ bytes)
+  more ← placed_in next_row total steps first.rest
+  Ok (record { offset = total - length (b ∷ bytes); row = first.value } ∷ more)
+
+-- the rows from an offset of bytes to their end; each takes a byte at least, so there are steps enough
+unfoldable pub placed_rows : {A E : Type 0} → (List ℕ → Result (Read A) E) → ℕ → List ℕ → Result (List (Placed A)) E
+placed_rows next_row first bytes = placed_in next_row (length bytes) (length bytes) (drop first bytes)
+
+-- the row that begins at an offset
+abbrev pub row_at : {A : Type 0} → ℕ → List (Placed A) → Option A
+row_at offset [] = None
+row_at offset (p ∷ rows) = if p.offset == offset then Some p.row else row_at offset rows

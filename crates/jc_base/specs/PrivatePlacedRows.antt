@@ -1,0 +1,12 @@
+-- What is kept of placed rows.
+use Rattle.std.specs.Prelude.{List, [], Result, Ok, Err}
+
+-- the rows, none where bytes aren't rows to their end
+abbrev pub listed : {A E : Type 0} → Result (List A) E → List A
+listed (Ok rows) = rows
+listed (Err e) = []
+
+-- whether there are any, or the reason against them
+abbrev pub done : {A E : Type 0} → Result A E → Result (Unit {0}) E
+done (Ok x) = Ok tt
+done (Err e) = Err e

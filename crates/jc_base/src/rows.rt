@@ -1,0 +1,191 @@
+//! Rows one behind the other.
+
+ghost use Rattle.std.specs.Prelude.{◌≡◌, ◌↔◌, ◌∷◌, [], drop, length, slice_get, IsTrue, List, ℕ, Result, IfSome, IfNone};
+ghost use Rattle.jc_base.specs.Cursor.{Read, Gives};
+ghost use Rattle.jc_base.specs.PrivateRows.{rest_of, left_by};
+ghost use Rattle.jc_base.specs.Rows.{repeat, part, HasSize};
+ghost use Rattle.jc_base.specs.declared.fault.LoadFault.{LoadFault};
+
+use crate::cursor::Cursor;
+use crate::fault::LoadFault;
+use std::marker::{Model, PhantomData};
+
+/// What rows are read from, from the front: bytes, or halves of bytes.
+pub trait Source: Drop {
+    ghost left: { Self → List ℕ };
+
+    /// How many are left.
+    fn len(&self) -> usize
+        ensures { result ≡ length (left self.now) };
+
+    /// The same, to be read on its own.
+    fn again(&self) -> Self
+        ensures { left result ≡ left self.now };
+
+    /// What stands behind the next `count`, to be read on its own: nothing where there are fewer.
+    fn behind(&self, count: usize) -> Self
+        ensures { left result ≡ drop count (left self.now) };
+}
+
+impl<'a> Source for Cursor<'a> {
+    ghost left = { λ cursor. cursor };
+
+    fn len(&self) -> usize {
+        self.rest().len()
+    }
+
+    fn again(&self) -> Cursor<'a> {
+        Cursor::new(self.rest())
+    }
+
+    fn behind(&self, count: usize) -> Cursor<'a> {
+        Cursor::at(self.rest(), count)
+    }
+}
+
+/// What may stand in a source among others of its kind, one behind the other.
+pub trait Row<S: Source>: Drop {
+    ghost next_row: { List ℕ → Result (Read Self) LoadFault };
+
+    /// The next row. Where there is none the source stands anywhere.
+    fn next_row(source: &mut S) -> Result<Self, LoadFault>
+        ensures { Gives (λ row. row) result (S.left source.new) (next_row (S.left source.old)) };
+}
+
+/// Rows that all take so many bytes.
+pub trait FixedRow<S: Source>: Row<S> {
+    ghost SIZE: { ℕ };
+
+    const SIZE: u8;
+
+    ghost has_size: { HasSize SIZE Self.next_row };
+}
+
+/// Rows one behind the other, so many as a count says. They are read where they are asked for.
+#[derive(Drop)]
+pub struct Rows<S: Source, R: Row<S>> {
+    start: S,
+    count: u16,
+    kind: PhantomData<R>,
+}
+
+impl<S: Source, R: Row<S>> Model for Rows<S, R> {
+    ghost use Rattle.std.specs.Prelude.{◌≡◌, ℕ, List, Ok};
+    ghost use Rattle.jc_base.specs.PrivateRows.{rows_of, rest_of};
+    ghost use Rattle.jc_base.specs.Rows.{repeat};
+
+    ghost Value = { List R };
+
+    ghost view = { λ r. rows_of (repeat R.next_row r.count (S.left r.start)) };
+
+    ghost invariant = { λ r. (rest : List ℕ) × (rest_of (repeat R.next_row r.count (S.left r.start)) ≡ Ok rest) };
+}
+
+/// Passes over the next `count` rows.
+fn skip<S: Source, R: Row<S>>(source: &mut S, count: u16) -> Result<(), LoadFault>
+    ensures { left_by result (S.left source.new) ≡ rest_of (repeat R.next_row count (S.left source.old)) }
+{
+    for _ in 0..count {
+        R::next_row(source)?;
+    }
+    Ok(())
+}
+
+impl<S: Source, R: Row<S>> Rows<S, R> {
+    /// The next `count` rows, each looked at once. Where one of them isn't there the source stands anywhere.
+    pub fn read(source: &mut S, count: u16) -> Result<Rows<S, R>, LoadFault>
+        ensures { Gives (λ rows. rows) result (S.left source.new) (repeat R.next_row count (S.left source.old)) }
+    {
+        let start = source.again();
+        skip::<S, R>(source, count)?;
+        Ok(Rows {
+            start,
+            count,
+            kind: PhantomData,
+        })
+    }
+
+    /// The same rows, to be taken on their own.
+    pub fn again(&self) -> Rows<S, R>
+        ensures { result ≡ self.now }
+    {
+        Rows {
+            start: self.start.again(),
+            count: self.count,
+            kind: PhantomData,
+        }
+    }
+
+    /// How many rows there are.
+    pub fn len(&self) -> usize
+        ensures { result ≡ length self.now }
+    {
+        usize::from(self.count)
+    }
+
+    /// Whether there is no row.
+    pub fn is_empty(&self) -> bool
+        ensures { IsTrue result ↔ (self.now ≡ []) }
+    {
+        self.len() == 0
+    }
+
+    /// The row at an index, or `None` past the last. It costs the rows before it: for all of them in turn use `next`.
+    pub fn get(&self, index: u16) -> Option<R>
+        ensures { result ≡ slice_get self.now index }
+    {
+        if self.count <= index {
+            return None;
+        }
+        let mut source = self.start.again();
+        let Ok(()) = skip::<S, R>(&mut source, index) else {
+            return None;
+        };
+        R::next_row(&mut source).ok()
+    }
+
+    /// Takes the first row off, or answers `None` where there is none.
+    pub fn next(&mut self) -> Option<R>
+        ensures some { IfSome result (λ row. self.old ≡ row ∷ self.new) }
+        ensures none { IfNone result ((self.old ≡ []) × (self.new ≡ [])) }
+    {
+        if self.count == 0 {
+            return None;
+        }
+        let mut source = self.start.again();
+        let Ok(row) = R::next_row(&mut source) else {
+            return None;
+        };
+        self.count -= 1;
+        self.start = source;
+        Some(row)
+    }
+}
+
+impl<S: Source, R: FixedRow<S>> Rows<S, R> {
+    /// The row at an index, or `None` past the last, in one step.
+    pub fn at(&self, index: u16) -> Option<R>
+        ensures { result ≡ slice_get self.now index }
+    {
+        if self.count <= index {
+            return None;
+        }
+        let mut source = self.start.behind(usize::from(R::SIZE) * usize::from(index));
+        R::next_row(&mut source).ok()
+    }
+
+    /// The `count` rows from index `first` on, or `None` where they run past the last, in one step.
+    pub fn part(&self, first: u16, count: u16) -> Option<Rows<S, R>>
+        ensures { result ≡ part first count self.now }
+    {
+        if usize::from(self.count) < usize::from(first) + usize::from(count) {
+            return None;
+        }
+        let start = self.start.behind(usize::from(R::SIZE) * usize::from(first));
+        Some(Rows {
+            start,
+            count,
+            kind: PhantomData,
+        })
+    }
+}

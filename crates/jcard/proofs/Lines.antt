@@ -1,21 +1,21 @@
 -- What clap reads of a command line, as the job that it says.
-use Rattle.std.proofs.Common.{◌≡◌, ◌∙◌, ap₂, false, ◌||◌, sym, subst, refl, ℕ, ◌<◌, ◌^◌, List, Result, Ok, Err, arith, codes, inl, inr}
-use Rattle.std.specs.Prelude.{⊤, Option, Some, None, IfErr}
+use Rattle.std.proofs.Common.{◌≡◌, ◌∙◌, ap₂, false, ◌||◌, sym, subst, refl, ℕ, ◌<◌, ◌^◌, List, [], ◌∷◌, Result, Ok, Err, arith, codes, inl, inr}
+use Rattle.std.specs.Prelude.{Option, Some, None, IfErr}
 use Rattle.std.specs.Result.{IsErr, IsErrAnd}
 use Rattle.std.specs.Str.Parse.{ParsesUnsigned}
 use Rattle.std.proofs.lemmas.Option.{none-some}
 use Rattle.clap.specs.Words.{AddsArg, App, ReadsOne, Row, Rule, Text, app_of, fault_of, first_of, kind_of, rule_of, subcommand_of, with_rule}
-use Rattle.clap.specs.Kinds.{HasKind, IsAmong}
+use Rattle.clap.specs.Kinds.{HasKind, IsAmong, Kinds, or_else}
 use Rattle.clap.specs.declared.error.Error.{Error}
-use Rattle.clap.specs.declared.error.kind.ErrorKind.TheVariants.{OutOfMemory}
+use Rattle.clap.specs.declared.error.kind.ErrorKind.{ErrorKind}
+use Rattle.clap.specs.declared.error.kind.ErrorKind.TheVariants.{MissingSubcommand}
 use Rattle.clap.specs.declared.builder.arg.Arg.{Arg}
 use Rattle.clap.specs.declared.builder.command.Command.{Command}
 use Rattle.clap.specs.declared.builder.command.Command.TheViews.{out-Command}
-use Rattle.jcard.specs.Jobs.{AreSteps, IsJobAmong, IsJobOf, IsSteps, Refuses, card_app}
+use Rattle.jcard.specs.Line.{AreSteps, IsJobAmong, IsJobOf, IsSteps, IsFaultOf, IsJobFor, IsLineFault, card_app}
 use Rattle.jcard.specs.declared.job.Job.{Job}
 use Rattle.jcard.specs.declared.job.Job.TheVariants.{Eval}
 use Rattle.jcard.specs.declared.line.LineFault.{LineFault}
-use Rattle.jcard.specs.declared.line.LineFault.TheVariants.{Line, Memory}
 
 -- the number of steps that a text says, if there is one
 abbrev pub AreSaid : Option (List ℕ) → ℕ → Type 0
@@ -53,25 +53,30 @@ no_cert rows none (Eval code cert steps) said = none-some cert.now (sym none ∙
 pub no_steps : (rows : List Row) → ((steps : ℕ) → AreSteps rows steps → ⊥) → (job : Job) → IsJobOf rows job → ⊥
 no_steps rows none (Eval code cert steps) said = none steps said.2
 
--- a fault that isn't want of memory
-abbrev IsLine : LineFault → Type 0
-IsLine (Line error) = ⊤
-IsLine Memory = ⊥
+-- one of some kinds is one of these or else others
+among_first : (k : ErrorKind) (kinds others : Kinds) → IsAmong k kinds → IsAmong k (or_else kinds others)
+among_first k [] others among = elim among [ ]
+among_first k (x ∷ xs) others among = among
 
 -- a line that clap refuses says no job, or memory was wanting
-pub refused_for_fault : (error : Error) (fault : LineFault) (words : List Text) → HasKind (fault_of card_app words) error → (kind_of error ≡ OutOfMemory → fault ≡ Memory) → Refuses fault words
-refused_for_fault error Memory words kind memory = tt
-refused_for_fault error (Line e) words (inl out) memory = λ job said. subst IsLine (memory out) tt
-refused_for_fault error (Line e) words (inr among) memory = λ job said. subst (λ kinds. IsAmong (kind_of error) kinds) said.faultless among
+pub refused_for_fault : (error : Error) (fault : LineFault) (words : List Text) → HasKind (fault_of card_app words) error → IsFaultOf error fault → IsLineFault words fault
+refused_for_fault error fault words kind (inl memory) = subst (IsLineFault words) (sym memory.1) tt
+refused_for_fault error fault words (inl out) (inr line) = absurd (line.0 out)
+refused_for_fault error fault words (inr among) (inr line) =
+    let none : (job : Job) → IsJobFor words job → ⊥ = λ job said. subst (λ kinds. IsAmong (kind_of error) kinds) said.faultless among in
+    subst (IsLineFault words) (sym line.1) (record { no_job = none; kind = among_first (kind_of error) (fault_of card_app words) _ among })
 
--- words in which no job was found
-pub refused_for_no_job : (fault : LineFault) (words : List Text) → ((job : Job) → IsJobAmong (subcommand_of card_app words) job → ⊥) → Refuses fault words
-refused_for_no_job Memory words none = tt
-refused_for_no_job (Line error) words none = λ job said. none job said.met
+-- words in which no job was found, though clap finds no fault with them
+pub refused_for_no_job : (error : Error) (fault : LineFault) (words : List Text) → fault_of card_app words ≡ [] → kind_of error ≡ MissingSubcommand
+    → ((job : Job) → IsJobAmong (subcommand_of card_app words) job → ⊥) → IsFaultOf error fault → IsLineFault words fault
+refused_for_no_job error fault words faultless kind none (inl memory) = subst (IsLineFault words) (sym memory.1) tt
+refused_for_no_job error fault words faultless kind none (inr line) =
+    let among = subst (λ kinds. IsAmong (kind_of error) (or_else kinds (MissingSubcommand ∷ []))) (sym faultless) (inl kind) in
+    subst (IsLineFault words) (sym line.1) (record { no_job = λ job said. none job said.met; kind = among })
 
 -- the fault of what is one
 pub refused_by : {T : Type 0} (result : Result T LineFault) (gives : LineFault → Type 0) (words : List Text) → IsErr result × IsErrAnd result gives
-    → ((fault : LineFault) → gives fault → Refuses fault words) → IfErr result (λ fault. Refuses fault words)
+    → ((fault : LineFault) → gives fault → IsLineFault words fault) → IfErr result (IsLineFault words)
 refused_by (Ok x) gives words is refuses = tt
 refused_by (Err fault) gives words is refuses = refuses fault is.1
 

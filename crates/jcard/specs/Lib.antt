@@ -1,9 +1,11 @@
+pub mod Answer
+pub mod Eval
+pub mod PrivateEval
+pub mod Texts
+pub mod Line
+pub mod Saying
 pub mod Shorts
 pub mod Tagged
-pub mod Answers
-pub mod Lines
 pub mod Words
 pub mod Agree
 pub mod Runs
-pub mod Jobs
-pub mod Texts

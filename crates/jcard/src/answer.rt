@@ -24,7 +24,7 @@ pub enum EvalAnswer {
 
 impl fmt::Display for EvalAnswer {
     ghost use Rattle.std.specs.Prelude.{Some};
-    ghost use Rattle.jcard.specs.Lines.{line_of};
+    ghost use Rattle.jcard.specs.Answer.{line_of};
 
     ghost output = { λ answer. Some (line_of answer) };
 

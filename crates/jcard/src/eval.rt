@@ -1,8 +1,8 @@
 //! The evaluation of code alone.
 
-ghost use Rattle.std.specs.Prelude.{◌<◌, ◌^◌, length};
-ghost use Rattle.jcard.specs.Answers.{Answers};
-ghost use Rattle.jcard.specs.Runs.{AnswersEnding};
+ghost use Rattle.std.specs.Prelude.{◌≡◌, ◌<◌, ◌^◌, length};
+ghost use Rattle.jcard.specs.Eval.{IsAnswer};
+ghost use Rattle.jcard.specs.PrivateEval.{answer_to};
 
 use crate::answer::EvalAnswer;
 use crate::run::{Ending, run};
@@ -11,7 +11,7 @@ use jc_check::{WordFault, check_words};
 use std::alloc::Global;
 
 fn ending_answer(ending: Ending) -> EvalAnswer
-    ensures { AnswersEnding ending result }
+    ensures { result ≡ answer_to ending }
 {
     match ending {
         Ending::Gave(word) => EvalAnswer::Value(word.cast_signed()),
@@ -23,12 +23,14 @@ fn ending_answer(ending: Ending) -> EvalAnswer
 /// Reads a certificate, checks code with it, and runs the code for at most so many steps.
 pub fn eval(alloc: Global, code: &[u8], cert: &[u8], steps: u32) -> EvalAnswer
     requires { length code.now < 2 ^ 16 }
-    ensures { Answers result code.now cert.now steps }
+    ensures { IsAnswer result code.now cert.now steps }
 {
     let cert = match jc_cert::read(alloc, cert) {
         Ok(cert) => cert,
+        Err(LoadFault::BadCertificate) => return EvalAnswer::BadCertificate,
         Err(LoadFault::Memory) => return EvalAnswer::Memory,
-        Err(_) => return EvalAnswer::BadCertificate,
+        // A certificate has no other fault.
+        Err(_) => unreachable!(),
     };
     match check_words(alloc, code, &cert) {
         Ok(checked) => ending_answer(run(&checked, steps)),

@@ -1,10 +1,9 @@
 //! The command line: `jcard eval CODE [CERT] [--steps N]`.
 
 ghost use Rattle.std.specs.Prelude.{◌≡◌, map, IfErr, IfOk};
-ghost use Rattle.clap.specs.Words.{app_of, found_of, kind_of, rows_of, subcommand_rows_of};
-ghost use Rattle.clap.specs.declared.error.kind.ErrorKind.TheVariants.{OutOfMemory};
+ghost use Rattle.clap.specs.Words.{app_of, found_of, rows_of, subcommand_rows_of};
 ghost use Rattle.jcard.specs.declared.line.LineFault.TheVariants.{Memory};
-ghost use Rattle.jcard.specs.Jobs.{AreSteps, Finds, IsEvalCommand, IsJobAmong, IsJobFor, IsJobOf, Refuses, card_app};
+ghost use Rattle.jcard.specs.Line.{AreSteps, Finds, IsEvalCommand, IsFaultOf, IsJobAmong, IsJobFor, IsJobOf, IsLineFault, card_app};
 
 use crate::job::Job;
 use clap::error::ErrorKind;
@@ -22,7 +21,7 @@ pub enum LineFault {
 }
 
 impl From<Error> for LineFault {
-    ghost from_gives = { λ error fault. kind_of error ≡ OutOfMemory → fault ≡ Memory };
+    ghost from_gives = { IsFaultOf };
 
     fn from(error: Error) -> LineFault {
         if error.kind() == ErrorKind::OutOfMemory {
@@ -44,7 +43,7 @@ impl From<AllocError> for LineFault {
 /// Reads the words of a command line, of which the first is the program's name.
 pub fn job<'a, S: AsStr>(alloc: Global, words: &'a [S]) -> Result<Job<'a>, LineFault>
     ensures said { IfOk result (IsJobFor (map S.text words.entry.now)) }
-    ensures refused { IfErr result (λ fault. Refuses fault (map S.text words.entry.now)) }
+    ensures refused { IfErr result (IsLineFault (map S.text words.entry.now)) }
 {
     let mut program = card_command(alloc)?;
     let matches = program.try_get_matches_from_mut(words)?;

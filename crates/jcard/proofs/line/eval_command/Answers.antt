@@ -4,7 +4,7 @@ use Rattle.std.proofs.lemmas.Result.{IfOk-weaker}
 use Rattle.clap.specs.Words.{Rule, app_of, rule_of, new_app}
 use Rattle.clap.specs.declared.builder.arg.Arg.{Arg}
 use Rattle.clap.specs.declared.builder.value_parser.ValueParser.TheVariants.{Signed}
-use Rattle.jcard.specs.Jobs.{code_rule, cert_rule, steps_rule}
+use Rattle.jcard.specs.Line.{code_rule, cert_rule, steps_rule}
 use Rattle.jcard.proofs.Lines.{adds_rule}
 use Rattle.jcard.proofs.line.eval_command.Goals as goal
 

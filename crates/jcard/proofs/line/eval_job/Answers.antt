@@ -1,7 +1,7 @@
 use Rattle.std.proofs.Common.{◌∙◌, sym, subst, codes}
 use Rattle.clap.specs.Words.{found_of, rows_of}
 use Rattle.clap.proofs.WalkLemmas.{first_value-rows}
-use Rattle.jcard.specs.Jobs.{Finds, IsJobOf}
+use Rattle.jcard.specs.Line.{Finds, IsJobOf}
 use Rattle.jcard.proofs.Lines.{no_code, no_cert, no_steps}
 use Rattle.jcard.proofs.line.eval_job.Goals as goal
 

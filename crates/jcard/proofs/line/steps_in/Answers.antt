@@ -2,7 +2,7 @@ use Rattle.std.proofs.Common.{sym, subst, codes, rules, ℕ, ◌<◌}
 use Rattle.std.specs.contracts.prelude.U32FromStr.TheImpl as u32_text
 use Rattle.clap.specs.Words.{found_of, one_text, rows_of}
 use Rattle.clap.proofs.WalkLemmas.{one_text-rows}
-use Rattle.jcard.specs.Jobs.{AreSteps, Finds}
+use Rattle.jcard.specs.Line.{AreSteps, Finds}
 use Rattle.jcard.proofs.Lines.{AreSaid, steps_said, no_steps_said, zero_said}
 use Rattle.jcard.proofs.line.steps_in.Goals as goal
 

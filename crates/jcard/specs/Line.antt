@@ -1,10 +1,13 @@
 -- What a command line asks for, over what clap makes of its words.
-use Rattle.std.specs.Prelude.{⊤, ◌≡◌, ◌<◌, ◌^◌, ℕ, List, [], ◌∷◌, Some, None, pos, true, false, Option, codes}
+use Rattle.std.specs.Prelude.{⊤, ◌≡◌, ◌≢◌, ◌⊎◌, ◌<◌, ◌^◌, ℕ, List, [], ◌∷◌, Some, None, pos, true, false, Option, codes}
 use Rattle.std.specs.Str.Parse.{IsNumeral, digits_value, without_leading_plus}
-use Rattle.clap.specs.Words.{App, Row, Rule, Text, app_of, fault_of, first_of, new_app, new_rule, one_of, subcommand_of, with_rule, with_subcommand}
+use Rattle.clap.specs.Kinds.{IsAmong, or_else}
+use Rattle.clap.specs.Words.{App, Row, Rule, Text, app_of, fault_of, first_of, kind_of, new_app, new_rule, one_of, subcommand_of, with_rule, with_subcommand}
 use Rattle.clap.specs.declared.builder.command.Command.{Command}
 use Rattle.clap.specs.declared.builder.command.Command.TheViews.{out-Command}
 use Rattle.clap.specs.declared.builder.value_parser.ValueParser.TheVariants.{Signed}
+use Rattle.clap.specs.declared.error.Error.{Error}
+use Rattle.clap.specs.declared.error.kind.ErrorKind.TheVariants.{MissingSubcommand, OutOfMemory}
 use Rattle.jcard.specs.declared.job.Job.{Job}
 use Rattle.jcard.specs.declared.job.Job.TheVariants.{Eval}
 use Rattle.jcard.specs.declared.line.LineFault.{LineFault}
@@ -71,10 +74,20 @@ pub record IsJobFor (words : List Text) (job : Job) : Type 0 where
   pub faultless : fault_of card_app words ≡ []
   pub met : IsJobAmong (subcommand_of card_app words) job
 
+-- the words say no job, and the error is of a kind that clap's definition of a parse finds, or that no job is named where
+-- it finds none
+pub record IsLineError (words : List Text) (error : Error) : Type 0 where
+  pub no_job : (job : Job) → IsJobFor words job → ⊥
+  pub kind : IsAmong (kind_of error) (or_else (fault_of card_app words) (MissingSubcommand ∷ []))
+
 -- why there is no job: the words say none, or no memory was left
-abbrev pub Refuses : LineFault → List Text → Type 0
-Refuses (Line error) words = (job : Job) → IsJobFor words job → ⊥
-Refuses Memory words = ⊤
+abbrev pub IsLineFault : List Text → LineFault → Type 0
+IsLineFault words (Line error) = IsLineError words error
+IsLineFault words Memory = ⊤
+
+-- the fault that an error of clap's is: want of memory, or the line's own
+abbrev pub IsFaultOf : Error → LineFault → Type 0
+IsFaultOf error fault = ((kind_of error ≡ OutOfMemory) × (fault ≡ Memory)) ⊎ ((kind_of error ≢ OutOfMemory) × (fault ≡ Line error))
 
 -- what was found: one of which it holds, or nothing where it holds of none
 abbrev pub Finds : {A : Type 0} → Option A → (A → Type 0) → Type 0

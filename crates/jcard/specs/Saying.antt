@@ -1,0 +1,100 @@
+-- What the program says to a command line: a message, the stream that it is written to, and the exit status.
+use Rattle.std.specs.Prelude.{⊤, ◌≡◌, ◌⊎◌, ◌++◌, ℕ, List, Option, Some, None, option_map, codes}
+use Rattle.std.specs.declared.io.ErrorKind.{ErrorKind}
+use Rattle.std.specs.declared.io.ErrorKind.TheVariants as io
+use Rattle.clap.specs.Words.{Text, kind_of}
+use Rattle.clap.specs.declared.error.Error.{Error}
+use Rattle.clap.specs.declared.error.kind.ErrorKind.TheVariants.{DisplayHelp, DisplayVersion}
+use Rattle.jcard.specs.Answer.{line_of}
+use Rattle.jcard.specs.Line.{IsJobFor, IsLineError}
+use Rattle.jcard.specs.Texts.{AnswersTexts, IsTextFault, fault_line_of}
+use Rattle.jcard.specs.declared.answer.EvalAnswer.{EvalAnswer}
+use Rattle.jcard.specs.declared.job.Job.{Job}
+use Rattle.jcard.specs.declared.job.Job.TheVariants.{Eval}
+use Rattle.jcard.specs.declared.saying.Message.{Message}
+use Rattle.jcard.specs.declared.saying.Message.TheVariants.{Answer, Fault, Line, NotText}
+use Rattle.jcard.specs.declared.saying.Said.{Said}
+use Rattle.jcard.specs.declared.saying.Status.{Status}
+use Rattle.jcard.specs.declared.saying.Status.TheVariants.{Success, Failure, Misuse}
+use Rattle.jcard.specs.declared.saying.Stream.TheVariants.{Output, Errors}
+use Rattle.jcard.specs.declared.texts.TextFault.{TextFault}
+use Rattle.jcard.specs.declared.texts.TextFault.TheVariants.{BadCode, LongCode, BadCert, Memory}
+
+-- the exit status as a number
+abbrev pub number_of : Status → ℕ
+number_of Success = 0
+number_of Failure = 1
+number_of Misuse = 2
+
+-- a line ends with a line feed
+abbrev pub line_feed : List ℕ
+line_feed = codes "\n"
+
+-- the bytes that are written, but for the words of clap and of the reader of hexadecimal
+abbrev pub text_of : Message → Option (List ℕ)
+text_of (Answer answer) = Some (line_of answer ++ line_feed)
+text_of (Fault fault) = option_map (λ line. (codes "error: " ++ line) ++ line_feed) (fault_line_of fault)
+text_of (Line error) = None
+text_of NotText = Some (codes "error: an argument isn't UTF-8" ++ line_feed)
+
+-- what is said with success, in answer to what was asked; with failure, and of a wrong command line
+abbrev pub IsSuccess : Said → Type 0
+IsSuccess said = (said.stream ≡ Output) × (said.status ≡ Success)
+
+abbrev pub IsFailure : Said → Type 0
+IsFailure said = (said.stream ≡ Errors) × (said.status ≡ Failure)
+
+abbrev pub IsMisuse : Said → Type 0
+IsMisuse said = (said.stream ≡ Errors) × (said.status ≡ Misuse)
+
+-- an answer to a job, which is never want of memory
+abbrev pub AnswersJob : Job → EvalAnswer → Type 0
+AnswersJob (Eval code cert steps) answer = AnswersTexts code.now cert.now steps answer
+
+-- what is wrong with a job's texts
+abbrev pub IsJobFault : Job → TextFault → Type 0
+IsJobFault (Eval code cert steps) fault = IsTextFault code.now cert.now fault
+
+-- the words say a job, and this is its answer
+pub record AnswersLine (words : List Text) (answer : EvalAnswer) : Type 0 where
+  pub job : Job
+  pub said : IsJobFor words job
+  pub answered : AnswersJob job answer
+
+-- the words say a job, and this is wrong with its texts
+pub record HasTextFault (words : List Text) (fault : TextFault) : Type 0 where
+  pub job : Job
+  pub said : IsJobFor words job
+  pub faulty : IsJobFault job fault
+
+-- why the words have no answer; memory may be wanting for any
+abbrev pub IsFaultOfLine : List Text → TextFault → Type 0
+IsFaultOfLine words (BadCode error) = HasTextFault words (BadCode error)
+IsFaultOfLine words LongCode = HasTextFault words LongCode
+IsFaultOfLine words (BadCert error) = HasTextFault words (BadCert error)
+IsFaultOfLine words Memory = ⊤
+
+-- clap's words are what was asked for: help, or the version
+abbrev pub IsHelp : Error → Type 0
+IsHelp error = (kind_of error ≡ DisplayHelp) ⊎ (kind_of error ≡ DisplayVersion)
+
+-- clap's words to a line that says no job: help is given, anything else is a wrong command line
+pub record IsSaidOfLine (error : Error) (said : Said) : Type 0 where
+  pub help : IsHelp error → IsSuccess said
+  pub wrong : (IsHelp error → ⊥) → IsMisuse said
+
+-- the message of what is said fits the words, and so do its stream and its status
+abbrev pub IsSaidAs : List Text → Said → Message → Type 0
+IsSaidAs words said (Answer answer) = AnswersLine words answer × IsSuccess said
+IsSaidAs words said (Fault fault) = IsFaultOfLine words fault × IsFailure said
+IsSaidAs words said (Line error) = IsLineError words error × IsSaidOfLine error said
+IsSaidAs words said NotText = ⊥
+
+-- what is said to the words of a command line
+abbrev pub IsSaid : List Text → Said → Type 0
+IsSaid words said = IsSaidAs words said said.message
+
+-- what is said where there are no words: memory was wanting, or else one of them isn't UTF-8
+pub record IsSaidWithoutWords (kind : ErrorKind) (said : Said) : Type 0 where
+  pub memory : kind ≡ io.OutOfMemory → (said.message ≡ Fault Memory) × IsFailure said
+  pub not_text : (kind ≡ io.OutOfMemory → ⊥) → (said.message ≡ NotText) × IsMisuse said

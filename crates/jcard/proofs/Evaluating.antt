@@ -3,9 +3,9 @@ use Rattle.std.proofs.Common.{◌≡◌, ℕ, List, true, refl, sym, ap, ◌∙�
 use Rattle.std.specs.Prelude.{⊤, ◌≢◌}
 use Rattle.jc_check.specs.Method.{word_method}
 use Rattle.jc_check.specs.Typing.{Typing, IsTyping}
-use Rattle.jc_check.specs.Carried.{CarriesCode}
+use Rattle.jc_check.specs.Carried.{CertCarriesCode}
 use Rattle.jc_check.proofs.Typed.{typed}
-use Rattle.jc_cert.specs.Rows.{Row}
+use Rattle.jc_cert.specs.Cert.{Row}
 use Rattle.jcard.specs.declared.answer.EvalAnswer.{EvalAnswer}
 use Rattle.jcard.specs.declared.answer.EvalAnswer.TheVariants.{Value, Throws, Refused, BadCertificate, StepsUsedUp, Memory}
 use Rattle.jcard.specs.declared.run.Ending.{Ending}
@@ -27,8 +27,8 @@ Means Memory code bytes steps = ⊤
 -- an answer that comes only when it may is one for each of the directions
 is_answer : (answer : EvalAnswer) (code bytes : List ℕ) (steps : ℕ) → Means answer code bytes steps
     → (SpellsNone bytes → answer ≢ Memory → answer ≡ BadCertificate)
-    → ((rows : List Row) → SpellsCert bytes rows → (CarriesCode code rows → ⊥) → answer ≢ Memory → tells_fault answer ≡ true)
-    → ((rows : List Row) → SpellsCert bytes rows → CarriesCode code rows → answer ≢ Memory → tells_end answer ≡ true)
+    → ((rows : List Row) → SpellsCert bytes rows → (CertCarriesCode code rows → ⊥) → answer ≢ Memory → tells_fault answer ≡ true)
+    → ((rows : List Row) → SpellsCert bytes rows → CertCarriesCode code rows → answer ≢ Memory → tells_end answer ≡ true)
     → IsAnswer answer code bytes steps
 is_answer answer code bytes steps means unspelled uncarried carried =
     let M : EvalAnswer → Type 0 = λ a. Means a code bytes steps in
@@ -52,7 +52,7 @@ pub record Spelled (bytes : List ℕ) (rows : List Row) : Type 0 where
 record Ground (code bytes : List ℕ) : Type 0 where
   pub rows : List Row
   pub spelled : SpellsCert bytes rows
-  pub carried : CarriesCode code rows
+  pub carried : CertCarriesCode code rows
   pub typing : Typing
   pub typed : IsTyping (word_method code) typing
 
@@ -83,11 +83,11 @@ ending_tells endings.Threw = refl
 ending_tells endings.UsedUp = refl
 
 -- the end of a run of code that is carried
-pub for_ending : (code bytes : List ℕ) (steps : ℕ) (rows : List Row) (ending : Ending) → Spelled bytes rows → CarriesCode code rows
+pub for_ending : (code bytes : List ℕ) (steps : ℕ) (rows : List Row) (ending : Ending) → Spelled bytes rows → CertCarriesCode code rows
     → ((typing : Typing) → (t : IsTyping (word_method code) typing) → EndsAs ending (runtime_call (word_method code) t.listing steps (first_frame (word_method code))))
     → IsAnswer (answer_to ending) code bytes steps
 for_ending code bytes steps rows ending spelled carried so =
     let t = typed (word_method code) carried.states carried.carried in
     let ground : Ground code bytes = record { rows = rows; spelled = spelled.spells; carried = carried; typing = carried.carried.typing; typed = t } in
     is_answer (answer_to ending) code bytes steps (answered code bytes steps ground ending _ refl (so carried.carried.typing t)) (λ none m. absurd (none rows spelled.spells))
-    (λ others s no m. absurd (no (subst (CarriesCode code) (spelled.only others s) carried))) (λ others s is m. ending_tells ending)
+    (λ others s no m. absurd (no (subst (CertCarriesCode code) (spelled.only others s) carried))) (λ others s is m. ending_tells ending)

@@ -2,11 +2,11 @@
 -- with the given steps.
 use Rattle.std.specs.Prelude.{◌≡◌, ◌≢◌, ℕ, ℤ, List, Bool, true, false}
 use Rattle.jc_base.specs.declared.reason.Reason.{Reason}
-use Rattle.jc_cert.specs.Rows.{Row, IsCert}
-use Rattle.jc_cert.specs.Spelling.{spelling}
+use Rattle.jc_cert.specs.Cert.{Row, IsCert}
+use Rattle.jc_cert.specs.Writing.{spelling}
 use Rattle.jc_code.specs.Listing.{Placed, IsListing}
 use Rattle.jc_check.specs.Method.{word_method, states_of}
-use Rattle.jc_check.specs.Carried.{CarriesCode}
+use Rattle.jc_check.specs.Carried.{CertCarriesCode}
 use Rattle.jc_check.specs.FirstFault.{fault_at, IsFirstFaultOf}
 use Rattle.jcard.specs.declared.answer.EvalAnswer.{EvalAnswer}
 use Rattle.jcard.specs.declared.answer.EvalAnswer.TheVariants.{Value, Throws, Refused, BadCertificate, StepsUsedUp, Memory}
@@ -32,7 +32,7 @@ pub record HasFirstFault (code bytes : List ℕ) (pc : ℕ) (reason : Reason) : 
 pub record RunEnds (code bytes : List ℕ) (steps : ℕ) (end : machine.RunEnd) : Type 0 where
   pub rows : List Row
   pub spelled : SpellsCert bytes rows
-  pub carried : CarriesCode code rows
+  pub carried : CertCarriesCode code rows
   pub listing : List Placed
   pub whole : IsListing code listing
   pub run : machine.runtime_call (word_method code) listing steps (machine.first_frame (word_method code)) ≡ end
@@ -72,5 +72,5 @@ pub record IsAnswer (answer : EvalAnswer) (code bytes : List ℕ) (steps : ℕ) 
   -- and when each comes, unless memory was wanting: bytes that spell none, a certificate that doesn't carry the code,
   -- and one that does
   pub unspelled : SpellsNone bytes → answer ≢ Memory → answer ≡ BadCertificate
-  pub uncarried : (rows : List Row) → SpellsCert bytes rows → (CarriesCode code rows → ⊥) → answer ≢ Memory → tells_fault answer ≡ true
-  pub carried : (rows : List Row) → SpellsCert bytes rows → CarriesCode code rows → answer ≢ Memory → tells_end answer ≡ true
+  pub uncarried : (rows : List Row) → SpellsCert bytes rows → (CertCarriesCode code rows → ⊥) → answer ≢ Memory → tells_fault answer ≡ true
+  pub carried : (rows : List Row) → SpellsCert bytes rows → CertCarriesCode code rows → answer ≢ Memory → tells_end answer ≡ true

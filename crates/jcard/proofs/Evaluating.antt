@@ -9,7 +9,7 @@ use Rattle.jcard.specs.declared.answer.EvalAnswer.{EvalAnswer}
 use Rattle.jcard.specs.declared.run.Ending.{Ending}
 use Rattle.jcard.specs.declared.run.Ending.TheVariants as endings
 use Rattle.jcard.specs.Tagged.{Word, Ref, Null, Unset, RunEnd, Gave, Threw, UsedUp, IsStuck, ArithmeticException, runtime_call, first_frame}
-use Rattle.jcard.specs.Runs.{EndsAs, AnswersEnding}
+use Rattle.jcard.specs.PrivateRuns.{EndsAs, AnswersEnding}
 use Rattle.jcard.specs.Answers.{Answers, Spells, RunEnds}
 use Rattle.jcard.proofs.Running.{EndsSo}
 
@@ -29,7 +29,7 @@ answered : (code bytes : List ℕ) (steps : ℕ) (g : Ground code bytes) (ending
 answered code bytes steps g (endings.Gave word) answer (Gave (Word n)) a e same =
     let A : EvalAnswer → Type 0 = λ x. Answers x code bytes steps in
     subst A (sym a) (word, refl, ends code bytes steps g (Gave (Word word)) (e ∙ ap (λ k. Gave (Word k)) (sym same)))
-answered code bytes steps g endings.Threw answer (Threw ArithmeticException) a e same =
+answered code bytes steps g (endings.Threw ArithmeticException) answer (Threw ArithmeticException) a e same =
     let A : EvalAnswer → Type 0 = λ x. Answers x code bytes steps in
     subst A (sym a) (ends code bytes steps g (Threw ArithmeticException) e)
 answered code bytes steps g endings.UsedUp answer UsedUp a e same =
@@ -41,9 +41,9 @@ answered code bytes steps g (endings.Gave word) answer (Gave Unset) a e same = e
 answered code bytes steps g (endings.Gave word) answer (Threw exception) a e same = elim same [ ]
 answered code bytes steps g (endings.Gave word) answer UsedUp a e same = elim same [ ]
 answered code bytes steps g (endings.Gave word) answer IsStuck a e same = elim same [ ]
-answered code bytes steps g endings.Threw answer (Gave value) a e same = elim same [ ]
-answered code bytes steps g endings.Threw answer UsedUp a e same = elim same [ ]
-answered code bytes steps g endings.Threw answer IsStuck a e same = elim same [ ]
+answered code bytes steps g (endings.Threw exception) answer (Gave value) a e same = elim same [ ]
+answered code bytes steps g (endings.Threw exception) answer UsedUp a e same = elim same [ ]
+answered code bytes steps g (endings.Threw exception) answer IsStuck a e same = elim same [ ]
 answered code bytes steps g endings.UsedUp answer (Gave value) a e same = elim same [ ]
 answered code bytes steps g endings.UsedUp answer (Threw exception) a e same = elim same [ ]
 answered code bytes steps g endings.UsedUp answer IsStuck a e same = elim same [ ]

@@ -2,8 +2,8 @@ pub mod Shorts
 pub mod Tagged
 pub mod Answers
 pub mod Lines
-pub mod Words
-pub mod Agree
-pub mod Runs
+pub mod PrivateWords
+pub mod PrivateAgree
+pub mod PrivateRuns
 pub mod Jobs
 pub mod Texts

@@ -2,9 +2,10 @@
 
 ghost use Rattle.std.specs.Prelude.{◌<◌, ◌^◌, length};
 ghost use Rattle.jcard.specs.Answers.{Answers};
-ghost use Rattle.jcard.specs.Runs.{AnswersEnding};
+ghost use Rattle.jcard.specs.PrivateRuns.{AnswersEnding};
 
 use crate::answer::EvalAnswer;
+use crate::exception::Exception;
 use crate::run::{Ending, run};
 use jc_base::LoadFault;
 use jc_check::{WordFault, check_words};
@@ -15,7 +16,7 @@ fn ending_answer(ending: Ending) -> EvalAnswer
 {
     match ending {
         Ending::Gave(word) => EvalAnswer::Value(word.cast_signed()),
-        Ending::Threw => EvalAnswer::Throws,
+        Ending::Threw(Exception::ArithmeticException) => EvalAnswer::Throws,
         Ending::UsedUp => EvalAnswer::StepsUsedUp,
     }
 }

@@ -14,20 +14,21 @@ use Rattle.jc_types.specs.State.{Types}
 use Rattle.jc_step.specs.Effect.{effect_of}
 use Rattle.jc_check.specs.Method.{Method}
 use Rattle.jc_check.specs.Typing.{Typing, BranchLeads}
-use Rattle.jcard.specs.Shorts.{short, word_of, holds}
+use Rattle.std.specs.Ordering.{int_eq}
+use Rattle.jcard.specs.Shorts.{short, holds}
 use Rattle.jcard.specs.Tagged.{TaggedValue, Frame, goes, jumps, stable_offset, lookup_offset, act}
-use Rattle.jcard.specs.Words.{Words, runs, place}
-use Rattle.jcard.specs.Agree.{Pointwise, HasType, Simulates}
+use Rattle.jcard.specs.PrivateWords.{UntaggedFrame, continues, pc_of}
+use Rattle.jcard.specs.PrivateAgree.{Pointwise, HasType, IsOperand, Simulates}
 use Rattle.jcard.proofs.Taking.{takes_one, takes_two}
 use Rattle.jcard.proofs.Simulation.{goes_on, jumps_on, Owes, owes_at, Known}
 
 -- taken or not, both sides go the same way
-either_way : (typing : Typing) (b : Bool) (to : ℤ) (next : ℕ) (wl ws : List ℕ) (vl vs : List TaggedValue) → Simulates typing (runs (place to) wl ws) (jumps to vl vs) → Simulates typing (runs next wl ws) (goes next vl vs)
-    → Simulates typing (runs (cond b (place to) next) wl ws) (cond b (jumps to vl vs) (goes next vl vs))
+either_way : (typing : Typing) (b : Bool) (to : ℤ) (next : ℕ) (wl ws : List ℕ) (vl vs : List TaggedValue) → Simulates typing (continues (pc_of to) wl ws) (jumps to vl vs) → Simulates typing (continues next wl ws) (goes next vl vs)
+    → Simulates typing (continues (cond b (pc_of to) next) wl ws) (cond b (jumps to vl vs) (goes next vl vs))
 either_way typing true to next wl ws vl vs taken falls = taken
 either_way typing false to next wl ws vl vs taken falls = falls
 
-pub branch_owes : (m : Method) (typing : Typing) (x : Placed) (when : When) (offset : ℤ) (w : Words) (f : Frame) (s after : Types) → Known m typing x (Branch when offset) w f s after → Owes m typing x (Branch when offset) w f
+pub branch_owes : (m : Method) (typing : Typing) (x : Placed) (when : When) (offset : ℤ) (w : UntaggedFrame) (f : Frame) (s after : Types) → Known m typing x (Branch when offset) w f s after → Owes m typing x (Branch when offset) w f
 unfolding effect_of act
 branch_owes m typing x Always offset w f s after k =
     let same : s ≡ after = the_ok s after k.effect in
@@ -63,13 +64,13 @@ stable_there P pc default low offsets key d h = by (int_lt key low)
 lookup_there : (P : ℤ → Type 0) (pc : ℕ) (default : ℤ) (cases : List Case) (key : ℤ) → P (target_of pc default) → AllByRecursion P (map (target_of pc) (map (λ (c : Case). c.offset) cases)) → P (target_of pc (lookup_offset default cases key))
 unfolding lookup_offset
 lookup_there P pc default [] key d h = d
-lookup_there P pc default (c ∷ cs) key d h = by (word_of c.key == word_of key) (lookup_there P pc default cs key d h.1)
+lookup_there P pc default (c ∷ cs) key d h = by (int_eq c.key key) (lookup_there P pc default cs key d h.1)
   where
     by : (b : Bool) → P (target_of pc (lookup_offset default cs key)) → P (target_of pc (cond b c.offset (lookup_offset default cs key)))
     by true later = h.0
     by false later = later
 
-pub stable_owes : (m : Method) (typing : Typing) (x : Placed) (default low : ℤ) (offsets : List ℤ) (w : Words) (f : Frame) (s after : Types) → Known m typing x (StableSwitch default low offsets) w f s after → Owes m typing x (StableSwitch default low offsets) w f
+pub stable_owes : (m : Method) (typing : Typing) (x : Placed) (default low : ℤ) (offsets : List ℤ) (w : UntaggedFrame) (f : Frame) (s after : Types) → Known m typing x (StableSwitch default low offsets) w f s after → Owes m typing x (StableSwitch default low offsets) w f
 unfolding effect_of act
 stable_owes m typing x default low offsets w f s after k =
     let t = takes_one w.operands f.operands s after k.read_operands k.operands k.effect in
@@ -78,7 +79,7 @@ stable_owes m typing x default low offsets w f s after k =
     let j = jumps_on typing (target_of x.pc (stable_offset default low offsets (short t.word))) w.locals t.words f.locals t.values after k.read_locals t.read (subst L t.locals k.locals) t.typed b in
     owes_at m typing x (StableSwitch default low offsets) w f _ _ t.words_are t.values_are ((omega arith, j.0), j.1)
 
-pub lookup_owes : (m : Method) (typing : Typing) (x : Placed) (default : ℤ) (cases : List Case) (w : Words) (f : Frame) (s after : Types) → Known m typing x (LookupSwitch default cases) w f s after → Owes m typing x (LookupSwitch default cases) w f
+pub lookup_owes : (m : Method) (typing : Typing) (x : Placed) (default : ℤ) (cases : List Case) (w : UntaggedFrame) (f : Frame) (s after : Types) → Known m typing x (LookupSwitch default cases) w f s after → Owes m typing x (LookupSwitch default cases) w f
 unfolding effect_of act
 lookup_owes m typing x default cases w f s after k =
     let t = takes_one w.operands f.operands s after k.read_operands k.operands k.effect in

@@ -2,16 +2,15 @@
 use Rattle.std.proofs.Common.{◌≡◌, ℕ, List, true, refl, sym, ap, ◌∙◌, subst}
 use Rattle.std.specs.Prelude.{⊤, ◌≢◌}
 use Rattle.jc_check.specs.Method.{word_method}
-use Rattle.jc_check.specs.Typing.{Typing, IsTyping}
+use Rattle.jc_check.specs.Typing.{Typing, IsTyping, IsWellTyped}
 use Rattle.jc_check.specs.Carried.{CertCarriesCode}
-use Rattle.jc_check.proofs.Typed.{typed}
 use Rattle.jc_cert.specs.Cert.{Row}
 use Rattle.jcard.specs.declared.answer.EvalAnswer.{EvalAnswer}
 use Rattle.jcard.specs.declared.answer.EvalAnswer.TheVariants.{Value, Throws, Refused, BadCertificate, StepsUsedUp, Memory}
 use Rattle.jcard.specs.declared.run.Ending.{Ending}
 use Rattle.jcard.specs.declared.run.Ending.TheVariants as endings
 use Rattle.jcard.specs.Tagged.{Word, Ref, Null, Unset, RunEnd, Gave, Threw, UsedUp, IsStuck, ArithmeticException, runtime_call, first_frame}
-use Rattle.jcard.specs.Runs.{EndsAs}
+use Rattle.jcard.specs.PrivateRuns.{EndsAs}
 use Rattle.jcard.specs.Eval.{SpellsCert, SpellsNone, HasFirstFault, RunEnds, RunGives, IsAnswer, tells_fault, tells_end}
 use Rattle.jcard.specs.PrivateEval.{answer_to}
 
@@ -62,7 +61,7 @@ ends code bytes steps g end e = record { rows = g.rows; spelled = g.spelled; car
 answered : (code bytes : List ℕ) (steps : ℕ) (g : Ground code bytes) (ending : Ending) (end : RunEnd)
     → runtime_call (word_method code) g.typed.listing steps (first_frame (word_method code)) ≡ end → EndsAs ending end → Means (answer_to ending) code bytes steps
 answered code bytes steps g (endings.Gave word) (Gave (Word n)) e same = record { word = word; is = refl; ends = ends code bytes steps g (Gave (Word word)) (e ∙ ap (λ k. Gave (Word k)) (sym same)) }
-answered code bytes steps g endings.Threw (Threw ArithmeticException) e same = ends code bytes steps g (Threw ArithmeticException) e
+answered code bytes steps g (endings.Threw ArithmeticException) (Threw ArithmeticException) e same = ends code bytes steps g (Threw ArithmeticException) e
 answered code bytes steps g endings.UsedUp UsedUp e same = ends code bytes steps g UsedUp e
 answered code bytes steps g (endings.Gave word) (Gave (Ref object)) e same = elim same [ ]
 answered code bytes steps g (endings.Gave word) (Gave Null) e same = elim same [ ]
@@ -70,24 +69,23 @@ answered code bytes steps g (endings.Gave word) (Gave Unset) e same = elim same 
 answered code bytes steps g (endings.Gave word) (Threw exception) e same = elim same [ ]
 answered code bytes steps g (endings.Gave word) UsedUp e same = elim same [ ]
 answered code bytes steps g (endings.Gave word) IsStuck e same = elim same [ ]
-answered code bytes steps g endings.Threw (Gave value) e same = elim same [ ]
-answered code bytes steps g endings.Threw UsedUp e same = elim same [ ]
-answered code bytes steps g endings.Threw IsStuck e same = elim same [ ]
+answered code bytes steps g (endings.Threw exception) (Gave value) e same = elim same [ ]
+answered code bytes steps g (endings.Threw exception) UsedUp e same = elim same [ ]
+answered code bytes steps g (endings.Threw exception) IsStuck e same = elim same [ ]
 answered code bytes steps g endings.UsedUp (Gave value) e same = elim same [ ]
 answered code bytes steps g endings.UsedUp (Threw exception) e same = elim same [ ]
 answered code bytes steps g endings.UsedUp IsStuck e same = elim same [ ]
 
 ending_tells : (ending : Ending) → tells_end (answer_to ending) ≡ true
 ending_tells (endings.Gave word) = refl
-ending_tells endings.Threw = refl
+ending_tells (endings.Threw ArithmeticException) = refl
 ending_tells endings.UsedUp = refl
 
 -- the end of a run of code that is carried
-pub for_ending : (code bytes : List ℕ) (steps : ℕ) (rows : List Row) (ending : Ending) → Spelled bytes rows → CertCarriesCode code rows
+pub for_ending : (code bytes : List ℕ) (steps : ℕ) (rows : List Row) (ending : Ending) → Spelled bytes rows → CertCarriesCode code rows → IsWellTyped code
     → ((typing : Typing) → (t : IsTyping (word_method code) typing) → EndsAs ending (runtime_call (word_method code) t.listing steps (first_frame (word_method code))))
     → IsAnswer (answer_to ending) code bytes steps
-for_ending code bytes steps rows ending spelled carried so =
-    let t = typed (word_method code) carried.states carried.carried in
-    let ground : Ground code bytes = record { rows = rows; spelled = spelled.spells; carried = carried; typing = carried.carried.typing; typed = t } in
-    is_answer (answer_to ending) code bytes steps (answered code bytes steps ground ending _ refl (so carried.carried.typing t)) (λ none m. absurd (none rows spelled.spells))
+for_ending code bytes steps rows ending spelled carried well so =
+    let ground : Ground code bytes = record { rows = rows; spelled = spelled.spells; carried = carried; typing = well.typing; typed = well.typed } in
+    is_answer (answer_to ending) code bytes steps (answered code bytes steps ground ending _ refl (so well.typing well.typed)) (λ none m. absurd (none rows spelled.spells))
     (λ others s no m. absurd (no (subst (CertCarriesCode code) (spelled.only others s) carried))) (λ others s is m. ending_tells ending)

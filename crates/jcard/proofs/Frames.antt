@@ -2,12 +2,12 @@
 use Rattle.std.proofs.Common.{◌≡◌, ℕ, ◌-◌, ◌≤◌, List, length, take, drop, reverse, ap, ◌∙◌, arith}
 use Rattle.std.proofs.lemmas.List.{length-reverse, length-take-le}
 use Rattle.jc_base.proofs.StackViews.{dropped}
-use Rattle.jcard.specs.Words.{Words}
+use Rattle.jcard.specs.PrivateWords.{UntaggedFrame}
 
-abbrev made : ℕ → List ℕ → List ℕ → Words
+abbrev made : ℕ → List ℕ → List ℕ → UntaggedFrame
 made pc locals operands = record { pc = pc; locals = locals; operands = operands }
 
-abbrev pub frame_of : ℕ → List ℕ → ℕ → List ℕ → Words
+abbrev pub frame_of : ℕ → List ℕ → ℕ → List ℕ → UntaggedFrame
 frame_of pc locals depth slots = record { pc = pc; locals = locals; operands = reverse (take depth slots) }
 
 pub fewer : (pc : ℕ) (locals slots : List ℕ) (depth count : ℕ) → depth ≤ 8 → length slots ≡ 8 → count ≤ length (reverse (take depth slots)) → frame_of pc locals (depth - count) slots ≡ record (frame_of pc locals depth slots) { operands = drop count (reverse (take depth slots)) }

@@ -1,6 +1,8 @@
 -- The operations on operands: moved, computed with, and returned.
-use Rattle.std.proofs.Common.{◌≡◌, ℕ, ◌+◌, ◌≤◌, ◌<◌, List, [], ◌∷◌, length, drop, nat_lt, max, Option, Some, None, Ok, Err, true, cond, refl, sym, subst, arith}
+use Rattle.std.proofs.Common.{◌≡◌, ℕ, ◌+◌, ◌≤◌, ◌<◌, List, [], ◌∷◌, length, drop, nat_lt, max, Option, Some, None, Result, Ok, Err, true, cond, refl, sym, subst, arith}
 use Rattle.std.proofs.lemmas.Bool.{ltb-false, le-ltb}
+use Rattle.std.specs.Prelude.{⊤}
+use Rattle.jc_base.specs.declared.reason.Reason.{Reason}
 use Rattle.jc_base.specs.declared.reason.Reason.TheVariants.{StackUnder, StackOver}
 use Rattle.jc_base.proofs.Binding.{bind_ok, guard_ok, the_ok}
 use Rattle.jc_base.specs.Stack.{duplicated, swapped}
@@ -19,53 +21,53 @@ use Rattle.jc_step.specs.Effect.{fits, fits_result, effect_of}
 use Rattle.jc_check.specs.Method.{Method}
 use Rattle.jc_check.specs.Typing.{Typing, Leads}
 use Rattle.jcard.specs.Shorts.{binary_of, unary_of}
-use Rattle.jcard.specs.Tagged.{TaggedValue, Word, Frame, goes, pushed, on_result, is_result, act}
-use Rattle.jcard.specs.Words.{Words, runs, result_of, moved}
-use Rattle.jcard.specs.Agree.{Pointwise, Reads, HasType, Simulates}
-use Rattle.jcard.proofs.Points.{point_length, point_drop, point_duplicated, point_swapped}
+use Rattle.jcard.specs.Tagged.{TaggedValue, Word, Frame, goes, pushed, on_result, on_fitting, act, Returns}
+use Rattle.jcard.specs.PrivateWords.{UntaggedFrame, continues, result_of, moved, Yields}
+use Rattle.jcard.specs.PrivateAgree.{Pointwise, WithoutTag, HasType, IsOperand, Simulates}
+use Rattle.jcard.proofs.Points.{point_length, point_drop, point_duplicated, point_swapped, written}
 use Rattle.jcard.proofs.Taking.{under, takes_one, takes_two}
 use Rattle.jcard.proofs.Simulation.{goes_on, pushes, Owes, owes_at, Known}
 
 -- operands that were moved on both sides
-moves : (m : Method) (typing : Typing) (x : Placed) (shuffle : shuffles.Shuffle) (w : Words) (f : Frame) (s after : Types) → Known m typing x (Shuffle shuffle) w f s after → (vs : List TaggedValue) → (ts : List Ty)
-    → Pointwise Reads (moved shuffle w.operands) vs → Pointwise HasType vs ts → with_operands s ts ≡ after → Simulates typing (runs x.instr.next_pc w.locals (moved shuffle w.operands)) (goes x.instr.next_pc f.locals vs)
+moves : (m : Method) (typing : Typing) (x : Placed) (shuffle : shuffles.Shuffle) (w : UntaggedFrame) (f : Frame) (s after : Types) → Known m typing x (Shuffle shuffle) w f s after → (vs : List TaggedValue) → (ts : List Ty)
+    → Pointwise WithoutTag (moved shuffle w.operands) vs → Pointwise IsOperand vs ts → with_operands s ts ≡ after → Simulates typing (continues x.instr.next_pc w.locals (moved shuffle w.operands)) (goes x.instr.next_pc f.locals vs)
 moves m typing x shuffle w f s after k vs ts r t e =
     let L : Types → Type 0 = λ y. Leads typing y x.instr.next_pc in
     goes_on typing x.instr.next_pc w.locals (moved shuffle w.operands) f.locals vs (with_operands s ts) k.read_locals r k.locals t (subst L (sym e) (k.falls refl))
 
-pub shuffle_owes : (m : Method) (typing : Typing) (x : Placed) (shuffle : shuffles.Shuffle) (w : Words) (f : Frame) (s after : Types) → Known m typing x (Shuffle shuffle) w f s after → Owes m typing x (Shuffle shuffle) w f
+pub shuffle_owes : (m : Method) (typing : Typing) (x : Placed) (shuffle : shuffles.Shuffle) (w : UntaggedFrame) (f : Frame) (s after : Types) → Known m typing x (Shuffle shuffle) w f s after → Owes m typing x (Shuffle shuffle) w f
 unfolding effect_of act drop_types duplicate_types swap_types
 shuffle_owes m typing x (Pop n) w f s after k =
     let u = under (nat_lt (length s.operands) n) (Ok (with_operands s (drop n s.operands))) StackUnder after k.effect in
     let le : n ≤ length s.operands = ltb-false (length s.operands) n u.0 in
-    let a : length f.operands ≡ length s.operands = point_length HasType f.operands s.operands k.operands in
-    let b : length w.operands ≡ length f.operands = point_length Reads w.operands f.operands k.read_operands in
-    let go = moves m typing x (Pop n) w f s after k (drop n f.operands) (drop n s.operands) (point_drop Reads n w.operands f.operands k.read_operands) (point_drop HasType n f.operands s.operands k.operands) (the_ok _ _ u.1) in
-    (omega arith, rw (le-ltb (length f.operands) n (omega arith)) go)
+    let a : length f.operands ≡ length s.operands = point_length IsOperand f.operands s.operands k.operands in
+    let b : length w.operands ≡ length f.operands = point_length WithoutTag w.operands f.operands k.read_operands in
+    let go = moves m typing x (Pop n) w f s after k (drop n f.operands) (drop n s.operands) (point_drop WithoutTag n w.operands f.operands k.read_operands) (point_drop IsOperand n f.operands s.operands k.operands) (the_ok _ _ u.1) in
+    (omega arith, rw (le-ltb (length f.operands) n (omega arith), written n f.operands s.operands k.operands) go)
 shuffle_owes m typing x (Duplicate n d) w f s after k =
     let u = under (nat_lt (length s.operands) (max n d)) (cond (nat_lt m.max_stack (length s.operands + n)) (Err StackOver) (Ok (with_operands s (duplicated n d s.operands)))) StackUnder after k.effect in
     let v = under (nat_lt m.max_stack (length s.operands + n)) (Ok (with_operands s (duplicated n d s.operands))) StackOver after u.1 in
     let le : max n d ≤ length s.operands = ltb-false (length s.operands) (max n d) u.0 in
     let fits : length s.operands + n ≤ m.max_stack = ltb-false m.max_stack (length s.operands + n) v.0 in
-    let a : length f.operands ≡ length s.operands = point_length HasType f.operands s.operands k.operands in
-    let b : length w.operands ≡ length f.operands = point_length Reads w.operands f.operands k.read_operands in
-    let go = moves m typing x (Duplicate n d) w f s after k (duplicated n d f.operands) (duplicated n d s.operands) (point_duplicated Reads n d w.operands f.operands k.read_operands) (point_duplicated HasType n d f.operands s.operands k.operands) (the_ok _ _ v.1) in
-    ((omega arith, omega arith, omega arith), rw (le-ltb (length f.operands) (max n d) (omega arith), le-ltb m.max_stack (length f.operands + n) (omega arith)) go)
+    let a : length f.operands ≡ length s.operands = point_length IsOperand f.operands s.operands k.operands in
+    let b : length w.operands ≡ length f.operands = point_length WithoutTag w.operands f.operands k.read_operands in
+    let go = moves m typing x (Duplicate n d) w f s after k (duplicated n d f.operands) (duplicated n d s.operands) (point_duplicated WithoutTag n d w.operands f.operands k.read_operands) (point_duplicated IsOperand n d f.operands s.operands k.operands) (the_ok _ _ v.1) in
+    ((omega arith, omega arith, omega arith), rw (le-ltb (length f.operands) (max n d) (omega arith), written (max n d) f.operands s.operands k.operands, le-ltb m.max_stack (length f.operands + n) (omega arith)) go)
 shuffle_owes m typing x (Swap p q) w f s after k =
     let u = under (nat_lt (length s.operands) (p + q)) (Ok (with_operands s (swapped p q s.operands))) StackUnder after k.effect in
     let le : p + q ≤ length s.operands = ltb-false (length s.operands) (p + q) u.0 in
-    let a : length f.operands ≡ length s.operands = point_length HasType f.operands s.operands k.operands in
-    let b : length w.operands ≡ length f.operands = point_length Reads w.operands f.operands k.read_operands in
-    let go = moves m typing x (Swap p q) w f s after k (swapped p q f.operands) (swapped p q s.operands) (point_swapped Reads p q w.operands f.operands k.read_operands) (point_swapped HasType p q f.operands s.operands k.operands) (the_ok _ _ u.1) in
-    (omega arith, rw (le-ltb (length f.operands) (p + q) (omega arith)) go)
+    let a : length f.operands ≡ length s.operands = point_length IsOperand f.operands s.operands k.operands in
+    let b : length w.operands ≡ length f.operands = point_length WithoutTag w.operands f.operands k.read_operands in
+    let go = moves m typing x (Swap p q) w f s after k (swapped p q f.operands) (swapped p q s.operands) (point_swapped WithoutTag p q w.operands f.operands k.read_operands) (point_swapped IsOperand p q f.operands s.operands k.operands) (the_ok _ _ u.1) in
+    (omega arith, rw (le-ltb (length f.operands) (p + q) (omega arith), written (p + q) f.operands s.operands k.operands) go)
 
 -- a result is pushed, or the exception is thrown on both sides
-results : (typing : Typing) (most pc : ℕ) (wl ws : List ℕ) (vl vs : List TaggedValue) (s after : Types) (o : Option ℕ) → Pointwise Reads wl vl → Pointwise Reads ws vs → Pointwise HasType vl s.locals → Pointwise HasType vs s.operands
-    → push_type most types.Word s ≡ Ok after → Leads typing after pc → (length ws < most) × Simulates typing (result_of o (λ n. runs pc wl (n ∷ ws))) (on_result o (λ n. pushed most (Word n) vs (goes pc vl)))
-results typing most pc wl ws vl vs s after None rl rs tl ts e leads = ((pushes typing most pc wl ws vl vs s after 0 rl rs tl ts e leads).0, tt)
+results : (typing : Typing) (most pc : ℕ) (wl ws : List ℕ) (vl vs : List TaggedValue) (s after : Types) (o : Option ℕ) → Pointwise WithoutTag wl vl → Pointwise WithoutTag ws vs → Pointwise HasType vl s.locals → Pointwise IsOperand vs s.operands
+    → push_type most types.Word s ≡ Ok after → Leads typing after pc → (length ws < most) × Simulates typing (result_of o (λ n. continues pc wl (n ∷ ws))) (on_result o (λ n. pushed most (Word n) vs (goes pc vl)))
+results typing most pc wl ws vl vs s after None rl rs tl ts e leads = ((pushes typing most pc wl ws vl vs s after 0 rl rs tl ts e leads).0, refl)
 results typing most pc wl ws vl vs s after (Some n) rl rs tl ts e leads = pushes typing most pc wl ws vl vs s after n rl rs tl ts e leads
 
-pub binary_owes : (m : Method) (typing : Typing) (x : Placed) (operator : BinaryOperator) (w : Words) (f : Frame) (s after : Types) → Known m typing x (Binary operator) w f s after → Owes m typing x (Binary operator) w f
+pub binary_owes : (m : Method) (typing : Typing) (x : Placed) (operator : BinaryOperator) (w : UntaggedFrame) (f : Frame) (s after : Types) → Known m typing x (Binary operator) w f s after → Owes m typing x (Binary operator) w f
 unfolding effect_of act
 binary_owes m typing x operator w f s after k =
     let one = bind_ok (take_types (types.Word ∷ types.Word ∷ []) s) _ after k.effect in
@@ -74,7 +76,7 @@ binary_owes m typing x operator w f s after k =
     let p = results typing m.max_stack x.instr.next_pc w.locals t.words f.locals t.values one.0 after (binary_of operator t.lower t.upper) k.read_locals t.read (subst L t.locals k.locals) t.typed one.2 (k.falls refl) in
     owes_at m typing x (Binary operator) w f _ _ t.words_are t.values_are ((omega arith, omega arith, p.0), p.1)
 
-pub unary_owes : (m : Method) (typing : Typing) (x : Placed) (operator : UnaryOperator) (w : Words) (f : Frame) (s after : Types) → Known m typing x (Unary operator) w f s after → Owes m typing x (Unary operator) w f
+pub unary_owes : (m : Method) (typing : Typing) (x : Placed) (operator : UnaryOperator) (w : UntaggedFrame) (f : Frame) (s after : Types) → Known m typing x (Unary operator) w f s after → Owes m typing x (Unary operator) w f
 unfolding effect_of act
 unary_owes m typing x operator w f s after k =
     let one = bind_ok (take_types (types.Word ∷ []) s) _ after k.effect in
@@ -83,16 +85,15 @@ unary_owes m typing x operator w f s after k =
     let p = pushes typing m.max_stack x.instr.next_pc w.locals t.words f.locals t.values one.0 after (unary_of operator t.word) k.read_locals t.read (subst L t.locals k.locals) t.typed one.2 (k.falls refl) in
     owes_at m typing x (Unary operator) w f _ _ t.words_are t.values_are ((omega arith, p.0), p.1)
 
--- a word is wanted where the effect says so
-result_wanted : (o : Option Ty) → fits_result o ≡ Ok tt → is_result o ≡ true
-unfolding fits_result fits
-result_wanted None h = absurd cc
-result_wanted (Some t) h = (guard_ok (is_below types.Word t) (Ok tt) _ tt h).0
+-- a word is returned where the effect finds that it fits
+returned : (typing : Typing) (r : Result ⊤ Reason) (n : ℕ) → r ≡ Ok tt → Simulates typing (Yields n) (on_fitting r (Returns (Word n)))
+returned typing (Ok _) n e = refl
+returned typing (Err reason) n e = absurd cc
 
-pub return_owes : (m : Method) (typing : Typing) (x : Placed) (w : Words) (f : Frame) (s after : Types) → Known m typing x ReturnWord w f s after → Owes m typing x ReturnWord w f
+pub return_owes : (m : Method) (typing : Typing) (x : Placed) (w : UntaggedFrame) (f : Frame) (s after : Types) → Known m typing x ReturnWord w f s after → Owes m typing x ReturnWord w f
 unfolding effect_of act
 return_owes m typing x w f s after k =
     let one = bind_ok (take_types (types.Word ∷ []) s) _ after k.effect in
     let two = bind_ok (fits_result m.returned) _ after one.2 in
     let t = takes_one w.operands f.operands s one.0 k.read_operands k.operands one.1 in
-    owes_at m typing x ReturnWord w f _ _ t.words_are t.values_are (omega arith, rw (result_wanted m.returned two.1) refl)
+    owes_at m typing x ReturnWord w f _ _ t.words_are t.values_are (omega arith, returned typing (fits_result m.returned) t.word two.1)

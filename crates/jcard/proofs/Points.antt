@@ -8,8 +8,8 @@ use Rattle.jc_types.specs.declared.ty.Ty.TheVariants as types
 use Rattle.jc_types.specs.Ty.{is_below}
 use Rattle.jc_types.specs.State.{all_below}
 use Rattle.jc_base.proofs.Binding.{both_true}
-use Rattle.jcard.specs.Tagged.{TaggedValue, Word, Ref, Null, Unset}
-use Rattle.jcard.specs.Agree.{Pointwise, HasType}
+use Rattle.jcard.specs.Tagged.{TaggedValue, Word, Ref, Null, Unset, all_written}
+use Rattle.jcard.specs.PrivateAgree.{Pointwise, HasType, IsOperand}
 
 pub point_length : {A B : Type 0} (R : A → B → Type 0) (xs : List A) (ys : List B) → Pointwise R xs ys → length xs ≡ length ys
 point_length R [] [] h = refl
@@ -72,16 +72,30 @@ wider v types.Top types.Null h b = absurd cc
 wider v types.Word types.Null h b = absurd cc
 wider v types.Null types.Word h b = absurd cc
 
+-- what is in such a relation to types is so to the types above them
+widen_by : (R : TaggedValue → Ty → Type 0) → ((v : TaggedValue) (t u : Ty) → R v t → is_below t u ≡ true → R v u) → (vs : List TaggedValue) (ts us : List Ty) → Pointwise R vs ts → all_below ts us ≡ true → Pointwise R vs us
+widen_by R up [] [] [] h b = tt
+widen_by R up (v ∷ vs) (t ∷ ts) (u ∷ us) h b =
+    let p = both_true (is_below t u) (all_below ts us) b in
+    (up v t u h.0 p.0, widen_by R up vs ts us h.1 p.1)
+widen_by R up [] [] (u ∷ us) h b = absurd cc
+widen_by R up [] (t ∷ ts) us h b = absurd h
+widen_by R up (v ∷ vs) [] us h b = absurd h
+widen_by R up (v ∷ vs) (t ∷ ts) [] h b = absurd cc
+
 -- values of types have the types above them
 pub widen : (vs : List TaggedValue) (ts us : List Ty) → Pointwise HasType vs ts → all_below ts us ≡ true → Pointwise HasType vs us
-widen [] [] [] h b = tt
-widen (v ∷ vs) (t ∷ ts) (u ∷ us) h b =
-    let p = both_true (is_below t u) (all_below ts us) b in
-    (wider v t u h.0 p.0, widen vs ts us h.1 p.1)
-widen [] [] (u ∷ us) h b = absurd cc
-widen [] (t ∷ ts) us h b = absurd h
-widen (v ∷ vs) [] us h b = absurd h
-widen (v ∷ vs) (t ∷ ts) [] h b = absurd cc
+widen vs ts us h b = widen_by HasType wider vs ts us h b
+
+pub widen_operands : (vs : List TaggedValue) (ts us : List Ty) → Pointwise IsOperand vs ts → all_below ts us ≡ true → Pointwise IsOperand vs us
+widen_operands vs ts us h b = widen_by IsOperand (λ v t u k below. (wider v t u k.0 below, k.1)) vs ts us h b
+
+-- operands were written
+pub written : (n : ℕ) (vs : List TaggedValue) (ts : List Ty) → Pointwise IsOperand vs ts → all_written (take n vs) ≡ true
+written zero vs ts h = refl
+written (suc n) [] ts h = refl
+written (suc n) (v ∷ vs) [] h = absurd h
+written (suc n) (v ∷ vs) (t ∷ ts) h = rw h.0.1 (written n vs ts h.1)
 
 -- what is of a type below Word is a word
 pub as_word : (v : TaggedValue) (t : Ty) → HasType v t → is_below t types.Word ≡ true → (n : ℕ) × (v ≡ Word n)

@@ -8,107 +8,102 @@ use Rattle.jc_code.specs.declared.instr.Instr.{Instr}
 use Rattle.jc_code.specs.Decoding.{instr_at}
 use Rattle.jc_code.specs.Listing.{Placed}
 use Rattle.jc_check.specs.Method.{Method, word_method}
-use Rattle.jc_check.specs.Typing.{Typing, IsTyping}
-use Rattle.jc_check.specs.Carried.{IsCarriedBySome}
-use Rattle.jc_check.proofs.Typed.{typed}
+use Rattle.jc_check.specs.Typing.{Typing, IsTyping, IsWellTyped}
+use Rattle.jcard.specs.declared.exception.Exception.{Exception}
 use Rattle.jcard.specs.declared.run.Step.{Step}
 use Rattle.jcard.specs.declared.run.Step.TheVariants as went
 use Rattle.jcard.specs.declared.run.Ending.{Ending}
 use Rattle.jcard.specs.declared.run.Ending.TheVariants as endings
-use Rattle.jcard.specs.Tagged.{Word, Ref, Null, Unset, Frame, Outcome, Next, Returns, Stuck, defensive_step, RunEnd, run_on, runtime_call, first_frame}
-use Rattle.jcard.specs.Tagged as tagged
-use Rattle.jcard.specs.Words.{Words, End, Runs, Gives, Ready, do_operation}
-use Rattle.jcard.specs.Words as words
-use Rattle.jcard.specs.Agree.{Agree, WellTyped, Simulates}
-use Rattle.jcard.specs.Runs.{Ended, Follows, Steps, EndsAs, CanRun}
+use Rattle.jcard.specs.Tagged.{Word, Ref, Null, Unset, Frame, Outcome, Next, Throws, Returns, Stuck, defensive_step, RunEnd, run_on, runtime_call, first_frame}
+use Rattle.jcard.specs.PrivateWords.{UntaggedFrame, UntaggedOutcome, Continues, Raises, Yields, Ready, do_operation}
+use Rattle.jcard.specs.PrivateAgree.{Agree, WellTyped, Simulates}
+use Rattle.jcard.specs.PrivateRuns.{Ended, Follows, FollowsEach, EndsAs, CanRun}
 use Rattle.jcard.proofs.Stepping.{at_step, AtStep, first_agrees, first_typed, first_words}
 
-pub follows : (typing : Typing) (s : Step) (new : Words) (e : End) (out : Outcome) → Ended s new e → Simulates typing e out → Follows typing s new out
-follows typing went.Running new (Runs w) (Next f) is sim = let S : Words → Type 0 = λ u. Agree u f × WellTyped typing f in subst S (sym is) sim
-follows typing went.Thrown new words.Throws (tagged.Throws e) is sim = tt
-follows typing (went.Done word) new (Gives n) (Returns (Word k)) is sim = is ∙ sim
-follows typing went.Running new (Runs w) (tagged.Throws e) is sim = elim sim [ ]
-follows typing went.Running new (Runs w) (Returns value) is sim = elim sim [ ]
-follows typing went.Running new (Runs w) Stuck is sim = elim sim [ ]
-follows typing went.Running new words.Throws out is sim = elim is [ ]
-follows typing went.Running new (Gives n) out is sim = elim is [ ]
-follows typing went.Thrown new (Runs w) out is sim = elim is [ ]
-follows typing went.Thrown new words.Throws (Next f) is sim = elim sim [ ]
-follows typing went.Thrown new words.Throws (Returns value) is sim = elim sim [ ]
-follows typing went.Thrown new words.Throws Stuck is sim = elim sim [ ]
-follows typing went.Thrown new (Gives n) out is sim = elim is [ ]
-follows typing (went.Done word) new (Runs w) out is sim = elim is [ ]
-follows typing (went.Done word) new words.Throws out is sim = elim is [ ]
-follows typing (went.Done word) new (Gives n) (Next f) is sim = elim sim [ ]
-follows typing (went.Done word) new (Gives n) (tagged.Throws e) is sim = elim sim [ ]
-follows typing (went.Done word) new (Gives n) (Returns (Ref object)) is sim = elim sim [ ]
-follows typing (went.Done word) new (Gives n) (Returns Null) is sim = elim sim [ ]
-follows typing (went.Done word) new (Gives n) (Returns Unset) is sim = elim sim [ ]
-follows typing (went.Done word) new (Gives n) Stuck is sim = elim sim [ ]
+pub follows : (typing : Typing) (s : Step) (new : UntaggedFrame) (e : UntaggedOutcome) (out : Outcome) → Ended s new e → Simulates typing e out → Follows typing s new out
+follows typing went.Running new (Continues w) (Next f) is sim = let S : UntaggedFrame → Type 0 = λ u. Agree u f × WellTyped typing f in subst S (sym is) sim
+follows typing (went.Thrown e) new (Raises x) (Throws y) is sim = is ∙ sim
+follows typing (went.Done word) new (Yields n) (Returns (Word k)) is sim = is ∙ sim
+follows typing went.Running new (Continues w) (Throws y) is sim = elim sim [ ]
+follows typing went.Running new (Continues w) (Returns value) is sim = elim sim [ ]
+follows typing went.Running new (Continues w) Stuck is sim = elim sim [ ]
+follows typing went.Running new (Raises x) out is sim = elim is [ ]
+follows typing went.Running new (Yields n) out is sim = elim is [ ]
+follows typing (went.Thrown e) new (Continues w) out is sim = elim is [ ]
+follows typing (went.Thrown e) new (Raises x) (Next f) is sim = elim sim [ ]
+follows typing (went.Thrown e) new (Raises x) (Returns value) is sim = elim sim [ ]
+follows typing (went.Thrown e) new (Raises x) Stuck is sim = elim sim [ ]
+follows typing (went.Thrown e) new (Yields n) out is sim = elim is [ ]
+follows typing (went.Done word) new (Continues w) out is sim = elim is [ ]
+follows typing (went.Done word) new (Raises x) out is sim = elim is [ ]
+follows typing (went.Done word) new (Yields n) (Next f) is sim = elim sim [ ]
+follows typing (went.Done word) new (Yields n) (Throws y) is sim = elim sim [ ]
+follows typing (went.Done word) new (Yields n) (Returns (Ref object)) is sim = elim sim [ ]
+follows typing (went.Done word) new (Yields n) (Returns Null) is sim = elim sim [ ]
+follows typing (went.Done word) new (Yields n) (Returns Unset) is sim = elim sim [ ]
+follows typing (went.Done word) new (Yields n) Stuck is sim = elim sim [ ]
 
-the_ok : (code : List ℕ) (w : Words) (instr other : Instr) → instr_at code w.pc ≡ Ok instr → instr_at code w.pc ≡ Ok other → instr ≡ other
+the_ok : (code : List ℕ) (w : UntaggedFrame) (instr other : Instr) → instr_at code w.pc ≡ Ok instr → instr_at code w.pc ≡ Ok other → instr ≡ other
 the_ok code w instr other a b = binding.the_ok instr other (sym a ∙ b)
 
 -- what a step owes to a frame of words whose instruction is known
-pub record CanStep (code : List ℕ) (w : Words) (instr : Instr) : Type 0 where
+pub record CanStep (code : List ℕ) (w : UntaggedFrame) (instr : Instr) : Type 0 where
   pub ready : Ready 8 w.pc instr.operation w
   pub within : w.pc < length code
 
-same_step : (code : List ℕ) (typing : Typing) (listing : List Placed) (w : Words) (f : Frame) (instr : Instr) → AtStep (word_method code) typing listing w f → instr_at code w.pc ≡ Ok instr → CanStep code w instr × Simulates typing (do_operation w.pc instr.next_pc instr.operation w) (defensive_step (word_method code) listing f)
+same_step : (code : List ℕ) (typing : Typing) (listing : List Placed) (w : UntaggedFrame) (f : Frame) (instr : Instr) → AtStep (word_method code) typing listing w f → instr_at code w.pc ≡ Ok instr → CanStep code w instr × Simulates typing (do_operation w.pc instr.next_pc instr.operation w) (defensive_step (word_method code) listing f)
 same_step code typing listing w f instr a is =
     let e : a.instr ≡ instr = the_ok code w a.instr instr a.stands is in
     let R : Instr → Type 0 = λ i. Ready 8 w.pc i.operation w in
     let S : Instr → Type 0 = λ i. Simulates typing (do_operation w.pc i.next_pc i.operation w) (defensive_step (word_method code) listing f) in
     (record { ready = subst R e a.ready; within = a.within }, subst S e a.simulates)
 
-pub can_step : (code : List ℕ) (w : Words) (instr : Instr) → CanRun code w → instr_at code w.pc ≡ Ok instr → CanStep code w instr
+pub can_step : (code : List ℕ) (w : UntaggedFrame) (instr : Instr) → CanRun code w → instr_at code w.pc ≡ Ok instr → CanStep code w instr
 can_step code w instr c is =
     let real = c.2 in
     (same_step code c.0 c.1.listing w real.0 instr (at_step (word_method code) c.0 c.1 w real.0 real.1 real.2) is).0
 
-pub never_err : (code : List ℕ) (w : Words) (fault : CodeFault) → CanRun code w → instr_at code w.pc ≡ Err fault → ⊥
+pub never_err : (code : List ℕ) (w : UntaggedFrame) (fault : CodeFault) → CanRun code w → instr_at code w.pc ≡ Err fault → ⊥
 never_err code w fault c is =
     let real = c.2 in
     let a = at_step (word_method code) c.0 c.1 w real.0 real.1 real.2 in
     ok_err a.instr fault (sym a.stands ∙ is)
 
-pub steps_on : (code : List ℕ) (w new : Words) (s : Step) (instr : Instr) → instr_at code w.pc ≡ Ok instr → Ended s new (do_operation w.pc instr.next_pc instr.operation w) → Steps code w s new
+pub steps_on : (code : List ℕ) (w new : UntaggedFrame) (s : Step) (instr : Instr) → instr_at code w.pc ≡ Ok instr → Ended s new (do_operation w.pc instr.next_pc instr.operation w) → FollowsEach code w s new
 steps_on code w new s instr is ended typing t f agree well =
     follows typing s new (do_operation w.pc instr.next_pc instr.operation w) (defensive_step (word_method code) t.listing f) ended
     (same_step code typing t.listing w f instr (at_step (word_method code) typing t w f agree well) is).1
 
 -- after so many of a run's steps, this frame of words is the defensive machine's without tags
-pub record Going (code : List ℕ) (done steps : ℕ) (w : Words) (typing : Typing) (t : IsTyping (word_method code) typing) : Type 0 where
+pub record Going (code : List ℕ) (done steps : ℕ) (w : UntaggedFrame) (typing : Typing) (t : IsTyping (word_method code) typing) : Type 0 where
   pub frame : Frame
   pub agree : Agree w frame
   pub well : WellTyped typing frame
   pub rest : runtime_call (word_method code) t.listing (steps - done) frame ≡ runtime_call (word_method code) t.listing steps (first_frame (word_method code))
 
-abbrev pub IsGoing : List ℕ → ℕ → ℕ → Words → Type 0
+abbrev pub IsGoing : List ℕ → ℕ → ℕ → UntaggedFrame → Type 0
 IsGoing code done steps w = (typing : Typing) → (t : IsTyping (word_method code) typing) → Going code done steps w typing t
 
 pub starts : (code : List ℕ) (steps : ℕ) → IsGoing code 0 steps first_words
 starts code steps typing t = record { frame = first_frame (word_method code); agree = first_agrees code; well = first_typed code typing t; rest = simp unary_clauses refl }
 
-pub can_run : (code : List ℕ) (done steps : ℕ) (w : Words) → IsCarriedBySome code → IsGoing code done steps w → CanRun code w
-can_run code done steps w carried going =
-    let c = carried.carried.carried in
-    let t = typed (word_method code) carried.carried.states c in
-    let g = going c.typing t in
-    (c.typing, t, (g.frame, g.agree, g.well))
+pub can_run : (code : List ℕ) (done steps : ℕ) (w : UntaggedFrame) → IsWellTyped code → IsGoing code done steps w → CanRun code w
+can_run code done steps w well going =
+    let g = going well.typing well.typed in
+    (well.typing, well.typed, (g.frame, g.agree, g.well))
 
 one_more : (m : Method) (listing : List Placed) (done steps : ℕ) (f : Frame) → done < steps → runtime_call m listing (steps - done) f ≡ run_on (runtime_call m listing (steps - (done + 1))) (defensive_step m listing f)
 unfolding runtime_call
 one_more m listing done steps f lt = let e : steps - done ≡ suc (steps - (done + 1)) = omega (arith, lt) in rw e refl
 
-goes_on : (m : Method) (listing : List Placed) (typing : Typing) (new : Words) (n : ℕ) (out : Outcome) (total : RunEnd) → Follows typing went.Running new out → run_on (runtime_call m listing n) out ≡ total
+goes_on : (m : Method) (listing : List Placed) (typing : Typing) (new : UntaggedFrame) (n : ℕ) (out : Outcome) (total : RunEnd) → Follows typing went.Running new out → run_on (runtime_call m listing n) out ≡ total
     → (f : Frame) × Agree new f × WellTyped typing f × (runtime_call m listing n f ≡ total)
 goes_on m listing typing new n (Next f) total follows e = (f, follows.0, follows.1, e)
-goes_on m listing typing new n (tagged.Throws x) total follows e = elim follows [ ]
+goes_on m listing typing new n (Throws x) total follows e = elim follows [ ]
 goes_on m listing typing new n (Returns value) total follows e = elim follows [ ]
 goes_on m listing typing new n Stuck total follows e = elim follows [ ]
 
-pub onward : (code : List ℕ) (done steps : ℕ) (w new : Words) → done < steps → IsGoing code done steps w → Steps code w went.Running new → IsGoing code (done + 1) steps new
+pub onward : (code : List ℕ) (done steps : ℕ) (w new : UntaggedFrame) → done < steps → IsGoing code done steps w → FollowsEach code w went.Running new → IsGoing code (done + 1) steps new
 onward code done steps w new lt going step typing t =
     let g = going typing t in
     let m = word_method code in
@@ -119,28 +114,28 @@ onward code done steps w new lt going step typing t =
 abbrev pub EndsSo : Ending → List ℕ → ℕ → Type 0
 EndsSo ending code steps = (typing : Typing) → (t : IsTyping (word_method code) typing) → EndsAs ending (runtime_call (word_method code) t.listing steps (first_frame (word_method code)))
 
-thrown_out : (m : Method) (listing : List Placed) (typing : Typing) (new : Words) (n : ℕ) (out : Outcome) → Follows typing went.Thrown new out → EndsAs endings.Threw (run_on (runtime_call m listing n) out)
-thrown_out m listing typing new n (Next f) follows = elim follows [ ]
-thrown_out m listing typing new n (tagged.Throws x) follows = tt
-thrown_out m listing typing new n (Returns value) follows = elim follows [ ]
-thrown_out m listing typing new n Stuck follows = elim follows [ ]
+thrown_out : (m : Method) (listing : List Placed) (typing : Typing) (new : UntaggedFrame) (e : Exception) (n : ℕ) (out : Outcome) → Follows typing (went.Thrown e) new out → EndsAs (endings.Threw e) (run_on (runtime_call m listing n) out)
+thrown_out m listing typing new e n (Next f) follows = elim follows [ ]
+thrown_out m listing typing new e n (Throws x) follows = follows
+thrown_out m listing typing new e n (Returns value) follows = elim follows [ ]
+thrown_out m listing typing new e n Stuck follows = elim follows [ ]
 
-given_out : (m : Method) (listing : List Placed) (typing : Typing) (new : Words) (word n : ℕ) (out : Outcome) → Follows typing (went.Done word) new out → EndsAs (endings.Gave word) (run_on (runtime_call m listing n) out)
+given_out : (m : Method) (listing : List Placed) (typing : Typing) (new : UntaggedFrame) (word n : ℕ) (out : Outcome) → Follows typing (went.Done word) new out → EndsAs (endings.Gave word) (run_on (runtime_call m listing n) out)
 given_out m listing typing new word n (Next f) follows = elim follows [ ]
-given_out m listing typing new word n (tagged.Throws x) follows = elim follows [ ]
+given_out m listing typing new word n (Throws x) follows = elim follows [ ]
 given_out m listing typing new word n (Returns (Word k)) follows = follows
 given_out m listing typing new word n (Returns (Ref object)) follows = elim follows [ ]
 given_out m listing typing new word n (Returns Null) follows = elim follows [ ]
 given_out m listing typing new word n (Returns Unset) follows = elim follows [ ]
 given_out m listing typing new word n Stuck follows = elim follows [ ]
 
-pub throws : (code : List ℕ) (done steps : ℕ) (w new : Words) → done < steps → IsGoing code done steps w → Steps code w went.Thrown new → EndsSo endings.Threw code steps
-throws code done steps w new lt going step typing t =
+pub throws : (code : List ℕ) (done steps : ℕ) (e : Exception) (w new : UntaggedFrame) → done < steps → IsGoing code done steps w → FollowsEach code w (went.Thrown e) new → EndsSo (endings.Threw e) code steps
+throws code done steps e w new lt going step typing t =
     let g = going typing t in
     let m = word_method code in
-    rw (← g.rest, one_more m t.listing done steps g.frame lt) (thrown_out m t.listing typing new (steps - (done + 1)) (defensive_step m t.listing g.frame) (step typing t g.frame g.agree g.well))
+    rw (← g.rest, one_more m t.listing done steps g.frame lt) (thrown_out m t.listing typing new e (steps - (done + 1)) (defensive_step m t.listing g.frame) (step typing t g.frame g.agree g.well))
 
-pub gives : (code : List ℕ) (done steps word : ℕ) (w new : Words) → done < steps → IsGoing code done steps w → Steps code w (went.Done word) new → EndsSo (endings.Gave word) code steps
+pub gives : (code : List ℕ) (done steps word : ℕ) (w new : UntaggedFrame) → done < steps → IsGoing code done steps w → FollowsEach code w (went.Done word) new → EndsSo (endings.Gave word) code steps
 gives code done steps word w new lt going step typing t =
     let g = going typing t in
     let m = word_method code in
@@ -150,7 +145,7 @@ used_up : (m : Method) (listing : List Placed) (n : ℕ) (f : Frame) → n ≡ 0
 unfolding runtime_call
 used_up m listing n f e = rw e tt
 
-pub uses_up : (code : List ℕ) (done steps : ℕ) (w : Words) → steps ≤ done → IsGoing code done steps w → EndsSo endings.UsedUp code steps
+pub uses_up : (code : List ℕ) (done steps : ℕ) (w : UntaggedFrame) → steps ≤ done → IsGoing code done steps w → EndsSo endings.UsedUp code steps
 uses_up code done steps w le going typing t =
     let g = going typing t in
     rw (← g.rest) (used_up (word_method code) t.listing (steps - done) g.frame (omega (arith, le)))

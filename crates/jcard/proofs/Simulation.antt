@@ -18,21 +18,21 @@ use Rattle.jc_check.specs.Method.{Method}
 use Rattle.jc_check.specs.Typing.{Typing, Leads, BranchLeads}
 use Rattle.jcard.specs.Shorts.{word_of, incremented}
 use Rattle.jcard.specs.Tagged.{TaggedValue, Word, Frame, goes, jumps, pushed, act}
-use Rattle.jcard.specs.Words.{Words, runs, place, do_operation, IsPc, Ready}
-use Rattle.jcard.specs.Agree.{Pointwise, Reads, HasType, Simulates}
-use Rattle.jcard.proofs.Points.{point_length, point_set, widen}
+use Rattle.jcard.specs.PrivateWords.{UntaggedFrame, continues, pc_of, do_operation, IsPc, Ready}
+use Rattle.jcard.specs.PrivateAgree.{Pointwise, WithoutTag, HasType, IsOperand, Simulates}
+use Rattle.jcard.proofs.Points.{point_length, point_set, widen, widen_operands}
 use Rattle.jcard.proofs.Taking.{push_ok, takes_one, reads_local, local_there}
 
 -- the frame goes on, and both machines still agree and are well typed
-pub goes_on : (typing : Typing) (pc : ℕ) (wl ws : List ℕ) (vl vs : List TaggedValue) (after : Types) → Pointwise Reads wl vl → Pointwise Reads ws vs → Pointwise HasType vl after.locals → Pointwise HasType vs after.operands → Leads typing after pc
-    → Simulates typing (runs pc wl ws) (goes pc vl vs)
+pub goes_on : (typing : Typing) (pc : ℕ) (wl ws : List ℕ) (vl vs : List TaggedValue) (after : Types) → Pointwise WithoutTag wl vl → Pointwise WithoutTag ws vs → Pointwise HasType vl after.locals → Pointwise IsOperand vs after.operands → Leads typing after pc
+    → Simulates typing (continues pc wl ws) (goes pc vl vs)
 goes_on typing pc wl ws vl vs after rl rs tl ts leads =
     let b = both_true (all_below after.locals leads.0.locals) (all_below after.operands leads.0.operands) leads.2 in
-    (record { pc = refl; locals = rl; operands = rs }, record { state = leads.0; «at» = leads.1; locals = widen vl after.locals leads.0.locals tl b.0; operands = widen vs after.operands leads.0.operands ts b.1 })
+    (record { pc = refl; locals = rl; operands = rs }, record { state = leads.0; «at» = leads.1; locals = widen vl after.locals leads.0.locals tl b.0; operands = widen_operands vs after.operands leads.0.operands ts b.1 })
 
--- a jump to a place that the typing has a state at
-pub jumps_on : (typing : Typing) (to : ℤ) (wl ws : List ℕ) (vl vs : List TaggedValue) (after : Types) → Pointwise Reads wl vl → Pointwise Reads ws vs → Pointwise HasType vl after.locals → Pointwise HasType vs after.operands → BranchLeads typing after to
-    → IsPc to × Simulates typing (runs (place to) wl ws) (jumps to vl vs)
+-- a jump to a pc_of that the typing has a state at
+pub jumps_on : (typing : Typing) (to : ℤ) (wl ws : List ℕ) (vl vs : List TaggedValue) (after : Types) → Pointwise WithoutTag wl vl → Pointwise WithoutTag ws vs → Pointwise HasType vl after.locals → Pointwise IsOperand vs after.operands → BranchLeads typing after to
+    → IsPc to × Simulates typing (continues (pc_of to) wl ws) (jumps to vl vs)
 jumps_on typing (pos pc) wl ws vl vs after rl rs tl ts b =
     let same : b.0 ≡ pc = let e = b.1 in cc in
     let L : ℕ → Type 0 = λ n. Leads typing after n in
@@ -40,58 +40,58 @@ jumps_on typing (pos pc) wl ws vl vs after rl rs tl ts b =
 jumps_on typing (negsuc n) wl ws vl vs after rl rs tl ts b = absurd (let e = b.1 in cc)
 
 -- a word more, and on
-pub pushes : (typing : Typing) (most pc : ℕ) (wl ws : List ℕ) (vl vs : List TaggedValue) (s after : Types) (n : ℕ) → Pointwise Reads wl vl → Pointwise Reads ws vs → Pointwise HasType vl s.locals → Pointwise HasType vs s.operands
-    → push_type most types.Word s ≡ Ok after → Leads typing after pc → (length ws < most) × Simulates typing (runs pc wl (n ∷ ws)) (pushed most (Word n) vs (goes pc vl))
+pub pushes : (typing : Typing) (most pc : ℕ) (wl ws : List ℕ) (vl vs : List TaggedValue) (s after : Types) (n : ℕ) → Pointwise WithoutTag wl vl → Pointwise WithoutTag ws vs → Pointwise HasType vl s.locals → Pointwise IsOperand vs s.operands
+    → push_type most types.Word s ≡ Ok after → Leads typing after pc → (length ws < most) × Simulates typing (continues pc wl (n ∷ ws)) (pushed most (Word n) vs (goes pc vl))
 pushes typing most pc wl ws vl vs s after n rl rs tl ts e leads =
     let p = push_ok most types.Word s after e in
-    let a : length vs ≡ length s.operands = point_length HasType vs s.operands ts in
-    let b : length ws ≡ length vs = point_length Reads ws vs rs in
+    let a : length vs ≡ length s.operands = point_length IsOperand vs s.operands ts in
+    let b : length ws ≡ length vs = point_length WithoutTag ws vs rs in
     let L : Types → Type 0 = λ x. Pointwise HasType vl x.locals in
-    let S : Types → Type 0 = λ x. Pointwise HasType (Word n ∷ vs) x.operands in (
+    let S : Types → Type 0 = λ x. Pointwise IsOperand (Word n ∷ vs) x.operands in (
       omega (arith, p.0),
-      rw (lt-ltb (length vs) most (omega (arith, p.0))) (goes_on typing pc wl (n ∷ ws) vl (Word n ∷ vs) after rl (refl, rs) (subst L p.1 tl) (subst S p.1 (tt, ts)) leads),
+      rw (lt-ltb (length vs) most (omega (arith, p.0))) (goes_on typing pc wl (n ∷ ws) vl (Word n ∷ vs) after rl (refl, rs) (subst L p.1 tl) (subst S p.1 ((tt, refl), ts)) leads),
     )
 
 -- what an operation owes
-abbrev pub Owes : Method → Typing → Placed → Operation → Words → Frame → Type 0
+abbrev pub Owes : Method → Typing → Placed → Operation → UntaggedFrame → Frame → Type 0
 Owes m typing x o w f = Ready m.max_stack x.pc o w × Simulates typing (do_operation x.pc x.instr.next_pc o w) (act m x o f)
 
 -- the frames with their operands written out
-abbrev pub held : Words → List ℕ → Words
+abbrev pub held : UntaggedFrame → List ℕ → UntaggedFrame
 held w ws = record { pc = w.pc; locals = w.locals; operands = ws }
 
 abbrev pub tagged : Frame → List TaggedValue → Frame
 tagged f vs = record { pc = f.pc; locals = f.locals; operands = vs }
 
-pub owes_at : (m : Method) (typing : Typing) (x : Placed) (o : Operation) (w : Words) (f : Frame) (ws : List ℕ) (vs : List TaggedValue) → w.operands ≡ ws → f.operands ≡ vs → Owes m typing x o (held w ws) (tagged f vs) → Owes m typing x o w f
+pub owes_at : (m : Method) (typing : Typing) (x : Placed) (o : Operation) (w : UntaggedFrame) (f : Frame) (ws : List ℕ) (vs : List TaggedValue) → w.operands ≡ ws → f.operands ≡ vs → Owes m typing x o (held w ws) (tagged f vs) → Owes m typing x o w f
 owes_at m typing x o w f ws vs e g h =
     let P : List ℕ → Type 0 = λ k. Owes m typing x o (held w k) f in
     let Q : List TaggedValue → Type 0 = λ k. Owes m typing x o (held w ws) (tagged f k) in
     subst P (sym e) (subst Q (sym g) h)
 
 -- what is known where an operation of a well-typed frame has an effect
-pub record Known (m : Method) (typing : Typing) (x : Placed) (o : Operation) (w : Words) (f : Frame) (s after : Types) : Type 0 where
-  pub read_locals : Pointwise Reads w.locals f.locals
-  pub read_operands : Pointwise Reads w.operands f.operands
+pub record Known (m : Method) (typing : Typing) (x : Placed) (o : Operation) (w : UntaggedFrame) (f : Frame) (s after : Types) : Type 0 where
+  pub read_locals : Pointwise WithoutTag w.locals f.locals
+  pub read_operands : Pointwise WithoutTag w.operands f.operands
   pub locals : Pointwise HasType f.locals s.locals
-  pub operands : Pointwise HasType f.operands s.operands
+  pub operands : Pointwise IsOperand f.operands s.operands
   pub effect : effect_of m.max_stack m.returned o s ≡ Ok after
   pub branches : AllByRecursion (BranchLeads typing after) (targets_of x.pc o)
   pub falls : falls_of o ≡ true → Leads typing after x.instr.next_pc
 
-pub nop_owes : (m : Method) (typing : Typing) (x : Placed) (w : Words) (f : Frame) (s after : Types) → Known m typing x Nop w f s after → Owes m typing x Nop w f
+pub nop_owes : (m : Method) (typing : Typing) (x : Placed) (w : UntaggedFrame) (f : Frame) (s after : Types) → Known m typing x Nop w f s after → Owes m typing x Nop w f
 unfolding effect_of act
 nop_owes m typing x w f s after k =
     let same : s ≡ after = the_ok s after k.effect in
     let L : Types → Type 0 = λ t. Leads typing t x.instr.next_pc in
     (tt, goes_on typing x.instr.next_pc w.locals w.operands f.locals f.operands s k.read_locals k.read_operands k.locals k.operands (subst L (sym same) (k.falls refl)))
 
-pub push_owes : (m : Method) (typing : Typing) (x : Placed) (value : ℤ) (w : Words) (f : Frame) (s after : Types) → Known m typing x (Push value) w f s after → Owes m typing x (Push value) w f
+pub push_owes : (m : Method) (typing : Typing) (x : Placed) (value : ℤ) (w : UntaggedFrame) (f : Frame) (s after : Types) → Known m typing x (Push value) w f s after → Owes m typing x (Push value) w f
 unfolding effect_of act
 push_owes m typing x value w f s after k =
     pushes typing m.max_stack x.instr.next_pc w.locals w.operands f.locals f.operands s after (word_of value) k.read_locals k.read_operands k.locals k.operands k.effect (k.falls refl)
 
-pub load_owes : (m : Method) (typing : Typing) (x : Placed) (i : ℕ) (w : Words) (f : Frame) (s after : Types) → Known m typing x (Load i) w f s after → Owes m typing x (Load i) w f
+pub load_owes : (m : Method) (typing : Typing) (x : Placed) (i : ℕ) (w : UntaggedFrame) (f : Frame) (s after : Types) → Known m typing x (Load i) w f s after → Owes m typing x (Load i) w f
 unfolding effect_of act
 load_owes m typing x i w f s after k =
     let one = bind_ok (local_type i s) _ after k.effect in
@@ -100,7 +100,7 @@ load_owes m typing x i w f s after k =
     let p = pushes typing m.max_stack x.instr.next_pc w.locals w.operands f.locals f.operands s after l.word k.read_locals k.read_operands k.locals k.operands two.2 (k.falls refl) in
     ((l.within, p.0), rw (l.word_is, l.value_is) p.1)
 
-pub store_owes : (m : Method) (typing : Typing) (x : Placed) (i : ℕ) (w : Words) (f : Frame) (s after : Types) → Known m typing x (Store i) w f s after → Owes m typing x (Store i) w f
+pub store_owes : (m : Method) (typing : Typing) (x : Placed) (i : ℕ) (w : UntaggedFrame) (f : Frame) (s after : Types) → Known m typing x (Store i) w f s after → Owes m typing x (Store i) w f
 unfolding effect_of act set_local_type
 store_owes m typing x i w f s after k =
     let one = bind_ok (local_type i s) _ after k.effect in
@@ -111,10 +111,10 @@ store_owes m typing x i w f s after k =
     let T : List Ty → Type 0 = λ ts. Pointwise HasType f.locals ts in
     let typed : Pointwise HasType f.locals two.0.locals = subst T t.locals k.locals in
     let a : length f.locals ≡ length two.0.locals = point_length HasType f.locals two.0.locals typed in
-    let b : length w.locals ≡ length f.locals = point_length Reads w.locals f.locals k.read_locals in
+    let b : length w.locals ≡ length f.locals = point_length WithoutTag w.locals f.locals k.read_locals in
     let new : Types = record { locals = slice_set two.0.locals i types.Word; operands = two.0.operands } in
     let L : Types → Type 0 = λ t. Leads typing t x.instr.next_pc in
-    let go = goes_on typing x.instr.next_pc (slice_set w.locals i t.word) t.words (slice_set f.locals i (Word t.word)) t.values new (point_set Reads w.locals f.locals i t.word (Word t.word) k.read_locals refl) t.read
+    let go = goes_on typing x.instr.next_pc (slice_set w.locals i t.word) t.words (slice_set f.locals i (Word t.word)) t.values new (point_set WithoutTag w.locals f.locals i t.word (Word t.word) k.read_locals refl) t.read
     (point_set HasType f.locals two.0.locals i (Word t.word) types.Word typed tt) t.typed (subst L (sym (the_ok _ _ g.1)) (k.falls refl)) in
     owes_at m typing x (Store i) w f _ _ t.words_are t.values_are ((omega arith, omega arith), rw (lt-ltb i (length f.locals) (omega arith)) go)
 
@@ -129,7 +129,7 @@ set_there [] i t e = refl
 set_there (u ∷ us) zero t e = ap (λ (z : Ty). z ∷ us) (let h = e in cc)
 set_there (u ∷ us) (suc i) t e = ap (λ (zs : List Ty). u ∷ zs) (set_there us i t e)
 
-pub increment_owes : (m : Method) (typing : Typing) (x : Placed) (i : ℕ) (by : ℤ) (w : Words) (f : Frame) (s after : Types) → Known m typing x (Increment i by) w f s after → Owes m typing x (Increment i by) w f
+pub increment_owes : (m : Method) (typing : Typing) (x : Placed) (i : ℕ) (by : ℤ) (w : UntaggedFrame) (f : Frame) (s after : Types) → Known m typing x (Increment i by) w f s after → Owes m typing x (Increment i by) w f
 unfolding effect_of act
 increment_owes m typing x i by w f s after k =
     let one = bind_ok (local_type i s) _ after k.effect in
@@ -140,5 +140,5 @@ increment_owes m typing x i by w f s after k =
     let same : slice_set s.locals i types.Word ≡ s.locals = set_there s.locals i types.Word there in
     let new : Pointwise HasType (slice_set f.locals i (Word (incremented l.word by))) s.locals = (let T : List Ty → Type 0 = λ ts. Pointwise HasType (slice_set f.locals i (Word (incremented l.word by))) ts in subst T same (point_set HasType f.locals s.locals i (Word (incremented l.word by)) types.Word k.locals tt)) in
     let L : Types → Type 0 = λ t. Leads typing t x.instr.next_pc in
-    let go = goes_on typing x.instr.next_pc (slice_set w.locals i (incremented l.word by)) w.operands (slice_set f.locals i (Word (incremented l.word by))) f.operands s (point_set Reads w.locals f.locals i (incremented l.word by) (Word (incremented l.word by)) k.read_locals refl) k.read_operands new k.operands (subst L (sym (the_ok _ _ two.2)) (k.falls refl)) in
+    let go = goes_on typing x.instr.next_pc (slice_set w.locals i (incremented l.word by)) w.operands (slice_set f.locals i (Word (incremented l.word by))) f.operands s (point_set WithoutTag w.locals f.locals i (incremented l.word by) (Word (incremented l.word by)) k.read_locals refl) k.read_operands new k.operands (subst L (sym (the_ok _ _ two.2)) (k.falls refl)) in
     (l.within, rw (l.word_is, l.value_is) go)

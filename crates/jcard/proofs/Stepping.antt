@@ -1,24 +1,25 @@
 -- One step, and a run of steps.
-use Rattle.std.proofs.Common.{◌≡◌, ℕ, zero, suc, ◌<◌, List, [], ◌∷◌, length, Option, Ok, refl, sym, ap, ◌∙◌, subst, arith}
+use Rattle.std.proofs.Common.{◌≡◌, ℕ, zero, suc, ◌<◌, replicate, List, [], ◌∷◌, length, Option, Ok, refl, sym, ap, ◌∙◌, subst, arith}
 use Rattle.jc_code.specs.declared.instr.Instr.{Instr}
 use Rattle.jc_code.specs.declared.instr.Operation.{Operation}
 use Rattle.jc_code.specs.declared.instr.Operation.TheVariants.{Nop, Push, Load, Store, Increment, Shuffle, Binary, Unary, Branch, StableSwitch, LookupSwitch, ReturnWord}
 use Rattle.jc_code.specs.Decoding.{instr_at}
 use Rattle.jc_code.specs.Listing.{Placed}
 use Rattle.jc_code.proofs.Listings.{there, next_within}
-use Rattle.jc_types.specs.State.{Types, all_below, tops}
+use Rattle.jc_types.specs.State.{Types, all_below}
+use Rattle.jc_types.specs.declared.ty.Ty.TheVariants as types
 use Rattle.jc_base.proofs.Binding.{both_true}
 use Rattle.jc_check.specs.Method.{Method, entry_of, word_method}
 use Rattle.jc_check.specs.Typing.{Typing, IsTyping}
 use Rattle.jcard.specs.Tagged.{unset, Frame, Outcome, act, act_at, defensive_step, first_frame}
-use Rattle.jcard.specs.Words.{Words, do_operation, Ready}
-use Rattle.jcard.specs.Agree.{Pointwise, HasType, Agree, WellTyped, Simulates}
-use Rattle.jcard.proofs.Points.{widen}
+use Rattle.jcard.specs.PrivateWords.{UntaggedFrame, do_operation, Ready}
+use Rattle.jcard.specs.PrivateAgree.{Pointwise, HasType, Agree, WellTyped, Simulates}
+use Rattle.jcard.proofs.Points.{widen, widen_operands}
 use Rattle.jcard.proofs.Simulation.{Owes, Known, nop_owes, push_owes, load_owes, store_owes, increment_owes}
 use Rattle.jcard.proofs.Moves.{shuffle_owes, binary_owes, unary_owes, return_owes}
 use Rattle.jcard.proofs.Branching.{branch_owes, stable_owes, lookup_owes}
 
-operation_owes : (m : Method) (typing : Typing) (x : Placed) (o : Operation) (w : Words) (f : Frame) (s after : Types) → Known m typing x o w f s after → Owes m typing x o w f
+operation_owes : (m : Method) (typing : Typing) (x : Placed) (o : Operation) (w : UntaggedFrame) (f : Frame) (s after : Types) → Known m typing x o w f s after → Owes m typing x o w f
 operation_owes m typing x Nop w f s after k = nop_owes m typing x w f s after k
 operation_owes m typing x (Push value) w f s after k = push_owes m typing x value w f s after k
 operation_owes m typing x (Load i) w f s after k = load_owes m typing x i w f s after k
@@ -33,14 +34,14 @@ operation_owes m typing x (LookupSwitch default cases) w f s after k = lookup_ow
 operation_owes m typing x ReturnWord w f s after k = return_owes m typing x w f s after k
 
 -- what stands where a well-typed frame is, and what it owes
-pub record AtStep (m : Method) (typing : Typing) (listing : List Placed) (w : Words) (f : Frame) : Type 0 where
+pub record AtStep (m : Method) (typing : Typing) (listing : List Placed) (w : UntaggedFrame) (f : Frame) : Type 0 where
   pub instr : Instr
   pub stands : instr_at m.code w.pc ≡ Ok instr
   pub within : w.pc < length m.code
   pub ready : Ready m.max_stack w.pc instr.operation w
   pub simulates : Simulates typing (do_operation w.pc instr.next_pc instr.operation w) (defensive_step m listing f)
 
-pub at_step : (m : Method) (typing : Typing) (t : IsTyping m typing) (w : Words) (f : Frame) → Agree w f → WellTyped typing f → AtStep m typing t.listing w f
+pub at_step : (m : Method) (typing : Typing) (t : IsTyping m typing) (w : UntaggedFrame) (f : Frame) → Agree w f → WellTyped typing f → AtStep m typing t.listing w f
 at_step m typing t w f a k =
     let e = t.each f.pc k.state k.«at» in
     let x = e.0 in
@@ -61,12 +62,12 @@ at_step m typing t w f a k =
     }
 
 -- locals that were never written have any types that nothing is known of
-never_written : (n : ℕ) → Pointwise HasType (unset n) (tops n)
+never_written : (n : ℕ) → Pointwise HasType (unset n) (replicate n types.Top)
 never_written zero = tt
 never_written (suc n) = (tt, never_written n)
 
 -- the first frame of code alone
-abbrev pub first_words : Words
+abbrev pub first_words : UntaggedFrame
 first_words = record { pc = 0; locals = 0 ∷ 0 ∷ []; operands = [] }
 
 pub first_agrees : (code : List ℕ) → Agree first_words (first_frame (word_method code))
@@ -76,4 +77,4 @@ pub first_typed : (code : List ℕ) (typing : Typing) → IsTyping (word_method 
 first_typed code typing t =
     let s = t.entry in
     let b = both_true (all_below (entry_of (word_method code)).locals s.0.locals) (all_below (entry_of (word_method code)).operands s.0.operands) s.2 in
-    record { state = s.0; «at» = s.1; locals = widen (unset 2) (tops 2) s.0.locals (never_written 2) b.0; operands = widen [] [] s.0.operands tt b.1 }
+    record { state = s.0; «at» = s.1; locals = widen (unset 2) (replicate 2 types.Top) s.0.locals (never_written 2) b.0; operands = widen_operands [] [] s.0.operands tt b.1 }

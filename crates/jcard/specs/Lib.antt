@@ -6,6 +6,6 @@ pub mod Line
 pub mod Saying
 pub mod Shorts
 pub mod Tagged
-pub mod Words
-pub mod Agree
-pub mod Runs
+pub mod PrivateWords
+pub mod PrivateAgree
+pub mod PrivateRuns

@@ -5,6 +5,7 @@ ghost use Rattle.jcard.specs.Eval.{IsAnswer};
 ghost use Rattle.jcard.specs.PrivateEval.{answer_to};
 
 use crate::answer::EvalAnswer;
+use crate::exception::Exception;
 use crate::run::{Ending, run};
 use jc_base::LoadFault;
 use jc_check::{WordFault, check_words};
@@ -15,7 +16,7 @@ fn ending_answer(ending: Ending) -> EvalAnswer
 {
     match ending {
         Ending::Gave(word) => EvalAnswer::Value(word.cast_signed()),
-        Ending::Threw => EvalAnswer::Throws,
+        Ending::Threw(Exception::ArithmeticException) => EvalAnswer::Throws,
         Ending::UsedUp => EvalAnswer::StepsUsedUp,
     }
 }

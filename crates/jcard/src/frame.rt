@@ -23,9 +23,9 @@ pub(crate) struct WordFrame {
 
 impl Model for WordFrame {
     ghost use Rattle.std.specs.Prelude.{◌≡◌, ◌≤◌, length, reverse, take};
-    ghost use Rattle.jcard.specs.Words.{Words};
+    ghost use Rattle.jcard.specs.PrivateWords.{UntaggedFrame};
 
-    ghost Value = { Words };
+    ghost Value = { UntaggedFrame };
 
     ghost view = { λ f. record { pc = f.pc; locals = f.locals; operands = reverse (take f.depth f.slots) } };
 

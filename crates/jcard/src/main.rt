@@ -3,6 +3,7 @@
 
 mod answer;
 mod eval;
+mod exception;
 mod frame;
 mod job;
 mod line;

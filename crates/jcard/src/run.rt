@@ -3,9 +3,10 @@
 ghost use Rattle.std.specs.Prelude.{◌<◌, ◌^◌, length};
 ghost use Rattle.jc_check.specs.Method.{word_method};
 ghost use Rattle.jc_check.specs.Typing.{Typing, IsTyping};
-ghost use Rattle.jcard.specs.Runs.{CanRun, EndsAs, Steps};
+ghost use Rattle.jcard.specs.PrivateRuns.{CanRun, EndsAs, FollowsEach};
 ghost use Rattle.jcard.specs.Tagged.{first_frame, runtime_call};
 
+use crate::exception::Exception;
 use crate::frame::WordFrame;
 use crate::perform::perform;
 use jc_check::CheckedWords;
@@ -16,8 +17,8 @@ use jc_code::decode;
 pub(crate) enum Step {
     /// The code goes on.
     Running,
-    /// The code throws an ArithmeticException.
-    Thrown,
+    /// The code throws.
+    Thrown(Exception),
     /// The code returns a word.
     Done(u16),
 }
@@ -27,8 +28,8 @@ pub(crate) enum Step {
 pub(crate) enum Ending {
     /// The code returned a word.
     Gave(u16),
-    /// The code threw an ArithmeticException.
-    Threw,
+    /// The code threw.
+    Threw(Exception),
     /// The code hadn't ended after so many steps.
     UsedUp,
 }
@@ -37,7 +38,7 @@ pub(crate) enum Ending {
 fn take_step(code: &[u8], frame: &mut WordFrame) -> Step
     requires ready { CanRun code.now frame.old }
     requires short { length code.now < 2 ^ 16 }
-    ensures { Steps code.now frame.old result frame.new }
+    ensures { FollowsEach code.now frame.old result frame.new }
 {
     let Ok(instr) = decode(code, frame.pc()) else {
         unreachable!()
@@ -45,7 +46,7 @@ fn take_step(code: &[u8], frame: &mut WordFrame) -> Step
     perform(frame, &instr)
 }
 
-/// Runs code that a certificate carries for at most so many steps, as the defensive machine does.
+/// Continues code that a certificate carries for at most so many steps, as the defensive machine does.
 pub(crate) fn run(checked: &CheckedWords, steps: u32) -> Ending
     ensures { (typing : Typing) → (t : IsTyping (word_method checked.now) typing)
         → EndsAs result (runtime_call (word_method checked.now) t.listing steps (first_frame (word_method checked.now))) }
@@ -55,7 +56,7 @@ pub(crate) fn run(checked: &CheckedWords, steps: u32) -> Ending
     for _ in 0..steps {
         match take_step(code, &mut frame) {
             Step::Running => {}
-            Step::Thrown => return Ending::Threw,
+            Step::Thrown(exception) => return Ending::Threw(exception),
             Step::Done(word) => return Ending::Gave(word),
         }
     }

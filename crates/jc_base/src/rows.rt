@@ -1,7 +1,7 @@
 //! Rows one behind the other.
 
 ghost use Rattle.std.specs.Prelude.{◌≡◌, ◌↔◌, ◌∷◌, [], drop, length, slice_get, IsTrue, List, ℕ, Result, IfSome, IfNone};
-ghost use Rattle.jc_base.specs.Cursor.{Read, Gives};
+ghost use Rattle.jc_base.specs.Cursor.{Read, Gives, whole};
 ghost use Rattle.jc_base.specs.PrivateRows.{rest_of, left_by};
 ghost use Rattle.jc_base.specs.Rows.{repeat, part, HasSize};
 ghost use Rattle.jc_base.specs.declared.fault.LoadFault.{LoadFault};
@@ -54,11 +54,13 @@ pub trait Row<S: Source>: Drop {
 
 /// Rows that all take so many bytes.
 pub trait FixedRow<S: Source>: Row<S> {
-    ghost SIZE: { ℕ };
+    ghost size: { ℕ };
 
-    const SIZE: u8;
+    /// How many bytes each row takes.
+    fn size() -> u8
+        ensures { result ≡ size };
 
-    ghost has_size: { HasSize SIZE Self.next_row };
+    ghost has_size: { HasSize size Self.next_row };
 }
 
 /// Rows one behind the other, so many as a count says. They are read where they are asked for.
@@ -103,6 +105,29 @@ impl<S: Source, R: Row<S>> Rows<S, R> {
             count,
             kind: PhantomData,
         })
+    }
+
+    /// The rows that a source is, so many and nothing behind them; where something is left, the fault is told.
+    pub fn whole(mut source: S, count: u16, fault: LoadFault) -> Result<Rows<S, R>, LoadFault>
+        ensures { result ≡ whole fault (repeat R.next_row count (S.left source)) }
+    {
+        let rows = Rows::read(&mut source, count)?;
+        if source.len() > 0 {
+            return Err(fault);
+        }
+        Ok(rows)
+    }
+
+    /// No rows.
+    #[tactic(auto, unfolding(crate::specs::Rows::repeat))]
+    pub fn none(start: S) -> Rows<S, R>
+        ensures { result ≡ [] }
+    {
+        Rows {
+            start,
+            count: 0,
+            kind: PhantomData,
+        }
     }
 
     /// The same rows, to be taken on their own.
@@ -170,7 +195,9 @@ impl<S: Source, R: FixedRow<S>> Rows<S, R> {
         if self.count <= index {
             return None;
         }
-        let mut source = self.start.behind(usize::from(R::SIZE) * usize::from(index));
+        let mut source = self
+            .start
+            .behind(usize::from(R::size()) * usize::from(index));
         R::next_row(&mut source).ok()
     }
 
@@ -181,7 +208,9 @@ impl<S: Source, R: FixedRow<S>> Rows<S, R> {
         if usize::from(self.count) < usize::from(first) + usize::from(count) {
             return None;
         }
-        let start = self.start.behind(usize::from(R::SIZE) * usize::from(first));
+        let start = self
+            .start
+            .behind(usize::from(R::size()) * usize::from(first));
         Some(Rows {
             start,
             count,

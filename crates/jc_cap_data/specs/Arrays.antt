@@ -1,12 +1,11 @@
 -- The initialised arrays of the StaticField component (Java Card Virtual Machine Specification, CAP file format:
 -- StaticField component, array_init_info).
 use Rattle.std.specs.Prelude.{ℕ, ◌%◌, ◌==◌, ◌&&◌, nat_le, List, length, Option, Some, None, Result, Ok, if◌then◌else◌}
-use Rattle.jc_base.specs.Cursor.{Read, next_u1, next_u2, next_bytes}
+use Rattle.jc_base.specs.Cursor.{Read, next_u1, next_u2, next_bytes, field}
 use Rattle.jc_base.specs.Results.{◌>>=◌}
-use Rattle.jc_base.specs.PackageInfo.{field}
 use Rattle.jc_base.specs.declared.fault.LoadFault.{LoadFault}
 use Rattle.jc_base.specs.Tag.{static_field_tag}
-use Rattle.jc_cap_data.specs.Numbers.{s1s, s2s}
+use Rattle.jc_base.specs.Numbers.{s1s, s2s}
 use Rattle.jc_cap_data.specs.declared.arrays.StaticArray.{StaticArray}
 use Rattle.jc_cap_data.specs.declared.arrays.StaticArray.TheVariants.{Boolean, Byte, Short}
 
@@ -32,8 +31,8 @@ array_of kind bytes =
     else (if kind == of_shorts && length bytes % 2 == 0 then Some (Short (s2s bytes)) else None))
 
 -- a type, a number of bytes, and the bytes
-unfoldable pub array_at : List ℕ → Result (Read StaticArray) LoadFault
-array_at bytes = do
+unfoldable pub next_static_array : List ℕ → Result (Read StaticArray) LoadFault
+next_static_array bytes = do
   kind ← field static_field_tag (next_u1 bytes)
   size ← field static_field_tag (next_u2 kind.rest)
   values ← field static_field_tag (next_bytes size.value size.rest)

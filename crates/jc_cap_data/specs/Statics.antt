@@ -1,13 +1,12 @@
 -- The StaticField component (Java Card Virtual Machine Specification, CAP file format: StaticField component).
 use Rattle.std.specs.Prelude.{ℕ, ◌+◌, ◌*◌, ◌==◌, ◌&&◌, nat_le, Bool, List, length, Result, Ok, Err, if◌then◌else◌}
-use Rattle.jc_base.specs.Cursor.{Read, next_u2, next_bytes}
+use Rattle.jc_base.specs.Cursor.{Read, next_u2, next_bytes, field, whole}
 use Rattle.jc_base.specs.Results.{◌>>=◌}
-use Rattle.jc_base.specs.PackageInfo.{field, only}
-use Rattle.jc_base.specs.Repeats.{repeat}
+use Rattle.jc_base.specs.Rows.{repeat}
 use Rattle.jc_base.specs.declared.fault.LoadFault.{LoadFault}
 use Rattle.jc_base.specs.declared.fault.LoadFault.TheVariants.{Malformed}
 use Rattle.jc_base.specs.Tag.{static_field_tag}
-use Rattle.jc_cap_data.specs.Arrays.{array_at}
+use Rattle.jc_cap_data.specs.Arrays.{next_static_array}
 use Rattle.jc_cap_data.specs.declared.arrays.StaticArray.{StaticArray}
 
 -- a package's static fields: the bytes that they take, how many references come first, the arrays that the first
@@ -23,13 +22,13 @@ pub record StaticImage : Type 0 where
 abbrev pub fits : StaticImage → Bool
 fits image = image.size == 2 * image.references + image.defaults + length image.values && nat_le (length image.arrays) image.references
 
--- the fields of the component in their order
-unfoldable pub fields_at : List ℕ → Result (Read StaticImage) LoadFault
-fields_at info = do
+-- the numbers and rows of the component in their order
+unfoldable pub next_static_image : List ℕ → Result (Read StaticImage) LoadFault
+next_static_image info = do
   size ← field static_field_tag (next_u2 info)
   references ← field static_field_tag (next_u2 size.rest)
   count ← field static_field_tag (next_u2 references.rest)
-  arrays ← repeat array_at count.value count.rest
+  arrays ← repeat next_static_array count.value count.rest
   defaults ← field static_field_tag (next_u2 arrays.rest)
   given ← field static_field_tag (next_u2 defaults.rest)
   values ← field static_field_tag (next_bytes given.value given.rest)
@@ -43,5 +42,5 @@ abbrev pub fitting : StaticImage → Result StaticImage LoadFault
 fitting image = if fits image then Ok image else Err (Malformed static_field_tag)
 
 -- what an info gives: the fields, nothing behind them, and an image that fits
-abbrev pub statics_of : List ℕ → Result StaticImage LoadFault
-statics_of info = only static_field_tag (fields_at info) >>= fitting
+abbrev pub static_fields_of : List ℕ → Result StaticImage LoadFault
+static_fields_of info = whole (Malformed static_field_tag) (next_static_image info) >>= fitting

@@ -5,14 +5,12 @@ mod applets;
 mod arrays;
 mod exports;
 mod imports;
-mod numbers;
 mod statics;
 
 pub use applets::{Applet, Applets, read_applets};
 pub use arrays::{StaticArray, StaticArrays};
 pub use exports::{ExportedClass, Exports, read_exports};
 pub use imports::{Imports, read_imports};
-pub use numbers::{S1s, S2s, U2s};
 pub use statics::{StaticFields, read_static_fields};
 
 #[cfg(test)]

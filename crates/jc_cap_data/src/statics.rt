@@ -1,9 +1,9 @@
 //! The StaticField component.
 
 ghost use Rattle.std.specs.Prelude.{◌≡◌, ◌+◌, ◌*◌, ◌≤◌, length, IfOk};
-ghost use Rattle.jc_base.specs.PackageInfo.{only};
+ghost use Rattle.jc_base.specs.Cursor.{whole};
 ghost use Rattle.jc_base.specs.Tag.{static_field_tag};
-ghost use Rattle.jc_cap_data.specs.Statics.{fits, fields_at, statics_of};
+ghost use Rattle.jc_cap_data.specs.Statics.{fits, next_static_image, static_fields_of};
 
 use crate::arrays::StaticArrays;
 use jc_base::tag::STATIC_FIELD;
@@ -77,14 +77,15 @@ impl<'a> StaticFields<'a> {
     {
         let zeros = 2 * usize::from(self.reference_count()) + usize::from(self.default_count());
         let size = usize::from(self.image_size());
-        size == zeros + self.values().len() && self.arrays().len() <= self.reference_count()
+        size == zeros + self.values().len()
+            && self.arrays().len() <= usize::from(self.reference_count())
     }
 }
 
-/// The fields of the component, and nothing behind them.
-#[tactic(auto, unfolding(crate::specs::Statics::fields_at))]
-fn fields<'a>(info: &'a [u8]) -> Result<StaticFields<'a>, LoadFault>
-    ensures { result ≡ only static_field_tag (fields_at info.now) }
+/// The static image that an info spells, and nothing behind it.
+#[tactic(auto, unfolding(crate::specs::Statics::next_static_image))]
+fn image_in<'a>(info: &'a [u8]) -> Result<StaticFields<'a>, LoadFault>
+    ensures { result ≡ whole (LoadFault.Malformed static_field_tag) (next_static_image info.now) }
 {
     let mut cursor = Cursor::new(info);
     let size = cursor.u2().ok_or(LoadFault::Malformed(STATIC_FIELD))?;
@@ -109,13 +110,13 @@ fn fields<'a>(info: &'a [u8]) -> Result<StaticFields<'a>, LoadFault>
 }
 
 /// Reads the StaticField component (Java Card Virtual Machine Specification, CAP file format: StaticField
-/// component).
+/// component). `Malformed(8)`.
 pub fn read_static_fields<'a>(parts: &Parts<'a>) -> Result<StaticFields<'a>, LoadFault>
-    ensures read { result ≡ statics_of parts.now.static_field }
+    ensures read { result ≡ static_fields_of parts.now.static_field }
     ensures sum { IfOk result (λ s. s.size ≡ 2 * s.references + s.defaults + length s.values) }
     ensures room { IfOk result (λ s. length s.arrays ≤ s.references) }
 {
-    let fields = fields(parts.static_field())?;
+    let fields = image_in(parts.static_field())?;
     if !fields.fits() {
         return Err(LoadFault::Malformed(STATIC_FIELD));
     }

@@ -1,3 +1,4 @@
-pub mod Handlers
-pub mod Headers
-pub mod Methods
+pub mod Handler
+pub mod PrivateHandler
+pub mod Header
+pub mod Component

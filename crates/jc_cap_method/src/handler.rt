@@ -1,15 +1,11 @@
 //! Exception handlers.
 
-ghost use Rattle.std.specs.Prelude.{◌≡◌, ◌↔◌, ℕ, [], length, slice_get, IsTrue};
-ghost use Rattle.jc_base.specs.Cursor.{GivesSome};
-ghost use Rattle.jc_base.specs.Many.{many_at};
-ghost use Rattle.jc_cap_method.specs.Handlers.{handler_at, rows_named};
+ghost use Rattle.std.specs.Prelude.{◌≡◌};
+ghost use Rattle.jc_cap_method.specs.Handler.{next_handler};
+ghost use Rattle.jc_cap_method.specs.PrivateHandler.{handler_has_size};
 
-use jc_base::Cursor;
-use std::marker::Model;
-
-/// The size of a handler, in bytes.
-const HANDLER_SIZE: usize = 8;
+use jc_base::tag::METHOD;
+use jc_base::{Cursor, FixedRow, LoadFault, Row, Rows};
 
 /// The highest bit of a handler's second number, which is no part of its length.
 const STOP_BIT: u16 = 0x8000;
@@ -28,88 +24,35 @@ pub struct Handler {
     pub catch_type: u16,
 }
 
-/// Handlers that lie one after the other, lent from an image.
-#[derive(Drop)]
-pub struct Handlers<'a> {
-    bytes: &'a [u8],
-    count: u16,
-}
+impl<'a> Row<Cursor<'a>> for Handler {
+    ghost next_row = { next_handler };
 
-impl<'a> Model for Handlers<'a> {
-    ghost use Rattle.std.specs.Prelude.{List, IsSome};
-    ghost use Rattle.jc_base.specs.Many.{many_at, values_of};
-    ghost use Rattle.jc_cap_method.specs.declared.handler.Handler.{Handler};
-    ghost use Rattle.jc_cap_method.specs.Handlers.{handler_at};
-
-    ghost Value = { List Handler };
-
-    ghost view = { λ h. values_of handler_at h.count h.bytes.now };
-
-    ghost invariant = { λ h. IsSome (many_at handler_at h.count h.bytes.now) };
-}
-
-impl<'a> Handlers<'a> {
-    /// How many handlers there are.
-    pub fn len(&self) -> usize
-        ensures { result ≡ length self.now }
-    {
-        usize::from(self.count)
-    }
-
-    /// Whether there is no handler.
-    pub fn is_empty(&self) -> bool
-        ensures { IsTrue result ↔ (self.now ≡ []) }
-    {
-        self.len() == 0
-    }
-
-    /// The handler at an index, or `None` past the last.
-    pub fn get(&self, index: usize) -> Option<Handler>
-        ensures { result ≡ slice_get self.now index }
-    {
-        if index >= usize::from(self.count) {
-            return None;
-        }
-        next_handler(&mut Cursor::at(self.bytes, HANDLER_SIZE * index))
-    }
-
-    /// The `count` handlers from index `first` on, or `None` where they run past the last.
-    pub(crate) fn named(&self, first: u16, count: u16) -> Option<Handlers<'a>>
-        ensures { result ≡ rows_named first count self.now }
-    {
-        if usize::from(self.count) < usize::from(first) + usize::from(count) {
-            return None;
-        }
-        let bytes = Cursor::at(self.bytes, HANDLER_SIZE * usize::from(first)).rest();
-        Some(Handlers { bytes, count })
+    #[tactic(auto, unfolding(crate::specs::Handler::next_handler))]
+    fn next_row(cursor: &mut Cursor<'a>) -> Result<Handler, LoadFault> {
+        let start = cursor.u2().ok_or(LoadFault::Malformed(METHOD))?;
+        let length = cursor.u2().ok_or(LoadFault::Malformed(METHOD))?;
+        let handler = cursor.u2().ok_or(LoadFault::Malformed(METHOD))?;
+        let catch_type = cursor.u2().ok_or(LoadFault::Malformed(METHOD))?;
+        Ok(Handler {
+            start,
+            active_length: length % STOP_BIT,
+            handler,
+            catch_type,
+        })
     }
 }
 
-/// The next handler.
-#[tactic(auto, unfolding(crate::specs::Handlers::handler_at))]
-fn next_handler(cursor: &mut Cursor) -> Option<Handler>
-    ensures { GivesSome (λ h. h) result cursor.new (handler_at cursor.old) }
-{
-    let start = cursor.u2()?;
-    let length = cursor.u2()?;
-    let handler = cursor.u2()?;
-    let catch_type = cursor.u2()?;
-    Some(Handler {
-        start,
-        active_length: length % STOP_BIT,
-        handler,
-        catch_type,
-    })
+impl<'a> FixedRow<Cursor<'a>> for Handler {
+    ghost size = { 8 };
+
+    fn size() -> u8
+        ensures { result ≡ 8 }
+    {
+        8
+    }
+
+    ghost has_size = { handler_has_size };
 }
 
-/// The next `count` handlers. Costs the same for each count.
-pub(crate) fn next_handlers<'a>(cursor: &mut Cursor<'a>, count: u8) -> Option<Handlers<'a>>
-    ensures { GivesSome (λ h. h) result cursor.new (many_at handler_at count cursor.old) }
-{
-    let bytes = cursor.rest();
-    cursor.take(HANDLER_SIZE * usize::from(count))?;
-    Some(Handlers {
-        bytes,
-        count: u16::from(count),
-    })
-}
+/// Handlers in table order.
+pub type Handlers<'a> = Rows<Cursor<'a>, Handler>;

@@ -1,10 +1,11 @@
 //! Method headers.
 
 ghost use Rattle.std.specs.Prelude.{◌≡◌};
-ghost use Rattle.jc_base.specs.Cursor.{GivesSome};
-ghost use Rattle.jc_cap_method.specs.Headers.{has_flag, short_header_at, extended_header_at, header_at};
+ghost use Rattle.jc_base.specs.Cursor.{Gives};
+ghost use Rattle.jc_cap_method.specs.Header.{next_short_header, next_extended_header, next_header};
 
-use jc_base::Cursor;
+use jc_base::tag::METHOD;
+use jc_base::{Cursor, LoadFault, has_flag};
 
 /// The header has the extended form.
 const ACC_EXTENDED: u8 = 8;
@@ -26,20 +27,13 @@ pub struct MethodHeader {
     pub max_locals: u8,
 }
 
-/// Whether a flag, a single bit, is among flags.
-fn has_flag(flags: u8, flag: u8) -> bool
-    ensures { result ≡ has_flag flags flag }
-{
-    flags & flag == flag
-}
-
 /// A header of the short form, behind its first byte.
-#[tactic(auto, unfolding(crate::specs::Headers::short_header_at))]
-fn short_header(front: u8, cursor: &mut Cursor) -> Option<MethodHeader>
-    ensures { GivesSome (λ h. h) result cursor.new (short_header_at front cursor.old) }
+#[tactic(auto, unfolding(crate::specs::Header::next_short_header))]
+fn next_short_header(front: u8, cursor: &mut Cursor) -> Result<MethodHeader, LoadFault>
+    ensures { Gives (λ h. h) result cursor.new (next_short_header front cursor.old) }
 {
-    let counts = cursor.u1()?;
-    Some(MethodHeader {
+    let counts = cursor.u1().ok_or(LoadFault::Malformed(METHOD))?;
+    Ok(MethodHeader {
         is_abstract: has_flag(front / 16, ACC_ABSTRACT),
         max_stack: front % 16,
         nargs: counts / 16,
@@ -48,14 +42,14 @@ fn short_header(front: u8, cursor: &mut Cursor) -> Option<MethodHeader>
 }
 
 /// A header of the extended form, behind its first byte.
-#[tactic(auto, unfolding(crate::specs::Headers::extended_header_at))]
-fn extended_header(front: u8, cursor: &mut Cursor) -> Option<MethodHeader>
-    ensures { GivesSome (λ h. h) result cursor.new (extended_header_at front cursor.old) }
+#[tactic(auto, unfolding(crate::specs::Header::next_extended_header))]
+fn next_extended_header(front: u8, cursor: &mut Cursor) -> Result<MethodHeader, LoadFault>
+    ensures { Gives (λ h. h) result cursor.new (next_extended_header front cursor.old) }
 {
-    let max_stack = cursor.u1()?;
-    let nargs = cursor.u1()?;
-    let max_locals = cursor.u1()?;
-    Some(MethodHeader {
+    let max_stack = cursor.u1().ok_or(LoadFault::Malformed(METHOD))?;
+    let nargs = cursor.u1().ok_or(LoadFault::Malformed(METHOD))?;
+    let max_locals = cursor.u1().ok_or(LoadFault::Malformed(METHOD))?;
+    Ok(MethodHeader {
         is_abstract: has_flag(front / 16, ACC_ABSTRACT),
         max_stack,
         nargs,
@@ -64,14 +58,14 @@ fn extended_header(front: u8, cursor: &mut Cursor) -> Option<MethodHeader>
 }
 
 /// The next header.
-#[tactic(auto, unfolding(crate::specs::Headers::header_at))]
-pub(crate) fn next_header(cursor: &mut Cursor) -> Option<MethodHeader>
-    ensures { GivesSome (λ h. h) result cursor.new (header_at cursor.old) }
+#[tactic(auto, unfolding(crate::specs::Header::next_header))]
+pub(crate) fn next_header(cursor: &mut Cursor) -> Result<MethodHeader, LoadFault>
+    ensures { Gives (λ h. h) result cursor.new (next_header cursor.old) }
 {
-    let front = cursor.u1()?;
+    let front = cursor.u1().ok_or(LoadFault::Malformed(METHOD))?;
     if has_flag(front / 16, ACC_EXTENDED) {
-        extended_header(front, cursor)
+        next_extended_header(front, cursor)
     } else {
-        short_header(front, cursor)
+        next_short_header(front, cursor)
     }
 }

@@ -7,7 +7,7 @@ mod component;
 mod handler;
 mod header;
 
-pub use component::{MethodInfo, read_method};
+pub use component::{Method, MethodInfo, read_method};
 pub use handler::{Handler, Handlers};
 pub use header::MethodHeader;
 

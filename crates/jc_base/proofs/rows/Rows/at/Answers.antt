@@ -13,7 +13,7 @@ returns-then-self-index g c =
 pub returns : goal.returns
 returns g c =
     let i = c.self.invariant in
-    let at = c.behind-source.ensures ∙ ap (λ (n : ℕ). drop n (g.S.Source.left c.self.inside.start)) (times _ _ _ _ (c.from.ensures ∙ c.SIZE.ensures) c.from-2.ensures) in
+    let at = c.behind-source.ensures ∙ ap (λ (n : ℕ). drop n (g.S.Source.left c.self.inside.start)) (times _ _ _ _ (c.from.ensures ∙ c.size.ensures) c.from-2.ensures) in
     c.ok.ensures.value
-    ∙ row_there g.R.Row.next_row g.R.FixedRow.SIZE g.met.R.FixedRow.has_size c.self.inside.count c.args.index (g.S.Source.left c.self.inside.start) i.0 _ _ c.next_row.result i.1 (omega arith) at c.next_row.ensures
+    ∙ row_there g.R.Row.next_row g.R.FixedRow.size g.met.R.FixedRow.has_size c.self.inside.count c.args.index (g.S.Source.left c.self.inside.start) i.0 _ _ c.next_row.result i.1 (omega arith) at c.next_row.ensures
     ∙ ap (λ xs. slice_get xs c.args.index) c.self.view_is

@@ -1,5 +1,5 @@
 -- Rows one behind the other: passing over them, and finding one of them.
-use Rattle.std.proofs.Common.{◌≡◌, ℕ, zero, suc, ◌<◌, ◌≤◌, ◌+◌, List, [], ◌∷◌, length, Some, None, Result, Ok, Err, refl, sym, ap, ◌∙◌, arith}
+use Rattle.std.proofs.Common.{◌≡◌, ℕ, zero, suc, ◌<◌, ◌≤◌, ◌+◌, List, [], ◌∷◌, ◌++◌, length, Some, None, Result, Ok, Err, refl, sym, ap, ◌∙◌, arith}
 use Rattle.std.specs.List.{slice_get}
 use Rattle.std.proofs.lemmas.Option.{slice_get_past}
 use Rattle.std.specs.Result.{result_ok}
@@ -12,6 +12,10 @@ use Rattle.jc_base.proofs.Binding.{bind_ok, the_ok, ok_err}
 rest_bind : {A B E : Type 0} (r : Result (Read A) E) (f : Read A → Read B) → ((x : Read A) → (f x).rest ≡ x.rest) → rest_of (r >>= λ x. Ok (f x)) ≡ rest_of r
 rest_bind (Ok x) f same = ap (λ (w : List ℕ). Ok w) (same x)
 rest_bind (Err e) f same = refl
+
+-- a value that was read, with what is behind it
+abbrev pub reading : {A : Type 0} → A → List ℕ → Read A
+reading v bytes = record { value = v; rest = bytes }
 
 module _ {A E : Type 0} (next_row : List ℕ → Result (Read A) E) where
   -- one row is passed over
@@ -65,6 +69,23 @@ module _ {A E : Type 0} (next_row : List ℕ → Result (Read A) E) where
       → repeat next_row (suc n) bytes ≡ Ok (record { value = x.value ∷ more.value; rest = more.rest })
   unfolding repeat
   joined n bytes x more here there = rw (here, there) refl
+
+  pub nothing_read : (bytes : List ℕ) → repeat next_row zero bytes ≡ Ok (reading [] bytes)
+  unfolding repeat
+  nothing_read bytes = refl
+
+  -- one row behind others
+  pub one_behind : (n : ℕ) (bytes : List ℕ) (front : Read (List A)) (x : Read A) → repeat next_row n bytes ≡ Ok front → next_row front.rest ≡ Ok x
+      → repeat next_row (suc n) bytes ≡ Ok (reading (front.value ++ x.value ∷ []) x.rest)
+  one_behind zero bytes front x e f =
+      let same = the_ok _ front (sym (nothing_read bytes) ∙ e) in
+      let here : next_row bytes ≡ Ok x = ap (λ (w : Read (List A)). next_row w.rest) same ∙ f in
+      joined zero bytes x (reading [] x.rest) here (nothing_read x.rest) ∙ ap (λ (w : Read (List A)). Ok (reading (w.value ++ x.value ∷ []) x.rest)) same
+  one_behind (suc n) bytes front x e f =
+      let p = parts n bytes front e in
+      let there : next_row p.more.rest ≡ Ok x = ap next_row p.left ∙ f in
+      joined (suc n) bytes p.first _ p.here (one_behind n p.first.rest p.more x p.there there)
+      ∙ ap (λ (w : List A). Ok (reading (w ++ x.value ∷ []) x.rest)) p.rows
 
   pub length-rows : (n : ℕ) (bytes : List ℕ) (all : Read (List A)) → repeat next_row n bytes ≡ Ok all → length all.value ≡ n
   unfolding repeat

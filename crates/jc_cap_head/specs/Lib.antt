@@ -1,1 +1,1 @@
-pub mod Headers
+pub mod Header

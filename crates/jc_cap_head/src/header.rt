@@ -1,10 +1,10 @@
 //! The Header component.
 
 ghost use Rattle.std.specs.Prelude.{◌≡◌};
-ghost use Rattle.jc_cap_head.specs.Headers.{header_of};
+ghost use Rattle.jc_cap_head.specs.Header.{header_of};
 
 use jc_base::tag::HEADER;
-use jc_base::{Cursor, LoadFault, PackageInfo, Parts};
+use jc_base::{Cursor, LoadFault, PackageInfo, Parts, has_flag, next_package_info};
 
 /// What a Header begins with.
 const MAGIC: u32 = 0xDECA_FFED;
@@ -25,7 +25,7 @@ pub struct Header {
 /// Reads the Header component of format 2.1 (Java Card Virtual Machine Specification, CAP file format: Header
 /// component). Of the flags only ACC_INT is looked at. A magic number or a version that isn't there isn't the
 /// one that is wanted.
-#[tactic(auto, unfolding(crate::specs::Headers::header_of))]
+#[tactic(auto, unfolding(crate::specs::Header::header_of))]
 pub fn read_header(parts: &Parts) -> Result<Header, LoadFault>
     ensures { result ≡ header_of parts.now.header }
 {
@@ -40,10 +40,10 @@ pub fn read_header(parts: &Parts) -> Result<Header, LoadFault>
         return Err(LoadFault::FormatVersion);
     }
     let flags = cursor.u1().ok_or(LoadFault::Malformed(HEADER))?;
-    if flags & ACC_INT != 0 {
+    if has_flag(flags, ACC_INT) {
         return Err(LoadFault::IntPackage);
     }
-    let package = PackageInfo::read(&mut cursor, HEADER)?;
+    let package = next_package_info(&mut cursor, HEADER)?;
     if !cursor.is_empty() {
         return Err(LoadFault::Malformed(HEADER));
     }

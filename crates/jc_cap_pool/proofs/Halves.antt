@@ -3,8 +3,8 @@ use Rattle.std.proofs.Common.{◌≡◌, ℕ, zero, suc, ◌+◌, ◌-◌, ◌*�
 use Rattle.std.proofs.Math.Seq.{drop-cons}
 use Rattle.std.proofs.lemmas.List.{length-drop, length-take-le, get_or-take, nil_from_length}
 use Rattle.std.proofs.lemmas.Bool.{eqb-true, eq-eqb}
-use Rattle.jc_base.proofs.Many.{reading}
-use Rattle.jc_cap_pool.specs.Nibbles.{nibbles_of, nibble_at}
+use Rattle.jc_base.proofs.Repeats.{reading}
+use Rattle.jc_cap_pool.specs.Nibbles.{nibbles_of, next_nibble}
 
 pub length-nibbles : (bytes : List ℕ) → length (nibbles_of bytes) ≡ 2 * length bytes
 length-nibbles [] = refl
@@ -28,14 +28,20 @@ nibble-low (suc (suc at)) (b ∷ bytes) lt odd =
 
 -- one nibble on
 pub nibble-front : (at end nibble : ℕ) (bytes : List ℕ) → at < end → end ≤ 2 * length bytes → nibble ≡ get_or (nibbles_of bytes) at 0
-    → nibble_at (drop at (take end (nibbles_of bytes))) ≡ Some (reading nibble (drop (at + 1) (take end (nibbles_of bytes))))
+    → next_nibble (drop at (take end (nibbles_of bytes))) ≡ Some (reading nibble (drop (at + 1) (take end (nibbles_of bytes))))
 nibble-front at end nibble bytes lt le is =
     let xs = nibbles_of bytes in
     let len : length (take end (nibbles_of bytes)) ≡ end = length-take-le end (nibbles_of bytes) (omega (arith, length-nibbles bytes)) in
     let one : at + 1 ≡ suc at = omega arith in
-    ap nibble_at (drop-cons (take end (nibbles_of bytes)) at 0 (omega arith))
+    ap next_nibble (drop-cons (take end (nibbles_of bytes)) at 0 (omega arith))
     ∙ ap (λ (n : ℕ). Some (reading n (drop (suc at) (take end (nibbles_of bytes))))) (get_or-take end (nibbles_of bytes) at 0 lt ∙ sym is)
     ∙ ap (λ (k : ℕ). Some (reading nibble (drop k (take end (nibbles_of bytes))))) (sym one)
+
+-- how many are left
+pub length-left : (at end : ℕ) (bytes : List ℕ) → end ≤ 2 * length bytes → length (drop at (take end (nibbles_of bytes))) ≡ end - at
+length-left at end bytes le =
+    let len : length (take end (nibbles_of bytes)) ≡ end = length-take-le end (nibbles_of bytes) (omega (arith, length-nibbles bytes)) in
+    length-drop at (take end (nibbles_of bytes)) ∙ ap (λ (k : ℕ). k - at) len
 
 -- at the end no nibble is left, and only there
 pub none-left : (at end : ℕ) (bytes : List ℕ) → at ≤ end → end ≤ 2 * length bytes

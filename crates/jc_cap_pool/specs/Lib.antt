@@ -1,5 +1,7 @@
-pub mod Entries
+pub mod Entry
+pub mod PrivateEntry
 pub mod Pool
 pub mod Nibbles
-pub mod Types
-pub mod Descriptors
+pub mod DeclaredType
+pub mod Descriptor
+pub mod PrivateDescriptor

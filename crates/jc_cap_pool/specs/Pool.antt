@@ -1,18 +1,16 @@
 -- The ConstantPool component (Java Card Virtual Machine Specification, CAP file format: Constant Pool component).
-use Rattle.std.specs.Prelude.{ℕ, List, Option}
-use Rattle.jc_base.specs.Cursor.{◌>>=◌, next_u2}
-use Rattle.jc_base.specs.Many.{many_at, whole}
+use Rattle.std.specs.Prelude.{ℕ, List, Result}
+use Rattle.jc_base.specs.Cursor.{next_u2, field, whole}
+use Rattle.jc_base.specs.Results.{◌>>=◌}
+use Rattle.jc_base.specs.Rows.{repeat}
+use Rattle.jc_base.specs.Tag.{constant_pool_tag}
+use Rattle.jc_base.specs.declared.fault.LoadFault.{LoadFault}
+use Rattle.jc_base.specs.declared.fault.LoadFault.TheVariants.{Malformed}
 use Rattle.jc_cap_pool.specs.declared.entry.PoolEntry.{PoolEntry}
-use Rattle.jc_cap_pool.specs.Entries.{entry_at}
+use Rattle.jc_cap_pool.specs.Entry.{next_entry}
 
--- so many entries and nothing more
-unfoldable pub entries_of : ℕ → List ℕ → Option (List PoolEntry)
-entries_of count bytes = do
-  entries ← many_at entry_at count bytes
-  whole entries
-
--- a number that counts the entries, and the entries
-unfoldable pub pool_of : List ℕ → Option (List PoolEntry)
+-- a number that counts the entries, and so many entries, with nothing behind them
+unfoldable pub pool_of : List ℕ → Result (List PoolEntry) LoadFault
 pool_of info = do
-  count ← next_u2 info
-  entries_of count.value count.rest
+  count ← field constant_pool_tag (next_u2 info)
+  whole (Malformed constant_pool_tag) (repeat next_entry count.value count.rest)

@@ -1,11 +1,14 @@
 //! The types of fields, parameters and results.
 
-ghost use Rattle.std.specs.Prelude.{◌≡◌};
-ghost use Rattle.jc_base.specs.Cursor.{GivesSome};
-ghost use Rattle.jc_cap_pool.specs.Types.{class_at, type_with, type_at, result_with, result_at};
+ghost use Rattle.std.specs.Prelude.{◌≡◌, ◌<◌, IfOk};
+ghost use Rattle.jc_base.specs.Cursor.{Gives, field};
+ghost use Rattle.jc_base.specs.Tag.{descriptor_tag};
+ghost use Rattle.jc_cap_pool.specs.Nibbles.{next_nibble};
+ghost use Rattle.jc_cap_pool.specs.DeclaredType.{next_class, next_coded_type, next_type, next_coded_return, next_return};
 
 use crate::nibbles::Nibbles;
-use jc_base::{ClassRef, class_ref_of};
+use jc_base::tag::DESCRIPTOR;
+use jc_base::{ClassRef, LoadFault, Row, class_ref_of};
 
 const VOID: u8 = 1;
 
@@ -41,54 +44,70 @@ pub enum DeclaredType {
     ReferenceArray(ClassRef),
 }
 
-/// The class that the next four nibbles name.
-#[tactic(auto, unfolding(crate::specs::Types::class_at))]
-fn class(nibbles: &mut Nibbles) -> Option<ClassRef>
-    ensures { GivesSome (λ c. c) result nibbles.new (class_at nibbles.old) }
+/// What a method gives.
+#[derive(Clone, Copy, Debug, PartialEq, Eq)]
+pub enum ReturnType {
+    Void,
+    Value(DeclaredType),
+}
+
+/// The next nibble.
+fn nibble(nibbles: &mut Nibbles) -> Result<u8, LoadFault>
+    ensures next { Gives (λ n. n) result nibbles.new (field descriptor_tag (next_nibble nibbles.old)) }
+    ensures small { IfOk result (λ n. n < 16) }
 {
-    let first = u16::from(nibbles.next()?);
-    let second = u16::from(nibbles.next()?);
-    let third = u16::from(nibbles.next()?);
-    let fourth = u16::from(nibbles.next()?);
-    Some(class_ref_of(16 * (16 * (16 * first + second) + third) + fourth))
+    nibbles.next().ok_or(LoadFault::Malformed(DESCRIPTOR))
+}
+
+/// The class that the next four nibbles name.
+#[tactic(auto, unfolding(crate::specs::DeclaredType::next_class))]
+fn next_class(nibbles: &mut Nibbles) -> Result<ClassRef, LoadFault>
+    ensures { Gives (λ c. c) result nibbles.new (next_class nibbles.old) }
+{
+    let first = u16::from(nibble(nibbles)?);
+    let second = u16::from(nibble(nibbles)?);
+    let third = u16::from(nibble(nibbles)?);
+    let fourth = u16::from(nibble(nibbles)?);
+    Ok(class_ref_of(16 * (16 * (16 * first + second) + third) + fourth))
 }
 
 /// The rest of a type, behind its first nibble.
-#[tactic(auto, unfolding(crate::specs::Types::type_with))]
-fn coded_type(code: u8, nibbles: &mut Nibbles) -> Option<DeclaredType>
-    ensures { GivesSome (λ t. t) result nibbles.new (type_with code nibbles.old) }
+#[tactic(auto, unfolding(crate::specs::DeclaredType::next_coded_type))]
+fn next_coded_type(code: u8, nibbles: &mut Nibbles) -> Result<DeclaredType, LoadFault>
+    ensures { Gives (λ t. t) result nibbles.new (next_coded_type code nibbles.old) }
 {
     match code {
-        BOOLEAN => Some(DeclaredType::Boolean),
-        BYTE => Some(DeclaredType::Byte),
-        SHORT => Some(DeclaredType::Short),
-        REFERENCE => Some(DeclaredType::Reference(class(nibbles)?)),
-        BOOLEAN_ARRAY => Some(DeclaredType::BooleanArray),
-        BYTE_ARRAY => Some(DeclaredType::ByteArray),
-        SHORT_ARRAY => Some(DeclaredType::ShortArray),
-        REFERENCE_ARRAY => Some(DeclaredType::ReferenceArray(class(nibbles)?)),
-        _ => None,
+        BOOLEAN => Ok(DeclaredType::Boolean),
+        BYTE => Ok(DeclaredType::Byte),
+        SHORT => Ok(DeclaredType::Short),
+        REFERENCE => Ok(DeclaredType::Reference(next_class(nibbles)?)),
+        BOOLEAN_ARRAY => Ok(DeclaredType::BooleanArray),
+        BYTE_ARRAY => Ok(DeclaredType::ByteArray),
+        SHORT_ARRAY => Ok(DeclaredType::ShortArray),
+        REFERENCE_ARRAY => Ok(DeclaredType::ReferenceArray(next_class(nibbles)?)),
+        _ => Err(LoadFault::Malformed(DESCRIPTOR)),
     }
 }
 
-/// The next type.
-#[tactic(auto, unfolding(crate::specs::Types::type_at))]
-pub(crate) fn next_type(nibbles: &mut Nibbles) -> Option<DeclaredType>
-    ensures { GivesSome (λ t. t) result nibbles.new (type_at nibbles.old) }
-{
-    let code = nibbles.next()?;
-    coded_type(code, nibbles)
+impl<'a> Row<Nibbles<'a>> for DeclaredType {
+    ghost next_row = { next_type };
+
+    #[tactic(auto, unfolding(crate::specs::DeclaredType::next_type))]
+    fn next_row(nibbles: &mut Nibbles<'a>) -> Result<DeclaredType, LoadFault> {
+        let code = nibble(nibbles)?;
+        next_coded_type(code, nibbles)
+    }
 }
 
-/// The next type, or void, which is no type.
-#[tactic(auto, unfolding(crate::specs::Types::result_at, crate::specs::Types::result_with))]
-pub(crate) fn next_result(nibbles: &mut Nibbles) -> Option<Option<DeclaredType>>
-    ensures { GivesSome (λ r. r) result nibbles.new (result_at nibbles.old) }
+/// What a method gives: a type or void.
+#[tactic(auto, unfolding(crate::specs::DeclaredType::next_return, crate::specs::DeclaredType::next_coded_return))]
+pub(crate) fn next_return(nibbles: &mut Nibbles) -> Result<ReturnType, LoadFault>
+    ensures { Gives (λ r. r) result nibbles.new (next_return nibbles.old) }
 {
-    let code = nibbles.next()?;
+    let code = nibble(nibbles)?;
     if code == VOID {
-        return Some(None);
+        return Ok(ReturnType::Void);
     }
-    let found = coded_type(code, nibbles)?;
-    Some(Some(found))
+    let found = next_coded_type(code, nibbles)?;
+    Ok(ReturnType::Value(found))
 }

@@ -1,34 +1,33 @@
 //! Type descriptors.
 
-ghost use Rattle.std.specs.Prelude.{◌≡◌, ◌↔◌, ◌<◌, ℕ, List, Some, [], ◌∷◌, length, IsTrue, MatchOption};
-ghost use Rattle.jc_base.specs.Cursor.{GivesSome};
-ghost use Rattle.jc_cap_pool.specs.Descriptors.{Signature, IsSpelled, signature_of, descriptor_at, descriptor_from, field_type_of};
+ghost use Rattle.std.specs.Prelude.{◌≡◌, ◌↔◌, ◌<◌, ℕ, List, Ok, length};
+ghost use Rattle.jc_base.specs.Cursor.{Gives};
+ghost use Rattle.jc_cap_pool.specs.Descriptor.{Signature, IsSpelled, signature_of, next_descriptor, descriptor_at, field_type_of};
+ghost use Rattle.jc_cap_pool.specs.PrivateDescriptor.{descriptor_shrinks};
 
-use crate::declared_type::{DeclaredType, next_result, next_type};
+use crate::declared_type::{DeclaredType, ReturnType, next_return};
 use crate::nibbles::{Nibbles, next_nibbles};
-use jc_base::Cursor;
+use jc_base::tag::DESCRIPTOR;
+use jc_base::{Cursor, LoadFault, PlacedRow, PlacedRows, Row, Rows, Source};
 use std::marker::Model;
+
+/// The types of parameters, in their order.
+pub type Parameters<'a> = Rows<Nibbles<'a>, DeclaredType>;
 
 /// A descriptor (Java Card Virtual Machine Specification, Descriptor component: `type_descriptor_info`):
 /// what a method takes and gives. One without parameters that gives something is a field's type as well.
 #[derive(Drop)]
 pub struct Descriptor<'a> {
-    nibbles: Nibbles<'a>,
-    parameters: u8,
-    result: Option<DeclaredType>,
+    parameters: Parameters<'a>,
+    result: ReturnType,
 }
 
 impl<'a> Model for Descriptor<'a> {
-    ghost use Rattle.std.specs.Prelude.{IsSome};
-    ghost use Rattle.jc_base.specs.Many.{many_at, values_of};
-    ghost use Rattle.jc_cap_pool.specs.Types.{type_at};
-    ghost use Rattle.jc_cap_pool.specs.Descriptors.{Signature};
+    ghost use Rattle.jc_cap_pool.specs.Descriptor.{Signature};
 
     ghost Value = { Signature };
 
-    ghost view = { λ d. record { parameters = values_of type_at d.parameters d.nibbles; result = d.result } };
-
-    ghost invariant = { λ d. IsSome (many_at type_at d.parameters d.nibbles) };
+    ghost view = { λ d. record { parameters = d.parameters; result = d.result } };
 }
 
 impl<'a> Descriptor<'a> {
@@ -36,14 +35,11 @@ impl<'a> Descriptor<'a> {
     pub fn parameters(&self) -> Parameters<'a>
         ensures { result ≡ self.now.parameters }
     {
-        Parameters {
-            nibbles: self.nibbles.again(),
-            count: self.parameters,
-        }
+        self.parameters.again()
     }
 
-    /// The type of the result, or `None` for void.
-    pub fn result(&self) -> Option<DeclaredType>
+    /// What is given.
+    pub fn result(&self) -> ReturnType
         ensures { result ≡ self.now.result }
     {
         self.result
@@ -53,103 +49,71 @@ impl<'a> Descriptor<'a> {
     pub fn field_type(&self) -> Option<DeclaredType>
         ensures { result ≡ field_type_of self.now }
     {
-        if self.parameters == 0 {
-            self.result
-        } else {
-            None
-        }
-    }
-}
-
-/// Types of parameters that are left to read.
-#[derive(Drop)]
-pub struct Parameters<'a> {
-    nibbles: Nibbles<'a>,
-    count: u8,
-}
-
-impl<'a> Model for Parameters<'a> {
-    ghost use Rattle.std.specs.Prelude.{List, IsSome};
-    ghost use Rattle.jc_base.specs.Many.{many_at, values_of};
-    ghost use Rattle.jc_cap_pool.specs.declared.declared_type.DeclaredType.{DeclaredType};
-    ghost use Rattle.jc_cap_pool.specs.Types.{type_at};
-
-    ghost Value = { List DeclaredType };
-
-    ghost view = { λ p. values_of type_at p.count p.nibbles };
-
-    ghost invariant = { λ p. IsSome (many_at type_at p.count p.nibbles) };
-}
-
-impl<'a> Parameters<'a> {
-    /// How many types are left.
-    pub fn len(&self) -> usize
-        ensures { result ≡ length self.now }
-    {
-        usize::from(self.count)
-    }
-
-    /// Whether no type is left.
-    pub fn is_empty(&self) -> bool
-        ensures { IsTrue result ↔ (self.now ≡ []) }
-    {
-        self.len() == 0
-    }
-
-    /// The next type, or `None` behind the last.
-    pub fn next(&mut self) -> Option<DeclaredType>
-        ensures { MatchOption result ((self.old ≡ []) × (self.new ≡ [])) (λ found. self.old ≡ found ∷ self.new) }
-    {
-        if self.count == 0 {
+        if self.parameters.len() != 0 {
             return None;
         }
-        self.count -= 1;
-        next_type(&mut self.nibbles)
+        match self.result {
+            ReturnType::Void => None,
+            ReturnType::Value(found) => Some(found),
+        }
     }
 }
 
-/// The descriptor that has these nibbles, or `None` where they are no signature.
-fn signature<'a>(nibbles: &Nibbles<'a>) -> Option<Descriptor<'a>>
+/// The descriptor that has these nibbles, or `Malformed(11)` where they are no signature.
+fn signature<'a>(nibbles: &Nibbles<'a>) -> Result<Descriptor<'a>, LoadFault>
     requires { length nibbles.now < 256 }
     ensures { result ≡ signature_of nibbles.now }
 {
     let mut left = nibbles.again();
-    let mut parameters = 0;
+    let mut count = 0;
     loop {
-        let result = next_result(&mut left)?;
+        let result = next_return(&mut left)?;
         if left.is_empty() {
-            return Some(Descriptor {
-                nibbles: nibbles.again(),
-                parameters,
-                result,
-            });
+            let parameters = Rows::read(&mut nibbles.again(), count)?;
+            return Ok(Descriptor { parameters, result });
         }
-        let Some(_) = result else {
-            return None;
+        let ReturnType::Value(_) = result else {
+            return Err(LoadFault::Malformed(DESCRIPTOR));
         };
-        parameters += 1;
+        count += 1;
     }
 }
 
 /// The next descriptor.
-#[tactic(auto, unfolding(crate::specs::Descriptors::descriptor_at))]
-pub fn next_descriptor<'a>(cursor: &mut Cursor<'a>) -> Option<Descriptor<'a>>
-    ensures { GivesSome (λ d. d) result cursor.new (descriptor_at cursor.old) }
+#[tactic(auto, unfolding(crate::specs::Descriptor::next_descriptor))]
+pub fn next_descriptor<'a>(cursor: &mut Cursor<'a>) -> Result<Descriptor<'a>, LoadFault>
+    ensures { Gives (λ d. d) result cursor.new (next_descriptor cursor.old) }
 {
-    let count = cursor.u1()?;
+    let count = cursor.u1().ok_or(LoadFault::Malformed(DESCRIPTOR))?;
     let nibbles = next_nibbles(cursor, count)?;
     signature(&nibbles)
 }
 
-/// The descriptor that begins at an offset of the bytes, or `None` where none begins: where it runs past
-/// the bytes, or where its nibbles are neither a type nor a method's types.
-pub fn descriptor_at<'a>(bytes: &'a [u8], offset: u16) -> Option<Descriptor<'a>>
-    ensures { result ≡ descriptor_from offset bytes.now }
+impl<'a> Row<Cursor<'a>> for Descriptor<'a> {
+    ghost next_row = { next_descriptor };
+
+    fn next_row(cursor: &mut Cursor<'a>) -> Result<Descriptor<'a>, LoadFault> {
+        next_descriptor(cursor)
+    }
+}
+
+impl<'a> PlacedRow<Cursor<'a>> for Descriptor<'a> {
+    ghost shrinks = { descriptor_shrinks };
+}
+
+/// Descriptors one behind the other until nothing is left, each found at the offset at which it begins.
+pub type Descriptors<'a> = PlacedRows<Cursor<'a>, Descriptor<'a>>;
+
+/// The descriptor that begins at an offset of the bytes, which from offset `first` on are descriptors to their end. Or
+/// `None`, where none begins there, or where the bytes aren't that.
+pub fn descriptor_at<'a>(bytes: &'a [u8], first: usize, offset: usize) -> Option<Descriptor<'a>>
+    ensures { result ≡ descriptor_at first offset bytes.now }
 {
-    next_descriptor(&mut Cursor::at(bytes, usize::from(offset)))
+    let descriptors = Descriptors::read(&Cursor::new(bytes), first).ok()?;
+    descriptors.at(offset)
 }
 
 /// Nibbles are read as a signature exactly where they are the spelling of one, and as that one.
 pub fn signatures_are_spelled()
-    ensures { (nibbles : List ℕ) (s : Signature) → (signature_of nibbles ≡ Some s) ↔ IsSpelled s.parameters s.result nibbles }
+    ensures { (nibbles : List ℕ) (s : Signature) → (signature_of nibbles ≡ Ok s) ↔ IsSpelled s.parameters s.result nibbles }
 {}

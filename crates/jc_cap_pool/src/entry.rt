@@ -1,10 +1,12 @@
 //! Entries of the constant pool.
 
 ghost use Rattle.std.specs.Prelude.{◌≡◌};
-ghost use Rattle.jc_base.specs.Cursor.{GivesSome};
-ghost use Rattle.jc_cap_pool.specs.Entries.{member_ref_at, static_ref_at, entry_with, entry_at};
+ghost use Rattle.jc_base.specs.Cursor.{Gives};
+ghost use Rattle.jc_cap_pool.specs.Entry.{next_member_ref, next_static_ref, next_tagged_entry, next_entry};
+ghost use Rattle.jc_cap_pool.specs.PrivateEntry.{entry_has_size};
 
-use jc_base::{ClassRef, Cursor, class_ref_of};
+use jc_base::tag::CONSTANT_POOL;
+use jc_base::{ClassRef, Cursor, FixedRow, LoadFault, Row, class_ref_of};
 
 const CLASSREF: u8 = 1;
 
@@ -59,28 +61,31 @@ pub enum PoolEntry {
 }
 
 /// The reference to a class, and the byte behind it.
-#[tactic(auto, unfolding(crate::specs::Entries::member_ref_at))]
-fn member_ref(cursor: &mut Cursor) -> Option<MemberRef>
-    ensures { GivesSome (λ m. m) result cursor.new (member_ref_at cursor.old) }
+#[tactic(auto, unfolding(crate::specs::Entry::next_member_ref))]
+fn next_member_ref(cursor: &mut Cursor) -> Result<MemberRef, LoadFault>
+    ensures { Gives (λ m. m) result cursor.new (next_member_ref cursor.old) }
 {
-    let class = class_ref_of(cursor.u2()?);
-    let token = cursor.u1()?;
-    Some(MemberRef { class, token })
+    let class = cursor.u2().ok_or(LoadFault::Malformed(CONSTANT_POOL))?;
+    let token = cursor.u1().ok_or(LoadFault::Malformed(CONSTANT_POOL))?;
+    Ok(MemberRef {
+        class: class_ref_of(class),
+        token,
+    })
 }
 
 /// The reference to a static member.
-#[tactic(auto, unfolding(crate::specs::Entries::static_ref_at))]
-fn static_ref(cursor: &mut Cursor) -> Option<StaticRef>
-    ensures { GivesSome (λ s. s) result cursor.new (static_ref_at cursor.old) }
+#[tactic(auto, unfolding(crate::specs::Entry::next_static_ref))]
+fn next_static_ref(cursor: &mut Cursor) -> Result<StaticRef, LoadFault>
+    ensures { Gives (λ s. s) result cursor.new (next_static_ref cursor.old) }
 {
-    let front = cursor.u1()?;
+    let front = cursor.u1().ok_or(LoadFault::Malformed(CONSTANT_POOL))?;
     if front < EXTERNAL {
-        let offset = cursor.u2()?;
-        return Some(StaticRef::Internal { offset });
+        let offset = cursor.u2().ok_or(LoadFault::Malformed(CONSTANT_POOL))?;
+        return Ok(StaticRef::Internal { offset });
     }
-    let class = cursor.u1()?;
-    let token = cursor.u1()?;
-    Some(StaticRef::External {
+    let class = cursor.u1().ok_or(LoadFault::Malformed(CONSTANT_POOL))?;
+    let token = cursor.u1().ok_or(LoadFault::Malformed(CONSTANT_POOL))?;
+    Ok(StaticRef::External {
         package: front - EXTERNAL,
         class,
         token,
@@ -88,26 +93,39 @@ fn static_ref(cursor: &mut Cursor) -> Option<StaticRef>
 }
 
 /// The rest of an entry, behind its tag.
-#[tactic(auto, unfolding(crate::specs::Entries::entry_with))]
-fn tagged_entry(tag: u8, cursor: &mut Cursor) -> Option<PoolEntry>
-    ensures { GivesSome (λ e. e) result cursor.new (entry_with tag cursor.old) }
+#[tactic(auto, unfolding(crate::specs::Entry::next_tagged_entry))]
+fn next_tagged_entry(tag: u8, cursor: &mut Cursor) -> Result<PoolEntry, LoadFault>
+    ensures { Gives (λ e. e) result cursor.new (next_tagged_entry tag cursor.old) }
 {
     match tag {
-        CLASSREF => Some(PoolEntry::Classref(member_ref(cursor)?.class)),
-        INSTANCE_FIELDREF => Some(PoolEntry::InstanceFieldref(member_ref(cursor)?)),
-        VIRTUAL_METHODREF => Some(PoolEntry::VirtualMethodref(member_ref(cursor)?)),
-        SUPER_METHODREF => Some(PoolEntry::SuperMethodref(member_ref(cursor)?)),
-        STATIC_FIELDREF => Some(PoolEntry::StaticFieldref(static_ref(cursor)?)),
-        STATIC_METHODREF => Some(PoolEntry::StaticMethodref(static_ref(cursor)?)),
-        _ => None,
+        CLASSREF => Ok(PoolEntry::Classref(next_member_ref(cursor)?.class)),
+        INSTANCE_FIELDREF => Ok(PoolEntry::InstanceFieldref(next_member_ref(cursor)?)),
+        VIRTUAL_METHODREF => Ok(PoolEntry::VirtualMethodref(next_member_ref(cursor)?)),
+        SUPER_METHODREF => Ok(PoolEntry::SuperMethodref(next_member_ref(cursor)?)),
+        STATIC_FIELDREF => Ok(PoolEntry::StaticFieldref(next_static_ref(cursor)?)),
+        STATIC_METHODREF => Ok(PoolEntry::StaticMethodref(next_static_ref(cursor)?)),
+        _ => Err(LoadFault::Malformed(CONSTANT_POOL)),
     }
 }
 
-/// The next entry.
-#[tactic(auto, unfolding(crate::specs::Entries::entry_at))]
-pub(crate) fn next_entry(cursor: &mut Cursor) -> Option<PoolEntry>
-    ensures { GivesSome (λ e. e) result cursor.new (entry_at cursor.old) }
-{
-    let tag = cursor.u1()?;
-    tagged_entry(tag, cursor)
+impl<'a> Row<Cursor<'a>> for PoolEntry {
+    ghost next_row = { next_entry };
+
+    #[tactic(auto, unfolding(crate::specs::Entry::next_entry))]
+    fn next_row(cursor: &mut Cursor<'a>) -> Result<PoolEntry, LoadFault> {
+        let tag = cursor.u1().ok_or(LoadFault::Malformed(CONSTANT_POOL))?;
+        next_tagged_entry(tag, cursor)
+    }
+}
+
+impl<'a> FixedRow<Cursor<'a>> for PoolEntry {
+    ghost size = { 4 };
+
+    fn size() -> u8
+        ensures { result ≡ 4 }
+    {
+        4
+    }
+
+    ghost has_size = { entry_has_size };
 }

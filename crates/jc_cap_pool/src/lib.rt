@@ -10,11 +10,12 @@ mod entry;
 mod nibbles;
 mod pool;
 
-pub use declared_type::DeclaredType;
+pub use declared_type::{DeclaredType, ReturnType};
 pub use descriptor::{
-    Descriptor, Parameters, descriptor_at, next_descriptor, signatures_are_spelled,
+    Descriptor, Descriptors, Parameters, descriptor_at, next_descriptor, signatures_are_spelled,
 };
 pub use entry::{MemberRef, PoolEntry, StaticRef};
+pub use nibbles::Nibbles;
 pub use pool::{ConstantPool, read_pool};
 
 #[cfg(test)]

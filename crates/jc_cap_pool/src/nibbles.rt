@@ -1,15 +1,16 @@
 //! Halves of bytes.
 
 ghost use Rattle.std.specs.Prelude.{◌≡◌, ◌↔◌, [], ◌<◌, length, IsTrue, IfSome};
-ghost use Rattle.jc_base.specs.Cursor.{Takes, GivesSome};
-ghost use Rattle.jc_cap_pool.specs.Nibbles.{nibble_at, nibbles_at};
+ghost use Rattle.jc_base.specs.Cursor.{Takes, Gives};
+ghost use Rattle.jc_cap_pool.specs.Nibbles.{next_nibble, next_nibbles};
 
-use jc_base::Cursor;
+use jc_base::tag::DESCRIPTOR;
+use jc_base::{Cursor, LoadFault, Source};
 use std::marker::Model;
 
 /// Nibbles that are left to read: four bits each, the high ones of a byte first.
 #[derive(Drop)]
-pub(crate) struct Nibbles<'a> {
+pub struct Nibbles<'a> {
     bytes: &'a [u8],
     at: usize,
     end: usize,
@@ -34,20 +35,9 @@ impl<'a> Nibbles<'a> {
         self.at == self.end
     }
 
-    /// The same nibbles, to be read on their own.
-    pub(crate) fn again(&self) -> Nibbles<'a>
-        ensures { result ≡ self.now }
-    {
-        Nibbles {
-            bytes: self.bytes,
-            at: self.at,
-            end: self.end,
-        }
-    }
-
     /// The next nibble, below 16.
     pub(crate) fn next(&mut self) -> Option<u8>
-        ensures next { Takes (λ x. x) result self.old self.new (nibble_at self.old) }
+        ensures next { Takes (λ x. x) result self.old self.new (next_nibble self.old) }
         ensures small { IfSome result (λ nibble. nibble < 16) }
     {
         if self.at == self.end {
@@ -64,12 +54,43 @@ impl<'a> Nibbles<'a> {
     }
 }
 
+impl<'a> Source for Nibbles<'a> {
+    ghost left = { λ nibbles. nibbles };
+
+    fn len(&self) -> usize {
+        self.end - self.at
+    }
+
+    fn again(&self) -> Nibbles<'a> {
+        Nibbles {
+            bytes: self.bytes,
+            at: self.at,
+            end: self.end,
+        }
+    }
+
+    fn behind(&self, count: usize) -> Nibbles<'a> {
+        let at = if count < self.end - self.at {
+            self.at + count
+        } else {
+            self.end
+        };
+        Nibbles {
+            bytes: self.bytes,
+            at,
+            end: self.end,
+        }
+    }
+}
+
 /// The next `count` nibbles, in whole bytes.
-#[tactic(auto, unfolding(crate::specs::Nibbles::nibbles_at))]
-pub(crate) fn next_nibbles<'a>(cursor: &mut Cursor<'a>, count: u8) -> Option<Nibbles<'a>>
-    ensures { GivesSome (λ n. n) result cursor.new (nibbles_at count cursor.old) }
+#[tactic(auto, unfolding(crate::specs::Nibbles::next_nibbles))]
+pub(crate) fn next_nibbles<'a>(cursor: &mut Cursor<'a>, count: u8) -> Result<Nibbles<'a>, LoadFault>
+    ensures { Gives (λ n. n) result cursor.new (next_nibbles count cursor.old) }
 {
     let end = usize::from(count);
-    let bytes = cursor.take((end + 1) / 2)?;
-    Some(Nibbles { bytes, at: 0, end })
+    let bytes = cursor
+        .take((end + 1) / 2)
+        .ok_or(LoadFault::Malformed(DESCRIPTOR))?;
+    Ok(Nibbles { bytes, at: 0, end })
 }

@@ -3,7 +3,7 @@ use Rattle.jc_cap_pool.proofs.Signatures.{IsSoFar}
 use Rattle.jc_cap_pool.proofs.descriptor.signature.Given as goal
 
 abbrev pub invariant-loop-result : goal.invariant-loop-result
-invariant-loop-result l = IsSoFar l.nibbles l.parameters l.left
+invariant-loop-result l = IsSoFar l.nibbles l.count l.left
 
 abbrev pub decreases-loop-result : goal.decreases-loop-result
 decreases-loop-result l = length l.left

@@ -1,0 +1,36 @@
+-- A descriptor takes a byte at least. The lemma stands here, since the row's law takes it from specs alone.
+use Rattle.std.specs.Prelude.{◌≡◌, ℕ, ◌+◌, ◌/◌, ◌≤◌, Bool, true, false, cond, List, [], ◌∷◌, length, drop, take, None, Some, Result, Ok, Err, nat_lt}
+use Rattle.std.proofs.Common.{ap, sym, ◌∙◌, arith, length-drop}
+use Rattle.jc_base.specs.Cursor.{Read, next_bytes, field}
+use Rattle.jc_base.specs.PlacedRows.{Shrinks}
+use Rattle.jc_base.specs.declared.fault.LoadFault.{LoadFault}
+use Rattle.jc_base.proofs.Binding.{the_ok, bind_ok}
+use Rattle.jc_cap_pool.specs.Descriptor.{Signature, next_descriptor, signature_of}
+use Rattle.jc_cap_pool.specs.Nibbles.{next_nibbles}
+
+bytes_keep : (tag n : ℕ) (bytes : List ℕ) (x : Read (List ℕ)) → field tag (next_bytes n bytes) ≡ Ok x → length x.rest ≤ length bytes
+bytes_keep tag n bytes x e = part (nat_lt (length bytes) n) e
+  where
+    part : (b : Bool) → field tag (cond b None (Some (record { value = take n bytes; rest = drop n bytes }))) ≡ Ok x → length x.rest ≤ length bytes
+    part true h = absurd cc
+    part false h =
+        let e : length (drop n bytes) ≡ length x.rest = ap (λ (r : Read (List ℕ)). length r.rest) (the_ok _ x h) in
+        omega (arith, length-drop n bytes)
+
+nibbles_keep : (n : ℕ) (bytes : List ℕ) (x : Read (List ℕ)) → next_nibbles n bytes ≡ Ok x → length x.rest ≤ length bytes
+unfolding next_nibbles
+nibbles_keep n bytes x e =
+    let a = bind_ok (field 11 (next_bytes ((n + 1) / 2) bytes)) _ x e in
+    let k = bytes_keep 11 ((n + 1) / 2) bytes a.0 a.1 in
+    let h : length a.0.rest ≡ length x.rest = ap (λ (r : Read (List ℕ)). length r.rest) (the_ok _ x a.2) in
+    omega arith
+
+pub descriptor_shrinks : Shrinks next_descriptor
+unfolding next_descriptor
+descriptor_shrinks [] x e = absurd cc
+descriptor_shrinks (count ∷ bytes) x e =
+    let a = bind_ok (next_nibbles count bytes) _ x e in
+    let b = bind_ok (signature_of a.0.value) _ x a.2 in
+    let k = nibbles_keep count bytes a.0 a.1 in
+    let h : length a.0.rest ≡ length x.rest = ap (λ (r : Read Signature). length r.rest) (the_ok _ x b.2) in
+    omega arith

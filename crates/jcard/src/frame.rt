@@ -7,50 +7,54 @@ use jc_base::stack::{duplicate_top, swap_top};
 use std::marker::Model;
 
 /// How many locals the code has.
-const LOCALS: usize = 2;
+pub(crate) const LOCALS: usize = 2;
 
 /// How many operands the code may have.
-const MAX_STACK: usize = 8;
+pub(crate) const MAX_STACK: usize = 8;
 
 /// Where the code is, its locals, and its operands, the bottom one first.
 #[derive(Drop)]
-pub(crate) struct WordFrame {
+pub(crate) struct WordFrame<'w> {
     pc: usize,
-    locals: [u16; LOCALS],
-    slots: [u16; MAX_STACK],
     depth: usize,
+    locals: &'w mut [u16],
+    slots: &'w mut [u16],
 }
 
-impl Model for WordFrame {
+impl<'w> Model for WordFrame<'w> {
     ghost use Rattle.std.specs.Prelude.{◌≡◌, ◌≤◌, length, reverse, take};
     ghost use Rattle.jcard.specs.PrivateWords.{UntaggedFrame};
 
     ghost Value = { UntaggedFrame };
 
-    ghost view = { λ f. record { pc = f.pc; locals = f.locals; operands = reverse (take f.depth f.slots) } };
+    ghost view = { λ f. record { pc = f.pc; locals = f.locals.now; operands = reverse (take f.depth f.slots.now) } };
 
-    ghost invariant = { λ f. (f.depth ≤ 8) × (length f.slots ≡ 8) };
+    ghost invariant = { λ f. (f.depth ≤ 8) × (length f.slots.now ≡ 8) };
 }
 
-impl WordFrame {
-    /// The frame at the first instruction. The locals may hold anything then.
-    pub(crate) fn new() -> Self
-        ensures { result ≡ record { pc = 0; locals = 0 ∷ 0 ∷ []; operands = [] } }
+impl<'w> WordFrame<'w> {
+    /// The frame at the first instruction, with these locals and slots for its operands.
+    #[inline(always)]
+    pub(crate) fn new(locals: &'w mut [u16], slots: &'w mut [u16]) -> Self
+        requires { length slots.old ≡ 8 }
+        ensures { result ≡ record { pc = 0; locals = locals.old; operands = [] } }
     {
         WordFrame {
             pc: 0,
-            locals: [0; LOCALS],
-            slots: [0; MAX_STACK],
             depth: 0,
+            locals,
+            slots,
         }
     }
 
+    #[inline(always)]
     pub(crate) fn pc(&self) -> usize
         ensures { result ≡ self.now.pc }
     {
         self.pc
     }
 
+    #[inline(always)]
     pub(crate) fn set_pc(&mut self, pc: usize)
         ensures { self.new ≡ record self.old { pc = pc } }
     {
@@ -58,6 +62,7 @@ impl WordFrame {
     }
 
     /// Puts a word on top.
+    #[inline(always)]
     pub(crate) fn push(&mut self, word: u16)
         requires { length self.old.operands < 8 }
         ensures { self.new ≡ record self.old { operands = word ∷ self.old.operands } }
@@ -69,6 +74,7 @@ impl WordFrame {
     }
 
     /// Takes the top word.
+    #[inline(always)]
     pub(crate) fn pop(&mut self) -> u16
         requires { 0 < length self.old.operands }
         ensures word { result ≡ slice_index self.old.operands 0 }
@@ -78,6 +84,7 @@ impl WordFrame {
         self.slots[self.depth]
     }
 
+    #[inline(always)]
     pub(crate) fn local(&self, index: u8) -> u16
         requires { index < length self.now.locals }
         ensures { result ≡ slice_index self.now.locals index }
@@ -85,6 +92,7 @@ impl WordFrame {
         self.locals[usize::from(index)]
     }
 
+    #[inline(always)]
     pub(crate) fn set_local(&mut self, index: u8, word: u16)
         requires { index < length self.old.locals }
         ensures { self.new ≡ record self.old { locals = slice_set self.old.locals index word } }
@@ -93,6 +101,7 @@ impl WordFrame {
     }
 
     /// Drops the top words.
+    #[inline(always)]
     pub(crate) fn drop_top(&mut self, count: u8)
         requires { count ≤ length self.old.operands }
         ensures { self.new ≡ record self.old { operands = drop count self.old.operands } }
@@ -101,27 +110,26 @@ impl WordFrame {
     }
 
     /// Puts the top `count` words again below the top `below`.
+    #[inline(always)]
     pub(crate) fn duplicate(&mut self, count: u8, below: u8)
         requires there { count ≤ length self.old.operands }
         requires deep { below ≤ length self.old.operands }
         requires room { length self.old.operands + count ≤ 8 }
         ensures { self.new ≡ record self.old { operands = duplicated count below self.old.operands } }
     {
+        let depth = self.depth;
         let count = usize::from(count);
-        duplicate_top(&mut self.slots, self.depth, count, usize::from(below));
-        self.depth += count;
+        duplicate_top(self.slots, depth, count, usize::from(below));
+        self.depth = depth + count;
     }
 
     /// Lets the top `upper` words and the `lower` below them change places.
+    #[inline(always)]
     pub(crate) fn swap(&mut self, upper: u8, lower: u8)
         requires { upper + lower ≤ length self.old.operands }
         ensures { self.new ≡ record self.old { operands = swapped upper lower self.old.operands } }
     {
-        swap_top(
-            &mut self.slots,
-            self.depth,
-            usize::from(upper),
-            usize::from(lower),
-        );
+        let depth = self.depth;
+        swap_top(self.slots, depth, usize::from(upper), usize::from(lower));
     }
 }

@@ -7,7 +7,7 @@ ghost use Rattle.jcard.specs.PrivateRuns.{CanRun, EndsAs, FollowsEach};
 ghost use Rattle.jcard.specs.Tagged.{first_frame, runtime_call};
 
 use crate::exception::Exception;
-use crate::frame::WordFrame;
+use crate::frame::{LOCALS, MAX_STACK, WordFrame};
 use crate::perform::perform;
 use jc_check::CheckedWords;
 use jc_code::decode;
@@ -35,6 +35,7 @@ pub(crate) enum Ending {
 }
 
 // One step of code that is well typed.
+#[inline(always)]
 fn take_step(code: &[u8], frame: &mut WordFrame) -> Step
     requires ready { CanRun code.now frame.old }
     requires short { length code.now < 2 ^ 16 }
@@ -52,7 +53,9 @@ pub(crate) fn run(checked: &CheckedWords, steps: u32) -> Ending
         → EndsAs result (runtime_call (word_method checked.now) t.listing steps (first_frame (word_method checked.now))) }
 {
     let code = checked.code();
-    let mut frame = WordFrame::new();
+    let mut locals = [0; LOCALS];
+    let mut slots = [0; MAX_STACK];
+    let mut frame = WordFrame::new(&mut locals, &mut slots);
     for _ in 0..steps {
         match take_step(code, &mut frame) {
             Step::Running => {}

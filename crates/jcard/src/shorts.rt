@@ -6,6 +6,7 @@ ghost use Rattle.jcard.specs.Shorts.{binary_of, distance, holds, incremented, lo
 use jc_code::{BinaryOperator, Condition, UnaryOperator};
 
 /// The low 16 of 32 bits.
+#[inline(always)]
 fn low_bits(bits: u32) -> u16
     ensures { result ≡ low_half bits }
 {
@@ -13,6 +14,7 @@ fn low_bits(bits: u32) -> u16
 }
 
 /// The distance of a shift, below 32.
+#[inline(always)]
 fn distance_of(word: u16) -> u32
     ensures value { result ≡ distance word }
     ensures bound { result < 32 }
@@ -20,6 +22,7 @@ fn distance_of(word: u16) -> u32
     u32::from(word % 32)
 }
 
+#[inline(always)]
 fn divide(a: u16, b: u16) -> Option<u16>
     ensures { result ≡ binary_of BinaryOperator.Divide a b }
 {
@@ -33,6 +36,7 @@ fn divide(a: u16, b: u16) -> Option<u16>
     )
 }
 
+#[inline(always)]
 fn remainder(a: u16, b: u16) -> Option<u16>
     ensures { result ≡ binary_of BinaryOperator.Remainder a b }
 {
@@ -46,6 +50,7 @@ fn remainder(a: u16, b: u16) -> Option<u16>
     )
 }
 
+#[inline(always)]
 fn shift_left(a: u16, b: u16) -> u16
     ensures { binary_of BinaryOperator.ShiftLeft a b ≡ Some result }
 {
@@ -56,6 +61,7 @@ fn shift_left(a: u16, b: u16) -> u16
     )
 }
 
+#[inline(always)]
 fn shift_right(a: u16, b: u16) -> u16
     ensures { binary_of BinaryOperator.ShiftRight a b ≡ Some result }
 {
@@ -66,6 +72,7 @@ fn shift_right(a: u16, b: u16) -> u16
     )
 }
 
+#[inline(always)]
 fn shift_right_unsigned(a: u16, b: u16) -> u16
     ensures { binary_of BinaryOperator.ShiftRightUnsigned a b ≡ Some result }
 {
@@ -73,6 +80,7 @@ fn shift_right_unsigned(a: u16, b: u16) -> u16
 }
 
 /// What is made of two words, the deeper one first. `None` is a division by 0.
+#[inline(always)]
 pub(crate) fn binary(operator: BinaryOperator, a: u16, b: u16) -> Option<u16>
     ensures { result ≡ binary_of operator a b }
 {
@@ -104,6 +112,7 @@ pub(crate) fn binary(operator: BinaryOperator, a: u16, b: u16) -> Option<u16>
 }
 
 /// What is made of one word.
+#[inline(always)]
 pub(crate) fn unary(operator: UnaryOperator, a: u16) -> u16
     ensures { result ≡ unary_of operator a }
 {
@@ -114,6 +123,7 @@ pub(crate) fn unary(operator: UnaryOperator, a: u16) -> u16
 }
 
 /// A word and a constant.
+#[inline(always)]
 pub(crate) fn increment(a: u16, by: i16) -> u16
     ensures { result ≡ incremented a by }
 {
@@ -121,6 +131,7 @@ pub(crate) fn increment(a: u16, by: i16) -> u16
 }
 
 /// Whether two words compare so as shorts.
+#[inline(always)]
 pub(crate) fn compares(condition: Condition, a: u16, b: u16) -> bool
     ensures { result ≡ holds condition a b }
 {

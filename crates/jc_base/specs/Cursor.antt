@@ -3,7 +3,7 @@
 -- a sign).
 use Rattle.std.specs.Prelude.{◌≡◌, ℕ, ℤ, ◌+◌, ◌*◌, ◌==◌, List, [], ◌∷◌, length, take, drop, Option, Some, None, Result, Ok, Err, nat_lt, if◌then◌else◌}
 use Rattle.std.specs.Int.{w8, w16, cast_signed}
-use Rattle.std.specs.Option.{option_and_then, ok_or}
+use Rattle.std.specs.Option.{ok_or}
 use Rattle.jc_base.specs.declared.fault.LoadFault.{LoadFault}
 use Rattle.jc_base.specs.declared.fault.LoadFault.TheVariants.{Malformed}
 
@@ -11,11 +11,6 @@ use Rattle.jc_base.specs.declared.fault.LoadFault.TheVariants.{Malformed}
 pub record Read (A : Type 0) : Type 0 where
   pub value : A
   pub rest : List ℕ
-
--- read on behind a value, if there was one
-infixl 10 ◌>>=◌
-abbrev pub ◌>>=◌ : {A B : Type 0} → Option A → (A → Option B) → Option B
-o >>= f = option_and_then f o
 
 -- one byte
 abbrev pub next_u1 : List ℕ → Option (Read ℕ)
@@ -60,11 +55,6 @@ whole fault (Err e) = Err e
 abbrev pub Takes : {X Y : Type 0} → (X → Y) → Option X → List ℕ → List ℕ → Option (Read Y) → Type 0
 Takes view (Some x) old new read = read ≡ Some (record { value = view x; rest = new })
 Takes view None old new read = (read ≡ None) × (new ≡ old)
-
--- What a reader of several fields gave, seen by view. Where it gave nothing, the cursor stands anywhere.
-abbrev pub GivesSome : {X Y : Type 0} → (X → Y) → Option X → List ℕ → Option (Read Y) → Type 0
-GivesSome view (Some x) new read = read ≡ Some (record { value = view x; rest = new })
-GivesSome view None new read = read ≡ None
 
 -- What a reader gave, seen by view, or why it gave nothing. Then the cursor stands anywhere.
 abbrev pub Gives : {X Y E : Type 0} → (X → Y) → Result X E → List ℕ → Result (Read Y) E → Type 0

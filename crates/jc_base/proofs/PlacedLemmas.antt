@@ -1,10 +1,11 @@
 -- Rows until nothing is left.
-use Rattle.std.proofs.Common.{◌≡◌, ℕ, zero, suc, ◌-◌, ◌<◌, ◌≤◌, true, false, eqb, List, [], ◌∷◌, length, Some, None, Result, Ok, Err, refl, sym, ap, ◌∙◌, arith}
+use Rattle.std.proofs.Common.{◌≡◌, ◌↔◌, subst, drop, length-drop, ℕ, zero, suc, ◌-◌, ◌<◌, ◌≤◌, true, false, eqb, List, [], ◌∷◌, length, Some, None, Result, Ok, Err, refl, sym, ap, ◌∙◌, arith}
 use Rattle.std.proofs.lemmas.Bool.{eq-eqb, ne_eqb}
 use Rattle.jc_base.specs.Cursor.{Read}
 use Rattle.jc_base.specs.Results.{◌>>=◌}
 use Rattle.jc_base.specs.declared.placed_rows.Placed.{Placed}
-use Rattle.jc_base.specs.PlacedRows.{Shrinks, placed_in, row_at}
+use Rattle.jc_base.specs.PlacedRows.{Shrinks, ArePlaced, placed_in, placed_rows, row_at}
+use Rattle.jc_base.proofs.Binding.{the_ok, bind_ok}
 use Rattle.jc_base.specs.PrivatePlacedRows.{listed, done}
 
 module _ {A E : Type 0} (next_row : List ℕ → Result (Read A) E) (some : Shrinks next_row) where
@@ -127,6 +128,35 @@ module _ {A E : Type 0} (next_row : List ℕ → Result (Read A) E) (some : Shri
 
   pub not_found : (total offset : ℕ) (rows : List (Placed A)) (bytes : List ℕ) → Seeks total offset rows bytes → length bytes ≡ 0 → None ≡ row_at offset rows
   not_found total offset rows bytes s end = ap (λ w. row_at offset (listed w)) (sym (no_more total total bytes end)) ∙ s.same
+
+  -- what is read is placed
+  placed : (total s : ℕ) (bytes : List ℕ) (rows : List (Placed A)) → length bytes ≤ s → length bytes ≤ total → placed_in next_row total s bytes ≡ Ok rows → ArePlaced next_row total bytes rows
+  placed total s [] rows le within e = let P : List (Placed A) → Type 0 = λ w. ArePlaced next_row total [] w in subst P (the_ok _ _ e) refl
+  placed total zero (b ∷ bytes) rows le within e = absurd (omega arith)
+  placed total (suc s) (b ∷ bytes) rows le within e =
+      let x = bind_ok (next_row (b ∷ bytes)) _ rows e in
+      let y = bind_ok (placed_in next_row total s x.0.rest) _ rows x.2 in
+      let less = some (b ∷ bytes) x.0 x.1 in
+      let more = placed total s x.0.rest y.0 (omega arith) (omega arith) y.1 in
+      let P : List (Placed A) → Type 0 = λ w. ArePlaced next_row total (b ∷ bytes) w in
+      subst P (the_ok _ _ y.2) (x.0.rest, omega arith, x.1, more)
+
+  -- what is placed is read
+  read_again : (total s : ℕ) (bytes : List ℕ) (rows : List (Placed A)) → length bytes ≤ s → ArePlaced next_row total bytes rows → placed_in next_row total s bytes ≡ Ok rows
+  read_again total s bytes [] le is = no_more total s bytes (ap length is)
+  read_again total s [] (p ∷ rows) le is = let less = some [] _ is.2 in absurd (omega arith)
+  read_again total zero (b ∷ bytes) (p ∷ rows) le is = absurd (omega arith)
+  read_again total (suc s) (b ∷ bytes) (p ∷ rows) le is =
+      let less = some (b ∷ bytes) _ is.2 in
+      let at = is.1 in
+      let offset : total - length (b ∷ bytes) ≡ p.offset = omega arith in
+      rw (is.2, read_again total s is.0 rows (omega arith) is.3) (ap (λ n. Ok (record { offset = n; row = p.row } ∷ rows)) offset)
+
+  pub read_placed : (first : ℕ) (bytes : List ℕ) (rows : List (Placed A)) → (placed_rows next_row first bytes ≡ Ok rows) ↔ ArePlaced next_row (length bytes) (drop first bytes) rows
+  unfolding placed_rows
+  read_placed first bytes rows =
+      let le : length (drop first bytes) ≤ length bytes = omega (arith, length-drop first bytes) in
+      (placed (length bytes) (length bytes) (drop first bytes) rows le le, read_again (length bytes) (length bytes) (drop first bytes) rows le)
 
 pub done_err : {A E : Type 0} (r : Result (List A) E) (fault : E) → Err fault ≡ done r → Err fault ≡ r
 done_err (Ok rows) fault h = absurd cc

@@ -1,5 +1,5 @@
 -- Rows one behind the other until nothing is left, each at an offset.
-use Rattle.std.specs.Prelude.{◌≡◌, ℕ, zero, suc, ◌-◌, ◌<◌, ◌==◌, List, [], ◌∷◌, length, drop, Option, Some, None, Result, Ok, if◌then◌else◌}
+use Rattle.std.specs.Prelude.{◌≡◌, ℕ, zero, suc, ◌+◌, ◌-◌, ◌<◌, ◌==◌, List, [], ◌∷◌, length, drop, Option, Some, None, Result, Ok, if◌then◌else◌}
 use Rattle.jc_base.specs.Cursor.{Read}
 use Rattle.jc_base.specs.Results.{◌>>=◌}
 use Rattle.jc_base.specs.declared.placed_rows.Placed.{Placed}
@@ -20,6 +20,12 @@ placed_in next_row total (suc steps) (b ∷ bytes) = do
 -- the rows from an offset of bytes to their end; each takes a byte at least, so there are steps enough
 unfoldable pub placed_rows : {A E : Type 0} → (List ℕ → Result (Read A) E) → ℕ → List ℕ → Result (List (Placed A)) E
 placed_rows next_row first bytes = placed_in next_row (length bytes) (length bytes) (drop first bytes)
+
+-- bytes, the last of so many that offsets count, are these rows and nothing else: each begins where the one before it ends
+abbrev pub ArePlaced : {A E : Type 0} → (List ℕ → Result (Read A) E) → ℕ → List ℕ → List (Placed A) → Type 0
+ArePlaced next_row total bytes [] = bytes ≡ []
+ArePlaced next_row total bytes (p ∷ rows) =
+    (rest : List ℕ) × (p.offset + length bytes ≡ total) × (next_row bytes ≡ Ok (record { value = p.row; rest = rest })) × ArePlaced next_row total rest rows
 
 -- the row that begins at an offset
 abbrev pub row_at : {A : Type 0} → ℕ → List (Placed A) → Option A

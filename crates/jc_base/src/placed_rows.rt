@@ -1,7 +1,7 @@
 //! Rows one behind the other until nothing is left.
 
-ghost use Rattle.std.specs.Prelude.{◌≡◌, ◌↔◌, ◌≤◌, ◌∷◌, [], length, IsTrue, IfSome, IfNone};
-ghost use Rattle.jc_base.specs.PlacedRows.{Shrinks, placed_in, placed_rows, row_at};
+ghost use Rattle.std.specs.Prelude.{◌≡◌, ◌↔◌, ◌≤◌, ◌∷◌, ℕ, List, [], Ok, drop, length, IsTrue, IfSome, IfNone};
+ghost use Rattle.jc_base.specs.PlacedRows.{Shrinks, ArePlaced, placed_in, placed_rows, row_at};
 ghost use Rattle.jc_base.specs.PrivatePlacedRows.{done};
 
 use crate::fault::LoadFault;
@@ -122,3 +122,9 @@ impl<S: Source, R: PlacedRow<S>> PlacedRows<S, R> {
         Some(Placed { offset, row })
     }
 }
+
+/// Bytes are read as placed rows exactly where these rows stand in them one behind the other, with nothing between them
+/// and nothing behind, each at its offset.
+pub fn placed_rows_are_placed<S: Source, R: PlacedRow<S>>()
+    ensures { (first : ℕ) (bytes : List ℕ) (rows : List (Placed R)) → (placed_rows R.next_row first bytes ≡ Ok rows) ↔ ArePlaced R.next_row (length bytes) (drop first bytes) rows }
+{}

@@ -16,79 +16,27 @@ const PACKAGE: [u8; 156] = [
     0xFF, 0x00, 0x0D, 0x04, 0xB4, 0x31, 0x06, 0x68, 0x00, 0x61, 0x01, 0x10,
 ];
 
-#[test]
-fn an_aid_has_5_to_16_bytes(rt: HostRuntime) -> Result<(), Fail> {
-    let bytes: [u8; 17] = [0xF0, 1, 2, 3, 4, 5, 6, 7, 8, 9, 10, 11, 12, 13, 14, 15, 16];
-    for (len, is_aid) in [(0, false), (4, false), (5, true), (16, true), (17, false)] {
-        let aid = Aid::from_slice(&bytes[..len]);
-        assert_eq!(rt; aid.is_some(), is_aid, "at {len}");
-    }
-    let aid = Aid::from_slice(&bytes[..5]).ok_or("5 bytes are an AID")?;
-    assert_eq!(rt; aid.as_slice(), [0xF0, 1, 2, 3, 4].as_slice());
-    assert_eq!(rt; aid.len(), 5);
-    let longer = Aid::from_slice(&bytes[..6]).ok_or("6 bytes are an AID")?;
-    assert!(rt; aid == aid);
-    assert!(rt; aid != longer);
-    Ok(())
-}
-
-/// What an image cut off after `count` bytes lacks, where it ends behind a component.
-fn missing_at(count: usize) -> Option<u8> {
-    match count {
-        0 => Some(1),
-        18 | 31 | 43 => Some(5),
-        56 => Some(6),
-        75 => Some(7),
-        91 => Some(8),
-        104 => Some(11),
-        _ => None,
-    }
-}
-
-fn cut_off(count: usize) -> LoadFault {
-    if let Some(tag) = missing_at(count) {
-        return LoadFault::MissingComponent(tag);
-    }
-    for more in 1..3 {
-        if count >= more && missing_at(count - more).is_some() {
-            return LoadFault::ExtraBytes;
-        }
-    }
-    LoadFault::ShortComponent
-}
+/// The lengths at which the package, cut off, ends behind a component, and the least tag that it lacks there.
+const ENDS: [(usize, u8); 8] = [
+    (0, 1),
+    (18, 5),
+    (31, 5),
+    (43, 5),
+    (56, 6),
+    (75, 7),
+    (91, 8),
+    (104, 11),
+];
 
 #[test]
 fn a_package_that_is_cut_off(rt: HostRuntime) {
-    for count in 0..156usize {
-        assert_eq!(rt;
-            cut(&PACKAGE[..count]).err(),
-            Some(cut_off(count)),
-            "after {count} bytes"
-        );
+    for (len, tag) in ENDS {
+        let fault = |more: usize| cut(&PACKAGE[..len + more]).err();
+        assert_eq!(rt; fault(0), Some(LoadFault::MissingComponent(tag)));
+        assert_eq!(rt; fault(1), Some(LoadFault::ExtraBytes));
+        assert_eq!(rt; fault(2), Some(LoadFault::ExtraBytes));
+        assert_eq!(rt; fault(3), Some(LoadFault::ShortComponent));
     }
-}
-
-/// The package with one byte changed.
-fn changed(place: usize, byte: u8) -> [u8; 156] {
-    let mut image = PACKAGE;
-    if place < 156 {
-        image[place] = byte;
-    }
-    image
-}
-
-#[test]
-fn tags_that_are_changed(rt: HostRuntime) {
-    for tag in [2, 3] {
-        assert_eq!(rt;
-            cut(&changed(0, tag)).err(),
-            Some(LoadFault::MissingComponent(1))
-        );
-    }
-    assert_eq!(rt;
-        cut(&changed(18, 4)).err(),
-        Some(LoadFault::RepeatedComponent(4))
-    );
 }
 
 #[test]
@@ -106,41 +54,66 @@ fn parts_of_a_package(rt: HostRuntime) -> Result<(), Fail> {
     Ok(())
 }
 
-/// Components that have no bytes, with these tags.
-fn empty_components(tags: [u8; 8]) -> [u8; 24] {
-    let mut image = [0; 24];
-    for (place, tag) in tags.iter().enumerate() {
-        image[3 * place] = *tag;
-    }
-    image
-}
+/// The tags of eight components without bytes, and what is told of them.
+const TAGS: [([u8; 8], Option<LoadFault>); 5] = [
+    ([11, 8, 7, 6, 5, 1, 13, 13], None),
+    ([1, 5, 6, 7, 8, 11, 0, 0], None),
+    (
+        [1, 5, 6, 7, 8, 11, 12, 12],
+        Some(LoadFault::RepeatedComponent(12)),
+    ),
+    (
+        [1, 11, 11, 8, 8, 7, 6, 5],
+        Some(LoadFault::RepeatedComponent(8)),
+    ),
+    (
+        [1, 1, 5, 6, 7, 8, 2, 3],
+        Some(LoadFault::MissingComponent(11)),
+    ),
+];
 
 #[test]
 fn components_in_any_order(rt: HostRuntime) {
-    let fault = |tags: [u8; 8]| cut(&empty_components(tags)).err();
-    assert_eq!(rt; fault([11, 8, 7, 6, 5, 1, 13, 13]), None);
-    assert_eq!(rt; fault([1, 5, 6, 7, 8, 11, 0, 0]), None);
-    assert_eq!(rt; fault([1, 5, 6, 7, 8, 11, 2, 9]), None);
-    assert_eq!(rt;
-        fault([1, 5, 6, 7, 8, 11, 12, 12]),
-        Some(LoadFault::RepeatedComponent(12))
+    for (tags, fault) in TAGS {
+        let mut image = [0; 24];
+        for (place, tag) in tags.iter().enumerate() {
+            image[3 * place] = *tag;
+        }
+        assert_eq!(rt; cut(&image).err(), fault);
+    }
+}
+
+/// Values of each type that is compared, and whether they are equal.
+#[test]
+fn values_that_differ(rt: HostRuntime) -> Result<(), Fail> {
+    let aid = Aid::from_slice(&[1, 2, 3, 4, 5]).ok_or("5 bytes are an AID")?;
+    let other = Aid::from_slice(&[1, 2, 3, 4, 6]).ok_or("5 bytes are an AID")?;
+    let package = PackageInfo {
+        minor: 0,
+        major: 1,
+        aid,
+    };
+    assert_eq!(rt; aid.as_slice(), [1, 2, 3, 4, 5].as_slice());
+    assert!(rt; aid == aid && aid != other);
+    assert!(rt;
+        package == package
+            && package
+                != PackageInfo {
+                    minor: 1,
+                    ..package
+                }
     );
-    assert_eq!(rt;
-        fault([1, 9, 5, 6, 7, 8, 11, 9]),
-        Some(LoadFault::RepeatedComponent(9))
+    assert!(rt;
+        class_ref_of(0x8102)
+            == ClassRef::External {
+                package: 1,
+                class: 2
+            }
     );
-    assert_eq!(rt;
-        fault([2, 1, 2, 5, 6, 7, 8, 11]),
-        Some(LoadFault::RepeatedComponent(2))
-    );
-    assert_eq!(rt;
-        fault([1, 11, 11, 8, 8, 7, 6, 5]),
-        Some(LoadFault::RepeatedComponent(8))
-    );
-    assert_eq!(rt;
-        fault([1, 1, 5, 6, 7, 8, 2, 3]),
-        Some(LoadFault::MissingComponent(11))
-    );
+    assert!(rt; class_ref_of(0x8102) != class_ref_of(0x0102));
+    assert!(rt; LoadFault::BadAid != LoadFault::BadMagic);
+    assert!(rt; Reason::FallsOff != Reason::NoTarget);
+    Ok(())
 }
 
 /// Each refusal, in order, and its text.

@@ -1,5 +1,5 @@
 -- Signatures in nibbles.
-use Rattle.std.proofs.Common.{◌≡◌, ℕ, zero, suc, ◌+◌, ◌<◌, ◌≤◌, ◌/◌, ◌==◌, IsTrue, Bool, true, false, cond, eqb, List, [], ◌∷◌, ◌++◌, length, append-nil, take, Option, Some, None, Result, Ok, Err, refl, sym, ap, ◌∙◌, le_refl, append_assoc, arith}
+use Rattle.std.proofs.Common.{◌≡◌, ℕ, zero, suc, ◌+◌, ◌<◌, ◌≤◌, ◌/◌, ◌==◌, IsTrue, Bool, true, false, cond, eqb, List, [], ◌∷◌, ◌++◌, length, append-nil, take, None, Result, Ok, Err, refl, sym, ap, ◌∙◌, le_refl, append_assoc, arith}
 use Rattle.std.proofs.lemmas.Bool.{eq-eqb, ne_eqb}
 use Rattle.std.proofs.lemmas.List.{nil_from_length, length-take}
 use Rattle.jc_base.specs.Cursor.{Read, next_bytes, field}

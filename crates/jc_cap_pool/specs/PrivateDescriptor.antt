@@ -1,9 +1,8 @@
 -- A descriptor takes a byte at least. The lemma stands here, since the row's law takes it from specs alone.
-use Rattle.std.specs.Prelude.{◌≡◌, ℕ, ◌+◌, ◌/◌, ◌≤◌, Bool, true, false, cond, List, [], ◌∷◌, length, drop, take, None, Some, Result, Ok, Err, nat_lt}
-use Rattle.std.proofs.Common.{ap, sym, ◌∙◌, arith, length-drop}
+use Rattle.std.specs.Prelude.{◌≡◌, ℕ, ◌+◌, ◌/◌, ◌≤◌, Bool, true, false, cond, List, [], ◌∷◌, length, drop, take, None, Some, Ok, nat_lt}
+use Rattle.std.proofs.Common.{ap, arith, length-drop}
 use Rattle.jc_base.specs.Cursor.{Read, next_bytes, field}
 use Rattle.jc_base.specs.PlacedRows.{Shrinks}
-use Rattle.jc_base.specs.declared.fault.LoadFault.{LoadFault}
 use Rattle.jc_base.proofs.Binding.{the_ok, bind_ok}
 use Rattle.jc_cap_pool.specs.Descriptor.{Signature, next_descriptor, signature_of}
 use Rattle.jc_cap_pool.specs.Nibbles.{next_nibbles}

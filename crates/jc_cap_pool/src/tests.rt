@@ -72,6 +72,18 @@ fn descriptors_of_methods(rt: HostRuntime) -> Result<(), Fail> {
     Ok(())
 }
 
+#[test]
+fn descriptors_in_turn(rt: HostRuntime) -> Result<(), Fail> {
+    let found = Descriptors::read(&Cursor::new(&DESCRIPTORS), 3);
+    let mut descriptors = found.ok().ok_or("descriptors to the end")?;
+    for offset in [3, 7, 9] {
+        let next = descriptors.next().ok_or("a descriptor")?;
+        assert_eq!(rt; next.offset, offset);
+    }
+    assert!(rt; descriptors.next().is_none());
+    Ok(())
+}
+
 /// What a field's descriptor spells.
 const TYPES: [([u8; 4], DeclaredType); 8] = [
     ([1, 0x20, 0, 0], DeclaredType::Boolean),

@@ -1,4 +1,4 @@
-use Rattle.std.proofs.Common.{◌≡◌, ℕ, sym, ap, ◌∙◌, arith}
+use Rattle.std.proofs.Common.{arith}
 use Rattle.std.proofs.lemmas.Result.{err_from_is_err_and}
 use Rattle.jc_cap_pool.proofs.Signatures.{so_far_first, so_far_none, so_far_last, so_far_void, so_far_less, so_far_more, so_far_there, is_end, is_no_end}
 use Rattle.jc_cap_pool.proofs.descriptor.signature.Goals as goal

@@ -1,4 +1,3 @@
-use Rattle.std.proofs.Common.{ℕ, List}
 use Rattle.jc_base.proofs.Repeats.{nothing_passed}
 use Rattle.jc_base.proofs.rows.Rows.none.Goals as goal
 

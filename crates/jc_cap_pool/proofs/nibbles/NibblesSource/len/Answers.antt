@@ -1,4 +1,4 @@
-use Rattle.std.proofs.Common.{length, sym, ap, ◌∙◌, arith}
+use Rattle.std.proofs.Common.{length, sym, ap, ◌∙◌}
 use Rattle.jc_cap_pool.proofs.Halves.{length-left}
 use Rattle.jc_cap_pool.proofs.nibbles.NibblesSource.len.Goals as goal
 

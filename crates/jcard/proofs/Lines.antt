@@ -12,7 +12,7 @@ use Rattle.clap.specs.declared.error.kind.ErrorKind.TheVariants.{MissingSubcomma
 use Rattle.clap.specs.declared.builder.arg.Arg.{Arg}
 use Rattle.clap.specs.declared.builder.command.Command.{Command}
 use Rattle.clap.specs.declared.builder.command.Command.TheViews.{out-Command}
-use Rattle.jcard.specs.Line.{AreSteps, IsJobAmong, IsJobOf, IsSteps, IsFaultOf, IsJobFor, IsLineFault, card_app}
+use Rattle.jcard.specs.Line.{AreSteps, IsJobAmong, IsJobOf, IsSteps, IsFaultFrom, IsJobFor, IsLineFault, card_app}
 use Rattle.jcard.specs.declared.job.Job.{Job}
 use Rattle.jcard.specs.declared.job.Job.TheVariants.{Eval}
 use Rattle.jcard.specs.declared.line.LineFault.{LineFault}
@@ -59,7 +59,7 @@ among_first k [] others among = elim among [ ]
 among_first k (x ∷ xs) others among = among
 
 -- a line that clap refuses says no job, or memory was wanting
-pub refused_for_fault : (error : Error) (fault : LineFault) (words : List Text) → HasKind (fault_of card_app words) error → IsFaultOf error fault → IsLineFault words fault
+pub refused_for_fault : (error : Error) (fault : LineFault) (words : List Text) → HasKind (fault_of card_app words) error → IsFaultFrom error fault → IsLineFault words fault
 refused_for_fault error fault words kind (inl memory) = subst (IsLineFault words) (sym memory.1) tt
 refused_for_fault error fault words (inl out) (inr line) = absurd (line.0 out)
 refused_for_fault error fault words (inr among) (inr line) =
@@ -68,7 +68,7 @@ refused_for_fault error fault words (inr among) (inr line) =
 
 -- words in which no job was found, though clap finds no fault with them
 pub refused_for_no_job : (error : Error) (fault : LineFault) (words : List Text) → fault_of card_app words ≡ [] → kind_of error ≡ MissingSubcommand
-    → ((job : Job) → IsJobAmong (subcommand_of card_app words) job → ⊥) → IsFaultOf error fault → IsLineFault words fault
+    → ((job : Job) → IsJobAmong (subcommand_of card_app words) job → ⊥) → IsFaultFrom error fault → IsLineFault words fault
 refused_for_no_job error fault words faultless kind none (inl memory) = subst (IsLineFault words) (sym memory.1) tt
 refused_for_no_job error fault words faultless kind none (inr line) =
     let among = subst (λ kinds. IsAmong (kind_of error) (or_else kinds (MissingSubcommand ∷ []))) (sym faultless) (inl kind) in

@@ -86,8 +86,8 @@ IsLineFault words (Line error) = IsLineError words error
 IsLineFault words Memory = ⊤
 
 -- the fault that an error of clap's is: want of memory, or the line's own
-abbrev pub IsFaultOf : Error → LineFault → Type 0
-IsFaultOf error fault = ((kind_of error ≡ OutOfMemory) × (fault ≡ Memory)) ⊎ ((kind_of error ≢ OutOfMemory) × (fault ≡ Line error))
+abbrev pub IsFaultFrom : Error → LineFault → Type 0
+IsFaultFrom error fault = ((kind_of error ≡ OutOfMemory) × (fault ≡ Memory)) ⊎ ((kind_of error ≢ OutOfMemory) × (fault ≡ Line error))
 
 -- what was found: one of which it holds, or nothing where it holds of none
 abbrev pub Finds : {A : Type 0} → Option A → (A → Type 0) → Type 0

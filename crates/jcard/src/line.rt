@@ -3,7 +3,7 @@
 ghost use Rattle.std.specs.Prelude.{◌≡◌, map, IfErr, IfOk};
 ghost use Rattle.clap.specs.Words.{app_of, found_of, rows_of, subcommand_rows_of};
 ghost use Rattle.jcard.specs.declared.line.LineFault.TheVariants.{Memory};
-ghost use Rattle.jcard.specs.Line.{AreSteps, Finds, IsEvalCommand, IsFaultOf, IsJobAmong, IsJobFor, IsJobOf, IsLineFault, card_app};
+ghost use Rattle.jcard.specs.Line.{AreSteps, Finds, IsEvalCommand, IsFaultFrom, IsJobAmong, IsJobFor, IsJobOf, IsLineFault, card_app};
 
 use crate::job::Job;
 use clap::error::ErrorKind;
@@ -21,7 +21,7 @@ pub enum LineFault {
 }
 
 impl From<Error> for LineFault {
-    ghost from_gives = { IsFaultOf };
+    ghost from_gives = { IsFaultFrom };
 
     fn from(error: Error) -> LineFault {
         if error.kind() == ErrorKind::OutOfMemory {

@@ -1,3 +1,4 @@
 mod TableLemmas
 pub mod Advance
+mod BothBytes
 pub mod Listings

@@ -42,8 +42,8 @@ either n None f other k h = h
 none : {A : Type 0} (n : ℕ) (fault : CodeFault) → IsLeft {A = A} n (Err fault)
 none n fault = record { left = tt }
 
-same : (n : ℕ) (operation : Operation) (rest : List ℕ) → length rest ≤ n → IsLeft n (done operation rest)
-same n operation rest le = record { left = le }
+same : {A : Type 0} (n : ℕ) (x : A) (rest : List ℕ) → length rest ≤ n → IsLeft {A = A} n (Ok (record { value = x; rest = rest }))
+same n x rest le = record { left = le }
 
 u1_left : (n : ℕ) (bytes : List ℕ) → length bytes ≤ n → Field n (next_u1 bytes)
 u1_left n [] le = tt
@@ -100,7 +100,7 @@ wide_branch_left n op bytes le = either n (when_of (op - 56)) _ _ (λ when. fiel
 control_left : (n op : ℕ) (bytes : List ℕ) → length bytes ≤ n → IsLeft n (next_control op bytes)
 unfolding next_control
 control_left n op bytes le =
-    chosen n (op == 115) _ _ (stable_switch_left n bytes le) (chosen n (op == 117) _ _ (lookup_switch_left n bytes le) (chosen n (op == 120) _ _ (same n _ bytes le) (chosen n (op == 150) _ _ (wide_increment_left n bytes le) (chosen n (nat_lt op 152) _ _ (none n BadOpcode) (wide_branch_left n op bytes le)))))
+    chosen n (op == 115) _ _ (read_on n (next_stable_switch bytes) _ (stable_switch_left n bytes le) (λ t k. same n _ t.rest k)) (chosen n (op == 117) _ _ (read_on n (next_lookup_switch bytes) _ (lookup_switch_left n bytes le) (λ t k. same n _ t.rest k)) (chosen n (op == 120) _ _ (same n _ bytes le) (chosen n (op == 150) _ _ (wide_increment_left n bytes le) (chosen n (nat_lt op 152) _ _ (none n BadOpcode) (wide_branch_left n op bytes le)))))
 
 branch_left : (n op : ℕ) (bytes : List ℕ) → length bytes ≤ n → IsLeft n (next_branch op bytes)
 unfolding next_branch

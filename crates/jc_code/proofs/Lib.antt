@@ -1,4 +1,5 @@
 mod TableLemmas
 pub mod Advance
+mod BothBytes
 pub mod Listings
 mod Stops

@@ -6,13 +6,14 @@ ghost use Rattle.jc_code.specs.Decoding.{next_stable_switch, next_lookup_switch,
 
 use crate::fault::CodeFault;
 use crate::instr::{BinaryOperator, Condition, Instr, Operation, Shuffle, UnaryOperator, When};
-use crate::tables::{next_cases, next_offsets};
+use crate::tables::{LookupTable, StableTable, next_cases, next_offsets};
 use jc_base::Cursor;
 
+/// The table of the stableswitch behind whose opcode the cursor stands.
 #[inline(always)]
 #[tactic(auto, unfolding(crate::specs::Decoding::next_stable_switch))]
-fn stable_switch<'a>(cursor: &mut Cursor<'a>) -> Result<Operation<'a>, CodeFault>
-    ensures { Gives (λ o. o) result cursor.new (next_stable_switch cursor.old) }
+pub fn next_stable_switch<'a>(cursor: &mut Cursor<'a>) -> Result<StableTable<'a>, CodeFault>
+    ensures { Gives (λ t. t) result cursor.new (next_stable_switch cursor.old) }
 {
     let default = cursor.s2().ok_or(CodeFault::CutShort)?;
     let low = cursor.s2().ok_or(CodeFault::CutShort)?;
@@ -22,22 +23,23 @@ fn stable_switch<'a>(cursor: &mut Cursor<'a>) -> Result<Operation<'a>, CodeFault
     }
     let count = usize::from(high.abs_diff(low)) + 1;
     let offsets = next_offsets(cursor, count)?;
-    Ok(Operation::StableSwitch {
+    Ok(StableTable {
         default,
         low,
         offsets,
     })
 }
 
+/// The table of the slookupswitch behind whose opcode the cursor stands.
 #[inline(always)]
 #[tactic(auto, unfolding(crate::specs::Decoding::next_lookup_switch))]
-fn lookup_switch<'a>(cursor: &mut Cursor<'a>) -> Result<Operation<'a>, CodeFault>
-    ensures { Gives (λ o. o) result cursor.new (next_lookup_switch cursor.old) }
+pub fn next_lookup_switch<'a>(cursor: &mut Cursor<'a>) -> Result<LookupTable<'a>, CodeFault>
+    ensures { Gives (λ t. t) result cursor.new (next_lookup_switch cursor.old) }
 {
     let default = cursor.s2().ok_or(CodeFault::CutShort)?;
     let count = cursor.u2().ok_or(CodeFault::CutShort)?;
     let cases = next_cases(cursor, usize::from(count))?;
-    Ok(Operation::LookupSwitch { default, cases })
+    Ok(LookupTable { default, cases })
 }
 
 #[inline(always)]
@@ -90,8 +92,22 @@ fn control<'a>(opcode: u8, cursor: &mut Cursor<'a>) -> Result<Operation<'a>, Cod
     ensures { Gives (λ o. o) result cursor.new (next_control opcode cursor.old) }
 {
     match opcode {
-        115 => stable_switch(cursor),
-        117 => lookup_switch(cursor),
+        115 => {
+            let StableTable {
+                default,
+                low,
+                offsets,
+            } = next_stable_switch(cursor)?;
+            Ok(Operation::StableSwitch {
+                default,
+                low,
+                offsets,
+            })
+        }
+        117 => {
+            let LookupTable { default, cases } = next_lookup_switch(cursor)?;
+            Ok(Operation::LookupSwitch { default, cases })
+        }
         120 => Ok(Operation::ReturnWord),
         150 => wide_increment(cursor),
         152.. => wide_branch(opcode, cursor),

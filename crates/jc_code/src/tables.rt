@@ -128,3 +128,19 @@ pub(crate) fn next_cases<'a>(cursor: &mut Cursor<'a>, count: usize) -> Result<Ca
     };
     Ok(Cases { bytes })
 }
+
+/// What stands behind the opcode of a stableswitch: the offset of a key that has none, the least key, and the offsets
+/// of the keys from it on.
+#[derive(Drop)]
+pub struct StableTable<'a> {
+    pub default: i16,
+    pub low: i16,
+    pub offsets: Offsets<'a>,
+}
+
+/// What stands behind the opcode of a slookupswitch: the offset of a key that has none, and the cases.
+#[derive(Drop)]
+pub struct LookupTable<'a> {
+    pub default: i16,
+    pub cases: Cases<'a>,
+}

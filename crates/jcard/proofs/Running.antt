@@ -1,11 +1,15 @@
 -- A step of the runner against the defensive machine's, and a run of steps.
-use Rattle.std.proofs.Common.{◌≡◌, ℕ, suc, ◌+◌, ◌-◌, ◌≤◌, ◌<◌, List, length, Ok, Err, refl, sym, ◌∙◌, subst, arith}
+use Rattle.std.proofs.Common.{◌≡◌, ℕ, suc, ◌+◌, ◌-◌, ◌≤◌, ◌<◌, List, ◌∷◌, length, drop, get_or, Result, Ok, Err, refl, sym, ap, ◌∙◌, subst, arith}
+use Rattle.std.proofs.Math.Seq.{drop-cons}
 use native.Mathlib.Numerals.{unary_clauses}
 use Rattle.jc_base.proofs.Binding.{ok_err}
 use Rattle.jc_base.proofs.Binding as binding
 use Rattle.jc_code.specs.declared.fault.CodeFault.{CodeFault}
 use Rattle.jc_code.specs.declared.instr.Instr.{Instr}
-use Rattle.jc_code.specs.Decoding.{instr_at}
+use Rattle.jc_base.specs.Cursor.{Read}
+use Rattle.jc_base.specs.Results.{◌>>=◌}
+use Rattle.jc_code.specs.declared.instr.Operation.{Operation}
+use Rattle.jc_code.specs.Decoding.{instr_at, instr_of, next_constant, next_operation}
 use Rattle.jc_code.specs.Listing.{Placed}
 use Rattle.jc_check.specs.Method.{Method, word_method}
 use Rattle.jc_check.specs.Typing.{Typing, IsTyping, IsWellTyped}
@@ -17,7 +21,7 @@ use Rattle.jcard.specs.declared.run.Ending.TheVariants as endings
 use Rattle.jcard.specs.Tagged.{Word, Ref, Null, Unset, Frame, Outcome, Next, Throws, Returns, Stuck, defensive_step, RunEnd, run_on, runtime_call, first_frame}
 use Rattle.jcard.specs.PrivateWords.{UntaggedFrame, UntaggedOutcome, Continues, Raises, Yields, Ready, do_operation}
 use Rattle.jcard.specs.PrivateAgree.{Agree, WellTyped, Simulates}
-use Rattle.jcard.specs.PrivateRuns.{Ended, Follows, FollowsEach, EndsAs, CanRun}
+use Rattle.jcard.specs.PrivateRuns.{Ended, ReadyFor, Performed, Follows, FollowsEach, EndsAs, CanRun}
 use Rattle.jcard.proofs.Stepping.{at_step, AtStep, first_agrees, first_typed, first_words}
 
 pub follows : (typing : Typing) (s : Step) (new : UntaggedFrame) (e : UntaggedOutcome) (out : Outcome) → Ended s new e → Simulates typing e out → Follows typing s new out
@@ -43,36 +47,38 @@ follows typing (went.Done word) new (Yields n) (Returns Null) is sim = elim sim 
 follows typing (went.Done word) new (Yields n) (Returns Unset) is sim = elim sim [ ]
 follows typing (went.Done word) new (Yields n) Stuck is sim = elim sim [ ]
 
-the_ok : (code : List ℕ) (w : UntaggedFrame) (instr other : Instr) → instr_at code w.pc ≡ Ok instr → instr_at code w.pc ≡ Ok other → instr ≡ other
-the_ok code w instr other a b = binding.the_ok instr other (sym a ∙ b)
+-- the instruction at a pc within the code, by its opcode and the bytes behind it
+at_opcode : (code : List ℕ) (pc : ℕ) → pc < length code → instr_at code pc ≡ (next_constant (get_or code pc 0) (drop (pc + 1) code) >>= (λ read. Ok (instr_of code read)))
+unfolding instr_at next_operation
+at_opcode code pc lt =
+    let front : drop pc code ≡ get_or code pc 0 ∷ drop (suc pc) code = drop-cons code pc 0 lt in
+    let next : suc pc ≡ pc + 1 = omega arith in
+    ap (λ bytes. next_operation bytes >>= (λ read. Ok (instr_of code read))) front ∙ ap (λ (n : ℕ). next_constant (get_or code pc 0) (drop n code) >>= (λ read. Ok (instr_of code read))) next
 
--- what a step owes to a frame of words whose instruction is known
-pub record CanStep (code : List ℕ) (w : UntaggedFrame) (instr : Instr) : Type 0 where
-  pub ready : Ready 8 w.pc instr.operation w
+ready_for : (code : List ℕ) (w : UntaggedFrame) (instr : Instr) (r : Result (Read Operation) CodeFault) → (r >>= (λ read. Ok (instr_of code read))) ≡ Ok instr → Ready 8 w.pc instr.operation w → ReadyFor r w
+ready_for code w instr (Ok read) e h = let R : Instr → Type 0 = λ i. Ready 8 w.pc i.operation w in subst R (sym (binding.the_ok (instr_of code read) instr e)) h
+ready_for code w instr (Err fault) e h = absurd cc
+
+ended : (code : List ℕ) (old new : UntaggedFrame) (s : Step) (instr : Instr) (r : Result (Read Operation) CodeFault) → (r >>= (λ read. Ok (instr_of code read))) ≡ Ok instr → Performed code r old s new → Ended s new (do_operation old.pc instr.next_pc instr.operation old)
+ended code old new s instr (Ok read) e h = let E : Instr → Type 0 = λ i. Ended s new (do_operation old.pc i.next_pc i.operation old) in subst E (binding.the_ok (instr_of code read) instr e) h
+ended code old new s instr (Err fault) e h = absurd h
+
+-- what a step owes to a frame of words: its pc lies within the code, and it is ready for the operation there
+pub record CanStep (code : List ℕ) (w : UntaggedFrame) : Type 0 where
   pub within : w.pc < length code
+  pub ready : ReadyFor (next_constant (get_or code w.pc 0) (drop (w.pc + 1) code)) w
 
-same_step : (code : List ℕ) (typing : Typing) (listing : List Placed) (w : UntaggedFrame) (f : Frame) (instr : Instr) → AtStep (word_method code) typing listing w f → instr_at code w.pc ≡ Ok instr → CanStep code w instr × Simulates typing (do_operation w.pc instr.next_pc instr.operation w) (defensive_step (word_method code) listing f)
-same_step code typing listing w f instr a is =
-    let e : a.instr ≡ instr = the_ok code w a.instr instr a.stands is in
-    let R : Instr → Type 0 = λ i. Ready 8 w.pc i.operation w in
-    let S : Instr → Type 0 = λ i. Simulates typing (do_operation w.pc i.next_pc i.operation w) (defensive_step (word_method code) listing f) in
-    (record { ready = subst R e a.ready; within = a.within }, subst S e a.simulates)
-
-pub can_step : (code : List ℕ) (w : UntaggedFrame) (instr : Instr) → CanRun code w → instr_at code w.pc ≡ Ok instr → CanStep code w instr
-can_step code w instr c is =
-    let real = c.2 in
-    (same_step code c.0 c.1.listing w real.0 instr (at_step (word_method code) c.0 c.1 w real.0 real.1 real.2) is).0
-
-pub never_err : (code : List ℕ) (w : UntaggedFrame) (fault : CodeFault) → CanRun code w → instr_at code w.pc ≡ Err fault → ⊥
-never_err code w fault c is =
+pub can_step : (code : List ℕ) (w : UntaggedFrame) → CanRun code w → CanStep code w
+can_step code w c =
     let real = c.2 in
     let a = at_step (word_method code) c.0 c.1 w real.0 real.1 real.2 in
-    ok_err a.instr fault (sym a.stands ∙ is)
+    record { within = a.within; ready = ready_for code w a.instr _ (sym (at_opcode code w.pc a.within) ∙ a.stands) a.ready }
 
-pub steps_on : (code : List ℕ) (w new : UntaggedFrame) (s : Step) (instr : Instr) → instr_at code w.pc ≡ Ok instr → Ended s new (do_operation w.pc instr.next_pc instr.operation w) → FollowsEach code w s new
-steps_on code w new s instr is ended typing t f agree well =
-    follows typing s new (do_operation w.pc instr.next_pc instr.operation w) (defensive_step (word_method code) t.listing f) ended
-    (same_step code typing t.listing w f instr (at_step (word_method code) typing t w f agree well) is).1
+pub steps_on : (code : List ℕ) (w new : UntaggedFrame) (s : Step) → Performed code (next_constant (get_or code w.pc 0) (drop (w.pc + 1) code)) w s new → FollowsEach code w s new
+steps_on code w new s done typing t f agree well =
+    let a = at_step (word_method code) typing t w f agree well in
+    follows typing s new (do_operation w.pc a.instr.next_pc a.instr.operation w) (defensive_step (word_method code) t.listing f)
+    (ended code w new s a.instr _ (sym (at_opcode code w.pc a.within) ∙ a.stands) done) a.simulates
 
 -- after so many of a run's steps, this frame of words is the defensive machine's without tags
 pub record Going (code : List ℕ) (done steps : ℕ) (w : UntaggedFrame) (typing : Typing) (t : IsTyping (word_method code) typing) : Type 0 where

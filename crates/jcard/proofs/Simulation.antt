@@ -30,7 +30,7 @@ goes_on typing pc wl ws vl vs after rl rs tl ts leads =
     let b = both_true (all_below after.locals leads.0.locals) (all_below after.operands leads.0.operands) leads.2 in
     (record { pc = refl; locals = rl; operands = rs }, record { state = leads.0; «at» = leads.1; locals = widen vl after.locals leads.0.locals tl b.0; operands = widen_operands vs after.operands leads.0.operands ts b.1 })
 
--- a jump to a pc_of that the typing has a state at
+-- a jump to a place that the typing has a state at
 pub jumps_on : (typing : Typing) (to : ℤ) (wl ws : List ℕ) (vl vs : List TaggedValue) (after : Types) → Pointwise WithoutTag wl vl → Pointwise WithoutTag ws vs → Pointwise HasType vl after.locals → Pointwise IsOperand vs after.operands → BranchLeads typing after to
     → IsPc to × Simulates typing (continues (pc_of to) wl ws) (jumps to vl vs)
 jumps_on typing (pos pc) wl ws vl vs after rl rs tl ts b =

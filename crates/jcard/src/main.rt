@@ -7,6 +7,7 @@ mod exception;
 mod frame;
 mod job;
 mod line;
+mod opcodes;
 mod perform;
 mod run;
 mod saying;

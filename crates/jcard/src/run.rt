@@ -8,9 +8,8 @@ ghost use Rattle.jcard.specs.Tagged.{first_frame, runtime_call};
 
 use crate::exception::Exception;
 use crate::frame::{LOCALS, MAX_STACK, WordFrame};
-use crate::perform::perform;
+use crate::opcodes::constant;
 use jc_check::CheckedWords;
-use jc_code::decode;
 
 /// What one step comes to.
 #[derive(Clone, Copy, Debug, PartialEq, Eq)]
@@ -41,13 +40,12 @@ fn take_step(code: &[u8], frame: &mut WordFrame) -> Step
     requires short { length code.now < 2 ^ 16 }
     ensures { FollowsEach code.now frame.old result frame.new }
 {
-    let Ok(instr) = decode(code, frame.pc()) else {
-        unreachable!()
-    };
-    perform(frame, &instr)
+    let pc = frame.pc();
+    let opcode = code[pc];
+    constant(frame, code, opcode)
 }
 
-/// Continues code that a certificate carries for at most so many steps, as the defensive machine does.
+/// Runs code that a certificate carries for at most so many steps, as the defensive machine does.
 pub(crate) fn run(checked: &CheckedWords, steps: u32) -> Ending
     ensures { (typing : Typing) → (t : IsTyping (word_method checked.now) typing)
         → EndsAs result (runtime_call (word_method checked.now) t.listing steps (first_frame (word_method checked.now))) }

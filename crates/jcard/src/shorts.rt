@@ -124,7 +124,7 @@ pub(crate) fn unary(operator: UnaryOperator, a: u16) -> u16
 
 /// A word and a constant.
 #[inline(always)]
-pub(crate) fn increment(a: u16, by: i16) -> u16
+pub(crate) fn incremented(a: u16, by: i16) -> u16
     ensures { result ≡ incremented a by }
 {
     a.cast_signed().wrapping_add(by).cast_unsigned()

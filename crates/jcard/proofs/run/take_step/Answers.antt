@@ -1,15 +1,15 @@
 use Rattle.std.proofs.Common.{arith, sym, ◌∙◌}
-use Rattle.jcard.proofs.Running.{can_step, never_err, steps_on}
+use Rattle.jcard.proofs.Running.{can_step, steps_on}
 use Rattle.jcard.proofs.run.take_step.Goals as goal
 
-pub unreachable-requires : goal.unreachable-requires
-unreachable-requires c = never_err c.args.code.now c.args.frame.now c.in_default.field-0 c.requires.ready (rw (← c.pc.ensures) (sym c.decode.ensures.instr ∙ c.in_default.is))
+pub bounds-code-pc : goal.bounds-code-pc
+bounds-code-pc c = rw c.pc-pc.ensures ((can_step c.args.code.now c.args.frame.now c.requires.ready).within)
 
-pub perform-requires-clause-ready : goal.perform-requires-clause-ready
-perform-requires-clause-ready c = (can_step c.args.code.now c.args.frame.now c.in-Ok.instr c.requires.ready (rw (← c.pc.ensures) (sym c.decode.ensures.instr ∙ c.in-Ok.is))).ready
+pub constant-requires-clause-ready : goal.constant-requires-clause-ready
+constant-requires-clause-ready c = rw c.pc-pc.ensures ((can_step c.args.code.now c.args.frame.now c.requires.ready).ready)
 
-pub perform-requires-clause-small : goal.perform-requires-clause-small
-perform-requires-clause-small c = omega (arith, c.requires.short, (can_step c.args.code.now c.args.frame.now c.in-Ok.instr c.requires.ready (rw (← c.pc.ensures) (sym c.decode.ensures.instr ∙ c.in-Ok.is))).within)
+pub constant-requires-clause-within : goal.constant-requires-clause-within
+constant-requires-clause-within c = (can_step c.args.code.now c.args.frame.now c.requires.ready).within
 
 pub returns : goal.returns
-returns c = steps_on c.args.code.now c.args.frame.now c.perform.new.frame c.perform.result c.in-Ok.instr (rw (← c.pc.ensures) (sym c.decode.ensures.instr ∙ c.in-Ok.is)) c.perform.ensures
+returns c = steps_on c.args.code.now c.args.frame.now c.constant.new.frame c.constant.result (rw c.pc-pc.ensures at c.constant.ensures)

@@ -1,6 +1,6 @@
 -- Instructions one behind the other.
-use Rattle.std.proofs.Common.{◌≡◌, ℕ, ◌≤◌, ◌<◌, ◌==◌, List, [], ◌∷◌, ◌++◌, length, Bool, true, false, ◌||◌, Some, Ok, cond, refl, sym, subst, ◌∙◌, arith}
-use Rattle.std.proofs.lemmas.Bool.{eqb-true, eq-eqb, ne_eqb}
+use Rattle.std.proofs.Common.{◌≡◌, ℕ, ◌≤◌, ◌==◌, List, [], ◌∷◌, ◌++◌, length, Bool, true, false, ◌||◌, Some, cond, refl, sym, subst, arith}
+use Rattle.std.proofs.lemmas.Bool.{eq-eqb, ne_eqb}
 use Rattle.jc_code.specs.Listing.{Placed, StandBetween, IsListing, placed_at, begins, ListingLaws}
 
 pub stand-append : (code : List ℕ) (from mid to : ℕ) (xs ys : List Placed) → StandBetween code from xs mid → StandBetween code mid ys to → StandBetween code from (xs ++ ys) to

@@ -109,7 +109,12 @@ pub(crate) fn fall_to(input: &PassInput, state: &State, pc: usize) -> Result<boo
 
 /// An instruction on the state before it: whether the state goes on to the instruction behind it.
 #[tactic(auto, unfolding(crate::specs::FirstFault::visit_live))]
-fn visit_live_at(input: &PassInput, state: &mut State, pc: u16, instr: &Instr) -> Result<bool, Reason>
+fn visit_live_at(
+    input: &PassInput,
+    state: &mut State,
+    pc: u16,
+    instr: &Instr,
+) -> Result<bool, Reason>
     requires table { AreSafe input.now.method.now (map stated input.now.states.now) input.now.marks.now }
     requires room { HasRoom input.now.method.now state.old }
     ensures flow { (listing : List Placed) → IsTable input.now.method.now listing (map stated input.now.states.now) input.now.marks.now

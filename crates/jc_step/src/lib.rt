@@ -3,5 +3,5 @@
 
 mod effect;
 
-pub use jc_base::Reason;
 pub use effect::transfer_words;
+pub use jc_base::Reason;

@@ -1,4 +1,4 @@
-use Rattle.std.proofs.Common.{map, sym, ◌∙◌}
+use Rattle.std.proofs.Common.{map}
 use Rattle.std.proofs.lemmas.Result.{err_from_is_err_and}
 use Rattle.jc_cert.specs.Cert.{stated}
 use Rattle.jc_check.proofs.Verdicts.{stopped, accepted, refused, refused_states}

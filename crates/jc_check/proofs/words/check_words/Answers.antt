@@ -1,6 +1,5 @@
 use Rattle.std.proofs.Common.{map, sym}
 use Rattle.jc_cert.specs.Cert.{stated}
-use Rattle.jc_check.specs.Method.{word_method}
 use Rattle.jc_check.proofs.Typed.{well_typed}
 use Rattle.jc_check.proofs.words.check_words.Goals as goal
 

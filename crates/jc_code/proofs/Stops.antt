@@ -36,8 +36,8 @@ decides_from : (left : ℕ) (code : List ℕ) (pc : ℕ) (front : List Placed) �
 decides_from zero code pc front enough within runs = ended code pc front (omega arith) within runs
 decides_from (suc n) code pc front enough within runs =
     by_place code pc front (nat_lt pc (length code)) refl within runs (λ i e.
-      let w = next_within code pc i e in
-      decides_from n code i.next_pc (front ++ record { pc = pc; instr = i } ∷ []) (omega arith) w.1 (stand-append code 0 pc i.next_pc front (record { pc = pc; instr = i } ∷ []) runs (refl, e, refl)))
+    let w = next_within code pc i e in
+    decides_from n code i.next_pc (front ++ record { pc = pc; instr = i } ∷ []) (omega arith) w.1 (stand-append code 0 pc i.next_pc front (record { pc = pc; instr = i } ∷ []) runs (refl, e, refl)))
 
 pub decides : (code : List ℕ) → IsListed code ⊎ IsStopped code
 decides code = decides_from (length code) code 0 [] (omega arith) (omega arith) refl

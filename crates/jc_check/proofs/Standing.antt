@@ -61,7 +61,7 @@ elsewhere cs c q ne = state_at-push cs c q ∙ ap (λ (b : Bool). first_some (st
 same_place : (m : Method) (listing : List Placed) (cs : List Stated) (c : Stated) (q : ℕ) (p : Mark) → state_at (cs ++ c ∷ []) q ≡ state_at cs q → IsMark m listing cs q p → IsMark m listing (cs ++ c ∷ []) q p
 same_place m listing cs c q Inside e h = (h.0, e ∙ h.1)
 same_place m listing cs c q Start e h = (h.0, e ∙ h.1)
-same_place m listing cs c q (Holds k) e h = (h.0, h.1, get_kept cs c h.1 k h.2, e ∙ h.3, h.4)
+same_place m listing cs c q (Holds k) e h = record { begin = h.begin; stated = h.stated; numbered = get_kept cs c h.stated k h.numbered; state = e ∙ h.state; shape = h.shape }
 
 -- a state more, where none stood
 stands_new : (m : Method) (listing : List Placed) (cs : List Stated) (c : Stated) (marks : List Mark) → IsTable m listing cs marks → c.pc < length m.code → has_shape m c ≡ true → get_or marks c.pc Inside ≡ Start
@@ -75,7 +75,7 @@ stands_new m listing cs c marks t lt shape was = record {
         let P : Mark → Type 0 = λ p. IsMark m listing cs c.pc p in
         let start = subst P was (t.each c.pc lt) in
         let new : state_at (cs ++ c ∷ []) c.pc ≡ Some (types_of c) = state_at-push cs c c.pc ∙ rw (start.1, eq-eqb c.pc c.pc refl) refl in
-        let here : IsMark m listing (cs ++ c ∷ []) c.pc (Holds (length cs)) = (start.0, c, get_past cs c, new, shape) in
+        let here : IsMark m listing (cs ++ c ∷ []) c.pc (Holds (length cs)) = record { begin = start.0; stated = c; numbered = get_past cs c; state = new; shape = shape } in
         let G : Mark → Type 0 = λ p. IsMark m listing (cs ++ c ∷ []) c.pc p in
         let Q : ℕ → Type 0 = λ k. IsMark m listing (cs ++ c ∷ []) k (get_or (set marks c.pc (Holds (length cs))) k Inside) in
         subst Q same (subst G (sym (get_or-set_same marks c.pc (Holds (length cs)) Inside (omega (arith, t.len)))) here)
@@ -96,7 +96,7 @@ stands_again m listing cs c marks k t lt was = record {
     | inl same ↦
         let P : Mark → Type 0 = λ p. IsMark m listing cs c.pc p in
         let held = subst P was (t.each c.pc lt) in
-        let e : state_at (cs ++ c ∷ []) c.pc ≡ state_at cs c.pc = state_at-push cs c c.pc ∙ ap (λ (o : Option Types). first_some o (cond (c.pc == c.pc) (Some (types_of c)) None)) held.3 ∙ sym held.3 in
+        let e : state_at (cs ++ c ∷ []) c.pc ≡ state_at cs c.pc = state_at-push cs c c.pc ∙ ap (λ (o : Option Types). first_some o (cond (c.pc == c.pc) (Some (types_of c)) None)) held.state ∙ sym held.state in
         let Q : ℕ → Type 0 = λ j. IsMark m listing (cs ++ c ∷ []) j (get_or marks j Inside) in
         subst Q same (same_place m listing cs c c.pc (get_or marks c.pc Inside) e (t.each c.pc lt))
     | inr ne ↦ same_place m listing cs c q (get_or marks q Inside) (elsewhere cs c q ne) (t.each q q_in)
@@ -143,7 +143,7 @@ and_false false = refl
 begins_at : (m : Method) (listing : List Placed) (cs : List Stated) (q : ℕ) (p : Mark) → (p ≡ Inside → ⊥) → IsMark m listing cs q p → begins listing q ≡ true
 begins_at m listing cs q Inside ne h = absurd (ne refl)
 begins_at m listing cs q Start ne h = h.0
-begins_at m listing cs q (Holds k) ne h = h.0
+begins_at m listing cs q (Holds k) ne h = h.begin
 
 -- the first state that doesn't stand is told
 pub told_shape : (m : Method) (listing : List Placed) (states : List Stated) (k : ℕ) (marks : List Mark) (c : Stated) → slice_get states k ≡ Some c → StatesSoFar m listing states k marks → has_shape m c ≡ false → states_stand m listing states ≡ Err (fault_at c.pc CertMismatch)
@@ -188,7 +188,7 @@ again_stands m listing states k j marks c at lt shape was s =
     let P : Mark → Type 0 = λ p. IsMark m listing (take k states) c.pc p in
     let held = subst P was (s.table.each c.pc lt) in
     let T : List Stated → Type 0 = λ cs. IsTable m listing cs marks in
-    record { rest = rest_on m listing states k c at held.0 shape s.rest; table = subst T (sym (take_get states k c at)) (stands_again m listing (take k states) c marks j s.table lt was) }
+    record { rest = rest_on m listing states k c at held.begin shape s.rest; table = subst T (sym (take_get states k c at)) (stands_again m listing (take k states) c marks j s.table lt was) }
 
 take_all : {A : Type 0} (xs : List A) (k : ℕ) → length xs ≤ k → take k xs ≡ xs
 take_all [] zero le = refl

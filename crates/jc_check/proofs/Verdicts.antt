@@ -31,7 +31,7 @@ safe m listing states marks t = record { len = t.len; each = λ pc lt. one pc (g
     one : (pc : ℕ) (p : Mark) → IsMark m listing states pc p → IsSafe m states p
     one pc Inside h = tt
     one pc Start h = tt
-    one pc (Holds k) h = (h.1, h.2, h.4)
+    one pc (Holds k) h = (h.stated, h.numbered, h.shape)
 
 -- the verdict, once the states stand
 pub findings_are : (m : Method) (listing : List Placed) (states : List Stated) → states_stand m listing states ≡ Ok tt → findings_of m listing states ≡ flow_findings_of m listing states
@@ -73,7 +73,7 @@ either laws m states = by_length laws m states m.code refl
 
 -- decoding stops nowhere in code without a byte
 no_stop : (code : List ℕ) (pc : ℕ) (why : CodeFault) → code ≡ [] → StopsAt code pc why → ⊥
-no_stop code pc why e s = let n : length code ≡ 0 = ap (λ (w : List ℕ). length w) e in omega (arith, s.2)
+no_stop code pc why e s = let n : length code ≡ 0 = ap (λ (w : List ℕ). length w) e in omega (arith, s.within)
 
 told_the_same : (p q : ℕ) (a b : CodeFault) → p ≡ q → a ≡ b → fault_at p (reason_of a) ≡ fault_at q (reason_of b)
 told_the_same p q a b e f = ap (λ (n : ℕ). fault_at n (reason_of a)) e ∙ ap (λ (c : CodeFault). fault_at q (reason_of c)) f

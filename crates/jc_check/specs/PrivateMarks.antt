@@ -22,11 +22,19 @@ pub record MarksStarts (code : List ℕ) (listing : List Placed) (marks : List M
   pub len : length marks ≡ length code
   pub each : (pc : ℕ) → pc < length code → slice_index_or marks pc Inside ≡ mark_of (begins listing pc)
 
--- what a place is: within an instruction, where one begins, or where the certificate has its state of a number
+-- the certificate's state of a number stands at a pc
+pub record IsHeld (m : Method) (listing : List Placed) (states : List Stated) (pc k : ℕ) : Type 0 where
+  pub begin : begins listing pc ≡ true
+  pub stated : Stated
+  pub numbered : slice_get states k ≡ Some stated
+  pub state : state_at states pc ≡ Some (types_of stated)
+  pub shape : has_shape m stated ≡ true
+
+-- what a mark says of its pc: within an instruction, where one begins, or where the certificate has its state of a number
 abbrev pub IsMark : Method → List Placed → List Stated → ℕ → Mark → Type 0
 IsMark m listing states pc Inside = (begins listing pc ≡ false) × (state_at states pc ≡ None)
 IsMark m listing states pc Start = (begins listing pc ≡ true) × (state_at states pc ≡ None)
-IsMark m listing states pc (Holds k) = (begins listing pc ≡ true) × (c : Stated) × (slice_get states k ≡ Some c) × (state_at states pc ≡ Some (types_of c)) × (has_shape m c ≡ true)
+IsMark m listing states pc (Holds k) = IsHeld m listing states pc k
 
 pub record IsTable (m : Method) (listing : List Placed) (states : List Stated) (marks : List Mark) : Type 0 where
   pub whole : IsListing m.code listing

@@ -72,4 +72,4 @@ stops_nowhere code from pc (y ∷ ys) (x ∷ xs) fault b lt e h =
     stops_nowhere code y.instr.next_pc pc ys xs fault b.2 lt e (subst R i h.2)
 
 pub listed_or_stopped : (code : List ℕ) (pc : ℕ) (fault : CodeFault) (listing : List Placed) → StopsAt code pc fault → IsListing code listing → ⊥
-listed_or_stopped code pc fault listing s h = stops_nowhere code 0 pc s.0 listing fault s.1 s.2 s.3 h
+listed_or_stopped code pc fault listing s h = stops_nowhere code 0 pc s.before listing fault s.stand s.within s.none h

@@ -23,7 +23,7 @@ ended code pc front le within runs =
 -- where the rest is decided behind each instruction, it is decided here
 one_on : (code : List ℕ) (pc : ℕ) (front : List Placed) (r : Result Instr CodeFault) → pc < length code → StandBetween code 0 front pc → instr_at code pc ≡ r
     → ((i : Instr) → instr_at code pc ≡ Ok i → IsListed code ⊎ IsStopped code) → IsListed code ⊎ IsStopped code
-one_on code pc front (Err fault) lt runs e behind = inr (pc, fault, (front, runs, lt, e))
+one_on code pc front (Err fault) lt runs e behind = inr (pc, fault, record { before = front; stand = runs; within = lt; none = e })
 one_on code pc front (Ok i) lt runs e behind = behind i e
 
 by_place : (code : List ℕ) (pc : ℕ) (front : List Placed) (t : Bool) → nat_lt pc (length code) ≡ t → pc ≤ length code → StandBetween code 0 front pc
@@ -64,5 +64,5 @@ laws = record {
   decides = decides;
   never_both = λ code listing pc fault l s. listed_or_stopped code pc fault listing s l;
   one_listing = λ code a b h k. one_listing code 0 a b h k;
-  one_stop = λ code p q a b s t. one_stop_from code 0 p q s.0 t.0 a b s.1 t.1 s.3 t.3;
+  one_stop = λ code p q a b s t. one_stop_from code 0 p q s.before t.before a b s.stand t.stand s.none t.none;
 }

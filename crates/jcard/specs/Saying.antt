@@ -37,13 +37,15 @@ text_of (Fault fault) = option_map (λ line. (codes "error: " ++ line) ++ line_f
 text_of (Line error) = None
 text_of NotText = Some (codes "error: an argument isn't UTF-8" ++ line_feed)
 
--- what is said with success, in answer to what was asked; with failure, and of a wrong command line
+-- what was asked for is said on standard output
 abbrev pub IsSuccess : Said → Type 0
 IsSuccess said = (said.stream ≡ Output) × (said.status ≡ Success)
 
+-- why there is no answer, on standard error
 abbrev pub IsFailure : Said → Type 0
 IsFailure said = (said.stream ≡ Errors) × (said.status ≡ Failure)
 
+-- what is wrong with the command line, on standard error too
 abbrev pub IsMisuse : Said → Type 0
 IsMisuse said = (said.stream ≡ Errors) × (said.status ≡ Misuse)
 

@@ -4,6 +4,7 @@ ghost use Rattle.jc_code.specs.Listing.{ListingLaws};
 
 /// What holds of every code: an instruction ends behind its pc and within the code; the code either is a list of
 /// instructions, and of one only, or decoding stops in it, at one pc with one fault. It does nothing.
+#[inline(always)]
 pub fn listing_laws()
     ensures { ListingLaws }
 {}

@@ -48,17 +48,17 @@ pub record Spelled (bytes : List ℕ) (rows : List Row) : Type 0 where
   pub only : (others : List Row) → SpellsCert bytes others → rows ≡ others
 
 -- code that is carried, with a typing
-record Ground (code bytes : List ℕ) : Type 0 where
+record CarriedRun (code bytes : List ℕ) : Type 0 where
   pub rows : List Row
   pub spelled : SpellsCert bytes rows
   pub carried : CertCarriesCode code rows
   pub typing : Typing
   pub typed : IsTyping (word_method code) typing
 
-ends : (code bytes : List ℕ) (steps : ℕ) (g : Ground code bytes) (end : RunEnd) → runtime_call (word_method code) g.typed.listing steps (first_frame (word_method code)) ≡ end → RunEnds code bytes steps end
+ends : (code bytes : List ℕ) (steps : ℕ) (g : CarriedRun code bytes) (end : RunEnd) → runtime_call (word_method code) g.typed.listing steps (first_frame (word_method code)) ≡ end → RunEnds code bytes steps end
 ends code bytes steps g end e = record { rows = g.rows; spelled = g.spelled; carried = g.carried; listing = g.typed.listing; whole = g.typed.whole; run = e }
 
-answered : (code bytes : List ℕ) (steps : ℕ) (g : Ground code bytes) (ending : Ending) (end : RunEnd)
+answered : (code bytes : List ℕ) (steps : ℕ) (g : CarriedRun code bytes) (ending : Ending) (end : RunEnd)
     → runtime_call (word_method code) g.typed.listing steps (first_frame (word_method code)) ≡ end → EndsAs ending end → Means (answer_to ending) code bytes steps
 answered code bytes steps g (endings.Gave word) (Gave (Word n)) e same = record { word = word; is = refl; ends = ends code bytes steps g (Gave (Word word)) (e ∙ ap (λ k. Gave (Word k)) (sym same)) }
 answered code bytes steps g (endings.Threw ArithmeticException) (Threw ArithmeticException) e same = ends code bytes steps g (Threw ArithmeticException) e
@@ -86,6 +86,6 @@ pub for_ending : (code bytes : List ℕ) (steps : ℕ) (rows : List Row) (ending
     → ((typing : Typing) → (t : IsTyping (word_method code) typing) → EndsAs ending (runtime_call (word_method code) t.listing steps (first_frame (word_method code))))
     → IsAnswer (answer_to ending) code bytes steps
 for_ending code bytes steps rows ending spelled carried well so =
-    let ground : Ground code bytes = record { rows = rows; spelled = spelled.spells; carried = carried; typing = well.typing; typed = well.typed } in
+    let ground : CarriedRun code bytes = record { rows = rows; spelled = spelled.spells; carried = carried; typing = well.typing; typed = well.typed } in
     is_answer (answer_to ending) code bytes steps (answered code bytes steps ground ending _ refl (so well.typing well.typed)) (λ none m. absurd (none rows spelled.spells))
     (λ others s no m. absurd (no (subst (CertCarriesCode code) (spelled.only others s) carried))) (λ others s is m. ending_tells ending)

@@ -10,8 +10,8 @@ use Rattle.jc_base.specs.Cursor.{Read}
 use Rattle.jc_base.specs.Results.{◌>>=◌}
 use Rattle.jc_code.specs.declared.instr.Operation.{Operation}
 use Rattle.jc_code.specs.Decoding.{instr_at, instr_of, next_constant, next_operation}
-use Rattle.jc_code.specs.Listing.{Placed}
-use Rattle.jc_check.specs.Method.{Method, word_method}
+use Rattle.jc_code.specs.Listing.{Placed, ListingLaws}
+use Rattle.jc_check.specs.Method.{Method, word_method, word_max_stack}
 use Rattle.jc_check.specs.Typing.{Typing, IsTyping, IsWellTyped}
 use Rattle.jcard.specs.declared.exception.Exception.{Exception}
 use Rattle.jcard.specs.declared.run.Step.{Step}
@@ -55,8 +55,8 @@ at_opcode code pc lt =
     let next : suc pc ≡ pc + 1 = omega arith in
     ap (λ bytes. next_operation bytes >>= (λ read. Ok (instr_of code read))) front ∙ ap (λ (n : ℕ). next_constant (get_or code pc 0) (drop n code) >>= (λ read. Ok (instr_of code read))) next
 
-ready_for : (code : List ℕ) (w : UntaggedFrame) (instr : Instr) (r : Result (Read Operation) CodeFault) → (r >>= (λ read. Ok (instr_of code read))) ≡ Ok instr → Ready 8 w.pc instr.operation w → ReadyFor r w
-ready_for code w instr (Ok read) e h = let R : Instr → Type 0 = λ i. Ready 8 w.pc i.operation w in subst R (sym (binding.the_ok (instr_of code read) instr e)) h
+ready_for : (code : List ℕ) (w : UntaggedFrame) (instr : Instr) (r : Result (Read Operation) CodeFault) → (r >>= (λ read. Ok (instr_of code read))) ≡ Ok instr → Ready word_max_stack w.pc instr.operation w → ReadyFor r w
+ready_for code w instr (Ok read) e h = let R : Instr → Type 0 = λ i. Ready word_max_stack w.pc i.operation w in subst R (sym (binding.the_ok (instr_of code read) instr e)) h
 ready_for code w instr (Err fault) e h = absurd cc
 
 ended : (code : List ℕ) (old new : UntaggedFrame) (s : Step) (instr : Instr) (r : Result (Read Operation) CodeFault) → (r >>= (λ read. Ok (instr_of code read))) ≡ Ok instr → Performed code r old s new → Ended s new (do_operation old.pc instr.next_pc instr.operation old)
@@ -68,15 +68,15 @@ pub record CanStep (code : List ℕ) (w : UntaggedFrame) : Type 0 where
   pub within : w.pc < length code
   pub ready : ReadyFor (next_constant (get_or code w.pc 0) (drop (w.pc + 1) code)) w
 
-pub can_step : (code : List ℕ) (w : UntaggedFrame) → CanRun code w → CanStep code w
-can_step code w c =
+pub can_step : (laws : ListingLaws) (code : List ℕ) (w : UntaggedFrame) → CanRun code w → CanStep code w
+can_step laws code w c =
     let real = c.2 in
-    let a = at_step (word_method code) c.0 c.1 w real.0 real.1 real.2 in
+    let a = at_step laws (word_method code) c.0 c.1 w real.0 real.1 real.2 in
     record { within = a.within; ready = ready_for code w a.instr _ (sym (at_opcode code w.pc a.within) ∙ a.stands) a.ready }
 
-pub steps_on : (code : List ℕ) (w new : UntaggedFrame) (s : Step) → Performed code (next_constant (get_or code w.pc 0) (drop (w.pc + 1) code)) w s new → FollowsEach code w s new
-steps_on code w new s done typing t f agree well =
-    let a = at_step (word_method code) typing t w f agree well in
+pub steps_on : (laws : ListingLaws) (code : List ℕ) (w new : UntaggedFrame) (s : Step) → Performed code (next_constant (get_or code w.pc 0) (drop (w.pc + 1) code)) w s new → FollowsEach code w s new
+steps_on laws code w new s done typing t f agree well =
+    let a = at_step laws (word_method code) typing t w f agree well in
     follows typing s new (do_operation w.pc a.instr.next_pc a.instr.operation w) (defensive_step (word_method code) t.listing f)
     (ended code w new s a.instr _ (sym (at_opcode code w.pc a.within) ∙ a.stands) done) a.simulates
 

@@ -4,8 +4,7 @@ use Rattle.jc_code.specs.declared.instr.Instr.{Instr}
 use Rattle.jc_code.specs.declared.instr.Operation.{Operation}
 use Rattle.jc_code.specs.declared.instr.Operation.TheVariants.{Nop, Push, Load, Store, Increment, Shuffle, Binary, Unary, Branch, StableSwitch, LookupSwitch, ReturnWord}
 use Rattle.jc_code.specs.Decoding.{instr_at}
-use Rattle.jc_code.specs.Listing.{Placed}
-use Rattle.jc_code.proofs.Listings.{there, next_within}
+use Rattle.jc_code.specs.Listing.{Placed, ListingLaws}
 use Rattle.jc_types.specs.State.{Types, all_below}
 use Rattle.jc_types.specs.declared.ty.Ty.TheVariants as types
 use Rattle.jc_base.proofs.Binding.{both_true}
@@ -41,13 +40,13 @@ pub record AtStep (m : Method) (typing : Typing) (listing : List Placed) (w : Un
   pub ready : Ready m.max_stack w.pc instr.operation w
   pub simulates : Simulates typing (do_operation w.pc instr.next_pc instr.operation w) (defensive_step m listing f)
 
-pub at_step : (m : Method) (typing : Typing) (t : IsTyping m typing) (w : UntaggedFrame) (f : Frame) → Agree w f → WellTyped typing f → AtStep m typing t.listing w f
-at_step m typing t w f a k =
+pub at_step : (laws : ListingLaws) (m : Method) (typing : Typing) (t : IsTyping m typing) (w : UntaggedFrame) (f : Frame) → Agree w f → WellTyped typing f → AtStep m typing t.listing w f
+at_step laws m typing t w f a k =
     let e = t.each f.pc k.state k.«at» in
     let x = e.0 in
-    let th = there m.code 0 (length m.code) t.listing f.pc x t.whole e.1 in
+    let th = laws.has m.code t.listing f.pc x t.whole e.1 in
     let o = operation_owes m typing x x.instr.operation w f k.state e.2.after (record { read_locals = a.locals; read_operands = a.operands; locals = k.locals; operands = k.operands; effect = e.2.effect; branches = e.2.branches; falls = e.2.falls }) in
-    let pc : x.pc ≡ w.pc = th.at ∙ sym a.pc in
+    let pc : x.pc ≡ w.pc = th.0 ∙ sym a.pc in
     let I : ℕ → Type 0 = λ n. instr_at m.code n ≡ Ok x.instr in
     let R : ℕ → Type 0 = λ n. Ready m.max_stack n x.instr.operation w in
     let step : defensive_step m t.listing f ≡ act m x x.instr.operation f = ap (λ (p : Option Placed). act_at m p f) e.1 in
@@ -55,8 +54,8 @@ at_step m typing t w f a k =
     let D : ℕ → Type 0 = λ n. Simulates typing (do_operation n x.instr.next_pc x.instr.operation w) (defensive_step m t.listing f) in
     record {
       instr = x.instr;
-      stands = subst I (sym a.pc) th.instr;
-      within = omega (arith, next_within m.code f.pc x.instr th.instr, a.pc);
+      stands = subst I (sym a.pc) th.1;
+      within = omega (arith, laws.ascends m.code f.pc x.instr th.1, a.pc);
       ready = subst R pc o.0;
       simulates = subst D pc (subst S (sym step) o.1);
     }

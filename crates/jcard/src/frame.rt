@@ -2,15 +2,10 @@
 
 ghost use Rattle.std.specs.Prelude.{◌≡◌, ◌<◌, ◌≤◌, ◌+◌, [], ◌∷◌, length, drop, slice_index, slice_set};
 ghost use Rattle.jc_base.specs.Stack.{duplicated, swapped};
+ghost use Rattle.jc_check.specs.Method.{word_max_stack};
 
 use jc_base::stack::{duplicate_top, swap_top};
 use std::marker::Model;
-
-/// How many locals the code has.
-pub(crate) const LOCALS: usize = 2;
-
-/// How many operands the code may have.
-pub(crate) const MAX_STACK: usize = 8;
 
 /// Where the code is, its locals, and its operands, the bottom one first.
 #[derive(Drop)]
@@ -23,20 +18,21 @@ pub(crate) struct WordFrame<'w> {
 
 impl<'w> Model for WordFrame<'w> {
     ghost use Rattle.std.specs.Prelude.{◌≡◌, ◌≤◌, length, reverse, take};
+    ghost use Rattle.jc_check.specs.Method.{word_max_stack};
     ghost use Rattle.jcard.specs.PrivateWords.{UntaggedFrame};
 
     ghost Value = { UntaggedFrame };
 
     ghost view = { λ f. record { pc = f.pc; locals = f.locals.now; operands = reverse (take f.depth f.slots.now) } };
 
-    ghost invariant = { λ f. (f.depth ≤ 8) × (length f.slots.now ≡ 8) };
+    ghost invariant = { λ f. (f.depth ≤ word_max_stack) × (length f.slots.now ≡ word_max_stack) };
 }
 
 impl<'w> WordFrame<'w> {
     /// The frame at the first instruction, with these locals and slots for its operands.
     #[inline(always)]
     pub(crate) fn new(locals: &'w mut [u16], slots: &'w mut [u16]) -> Self
-        requires { length slots.old ≡ 8 }
+        requires { length slots.old ≡ word_max_stack }
         ensures { result ≡ record { pc = 0; locals = locals.old; operands = [] } }
     {
         WordFrame {
@@ -64,7 +60,7 @@ impl<'w> WordFrame<'w> {
     /// Puts a word on top.
     #[inline(always)]
     pub(crate) fn push(&mut self, word: u16)
-        requires { length self.old.operands < 8 }
+        requires { length self.old.operands < word_max_stack }
         ensures { self.new ≡ record self.old { operands = word ∷ self.old.operands } }
     {
         // The depth is read once: the compiler can't tell that the slot lies apart from it.
@@ -114,7 +110,7 @@ impl<'w> WordFrame<'w> {
     pub(crate) fn duplicate(&mut self, count: u8, below: u8)
         requires there { count ≤ length self.old.operands }
         requires deep { below ≤ length self.old.operands }
-        requires room { length self.old.operands + count ≤ 8 }
+        requires room { length self.old.operands + count ≤ word_max_stack }
         ensures { self.new ≡ record self.old { operands = duplicated count below self.old.operands } }
     {
         let depth = self.depth;

@@ -7,9 +7,10 @@ ghost use Rattle.jcard.specs.PrivateRuns.{CanRun, EndsAs, FollowsEach};
 ghost use Rattle.jcard.specs.Tagged.{first_frame, runtime_call};
 
 use crate::exception::Exception;
-use crate::frame::{LOCALS, MAX_STACK, WordFrame};
+use crate::frame::WordFrame;
 use crate::opcodes::constant;
-use jc_check::CheckedWords;
+use jc_check::{CheckedWords, WORD_LOCALS, WORD_MAX_STACK};
+use jc_code::listing_laws;
 
 /// What one step comes to.
 #[derive(Clone, Copy, Debug, PartialEq, Eq)]
@@ -40,6 +41,7 @@ fn take_step(code: &[u8], frame: &mut WordFrame) -> Step
     requires short { length code.now < 2 ^ 16 }
     ensures { FollowsEach code.now frame.old result frame.new }
 {
+    listing_laws();
     let pc = frame.pc();
     let opcode = code[pc];
     constant(frame, code, opcode)
@@ -51,8 +53,8 @@ pub(crate) fn run(checked: &CheckedWords, steps: u32) -> Ending
         → EndsAs result (runtime_call (word_method checked.now) t.listing steps (first_frame (word_method checked.now))) }
 {
     let code = checked.code();
-    let mut locals = [0; LOCALS];
-    let mut slots = [0; MAX_STACK];
+    let mut locals = [0; WORD_LOCALS];
+    let mut slots = [0; WORD_MAX_STACK];
     let mut frame = WordFrame::new(&mut locals, &mut slots);
     for _ in 0..steps {
         match take_step(code, &mut frame) {

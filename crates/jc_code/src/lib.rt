@@ -8,7 +8,7 @@ mod operands;
 mod tables;
 mod targets;
 
-pub use decoding::{decode, next_lookup_switch, next_pc, next_stable_switch};
+pub use decoding::{decode, next_lookup_switch, next_pc, next_stable_switch, when_of};
 pub use fault::CodeFault;
 pub use instr::{BinaryOperator, Condition, Instr, Operation, Shuffle, UnaryOperator, When};
 pub use operands::{next_at, s1_at, s2_at, u1_at};

@@ -52,9 +52,10 @@ fn wide_increment<'a>(cursor: &mut Cursor<'a>) -> Result<Operation<'a>, CodeFaul
     Ok(Operation::Increment { local, by })
 }
 
+/// When the branch of an opcode with an offset of one byte is taken; `None` where no branch has the opcode.
 #[inline(always)]
 #[tactic(auto, unfolding(crate::specs::Decoding::when_of))]
-fn branch_condition(opcode: u8) -> Option<When>
+pub fn when_of(opcode: u8) -> Option<When>
     ensures { result ≡ when_of opcode }
 {
     match opcode {
@@ -81,7 +82,7 @@ fn wide_branch<'a>(opcode: u8, cursor: &mut Cursor<'a>) -> Result<Operation<'a>,
     requires { 152 ≤ opcode }
     ensures { Gives (λ o. o) result cursor.new (next_wide_branch opcode cursor.old) }
 {
-    let when = branch_condition(opcode - 56).ok_or(CodeFault::BadOpcode)?;
+    let when = when_of(opcode - 56).ok_or(CodeFault::BadOpcode)?;
     let offset = cursor.s2().ok_or(CodeFault::CutShort)?;
     Ok(Operation::Branch { when, offset })
 }
@@ -120,7 +121,7 @@ fn control<'a>(opcode: u8, cursor: &mut Cursor<'a>) -> Result<Operation<'a>, Cod
 fn branch<'a>(opcode: u8, cursor: &mut Cursor<'a>) -> Result<Operation<'a>, CodeFault>
     ensures { Gives (λ o. o) result cursor.new (next_branch opcode cursor.old) }
 {
-    let Some(when) = branch_condition(opcode) else {
+    let Some(when) = when_of(opcode) else {
         return control(opcode, cursor);
     };
     let offset = cursor.s1().ok_or(CodeFault::CutShort)?;

@@ -9,7 +9,7 @@ mod operands;
 mod tables;
 mod targets;
 
-pub use decoding::{decode, next_lookup_switch, next_pc, next_stable_switch};
+pub use decoding::{decode, next_lookup_switch, next_pc, next_stable_switch, when_of};
 pub use fault::CodeFault;
 pub use instr::{BinaryOperator, Condition, Instr, Operation, Shuffle, UnaryOperator, When};
 pub use listing::listing_laws;

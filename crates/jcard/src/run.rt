@@ -48,6 +48,8 @@ fn take_step(code: &[u8], frame: &mut WordFrame) -> Step
 }
 
 /// Runs code that a certificate carries for at most so many steps, as the defensive machine does.
+// By itself it has all registers of the processor.
+#[inline(never)]
 pub(crate) fn run(checked: &CheckedWords, steps: u32) -> Ending
     ensures { (typing : Typing) → (t : IsTyping (word_method checked.now) typing)
         → EndsAs result (runtime_call (word_method checked.now) t.listing steps (first_frame (word_method checked.now))) }

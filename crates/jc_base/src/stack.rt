@@ -27,6 +27,8 @@ fn turn<T: Copy>(window: &mut [T], count: usize)
 }
 
 /// The top `upper` of the `depth` operands and the `lower` below them change places.
+// By itself it takes no register from the loops that call it.
+#[inline(never)]
 pub fn swap_top<T: Copy>(slots: &mut [T], depth: usize, upper: usize, lower: usize)
     requires there { upper + lower ≤ depth }
     requires room { depth ≤ length slots.old }

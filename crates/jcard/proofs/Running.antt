@@ -68,10 +68,10 @@ pub record CanStep (code : List ℕ) (w : UntaggedFrame) : Type 0 where
   pub within : w.pc < length code
   pub ready : ReadyFor (next_constant (get_or code w.pc 0) (drop (w.pc + 1) code)) w
 
-pub can_step : (laws : ListingLaws) (code : List ℕ) (w : UntaggedFrame) → CanRun code w → CanStep code w
-can_step laws code w c =
-    let real = c.2 in
-    let a = at_step laws (word_method code) c.0 c.1 w real.0 real.1 real.2 in
+pub can_step : (code : List ℕ) (w : UntaggedFrame) → CanRun code w → CanStep code w
+can_step code w c =
+    let real = c.real in
+    let a = at_step c.laws (word_method code) c.typing c.typed w real.0 real.1 real.2 in
     record { within = a.within; ready = ready_for code w a.instr _ (sym (at_opcode code w.pc a.within) ∙ a.stands) a.ready }
 
 pub steps_on : (laws : ListingLaws) (code : List ℕ) (w new : UntaggedFrame) (s : Step) → Performed code (next_constant (get_or code w.pc 0) (drop (w.pc + 1) code)) w s new → FollowsEach code w s new
@@ -93,10 +93,10 @@ IsGoing code done steps w = (typing : Typing) → (t : IsTyping (word_method cod
 pub starts : (code : List ℕ) (steps : ℕ) → IsGoing code 0 steps first_words
 starts code steps typing t = record { frame = first_frame (word_method code); agree = first_agrees code; well = first_typed code typing t; rest = simp unary_clauses refl }
 
-pub can_run : (code : List ℕ) (done steps : ℕ) (w : UntaggedFrame) → IsWellTyped code → IsGoing code done steps w → CanRun code w
-can_run code done steps w well going =
+pub can_run : (laws : ListingLaws) (code : List ℕ) (done steps : ℕ) (w : UntaggedFrame) → IsWellTyped code → IsGoing code done steps w → CanRun code w
+can_run laws code done steps w well going =
     let g = going well.typing well.typed in
-    (well.typing, well.typed, (g.frame, g.agree, g.well))
+    record { laws = laws; typing = well.typing; typed = well.typed; real = (g.frame, g.agree, g.well) }
 
 one_more : (m : Method) (listing : List Placed) (done steps : ℕ) (f : Frame) → done < steps → runtime_call m listing (steps - done) f ≡ run_on (runtime_call m listing (steps - (done + 1))) (defensive_step m listing f)
 unfolding runtime_call

@@ -41,7 +41,6 @@ fn take_step(code: &[u8], frame: &mut WordFrame) -> Step
     requires short { length code.now < 2 ^ 16 }
     ensures { FollowsEach code.now frame.old result frame.new }
 {
-    listing_laws();
     let pc = frame.pc();
     let opcode = code[pc];
     constant(frame, code, opcode)
@@ -54,6 +53,7 @@ pub(crate) fn run(checked: &CheckedWords, steps: u32) -> Ending
     ensures { (typing : Typing) → (t : IsTyping (word_method checked.now) typing)
         → EndsAs result (runtime_call (word_method checked.now) t.listing steps (first_frame (word_method checked.now))) }
 {
+    listing_laws();
     let code = checked.code();
     let mut locals = [0; WORD_LOCALS];
     let mut slots = [0; WORD_MAX_STACK];

@@ -14,12 +14,16 @@ abbrev pub Typing : Type 0
 Typing = ℕ → Option Types
 
 -- the typing has a state at a pc, and these types lie below it
-abbrev pub Leads : Typing → Types → ℕ → Type 0
-Leads typing t pc = (s : Types) × (typing pc ≡ Some s) × (types_below t s ≡ true)
+pub record Leads (typing : Typing) (t : Types) (pc : ℕ) : Type 0 where
+  pub state : Types
+  pub typed : typing pc ≡ Some state
+  pub below : types_below t state ≡ true
 
 -- the same of a place that a branch names
-abbrev pub BranchLeads : Typing → Types → ℤ → Type 0
-BranchLeads typing t place = (pc : ℕ) × (place ≡ pos pc) × Leads typing t pc
+pub record BranchLeads (typing : Typing) (t : Types) (place : ℤ) : Type 0 where
+  pub pc : ℕ
+  pub is : place ≡ pos pc
+  pub leads : Leads typing t pc
 
 -- an instruction has an effect on the state before it, and leads only to places whose states are above the state after
 pub record IsFine (m : Method) (typing : Typing) (x : Placed) (s : Types) : Type 0 where
@@ -28,12 +32,18 @@ pub record IsFine (m : Method) (typing : Typing) (x : Placed) (s : Types) : Type
   pub branches : AllByRecursion (BranchLeads typing after) (targets_of x.pc x.instr.operation)
   pub falls : falls_of x.instr.operation ≡ true → Leads typing after x.instr.next_pc
 
+-- an instruction begins at a pc, and it is fine on the state there
+pub record IsFineAt (m : Method) (typing : Typing) (listing : List Placed) (pc : ℕ) (s : Types) : Type 0 where
+  pub instr : Placed
+  pub placed : placed_at listing pc ≡ Some instr
+  pub fine : IsFine m typing instr s
+
 -- the entry state lies below the state at pc 0, and where the typing has a state an instruction begins and is fine
 pub record IsTyping (m : Method) (typing : Typing) : Type 0 where
   pub listing : List Placed
   pub whole : IsListing m.code listing
   pub entry : Leads typing (entry_of m) 0
-  pub each : (pc : ℕ) (s : Types) → typing pc ≡ Some s → (x : Placed) × (placed_at listing pc ≡ Some x) × IsFine m typing x s
+  pub each : (pc : ℕ) (s : Types) → typing pc ≡ Some s → IsFineAt m typing listing pc s
 
 -- code alone that is well typed
 pub record IsWellTyped (code : List ℕ) : Type 0 where

@@ -27,17 +27,17 @@ use Rattle.jcard.proofs.Taking.{push_ok, takes_one, reads_local, local_there}
 pub goes_on : (typing : Typing) (pc : ℕ) (wl ws : List ℕ) (vl vs : List TaggedValue) (after : Types) → Pointwise WithoutTag wl vl → Pointwise WithoutTag ws vs → Pointwise HasType vl after.locals → Pointwise IsOperand vs after.operands → Leads typing after pc
     → Simulates typing (continues pc wl ws) (goes pc vl vs)
 goes_on typing pc wl ws vl vs after rl rs tl ts leads =
-    let b = both_true (all_below after.locals leads.0.locals) (all_below after.operands leads.0.operands) leads.2 in
-    (record { pc = refl; locals = rl; operands = rs }, record { state = leads.0; «at» = leads.1; locals = widen vl after.locals leads.0.locals tl b.0; operands = widen_operands vs after.operands leads.0.operands ts b.1 })
+    let b = both_true (all_below after.locals leads.state.locals) (all_below after.operands leads.state.operands) leads.below in
+    (record { pc = refl; locals = rl; operands = rs }, record { state = leads.state; «at» = leads.typed; locals = widen vl after.locals leads.state.locals tl b.0; operands = widen_operands vs after.operands leads.state.operands ts b.1 })
 
 -- a jump to a place that the typing has a state at
 pub jumps_on : (typing : Typing) (to : ℤ) (wl ws : List ℕ) (vl vs : List TaggedValue) (after : Types) → Pointwise WithoutTag wl vl → Pointwise WithoutTag ws vs → Pointwise HasType vl after.locals → Pointwise IsOperand vs after.operands → BranchLeads typing after to
     → IsPc to × Simulates typing (continues (pc_of to) wl ws) (jumps to vl vs)
 jumps_on typing (pos pc) wl ws vl vs after rl rs tl ts b =
-    let same : b.0 ≡ pc = let e = b.1 in cc in
+    let same : b.pc ≡ pc = let e = b.is in cc in
     let L : ℕ → Type 0 = λ n. Leads typing after n in
-    ((pc, refl), goes_on typing pc wl ws vl vs after rl rs tl ts (subst L same b.2))
-jumps_on typing (negsuc n) wl ws vl vs after rl rs tl ts b = absurd (let e = b.1 in cc)
+    ((pc, refl), goes_on typing pc wl ws vl vs after rl rs tl ts (subst L same b.leads))
+jumps_on typing (negsuc n) wl ws vl vs after rl rs tl ts b = absurd (let e = b.is in cc)
 
 -- a word more, and on
 pub pushes : (typing : Typing) (most pc : ℕ) (wl ws : List ℕ) (vl vs : List TaggedValue) (s after : Types) (n : ℕ) → Pointwise WithoutTag wl vl → Pointwise WithoutTag ws vs → Pointwise HasType vl s.locals → Pointwise IsOperand vs s.operands

@@ -43,13 +43,13 @@ pub record AtStep (m : Method) (typing : Typing) (listing : List Placed) (w : Un
 pub at_step : (laws : ListingLaws) (m : Method) (typing : Typing) (t : IsTyping m typing) (w : UntaggedFrame) (f : Frame) → Agree w f → WellTyped typing f → AtStep m typing t.listing w f
 at_step laws m typing t w f a k =
     let e = t.each f.pc k.state k.«at» in
-    let x = e.0 in
-    let th = laws.has m.code t.listing f.pc x t.whole e.1 in
-    let o = operation_owes m typing x x.instr.operation w f k.state e.2.after (record { read_locals = a.locals; read_operands = a.operands; locals = k.locals; operands = k.operands; effect = e.2.effect; branches = e.2.branches; falls = e.2.falls }) in
+    let x = e.instr in
+    let th = laws.has m.code t.listing f.pc x t.whole e.placed in
+    let o = operation_owes m typing x x.instr.operation w f k.state e.fine.after (record { read_locals = a.locals; read_operands = a.operands; locals = k.locals; operands = k.operands; effect = e.fine.effect; branches = e.fine.branches; falls = e.fine.falls }) in
     let pc : x.pc ≡ w.pc = th.0 ∙ sym a.pc in
     let I : ℕ → Type 0 = λ n. instr_at m.code n ≡ Ok x.instr in
     let R : ℕ → Type 0 = λ n. Ready m.max_stack n x.instr.operation w in
-    let step : defensive_step m t.listing f ≡ act m x x.instr.operation f = ap (λ (p : Option Placed). act_at m p f) e.1 in
+    let step : defensive_step m t.listing f ≡ act m x x.instr.operation f = ap (λ (p : Option Placed). act_at m p f) e.placed in
     let S : Outcome → Type 0 = λ out. Simulates typing (do_operation x.pc x.instr.next_pc x.instr.operation w) out in
     let D : ℕ → Type 0 = λ n. Simulates typing (do_operation n x.instr.next_pc x.instr.operation w) (defensive_step m t.listing f) in
     record {
@@ -75,5 +75,5 @@ first_agrees code = record { pc = refl; locals = (tt, (tt, tt)); operands = tt }
 pub first_typed : (code : List ℕ) (typing : Typing) → IsTyping (word_method code) typing → WellTyped typing (first_frame (word_method code))
 first_typed code typing t =
     let s = t.entry in
-    let b = both_true (all_below (entry_of (word_method code)).locals s.0.locals) (all_below (entry_of (word_method code)).operands s.0.operands) s.2 in
-    record { state = s.0; «at» = s.1; locals = widen (unset 2) (replicate 2 types.Top) s.0.locals (never_written 2) b.0; operands = widen_operands [] [] s.0.operands tt b.1 }
+    let b = both_true (all_below (entry_of (word_method code)).locals s.state.locals) (all_below (entry_of (word_method code)).operands s.state.operands) s.below in
+    record { state = s.state; «at» = s.typed; locals = widen (unset 2) (replicate 2 types.Top) s.state.locals (never_written 2) b.0; operands = widen_operands [] [] s.state.operands tt b.1 }

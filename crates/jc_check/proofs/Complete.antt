@@ -4,7 +4,7 @@ use Rattle.std.specs.List.{AllByRecursion}
 use Rattle.std.proofs.lemmas.Bool.{lt-ltb}
 use Rattle.jc_base.specs.declared.reason.Reason.{Reason}
 use Rattle.jc_base.specs.Results.{◌>>=◌}
-use Rattle.jc_code.specs.Listing.{Placed, StandBetween, placed_at, ListingLaws}
+use Rattle.jc_code.specs.Listing.{PlacedInstr, StandBetween, placed_at, ListingLaws}
 use Rattle.jc_code.specs.Targets.{targets_of, falls_of}
 use Rattle.jc_check.proofs.Listings.{placed_behind, placed_front}
 use Rattle.jc_types.specs.State.{Types}
@@ -26,7 +26,7 @@ record Goes (states : List Stated) (typing : Typing) (r : Result (Option Types) 
   pub is : r ≡ Ok flow
   pub fits : Flow (state_at states pc) (typing pc) flow
 
-all_stand : (m : Method) (listing : List Placed) (states : List Stated) → AllByRecursion (Stands m listing) states → states_stand m listing states ≡ Ok tt
+all_stand : (m : Method) (listing : List PlacedInstr) (states : List Stated) → AllByRecursion (Stands m listing) states → states_stand m listing states ≡ Ok tt
 unfolding states_stand
 all_stand m listing [] h = refl
 all_stand m listing (c ∷ cs) h = rw (h.0.begin, h.0.shape) (all_stand m listing cs h.1)
@@ -41,11 +41,11 @@ falls_goes m states typing t pc lt h =
     let g = goes_by t (state_at states pc) (typing pc) h in
     record { flow = g.0; is = rw (lt-ltb pc (length m.code) lt) g.1; fits = g.2 }
 
-branch_ok : (listing : List Placed) (states : List Stated) (t : Types) (place : ℤ) → Arrives listing states t place → arrives listing states t place ≡ Ok tt
+branch_ok : (listing : List PlacedInstr) (states : List Stated) (t : Types) (place : ℤ) → Arrives listing states t place → arrives listing states t place ≡ Ok tt
 unfolding arrives
 branch_ok listing states t place b = rw (b.is, b.begin, b.stated, b.below) refl
 
-branches_ok : (listing : List Placed) (states : List Stated) (t : Types) (places : List ℤ) → AllByRecursion (Arrives listing states t) places → all_arrive listing states t places ≡ Ok tt
+branches_ok : (listing : List PlacedInstr) (states : List Stated) (t : Types) (places : List ℤ) → AllByRecursion (Arrives listing states t) places → all_arrive listing states t places ≡ Ok tt
 branches_ok listing states t [] h = refl
 branches_ok listing states t (p ∷ ps) h = rw (branch_ok listing states t p h.0) (branches_ok listing states t ps h.1)
 
@@ -53,19 +53,19 @@ behind_goes : (m : Method) (states : List Stated) (typing : Typing) (b : Bool) (
 behind_goes m states typing true t pc h = falls_goes m states typing t pc h.0 h.1
 behind_goes m states typing false t pc h = record { flow = None; is = refl; fits = h }
 
-live_goes : (m : Method) (listing : List Placed) (states : List Stated) (typing : Typing) (x : Placed) (s : Types) → IsCarriedAt m listing states typing x s → Goes states typing (visit_live m listing states x s) x.instr.next_pc
+live_goes : (m : Method) (listing : List PlacedInstr) (states : List Stated) (typing : Typing) (x : PlacedInstr) (s : Types) → IsCarriedAt m listing states typing x s → Goes states typing (visit_live m listing states x s) x.instr.next_pc
 unfolding visit_live
 live_goes m listing states typing x s c =
     let g = behind_goes m states typing (falls_of x.instr.operation) c.after x.instr.next_pc c.behind in
     record { flow = g.flow; is = rw (c.effect, branches_ok listing states c.after (targets_of x.pc x.instr.operation) c.branches) g.is; fits = g.fits }
 
-visit_goes : (m : Method) (states : List Stated) (c : Carries m states) (x : Placed) (flow o : Option Types) → state_at states x.pc ≡ o → placed_at c.listing x.pc ≡ Some x → Flow o (c.typing x.pc) flow
+visit_goes : (m : Method) (states : List Stated) (c : Carries m states) (x : PlacedInstr) (flow o : Option Types) → state_at states x.pc ≡ o → placed_at c.listing x.pc ≡ Some x → Flow o (c.typing x.pc) flow
     → Goes states c.typing (visit_on m c.listing states x o flow) x.instr.next_pc
 visit_goes m states c x flow (Some s) e at f = live_goes m c.listing states c.typing x s (c.live x.pc x s at (c.stated x.pc s e))
 visit_goes m states c x (Some t) None e at f = live_goes m c.listing states c.typing x t (c.live x.pc x t at f)
 visit_goes m states c x None None e at f = record { flow = None; is = refl; fits = c.dead x.pc x at f }
 
-walk_ok : (laws : ListingLaws) (m : Method) (states : List Stated) (c : Carries m states) (xs : List Placed) (pc : ℕ) (flow : Option Types) → StandBetween m.code pc xs (length m.code) → ((q : ℕ) → pc ≤ q → placed_at c.listing q ≡ placed_at xs q)
+walk_ok : (laws : ListingLaws) (m : Method) (states : List Stated) (c : Carries m states) (xs : List PlacedInstr) (pc : ℕ) (flow : Option Types) → StandBetween m.code pc xs (length m.code) → ((q : ℕ) → pc ≤ q → placed_at c.listing q ≡ placed_at xs q)
     → Flow (state_at states pc) (c.typing pc) flow → walk m c.listing states flow xs ≡ Ok tt
 unfolding walk visit
 walk_ok laws m states c [] pc flow runs same f = refl

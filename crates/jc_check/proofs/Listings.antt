@@ -1,34 +1,34 @@
 -- Instructions one behind the other.
 use Rattle.std.proofs.Common.{◌≡◌, ℕ, ◌≤◌, ◌==◌, List, [], ◌∷◌, ◌++◌, length, Bool, true, false, ◌||◌, Some, cond, refl, sym, subst, arith}
 use Rattle.std.proofs.lemmas.Bool.{eq-eqb, ne_eqb}
-use Rattle.jc_code.specs.Listing.{Placed, StandBetween, IsListing, placed_at, begins, ListingLaws}
+use Rattle.jc_code.specs.Listing.{PlacedInstr, StandBetween, IsListing, placed_at, begins, ListingLaws}
 
-pub stand-append : (code : List ℕ) (from mid to : ℕ) (xs ys : List Placed) → StandBetween code from xs mid → StandBetween code mid ys to → StandBetween code from (xs ++ ys) to
+pub stand-append : (code : List ℕ) (from mid to : ℕ) (xs ys : List PlacedInstr) → StandBetween code from xs mid → StandBetween code mid ys to → StandBetween code from (xs ++ ys) to
 stand-append code from mid to [] ys h k = let P : ℕ → Type 0 = λ n. StandBetween code n ys to in subst P (sym h) k
 stand-append code from mid to (x ∷ xs) ys h k = (h.0, h.1, stand-append code x.instr.next_pc mid to xs ys h.2 k)
 
-pub placed_begins : (xs : List Placed) (pc : ℕ) → begins xs pc ≡ true → (x : Placed) × (placed_at xs pc ≡ Some x)
+pub placed_begins : (xs : List PlacedInstr) (pc : ℕ) → begins xs pc ≡ true → (x : PlacedInstr) × (placed_at xs pc ≡ Some x)
 unfolding placed_at begins
 placed_begins [] pc e = absurd cc
 placed_begins (y ∷ ys) pc e = step (y.pc == pc) (λ k. placed_begins ys pc k) e
   where
-    step : (b : Bool) → (begins ys pc ≡ true → (x : Placed) × (placed_at ys pc ≡ Some x)) → b || begins ys pc ≡ true → (x : Placed) × (cond b (Some y) (placed_at ys pc) ≡ Some x)
+    step : (b : Bool) → (begins ys pc ≡ true → (x : PlacedInstr) × (placed_at ys pc ≡ Some x)) → b || begins ys pc ≡ true → (x : PlacedInstr) × (cond b (Some y) (placed_at ys pc) ≡ Some x)
     step true later e = (y, refl)
     step false later e = later e
 
 -- from one instruction on, a listing has those behind it
-pub placed_behind : (laws : ListingLaws) (code : List ℕ) (from to : ℕ) (x : Placed) (xs : List Placed) (pc : ℕ) → StandBetween code from (x ∷ xs) to → x.instr.next_pc ≤ pc → placed_at (x ∷ xs) pc ≡ placed_at xs pc
+pub placed_behind : (laws : ListingLaws) (code : List ℕ) (from to : ℕ) (x : PlacedInstr) (xs : List PlacedInstr) (pc : ℕ) → StandBetween code from (x ∷ xs) to → x.instr.next_pc ≤ pc → placed_at (x ∷ xs) pc ≡ placed_at xs pc
 unfolding placed_at
 placed_behind laws code from to x xs pc h le =
     let n = laws.ascends code from x.instr h.1 in
     let ne : x.pc ≡ pc → ⊥ = λ e. omega (arith, h.0) in
     rw (ne_eqb x.pc pc ne) refl
 
-pub placed_front : (x : Placed) (xs : List Placed) (pc : ℕ) → x.pc ≡ pc → placed_at (x ∷ xs) pc ≡ Some x
+pub placed_front : (x : PlacedInstr) (xs : List PlacedInstr) (pc : ℕ) → x.pc ≡ pc → placed_at (x ∷ xs) pc ≡ Some x
 unfolding placed_at
 placed_front x xs pc e = rw (eq-eqb x.pc pc e) refl
 
-pub begins-push : (xs : List Placed) (x : Placed) (pc : ℕ) → begins (xs ++ x ∷ []) pc ≡ begins xs pc || (x.pc == pc)
+pub begins-push : (xs : List PlacedInstr) (x : PlacedInstr) (pc : ℕ) → begins (xs ++ x ∷ []) pc ≡ begins xs pc || (x.pc == pc)
 unfolding begins
 begins-push [] x pc = flip (x.pc == pc)
   where
@@ -42,7 +42,7 @@ begins-push (y ∷ ys) x pc = rw (begins-push ys x pc) (regroup (y.pc == pc) (be
     regroup false b c = refl
 
 -- no instruction begins past the code
-pub none_past : (laws : ListingLaws) (code : List ℕ) (listing : List Placed) (pc : ℕ) → IsListing code listing → length code ≤ pc → begins listing pc ≡ false
+pub none_past : (laws : ListingLaws) (code : List ℕ) (listing : List PlacedInstr) (pc : ℕ) → IsListing code listing → length code ≤ pc → begins listing pc ≡ false
 none_past laws code listing pc whole le = by (begins listing pc) refl
   where
     by : (b : Bool) → begins listing pc ≡ b → b ≡ false

@@ -5,7 +5,7 @@ use Rattle.std.proofs.lemmas.List.{length-replicate}
 use Rattle.std.proofs.lemmas.Bool.{cases_eq, eq-eqb, ne_eqb}
 use Rattle.jc_code.specs.declared.instr.Instr.{Instr}
 use Rattle.jc_code.specs.Decoding.{instr_at}
-use Rattle.jc_code.specs.Listing.{Placed, StandBetween, IsListing, begins}
+use Rattle.jc_code.specs.Listing.{PlacedInstr, StandBetween, IsListing, begins}
 use Rattle.jc_check.proofs.Listings.{stand-append, begins-push}
 use Rattle.jc_check.specs.declared.mark.Mark.{Mark}
 use Rattle.jc_check.specs.declared.mark.Mark.TheVariants.{Inside, Start}
@@ -13,7 +13,7 @@ use Rattle.jc_check.specs.PrivateMarks.{mark_of, MarksStarts, placed}
 
 -- what is marked once the instructions up to a pc have been decoded
 pub record SoFar (code : List ℕ) (pc : ℕ) (marks : List Mark) : Type 0 where
-  pub front : List Placed
+  pub front : List PlacedInstr
   pub runs : StandBetween code 0 front pc
   pub within : pc ≤ length code
   pub marked : MarksStarts code front marks
@@ -40,7 +40,7 @@ false_last : (b : Bool) → b || false ≡ b
 false_last true = refl
 false_last false = refl
 
-one_more : (code : List ℕ) (pc : ℕ) (i : Instr) (front : List Placed) (marks : List Mark) → pc < length code → MarksStarts code front marks → MarksStarts code (front ++ placed pc i ∷ []) (set marks pc Start)
+one_more : (code : List ℕ) (pc : ℕ) (i : Instr) (front : List PlacedInstr) (marks : List Mark) → pc < length code → MarksStarts code front marks → MarksStarts code (front ++ placed pc i ∷ []) (set marks pc Start)
 one_more code pc i front marks lt marked = record {
   len = length-set marks pc Start ∙ marked.len;
   each = λ q q_in. elim (cases_eq pc q) [
@@ -64,7 +64,7 @@ goes_on code pc i marks lt at within s = record {
   marked = one_more code pc i s.front marks lt s.marked;
 }
 
-pub is_done : (code : List ℕ) (pc : ℕ) (marks : List Mark) → length code ≤ pc → SoFar code pc marks → (listing : List Placed) × IsListing code listing × MarksStarts code listing marks
+pub is_done : (code : List ℕ) (pc : ℕ) (marks : List Mark) → length code ≤ pc → SoFar code pc marks → (listing : List PlacedInstr) × IsListing code listing × MarksStarts code listing marks
 is_done code pc marks le s =
     let end : pc ≡ length code = omega (arith, s.within) in
     let R : ℕ → Type 0 = λ n. StandBetween code 0 s.front n in

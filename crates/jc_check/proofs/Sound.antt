@@ -5,7 +5,7 @@ use Rattle.std.proofs.lemmas.Bool.{ltb-true, ltb-false, eqb-true, eq-eqb, ne_eqb
 use Rattle.jc_base.specs.declared.reason.Reason.{Reason}
 use Rattle.jc_base.specs.declared.reason.Reason.TheVariants.{CertMismatch, FallsOff, NoTarget}
 use Rattle.jc_base.proofs.Binding.{both_true, bind_ok, guard_ok, the_ok, the_some, none_some, choice}
-use Rattle.jc_code.specs.Listing.{Placed, StandBetween, IsListing, placed_at, begins, ListingLaws}
+use Rattle.jc_code.specs.Listing.{PlacedInstr, StandBetween, IsListing, placed_at, begins, ListingLaws}
 use Rattle.jc_code.specs.Targets.{targets_of, falls_of}
 use Rattle.jc_types.specs.State.{Types, types_below}
 use Rattle.jc_step.specs.Effect.{effect_of}
@@ -27,7 +27,7 @@ either_way a b = by_test (nat_lt a b) refl
     by_test false h = inr (ltb-false a b h)
 
 -- each of the certificate's states stands
-pub all_stand : (m : Method) (listing : List Placed) (states : List Stated) → states_stand m listing states ≡ Ok tt → AllByRecursion (Stands m listing) states
+pub all_stand : (m : Method) (listing : List PlacedInstr) (states : List Stated) → states_stand m listing states ≡ Ok tt → AllByRecursion (Stands m listing) states
 unfolding states_stand
 all_stand m listing [] h = tt
 all_stand m listing (c ∷ cs) h =
@@ -36,7 +36,7 @@ all_stand m listing (c ∷ cs) h =
     (record { begin = b.0; shape = b.1 }, all_stand m listing cs g.1)
 
 -- where the certificate has a state an instruction begins
-pub stands_at : (m : Method) (listing : List Placed) (states : List Stated) (pc : ℕ) (s : Types) → AllByRecursion (Stands m listing) states → state_at states pc ≡ Some s → begins listing pc ≡ true
+pub stands_at : (m : Method) (listing : List PlacedInstr) (states : List Stated) (pc : ℕ) (s : Types) → AllByRecursion (Stands m listing) states → state_at states pc ≡ Some s → begins listing pc ≡ true
 unfolding state_at
 stands_at m listing [] pc s h e = absurd (none_some s e)
 stands_at m listing (c ∷ cs) pc s h e =
@@ -55,12 +55,12 @@ flow_of (Ok flow) = flow
 flow_of (Err reason) = None
 
 -- the typing that the check goes by
-abbrev typing_of : Method → List Placed → List Stated → Option Types → List Placed → Typing
+abbrev typing_of : Method → List PlacedInstr → List Stated → Option Types → List PlacedInstr → Typing
 typing_of m listing states flow [] q = None
 typing_of m listing states flow (x ∷ xs) q = cond (x.pc == q) (choose (state_at states q) flow) (typing_of m listing states (flow_of (visit m listing states x flow)) xs q)
 
 -- it has states only where instructions begin
-only_starts : (m : Method) (listing : List Placed) (states : List Stated) (flow : Option Types) (xs : List Placed) (q : ℕ) (s : Types) → typing_of m listing states flow xs q ≡ Some s → begins xs q ≡ true
+only_starts : (m : Method) (listing : List PlacedInstr) (states : List Stated) (flow : Option Types) (xs : List PlacedInstr) (q : ℕ) (s : Types) → typing_of m listing states flow xs q ≡ Some s → begins xs q ≡ true
 unfolding begins
 only_starts m listing states flow [] q s e = absurd (none_some s e)
 only_starts m listing states flow (x ∷ xs) q s e =
@@ -74,7 +74,7 @@ only_starts m listing states flow (x ∷ xs) q s e =
     last false = refl
 
 -- it has the certificate's state wherever an instruction begins
-has_stated : (m : Method) (listing : List Placed) (states : List Stated) (flow : Option Types) (xs : List Placed) (q : ℕ) (s : Types) → begins xs q ≡ true → state_at states q ≡ Some s → typing_of m listing states flow xs q ≡ Some s
+has_stated : (m : Method) (listing : List PlacedInstr) (states : List Stated) (flow : Option Types) (xs : List PlacedInstr) (q : ℕ) (s : Types) → begins xs q ≡ true → state_at states q ≡ Some s → typing_of m listing states flow xs q ≡ Some s
 unfolding begins
 has_stated m listing states flow [] q s b e = absurd cc
 has_stated m listing states flow (x ∷ xs) q s b e = step (x.pc == q) b (λ k. has_stated m listing states (flow_of (visit m listing states x flow)) xs q s k e)
@@ -84,21 +84,21 @@ has_stated m listing states flow (x ∷ xs) q s b e = step (x.pc == q) b (λ k. 
     step false b later = later b
 
 -- behind the first instruction it is the typing of the max_locals
-later : (m : Method) (listing : List Placed) (states : List Stated) (flow : Option Types) (x : Placed) (xs : List Placed) (q : ℕ) (f : Option Types) → visit m listing states x flow ≡ Ok f → (x.pc ≡ q → ⊥)
+later : (m : Method) (listing : List PlacedInstr) (states : List Stated) (flow : Option Types) (x : PlacedInstr) (xs : List PlacedInstr) (q : ℕ) (f : Option Types) → visit m listing states x flow ≡ Ok f → (x.pc ≡ q → ⊥)
     → typing_of m listing states flow (x ∷ xs) q ≡ typing_of m listing states f xs q
 later m listing states flow x xs q f v ne = rw (ne_eqb x.pc q ne, v) refl
 
 -- at the first pc it is the certificate's state, or else what flows in
-first_state : (m : Method) (listing : List Placed) (states : List Stated) (flow : Option Types) (xs : List Placed) (pc : ℕ) → StandBetween m.code pc xs (length m.code) → pc < length m.code → typing_of m listing states flow xs pc ≡ choose (state_at states pc) flow
+first_state : (m : Method) (listing : List PlacedInstr) (states : List Stated) (flow : Option Types) (xs : List PlacedInstr) (pc : ℕ) → StandBetween m.code pc xs (length m.code) → pc < length m.code → typing_of m listing states flow xs pc ≡ choose (state_at states pc) flow
 first_state m listing states flow [] pc runs lt = absurd (omega (arith, runs))
 first_state m listing states flow (x ∷ xs) pc runs lt = rw (eq-eqb x.pc pc runs.0) refl
 
 -- where nothing flows in and the certificate has nothing, there is no state
-first_none : (m : Method) (listing : List Placed) (states : List Stated) (xs : List Placed) (pc : ℕ) → StandBetween m.code pc xs (length m.code) → state_at states pc ≡ None → typing_of m listing states None xs pc ≡ None
+first_none : (m : Method) (listing : List PlacedInstr) (states : List Stated) (xs : List PlacedInstr) (pc : ℕ) → StandBetween m.code pc xs (length m.code) → state_at states pc ≡ None → typing_of m listing states None xs pc ≡ None
 first_none m listing states [] pc runs e = refl
 first_none m listing states (x ∷ xs) pc runs e = rw (eq-eqb x.pc pc runs.0, e) refl
 
-nothing_goes : (m : Method) (listing : List Placed) (states : List Stated) (typing : Typing) (xs : List Placed) (pc : ℕ) → StandBetween m.code pc xs (length m.code) → typing pc ≡ typing_of m listing states None xs pc → NothingGoesOn (state_at states pc) (typing pc)
+nothing_goes : (m : Method) (listing : List PlacedInstr) (states : List Stated) (typing : Typing) (xs : List PlacedInstr) (pc : ℕ) → StandBetween m.code pc xs (length m.code) → typing pc ≡ typing_of m listing states None xs pc → NothingGoesOn (state_at states pc) (typing pc)
 nothing_goes m listing states typing xs pc runs same = by (state_at states pc) refl
   where
     by : (o : Option Types) → state_at states pc ≡ o → NothingGoesOn o (typing pc)
@@ -110,7 +110,7 @@ goes_by t None f state e h = e ∙ sym (the_ok _ _ h)
 goes_by t (Some c) f state e h = (guard_ok (types_below t c) (Ok None) CertMismatch f h).0
 
 -- what goes on behind an instruction
-behind : (m : Method) (listing : List Placed) (states : List Stated) (typing : Typing) (xs : List Placed) (falls : Bool) (t : Types) (pc : ℕ) (f : Option Types) → StandBetween m.code pc xs (length m.code)
+behind : (m : Method) (listing : List PlacedInstr) (states : List Stated) (typing : Typing) (xs : List PlacedInstr) (falls : Bool) (t : Types) (pc : ℕ) (f : Option Types) → StandBetween m.code pc xs (length m.code)
     → typing pc ≡ typing_of m listing states f xs pc → falls_if m states falls t pc ≡ Ok f → GoesOnIf m states typing falls t pc
 unfolding falls_to
 behind m listing states typing xs true t pc f runs same h =
@@ -122,25 +122,25 @@ behind m listing states typing xs false t pc f runs same h =
     let T : Option Types → Type 0 = λ o. typing pc ≡ typing_of m listing states o xs pc in
     nothing_goes m listing states typing xs pc runs (subst T none same)
 
-met : (listing : List Placed) (states : List Stated) (t : Types) (pc : ℕ) (o : Option Types) → begins listing pc ≡ true → state_at states pc ≡ o → meets t o ≡ Ok tt → Arrives listing states t (pos pc)
+met : (listing : List PlacedInstr) (states : List Stated) (t : Types) (pc : ℕ) (o : Option Types) → begins listing pc ≡ true → state_at states pc ≡ o → meets t o ≡ Ok tt → Arrives listing states t (pos pc)
 met listing states t pc None b e h = absurd cc
 met listing states t pc (Some c) b e h = record { pc = pc; is = refl; begin = b; state = c; stated = e; below = (guard_ok (types_below t c) (Ok tt) CertMismatch tt h).0 }
 
-arrived : (listing : List Placed) (states : List Stated) (t : Types) (place : ℤ) → arrives listing states t place ≡ Ok tt → Arrives listing states t place
+arrived : (listing : List PlacedInstr) (states : List Stated) (t : Types) (place : ℤ) → arrives listing states t place ≡ Ok tt → Arrives listing states t place
 unfolding arrives
 arrived listing states t (pos pc) h =
     let g = guard_ok (begins listing pc) (meets t (state_at states pc)) NoTarget tt h in
     met listing states t pc (state_at states pc) g.0 refl g.1
 arrived listing states t (negsuc n) h = absurd cc
 
-all_arrived : (listing : List Placed) (states : List Stated) (t : Types) (places : List ℤ) → all_arrive listing states t places ≡ Ok tt → AllByRecursion (Arrives listing states t) places
+all_arrived : (listing : List PlacedInstr) (states : List Stated) (t : Types) (places : List ℤ) → all_arrive listing states t places ≡ Ok tt → AllByRecursion (Arrives listing states t) places
 all_arrived listing states t [] h = tt
 all_arrived listing states t (p ∷ ps) h =
     let g = bind_ok (arrives listing states t p) (λ _. all_arrive listing states t ps) tt h in
     (arrived listing states t p g.1, all_arrived listing states t ps g.2)
 
 -- an instruction at which no fault is found is carried
-live_carried : (m : Method) (listing : List Placed) (states : List Stated) (typing : Typing) (x : Placed) (xs : List Placed) (s : Types) (f : Option Types) → StandBetween m.code x.instr.next_pc xs (length m.code)
+live_carried : (m : Method) (listing : List PlacedInstr) (states : List Stated) (typing : Typing) (x : PlacedInstr) (xs : List PlacedInstr) (s : Types) (f : Option Types) → StandBetween m.code x.instr.next_pc xs (length m.code)
     → typing x.instr.next_pc ≡ typing_of m listing states f xs x.instr.next_pc → visit_live m listing states x s ≡ Ok f → IsCarriedAt m listing states typing x s
 unfolding visit_live
 live_carried m listing states typing x xs s f runs same h =
@@ -154,12 +154,12 @@ live_carried m listing states typing x xs s f runs same h =
     }
 
 -- what a pc owes
-record AtPlace (m : Method) (listing : List Placed) (states : List Stated) (typing : Typing) (pc : ℕ) (x : Placed) : Type 0 where
+record AtPlace (m : Method) (listing : List PlacedInstr) (states : List Stated) (typing : Typing) (pc : ℕ) (x : PlacedInstr) : Type 0 where
   pub live : (s : Types) → typing pc ≡ Some s → IsCarriedAt m listing states typing x s
   pub dead : typing pc ≡ None → NothingGoesOn (state_at states x.instr.next_pc) (typing x.instr.next_pc)
 
 -- by what the certificate has there, and what flows in
-visited : (m : Method) (listing : List Placed) (states : List Stated) (typing : Typing) (x : Placed) (xs : List Placed) (o flow f : Option Types) → StandBetween m.code x.instr.next_pc xs (length m.code)
+visited : (m : Method) (listing : List PlacedInstr) (states : List Stated) (typing : Typing) (x : PlacedInstr) (xs : List PlacedInstr) (o flow f : Option Types) → StandBetween m.code x.instr.next_pc xs (length m.code)
     → typing x.instr.next_pc ≡ typing_of m listing states f xs x.instr.next_pc → typing x.pc ≡ choose o flow → visit_on m listing states x o flow ≡ Ok f → AtPlace m listing states typing x.pc x
 visited m listing states typing x xs (Some c) flow f runs same is h =
     let C : Types → Type 0 = λ v. IsCarriedAt m listing states typing x v in record {
@@ -179,8 +179,8 @@ visited m listing states typing x xs None None f runs same is h =
     }
 
 -- from a pc on, each instruction
-each_place : (laws : ListingLaws) (m : Method) (listing : List Placed) (states : List Stated) (typing : Typing) (flow : Option Types) (xs : List Placed) (pc : ℕ) → StandBetween m.code pc xs (length m.code)
-    → ((q : ℕ) → pc ≤ q → typing q ≡ typing_of m listing states flow xs q) → walk m listing states flow xs ≡ Ok tt → (q : ℕ) (y : Placed) → placed_at xs q ≡ Some y → AtPlace m listing states typing q y
+each_place : (laws : ListingLaws) (m : Method) (listing : List PlacedInstr) (states : List Stated) (typing : Typing) (flow : Option Types) (xs : List PlacedInstr) (pc : ℕ) → StandBetween m.code pc xs (length m.code)
+    → ((q : ℕ) → pc ≤ q → typing q ≡ typing_of m listing states flow xs q) → walk m listing states flow xs ≡ Ok tt → (q : ℕ) (y : PlacedInstr) → placed_at xs q ≡ Some y → AtPlace m listing states typing q y
 unfolding walk visit placed_at
 each_place laws m listing states typing flow [] pc runs same h q y e = absurd (none_some y e)
 each_place laws m listing states typing flow (x ∷ xs) pc runs same h q y e =
@@ -194,19 +194,19 @@ each_place laws m listing states typing flow (x ∷ xs) pc runs same h q y e =
           let at : typing x.pc ≡ choose (state_at states x.pc) flow = same x.pc (omega (arith, runs.0)) ∙ (let r : (x.pc == x.pc) ≡ true = eq-eqb x.pc x.pc refl in rw r refl) in
           let here : AtPlace m listing states typing x.pc x = visited m listing states typing x xs (state_at states x.pc) flow one.0 runs.2 (next x.instr.next_pc (omega arith)) at v in
           let Q : ℕ → Type 0 = λ k. AtPlace m listing states typing k x in
-          let Y : Placed → Type 0 = λ z. AtPlace m listing states typing q z in
+          let Y : PlacedInstr → Type 0 = λ z. AtPlace m listing states typing q z in
           subst Y (the_some x y p.1) (subst Q (eqb-true x.pc q p.0) here)
       | inr p ↦ each_place laws m listing states typing one.0 xs x.instr.next_pc runs.2 next one.2 q y p.1
     ]
 
-pub sound : (laws : ListingLaws) (m : Method) (listing : List Placed) (states : List Stated) → IsListing m.code listing → findings_of m listing states ≡ Ok tt → Carries m states
+pub sound : (laws : ListingLaws) (m : Method) (listing : List PlacedInstr) (states : List Stated) → IsListing m.code listing → findings_of m listing states ≡ Ok tt → Carries m states
 unfolding findings_of
 sound laws m listing states whole h =
     let one = bind_ok (states_stand m listing states) _ tt h in
     let two = bind_ok (told_at 0 (falls_to m states (entry_of m) 0)) _ tt one.2 in
     let stand : AllByRecursion (Stands m listing) states = all_stand m listing states one.1 in
     let typing : Typing = typing_of m listing states two.0 listing in
-    let places : (q : ℕ) (y : Placed) → placed_at listing q ≡ Some y → AtPlace m listing states typing q y = each_place laws m listing states typing two.0 listing 0 whole (λ q le. refl) two.2 in
+    let places : (q : ℕ) (y : PlacedInstr) → placed_at listing q ≡ Some y → AtPlace m listing states typing q y = each_place laws m listing states typing two.0 listing 0 whole (λ q le. refl) two.2 in
     record {
       listing = listing;
       whole = whole;

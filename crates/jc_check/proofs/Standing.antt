@@ -7,7 +7,7 @@ use Rattle.std.proofs.lemmas.List.{length-take-le}
 use Rattle.jc_base.specs.declared.reason.Reason.TheVariants.{CertMismatch}
 use Rattle.jc_base.proofs.Binding.{none_some, the_some}
 use Rattle.jc_types.specs.State.{Types}
-use Rattle.jc_code.specs.Listing.{Placed, IsListing, begins, ListingLaws}
+use Rattle.jc_code.specs.Listing.{PlacedInstr, IsListing, begins, ListingLaws}
 use Rattle.jc_check.proofs.Listings.{none_past}
 use Rattle.jc_cert.specs.declared.cert.StateRow.{StateRow}
 use Rattle.jc_cert.specs.Cert.{Stated, stated}
@@ -58,13 +58,13 @@ keeps (Some x) = refl
 elsewhere : (cs : List Stated) (c : Stated) (q : ℕ) → (c.pc ≡ q → ⊥) → state_at (cs ++ c ∷ []) q ≡ state_at cs q
 elsewhere cs c q ne = state_at-push cs c q ∙ ap (λ (b : Bool). first_some (state_at cs q) (cond b (Some (types_of c)) None)) (ne_eqb c.pc q ne) ∙ keeps (state_at cs q)
 
-same_place : (m : Method) (listing : List Placed) (cs : List Stated) (c : Stated) (q : ℕ) (p : Mark) → state_at (cs ++ c ∷ []) q ≡ state_at cs q → IsMark m listing cs q p → IsMark m listing (cs ++ c ∷ []) q p
+same_place : (m : Method) (listing : List PlacedInstr) (cs : List Stated) (c : Stated) (q : ℕ) (p : Mark) → state_at (cs ++ c ∷ []) q ≡ state_at cs q → IsMark m listing cs q p → IsMark m listing (cs ++ c ∷ []) q p
 same_place m listing cs c q Inside e h = (h.0, e ∙ h.1)
 same_place m listing cs c q Start e h = (h.0, e ∙ h.1)
 same_place m listing cs c q (Holds k) e h = record { begin = h.begin; stated = h.stated; numbered = get_kept cs c h.stated k h.numbered; state = e ∙ h.state; shape = h.shape }
 
 -- a state more, where none stood
-stands_new : (m : Method) (listing : List Placed) (cs : List Stated) (c : Stated) (marks : List Mark) → IsTable m listing cs marks → c.pc < length m.code → has_shape m c ≡ true → get_or marks c.pc Inside ≡ Start
+stands_new : (m : Method) (listing : List PlacedInstr) (cs : List Stated) (c : Stated) (marks : List Mark) → IsTable m listing cs marks → c.pc < length m.code → has_shape m c ≡ true → get_or marks c.pc Inside ≡ Start
     → IsTable m listing (cs ++ c ∷ []) (set marks c.pc (Holds (length cs)))
 stands_new m listing cs c marks t lt shape was = record {
   whole = t.whole;
@@ -86,7 +86,7 @@ stands_new m listing cs c marks t lt shape was = record {
 }
 
 -- a state more, where one stands already: the first counts
-stands_again : (m : Method) (listing : List Placed) (cs : List Stated) (c : Stated) (marks : List Mark) (k : ℕ) → IsTable m listing cs marks → c.pc < length m.code → get_or marks c.pc Inside ≡ Holds k
+stands_again : (m : Method) (listing : List PlacedInstr) (cs : List Stated) (c : Stated) (marks : List Mark) (k : ℕ) → IsTable m listing cs marks → c.pc < length m.code → get_or marks c.pc Inside ≡ Holds k
     → IsTable m listing (cs ++ c ∷ []) marks
 stands_again m listing cs c marks k t lt was = record {
   whole = t.whole;
@@ -104,11 +104,11 @@ stands_again m listing cs c marks k t lt was = record {
 }
 
 -- what is marked once some of the states have been looked at
-pub record StatesSoFar (m : Method) (listing : List Placed) (states : List Stated) (k : ℕ) (marks : List Mark) : Type 0 where
+pub record StatesSoFar (m : Method) (listing : List PlacedInstr) (states : List Stated) (k : ℕ) (marks : List Mark) : Type 0 where
   pub rest : states_stand m listing (drop k states) ≡ states_stand m listing states
   pub table : IsTable m listing (take k states) marks
 
-pub no_states : (laws : ListingLaws) (m : Method) (listing : List Placed) (states : List Stated) (marks : List Mark) → IsListing m.code listing → MarksStarts m.code listing marks → StatesSoFar m listing states 0 marks
+pub no_states : (laws : ListingLaws) (m : Method) (listing : List PlacedInstr) (states : List Stated) (marks : List Mark) → IsListing m.code listing → MarksStarts m.code listing marks → StatesSoFar m listing states 0 marks
 unfolding state_at
 no_states laws m listing states marks whole marked = record {
   rest = refl;
@@ -125,14 +125,14 @@ no_states laws m listing states marks whole marked = record {
     unmarked q false e = (e, refl)
 
 -- no instruction begins past the code
-pub past_code : (m : Method) (listing : List Placed) (states : List Stated) (marks : List Mark) (pc : ℕ) → IsTable m listing states marks → length m.code ≤ pc → begins listing pc ≡ false
+pub past_code : (m : Method) (listing : List PlacedInstr) (states : List Stated) (marks : List Mark) (pc : ℕ) → IsTable m listing states marks → length m.code ≤ pc → begins listing pc ≡ false
 past_code m listing states marks pc table le = table.past pc le
 
-one_stands : (m : Method) (listing : List Placed) (c : Stated) (cs : List Stated) → begins listing c.pc ≡ true → has_shape m c ≡ true → states_stand m listing (c ∷ cs) ≡ states_stand m listing cs
+one_stands : (m : Method) (listing : List PlacedInstr) (c : Stated) (cs : List Stated) → begins listing c.pc ≡ true → has_shape m c ≡ true → states_stand m listing (c ∷ cs) ≡ states_stand m listing cs
 unfolding states_stand
 one_stands m listing c cs b s = rw (b, s) refl
 
-none_stands : (m : Method) (listing : List Placed) (c : Stated) (cs : List Stated) → begins listing c.pc && has_shape m c ≡ false → states_stand m listing (c ∷ cs) ≡ Err (fault_at c.pc CertMismatch)
+none_stands : (m : Method) (listing : List PlacedInstr) (c : Stated) (cs : List Stated) → begins listing c.pc && has_shape m c ≡ false → states_stand m listing (c ∷ cs) ≡ Err (fault_at c.pc CertMismatch)
 unfolding states_stand
 none_stands m listing c cs e = rw e refl
 
@@ -140,28 +140,28 @@ and_false : (b : Bool) → b && false ≡ false
 and_false true = refl
 and_false false = refl
 
-begins_at : (m : Method) (listing : List Placed) (cs : List Stated) (q : ℕ) (p : Mark) → (p ≡ Inside → ⊥) → IsMark m listing cs q p → begins listing q ≡ true
+begins_at : (m : Method) (listing : List PlacedInstr) (cs : List Stated) (q : ℕ) (p : Mark) → (p ≡ Inside → ⊥) → IsMark m listing cs q p → begins listing q ≡ true
 begins_at m listing cs q Inside ne h = absurd (ne refl)
 begins_at m listing cs q Start ne h = h.0
 begins_at m listing cs q (Holds k) ne h = h.begin
 
 -- the first state that doesn't stand is told
-pub told_shape : (m : Method) (listing : List Placed) (states : List Stated) (k : ℕ) (marks : List Mark) (c : Stated) → slice_get states k ≡ Some c → StatesSoFar m listing states k marks → has_shape m c ≡ false → states_stand m listing states ≡ Err (fault_at c.pc CertMismatch)
+pub told_shape : (m : Method) (listing : List PlacedInstr) (states : List Stated) (k : ℕ) (marks : List Mark) (c : Stated) → slice_get states k ≡ Some c → StatesSoFar m listing states k marks → has_shape m c ≡ false → states_stand m listing states ≡ Err (fault_at c.pc CertMismatch)
 told_shape m listing states k marks c at s none =
     sym s.rest ∙ ap (λ cs. states_stand m listing cs) (drop_get states k c at) ∙ none_stands m listing c (drop (k + 1) states) (ap (λ (b : Bool). begins listing c.pc && b) none ∙ and_false (begins listing c.pc))
 
-pub told_place : (m : Method) (listing : List Placed) (states : List Stated) (k : ℕ) (marks : List Mark) (c : Stated) → slice_get states k ≡ Some c → StatesSoFar m listing states k marks → begins listing c.pc ≡ false → states_stand m listing states ≡ Err (fault_at c.pc CertMismatch)
+pub told_place : (m : Method) (listing : List PlacedInstr) (states : List Stated) (k : ℕ) (marks : List Mark) (c : Stated) → slice_get states k ≡ Some c → StatesSoFar m listing states k marks → begins listing c.pc ≡ false → states_stand m listing states ≡ Err (fault_at c.pc CertMismatch)
 told_place m listing states k marks c at s none =
     sym s.rest ∙ ap (λ cs. states_stand m listing cs) (drop_get states k c at) ∙ none_stands m listing c (drop (k + 1) states) (ap (λ (b : Bool). b && has_shape m c) none)
 
-pub told_inside : (m : Method) (listing : List Placed) (states : List Stated) (k : ℕ) (marks : List Mark) (c : Stated) → slice_get states k ≡ Some c → StatesSoFar m listing states k marks → c.pc < length m.code → get_or marks c.pc Inside ≡ Inside
+pub told_inside : (m : Method) (listing : List PlacedInstr) (states : List Stated) (k : ℕ) (marks : List Mark) (c : Stated) → slice_get states k ≡ Some c → StatesSoFar m listing states k marks → c.pc < length m.code → get_or marks c.pc Inside ≡ Inside
     → states_stand m listing states ≡ Err (fault_at c.pc CertMismatch)
 told_inside m listing states k marks c at s lt was =
     let P : Mark → Type 0 = λ p. IsMark m listing (take k states) c.pc p in
     let inside = subst P was (s.table.each c.pc lt) in
     told_place m listing states k marks c at s inside.0
 
-rest_on : (m : Method) (listing : List Placed) (states : List Stated) (k : ℕ) (c : Stated) → slice_get states k ≡ Some c → begins listing c.pc ≡ true → has_shape m c ≡ true → states_stand m listing (drop k states) ≡ states_stand m listing states
+rest_on : (m : Method) (listing : List PlacedInstr) (states : List Stated) (k : ℕ) (c : Stated) → slice_get states k ≡ Some c → begins listing c.pc ≡ true → has_shape m c ≡ true → states_stand m listing (drop k states) ≡ states_stand m listing states
     → states_stand m listing (drop (k + 1) states) ≡ states_stand m listing states
 rest_on m listing states k c at b s rest = sym (ap (λ cs. states_stand m listing cs) (drop_get states k c at) ∙ one_stands m listing c (drop (k + 1) states) b s) ∙ rest
 
@@ -172,7 +172,7 @@ holds_not_inside : (k : ℕ) → Holds k ≡ Inside → ⊥
 holds_not_inside k e = cc
 
 -- one state more, by what stood there
-pub new_stands : (m : Method) (listing : List Placed) (states : List Stated) (k : ℕ) (marks : List Mark) (c : Stated) → k < length states → slice_get states k ≡ Some c → c.pc < length m.code → has_shape m c ≡ true → get_or marks c.pc Inside ≡ Start
+pub new_stands : (m : Method) (listing : List PlacedInstr) (states : List Stated) (k : ℕ) (marks : List Mark) (c : Stated) → k < length states → slice_get states k ≡ Some c → c.pc < length m.code → has_shape m c ≡ true → get_or marks c.pc Inside ≡ Start
     → StatesSoFar m listing states k marks → StatesSoFar m listing states (k + 1) (set marks c.pc (Holds k))
 new_stands m listing states k marks c k_in at lt shape was s =
     let P : Mark → Type 0 = λ p. IsMark m listing (take k states) c.pc p in
@@ -182,7 +182,7 @@ new_stands m listing states k marks c k_in at lt shape was s =
     let N : ℕ → Type 0 = λ n. IsTable m listing (take k states ++ c ∷ []) (set marks c.pc (Holds n)) in
     record { rest = rest_on m listing states k c at start.0 shape s.rest; table = subst T (sym (take_get states k c at)) (subst N len (stands_new m listing (take k states) c marks s.table lt shape was)) }
 
-pub again_stands : (m : Method) (listing : List Placed) (states : List Stated) (k j : ℕ) (marks : List Mark) (c : Stated) → slice_get states k ≡ Some c → c.pc < length m.code → has_shape m c ≡ true → get_or marks c.pc Inside ≡ Holds j
+pub again_stands : (m : Method) (listing : List PlacedInstr) (states : List Stated) (k j : ℕ) (marks : List Mark) (c : Stated) → slice_get states k ≡ Some c → c.pc < length m.code → has_shape m c ≡ true → get_or marks c.pc Inside ≡ Holds j
     → StatesSoFar m listing states k marks → StatesSoFar m listing states (k + 1) marks
 again_stands m listing states k j marks c at lt shape was s =
     let P : Mark → Type 0 = λ p. IsMark m listing (take k states) c.pc p in
@@ -202,7 +202,7 @@ drop_all [] (suc k) le = refl
 drop_all (x ∷ xs) zero le = absurd (omega arith)
 drop_all (x ∷ xs) (suc k) le = drop_all xs k (omega arith)
 
-pub all_states : (m : Method) (listing : List Placed) (states : List Stated) (k : ℕ) (marks : List Mark) → length states ≤ k → StatesSoFar m listing states k marks → (states_stand m listing states ≡ Ok tt) × IsTable m listing states marks
+pub all_states : (m : Method) (listing : List PlacedInstr) (states : List Stated) (k : ℕ) (marks : List Mark) → length states ≤ k → StatesSoFar m listing states k marks → (states_stand m listing states ≡ Ok tt) × IsTable m listing states marks
 unfolding states_stand
 all_states m listing states k marks le s =
     let T : List Stated → Type 0 = λ cs. IsTable m listing cs marks in

@@ -1,7 +1,7 @@
 -- A method that is carried is well typed.
 use Rattle.std.proofs.Common.{◌≡◌, ℕ, ℤ, List, [], ◌∷◌, Option, Some, None, Bool, true, false, refl}
 use Rattle.std.specs.List.{AllByRecursion}
-use Rattle.jc_code.specs.Listing.{Placed}
+use Rattle.jc_code.specs.Listing.{PlacedInstr}
 use Rattle.jc_code.specs.Targets.{targets_of, falls_of}
 use Rattle.jc_check.proofs.Listings.{placed_begins}
 use Rattle.jc_types.specs.State.{Types, types_below}
@@ -14,7 +14,7 @@ leads : (self : (s : Types) → types_below s s ≡ true) (states : List Stated)
 leads self states typing t pc None e stated h = record { state = t; typed = h; below = self t }
 leads self states typing t pc (Some c) e stated h = record { state = c; typed = stated pc c e; below = h }
 
-all_lead : (listing : List Placed) (states : List Stated) (typing : Typing) (t : Types) (places : List ℤ) → ((q : ℕ) (s : Types) → state_at states q ≡ Some s → typing q ≡ Some s)
+all_lead : (listing : List PlacedInstr) (states : List Stated) (typing : Typing) (t : Types) (places : List ℤ) → ((q : ℕ) (s : Types) → state_at states q ≡ Some s → typing q ≡ Some s)
     → AllByRecursion (Arrives listing states t) places → AllByRecursion (BranchLeads typing t) places
 all_lead listing states typing t [] stated h = tt
 all_lead listing states typing t (p ∷ ps) stated h = (record { pc = h.0.pc; is = h.0.is; leads = record { state = h.0.state; typed = stated h.0.pc h.0.state h.0.stated; below = h.0.below } }, all_lead listing states typing t ps stated h.1)

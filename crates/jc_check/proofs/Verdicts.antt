@@ -8,7 +8,7 @@ use Rattle.jc_base.specs.declared.reason.Reason.{Reason}
 use Rattle.jc_base.specs.declared.reason.Reason.TheVariants.{FallsOff}
 use Rattle.jc_base.proofs.Binding.{ok_err, the_some}
 use Rattle.jc_code.specs.declared.fault.CodeFault.{CodeFault}
-use Rattle.jc_code.specs.Listing.{Placed, IsListing, StopsAt, ListingLaws}
+use Rattle.jc_code.specs.Listing.{PlacedInstr, IsListing, StopsAt, ListingLaws}
 use Rattle.jc_types.specs.State.{Types, StateWithRoom}
 use Rattle.jc_cert.specs.Cert.{Stated, Row}
 use Rattle.jc_check.specs.Method.{Method, entry_of, word_method, states_of}
@@ -25,7 +25,7 @@ use Rattle.jc_check.proofs.Sound.{sound}
 use Rattle.jc_check.proofs.Complete.{complete}
 
 -- a table's numbers are those of states
-pub safe : (m : Method) (listing : List Placed) (states : List Stated) (marks : List Mark) → IsTable m listing states marks → AreSafe m states marks
+pub safe : (m : Method) (listing : List PlacedInstr) (states : List Stated) (marks : List Mark) → IsTable m listing states marks → AreSafe m states marks
 safe m listing states marks t = record { len = t.len; each = λ pc lt. one pc (get_or marks pc Inside) (t.each pc lt) }
   where
     one : (pc : ℕ) (p : Mark) → IsMark m listing states pc p → IsSafe m states p
@@ -34,11 +34,11 @@ safe m listing states marks t = record { len = t.len; each = λ pc lt. one pc (g
     one pc (Holds k) h = (h.stated, h.numbered, h.shape)
 
 -- the verdict, once the states stand
-pub findings_are : (m : Method) (listing : List Placed) (states : List Stated) → states_stand m listing states ≡ Ok tt → findings_of m listing states ≡ flow_findings_of m listing states
+pub findings_are : (m : Method) (listing : List PlacedInstr) (states : List Stated) → states_stand m listing states ≡ Ok tt → findings_of m listing states ≡ flow_findings_of m listing states
 unfolding findings_of
 findings_are m listing states e = rw e refl
 
-pub findings_stop : (m : Method) (listing : List Placed) (states : List Stated) (fault : Fault) → states_stand m listing states ≡ Err fault → findings_of m listing states ≡ Err fault
+pub findings_stop : (m : Method) (listing : List PlacedInstr) (states : List Stated) (fault : Fault) → states_stand m listing states ≡ Err fault → findings_of m listing states ≡ Err fault
 unfolding findings_of
 findings_stop m listing states fault e = rw e refl
 
@@ -48,15 +48,15 @@ no_fault laws m states fault (empty e) c = let n : length m.code ≡ 0 = ap (λ 
 no_fault laws m states fault (undecoded pc why s) c = laws.never_both m.code c.listing pc why c.whole s
 no_fault laws m states fault (found listing f whole some e) c =
     let same : listing ≡ c.listing = laws.one_listing m.code listing c.listing whole c.whole in
-    let V : List Placed → Type 0 = λ l. findings_of m l states ≡ Err f in
+    let V : List PlacedInstr → Type 0 = λ l. findings_of m l states ≡ Err f in
     ok_err tt f (sym (complete laws m states c) ∙ subst V same e)
 
 -- what is found in code that decodes decides
-by_findings : (laws : ListingLaws) (m : Method) (states : List Stated) (listing : List Placed) (r : Result ⊤ Fault) → IsListing m.code listing → m.code ≢ [] → findings_of m listing states ≡ r → Carries m states ⊎ ((fault : Fault) × IsFirstFault m states fault)
+by_findings : (laws : ListingLaws) (m : Method) (states : List Stated) (listing : List PlacedInstr) (r : Result ⊤ Fault) → IsListing m.code listing → m.code ≢ [] → findings_of m listing states ≡ r → Carries m states ⊎ ((fault : Fault) × IsFirstFault m states fault)
 by_findings laws m states listing (Ok x) whole some e = inl (sound laws m listing states whole e)
 by_findings laws m states listing (Err fault) whole some e = inr (fault, found listing fault whole some e)
 
-by_decoding : (laws : ListingLaws) (m : Method) (states : List Stated) → m.code ≢ [] → ((listing : List Placed) × IsListing m.code listing) ⊎ ((pc : ℕ) × (fault : CodeFault) × StopsAt m.code pc fault) → Carries m states ⊎ ((fault : Fault) × IsFirstFault m states fault)
+by_decoding : (laws : ListingLaws) (m : Method) (states : List Stated) → m.code ≢ [] → ((listing : List PlacedInstr) × IsListing m.code listing) ⊎ ((pc : ℕ) × (fault : CodeFault) × StopsAt m.code pc fault) → Carries m states ⊎ ((fault : Fault) × IsFirstFault m states fault)
 by_decoding laws m states some (inl listed) = by_findings laws m states listed.0 (findings_of m listed.0 states) listed.1 some refl
 by_decoding laws m states some (inr stop) = inr (fault_at stop.0 (reason_of stop.1), undecoded stop.0 stop.1 stop.2)
 
@@ -93,7 +93,7 @@ one_fault laws m states a b (found listing f whole some g) (empty e) = absurd (s
 one_fault laws m states a b (found listing f whole some g) (undecoded pc why s) = absurd (laws.never_both m.code listing pc why whole s)
 one_fault laws m states a b (found k f u some g) (found l h v other i) =
     let same : k ≡ l = laws.one_listing m.code k l u v in
-    let V : List Placed → Type 0 = λ z. findings_of m z states ≡ Err f in
+    let V : List PlacedInstr → Type 0 = λ z. findings_of m z states ≡ Err f in
     the_err f h (sym (subst V same g) ∙ i)
 
 pub stopped : (m : Method) (states : List Stated) (f : Fault) → ((why : CodeFault) × StopsAt m.code f.pc why × (f.reason ≡ reason_of why)) → IsFirstFault m states f
@@ -102,15 +102,15 @@ stopped m states f h =
     subst F (ap (λ (r : Reason). fault_at f.pc r) (sym h.2)) (undecoded f.pc h.0 h.1)
 
 -- what is found is the first fault, and nothing is found only where the states carry the method
-pub accepted : (laws : ListingLaws) (r : Result ⊤ Fault) (m : Method) (listing : List Placed) (states : List Stated) → IsListing m.code listing → states_stand m listing states ≡ Ok tt → r ≡ flow_findings_of m listing states → OnOk r (Carries m states)
+pub accepted : (laws : ListingLaws) (r : Result ⊤ Fault) (m : Method) (listing : List PlacedInstr) (states : List Stated) → IsListing m.code listing → states_stand m listing states ≡ Ok tt → r ≡ flow_findings_of m listing states → OnOk r (Carries m states)
 accepted laws (Ok x) m listing states whole stand v = sound laws m listing states whole (findings_are m listing states stand ∙ sym v)
 accepted laws (Err fault) m listing states whole stand v = tt
 
-pub refused : (r : Result ⊤ Fault) (m : Method) (listing : List Placed) (states : List Stated) → IsListing m.code listing → m.code ≢ [] → states_stand m listing states ≡ Ok tt → r ≡ flow_findings_of m listing states → IfErr r (λ f. IsFirstFault m states f)
+pub refused : (r : Result ⊤ Fault) (m : Method) (listing : List PlacedInstr) (states : List Stated) → IsListing m.code listing → m.code ≢ [] → states_stand m listing states ≡ Ok tt → r ≡ flow_findings_of m listing states → IfErr r (λ f. IsFirstFault m states f)
 refused (Ok x) m listing states whole some stand v = tt
 refused (Err fault) m listing states whole some stand v = found listing fault whole some (findings_are m listing states stand ∙ sym v)
 
-pub refused_states : (m : Method) (listing : List Placed) (states : List Stated) (fault : Fault) → IsListing m.code listing → m.code ≢ [] → states_stand m listing states ≡ Err fault → IsFirstFault m states fault
+pub refused_states : (m : Method) (listing : List PlacedInstr) (states : List Stated) (fault : Fault) → IsListing m.code listing → m.code ≢ [] → states_stand m listing states ≡ Err fault → IsFirstFault m states fault
 refused_states m listing states fault whole some e = found listing fault whole some (findings_stop m listing states fault e)
 
 -- where a certificate carries the code, only memory can be wanting

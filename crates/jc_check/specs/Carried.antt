@@ -2,7 +2,7 @@
 -- from instruction to instruction, and it is well typed.
 use Rattle.std.specs.Prelude.{⊤, ◌≡◌, ℕ, ℤ, pos, ◌+◌, ◌^◌, ◌<◌, ◌==◌, ◌&&◌, List, [], ◌∷◌, length, Option, Some, None, Ok, Bool, true, false, nat_le, if◌then◌else◌}
 use Rattle.std.specs.List.{AllByRecursion}
-use Rattle.jc_code.specs.Listing.{Placed, IsListing, placed_at, begins}
+use Rattle.jc_code.specs.Listing.{PlacedInstr, IsListing, placed_at, begins}
 use Rattle.jc_code.specs.Targets.{targets_of, falls_of}
 use Rattle.jc_types.specs.State.{Types, types_below, stated_types}
 use Rattle.jc_step.specs.Effect.{effect_of}
@@ -24,12 +24,12 @@ abbrev pub has_shape : Method → Stated → Bool
 has_shape m c = (length c.locals == length m.arguments + m.max_locals) && nat_le (length c.operands) m.max_stack
 
 -- a certificate's state stands where an instruction begins, in the method's shape
-pub record Stands (m : Method) (listing : List Placed) (c : Stated) : Type 0 where
+pub record Stands (m : Method) (listing : List PlacedInstr) (c : Stated) : Type 0 where
   pub begin : begins listing c.pc ≡ true
   pub shape : has_shape m c ≡ true
 
 -- a branch leads to an instruction where the certificate has a state above these types
-pub record Arrives (listing : List Placed) (states : List Stated) (t : Types) (place : ℤ) : Type 0 where
+pub record Arrives (listing : List PlacedInstr) (states : List Stated) (t : Types) (place : ℤ) : Type 0 where
   pub pc : ℕ
   pub is : place ≡ pos pc
   pub begin : begins listing pc ≡ true
@@ -53,7 +53,7 @@ GoesOnIf m states typing true t pc = (pc < length m.code) × GoesOn (state_at st
 GoesOnIf m states typing false t pc = NothingGoesOn (state_at states pc) (typing pc)
 
 -- an instruction has an effect on the state before it, and the state after goes where the certificate says
-pub record IsCarriedAt (m : Method) (listing : List Placed) (states : List Stated) (typing : Typing) (x : Placed) (s : Types) : Type 0 where
+pub record IsCarriedAt (m : Method) (listing : List PlacedInstr) (states : List Stated) (typing : Typing) (x : PlacedInstr) (s : Types) : Type 0 where
   pub after : Types
   pub effect : effect_of m.max_stack m.returned x.instr.operation s ≡ Ok after
   pub branches : AllByRecursion (Arrives listing states after) (targets_of x.pc x.instr.operation)
@@ -62,7 +62,7 @@ pub record IsCarriedAt (m : Method) (listing : List Placed) (states : List State
 -- the states carry the method
 pub record Carries (m : Method) (states : List Stated) : Type 0 where
   -- the code decodes
-  pub listing : List Placed
+  pub listing : List PlacedInstr
   pub whole : IsListing m.code listing
   -- each state stands where an instruction begins, in the method's shape
   pub fitting : AllByRecursion (Stands m listing) states
@@ -74,8 +74,8 @@ pub record Carries (m : Method) (states : List Stated) : Type 0 where
   -- the entry state goes to pc 0
   pub entry : GoesOnIf m states typing true (entry_of m) 0
   -- each instruction with a state is carried, and behind one without a state nothing goes on
-  pub live : (pc : ℕ) (x : Placed) (s : Types) → placed_at listing pc ≡ Some x → typing pc ≡ Some s → IsCarriedAt m listing states typing x s
-  pub dead : (pc : ℕ) (x : Placed) → placed_at listing pc ≡ Some x → typing pc ≡ None → NothingGoesOn (state_at states x.instr.next_pc) (typing x.instr.next_pc)
+  pub live : (pc : ℕ) (x : PlacedInstr) (s : Types) → placed_at listing pc ≡ Some x → typing pc ≡ Some s → IsCarriedAt m listing states typing x s
+  pub dead : (pc : ℕ) (x : PlacedInstr) → placed_at listing pc ≡ Some x → typing pc ≡ None → NothingGoesOn (state_at states x.instr.next_pc) (typing x.instr.next_pc)
 
 -- a certificate carries code alone
 pub record CertCarriesCode (code : List ℕ) (rows : List Row) : Type 0 where

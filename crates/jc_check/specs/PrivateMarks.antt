@@ -1,7 +1,7 @@
 -- The table of marks that the check keeps beside the code, and what its steps leave. No public clause speaks of this.
 use Rattle.std.specs.Prelude.{⊤, ◌≡◌, ℕ, ◌+◌, ◌<◌, ◌≤◌, List, length, Option, Some, None, Result, Ok, Err, Bool, true, false, slice_get, slice_index_or, if◌then◌else◌}
 use Rattle.jc_base.specs.declared.reason.Reason.{Reason}
-use Rattle.jc_code.specs.Listing.{Placed, IsListing, begins}
+use Rattle.jc_code.specs.Listing.{PlacedInstr, IsListing, begins}
 use Rattle.jc_types.specs.State.{Types, StateWithRoom}
 use Rattle.jc_code.specs.declared.instr.Instr.{Instr}
 use Rattle.jc_cert.specs.Cert.{Stated}
@@ -18,12 +18,12 @@ mark_of true = Start
 mark_of false = Inside
 
 -- the table marks where instructions begin, and no more
-pub record MarksStarts (code : List ℕ) (listing : List Placed) (marks : List Mark) : Type 0 where
+pub record MarksStarts (code : List ℕ) (listing : List PlacedInstr) (marks : List Mark) : Type 0 where
   pub len : length marks ≡ length code
   pub each : (pc : ℕ) → pc < length code → slice_index_or marks pc Inside ≡ mark_of (begins listing pc)
 
 -- the certificate's state of a number stands at a pc
-pub record IsHeld (m : Method) (listing : List Placed) (states : List Stated) (pc k : ℕ) : Type 0 where
+pub record IsHeld (m : Method) (listing : List PlacedInstr) (states : List Stated) (pc k : ℕ) : Type 0 where
   pub begin : begins listing pc ≡ true
   pub stated : Stated
   pub numbered : slice_get states k ≡ Some stated
@@ -31,12 +31,12 @@ pub record IsHeld (m : Method) (listing : List Placed) (states : List Stated) (p
   pub shape : has_shape m stated ≡ true
 
 -- what a mark says of its pc: within an instruction, where one begins, or where the certificate has its state of a number
-abbrev pub IsMark : Method → List Placed → List Stated → ℕ → Mark → Type 0
+abbrev pub IsMark : Method → List PlacedInstr → List Stated → ℕ → Mark → Type 0
 IsMark m listing states pc Inside = (begins listing pc ≡ false) × (state_at states pc ≡ None)
 IsMark m listing states pc Start = (begins listing pc ≡ true) × (state_at states pc ≡ None)
 IsMark m listing states pc (Holds k) = IsHeld m listing states pc k
 
-pub record IsTable (m : Method) (listing : List Placed) (states : List Stated) (marks : List Mark) : Type 0 where
+pub record IsTable (m : Method) (listing : List PlacedInstr) (states : List Stated) (marks : List Mark) : Type 0 where
   pub whole : IsListing m.code listing
   pub len : length marks ≡ length m.code
   pub past : (pc : ℕ) → length m.code ≤ pc → begins listing pc ≡ false
@@ -62,7 +62,7 @@ abbrev pub flowing : Bool → Types → Option Types
 flowing live t = if live then Some t else None
 
 -- the certificate's states are marked, or the first that doesn't stand is told
-abbrev pub StatesMarked : Result ⊤ Fault → Method → List Placed → List Stated → List Mark → Type 0
+abbrev pub StatesMarked : Result ⊤ Fault → Method → List PlacedInstr → List Stated → List Mark → Type 0
 StatesMarked (Ok _) m listing states marks = (states_stand m listing states ≡ Ok tt) × IsTable m listing states marks
 StatesMarked (Err fault) m listing states marks = states_stand m listing states ≡ Err fault
 
@@ -71,5 +71,5 @@ pub record HasRoom (m : Method) (s : StateWithRoom) : Type 0 where
   pub locals : length s.types.locals ≡ length m.arguments + m.max_locals
   pub room : s.room ≡ m.max_stack
 
-abbrev pub placed : ℕ → Instr → Placed
+abbrev pub placed : ℕ → Instr → PlacedInstr
 placed pc instr = record { pc = pc; instr = instr }

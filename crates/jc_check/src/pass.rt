@@ -1,7 +1,7 @@
 //! The pass over the instructions by ascending pc, with one state that is changed in place.
 
 ghost use Rattle.std.specs.Prelude.{◌≡◌, ◌<◌, ◌^◌, ℤ, Some, List, map, length, pos, slice_get};
-ghost use Rattle.jc_code.specs.Listing.{Placed};
+ghost use Rattle.jc_code.specs.Listing.{PlacedInstr};
 ghost use Rattle.jc_code.specs.Decoding.{instr_at};
 ghost use Rattle.jc_code.specs.Targets.{targets_of};
 ghost use Rattle.jc_cert.specs.Cert.{stated};
@@ -37,7 +37,7 @@ fn is_met(state: &State, row: &StateRow) -> bool
 #[tactic(auto, unfolding(crate::specs::FirstFault::arrives), using(crate::proofs::Standing::past_code))]
 fn arrive_at(input: &PassInput, state: &State, pc: usize) -> Result<(), Reason>
     requires { AreSafe input.now.method.now (map stated input.now.states.now) input.now.marks.now }
-    ensures { (listing : List Placed) → IsTable input.now.method.now listing (map stated input.now.states.now) input.now.marks.now
+    ensures { (listing : List PlacedInstr) → IsTable input.now.method.now listing (map stated input.now.states.now) input.now.marks.now
         → result ≡ arrives listing (map stated input.now.states.now) state.now.types (pos pc) }
 {
     if pc >= input.marks.len() {
@@ -61,7 +61,7 @@ fn arrive_at(input: &PassInput, state: &State, pc: usize) -> Result<(), Reason>
 fn arrive(input: &PassInput, state: &State, targets: &Targets, index: usize) -> Result<(), Reason>
     requires table { AreSafe input.now.method.now (map stated input.now.states.now) input.now.marks.now }
     requires index { index < length targets.now }
-    ensures { (listing : List Placed) → IsTable input.now.method.now listing (map stated input.now.states.now) input.now.marks.now
+    ensures { (listing : List PlacedInstr) → IsTable input.now.method.now listing (map stated input.now.states.now) input.now.marks.now
         → (place : ℤ) → slice_get targets.now index ≡ Some place → result ≡ arrives listing (map stated input.now.states.now) state.now.types place }
 {
     let target = targets.get(index).unwrap();
@@ -75,7 +75,7 @@ fn arrive(input: &PassInput, state: &State, targets: &Targets, index: usize) -> 
 /// Each branch of an instruction in turn.
 fn arrive_all(input: &PassInput, state: &State, pc: u16, instr: &Instr) -> Result<(), Reason>
     requires { AreSafe input.now.method.now (map stated input.now.states.now) input.now.marks.now }
-    ensures { (listing : List Placed) → IsTable input.now.method.now listing (map stated input.now.states.now) input.now.marks.now
+    ensures { (listing : List PlacedInstr) → IsTable input.now.method.now listing (map stated input.now.states.now) input.now.marks.now
         → result ≡ all_arrive listing (map stated input.now.states.now) state.now.types (targets_of pc instr.now.operation) }
 {
     let targets = instr.targets(pc);
@@ -89,7 +89,7 @@ fn arrive_all(input: &PassInput, state: &State, pc: u16, instr: &Instr) -> Resul
 #[tactic(auto, unfolding(crate::specs::FirstFault::falls_to))]
 pub(crate) fn fall_to(input: &PassInput, state: &State, pc: usize) -> Result<bool, Reason>
     requires { AreSafe input.now.method.now (map stated input.now.states.now) input.now.marks.now }
-    ensures { (listing : List Placed) → IsTable input.now.method.now listing (map stated input.now.states.now) input.now.marks.now
+    ensures { (listing : List PlacedInstr) → IsTable input.now.method.now listing (map stated input.now.states.now) input.now.marks.now
         → Flowed result state.now.types (falls_to input.now.method.now (map stated input.now.states.now) state.now.types pc) }
 {
     if pc >= input.marks.len() {
@@ -117,7 +117,7 @@ fn visit_live_at(
 ) -> Result<bool, Reason>
     requires table { AreSafe input.now.method.now (map stated input.now.states.now) input.now.marks.now }
     requires room { HasRoom input.now.method.now state.old }
-    ensures flow { (listing : List Placed) → IsTable input.now.method.now listing (map stated input.now.states.now) input.now.marks.now
+    ensures flow { (listing : List PlacedInstr) → IsTable input.now.method.now listing (map stated input.now.states.now) input.now.marks.now
         → Flowed result state.new.types (visit_live input.now.method.now listing (map stated input.now.states.now) (placed pc instr.now) state.old.types) }
     ensures room { HasRoom input.now.method.now state.new }
 {
@@ -144,7 +144,7 @@ fn visit_at(
     requires table { AreSafe input.now.method.now (map stated input.now.states.now) input.now.marks.now }
     requires room { HasRoom input.now.method.now state.old }
     requires within { pc < length input.now.method.now.code }
-    ensures flow { (listing : List Placed) → IsTable input.now.method.now listing (map stated input.now.states.now) input.now.marks.now
+    ensures flow { (listing : List PlacedInstr) → IsTable input.now.method.now listing (map stated input.now.states.now) input.now.marks.now
         → Flowed result state.new.types (visit input.now.method.now listing (map stated input.now.states.now) (placed pc instr.now) (flowing live state.old.types)) }
     ensures room { HasRoom input.now.method.now state.new }
 {
@@ -167,11 +167,11 @@ fn visit_at(
 /// The instructions by ascending pc, the first with the state that flows into it (where it is live). The state isn't to
 /// be used behind it.
 pub(crate) fn walk_code(input: &PassInput, state: &mut State, live: bool) -> Result<(), Fault>
-    requires listed { (listing : List Placed) × IsTable input.now.method.now listing (map stated input.now.states.now) input.now.marks.now }
+    requires listed { (listing : List PlacedInstr) × IsTable input.now.method.now listing (map stated input.now.states.now) input.now.marks.now }
     requires table { AreSafe input.now.method.now (map stated input.now.states.now) input.now.marks.now }
     requires room { HasRoom input.now.method.now state.old }
     requires short { length input.now.method.now.code < 2 ^ 16 }
-    ensures { (listing : List Placed) → IsTable input.now.method.now listing (map stated input.now.states.now) input.now.marks.now
+    ensures { (listing : List PlacedInstr) → IsTable input.now.method.now listing (map stated input.now.states.now) input.now.marks.now
         → result ≡ walk input.now.method.now listing (map stated input.now.states.now) (flowing live state.old.types) listing }
 {
     listing_laws();

@@ -1,7 +1,7 @@
 //! Code alone, checked with its certificate.
 
 ghost use Rattle.std.specs.Prelude.{⊤, ◌≡◌, ◌≢◌, ◌<◌, ◌^◌, [], List, map, length, replicate, option_map, OnOk, IfOk, IfErr, IfSome, MatchResult};
-ghost use Rattle.jc_code.specs.Listing.{Placed};
+ghost use Rattle.jc_code.specs.Listing.{PlacedInstr};
 ghost use Rattle.jc_cert.specs.Cert.{Row, stated};
 ghost use Rattle.jc_check.specs.Fault.{IfRefused};
 ghost use Rattle.jc_check.specs.Method.{entry_of, states_of};
@@ -58,12 +58,12 @@ impl<'a> CheckedWords<'a> {
 
 // What goes on from the entry, and the pass from there.
 fn check_flow(input: &PassInput, state: &mut State) -> Result<(), Fault>
-    requires listed { (listing : List Placed) × IsTable input.now.method.now listing (map stated input.now.states.now) input.now.marks.now }
+    requires listed { (listing : List PlacedInstr) × IsTable input.now.method.now listing (map stated input.now.states.now) input.now.marks.now }
     requires table { AreSafe input.now.method.now (map stated input.now.states.now) input.now.marks.now }
     requires short { length input.now.method.now.code < 2 ^ 16 }
     requires entry { state.old.types ≡ entry_of input.now.method.now }
     requires room { HasRoom input.now.method.now state.old }
-    ensures { (listing : List Placed) → IsTable input.now.method.now listing (map stated input.now.states.now) input.now.marks.now
+    ensures { (listing : List PlacedInstr) → IsTable input.now.method.now listing (map stated input.now.states.now) input.now.marks.now
         → result ≡ flow_findings_of input.now.method.now listing (map stated input.now.states.now) }
 {
     match fall_to(input, state, 0) {

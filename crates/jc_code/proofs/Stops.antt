@@ -5,34 +5,34 @@ use Rattle.jc_base.proofs.Binding.{the_ok, ok_err}
 use Rattle.jc_code.specs.declared.fault.CodeFault.{CodeFault}
 use Rattle.jc_code.specs.declared.instr.Instr.{Instr}
 use Rattle.jc_code.specs.Decoding.{instr_at}
-use Rattle.jc_code.specs.Listing.{Placed, StandBetween, IsListing, StopsAt, ListingLaws}
+use Rattle.jc_code.specs.Listing.{PlacedInstr, StandBetween, IsListing, StopsAt, ListingLaws}
 use Rattle.jc_code.proofs.Listings.{next_within, there, stand-append, one_listing, listed_or_stopped}
 
 abbrev IsListed : List ℕ → Type 0
-IsListed code = (listing : List Placed) × IsListing code listing
+IsListed code = (listing : List PlacedInstr) × IsListing code listing
 
 abbrev IsStopped : List ℕ → Type 0
 IsStopped code = (pc : ℕ) × (fault : CodeFault) × StopsAt code pc fault
 
-ended : (code : List ℕ) (pc : ℕ) (front : List Placed) → length code ≤ pc → pc ≤ length code → StandBetween code 0 front pc → IsListed code ⊎ IsStopped code
+ended : (code : List ℕ) (pc : ℕ) (front : List PlacedInstr) → length code ≤ pc → pc ≤ length code → StandBetween code 0 front pc → IsListed code ⊎ IsStopped code
 ended code pc front le within runs =
     let end : pc ≡ length code = omega arith in
     let R : ℕ → Type 0 = λ n. StandBetween code 0 front n in
     inl (front, subst R end runs)
 
 -- where the rest is decided behind each instruction, it is decided here
-one_on : (code : List ℕ) (pc : ℕ) (front : List Placed) (r : Result Instr CodeFault) → pc < length code → StandBetween code 0 front pc → instr_at code pc ≡ r
+one_on : (code : List ℕ) (pc : ℕ) (front : List PlacedInstr) (r : Result Instr CodeFault) → pc < length code → StandBetween code 0 front pc → instr_at code pc ≡ r
     → ((i : Instr) → instr_at code pc ≡ Ok i → IsListed code ⊎ IsStopped code) → IsListed code ⊎ IsStopped code
 one_on code pc front (Err fault) lt runs e behind = inr (pc, fault, record { before = front; stand = runs; within = lt; none = e })
 one_on code pc front (Ok i) lt runs e behind = behind i e
 
-by_place : (code : List ℕ) (pc : ℕ) (front : List Placed) (t : Bool) → nat_lt pc (length code) ≡ t → pc ≤ length code → StandBetween code 0 front pc
+by_place : (code : List ℕ) (pc : ℕ) (front : List PlacedInstr) (t : Bool) → nat_lt pc (length code) ≡ t → pc ≤ length code → StandBetween code 0 front pc
     → ((i : Instr) → instr_at code pc ≡ Ok i → IsListed code ⊎ IsStopped code) → IsListed code ⊎ IsStopped code
 by_place code pc front true h within runs behind = one_on code pc front (instr_at code pc) (ltb-true pc (length code) h) runs refl behind
 by_place code pc front false h within runs behind = ended code pc front (ltb-false pc (length code) h) within runs
 
 -- from a pc on, with so many bytes left at most
-decides_from : (left : ℕ) (code : List ℕ) (pc : ℕ) (front : List Placed) → length code ≤ pc + left → pc ≤ length code → StandBetween code 0 front pc → IsListed code ⊎ IsStopped code
+decides_from : (left : ℕ) (code : List ℕ) (pc : ℕ) (front : List PlacedInstr) → length code ≤ pc + left → pc ≤ length code → StandBetween code 0 front pc → IsListed code ⊎ IsStopped code
 decides_from zero code pc front enough within runs = ended code pc front (omega arith) within runs
 decides_from (suc n) code pc front enough within runs =
     by_place code pc front (nat_lt pc (length code)) refl within runs (λ i e.
@@ -42,7 +42,7 @@ decides_from (suc n) code pc front enough within runs =
 pub decides : (code : List ℕ) → IsListed code ⊎ IsStopped code
 decides code = decides_from (length code) code 0 [] (omega arith) (omega arith) refl
 
-one_stop_from : (code : List ℕ) (from p q : ℕ) (xs ys : List Placed) (a b : CodeFault) → StandBetween code from xs p → StandBetween code from ys q → instr_at code p ≡ Err a → instr_at code q ≡ Err b → (p ≡ q) × (a ≡ b)
+one_stop_from : (code : List ℕ) (from p q : ℕ) (xs ys : List PlacedInstr) (a b : CodeFault) → StandBetween code from xs p → StandBetween code from ys q → instr_at code p ≡ Err a → instr_at code q ≡ Err b → (p ≡ q) × (a ≡ b)
 one_stop_from code from p q [] [] a b h k e f =
     let same : p ≡ q = sym h ∙ k in
     let I : ℕ → Type 0 = λ n. instr_at code n ≡ Err a in

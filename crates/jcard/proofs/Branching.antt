@@ -7,7 +7,7 @@ use Rattle.jc_code.specs.declared.instr.Operation.TheVariants.{Branch, StableSwi
 use Rattle.jc_code.specs.declared.instr.When.{When}
 use Rattle.jc_code.specs.declared.instr.When.TheVariants.{Always, Zero, Compare}
 use Rattle.jc_code.specs.declared.tables.Case.{Case}
-use Rattle.jc_code.specs.Listing.{Placed}
+use Rattle.jc_code.specs.Listing.{PlacedInstr}
 use Rattle.jc_code.specs.Targets.{target_of}
 use Rattle.jc_types.specs.declared.ty.Ty.{Ty}
 use Rattle.jc_types.specs.State.{Types}
@@ -28,7 +28,7 @@ either_way : (typing : Typing) (b : Bool) (to : ℤ) (next : ℕ) (wl ws : List 
 either_way typing true to next wl ws vl vs taken falls = taken
 either_way typing false to next wl ws vl vs taken falls = falls
 
-pub branch_owes : (m : Method) (typing : Typing) (x : Placed) (when : When) (offset : ℤ) (w : UntaggedFrame) (f : Frame) (s after : Types) → Known m typing x (Branch when offset) w f s after → Owes m typing x (Branch when offset) w f
+pub branch_owes : (m : Method) (typing : Typing) (x : PlacedInstr) (when : When) (offset : ℤ) (w : UntaggedFrame) (f : Frame) (s after : Types) → Known m typing x (Branch when offset) w f s after → Owes m typing x (Branch when offset) w f
 unfolding effect_of act
 branch_owes m typing x Always offset w f s after k =
     let same : s ≡ after = the_ok s after k.effect in
@@ -70,7 +70,7 @@ lookup_there P pc default (c ∷ cs) key d h = by (int_eq c.key key) (lookup_the
     by true later = h.0
     by false later = later
 
-pub stable_owes : (m : Method) (typing : Typing) (x : Placed) (default low : ℤ) (offsets : List ℤ) (w : UntaggedFrame) (f : Frame) (s after : Types) → Known m typing x (StableSwitch default low offsets) w f s after → Owes m typing x (StableSwitch default low offsets) w f
+pub stable_owes : (m : Method) (typing : Typing) (x : PlacedInstr) (default low : ℤ) (offsets : List ℤ) (w : UntaggedFrame) (f : Frame) (s after : Types) → Known m typing x (StableSwitch default low offsets) w f s after → Owes m typing x (StableSwitch default low offsets) w f
 unfolding effect_of act
 stable_owes m typing x default low offsets w f s after k =
     let t = takes_one w.operands f.operands s after k.read_operands k.operands k.effect in
@@ -79,7 +79,7 @@ stable_owes m typing x default low offsets w f s after k =
     let j = jumps_on typing (target_of x.pc (stable_offset default low offsets (short t.word))) w.locals t.words f.locals t.values after k.read_locals t.read (subst L t.locals k.locals) t.typed b in
     owes_at m typing x (StableSwitch default low offsets) w f _ _ t.words_are t.values_are ((omega arith, j.0), j.1)
 
-pub lookup_owes : (m : Method) (typing : Typing) (x : Placed) (default : ℤ) (cases : List Case) (w : UntaggedFrame) (f : Frame) (s after : Types) → Known m typing x (LookupSwitch default cases) w f s after → Owes m typing x (LookupSwitch default cases) w f
+pub lookup_owes : (m : Method) (typing : Typing) (x : PlacedInstr) (default : ℤ) (cases : List Case) (w : UntaggedFrame) (f : Frame) (s after : Types) → Known m typing x (LookupSwitch default cases) w f s after → Owes m typing x (LookupSwitch default cases) w f
 unfolding effect_of act
 lookup_owes m typing x default cases w f s after k =
     let t = takes_one w.operands f.operands s after k.read_operands k.operands k.effect in

@@ -11,7 +11,7 @@ use Rattle.jc_code.specs.declared.instr.Shuffle as shuffles
 use Rattle.jc_code.specs.declared.instr.Shuffle.TheVariants.{Pop, Duplicate, Swap}
 use Rattle.jc_code.specs.declared.instr.BinaryOperator.{BinaryOperator}
 use Rattle.jc_code.specs.declared.instr.UnaryOperator.{UnaryOperator}
-use Rattle.jc_code.specs.Listing.{Placed}
+use Rattle.jc_code.specs.Listing.{PlacedInstr}
 use Rattle.jc_types.specs.declared.ty.Ty.{Ty}
 use Rattle.jc_types.specs.declared.ty.Ty.TheVariants as types
 use Rattle.jc_types.specs.Ty.{is_below}
@@ -29,13 +29,13 @@ use Rattle.jcard.proofs.Taking.{under, takes_one, takes_two}
 use Rattle.jcard.proofs.Simulation.{goes_on, pushes, Owes, owes_at, Known}
 
 -- operands that were moved on both sides
-moves : (m : Method) (typing : Typing) (x : Placed) (shuffle : shuffles.Shuffle) (w : UntaggedFrame) (f : Frame) (s after : Types) → Known m typing x (Shuffle shuffle) w f s after → (vs : List TaggedValue) → (ts : List Ty)
+moves : (m : Method) (typing : Typing) (x : PlacedInstr) (shuffle : shuffles.Shuffle) (w : UntaggedFrame) (f : Frame) (s after : Types) → Known m typing x (Shuffle shuffle) w f s after → (vs : List TaggedValue) → (ts : List Ty)
     → Pointwise WithoutTag (moved shuffle w.operands) vs → Pointwise IsOperand vs ts → with_operands s ts ≡ after → Simulates typing (continues x.instr.next_pc w.locals (moved shuffle w.operands)) (goes x.instr.next_pc f.locals vs)
 moves m typing x shuffle w f s after k vs ts r t e =
     let L : Types → Type 0 = λ y. Leads typing y x.instr.next_pc in
     goes_on typing x.instr.next_pc w.locals (moved shuffle w.operands) f.locals vs (with_operands s ts) k.read_locals r k.locals t (subst L (sym e) (k.falls refl))
 
-pub shuffle_owes : (m : Method) (typing : Typing) (x : Placed) (shuffle : shuffles.Shuffle) (w : UntaggedFrame) (f : Frame) (s after : Types) → Known m typing x (Shuffle shuffle) w f s after → Owes m typing x (Shuffle shuffle) w f
+pub shuffle_owes : (m : Method) (typing : Typing) (x : PlacedInstr) (shuffle : shuffles.Shuffle) (w : UntaggedFrame) (f : Frame) (s after : Types) → Known m typing x (Shuffle shuffle) w f s after → Owes m typing x (Shuffle shuffle) w f
 unfolding effect_of act drop_types duplicate_types swap_types
 shuffle_owes m typing x (Pop n) w f s after k =
     let u = under (nat_lt (length s.operands) n) (Ok (with_operands s (drop n s.operands))) StackUnder after k.effect in
@@ -67,7 +67,7 @@ results : (typing : Typing) (most pc : ℕ) (wl ws : List ℕ) (vl vs : List Tag
 results typing most pc wl ws vl vs s after None rl rs tl ts e leads = ((pushes typing most pc wl ws vl vs s after 0 rl rs tl ts e leads).0, refl)
 results typing most pc wl ws vl vs s after (Some n) rl rs tl ts e leads = pushes typing most pc wl ws vl vs s after n rl rs tl ts e leads
 
-pub binary_owes : (m : Method) (typing : Typing) (x : Placed) (operator : BinaryOperator) (w : UntaggedFrame) (f : Frame) (s after : Types) → Known m typing x (Binary operator) w f s after → Owes m typing x (Binary operator) w f
+pub binary_owes : (m : Method) (typing : Typing) (x : PlacedInstr) (operator : BinaryOperator) (w : UntaggedFrame) (f : Frame) (s after : Types) → Known m typing x (Binary operator) w f s after → Owes m typing x (Binary operator) w f
 unfolding effect_of act
 binary_owes m typing x operator w f s after k =
     let one = bind_ok (take_types (types.Word ∷ types.Word ∷ []) s) _ after k.effect in
@@ -76,7 +76,7 @@ binary_owes m typing x operator w f s after k =
     let p = results typing m.max_stack x.instr.next_pc w.locals t.words f.locals t.values one.0 after (binary_of operator t.lower t.upper) k.read_locals t.read (subst L t.locals k.locals) t.typed one.2 (k.falls refl) in
     owes_at m typing x (Binary operator) w f _ _ t.words_are t.values_are ((omega arith, omega arith, p.0), p.1)
 
-pub unary_owes : (m : Method) (typing : Typing) (x : Placed) (operator : UnaryOperator) (w : UntaggedFrame) (f : Frame) (s after : Types) → Known m typing x (Unary operator) w f s after → Owes m typing x (Unary operator) w f
+pub unary_owes : (m : Method) (typing : Typing) (x : PlacedInstr) (operator : UnaryOperator) (w : UntaggedFrame) (f : Frame) (s after : Types) → Known m typing x (Unary operator) w f s after → Owes m typing x (Unary operator) w f
 unfolding effect_of act
 unary_owes m typing x operator w f s after k =
     let one = bind_ok (take_types (types.Word ∷ []) s) _ after k.effect in
@@ -90,7 +90,7 @@ returned : (typing : Typing) (r : Result ⊤ Reason) (n : ℕ) → r ≡ Ok tt �
 returned typing (Ok _) n e = refl
 returned typing (Err reason) n e = absurd cc
 
-pub return_owes : (m : Method) (typing : Typing) (x : Placed) (w : UntaggedFrame) (f : Frame) (s after : Types) → Known m typing x ReturnWord w f s after → Owes m typing x ReturnWord w f
+pub return_owes : (m : Method) (typing : Typing) (x : PlacedInstr) (w : UntaggedFrame) (f : Frame) (s after : Types) → Known m typing x ReturnWord w f s after → Owes m typing x ReturnWord w f
 unfolding effect_of act
 return_owes m typing x w f s after k =
     let one = bind_ok (take_types (types.Word ∷ []) s) _ after k.effect in

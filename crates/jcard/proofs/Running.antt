@@ -10,7 +10,7 @@ use Rattle.jc_base.specs.Cursor.{Read}
 use Rattle.jc_base.specs.Results.{◌>>=◌}
 use Rattle.jc_code.specs.declared.instr.Operation.{Operation}
 use Rattle.jc_code.specs.Decoding.{instr_at, instr_of, next_constant, next_operation}
-use Rattle.jc_code.specs.Listing.{Placed, ListingLaws}
+use Rattle.jc_code.specs.Listing.{PlacedInstr, ListingLaws}
 use Rattle.jc_check.specs.Method.{Method, word_method, word_max_stack}
 use Rattle.jc_check.specs.Typing.{Typing, IsTyping, IsWellTyped}
 use Rattle.jcard.specs.declared.exception.Exception.{Exception}
@@ -98,11 +98,11 @@ can_run laws code done steps w well going =
     let g = going well.typing well.typed in
     record { laws = laws; typing = well.typing; typed = well.typed; real = (g.frame, g.agree, g.well) }
 
-one_more : (m : Method) (listing : List Placed) (done steps : ℕ) (f : Frame) → done < steps → runtime_call m listing (steps - done) f ≡ run_on (runtime_call m listing (steps - (done + 1))) (defensive_step m listing f)
+one_more : (m : Method) (listing : List PlacedInstr) (done steps : ℕ) (f : Frame) → done < steps → runtime_call m listing (steps - done) f ≡ run_on (runtime_call m listing (steps - (done + 1))) (defensive_step m listing f)
 unfolding runtime_call
 one_more m listing done steps f lt = let e : steps - done ≡ suc (steps - (done + 1)) = omega (arith, lt) in rw e refl
 
-goes_on : (m : Method) (listing : List Placed) (typing : Typing) (new : UntaggedFrame) (n : ℕ) (out : Outcome) (total : RunEnd) → Follows typing went.Running new out → run_on (runtime_call m listing n) out ≡ total
+goes_on : (m : Method) (listing : List PlacedInstr) (typing : Typing) (new : UntaggedFrame) (n : ℕ) (out : Outcome) (total : RunEnd) → Follows typing went.Running new out → run_on (runtime_call m listing n) out ≡ total
     → (f : Frame) × Agree new f × WellTyped typing f × (runtime_call m listing n f ≡ total)
 goes_on m listing typing new n (Next f) total follows e = (f, follows.0, follows.1, e)
 goes_on m listing typing new n (Throws x) total follows e = elim follows [ ]
@@ -120,13 +120,13 @@ onward code done steps w new lt going step typing t =
 abbrev pub EndsSo : Ending → List ℕ → ℕ → Type 0
 EndsSo ending code steps = (typing : Typing) → (t : IsTyping (word_method code) typing) → EndsAs ending (runtime_call (word_method code) t.listing steps (first_frame (word_method code)))
 
-thrown_out : (m : Method) (listing : List Placed) (typing : Typing) (new : UntaggedFrame) (e : Exception) (n : ℕ) (out : Outcome) → Follows typing (went.Thrown e) new out → EndsAs (endings.Threw e) (run_on (runtime_call m listing n) out)
+thrown_out : (m : Method) (listing : List PlacedInstr) (typing : Typing) (new : UntaggedFrame) (e : Exception) (n : ℕ) (out : Outcome) → Follows typing (went.Thrown e) new out → EndsAs (endings.Threw e) (run_on (runtime_call m listing n) out)
 thrown_out m listing typing new e n (Next f) follows = elim follows [ ]
 thrown_out m listing typing new e n (Throws x) follows = follows
 thrown_out m listing typing new e n (Returns value) follows = elim follows [ ]
 thrown_out m listing typing new e n Stuck follows = elim follows [ ]
 
-given_out : (m : Method) (listing : List Placed) (typing : Typing) (new : UntaggedFrame) (word n : ℕ) (out : Outcome) → Follows typing (went.Done word) new out → EndsAs (endings.Gave word) (run_on (runtime_call m listing n) out)
+given_out : (m : Method) (listing : List PlacedInstr) (typing : Typing) (new : UntaggedFrame) (word n : ℕ) (out : Outcome) → Follows typing (went.Done word) new out → EndsAs (endings.Gave word) (run_on (runtime_call m listing n) out)
 given_out m listing typing new word n (Next f) follows = elim follows [ ]
 given_out m listing typing new word n (Throws x) follows = elim follows [ ]
 given_out m listing typing new word n (Returns (Word k)) follows = follows
@@ -147,7 +147,7 @@ gives code done steps word w new lt going step typing t =
     let m = word_method code in
     rw (← g.rest, one_more m t.listing done steps g.frame lt) (given_out m t.listing typing new word (steps - (done + 1)) (defensive_step m t.listing g.frame) (step typing t g.frame g.agree g.well))
 
-used_up : (m : Method) (listing : List Placed) (n : ℕ) (f : Frame) → n ≡ 0 → EndsAs endings.UsedUp (runtime_call m listing n f)
+used_up : (m : Method) (listing : List PlacedInstr) (n : ℕ) (f : Frame) → n ≡ 0 → EndsAs endings.UsedUp (runtime_call m listing n f)
 unfolding runtime_call
 used_up m listing n f e = rw e tt
 

@@ -4,7 +4,7 @@ use Rattle.jc_code.specs.declared.instr.Instr.{Instr}
 use Rattle.jc_code.specs.declared.instr.Operation.{Operation}
 use Rattle.jc_code.specs.declared.instr.Operation.TheVariants.{Nop, Push, Load, Store, Increment, Shuffle, Binary, Unary, Branch, StableSwitch, LookupSwitch, ReturnWord}
 use Rattle.jc_code.specs.Decoding.{instr_at}
-use Rattle.jc_code.specs.Listing.{Placed, ListingLaws}
+use Rattle.jc_code.specs.Listing.{PlacedInstr, ListingLaws}
 use Rattle.jc_types.specs.State.{Types, all_below}
 use Rattle.jc_types.specs.declared.ty.Ty.TheVariants as types
 use Rattle.jc_base.proofs.Binding.{both_true}
@@ -18,7 +18,7 @@ use Rattle.jcard.proofs.Simulation.{Owes, Known, nop_owes, push_owes, load_owes,
 use Rattle.jcard.proofs.Moves.{shuffle_owes, binary_owes, unary_owes, return_owes}
 use Rattle.jcard.proofs.Branching.{branch_owes, stable_owes, lookup_owes}
 
-operation_owes : (m : Method) (typing : Typing) (x : Placed) (o : Operation) (w : UntaggedFrame) (f : Frame) (s after : Types) → Known m typing x o w f s after → Owes m typing x o w f
+operation_owes : (m : Method) (typing : Typing) (x : PlacedInstr) (o : Operation) (w : UntaggedFrame) (f : Frame) (s after : Types) → Known m typing x o w f s after → Owes m typing x o w f
 operation_owes m typing x Nop w f s after k = nop_owes m typing x w f s after k
 operation_owes m typing x (Push value) w f s after k = push_owes m typing x value w f s after k
 operation_owes m typing x (Load i) w f s after k = load_owes m typing x i w f s after k
@@ -33,7 +33,7 @@ operation_owes m typing x (LookupSwitch default cases) w f s after k = lookup_ow
 operation_owes m typing x ReturnWord w f s after k = return_owes m typing x w f s after k
 
 -- what stands where a well-typed frame is, and what it owes
-pub record AtStep (m : Method) (typing : Typing) (listing : List Placed) (w : UntaggedFrame) (f : Frame) : Type 0 where
+pub record AtStep (m : Method) (typing : Typing) (listing : List PlacedInstr) (w : UntaggedFrame) (f : Frame) : Type 0 where
   pub instr : Instr
   pub stands : instr_at m.code w.pc ≡ Ok instr
   pub within : w.pc < length m.code
@@ -49,7 +49,7 @@ at_step laws m typing t w f a k =
     let pc : x.pc ≡ w.pc = th.0 ∙ sym a.pc in
     let I : ℕ → Type 0 = λ n. instr_at m.code n ≡ Ok x.instr in
     let R : ℕ → Type 0 = λ n. Ready m.max_stack n x.instr.operation w in
-    let step : defensive_step m t.listing f ≡ act m x x.instr.operation f = ap (λ (p : Option Placed). act_at m p f) e.placed in
+    let step : defensive_step m t.listing f ≡ act m x x.instr.operation f = ap (λ (p : Option PlacedInstr). act_at m p f) e.placed in
     let S : Outcome → Type 0 = λ out. Simulates typing (do_operation x.pc x.instr.next_pc x.instr.operation w) out in
     let D : ℕ → Type 0 = λ n. Simulates typing (do_operation n x.instr.next_pc x.instr.operation w) (defensive_step m t.listing f) in
     record {

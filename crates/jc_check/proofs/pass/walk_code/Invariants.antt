@@ -1,5 +1,5 @@
 use Rattle.std.proofs.Common.{List, map, length, ◌-◌}
-use Rattle.jc_code.specs.Listing.{Placed}
+use Rattle.jc_code.specs.Listing.{PlacedInstr}
 use Rattle.jc_cert.specs.Cert.{stated}
 use Rattle.jc_check.specs.FirstFault.{walk}
 use Rattle.jc_check.specs.PrivateMarks.{IsTable, HasRoom, flowing}
@@ -9,7 +9,7 @@ use Rattle.jc_check.proofs.pass.walk_code.Given as goal
 abbrev pub invariant-loop-pc : goal.invariant-loop-pc
 invariant-loop-pc l = record {
   room : HasRoom l.input.method.now l.state;
-  left : (listing : List Placed) → IsTable l.input.method.now listing (map stated l.input.states.now) l.input.marks.now
+  left : (listing : List PlacedInstr) → IsTable l.input.method.now listing (map stated l.input.states.now) l.input.marks.now
       → IsLeft l.input.method.now listing (map stated l.input.states.now) (flowing l.live l.state.types) l.pc (walk l.input.method.now listing (map stated l.input.states.now) (flowing l.fn.live l.fn.state.types) listing);
 }
 

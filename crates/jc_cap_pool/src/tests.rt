@@ -105,3 +105,12 @@ fn descriptors_of_fields(rt: HostRuntime) -> Result<(), Fail> {
     }
     Ok(())
 }
+
+#[test]
+fn values_that_differ(rt: HostRuntime) {
+    let offset = StaticRef::Internal { offset: 1 };
+    assert!(rt; MEMBER != MemberRef { token: 1, ..MEMBER });
+    assert!(rt; offset != StaticRef::Internal { offset: 2 });
+    assert!(rt; DeclaredType::Byte != DeclaredType::Short);
+    assert!(rt; DeclaredType::Reference(OWN) != DeclaredType::Reference(OBJECT));
+}

@@ -9,7 +9,7 @@ use Rattle.jc_code.specs.declared.fault.CodeFault.TheVariants.{BadOpcode, BadOpe
 use Rattle.jc_code.specs.declared.instr.Instr.{Instr}
 use Rattle.jc_code.specs.declared.instr.Operation.{Operation}
 use Rattle.jc_code.specs.Tables.{operand, next_offsets, next_cases, offsets_of_bytes, cases_of_bytes}
-use Rattle.jc_code.specs.Decoding.{done, listed, next_stable_switch, next_lookup_switch, next_wide_increment, when_of, next_wide_branch, next_control, next_branch, operator_of, next_arithmetic, is_duplicate, is_swap, next_shuffle, next_local, next_constant, next_operation, instr_of, instr_at}
+use Rattle.jc_code.specs.Decoding.{listed, next_stable_switch, next_lookup_switch, next_wide_increment, when_of, next_wide_branch, next_control, next_branch, operator_of, next_arithmetic, is_duplicate, is_swap, next_shuffle, next_local, next_constant, next_operation, instr_of, instr_at}
 
 -- what is left is no longer than n
 abbrev pub Left : {A : Type 0} → ℕ → Result (Read A) CodeFault → Type 0

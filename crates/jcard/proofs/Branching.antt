@@ -1,5 +1,5 @@
 -- Branches and switches.
-use Rattle.std.proofs.Common.{◌≡◌, ℕ, zero, suc, ◌==◌, List, [], ◌∷◌, Bool, true, false, cond, refl, sym, subst, arith}
+use Rattle.std.proofs.Common.{◌≡◌, ℕ, zero, suc, List, [], ◌∷◌, Bool, true, false, cond, refl, sym, subst, arith}
 use Rattle.std.specs.Prelude.{ℤ, slice_get, int_lt, unsigned_abs, ◌-ℤ◌, unwrap_or, map}
 use Rattle.std.specs.List.{AllByRecursion}
 use Rattle.jc_base.proofs.Binding.{the_ok}
@@ -18,7 +18,7 @@ use Rattle.std.specs.Ordering.{int_eq}
 use Rattle.jcard.specs.Shorts.{short, holds}
 use Rattle.jcard.specs.Tagged.{TaggedValue, Frame, goes, jumps, stable_offset, lookup_offset, act}
 use Rattle.jcard.specs.PrivateWords.{UntaggedFrame, continues, pc_of}
-use Rattle.jcard.specs.PrivateAgree.{Pointwise, HasType, IsOperand, Simulates}
+use Rattle.jcard.specs.PrivateAgree.{Pointwise, HasType, Simulates}
 use Rattle.jcard.proofs.Taking.{takes_one, takes_two}
 use Rattle.jcard.proofs.Simulation.{goes_on, jumps_on, Owes, owes_at, Known}
 

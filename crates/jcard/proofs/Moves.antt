@@ -1,10 +1,10 @@
 -- The operations on operands: moved, computed with, and returned.
-use Rattle.std.proofs.Common.{◌≡◌, ℕ, ◌+◌, ◌≤◌, ◌<◌, List, [], ◌∷◌, length, drop, nat_lt, max, Option, Some, None, Result, Ok, Err, true, cond, refl, sym, subst, arith}
+use Rattle.std.proofs.Common.{◌≡◌, ℕ, ◌+◌, ◌≤◌, ◌<◌, List, [], ◌∷◌, length, drop, nat_lt, max, Option, Some, None, Result, Ok, Err, cond, refl, sym, subst, arith}
 use Rattle.std.proofs.lemmas.Bool.{ltb-false, le-ltb}
 use Rattle.std.specs.Prelude.{⊤}
 use Rattle.jc_base.specs.declared.reason.Reason.{Reason}
 use Rattle.jc_base.specs.declared.reason.Reason.TheVariants.{StackUnder, StackOver}
-use Rattle.jc_base.proofs.Binding.{bind_ok, guard_ok, the_ok}
+use Rattle.jc_base.proofs.Binding.{bind_ok, the_ok}
 use Rattle.jc_base.specs.Stack.{duplicated, swapped}
 use Rattle.jc_code.specs.declared.instr.Operation.TheVariants.{Shuffle, Binary, Unary, ReturnWord}
 use Rattle.jc_code.specs.declared.instr.Shuffle as shuffles
@@ -14,10 +14,9 @@ use Rattle.jc_code.specs.declared.instr.UnaryOperator.{UnaryOperator}
 use Rattle.jc_code.specs.Listing.{PlacedInstr}
 use Rattle.jc_types.specs.declared.ty.Ty.{Ty}
 use Rattle.jc_types.specs.declared.ty.Ty.TheVariants as types
-use Rattle.jc_types.specs.Ty.{is_below}
 use Rattle.jc_types.specs.State.{Types}
 use Rattle.jc_types.specs.Changes.{with_operands, push_type, take_types, drop_types, duplicate_types, swap_types}
-use Rattle.jc_step.specs.Effect.{fits, fits_result, effect_of}
+use Rattle.jc_step.specs.Effect.{fits_result, effect_of}
 use Rattle.jc_check.specs.Method.{Method}
 use Rattle.jc_check.specs.Typing.{Typing, Leads}
 use Rattle.jcard.specs.Shorts.{binary_of, unary_of}

@@ -22,7 +22,7 @@ use Rattle.jcard.specs.Tagged.{Word, Ref, Null, Unset, Frame, Outcome, Next, Thr
 use Rattle.jcard.specs.PrivateWords.{UntaggedFrame, UntaggedOutcome, Continues, Raises, Yields, Ready, do_operation}
 use Rattle.jcard.specs.PrivateAgree.{Agree, WellTyped, Simulates}
 use Rattle.jcard.specs.PrivateRuns.{Ended, ReadyFor, Performed, Follows, FollowsEach, EndsAs, CanRun}
-use Rattle.jcard.proofs.Stepping.{at_step, AtStep, first_agrees, first_typed, first_words}
+use Rattle.jcard.proofs.Stepping.{at_step, first_agrees, first_typed, first_words}
 
 pub follows : (typing : Typing) (s : Step) (new : UntaggedFrame) (e : UntaggedOutcome) (out : Outcome) → Ended s new e → Simulates typing e out → Follows typing s new out
 follows typing went.Running new (Continues w) (Next f) is sim = let S : UntaggedFrame → Type 0 = λ u. Agree u f × WellTyped typing f in subst S (sym is) sim

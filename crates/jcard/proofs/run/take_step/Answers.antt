@@ -1,4 +1,3 @@
-use Rattle.std.proofs.Common.{arith, sym, ◌∙◌}
 use Rattle.jcard.proofs.Running.{can_step, steps_on}
 use Rattle.jcard.proofs.run.take_step.Goals as goal
 

@@ -90,9 +90,10 @@ impl<'a> MethodInfo<'a> {
         let Ok(header) = next_header(&mut cursor) else {
             return None;
         };
+        let code_offset = self.info.len() - cursor.len();
         Some(Method {
             header,
-            code_offset: self.info.len() - cursor.len(),
+            code_offset,
             code: cursor.rest(),
         })
     }

@@ -72,8 +72,7 @@ pub record CanStep (code : List ℕ) (w : UntaggedFrame) : Type 0 where
 
 pub can_step : (code : List ℕ) (w : UntaggedFrame) → CanRun code w → CanStep code w
 can_step code w c =
-    let real = c.2 in
-    let a = at_step (word_method code) c.0 c.1 w real.0 real.1 real.2 in
+    let a = at_step (word_method code) c.typing c.typed w c.real.frame c.real.agree c.real.well in
     record { within = a.within; ready = ready_for code w a.instr _ (sym (at_opcode code w.pc a.within) ∙ a.stands) a.ready }
 
 pub steps_on : (code : List ℕ) (w new : UntaggedFrame) (s : Step) → Performed code (next_constant (get_or code w.pc 0) (drop (w.pc + 1) code)) w s new → FollowsEach code w s new
@@ -100,7 +99,7 @@ can_run code done steps w carried going =
     let c = carried.carried.carried in
     let t = typed (word_method code) carried.carried.states c in
     let g = going c.typing t in
-    (c.typing, t, (g.frame, g.agree, g.well))
+    record { typing = c.typing; typed = t; real = record { frame = g.frame; agree = g.agree; well = g.well } }
 
 one_more : (m : Method) (listing : List Placed) (done steps : ℕ) (f : Frame) → done < steps → runtime_call m listing (steps - done) f ≡ run_on (runtime_call m listing (steps - (done + 1))) (defensive_step m listing f)
 unfolding runtime_call

@@ -70,8 +70,7 @@ pub record CanStep (code : List ℕ) (w : UntaggedFrame) : Type 0 where
 
 pub can_step : (code : List ℕ) (w : UntaggedFrame) → CanRun code w → CanStep code w
 can_step code w c =
-    let real = c.real in
-    let a = at_step c.laws (word_method code) c.typing c.typed w real.0 real.1 real.2 in
+    let a = at_step c.laws (word_method code) c.typing c.typed w c.real.frame c.real.agree c.real.well in
     record { within = a.within; ready = ready_for code w a.instr _ (sym (at_opcode code w.pc a.within) ∙ a.stands) a.ready }
 
 pub steps_on : (laws : ListingLaws) (code : List ℕ) (w new : UntaggedFrame) (s : Step) → Performed code (next_constant (get_or code w.pc 0) (drop (w.pc + 1) code)) w s new → FollowsEach code w s new
@@ -96,7 +95,7 @@ starts code steps typing t = record { frame = first_frame (word_method code); ag
 pub can_run : (laws : ListingLaws) (code : List ℕ) (done steps : ℕ) (w : UntaggedFrame) → IsWellTyped code → IsGoing code done steps w → CanRun code w
 can_run laws code done steps w well going =
     let g = going well.typing well.typed in
-    record { laws = laws; typing = well.typing; typed = well.typed; real = (g.frame, g.agree, g.well) }
+    record { laws = laws; typing = well.typing; typed = well.typed; real = record { frame = g.frame; agree = g.agree; well = g.well } }
 
 one_more : (m : Method) (listing : List PlacedInstr) (done steps : ℕ) (f : Frame) → done < steps → runtime_call m listing (steps - done) f ≡ run_on (runtime_call m listing (steps - (done + 1))) (defensive_step m listing f)
 unfolding runtime_call

@@ -57,5 +57,7 @@ Simulates typing (Yields w) (Returns (Word n)) = w ≡ n
 Simulates typing _ _ = ⊥
 
 -- some well-typed tagged frame is this frame of words with tags
-abbrev pub IsReal : Typing → UntaggedFrame → Type 0
-IsReal typing w = (f : Frame) × Agree w f × WellTyped typing f
+pub record IsReal (typing : Typing) (w : UntaggedFrame) : Type 0 where
+  pub frame : Frame
+  pub agree : Agree w frame
+  pub well : WellTyped typing frame

@@ -1,4 +1,4 @@
-pub mod Repeats
-pub mod Fields
-pub mod Laws
-pub mod Each
+mod Repeats
+mod Fields
+mod Laws
+mod Each

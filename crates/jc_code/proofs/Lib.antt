@@ -1,5 +1,5 @@
 mod TableLemmas
-pub mod Advance
+mod Advance
 mod BothBytes
-pub mod Listings
+mod Listings
 mod Stops

@@ -1,11 +1,11 @@
 -- Instructions one behind the other.
-use Rattle.std.proofs.Common.{◌≡◌, ℕ, ◌≤◌, ◌<◌, ◌==◌, List, [], ◌∷◌, ◌++◌, length, Bool, true, false, ◌||◌, Some, Result, Ok, Err, cond, refl, sym, ap, subst, ◌∙◌, arith}
-use Rattle.std.proofs.lemmas.Bool.{eqb-true, eq-eqb, ne_eqb}
+use Rattle.std.proofs.Common.{◌≡◌, ℕ, ◌≤◌, ◌<◌, ◌==◌, List, [], ◌∷◌, ◌++◌, length, Bool, true, false, Some, Result, Ok, Err, cond, refl, sym, ap, subst, ◌∙◌, arith}
+use Rattle.std.proofs.lemmas.Bool.{eqb-true}
 use Rattle.jc_base.proofs.Binding.{the_ok, the_some, none_some, ok_err}
 use Rattle.jc_code.specs.declared.fault.CodeFault.{CodeFault}
 use Rattle.jc_code.specs.declared.instr.Instr.{Instr}
 use Rattle.jc_code.specs.Decoding.{instr_at}
-use Rattle.jc_code.specs.Listing.{PlacedInstr, StandBetween, IsListing, StopsAt, placed_at, begins}
+use Rattle.jc_code.specs.Listing.{PlacedInstr, StandBetween, IsListing, StopsAt, placed_at}
 use Rattle.jc_code.proofs.Advance.{Advances, advances}
 
 -- an instruction ends behind its pc and within the code

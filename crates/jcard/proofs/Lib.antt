@@ -8,4 +8,4 @@ mod Frames
 mod Cases
 mod Running
 mod Evaluating
-pub mod Lines
+mod Lines

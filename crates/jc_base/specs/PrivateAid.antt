@@ -1,4 +1,4 @@
--- An AID as an array holds it. The lemma stands here, since the struct's Model takes it from specs alone.
+-- Private. An AID as an array holds it. The lemma stands here, since the struct's Model takes it from specs alone.
 use Rattle.std.specs.Prelude.{◌≡◌, ℕ, ◌-◌, ◌≤◌, List, ◌++◌, length, take, drop}
 use Rattle.std.proofs.Common.{ap, ◌∙◌, sym, arith}
 use Rattle.std.proofs.Math.ListN.{replicate}

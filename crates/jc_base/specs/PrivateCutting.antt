@@ -1,4 +1,4 @@
--- The component in front of a list of bytes, and what is kept of components while they are read.
+-- Private. The component in front of a list of bytes, and what is kept of components while they are read.
 use Rattle.std.specs.Prelude.{◌≡◌, ℕ, ◌+◌, ◌*◌, ◌<◌, false, List, [], ◌∷◌, length, take, drop, Some, None, Result, Ok, Err, Option, nat_lt, slice_index_or, if◌then◌else◌}
 use Rattle.std.specs.Option.{option_copied}
 use Rattle.std.specs.List.{find}

@@ -1,4 +1,4 @@
--- What is kept of placed rows.
+-- Private. What is kept of placed rows.
 use Rattle.std.specs.Prelude.{List, [], Result, Ok, Err}
 
 -- the rows, none where bytes aren't rows to their end

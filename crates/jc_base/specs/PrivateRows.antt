@@ -1,4 +1,4 @@
--- What is kept of rows that were read, and of rows that were passed over.
+-- Private. What is kept of rows that were read, and of rows that were passed over.
 use Rattle.std.specs.Prelude.{ℕ, List, [], Result, Ok, Err}
 use Rattle.jc_base.specs.Cursor.{Read}
 

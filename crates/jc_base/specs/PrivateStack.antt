@@ -1,4 +1,4 @@
--- How the operands are moved in their slice, the bottom one first. No public clause speaks of this.
+-- Private. How the operands are moved in their slice, the bottom one first.
 use Rattle.std.specs.Prelude.{ℕ, ◌-◌, List, ◌++◌, length, take, drop}
 
 -- the last so many come before the others

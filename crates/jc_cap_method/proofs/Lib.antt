@@ -1,1 +1,1 @@
-pub mod HeaderLemmas
+mod HeaderLemmas

@@ -1,4 +1,4 @@
--- A handler takes eight bytes. The lemma stands here, since the row's law takes it from specs alone.
+-- Private. A handler takes eight bytes. The lemma stands here, since the row's law takes it from specs alone.
 use Rattle.std.specs.Prelude.{◌∷◌}
 use Rattle.std.proofs.Common.{ap, sym, arith}
 use Rattle.jc_base.specs.Cursor.{Read}

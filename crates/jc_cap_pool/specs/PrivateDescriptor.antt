@@ -1,4 +1,4 @@
--- A descriptor takes a byte at least. The lemma stands here, since the row's law takes it from specs alone.
+-- Private. A descriptor takes a byte at least. The lemma stands here, since the row's law takes it from specs alone.
 use Rattle.std.specs.Prelude.{◌≡◌, ℕ, ◌+◌, ◌/◌, ◌≤◌, Bool, true, false, cond, List, [], ◌∷◌, length, drop, take, None, Some, Ok, nat_lt}
 use Rattle.std.proofs.Common.{ap, arith, length-drop}
 use Rattle.jc_base.specs.Cursor.{Read, next_bytes, field}

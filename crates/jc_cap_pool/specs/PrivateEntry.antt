@@ -1,4 +1,4 @@
--- Each entry takes four bytes. The lemma stands here, since the row's law takes it from specs alone.
+-- Private. Each entry takes four bytes. The lemma stands here, since the row's law takes it from specs alone.
 use Rattle.std.specs.Prelude.{ℕ, ◌-◌, ◌==◌, Bool, true, false, cond, List, [], ◌∷◌, Result, Err, nat_lt}
 use Rattle.std.proofs.Common.{ap, sym, ◌∙◌, arith}
 use Rattle.jc_base.specs.Cursor.{Read}

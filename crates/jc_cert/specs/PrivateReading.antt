@@ -1,5 +1,5 @@
--- Reading a certificate from left to right, each part in the state that the one before leaves. No public clause speaks
--- of this: it says what the code reads, and is proved to be the inverse of the spelling.
+-- Private. Reading a certificate from left to right, each part in the state that the one before leaves. It says what the
+-- code reads, and is proved to be the inverse of the spelling.
 use Rattle.std.specs.Prelude.{◌≡◌, ℕ, zero, suc, ◌+◌, List, [], ◌∷◌, length, Option, Result, Ok, Err, nat_lt, ◌==◌, if◌then◌else◌}
 use Rattle.std.specs.Option.{ok_or}
 use Rattle.jc_base.specs.Cursor.{Read, next_u1, next_u2}

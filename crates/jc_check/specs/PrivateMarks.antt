@@ -1,4 +1,4 @@
--- The table of marks that the check keeps beside the code, and what its steps leave. No public clause speaks of this.
+-- Private. The table of marks that the check keeps beside the code, and what its steps leave.
 use Rattle.std.specs.Prelude.{⊤, ◌≡◌, ℕ, ◌+◌, ◌<◌, ◌≤◌, List, length, Option, Some, None, Result, Ok, Err, Bool, true, false, slice_get, slice_index_or, if◌then◌else◌}
 use Rattle.jc_base.specs.declared.reason.Reason.{Reason}
 use Rattle.jc_code.specs.Listing.{PlacedInstr, IsListing, begins}

@@ -35,7 +35,7 @@ pub record IsFine (m : Method) (typing : Typing) (x : PlacedInstr) (s : Types) :
 -- an instruction begins at a pc, and it is fine on the state there
 pub record IsFineAt (m : Method) (typing : Typing) (listing : List PlacedInstr) (pc : ℕ) (s : Types) : Type 0 where
   pub instr : PlacedInstr
-  pub placed : placed_at listing pc ≡ Some instr
+  pub stands : placed_at listing pc ≡ Some instr
   pub fine : IsFine m typing instr s
 
 -- the entry state lies below the state at pc 0, and where the typing has a state an instruction begins and is fine

@@ -1,5 +1,5 @@
--- That the order of types is a partial order: the laws that the impl of `Lattice` carries. They stand here since an impl
--- cites nothing else of its crate.
+-- Private. That the order of types is a partial order: the laws that the impl of `Lattice` carries. They stand here since
+-- an impl cites nothing else of its crate.
 use Rattle.std.proofs.Common.{◌≡◌, true, refl}
 use Rattle.jc_types.specs.declared.ty.Ty.{Ty}
 use Rattle.jc_types.specs.declared.ty.Ty.TheVariants.{Top, Word, Null}

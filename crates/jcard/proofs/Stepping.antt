@@ -44,12 +44,12 @@ pub at_step : (laws : ListingLaws) (m : Method) (typing : Typing) (t : IsTyping 
 at_step laws m typing t w f a k =
     let e = t.each f.pc k.state k.«at» in
     let x = e.instr in
-    let th = laws.has m.code t.listing f.pc x t.whole e.placed in
+    let th = laws.has m.code t.listing f.pc x t.whole e.stands in
     let o = operation_owes m typing x x.instr.operation w f k.state e.fine.after (record { read_locals = a.locals; read_operands = a.operands; locals = k.locals; operands = k.operands; effect = e.fine.effect; branches = e.fine.branches; falls = e.fine.falls }) in
     let pc : x.pc ≡ w.pc = th.0 ∙ sym a.pc in
     let I : ℕ → Type 0 = λ n. instr_at m.code n ≡ Ok x.instr in
     let R : ℕ → Type 0 = λ n. Ready m.max_stack n x.instr.operation w in
-    let step : defensive_step m t.listing f ≡ act m x x.instr.operation f = ap (λ (p : Option PlacedInstr). act_at m p f) e.placed in
+    let step : defensive_step m t.listing f ≡ act m x x.instr.operation f = ap (λ (p : Option PlacedInstr). act_at m p f) e.stands in
     let S : Outcome → Type 0 = λ out. Simulates typing (do_operation x.pc x.instr.next_pc x.instr.operation w) out in
     let D : ℕ → Type 0 = λ n. Simulates typing (do_operation n x.instr.next_pc x.instr.operation w) (defensive_step m t.listing f) in
     record {

@@ -1,4 +1,4 @@
--- When a frame of words is a tagged frame without its tags, and when a tagged frame is well typed.
+-- Private. When a frame of words is a tagged frame without its tags, and when a tagged frame is well typed.
 use Rattle.std.specs.Prelude.{⊤, ◌≡◌, ℕ, List, [], ◌∷◌, Some, true}
 use Rattle.jc_types.specs.declared.ty.Ty.{Ty}
 use Rattle.jc_types.specs.declared.ty.Ty.TheVariants as types

@@ -1,4 +1,4 @@
--- Private: the answer to an ending of the runner.
+-- Private. The answer to an ending of the runner.
 use Rattle.jcard.specs.declared.answer.EvalAnswer.{EvalAnswer}
 use Rattle.jcard.specs.declared.answer.EvalAnswer.TheVariants.{Value, Throws, StepsUsedUp}
 use Rattle.jcard.specs.declared.run.Ending.{Ending}

@@ -21,10 +21,10 @@ use Rattle.jcard.specs.declared.texts.TextFault.{TextFault}
 use Rattle.jcard.specs.declared.texts.TextFault.TheVariants.{BadCode, LongCode, BadCert, Memory}
 
 -- the exit status as a number
-abbrev pub number_of : Status → ℕ
-number_of Success = 0
-number_of Failure = 1
-number_of Misuse = 2
+abbrev pub status_number : Status → ℕ
+status_number Success = 0
+status_number Failure = 1
+status_number Misuse = 2
 
 -- a line ends with a line feed
 abbrev pub line_feed : List ℕ

@@ -3,7 +3,7 @@
 ghost use Rattle.std.specs.Prelude.{◌≡◌, map, IfOk, IfErr};
 ghost use Rattle.std.specs.IoError.{error_kind};
 ghost use Rattle.jcard.specs.Line.{IsJobFor, IsLineError};
-ghost use Rattle.jcard.specs.Saying.{AnswersJob, IsFailure, IsJobFault, IsMisuse, IsSaid, IsSaidOfLine, IsSaidWithoutWords, IsSuccess, number_of};
+ghost use Rattle.jcard.specs.Saying.{AnswersJob, IsFailure, IsJobFault, IsMisuse, IsSaid, IsSaidOfLine, IsSaidWithoutWords, IsSuccess, status_number};
 
 use crate::answer::EvalAnswer;
 use crate::job::Job;
@@ -37,7 +37,7 @@ pub enum Status {
 impl Status {
     /// The exit status: 0, 1 or 2.
     pub fn number(self) -> u8
-        ensures { result ≡ number_of self }
+        ensures { result ≡ status_number self }
     {
         match self {
             Status::Success => 0,

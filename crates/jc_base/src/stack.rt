@@ -4,7 +4,7 @@ ghost use Rattle.std.specs.Prelude.{◌≡◌, ◌<◌, ◌≤◌, ◌+◌, ◌-
 ghost use Rattle.jc_base.specs.Stack.{duplicated, swapped};
 ghost use Rattle.jc_base.specs.PrivateStack.{turned};
 
-// The last of a slice becomes the first: two moves, where a rotation by any count costs many times as much.
+// The last of a slice becomes the first, by two moves.
 fn turn_once<T: Copy>(window: &mut [T])
     requires { 0 < length window.old }
     ensures turned { window.new ≡ turned 1 window.old }

@@ -1,5 +1,5 @@
 -- Refusals: their numbers and names, their places, the words of their printed lines, and their order.
-use Rattle.std.specs.Prelude.{ℕ, List, [], ◌∷◌, ◌++◌, codes, Bool, ◌&&◌, ◌||◌, ◌==◌, nat_lt, if◌then◌else◌}
+use Rattle.std.specs.Prelude.{ℕ, List, ◌++◌, codes, Bool, ◌&&◌, ◌||◌, ◌==◌, nat_lt, if◌then◌else◌}
 use Rattle.std.specs.Fmt.{decimal}
 use Rattle.jc_base.specs.Reason.{name_of}
 use Rattle.jc_base.specs.declared.fault.LoadFault.{LoadFault}

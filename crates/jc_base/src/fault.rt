@@ -27,7 +27,7 @@ pub enum LoadFault {
     /// The Header doesn't begin with DECAFFED.
     #[error("5 BadMagic")]
     BadMagic,
-    /// The format's version isn't 2.1.
+    /// The format's version is neither 2.1 nor 2.2.
     #[error("6 FormatVersion")]
     FormatVersion,
     /// The package uses the type int.

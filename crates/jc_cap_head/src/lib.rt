@@ -3,7 +3,7 @@
 
 mod header;
 
-pub use header::{Header, read_header};
+pub use header::{Format, Header, read_header};
 
 #[cfg(test)]
 mod tests;

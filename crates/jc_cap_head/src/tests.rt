@@ -2,16 +2,23 @@ use super::*;
 use jc_base::{Aid, LoadFault, PackageInfo, cut};
 use std::test::*;
 
-/// An image whose Header names the package 1.0 with the AID 0102030405; the other components have no bytes.
+/// An image of format 2.1 whose Header names the package 1.0 with the AID 0102030405; the other components have no bytes.
 const IMAGE: [u8; 33] = [
     5, 0, 0, 6, 0, 0, 7, 0, 0, 8, 0, 0, 11, 0, 0, 1, 0, 15, // no bytes, and the size of the info
     0xDE, 0xCA, 0xFF, 0xED, 1, 2, 4, 0, 1, 5, 1, 2, 3, 4, 5,
 ];
 
-/// The image with one byte changed, and what is told of it.
-const CHANGED: [(usize, u8, LoadFault); 6] = [
+/// The same in format 2.2, with the name `ab`.
+const NAMED: [u8; 36] = [
+    5, 0, 0, 6, 0, 0, 7, 0, 0, 8, 0, 0, 11, 0, 0, 1, 0, 18, // no bytes, and the size of the info
+    0xDE, 0xCA, 0xFF, 0xED, 2, 2, 4, 0, 1, 5, 1, 2, 3, 4, 5, 2, 97, 98,
+];
+
+/// The first image with one byte changed, and what is told of it.
+const CHANGED: [(usize, u8, LoadFault); 7] = [
     (18, 0xDF, LoadFault::BadMagic),
-    (22, 2, LoadFault::FormatVersion),
+    (22, 2, LoadFault::Malformed(1)),
+    (22, 3, LoadFault::FormatVersion),
     (23, 3, LoadFault::FormatVersion),
     (24, 5, LoadFault::IntPackage),
     (27, 4, LoadFault::BadAid),
@@ -19,21 +26,23 @@ const CHANGED: [(usize, u8, LoadFault); 6] = [
 ];
 
 #[test]
-fn a_header(rt: HostRuntime) -> Result<(), Fail> {
-    let parts = cut(&IMAGE).ok().ok_or("it has its components")?;
+fn headers(rt: HostRuntime) -> Result<(), Fail> {
     let aid = Aid::from_slice(&[1, 2, 3, 4, 5]).ok_or("an AID")?;
     let package = PackageInfo {
         minor: 0,
         major: 1,
         aid,
     };
-    let other = PackageInfo {
-        minor: 1,
-        major: 1,
-        aid,
-    };
-    assert_eq!(rt; read_header(&parts), Ok(Header { package }));
-    assert!(rt; read_header(&parts) != Ok(Header { package: other }));
+    let parts = cut(&IMAGE).ok().ok_or("it has its components")?;
+    let header = read_header(&parts).ok().ok_or("format 2.1")?;
+    assert_eq!(rt; header.format(), Format::TwoOne);
+    assert_eq!(rt; header.package(), package);
+    assert_eq!(rt; header.name().len(), 0);
+    let parts = cut(&NAMED).ok().ok_or("it has its components")?;
+    let header = read_header(&parts).ok().ok_or("format 2.2")?;
+    assert!(rt; header.format() != Format::TwoOne);
+    assert_eq!(rt; header.package(), package);
+    assert_eq!(rt; header.name(), [97, 98].as_slice());
     Ok(())
 }
 
@@ -45,7 +54,8 @@ fn refusals(rt: HostRuntime) -> Result<(), Fail> {
             image[place] = byte;
         }
         let parts = cut(&image).ok().ok_or("it has its components")?;
-        assert_eq!(rt; read_header(&parts), Err(fault), "{byte} at {place}");
+        let told = read_header(&parts).err();
+        assert_eq!(rt; told, Some(fault), "{byte} at {place}");
     }
     Ok(())
 }

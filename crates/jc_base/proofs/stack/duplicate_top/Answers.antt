@@ -1,5 +1,4 @@
-use Rattle.std.proofs.Common.{◌≡◌, ℕ, List, reverse, take, ◌+◌, sym, subst, arith}
-use Rattle.jc_base.specs.Stack.{duplicated}
+use Rattle.std.proofs.Common.{◌≡◌, arith}
 use Rattle.jc_base.proofs.StackLemmas.{duplicate_is, repeated_on_top}
 use Rattle.jc_base.proofs.stack.duplicate_top.Goals as goal
 

@@ -1,4 +1,4 @@
-use Rattle.std.proofs.Common.{◌≡◌, ◌∙◌, ap, arith, List, length, rules}
+use Rattle.std.proofs.Common.{◌∙◌, ap, arith, rules}
 use Rattle.jc_base.specs.PrivateStack.{turned}
 use Rattle.jc_base.proofs.StackLemmas.{turned_more, turned_none}
 use Rattle.jc_base.proofs.stack.turn.Goals as goal

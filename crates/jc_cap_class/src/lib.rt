@@ -1,0 +1,15 @@
+//! The Class component of an image.
+#![tactic(auto)]
+
+mod component;
+mod interfaces;
+mod record;
+
+pub use component::{Records, class_layout, read_class};
+pub use interfaces::{
+    ImplementedInterface, ImplementedInterfaces, Superinterface, Superinterfaces,
+};
+pub use record::{ClassRecord, InterfaceRecord, Record, RecordBody, VirtualTable};
+
+#[cfg(test)]
+mod tests;

@@ -10,3 +10,4 @@ pub mod PlacedLemmas
 mod StackLemmas
 pub mod StackViews
 mod Pairs
+mod Bits

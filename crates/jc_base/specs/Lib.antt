@@ -13,7 +13,9 @@ pub mod PrivateRows
 pub mod PlacedRows
 pub mod PrivatePlacedRows
 pub mod Numbers
+pub mod NumberSet
 pub mod Tag
 pub mod Stack
 pub mod PrivateStack
 pub mod ClassRef
+pub mod Signature

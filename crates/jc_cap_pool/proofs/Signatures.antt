@@ -10,17 +10,18 @@ use Rattle.jc_base.specs.declared.fault.LoadFault.{LoadFault}
 use Rattle.jc_base.specs.declared.fault.LoadFault.TheVariants.{Malformed}
 use Rattle.jc_base.proofs.Binding.{the_ok, ok_err, bind_ok}
 use Rattle.jc_base.proofs.Repeats.{reading, nothing_read, one_behind}
-use Rattle.jc_cap_pool.specs.declared.declared_type.DeclaredType.{DeclaredType}
-use Rattle.jc_cap_pool.specs.declared.declared_type.ReturnType.{ReturnType}
-use Rattle.jc_cap_pool.specs.declared.declared_type.ReturnType.TheVariants.{Void, Value}
+use Rattle.jc_base.specs.declared.declared_type.DeclaredType.{DeclaredType}
+use Rattle.jc_base.specs.declared.declared_type.ReturnType.{ReturnType}
+use Rattle.jc_base.specs.declared.declared_type.ReturnType.TheVariants.{Void, Value}
 use Rattle.jc_cap_pool.specs.Nibbles.{nibbles_of, next_nibbles}
 use Rattle.jc_cap_pool.specs.DeclaredType.{next_class, of_class, no_more, next_coded_type, next_type, next_coded_return, next_return, type_given}
-use Rattle.jc_cap_pool.specs.Descriptor.{Signature, with_parameter, signature_in, signature_of, field_type_of}
+use Rattle.jc_base.specs.Signature.{Signature}
+use Rattle.jc_cap_pool.specs.Descriptor.{with_parameter, signature_in, signature_of, field_type_of}
 
-pub field_is : (s : Signature) → length s.parameters ≡ 0 → type_given s.result ≡ field_type_of s
+pub field_is : (s : Signature ClassRef) → length s.parameters ≡ 0 → type_given s.result ≡ field_type_of s
 field_is s e = let t : eqb (length s.parameters) 0 ≡ true = eq-eqb _ _ e in rw t refl
 
-pub no_field : (s : Signature) → (length s.parameters ≡ 0 → ⊥) → None ≡ field_type_of s
+pub no_field : (s : Signature ClassRef) → (length s.parameters ≡ 0 → ⊥) → None ≡ field_type_of s
 no_field s ne = let t : eqb (length s.parameters) 0 ≡ false = ne_eqb _ _ ne in rw t refl
 
 -- what is left behind a type is no more than there was
@@ -34,18 +35,18 @@ keeps_if false f g k l = l
 keeps_none : {A : Type 0} (fault : LoadFault) → Keeps {A = A} (λ nibbles. Err fault)
 keeps_none fault nibbles x e = absurd cc
 
-keeps_no_more : (type : DeclaredType) → Keeps (no_more type)
-keeps_no_more type nibbles x e = let h : length nibbles ≡ length x.rest = ap (λ (r : Read DeclaredType). length r.rest) (the_ok _ x e) in omega arith
+keeps_no_more : (type : DeclaredType ClassRef) → Keeps (no_more type)
+keeps_no_more type nibbles x e = let h : length nibbles ≡ length x.rest = ap (λ (r : Read (DeclaredType ClassRef)). length r.rest) (the_ok _ x e) in omega arith
 
 keeps_class : Keeps next_class
 unfolding next_class
 keeps_class (a ∷ b ∷ c ∷ d ∷ nibbles) x e = let h : length nibbles ≡ length x.rest = ap (λ (r : Read ClassRef). length r.rest) (the_ok _ x e) in omega arith
 keeps_class _ x e = absurd cc
 
-keeps_of_class : (type : ClassRef → DeclaredType) → Keeps (of_class type)
+keeps_of_class : (type : ClassRef → DeclaredType ClassRef) → Keeps (of_class type)
 keeps_of_class type nibbles x e =
     let a = bind_ok (next_class nibbles) _ x e in
-    let h : length a.0.rest ≡ length x.rest = ap (λ (r : Read DeclaredType). length r.rest) (the_ok _ x a.2) in
+    let h : length a.0.rest ≡ length x.rest = ap (λ (r : Read (DeclaredType ClassRef)). length r.rest) (the_ok _ x a.2) in
     let k = keeps_class nibbles a.0 a.1 in
     omega arith
 
@@ -62,47 +63,47 @@ keeps_type code =
     (keeps_if (code == 0xE) _ _ (keeps_of_class _) (keeps_none _))))))))
 
 -- a type takes a nibble at least
-pub type-less : (nibbles : List ℕ) (x : Read DeclaredType) → next_type nibbles ≡ Ok x → length x.rest < length nibbles
+pub type-less : (nibbles : List ℕ) (x : Read (DeclaredType ClassRef)) → next_type nibbles ≡ Ok x → length x.rest < length nibbles
 unfolding next_type
 type-less [] x e = absurd cc
 type-less (code ∷ nibbles) x e = let h = keeps_type code nibbles x e in omega arith
 
-void_value : (type : DeclaredType) → Void ≡ Value type → ⊥
+void_value : (type : DeclaredType ClassRef) → Void ≡ Value type → ⊥
 void_value type h = cc
 
-the_value : (s t : DeclaredType) → Value s ≡ Value t → s ≡ t
+the_value : (s t : DeclaredType ClassRef) → Value s ≡ Value t → s ≡ t
 the_value s t h = cc
 
 -- a result that isn't void is a type
-pub result-type : (nibbles : List ℕ) (type : DeclaredType) (rest : List ℕ) → next_return nibbles ≡ Ok (reading (Value type) rest) → next_type nibbles ≡ Ok (reading type rest)
+pub result-type : (nibbles : List ℕ) (type : DeclaredType ClassRef) (rest : List ℕ) → next_return nibbles ≡ Ok (reading (Value type) rest) → next_type nibbles ≡ Ok (reading type rest)
 unfolding next_return next_coded_return next_type
 result-type [] type rest e = absurd cc
 result-type (code ∷ nibbles) type rest e = part (code == 1) e
   where
     part : (b : Bool) → cond b (Ok (reading Void nibbles)) (next_coded_type code nibbles >>= λ found. Ok (reading (Value found.value) found.rest)) ≡ Ok (reading (Value type) rest) → next_coded_type code nibbles ≡ Ok (reading type rest)
-    part true h = absurd (void_value type (ap (λ (r : Read ReturnType). r.value) (the_ok _ _ h)))
+    part true h = absurd (void_value type (ap (λ (r : Read (ReturnType ClassRef)). r.value) (the_ok _ _ h)))
     part false h =
         let a = bind_ok (next_coded_type code nibbles) _ _ h in
         let p = the_ok (reading (Value a.0.value) a.0.rest) (reading (Value type) rest) a.2 in
-        let v : a.0.value ≡ type = the_value _ _ (ap (λ (r : Read ReturnType). r.value) p) in
-        let w : a.0.rest ≡ rest = ap (λ (r : Read ReturnType). r.rest) p in
-        a.1 ∙ ap (λ (t : DeclaredType). Ok (reading t a.0.rest)) v ∙ ap (λ (bytes : List ℕ). Ok (reading type bytes)) w
+        let v : a.0.value ≡ type = the_value _ _ (ap (λ (r : Read (ReturnType ClassRef)). r.value) p) in
+        let w : a.0.rest ≡ rest = ap (λ (r : Read (ReturnType ClassRef)). r.rest) p in
+        a.1 ∙ ap (λ (t : DeclaredType ClassRef). Ok (reading t a.0.rest)) v ∙ ap (λ (bytes : List ℕ). Ok (reading type bytes)) w
 
 none_left : next_return [] ≡ Err (Malformed 11)
 unfolding next_return
 none_left = refl
 
 -- a signature with parameters in front
-abbrev pub before : List DeclaredType → Result Signature LoadFault → Result Signature LoadFault
+abbrev pub before : List (DeclaredType ClassRef) → Result (Signature ClassRef) LoadFault → Result (Signature ClassRef) LoadFault
 before front found = found >>= λ s. Ok (record { parameters = front ++ s.parameters; result = s.result })
 
-pub some_left : (left : List ℕ) (x : Read ReturnType) → next_return left ≡ Ok x → 0 < length left
+pub some_left : (left : List ℕ) (x : Read (ReturnType ClassRef)) → next_return left ≡ Ok x → 0 < length left
 some_left [] x e = absurd (ok_err x _ (sym e ∙ none_left))
 some_left (code ∷ left) x e = omega arith
 
 -- One step, with enough of them left.
 
-the_err : (a b : LoadFault) → ◌≡◌ {A = Result (Read ReturnType) LoadFault} (Err a) (Err b) → a ≡ b
+the_err : (a b : LoadFault) → ◌≡◌ {A = Result (Read (ReturnType ClassRef)) LoadFault} (Err a) (Err b) → a ≡ b
 the_err a b h = cc
 
 step_none : (steps : ℕ) (left : List ℕ) (fault : LoadFault) → length left ≤ steps → next_return left ≡ Err fault → signature_in steps left ≡ Err fault
@@ -110,19 +111,19 @@ step_none zero [] fault le e = ap (λ (f : LoadFault). Err f) (the_err _ _ (sym 
 step_none zero (code ∷ left) fault le e = absurd (omega arith)
 step_none (suc steps) left fault le e = rw e refl
 
-pub step_last : (steps : ℕ) (left rest : List ℕ) (r : ReturnType) → length left ≤ steps → next_return left ≡ Ok (reading r rest) → length rest ≡ 0
+pub step_last : (steps : ℕ) (left rest : List ℕ) (r : ReturnType ClassRef) → length left ≤ steps → next_return left ≡ Ok (reading r rest) → length rest ≡ 0
     → signature_in steps left ≡ Ok (record { parameters = []; result = r })
 step_last zero left rest r le e end = let some = some_left left _ e in absurd (omega arith)
 step_last (suc steps) left rest r le e end = let t : eqb (length rest) 0 ≡ true = eq-eqb _ _ end in rw (e, t) refl
 
-pub step_on : (steps : ℕ) (left rest : List ℕ) (r : ReturnType) → length left ≤ steps → next_return left ≡ Ok (reading r rest) → (length rest ≡ 0 → ⊥)
+pub step_on : (steps : ℕ) (left rest : List ℕ) (r : ReturnType ClassRef) → length left ≤ steps → next_return left ≡ Ok (reading r rest) → (length rest ≡ 0 → ⊥)
     → (fewer : ℕ) × (steps ≡ suc fewer) × (signature_in steps left ≡ with_parameter r (signature_in fewer rest))
 step_on zero left rest r le e more = let some = some_left left _ e in absurd (omega arith)
 step_on (suc steps) left rest r le e more = let t : eqb (length rest) 0 ≡ false = ne_eqb _ _ more in (steps, refl, rw (e, t) refl)
 
 -- n parameters were taken, and what is left decides
 pub record IsSoFar (nibbles : List ℕ) (n : ℕ) (left : List ℕ) : Type 0 where
-  pub front : List DeclaredType
+  pub front : List (DeclaredType ClassRef)
   pub taken : repeat next_type n nibbles ≡ Ok (reading front left)
   pub steps : ℕ
   pub enough : length left ≤ steps
@@ -134,7 +135,7 @@ unfolding signature_of
 so_far_first nibbles left is =
     rw is (record { front = []; taken = nothing_read next_type nibbles; steps = length nibbles; enough = le_refl (length nibbles); same = part (signature_in (length nibbles) nibbles); within = omega arith })
   where
-    part : (found : Result Signature LoadFault) → before [] found ≡ found
+    part : (found : Result (Signature ClassRef) LoadFault) → before [] found ≡ found
     part (Err e) = refl
     part (Ok s) = refl
 
@@ -142,14 +143,14 @@ pub so_far_none : (nibbles : List ℕ) (n : ℕ) (left : List ℕ) (fault : Load
 so_far_none nibbles n left fault s e = ap (before s.front) (sym (step_none s.steps left fault s.enough e)) ∙ s.same
 
 -- the parameters that were taken are what is read again
-pub so_far_last : (nibbles again : List ℕ) (n : ℕ) (left rest new : List ℕ) (r : ReturnType) (rows : List DeclaredType) → IsSoFar nibbles n left → again ≡ nibbles → repeat next_type n again ≡ Ok (reading rows new)
+pub so_far_last : (nibbles again : List ℕ) (n : ℕ) (left rest new : List ℕ) (r : ReturnType ClassRef) (rows : List (DeclaredType ClassRef)) → IsSoFar nibbles n left → again ≡ nibbles → repeat next_type n again ≡ Ok (reading rows new)
     → next_return left ≡ Ok (reading r rest) → length rest ≡ 0 → Ok (record { parameters = rows; result = r }) ≡ signature_of nibbles
 so_far_last nibbles again n left rest new r rows s is read e end =
     let same = the_ok _ _ (sym read ∙ ap (λ (w : List ℕ). repeat next_type n w) is ∙ s.taken) in
-    ap (λ (xs : List DeclaredType). Ok (signed xs)) (ap (λ (w : Read (List DeclaredType)). w.value) same ∙ sym (append-nil s.front))
+    ap (λ (xs : List (DeclaredType ClassRef)). Ok (signed xs)) (ap (λ (w : Read (List (DeclaredType ClassRef))). w.value) same ∙ sym (append-nil s.front))
     ∙ ap (before s.front) (sym (step_last s.steps left rest r s.enough e end)) ∙ s.same
   where
-    signed : List DeclaredType → Signature
+    signed : List (DeclaredType ClassRef) → Signature ClassRef
     signed xs = record { parameters = xs; result = r }
 
 pub so_far_there : (nibbles again : List ℕ) (n : ℕ) (left : List ℕ) (fault : LoadFault) → IsSoFar nibbles n left → again ≡ nibbles → repeat next_type n again ≡ Err fault → ⊥
@@ -160,10 +161,10 @@ so_far_void nibbles n left rest s e more =
     let step = step_on s.steps left rest Void s.enough e more in
     ap (before s.front) (sym step.2) ∙ s.same
 
-pub so_far_less : (left rest : List ℕ) (type : DeclaredType) → next_return left ≡ Ok (reading (Value type) rest) → length rest < length left
+pub so_far_less : (left rest : List ℕ) (type : DeclaredType ClassRef) → next_return left ≡ Ok (reading (Value type) rest) → length rest < length left
 so_far_less left rest type e = type-less left (reading type rest) (result-type left type rest e)
 
-pub so_far_more : (nibbles : List ℕ) (n : ℕ) (left rest : List ℕ) (type : DeclaredType) → IsSoFar nibbles n left → next_return left ≡ Ok (reading (Value type) rest) → (length rest ≡ 0 → ⊥)
+pub so_far_more : (nibbles : List ℕ) (n : ℕ) (left rest : List ℕ) (type : DeclaredType ClassRef) → IsSoFar nibbles n left → next_return left ≡ Ok (reading (Value type) rest) → (length rest ≡ 0 → ⊥)
     → IsSoFar nibbles (n + 1) rest
 so_far_more nibbles n left rest type s e more =
     let step = step_on s.steps left rest (Value type) s.enough e more in
@@ -178,9 +179,9 @@ so_far_more nibbles n left rest type s e more =
       within = let a = s.within in omega arith;
     }
   where
-    part : (found : Result Signature LoadFault) → before (s.front ++ type ∷ []) found ≡ before s.front (with_parameter (Value type) found)
+    part : (found : Result (Signature ClassRef) LoadFault) → before (s.front ++ type ∷ []) found ≡ before s.front (with_parameter (Value type) found)
     part (Err e) = refl
-    part (Ok t) = ap (λ (xs : List DeclaredType). Ok (record { parameters = xs; result = t.result })) (append_assoc s.front (type ∷ []) t.parameters)
+    part (Ok t) = ap (λ (xs : List (DeclaredType ClassRef)). Ok (record { parameters = xs; result = t.result })) (append_assoc s.front (type ∷ []) t.parameters)
 
 -- what a test for no nibbles says
 pub is_end : (b : Bool) (left : List ℕ) → (IsTrue b → left ≡ []) × (left ≡ [] → IsTrue b) → b ≡ true → length left ≡ 0

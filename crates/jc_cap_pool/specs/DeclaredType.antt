@@ -8,10 +8,10 @@ use Rattle.jc_base.specs.declared.fault.LoadFault.TheVariants.{Malformed}
 use Rattle.jc_base.specs.ClassRef.{class_ref_of}
 use Rattle.jc_base.specs.declared.class_ref.ClassRef.{ClassRef}
 use Rattle.jc_cap_pool.specs.Nibbles.{next_nibble}
-use Rattle.jc_cap_pool.specs.declared.declared_type.DeclaredType.{DeclaredType}
-use Rattle.jc_cap_pool.specs.declared.declared_type.DeclaredType.TheVariants.{Boolean, Byte, Short, Reference, BooleanArray, ByteArray, ShortArray, ReferenceArray}
-use Rattle.jc_cap_pool.specs.declared.declared_type.ReturnType.{ReturnType}
-use Rattle.jc_cap_pool.specs.declared.declared_type.ReturnType.TheVariants.{Void, Value}
+use Rattle.jc_base.specs.declared.declared_type.DeclaredType.{DeclaredType}
+use Rattle.jc_base.specs.declared.declared_type.DeclaredType.TheVariants.{Boolean, Byte, Short, Reference, BooleanArray, ByteArray, ShortArray, ReferenceArray}
+use Rattle.jc_base.specs.declared.declared_type.ReturnType.{ReturnType}
+use Rattle.jc_base.specs.declared.declared_type.ReturnType.TheVariants.{Void, Value}
 
 -- the first nibbles of types, and of void
 abbrev pub void_code : ℕ
@@ -51,17 +51,17 @@ next_class nibbles = do
   Ok (record { value = class_ref_of (16 * (16 * (16 * a.value + b.value) + c.value) + d.value); rest = d.rest })
 
 -- a type that takes no more nibbles
-abbrev pub no_more : DeclaredType → List ℕ → Result (Read DeclaredType) LoadFault
+abbrev pub no_more : DeclaredType ClassRef → List ℕ → Result (Read (DeclaredType ClassRef)) LoadFault
 no_more type nibbles = Ok (record { value = type; rest = nibbles })
 
 -- a type that goes on with a class
-abbrev pub of_class : (ClassRef → DeclaredType) → List ℕ → Result (Read DeclaredType) LoadFault
+abbrev pub of_class : (ClassRef → DeclaredType ClassRef) → List ℕ → Result (Read (DeclaredType ClassRef)) LoadFault
 of_class type nibbles = do
   class ← next_class nibbles
   Ok (record { value = type class.value; rest = class.rest })
 
 -- a type behind its first nibble
-unfoldable pub next_coded_type : ℕ → List ℕ → Result (Read DeclaredType) LoadFault
+unfoldable pub next_coded_type : ℕ → List ℕ → Result (Read (DeclaredType ClassRef)) LoadFault
 next_coded_type code nibbles =
     if code == boolean_code then no_more Boolean nibbles
     else (if code == byte_code then no_more Byte nibbles
@@ -74,24 +74,24 @@ next_coded_type code nibbles =
     else Err (Malformed descriptor_tag))))))))
 
 -- a type
-unfoldable pub next_type : List ℕ → Result (Read DeclaredType) LoadFault
+unfoldable pub next_type : List ℕ → Result (Read (DeclaredType ClassRef)) LoadFault
 next_type nibbles = do
   code ← field descriptor_tag (next_nibble nibbles)
   next_coded_type code.value code.rest
 
 -- what a method gives, behind its first nibble: void or a type
-unfoldable pub next_coded_return : ℕ → List ℕ → Result (Read ReturnType) LoadFault
+unfoldable pub next_coded_return : ℕ → List ℕ → Result (Read (ReturnType ClassRef)) LoadFault
 next_coded_return code nibbles =
     if code == void_code then Ok (record { value = Void; rest = nibbles })
     else (next_coded_type code nibbles >>= λ type. Ok (record { value = Value type.value; rest = type.rest }))
 
 -- what a method gives
-unfoldable pub next_return : List ℕ → Result (Read ReturnType) LoadFault
+unfoldable pub next_return : List ℕ → Result (Read (ReturnType ClassRef)) LoadFault
 next_return nibbles = do
   code ← field descriptor_tag (next_nibble nibbles)
   next_coded_return code.value code.rest
 
 -- the type that is given, unless that is void
-abbrev pub type_given : ReturnType → Option DeclaredType
+abbrev pub type_given : ReturnType ClassRef → Option (DeclaredType ClassRef)
 type_given Void = None
 type_given (Value type) = Some type

@@ -1,10 +1,12 @@
 -- Private. A descriptor takes a byte at least. The lemma stands here, since the row's law takes it from specs alone.
 use Rattle.std.specs.Prelude.{◌≡◌, ℕ, ◌+◌, ◌/◌, ◌≤◌, Bool, true, false, cond, List, [], ◌∷◌, length, drop, take, None, Some, Ok, nat_lt}
 use Rattle.std.proofs.Common.{ap, arith, length-drop}
+use Rattle.jc_base.specs.declared.class_ref.ClassRef.{ClassRef}
 use Rattle.jc_base.specs.Cursor.{Read, next_bytes, field}
 use Rattle.jc_base.specs.PlacedRows.{Shrinks}
 use Rattle.jc_base.proofs.Binding.{the_ok, bind_ok}
-use Rattle.jc_cap_pool.specs.Descriptor.{Signature, next_descriptor, signature_of}
+use Rattle.jc_base.specs.Signature.{Signature}
+use Rattle.jc_cap_pool.specs.Descriptor.{next_descriptor, signature_of}
 use Rattle.jc_cap_pool.specs.Nibbles.{next_nibbles}
 
 bytes_keep : (tag n : ℕ) (bytes : List ℕ) (x : Read (List ℕ)) → field tag (next_bytes n bytes) ≡ Ok x → length x.rest ≤ length bytes
@@ -31,5 +33,5 @@ descriptor_shrinks (count ∷ bytes) x e =
     let a = bind_ok (next_nibbles count bytes) _ x e in
     let b = bind_ok (signature_of a.0.value) _ x a.2 in
     let k = nibbles_keep count bytes a.0 a.1 in
-    let h : length a.0.rest ≡ length x.rest = ap (λ (r : Read Signature). length r.rest) (the_ok _ x b.2) in
+    let h : length a.0.rest ≡ length x.rest = ap (λ (r : Read (Signature ClassRef)). length r.rest) (the_ok _ x b.2) in
     omega arith

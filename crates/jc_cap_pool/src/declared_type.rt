@@ -8,7 +8,7 @@ ghost use Rattle.jc_cap_pool.specs.DeclaredType.{next_class, next_coded_type, ne
 
 use crate::nibbles::Nibbles;
 use jc_base::tag::DESCRIPTOR;
-use jc_base::{ClassRef, LoadFault, Row, class_ref_of};
+use jc_base::{ClassRef, DeclaredType, LoadFault, ReturnType, Row, class_ref_of};
 
 const VOID: u8 = 1;
 
@@ -27,29 +27,6 @@ const BYTE_ARRAY: u8 = 0xB;
 const SHORT_ARRAY: u8 = 0xC;
 
 const REFERENCE_ARRAY: u8 = 0xE;
-
-/// The type of a field, a parameter or a result (Java Card Virtual Machine Specification, Descriptor
-/// component: `type_descriptor_info`). The type int isn't among them.
-#[derive(Clone, Copy, Debug, PartialEq, Eq)]
-pub enum DeclaredType {
-    Boolean,
-    Byte,
-    Short,
-    /// An object of a class, or of a class that implements an interface.
-    Reference(ClassRef),
-    BooleanArray,
-    ByteArray,
-    ShortArray,
-    /// An array of references to objects of this class or interface.
-    ReferenceArray(ClassRef),
-}
-
-/// What a method gives.
-#[derive(Clone, Copy, Debug, PartialEq, Eq)]
-pub enum ReturnType {
-    Void,
-    Value(DeclaredType),
-}
 
 /// The next nibble.
 fn nibble(nibbles: &mut Nibbles) -> Result<u8, LoadFault>
@@ -73,7 +50,7 @@ fn next_class(nibbles: &mut Nibbles) -> Result<ClassRef, LoadFault>
 
 /// The rest of a type, behind its first nibble.
 #[tactic(auto, unfolding(crate::specs::DeclaredType::next_coded_type))]
-fn next_coded_type(code: u8, nibbles: &mut Nibbles) -> Result<DeclaredType, LoadFault>
+fn next_coded_type(code: u8, nibbles: &mut Nibbles) -> Result<DeclaredType<ClassRef>, LoadFault>
     ensures { Gives (λ t. t) result nibbles.new (next_coded_type code nibbles.old) }
 {
     match code {
@@ -89,11 +66,11 @@ fn next_coded_type(code: u8, nibbles: &mut Nibbles) -> Result<DeclaredType, Load
     }
 }
 
-impl<'a> Row<Nibbles<'a>> for DeclaredType {
+impl<'a> Row<Nibbles<'a>> for DeclaredType<ClassRef> {
     ghost next_row = { next_type };
 
     #[tactic(auto, unfolding(crate::specs::DeclaredType::next_type))]
-    fn next_row(nibbles: &mut Nibbles<'a>) -> Result<DeclaredType, LoadFault> {
+    fn next_row(nibbles: &mut Nibbles<'a>) -> Result<DeclaredType<ClassRef>, LoadFault> {
         let code = nibble(nibbles)?;
         next_coded_type(code, nibbles)
     }
@@ -101,7 +78,7 @@ impl<'a> Row<Nibbles<'a>> for DeclaredType {
 
 /// What a method gives: a type or void.
 #[tactic(auto, unfolding(crate::specs::DeclaredType::next_return, crate::specs::DeclaredType::next_coded_return))]
-pub(crate) fn next_return(nibbles: &mut Nibbles) -> Result<ReturnType, LoadFault>
+pub(crate) fn next_return(nibbles: &mut Nibbles) -> Result<ReturnType<ClassRef>, LoadFault>
     ensures { Gives (λ r. r) result nibbles.new (next_return nibbles.old) }
 {
     let code = nibble(nibbles)?;

@@ -2,30 +2,35 @@
 
 ghost use Rattle.std.specs.Prelude.{◌≡◌, ◌↔◌, ◌<◌, ℕ, List, Ok, length};
 ghost use Rattle.jc_base.specs.Cursor.{Gives};
-ghost use Rattle.jc_cap_pool.specs.Descriptor.{Signature, IsSpelled, signature_of, next_descriptor, descriptor_at, field_type_of};
+ghost use Rattle.jc_base.specs.Signature.{Signature};
+ghost use Rattle.jc_base.specs.declared.class_ref.ClassRef.{ClassRef};
+ghost use Rattle.jc_cap_pool.specs.Descriptor.{IsSpelled, signature_of, next_descriptor, descriptor_at, field_type_of};
 ghost use Rattle.jc_cap_pool.specs.PrivateDescriptor.{descriptor_shrinks};
 
-use crate::declared_type::{DeclaredType, ReturnType, next_return};
+use crate::declared_type::next_return;
 use crate::nibbles::{Nibbles, next_nibbles};
 use jc_base::tag::DESCRIPTOR;
-use jc_base::{Cursor, LoadFault, PlacedRow, PlacedRows, Row, Rows, Source};
+use jc_base::{
+    ClassRef, Cursor, DeclaredType, LoadFault, PlacedRow, PlacedRows, ReturnType, Row, Rows, Source,
+};
 use std::marker::Model;
 
 /// The types of parameters, in their order.
-pub type Parameters<'a> = Rows<Nibbles<'a>, DeclaredType>;
+pub type Parameters<'a> = Rows<Nibbles<'a>, DeclaredType<ClassRef>>;
 
 /// A descriptor (Java Card Virtual Machine Specification, Descriptor component: `type_descriptor_info`):
 /// what a method takes and gives. One without parameters that gives something is a field's type as well.
 #[derive(Drop)]
 pub struct Descriptor<'a> {
     parameters: Parameters<'a>,
-    result: ReturnType,
+    result: ReturnType<ClassRef>,
 }
 
 impl<'a> Model for Descriptor<'a> {
-    ghost use Rattle.jc_cap_pool.specs.Descriptor.{Signature};
+    ghost use Rattle.jc_base.specs.Signature.{Signature};
+    ghost use Rattle.jc_base.specs.declared.class_ref.ClassRef.{ClassRef};
 
-    ghost Value = { Signature };
+    ghost Value = { Signature ClassRef };
 
     ghost view = { λ d. record { parameters = d.parameters; result = d.result } };
 }
@@ -39,14 +44,14 @@ impl<'a> Descriptor<'a> {
     }
 
     /// What is given.
-    pub fn result(&self) -> ReturnType
+    pub fn result(&self) -> ReturnType<ClassRef>
         ensures { result ≡ self.now.result }
     {
         self.result
     }
 
     /// The type of a field that has this descriptor, or `None` where it describes no field.
-    pub fn field_type(&self) -> Option<DeclaredType>
+    pub fn field_type(&self) -> Option<DeclaredType<ClassRef>>
         ensures { result ≡ field_type_of self.now }
     {
         if self.parameters.len() != 0 {
@@ -115,5 +120,5 @@ pub fn descriptor_at<'a>(bytes: &'a [u8], first: usize, offset: usize) -> Option
 
 /// Nibbles are read as a signature exactly where they are the spelling of one, and as that one.
 pub fn signatures_are_spelled()
-    ensures { (nibbles : List ℕ) (s : Signature) → (signature_of nibbles ≡ Ok s) ↔ IsSpelled s.parameters s.result nibbles }
+    ensures { (nibbles : List ℕ) (s : Signature ClassRef) → (signature_of nibbles ≡ Ok s) ↔ IsSpelled s.parameters s.result nibbles }
 {}

@@ -10,7 +10,6 @@ mod entry;
 mod nibbles;
 mod pool;
 
-pub use declared_type::{DeclaredType, ReturnType};
 pub use descriptor::{
     Descriptor, Descriptors, Parameters, descriptor_at, next_descriptor, signatures_are_spelled,
 };

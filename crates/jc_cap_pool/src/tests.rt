@@ -1,5 +1,5 @@
 use super::*;
-use jc_base::{ClassRef, Cursor, cut};
+use jc_base::{ClassRef, Cursor, DeclaredType, ReturnType, cut};
 use std::test::*;
 
 const OBJECT: ClassRef = ClassRef::External {
@@ -85,7 +85,7 @@ fn descriptors_in_turn(rt: HostRuntime) -> Result<(), Fail> {
 }
 
 /// What a field's descriptor spells.
-const TYPES: [([u8; 4], DeclaredType); 8] = [
+const TYPES: [([u8; 4], DeclaredType<ClassRef>); 8] = [
     ([1, 0x20, 0, 0], DeclaredType::Boolean),
     ([1, 0x3F, 0, 0], DeclaredType::Byte),
     ([1, 0x40, 0, 0], DeclaredType::Short),
@@ -111,6 +111,6 @@ fn values_that_differ(rt: HostRuntime) {
     let offset = StaticRef::Internal { offset: 1 };
     assert!(rt; MEMBER != MemberRef { token: 1, ..MEMBER });
     assert!(rt; offset != StaticRef::Internal { offset: 2 });
-    assert!(rt; DeclaredType::Byte != DeclaredType::Short);
+    assert!(rt; DeclaredType::<ClassRef>::Byte != DeclaredType::Short);
     assert!(rt; DeclaredType::Reference(OWN) != DeclaredType::Reference(OBJECT));
 }

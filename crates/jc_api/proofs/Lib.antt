@@ -1,0 +1,15 @@
+pub mod Filling
+pub mod Climbing
+pub mod Cuts
+pub mod Decimals
+pub mod Hexadecimals
+pub mod Meetings
+pub mod Lines
+pub mod Tables
+pub mod Stated
+pub mod Sound
+pub mod DefaultSound
+pub mod Taking
+pub mod Having
+pub mod Behind
+pub mod Believing

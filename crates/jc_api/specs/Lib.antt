@@ -1,0 +1,15 @@
+pub mod Options
+pub mod Numbered
+pub mod Class
+pub mod Member
+pub mod Token
+pub mod Bound
+pub mod NoClash
+pub mod PrivateBinding
+pub mod Text
+pub mod PrivateText
+pub mod Statement
+pub mod Draft
+pub mod PrivateDraft
+pub mod Binding
+pub mod Meaning

@@ -1,0 +1,25 @@
+//! The types of fields, parameters and results.
+
+/// The type of a field, a parameter or a result, its classes named in one way: as a file spells them, or as they
+/// were found (Java Card Virtual Machine Specification, Descriptor component: `type_descriptor_info`). The type
+/// int isn't among them.
+#[derive(Clone, Copy, Debug, PartialEq, Eq)]
+pub enum DeclaredType<C> {
+    Boolean,
+    Byte,
+    Short,
+    /// An object of a class, or of a class that implements an interface.
+    Reference(C),
+    BooleanArray,
+    ByteArray,
+    ShortArray,
+    /// An array of references to objects of this class or interface.
+    ReferenceArray(C),
+}
+
+/// What a method gives.
+#[derive(Clone, Copy, Debug, PartialEq, Eq)]
+pub enum ReturnType<C> {
+    Void,
+    Value(DeclaredType<C>),
+}

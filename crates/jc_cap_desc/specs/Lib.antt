@@ -1,0 +1,15 @@
+pub mod ClassRow
+pub mod PrivateClassRow
+pub mod Component
+pub mod Types
+pub mod Across
+pub mod PrivateOffsets
+pub mod PrivateInterfaceRows
+pub mod PrivateTypes
+pub mod PrivateApplets
+pub mod PrivateFreshNumbers
+pub mod PrivateMethods
+pub mod Shape
+pub mod PrivateShape
+pub mod Package
+pub mod PrivatePackage

@@ -1,0 +1,75 @@
+-- Private. The components as they are read, each once, in the order of the code.
+use Rattle.std.specs.Prelude.{ℕ, ◌≤◌, List, length, Option, None, Result, Ok, Err, IfOk}
+use Rattle.jc_base.specs.Parts.{Infos}
+use Rattle.jc_base.specs.Results.{◌>>=◌}
+use Rattle.jc_base.specs.declared.fault.LoadFault.{LoadFault}
+use Rattle.jc_base.specs.declared.placed_rows.Placed.{Placed}
+use Rattle.jc_cap_class.specs.Component as Class
+use Rattle.jc_cap_class.specs.declared.record.Record.{Record}
+use Rattle.jc_cap_data.specs.Applets.{applets_of}
+use Rattle.jc_cap_data.specs.Exports.{exports_of}
+use Rattle.jc_cap_data.specs.Imports.{imports_of}
+use Rattle.jc_cap_data.specs.Statics.{static_fields_of}
+use Rattle.jc_cap_head.specs.Header.{Heading, header_of}
+use Rattle.jc_cap_method.specs.Component.{methods_of}
+use Rattle.jc_cap_pool.specs.Pool.{pool_of}
+use Rattle.jc_cap_desc.specs.Types.{descriptor_of}
+use Rattle.jc_cap_desc.specs.Shape.{Package, shape_of, body_of}
+use Rattle.jc_cap_desc.specs.Package.{fault_of, told}
+use Rattle.jc_cap_desc.specs.declared.package.Components.{Components}
+
+abbrev pub records_in : Result Heading LoadFault → List ℕ → Result (List (Placed Record)) LoadFault
+records_in (Ok heading) info = Class.classes_of heading.format info
+records_in (Err fault) info = Err fault
+
+abbrev pub components_in : Infos → Components
+components_in infos = record {
+  header = header_of infos.header;
+  applets = applets_of infos.applet;
+  imports = imports_of infos.imports;
+  pool = pool_of infos.constant_pool;
+  records = records_in (header_of infos.header) infos.class;
+  methods = methods_of infos.method;
+  statics = static_fields_of infos.static_field;
+  exports = exports_of infos.export;
+  descriptor = descriptor_of infos.descriptor;
+}
+
+abbrev pub class_fault_in : Result Heading LoadFault → Result (List (Placed Record)) LoadFault → Option LoadFault
+class_fault_in (Ok heading) records = fault_of records
+class_fault_in (Err fault) records = None
+
+abbrev pub component_fault_in : Components → Option LoadFault
+component_fault_in found =
+    told (fault_of found.header)
+    (told (fault_of found.applets)
+    (told (fault_of found.imports)
+    (told (fault_of found.pool)
+    (told (class_fault_in found.header found.records)
+    (told (fault_of found.methods)
+    (told (fault_of found.statics)
+    (told (fault_of found.exports)
+    (fault_of found.descriptor))))))))
+
+unfoldable pub joined : Components → Result Package LoadFault
+joined found = do
+  heading ← found.header
+  applets ← found.applets
+  imports ← found.imports
+  pool ← found.pool
+  records ← found.records
+  methods ← found.methods
+  statics ← found.statics
+  exports ← found.exports
+  info ← found.descriptor
+  Ok (record {
+    shape = shape_of heading.«package» imports exports records info methods;
+    body = body_of heading.name applets pool statics records info methods;
+  })
+
+-- no more rows of classes than a byte counts, and no more records than that where both were read
+abbrev pub HasFewRows : Components → Type 0
+HasFewRows found = IfOk found.descriptor (λ info. length info.classes ≤ 255)
+
+abbrev pub HasFewRecords : Components → Type 0
+HasFewRecords found = IfOk found.records (λ records. IfOk found.descriptor (λ info. length records ≤ 255))

@@ -1,0 +1,8 @@
+-- Private. The headers of methods, where they are looked at.
+use Rattle.std.specs.Prelude.{ℕ, Bool, Option, None, if◌then◌else◌}
+use Rattle.jc_cap_method.specs.Component.{Methods, header_at}
+use Rattle.jc_cap_method.specs.declared.header.MethodHeader.{MethodHeader}
+
+-- the header at an offset, if it counts
+abbrev pub header_if : Bool → Methods → ℕ → Option MethodHeader
+header_if counts methods offset = if counts then header_at offset methods else None

@@ -1,0 +1,141 @@
+-- The record of a package, in two halves: its shape, which look-ups, subtypes and types of members are about, and its
+-- body, which is what its methods are made of.
+use Rattle.std.specs.Prelude.{ℕ, ◌==◌, Bool, List, map, take, Option, None, if◌then◌else◌}
+use Rattle.std.specs.List.{filter_map, find}
+use Rattle.std.specs.Option.{option_map, option_and_then}
+use Rattle.jc_base.specs.PlacedRows.{row_at}
+use Rattle.jc_base.specs.Rows.{part}
+use Rattle.jc_base.specs.Signature.{Signature}
+use Rattle.jc_base.specs.declared.class_ref.ClassRef.{ClassRef}
+use Rattle.jc_base.specs.declared.declared_type.DeclaredType.{DeclaredType}
+use Rattle.jc_base.specs.declared.package_info.PackageInfo.{PackageInfo}
+use Rattle.jc_base.specs.declared.placed_rows.Placed.{Placed}
+use Rattle.jc_cap_class.specs.Component.{is_class}
+use Rattle.jc_cap_class.specs.declared.record.Record.{Record}
+use Rattle.jc_cap_class.specs.declared.record.RecordBody.{RecordBody}
+use Rattle.jc_cap_data.specs.Statics.{StaticImage}
+use Rattle.jc_cap_data.specs.declared.applets.Applet.{Applet}
+use Rattle.jc_cap_data.specs.declared.exports.ExportedClass.{ExportedClass}
+use Rattle.jc_cap_method.specs.Component.{Methods, method_at, header_at}
+use Rattle.jc_cap_method.specs.declared.handler.Handler.{Handler}
+use Rattle.jc_cap_method.specs.declared.header.MethodHeader.{MethodHeader}
+use Rattle.jc_cap_pool.specs.declared.entry.PoolEntry.{PoolEntry}
+use Rattle.jc_cap_desc.specs.Types.{type_of_field, no_type}
+use Rattle.jc_cap_desc.specs.Across.{class_methods, has_code, is_row_of}
+use Rattle.jc_cap_desc.specs.declared.class_row.ClassRow.{ClassRow}
+use Rattle.jc_cap_desc.specs.declared.class_row.FieldPlace.{FieldPlace}
+use Rattle.jc_cap_desc.specs.declared.class_row.FieldRow.{FieldRow}
+use Rattle.jc_cap_desc.specs.declared.class_row.MethodRow.{MethodRow}
+use Rattle.jc_cap_desc.specs.declared.component.DescriptorInfo.{DescriptorInfo}
+
+-- a field: its place and its type
+pub record FieldShape : Type 0 where
+  pub place : FieldPlace
+  pub type : DeclaredType ClassRef
+
+-- a method: its token, which counts in an interface; its offset and its header, which count in a class; what it takes and
+-- gives
+pub record MethodShape : Type 0 where
+  pub token : ℕ
+  pub is_static : Bool
+  pub offset : ℕ
+  pub header : Option MethodHeader
+  pub signature : Signature ClassRef
+
+-- a class or an interface at its offset: what its record says, and what its row says
+pub record ClassShape : Type 0 where
+  pub offset : ℕ
+  pub body : RecordBody
+  pub is_abstract : Bool
+  pub fields : List FieldShape
+  pub methods : List MethodShape
+
+-- the shape of a package: its AID and version, its imports and exports by their tokens, and its classes in the order of
+-- their records
+pub record Shape : Type 0 where
+  pub «package» : PackageInfo
+  pub imports : List PackageInfo
+  pub exports : List ExportedClass
+  pub classes : List ClassShape
+
+-- a method with code: the method's offset, the offset of its first byte of code, its code, and its handlers
+pub record MethodBody : Type 0 where
+  pub offset : ℕ
+  pub code_offset : ℕ
+  pub code : List ℕ
+  pub handlers : List Handler
+
+-- the body of a package: its name, its applets, or none where it is a library; its constant pool, with the types that
+-- entries have; its static fields; and its methods with code
+pub record Body : Type 0 where
+  pub name : List ℕ
+  pub applets : Option (List Applet)
+  pub pool : List PoolEntry
+  pub pool_types : List (Option (Signature ClassRef))
+  pub statics : StaticImage
+  pub methods : List MethodBody
+
+-- a package
+pub record Package : Type 0 where
+  pub shape : Shape
+  pub body : Body
+
+-- a field's row, whose type is there
+abbrev pub field_shape : List (Placed (Signature ClassRef)) → FieldRow → Option FieldShape
+field_shape types f = option_map (λ type. record { place = f.place; type = type }) (type_of_field types f.stated)
+
+-- a method's row, whose type is there
+abbrev pub method_shape : List (Placed (Signature ClassRef)) → (ℕ → Option MethodHeader) → MethodRow → Option MethodShape
+method_shape types header m =
+    option_map (λ signature. record { token = m.token; is_static = m.is_static; offset = m.offset; header = header m.offset; signature = signature })
+    (row_at m.type_offset types)
+
+-- the headers of a class's methods; an interface's have none
+abbrev pub headers_of : Methods → RecordBody → ℕ → Option MethodHeader
+headers_of methods body offset = if is_class body then header_at offset methods else None
+
+-- a record with its row
+abbrev pub joined : List (Placed (Signature ClassRef)) → Methods → Placed Record → ClassRow → ClassShape
+joined types methods p row = record {
+  offset = p.offset;
+  body = p.row.body;
+  is_abstract = row.is_abstract;
+  fields = filter_map (field_shape types) row.fields;
+  methods = filter_map (method_shape types (headers_of methods p.row.body)) row.methods;
+}
+
+-- a record that has a row
+abbrev pub class_shape : DescriptorInfo → Methods → Placed Record → Option ClassShape
+class_shape info methods p = option_map (joined info.types methods p) (find (is_row_of p.offset) info.classes)
+
+-- the shape. In a package that is read each record has its row and each row its type, so nothing is left out
+abbrev pub shape_of : PackageInfo → List PackageInfo → List ExportedClass → List (Placed Record) → DescriptorInfo → Methods → Shape
+shape_of named imports exports records info methods = record {
+  «package» = named;
+  imports = imports;
+  exports = exports;
+  classes = filter_map (class_shape info methods) records;
+}
+
+-- the code and the handlers of a method of a class, if it has code
+abbrev pub body_of_method : Methods → MethodRow → Option MethodBody
+body_of_method methods m =
+    if has_code m
+    then option_and_then (λ found. option_map (λ handlers. record { offset = m.offset; code_offset = found.code_offset; code = take m.bytecode_count found.code; handlers = handlers })
+    (part m.handler_index m.handler_count methods.handlers)) (method_at m.offset methods)
+    else None
+
+-- the type of a pool entry, if it has one
+abbrev pub pool_type : List (Placed (Signature ClassRef)) → ℕ → Option (Signature ClassRef)
+pool_type types offset = if offset == no_type then None else row_at offset types
+
+-- the body
+abbrev pub body_of : List ℕ → Option (List Applet) → List PoolEntry → StaticImage → List (Placed Record) → DescriptorInfo → Methods → Body
+body_of name applets pool statics records info methods = record {
+  name = name;
+  applets = applets;
+  pool = pool;
+  pool_types = map (pool_type info.types) info.pool_types;
+  statics = statics;
+  methods = filter_map (body_of_method methods) (class_methods records info.classes);
+}

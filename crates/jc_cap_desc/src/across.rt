@@ -1,0 +1,167 @@
+//! The tests of class rows against records, and of methods against one another.
+
+ghost use Rattle.std.specs.Prelude.{◌≡◌, ◌==◌, ◌||◌, ◌∷◌, ℕ, true, List, map, not, is_some};
+ghost use Rattle.std.specs.List.{list_all};
+ghost use Rattle.jc_base.specs.declared.placed_rows.Placed.{Placed};
+ghost use Rattle.jc_cap_class.specs.declared.record.Record.{Record};
+ghost use Rattle.jc_cap_desc.specs.Across.{record_of, is_row_of, count_rows, rows_match, class_methods, is_interface_row, is_among, are_distinct, methods_differ};
+ghost use Rattle.jc_cap_desc.specs.PrivateFreshNumbers.{are_fresh, put_in, Holds};
+ghost use Rattle.jc_cap_desc.specs.PrivateInterfaceRows.{HoldsInterfaces};
+ghost use Rattle.jc_cap_desc.specs.PrivateMethods.{class_offsets};
+
+use crate::class_row::{ClassRow, ClassRows, MethodRows};
+use crate::interfaces::is_interface_row;
+use jc_base::{ClassRef, NumberSet};
+use jc_cap_class::{Record, Records};
+
+/// Whether a row is of the record at an offset.
+pub(crate) fn is_row_of(offset: usize, row: &ClassRow) -> bool
+    ensures { result ≡ is_row_of offset row.now }
+{
+    match row.this {
+        ClassRef::Internal { offset: this } => usize::from(this) == offset,
+        ClassRef::External { .. } => false,
+    }
+}
+
+/// Whether one row and no other is of the record at an offset.
+fn has_one_row(offset: usize, rows: &ClassRows) -> bool
+    ensures { result ≡ (count_rows offset rows.now == 1) }
+{
+    let mut left = rows.again();
+    let mut seen = false;
+    while let Some(row) = left.next() {
+        if is_row_of(offset, &row) {
+            if seen {
+                return false;
+            }
+            seen = true;
+        }
+    }
+    seen
+}
+
+/// Whether each record has one row. The walk ends at the first that hasn't, so it goes over one record more than there
+/// are rows at most.
+fn records_have_rows(records: &Records, rows: &ClassRows) -> bool
+    ensures { result ≡ list_all (λ p. count_rows p.offset rows.now == 1) records.now }
+{
+    let mut left = records.again();
+    while let Some(placed) = left.next() {
+        if !has_one_row(placed.offset, rows) {
+            return false;
+        }
+    }
+    true
+}
+
+/// The record that a row is of, if it is one's.
+fn record_of<'a>(records: &Records<'a>, row: &ClassRow) -> Option<Record<'a>>
+    ensures { result ≡ record_of records.now row.now }
+{
+    match row.this {
+        ClassRef::Internal { offset } => records.at(usize::from(offset)),
+        ClassRef::External { .. } => None,
+    }
+}
+
+/// Whether each row is of a record.
+fn rows_have_records(records: &Records, rows: &ClassRows) -> bool
+    ensures { result ≡ list_all (λ row. is_some (record_of records.now row)) rows.now }
+{
+    let mut left = rows.again();
+    while let Some(row) = left.next() {
+        if record_of(records, &row).is_none() {
+            return false;
+        }
+    }
+    true
+}
+
+/// Whether each record has one row, and each row is of a record. Rows are looked at only where there are no more
+/// records than rows.
+pub(crate) fn rows_match(records: &Records, rows: &ClassRows) -> bool
+    ensures { result ≡ rows_match records.now rows.now }
+{
+    records_have_rows(records, rows) && rows_have_records(records, rows)
+}
+
+/// Puts a number into a set, and answers whether the set didn't have it.
+fn is_fresh(seen: &mut NumberSet, number: u16) -> bool
+    ensures fresh { (before : List ℕ) → Holds seen.old before → result ≡ not (is_among number before) }
+    ensures put { (before : List ℕ) → Holds seen.old before → Holds seen.new (number ∷ before) }
+{
+    let fresh = !seen.contains(number);
+    seen.insert(number);
+    fresh
+}
+
+/// Puts the offsets of methods into a set, and answers whether each was new.
+fn offsets_are_fresh(seen: &mut NumberSet, methods: &MethodRows) -> bool
+    ensures fresh { (before : List ℕ) → Holds seen.old before → result ≡ are_fresh before (map (λ m. m.offset) methods.now) }
+    ensures put { (before : List ℕ) → Holds seen.old before → result ≡ true → Holds seen.new (put_in before (map (λ m. m.offset) methods.now)) }
+{
+    let mut left = methods.again();
+    while let Some(method) = left.next() {
+        if !is_fresh(seen, method.offset) {
+            return false;
+        }
+    }
+    true
+}
+
+/// Puts the offsets of a class's methods into a set, and answers whether each was new. An interface's don't count.
+fn row_is_fresh(interfaces: &NumberSet, seen: &mut NumberSet, row: &ClassRow) -> bool
+    ensures fresh { (records : List (Placed Record)) (before : List ℕ) → HoldsInterfaces interfaces.now records → Holds seen.old before → result ≡ are_fresh before (class_offsets records row.now) }
+    ensures put { (records : List (Placed Record)) (before : List ℕ) → HoldsInterfaces interfaces.now records → Holds seen.old before → result ≡ true → Holds seen.new (put_in before (class_offsets records row.now)) }
+{
+    is_interface_row(interfaces, row) || offsets_are_fresh(seen, &row.methods)
+}
+
+/// Whether no two methods of classes have one offset.
+fn offsets_differ(interfaces: &NumberSet, rows: &ClassRows) -> bool
+    ensures { (records : List (Placed Record)) → HoldsInterfaces interfaces.now records → result ≡ are_distinct (map (λ m. m.offset) (class_methods records rows.now)) }
+{
+    let mut left = rows.again();
+    let mut seen = NumberSet::empty();
+    while let Some(row) = left.next() {
+        if !row_is_fresh(interfaces, &mut seen, &row) {
+            return false;
+        }
+    }
+    true
+}
+
+/// Whether no two methods have one token.
+fn tokens_differ(methods: &MethodRows) -> bool
+    ensures { result ≡ are_distinct (map (λ m. m.token) methods.now) }
+{
+    let mut left = methods.again();
+    let mut seen = NumberSet::empty();
+    while let Some(method) = left.next() {
+        if !is_fresh(&mut seen, u16::from(method.token)) {
+            return false;
+        }
+    }
+    true
+}
+
+/// Whether no two methods of an interface have one token.
+fn interfaces_differ(interfaces: &NumberSet, rows: &ClassRows) -> bool
+    ensures { (records : List (Placed Record)) → HoldsInterfaces interfaces.now records → result ≡ list_all (λ row. not (is_interface_row records row) || are_distinct (map (λ m. m.token) row.methods)) rows.now }
+{
+    let mut left = rows.again();
+    while let Some(row) = left.next() {
+        if is_interface_row(interfaces, &row) && !tokens_differ(&row.methods) {
+            return false;
+        }
+    }
+    true
+}
+
+/// Whether no two methods of classes have one offset, and no two of an interface one token.
+pub(crate) fn methods_differ(interfaces: &NumberSet, rows: &ClassRows) -> bool
+    ensures { (records : List (Placed Record)) → HoldsInterfaces interfaces.now records → result ≡ methods_differ records rows.now }
+{
+    offsets_differ(interfaces, rows) && interfaces_differ(interfaces, rows)
+}

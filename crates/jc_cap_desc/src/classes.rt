@@ -1,0 +1,143 @@
+//! The classes of a package: what their records say, and what their rows say.
+
+ghost use Rattle.std.specs.Prelude.{◌≡◌, ◌∷◌, [], IfSome, IfNone};
+ghost use Rattle.std.specs.List.{find};
+ghost use Rattle.jc_cap_desc.specs.Across.{is_row_of};
+ghost use Rattle.jc_cap_desc.specs.Shape.{class_shape};
+
+use crate::across::is_row_of;
+use crate::class_row::{ClassRow, ClassRows};
+use crate::component::DescriptorInfo;
+use crate::fields::Fields;
+use crate::interfaces::is_interface;
+use crate::methods::ClassMethods;
+use jc_base::Placed;
+use jc_cap_class::{Record, RecordBody, Records};
+use jc_cap_method::MethodInfo;
+use jc_cap_pool::Descriptors;
+use std::marker::Model;
+
+/// A class or an interface: what its record says, and what its row says.
+#[derive(Drop)]
+pub struct Class<'p, 'a> {
+    types: Descriptors<'a>,
+    bodies: &'p MethodInfo<'a>,
+    placed: Placed<Record<'a>>,
+    row: ClassRow<'a>,
+}
+
+impl<'p, 'a> Model for Class<'p, 'a> {
+    ghost use Rattle.jc_cap_desc.specs.Shape.{ClassShape, joined};
+
+    ghost Value = { ClassShape };
+
+    ghost view = { λ c. joined c.types c.bodies.now c.placed c.row };
+}
+
+impl<'p, 'a> Class<'p, 'a> {
+    /// Where its record stands in the Class component.
+    pub fn offset(&self) -> usize
+        ensures { result ≡ self.now.offset }
+    {
+        self.placed.offset
+    }
+
+    /// What its record says.
+    pub fn body(&self) -> &RecordBody<'a>
+        ensures { result.now ≡ self.now.body }
+    {
+        &self.placed.row.body
+    }
+
+    /// Whether it is abstract.
+    pub fn is_abstract(&self) -> bool
+        ensures { result ≡ self.now.is_abstract }
+    {
+        self.row.is_abstract
+    }
+
+    /// Its fields, in the order of their rows.
+    pub fn fields(&self) -> Fields<'a>
+        ensures { result ≡ self.now.fields }
+    {
+        Fields {
+            types: self.types.again(),
+            left: self.row.fields.again(),
+        }
+    }
+
+    /// Its methods, in the order of their rows.
+    pub fn methods(&self) -> ClassMethods<'p, 'a>
+        ensures { result ≡ self.now.methods }
+    {
+        ClassMethods {
+            types: self.types.again(),
+            bodies: self.bodies,
+            is_class: !is_interface(&self.placed.row.body),
+            left: self.row.methods.again(),
+        }
+    }
+}
+
+/// The row of the record at an offset, if there is one.
+fn row_of<'a>(offset: usize, rows: &ClassRows<'a>) -> Option<ClassRow<'a>>
+    ensures { result ≡ find (is_row_of offset) rows.now }
+{
+    let mut left = rows.again();
+    while let Some(row) = left.next() {
+        if is_row_of(offset, &row) {
+            return Some(row);
+        }
+    }
+    None
+}
+
+/// The class or interface whose record this is, if it has a row.
+fn class_of<'p, 'a>(
+    info: &DescriptorInfo<'a>,
+    bodies: &'p MethodInfo<'a>,
+    placed: Placed<Record<'a>>,
+) -> Option<Class<'p, 'a>>
+    ensures { result ≡ class_shape info.now bodies.now placed.entry }
+{
+    let row = row_of(placed.offset, &info.classes)?;
+    Some(Class {
+        types: info.types.again(),
+        bodies,
+        placed,
+        row,
+    })
+}
+
+/// The classes and interfaces of a package, in the order of their records.
+#[derive(Drop)]
+pub struct Classes<'p, 'a> {
+    pub(crate) info: &'p DescriptorInfo<'a>,
+    pub(crate) bodies: &'p MethodInfo<'a>,
+    pub(crate) left: Records<'a>,
+}
+
+impl<'p, 'a> Model for Classes<'p, 'a> {
+    ghost use Rattle.std.specs.Prelude.{List};
+    ghost use Rattle.std.specs.List.{filter_map};
+    ghost use Rattle.jc_cap_desc.specs.Shape.{ClassShape, class_shape};
+
+    ghost Value = { List ClassShape };
+
+    ghost view = { λ c. filter_map (class_shape c.info.now c.bodies.now) c.left };
+}
+
+impl<'p, 'a> Classes<'p, 'a> {
+    /// Takes the first class off, or answers `None` where there is none.
+    pub fn next(&mut self) -> Option<Class<'p, 'a>>
+        ensures some { IfSome result (λ class. self.old ≡ class ∷ self.new) }
+        ensures none { IfNone result ((self.old ≡ []) × (self.new ≡ [])) }
+    {
+        while let Some(placed) = self.left.next() {
+            if let Some(class) = class_of(self.info, self.bodies, placed) {
+                return Some(class);
+            }
+        }
+        None
+    }
+}

@@ -1,0 +1,137 @@
+//! Which of several faults is told.
+
+ghost use Rattle.std.specs.Prelude.{◌≡◌, ◌&&◌, List};
+ghost use Rattle.std.specs.Result.{result_ok};
+ghost use Rattle.jc_base.specs.declared.placed_rows.Placed.{Placed};
+ghost use Rattle.jc_cap_class.specs.declared.record.Record.{Record};
+ghost use Rattle.jc_cap_desc.specs.Package.{fault_of, unless, told, methods_fault, applets_fault, classes_fault, pool_fault, across_fault};
+ghost use Rattle.jc_cap_desc.specs.PrivateInterfaceRows.{HoldsInterfaces};
+
+use crate::across::{methods_differ, rows_match};
+use crate::applets::applets_install;
+use crate::component::DescriptorInfo;
+use crate::interfaces::interface_offsets;
+use crate::standing::{methods_are_described, methods_stand_inside};
+use jc_base::tag::{APPLET, DESCRIPTOR, METHOD};
+use jc_base::{LoadFault, NumberSet};
+use jc_cap_class::Records;
+use jc_cap_data::Applets;
+use jc_cap_method::MethodInfo;
+use jc_cap_pool::ConstantPool;
+
+/// Why something wasn't read.
+pub(crate) fn fault_of<T>(read: &Result<T, LoadFault>) -> Option<LoadFault>
+    ensures { result ≡ fault_of read.now }
+{
+    match read {
+        Ok(_) => None,
+        Err(fault) => Some(*fault),
+    }
+}
+
+/// The fault of a component that a test finds malformed.
+fn unless(fine: bool, tag: u8) -> Option<LoadFault>
+    ensures { result ≡ unless fine tag }
+{
+    if fine {
+        None
+    } else {
+        Some(LoadFault::Malformed(tag))
+    }
+}
+
+/// The one of two faults that is told.
+pub(crate) fn told(a: Option<LoadFault>, b: Option<LoadFault>) -> Option<LoadFault>
+    ensures { result ≡ told a b }
+{
+    let Some(first) = a else {
+        return b;
+    };
+    match b {
+        Some(second) => Some(first.least_of(second)),
+        None => Some(first),
+    }
+}
+
+/// The fault of the tests on methods, where the handler table fits.
+fn methods_fault(
+    interfaces: &NumberSet,
+    info: &DescriptorInfo,
+    methods: &Result<MethodInfo, LoadFault>,
+) -> Option<LoadFault>
+    ensures { (records : List (Placed Record)) → HoldsInterfaces interfaces.now records → result ≡ methods_fault records info.now (result_ok methods.now) }
+{
+    let Ok(methods) = methods else {
+        return None;
+    };
+    let inside = methods_stand_inside(interfaces, &info.classes, methods);
+    let described = methods_are_described(interfaces, &info.classes, methods);
+    told(unless(inside, METHOD), unless(described, DESCRIPTOR))
+}
+
+/// The fault of the test on applets, where there are some.
+fn applets_fault(
+    records: &Records,
+    info: &DescriptorInfo,
+    applets: &Result<Option<Applets>, LoadFault>,
+) -> Option<LoadFault>
+    ensures { result ≡ applets_fault records.now info.now (result_ok applets.now) }
+{
+    match applets {
+        Ok(Some(applets)) => unless(
+            applets_install(records, &info.classes, &info.types, applets),
+            APPLET,
+        ),
+        Ok(None) | Err(_) => None,
+    }
+}
+
+/// The fault of the tests with classes, where the layout of the Class component is used up.
+fn classes_fault(
+    records: &Option<Records>,
+    info: &DescriptorInfo,
+    applets: &Result<Option<Applets>, LoadFault>,
+    methods: &Result<MethodInfo, LoadFault>,
+) -> Option<LoadFault>
+    ensures { result ≡ classes_fault records.now info.now (result_ok applets.now) (result_ok methods.now) }
+{
+    let Some(records) = records else {
+        return None;
+    };
+    let interfaces = interface_offsets(records);
+    let rows_fit = rows_match(records, &info.classes) && methods_differ(&interfaces, &info.classes);
+    let fault = told(
+        methods_fault(&interfaces, info, methods),
+        unless(rows_fit, DESCRIPTOR),
+    );
+    told(applets_fault(records, info, applets), fault)
+}
+
+/// The fault of the test with the constant pool.
+fn pool_fault(pool: &Result<ConstantPool, LoadFault>, info: &DescriptorInfo) -> Option<LoadFault>
+    ensures { result ≡ pool_fault (result_ok pool.now) info.now }
+{
+    match pool {
+        Ok(pool) => unless(pool.len() == info.pool_types.len(), DESCRIPTOR),
+        Err(_) => None,
+    }
+}
+
+/// The fault of all tests across components, where the layout of the Descriptor component is used up.
+pub(crate) fn across_fault(
+    layout: &Result<DescriptorInfo, LoadFault>,
+    records: &Option<Records>,
+    pool: &Result<ConstantPool, LoadFault>,
+    applets: &Result<Option<Applets>, LoadFault>,
+    methods: &Result<MethodInfo, LoadFault>,
+) -> Option<LoadFault>
+    ensures { result ≡ across_fault (result_ok layout.now) records.now (result_ok pool.now) (result_ok applets.now) (result_ok methods.now) }
+{
+    match layout {
+        Ok(info) => told(
+            pool_fault(pool, info),
+            classes_fault(records, info, applets, methods),
+        ),
+        Err(_) => None,
+    }
+}

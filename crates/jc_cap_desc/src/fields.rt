@@ -1,0 +1,97 @@
+//! The fields of a class, with their types.
+
+ghost use Rattle.std.specs.Prelude.{◌≡◌, ◌∷◌, [], IfSome, IfNone};
+ghost use Rattle.jc_cap_desc.specs.Shape.{field_shape};
+ghost use Rattle.jc_cap_desc.specs.Types.{type_of_field};
+
+use crate::class_row::{FieldPlace, FieldRow, FieldRows, StatedType};
+use jc_base::{ClassRef, DeclaredType};
+use jc_cap_pool::Descriptors;
+use std::marker::Model;
+
+/// The type that a field's row states, if it states one.
+fn type_of_field(types: &Descriptors, stated: StatedType) -> Option<DeclaredType<ClassRef>>
+    ensures { result ≡ type_of_field types.now stated }
+{
+    match stated {
+        StatedType::Boolean => Some(DeclaredType::Boolean),
+        StatedType::Byte => Some(DeclaredType::Byte),
+        StatedType::Short => Some(DeclaredType::Short),
+        StatedType::Described { offset } => types.at(usize::from(offset))?.field_type(),
+        StatedType::Unknown => None,
+    }
+}
+
+/// A field of a class.
+#[derive(Drop)]
+pub struct Field {
+    place: FieldPlace,
+    declared: DeclaredType<ClassRef>,
+}
+
+impl Model for Field {
+    ghost use Rattle.jc_cap_desc.specs.Shape.{FieldShape};
+
+    ghost Value = { FieldShape };
+
+    ghost view = { λ f. record { place = f.place; type = f.declared } };
+}
+
+impl Field {
+    /// Where it stands.
+    pub fn place(&self) -> FieldPlace
+        ensures { result ≡ self.now.place }
+    {
+        self.place
+    }
+
+    /// Its type.
+    pub fn declared_type(&self) -> DeclaredType<ClassRef>
+        ensures { result ≡ self.now.type }
+    {
+        self.declared
+    }
+}
+
+/// The field that a row is of, if its type is there.
+fn field_of(types: &Descriptors, row: &FieldRow) -> Option<Field>
+    ensures { result ≡ field_shape types.now row.now }
+{
+    let declared = type_of_field(types, row.stated)?;
+    Some(Field {
+        place: row.place,
+        declared,
+    })
+}
+
+/// The fields of a class.
+#[derive(Drop)]
+pub struct Fields<'a> {
+    pub(crate) types: Descriptors<'a>,
+    pub(crate) left: FieldRows<'a>,
+}
+
+impl<'a> Model for Fields<'a> {
+    ghost use Rattle.std.specs.Prelude.{List};
+    ghost use Rattle.std.specs.List.{filter_map};
+    ghost use Rattle.jc_cap_desc.specs.Shape.{FieldShape, field_shape};
+
+    ghost Value = { List FieldShape };
+
+    ghost view = { λ f. filter_map (field_shape f.types) f.left };
+}
+
+impl<'a> Fields<'a> {
+    /// Takes the first field off, or answers `None` where there is none.
+    pub fn next(&mut self) -> Option<Field>
+        ensures some { IfSome result (λ field. self.old ≡ field ∷ self.new) }
+        ensures none { IfNone result ((self.old ≡ []) × (self.new ≡ [])) }
+    {
+        while let Some(row) = self.left.next() {
+            if let Some(field) = field_of(&self.types, &row) {
+                return Some(field);
+            }
+        }
+        None
+    }
+}

@@ -1,0 +1,29 @@
+//! The Descriptor component of an image, and a whole package.
+#![tactic(auto)]
+
+mod across;
+mod applets;
+mod class_row;
+mod classes;
+mod component;
+mod faults;
+mod fields;
+mod interfaces;
+mod methods;
+mod offsets;
+mod package;
+mod standing;
+mod type_index;
+mod types;
+
+pub use class_row::{
+    ClassRow, ClassRows, FieldPlace, FieldRow, FieldRows, MethodRow, MethodRows, StatedType,
+};
+pub use classes::{Class, Classes};
+pub use component::{DescriptorInfo, descriptor_layout, read_descriptor};
+pub use fields::{Field, Fields};
+pub use methods::{ClassMethod, ClassMethods};
+pub use package::{Package, read_package};
+
+#[cfg(test)]
+mod tests;

@@ -1,0 +1,132 @@
+//! The methods of a class, with their headers and types.
+
+ghost use Rattle.std.specs.Prelude.{◌≡◌, ◌∷◌, [], IfSome, IfNone};
+ghost use Rattle.jc_cap_desc.specs.PrivateShape.{header_if};
+ghost use Rattle.jc_cap_desc.specs.Shape.{method_shape};
+
+use crate::class_row::{MethodRow, MethodRows};
+use jc_cap_method::{MethodHeader, MethodInfo};
+use jc_cap_pool::{Descriptor, Descriptors};
+use std::marker::Model;
+
+/// A method of a class or an interface.
+#[derive(Drop)]
+pub struct ClassMethod<'a> {
+    row: MethodRow,
+    header: Option<MethodHeader>,
+    signature: Descriptor<'a>,
+}
+
+impl<'a> Model for ClassMethod<'a> {
+    ghost use Rattle.jc_cap_desc.specs.Shape.{MethodShape};
+
+    ghost Value = { MethodShape };
+
+    ghost view = { λ m. record {
+      token = m.row.token;
+      is_static = m.row.is_static;
+      offset = m.row.offset;
+      header = m.header;
+      signature = m.signature;
+    } };
+}
+
+impl<'a> ClassMethod<'a> {
+    /// Its token, which counts in an interface alone.
+    pub fn token(&self) -> u8
+        ensures { result ≡ self.now.token }
+    {
+        self.row.token
+    }
+
+    /// Whether it is static.
+    pub fn is_static(&self) -> bool
+        ensures { result ≡ self.now.is_static }
+    {
+        self.row.is_static
+    }
+
+    /// Where its header stands in the Method component, which counts in a class alone.
+    pub fn offset(&self) -> u16
+        ensures { result ≡ self.now.offset }
+    {
+        self.row.offset
+    }
+
+    /// Its header. An interface's methods have none.
+    pub fn header(&self) -> Option<MethodHeader>
+        ensures { result ≡ self.now.header }
+    {
+        self.header
+    }
+
+    /// What it takes and gives.
+    pub fn signature(&self) -> &Descriptor<'a>
+        ensures { result.now ≡ self.now.signature }
+    {
+        &self.signature
+    }
+}
+
+/// The header at an offset, if it counts.
+fn header_if(counts: bool, methods: &MethodInfo, offset: u16) -> Option<MethodHeader>
+    ensures { result ≡ header_if counts methods.now offset }
+{
+    if counts {
+        methods.header_at(offset)
+    } else {
+        None
+    }
+}
+
+/// The method that a row is of, if its type is there.
+fn method_of<'a>(
+    types: &Descriptors<'a>,
+    header: Option<MethodHeader>,
+    row: MethodRow,
+) -> Option<ClassMethod<'a>>
+    ensures { result ≡ method_shape types.now (λ _. header) row }
+{
+    let signature = types.at(usize::from(row.type_offset))?;
+    Some(ClassMethod {
+        row,
+        header,
+        signature,
+    })
+}
+
+/// The methods of a class or an interface.
+#[derive(Drop)]
+pub struct ClassMethods<'p, 'a> {
+    pub(crate) types: Descriptors<'a>,
+    pub(crate) bodies: &'p MethodInfo<'a>,
+    pub(crate) is_class: bool,
+    pub(crate) left: MethodRows<'a>,
+}
+
+impl<'p, 'a> Model for ClassMethods<'p, 'a> {
+    ghost use Rattle.std.specs.Prelude.{List};
+    ghost use Rattle.std.specs.List.{filter_map};
+    ghost use Rattle.jc_cap_desc.specs.Shape.{MethodShape, method_shape};
+    ghost use Rattle.jc_cap_desc.specs.PrivateShape.{header_if};
+
+    ghost Value = { List MethodShape };
+
+    ghost view = { λ m. filter_map (method_shape m.types (header_if m.is_class m.bodies.now)) m.left };
+}
+
+impl<'p, 'a> ClassMethods<'p, 'a> {
+    /// Takes the first method off, or answers `None` where there is none.
+    pub fn next(&mut self) -> Option<ClassMethod<'a>>
+        ensures some { IfSome result (λ method. self.old ≡ method ∷ self.new) }
+        ensures none { IfNone result ((self.old ≡ []) × (self.new ≡ [])) }
+    {
+        while let Some(row) = self.left.next() {
+            let header = header_if(self.is_class, self.bodies, row.offset);
+            if let Some(method) = method_of(&self.types, header, row) {
+                return Some(method);
+            }
+        }
+        None
+    }
+}

@@ -1,0 +1,257 @@
+//! A whole package.
+
+ghost use Rattle.std.specs.Prelude.{◌≡◌, ◌≤◌, length, slice_get};
+ghost use Rattle.std.specs.Option.{option_and_then};
+ghost use Rattle.jc_cap_desc.specs.Package.{layout_in, package_fault, package_of};
+ghost use Rattle.jc_cap_desc.specs.PrivatePackage.{records_in, components_in, class_fault_in, component_fault_in, HasFewRows, HasFewRecords, joined};
+
+use crate::classes::Classes;
+use crate::component::{DescriptorInfo, descriptor_layout, read_descriptor};
+use crate::faults::{across_fault, fault_of, told};
+use crate::types::NO_TYPE;
+use jc_base::{LoadFault, PackageInfo, Parts};
+use jc_cap_class::{Records, class_layout, read_class};
+use jc_cap_data::{
+    Applets, Exports, Imports, StaticFields, read_applets, read_exports, read_imports,
+    read_static_fields,
+};
+use jc_cap_head::{Header, read_header};
+use jc_cap_method::{MethodInfo, read_method};
+use jc_cap_pool::{ConstantPool, Descriptor, read_pool};
+use std::marker::Model;
+
+/// A package, lent from its image.
+#[derive(Drop)]
+pub struct Package<'a> {
+    header: Header<'a>,
+    applets: Option<Applets<'a>>,
+    imports: Imports<'a>,
+    pool: ConstantPool<'a>,
+    records: Records<'a>,
+    methods: MethodInfo<'a>,
+    statics: StaticFields<'a>,
+    exports: Exports<'a>,
+    descriptor: DescriptorInfo<'a>,
+}
+
+impl<'a> Model for Package<'a> {
+    ghost use Rattle.std.specs.Prelude.{◌≤◌, length};
+    ghost use Rattle.jc_cap_desc.specs.Shape.{Package as PackageRecord, shape_of, body_of};
+
+    ghost Value = { PackageRecord };
+
+    ghost view = { λ p. record {
+      shape = shape_of p.header.«package» p.imports p.exports p.records p.descriptor p.methods;
+      body = body_of p.header.name p.applets p.pool p.statics p.records p.descriptor p.methods;
+    } };
+
+    ghost invariant = { λ p. length p.records ≤ 255 };
+}
+
+impl<'a> Package<'a> {
+    /// The package's own AID and version.
+    pub fn package(&self) -> PackageInfo
+        ensures { result ≡ self.now.shape.«package» }
+    {
+        self.header.package()
+    }
+
+    /// The package's name in UTF-8, which isn't looked at. It is empty where there is none.
+    pub fn name(&self) -> &'a [u8]
+        ensures { result.now ≡ self.now.body.name }
+    {
+        self.header.name()
+    }
+
+    /// The applets, or `None` where the package is a library.
+    pub fn applets(&self) -> Option<Applets<'a>>
+        ensures { result ≡ self.now.body.applets }
+    {
+        match &self.applets {
+            Some(applets) => Some(applets.again()),
+            None => None,
+        }
+    }
+
+    /// The packages that are imported, by their package tokens.
+    pub fn imports(&self) -> Imports<'a>
+        ensures { result ≡ self.now.shape.imports }
+    {
+        self.imports.again()
+    }
+
+    /// The classes that are exported, by their class tokens.
+    pub fn exports(&self) -> Exports<'a>
+        ensures { result ≡ self.now.shape.exports }
+    {
+        self.exports.again()
+    }
+
+    /// The classes and interfaces, in the order of their records: each has a row, and a byte counts the rows.
+    #[tactic(auto, using(crate::proofs::Few::fewer))]
+    pub fn classes(&self) -> Classes<'_, 'a>
+        ensures classes { result ≡ self.now.shape.classes }
+        ensures few { length self.now.shape.classes ≤ 255 }
+    {
+        Classes {
+            info: &self.descriptor,
+            bodies: &self.methods,
+            left: self.records.again(),
+        }
+    }
+
+    /// The constant pool.
+    pub fn pool(&self) -> ConstantPool<'a>
+        ensures { result ≡ self.now.body.pool }
+    {
+        self.pool.again()
+    }
+
+    /// The type of the constant pool's entry at an index, or `None` where it has none.
+    pub fn pool_type(&self, index: u16) -> Option<Descriptor<'a>>
+        ensures { result ≡ option_and_then (λ type. type) (slice_get self.now.body.pool_types index) }
+    {
+        let offset = self.descriptor.pool_types.get(usize::from(index))?;
+        if offset == NO_TYPE {
+            return None;
+        }
+        self.descriptor.types.at(usize::from(offset))
+    }
+
+    /// The static fields.
+    pub fn statics(&self) -> &StaticFields<'a>
+        ensures { result.now ≡ self.now.body.statics }
+    {
+        &self.statics
+    }
+}
+
+/// Each component as it is read alone.
+#[derive(Drop)]
+struct Components<'a> {
+    header: Result<Header<'a>, LoadFault>,
+    applets: Result<Option<Applets<'a>>, LoadFault>,
+    imports: Result<Imports<'a>, LoadFault>,
+    pool: Result<ConstantPool<'a>, LoadFault>,
+    records: Result<Records<'a>, LoadFault>,
+    methods: Result<MethodInfo<'a>, LoadFault>,
+    statics: Result<StaticFields<'a>, LoadFault>,
+    exports: Result<Exports<'a>, LoadFault>,
+    descriptor: Result<DescriptorInfo<'a>, LoadFault>,
+}
+
+/// The records of the Class component, which is of the Header's format.
+fn read_records<'a>(
+    parts: &Parts<'a>,
+    header: &Result<Header, LoadFault>,
+) -> Result<Records<'a>, LoadFault>
+    ensures { result ≡ records_in header.now parts.now.class }
+{
+    match header {
+        Ok(header) => read_class(parts, header.format()),
+        Err(fault) => Err(*fault),
+    }
+}
+
+/// Reads each component alone.
+fn read_components<'a>(parts: &Parts<'a>) -> Components<'a>
+    ensures read { result ≡ components_in parts.now }
+    ensures few { HasFewRows result }
+{
+    let header = read_header(parts);
+    let records = read_records(parts, &header);
+    Components {
+        header,
+        applets: read_applets(parts),
+        imports: read_imports(parts),
+        pool: read_pool(parts),
+        records,
+        methods: read_method(parts),
+        statics: read_static_fields(parts),
+        exports: read_exports(parts),
+        descriptor: read_descriptor(parts),
+    }
+}
+
+/// The records as the layout of the Class component has them, remote ones too.
+fn layout_in<'a>(parts: &Parts<'a>, header: &Result<Header, LoadFault>) -> Option<Records<'a>>
+    ensures { result ≡ layout_in header.now parts.now.class }
+{
+    match header {
+        Ok(header) => class_layout(parts, header.format()).ok(),
+        Err(_) => None,
+    }
+}
+
+/// The fault of the Class component. Where the Header has one, that is told before.
+fn class_fault(found: &Components) -> Option<LoadFault>
+    ensures { result ≡ class_fault_in found.now.header found.now.records }
+{
+    match &found.header {
+        Ok(_) => fault_of(&found.records),
+        Err(_) => None,
+    }
+}
+
+/// The fault of one component that is told.
+fn component_fault(found: &Components) -> Option<LoadFault>
+    ensures { result ≡ component_fault_in found.now }
+{
+    let fault = fault_of(&found.descriptor);
+    let fault = told(fault_of(&found.exports), fault);
+    let fault = told(fault_of(&found.statics), fault);
+    let fault = told(fault_of(&found.methods), fault);
+    let fault = told(class_fault(found), fault);
+    let fault = told(fault_of(&found.pool), fault);
+    let fault = told(fault_of(&found.imports), fault);
+    let fault = told(fault_of(&found.applets), fault);
+    told(fault_of(&found.header), fault)
+}
+
+/// The fault that is told.
+fn package_fault(parts: &Parts, found: &Components) -> Option<LoadFault>
+    ensures { found.now ≡ components_in parts.now → result ≡ package_fault parts.now }
+{
+    let layout = descriptor_layout(parts);
+    let records = layout_in(parts, &found.header);
+    let fault = across_fault(
+        &layout,
+        &records,
+        &found.pool,
+        &found.applets,
+        &found.methods,
+    );
+    told(component_fault(found), fault)
+}
+
+/// The package, where all components were read.
+#[tactic(auto, unfolding(crate::specs::PrivatePackage::joined))]
+fn joined<'a>(found: Components<'a>) -> Result<Package<'a>, LoadFault>
+    requires { HasFewRecords found }
+    ensures { result ≡ joined found.entry }
+{
+    Ok(Package {
+        header: found.header?,
+        applets: found.applets?,
+        imports: found.imports?,
+        pool: found.pool?,
+        records: found.records?,
+        methods: found.methods?,
+        statics: found.statics?,
+        exports: found.exports?,
+        descriptor: found.descriptor?,
+    })
+}
+
+/// Reads a whole package of an image: all components, and then what they say of one another. Of several refusals the
+/// one with the smallest number is told, and of `Malformed` the one with the least tag.
+#[tactic(auto, using(crate::proofs::Joined::joined_is, crate::proofs::Few::few_in))]
+pub fn read_package<'a>(parts: &Parts<'a>) -> Result<Package<'a>, LoadFault>
+    ensures { result ≡ package_of parts.now }
+{
+    let found = read_components(parts);
+    match package_fault(parts, &found) {
+        Some(fault) => Err(fault),
+        None => joined(found),
+    }
+}

@@ -1,0 +1,72 @@
+//! An index of type descriptors.
+
+ghost use Rattle.std.specs.Prelude.{◌≡◌, ◌∷◌};
+ghost use Rattle.jc_cap_desc.specs.Across.{is_install_signature};
+ghost use Rattle.jc_cap_desc.specs.PrivateTypes.{IndexedSoFar, IndexesTypes, PlacedTypes};
+
+use crate::offsets::{mark, put};
+use jc_base::{DeclaredType, NumberSet, Placed, ReturnType};
+use jc_cap_pool::{Descriptor, Descriptors};
+
+/// The offsets at which type descriptors begin.
+#[derive(Drop)]
+pub(crate) struct TypeIndex {
+    /// Those of all.
+    pub(crate) starts: NumberSet,
+    /// Those of the types of fields.
+    pub(crate) fields: NumberSet,
+    /// Those of what an install method takes and gives.
+    pub(crate) installs: NumberSet,
+}
+
+/// Whether a descriptor is an install method's.
+fn is_install_signature(descriptor: &Descriptor) -> bool
+    ensures { result ≡ is_install_signature descriptor.now }
+{
+    let mut parameters = descriptor.parameters();
+    let Some(DeclaredType::ByteArray) = parameters.next() else {
+        return false;
+    };
+    let Some(DeclaredType::Short) = parameters.next() else {
+        return false;
+    };
+    let Some(DeclaredType::Byte) = parameters.next() else {
+        return false;
+    };
+    if !parameters.is_empty() {
+        return false;
+    }
+    match descriptor.result() {
+        ReturnType::Void => true,
+        ReturnType::Value(_) => false,
+    }
+}
+
+impl TypeIndex {
+    /// The index of descriptors, in one pass over them.
+    pub(crate) fn of(types: &Descriptors) -> TypeIndex
+        ensures { IndexesTypes result types.now }
+    {
+        let mut index = TypeIndex {
+            starts: NumberSet::empty(),
+            fields: NumberSet::empty(),
+            installs: NumberSet::empty(),
+        };
+        let mut left = types.again();
+        while let Some(placed) = left.next() {
+            index.add(&placed);
+        }
+        index
+    }
+
+    /// Puts in where a descriptor begins.
+    fn add(&mut self, placed: &Placed<Descriptor>)
+        ensures { (types left : PlacedTypes) → IndexedSoFar types self.old (placed.now ∷ left) → IndexedSoFar types self.new left }
+    {
+        let is_field = placed.row.field_type().is_some();
+        mark(&self.starts, &mut self.fields, placed.offset, is_field);
+        let is_install = is_install_signature(&placed.row);
+        mark(&self.starts, &mut self.installs, placed.offset, is_install);
+        put(&mut self.starts, placed.offset);
+    }
+}

@@ -1,0 +1,10 @@
+mod Copied
+mod Growing
+mod Numbering
+mod Small
+mod Walking
+mod Marking
+mod Passing
+mod Below
+mod Least
+mod Implemented

@@ -1,0 +1,130 @@
+-- Lists by numbers and tokens, one more at a time.
+use Rattle.std.proofs.Common.{◌≡◌, ℕ, zero, suc, ◌+◌, ◌<◌, ◌≤◌, Bool, true, cond, max, map, ◌⊎◌, inl, inr, List, [], ◌∷◌, ◌++◌, length, nat_le, Option, Some, None, refl, ap, ◌∙◌, subst, add-one, length-append, arith}
+use Rattle.std.specs.List.{slice_get, list_all, filter_map, cons_option, find, range_with_len}
+use Rattle.std.specs.Option.{option_or, option_to_list}
+use Rattle.std.proofs.lemmas.Bool.{leb-true, cases_lt, lt-ltb, le-ltb}
+use Rattle.std.proofs.lemmas.List.{map-append}
+use Rattle.std.proofs.lemmas.List.Elements.{filter_map-append}
+use Rattle.std.proofs.lemmas.List.Folds.{find-append}
+use Rattle.jc_base.proofs.Binding.{both_true, the_some}
+use Rattle.jc_cap_desc.specs.Shape.{Shape}
+use Rattle.jc_api.specs.Bound.{Bound}
+use Rattle.jc_api.specs.Member.{ApiMember, members, member_of, shown}
+use Rattle.jc_api.specs.declared.class.ApiPackage.TheVariants.{Lang, Framework}
+use Rattle.jc_api.specs.declared.member.Member.{Member}
+use Rattle.jc_classes.specs.Api.{those_to, each_below, room_for, room_to, is_token, number_to, class_shape_of, api_world, last_class}
+use Rattle.jc_classes.specs.PrivateApi.{with_room, if_token}
+use Rattle.jc_classes.specs.Limits.{IsSmall, most_classes_of_one}
+
+range_more : (a n : ℕ) → range_with_len a (suc n) ≡ range_with_len a n ++ (a + n) ∷ []
+range_more a zero = let e : a ≡ a + 0 = omega arith in ap (λ m. m ∷ []) e
+range_more a (suc n) =
+    let e : a + 1 + n ≡ a + suc n = omega arith in
+    ap (λ (xs : List ℕ). a ∷ xs) (range_more (a + 1) n) ∙ ap (λ m. a ∷ (range_with_len (a + 1) n ++ m ∷ [])) e
+
+one_mapped : {A : Type 0} (f : ℕ → Option A) (n : ℕ) → filter_map f (n ∷ []) ≡ option_to_list (f n)
+one_mapped f n = by_one (f n)
+  where
+    by_one : {A : Type 0} (o : Option A) → cons_option o [] ≡ option_to_list o
+    by_one None = refl
+    by_one (Some x) = refl
+
+-- what stands for one number more
+mapped_more : {A : Type 0} (f : ℕ → Option A) (n : ℕ) → filter_map f (range_with_len 1 (suc n)) ≡ filter_map f (range_with_len 1 n) ++ option_to_list (f (suc n))
+mapped_more f n =
+    let e : 1 + n ≡ suc n = omega arith in
+    ap (filter_map f) (range_more 1 n) ∙ filter_map-append f (range_with_len 1 n) ((1 + n) ∷ [])
+    ∙ ap (λ ys. filter_map f (range_with_len 1 n) ++ ys) (one_mapped f (1 + n) ∙ ap (λ m. option_to_list (f m)) e)
+
+those_suc : {A : Type 0} (f : ℕ → Option A) (n : ℕ) → those_to (suc n) f ≡ those_to n f ++ option_to_list (f (suc n))
+unfolding those_to
+those_suc f n = mapped_more f n
+
+pub those_more : {A : Type 0} (f : ℕ → Option A) (n : ℕ) → those_to (n + 1) f ≡ those_to n f ++ option_to_list (f (n + 1))
+those_more f n = rw (add-one n) (those_suc f n)
+
+pub those_none : {A : Type 0} (f : ℕ → Option A) → those_to 0 f ≡ []
+unfolding those_to
+those_none f = refl
+
+pub each_more : {A : Type 0} (f : ℕ → A) (n : ℕ) → each_below (n + 1) f ≡ each_below n f ++ f n ∷ []
+unfolding each_below
+each_more f n =
+    let e : 0 + n ≡ n = omega arith in
+    rw (add-one n) (ap (map f) (range_more 0 n) ∙ ap (λ m. map f (range_with_len 0 n ++ m ∷ [])) e ∙ map-append f (range_with_len 0 n) (n ∷ []))
+
+pub each_none : {A : Type 0} (f : ℕ → A) → each_below 0 f ≡ []
+unfolding each_below
+each_none f = refl
+
+room_behind : (tokens : List ℕ) (more : Option ℕ) → room_for (tokens ++ option_to_list more) ≡ with_room (room_for tokens) more
+room_behind [] None = refl
+room_behind [] (Some t) = rw (le-ltb t 0 (omega arith)) (omega arith)
+room_behind (token ∷ tokens) None = ap (max (token + 1)) (room_behind tokens None)
+room_behind (token ∷ tokens) (Some t) = ap (max (token + 1)) (room_behind tokens (Some t)) ∙ by_order (cases_lt t (room_for tokens)) (cases_lt t (max (token + 1) (room_for tokens)))
+  where
+    by_order : (t < room_for tokens) ⊎ (room_for tokens ≤ t) → (t < max (token + 1) (room_for tokens)) ⊎ (max (token + 1) (room_for tokens) ≤ t)
+        → max (token + 1) (with_room (room_for tokens) (Some t)) ≡ with_room (max (token + 1) (room_for tokens)) (Some t)
+    by_order (inl h) (inl k) = rw (lt-ltb t (room_for tokens) h, lt-ltb t (max (token + 1) (room_for tokens)) k) refl
+    by_order (inl h) (inr k) = absurd (omega arith)
+    by_order (inr h) (inl k) = rw (le-ltb t (room_for tokens) h, lt-ltb t (max (token + 1) (room_for tokens)) k) (omega arith)
+    by_order (inr h) (inr k) = rw (le-ltb t (room_for tokens) h, le-ltb t (max (token + 1) (room_for tokens)) k) (omega arith)
+
+pub room_more : (tokens : ℕ → Option ℕ) (n : ℕ) → room_to (n + 1) tokens ≡ with_room (room_to n tokens) (tokens (n + 1))
+unfolding room_to
+room_more tokens n = rw (add-one n) (ap room_for (mapped_more tokens n) ∙ room_behind (filter_map tokens (range_with_len 1 n)) (tokens (suc n)))
+
+pub room_none : (tokens : ℕ → Option ℕ) → room_to 0 tokens ≡ 0
+unfolding room_to
+room_none tokens = refl
+
+pub number_more : (tokens : ℕ → Option ℕ) (n token : ℕ) → number_to (n + 1) tokens token ≡ option_or (number_to n tokens token) (if_token token (n + 1) (tokens (n + 1)))
+unfolding number_to
+number_more tokens n token =
+    let e : 1 + n ≡ suc n = omega arith in
+    rw (add-one n) (ap (find has) (range_more 1 n) ∙ find-append has (range_with_len 1 n) ((1 + n) ∷ [])
+    ∙ ap (λ m. option_or (find has (range_with_len 1 n)) (find has (m ∷ []))) e ∙ ap (option_or (find has (range_with_len 1 n))) (by_one (suc n) (tokens (suc n))))
+  where
+    has : ℕ → Bool
+    has number = is_token token (tokens number)
+
+    by_one : (m : ℕ) (o : Option ℕ) → cond (is_token token o) (Some m) None ≡ if_token token m o
+    by_one m None = refl
+    by_one m (Some t) = refl
+
+pub number_none : (tokens : ℕ → Option ℕ) (token : ℕ) → number_to 0 tokens token ≡ None
+unfolding number_to
+number_none tokens token = refl
+
+-- members have few parameters
+abbrev has_few : ApiMember → Bool
+has_few m = nat_le (length m.signature.parameters) 5
+
+all_few : (rows : List ApiMember) → list_all has_few rows ≡ true → (n : ℕ) (m : ApiMember) → slice_get rows n ≡ Some m → has_few m ≡ true
+all_few [] all n m e = absurd cc
+all_few (row ∷ rows) all zero m e = let P : ApiMember → Type 0 = λ r. has_few r ≡ true in subst P (the_some row m e) (both_true (has_few row) _ all).0
+all_few (row ∷ rows) all (suc n) m e = all_few rows (both_true (has_few row) _ all).1 n m e
+
+member_few : (number : ℕ) (m : ApiMember) → member_of number ≡ Some m → has_few m ≡ true
+member_few zero m e = absurd cc
+member_few (suc n) m e = all_few members refl n m e
+
+pub few_parameters : (number : ℕ) (m : Member) → member_of number ≡ Some (shown m) → length m.parameters.now < 255
+few_parameters number m e = let h = leb-true (length m.parameters.now) 5 (member_few number (shown m) e) in omega (arith, h)
+
+-- no more than their numbers
+those_few : {A : Type 0} (f : ℕ → Option A) (n : ℕ) → length (those_to n f) ≤ n
+those_few f zero = rw (those_none f) (omega arith)
+those_few {A = A} f (suc n) = rw (those_suc f n) (by_one (f (suc n)) (those_few f n))
+  where
+    by_one : (o : Option A) → length (those_to n f) ≤ n → length (those_to n f ++ option_to_list o) ≤ suc n
+    by_one None h = omega (arith, length-append (those_to n f) [])
+    by_one (Some x) h = omega (arith, length-append (those_to n f) (x ∷ []))
+
+pub api_is_small : (bound : Bound) → IsSmall (api_world bound)
+api_is_small bound = record { packages = omega arith; classes = each }
+  where
+    each : (i : ℕ) (shape : Shape) → slice_get (api_world bound) i ≡ Some shape → length shape.classes ≤ most_classes_of_one
+    each zero shape e = let P : Shape → Type 0 = λ s. length s.classes ≤ most_classes_of_one in let h = those_few (class_shape_of bound Lang) last_class in subst P (the_some _ _ e) (omega arith)
+    each (suc zero) shape e = let P : Shape → Type 0 = λ s. length s.classes ≤ most_classes_of_one in let h = those_few (class_shape_of bound Framework) last_class in subst P (the_some _ _ e) (omega arith)
+    each (suc (suc i)) shape e = absurd cc

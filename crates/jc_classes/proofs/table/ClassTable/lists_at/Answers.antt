@@ -1,0 +1,10 @@
+use Rattle.std.proofs.Common.{sym, ap, ◌∙◌}
+use Rattle.std.specs.Option.{option_map}
+use Rattle.jc_cap_desc.specs.Shape.{ClassShape}
+use Rattle.jc_classes.proofs.Implemented.{listing_yes}
+use Rattle.jc_classes.proofs.table.ClassTable.lists_at.Goals as goal
+
+pub returns : goal.returns
+returns c =
+    listing_yes c.args.self.now c.args.marks.now c.args.interface c.args.home c.args.index c.in-Some.class.now _ c.lists.result
+    (sym c.class_placed.ensures ∙ ap (option_map (λ k. k.now)) c.in-Some.is) (ap (λ (k : ClassShape). k.body) c.class.view_is) (sym c.contains.ensures ∙ c.if-not-contains.false) c.lists.ensures

@@ -1,0 +1,12 @@
+pub mod World
+pub mod Names
+pub mod Walk
+pub mod Methods
+pub mod Subtype
+pub mod Growth
+pub mod PrivateShape
+pub mod PrivateWalk
+pub mod PrivateSearch
+pub mod Limits
+pub mod Api
+pub mod PrivateApi

@@ -1,0 +1,57 @@
+-- Which class is below which (Java Card Virtual Machine Specification, Verification types; Java Language Specification,
+-- Subtyping).
+use Rattle.std.specs.Prelude.{◌≡◌, ◌⊎◌, ℕ, zero, suc, Bool, true, false, not, Some, List, [], ◌∷◌}
+use Rattle.std.specs.Option.{option_map_or}
+use Rattle.jc_cap_class.specs.Component.{is_class}
+use Rattle.jc_cap_desc.specs.Shape.{Shape}
+use Rattle.jc_api.specs.declared.class.ApiClass.TheVariants.{Object}
+use Rattle.jc_classes.specs.Walk.{most_classes}
+use Rattle.jc_classes.specs.World.{class_at, superclass_of, interfaces_of}
+use Rattle.jc_classes.specs.declared.name.ClassName.{ClassName}
+use Rattle.jc_classes.specs.declared.name.ClassName.TheVariants.{Api}
+
+-- a class is among classes
+abbrev pub IsAmong : ClassName → List ClassName → Type 0
+IsAmong c [] = ⊥
+IsAmong c (d ∷ classes) = (d ≡ c) ⊎ IsAmong c classes
+
+-- a class lists an interface, by its own record
+abbrev pub Lists : List Shape → ClassName → ClassName → Type 0
+Lists world c i = IsAmong i (interfaces_of world c)
+
+-- the least relation in which each class is below itself and below Object, and below all that its superclass and its
+-- interfaces are below
+pub data IsSubtype (world : List Shape) : ClassName → ClassName → Type 0 where
+  same : (c : ClassName) → IsSubtype world c c
+  object : (c : ClassName) → IsSubtype world c (Api Object)
+  by_superclass : (c d e : ClassName) → superclass_of world c ≡ Some d → IsSubtype world d e → IsSubtype world c e
+  by_interface : (c i e : ClassName) → Lists world c i → IsSubtype world i e → IsSubtype world c e
+
+-- the least relation in which a class implements what it lists, and what its superclass and its interfaces implement
+pub data Implements (world : List Shape) : ClassName → ClassName → Type 0 where
+  listed : (c i : ClassName) → Lists world c i → Implements world c i
+  by_superclass : (c d i : ClassName) → superclass_of world c ≡ Some d → Implements world d i → Implements world c i
+  by_interface : (c j i : ClassName) → Lists world c j → Implements world j i → Implements world c i
+
+-- a class stands there, or an interface
+abbrev pub is_class_at : List Shape → ClassName → Bool
+is_class_at world c = option_map_or (λ k. is_class k.body) (class_at world c) false
+
+abbrev pub is_interface_at : List Shape → ClassName → Bool
+is_interface_at world c = option_map_or (λ k. not (is_class k.body)) (class_at world c) false
+
+-- the superclasses of a class come to an end within so many classes
+abbrev pub comes_to_end : List Shape → ℕ → ClassName → Bool
+comes_to_end world zero c = false
+comes_to_end world (suc n) c = option_map_or (comes_to_end world n) (superclass_of world c) true
+
+-- no class's superclasses lead round, and what is listed as an interface is one
+pub record IsOrderly (world : List Shape) : Type 0 where
+  pub ends : (c : ClassName) → comes_to_end world most_classes c ≡ true
+  pub interfaces : (c i : ClassName) → Lists world c i → is_interface_at world i ≡ true
+
+-- a class is above both of two, and below each other class that is
+pub record IsLeastAbove (world : List Shape) (one other above : ClassName) : Type 0 where
+  pub first : IsSubtype world one above
+  pub second : IsSubtype world other above
+  pub least : (e : ClassName) → is_class_at world e ≡ true → IsSubtype world one e → IsSubtype world other e → IsSubtype world above e

@@ -1,0 +1,103 @@
+-- A world: the shapes of the API's two packages, and of the loaded packages in the order in which they were loaded. Where
+-- classes stand in it, and what references to classes lead to (Java Card Virtual Machine Specification, CAP file format:
+-- class_ref; Linking).
+use Rattle.std.specs.Prelude.{ℕ, zero, suc, ◌-◌, ◌==◌, Bool, ◌&&◌, List, [], map, take, Option, Some, None, is_some, slice_get, nat_lt, nat_le, bytes_eq, if◌then◌else◌}
+use Rattle.std.specs.List.{find, filter_map, position}
+use Rattle.std.specs.Option.{option_and_then, option_map_or}
+use Rattle.jc_base.specs.declared.class_ref.ClassRef.{ClassRef}
+use Rattle.jc_base.specs.declared.class_ref.ClassRef.TheVariants.{Internal, External}
+use Rattle.jc_base.specs.declared.package_info.PackageInfo.{PackageInfo}
+use Rattle.jc_cap_class.specs.declared.record.RecordBody.{RecordBody}
+use Rattle.jc_cap_class.specs.declared.record.RecordBody.TheVariants.{Interface, Class}
+use Rattle.jc_cap_desc.specs.Shape.{ClassShape, Shape}
+use Rattle.jc_api.specs.Class.{class_of, number_of, package_of}
+use Rattle.jc_api.specs.declared.class.ApiPackage.{ApiPackage}
+use Rattle.jc_api.specs.declared.class.ApiPackage.TheVariants.{Lang, Framework}
+use Rattle.jc_classes.specs.declared.name.ClassName.{ClassName}
+use Rattle.jc_classes.specs.declared.name.ClassName.TheVariants.{Api, Loaded}
+
+-- where a package of the API stands in the world
+abbrev pub api_home : ApiPackage → ℕ
+api_home Lang = 0
+api_home Framework = 1
+
+-- where a class's package stands in the world: the loaded ones behind those of the API
+abbrev pub home_of : ClassName → ℕ
+home_of (Api class) = api_home (package_of class)
+home_of (Loaded number offset) = suc number
+
+-- where a class stands in its package: those of the API at their numbers
+abbrev pub offset_of : ClassName → ℕ
+offset_of (Api class) = number_of class
+offset_of (Loaded number offset) = offset
+
+-- the class of the API with a number, if it is in the package that stands there
+abbrev pub api_name : ℕ → ℕ → Option ClassName
+api_name home number = option_and_then (λ class. if api_home (package_of class) == home then Some (Api class) else None) (class_of number)
+
+-- the name of the class at an offset of the package that stands there
+abbrev pub name_in : ℕ → ℕ → Option ClassName
+name_in home offset = if nat_lt home 2 then api_name home offset else Some (Loaded (home - 1) offset)
+
+-- the class at an offset of a package
+abbrev pub class_in : ℕ → Shape → Option ClassShape
+class_in offset shape = find (λ k. k.offset == offset) shape.classes
+
+-- the package of a class; loaded ones are numbered from 1 on
+abbrev pub package_at : List Shape → ClassName → Option Shape
+package_at world (Api class) = slice_get world (api_home (package_of class))
+package_at world (Loaded zero offset) = None
+package_at world (Loaded (suc n) offset) = slice_get world (suc (suc n))
+
+-- the class that has a name
+abbrev pub class_at : List Shape → ClassName → Option ClassShape
+class_at world c = option_and_then (class_in (offset_of c)) (package_at world c)
+
+-- whether a package meets an import: its AID and its major version are those, and its minor version isn't smaller
+abbrev pub meets : PackageInfo → Shape → Bool
+meets wanted shape =
+    bytes_eq wanted.aid shape.«package».aid && wanted.major == shape.«package».major && nat_le wanted.minor shape.«package».minor
+
+-- where the package stands that meets the import with a token: among those before, the first
+abbrev pub import_of : List Shape → ℕ → ℕ → Option ℕ
+import_of world home token =
+    option_and_then (λ wanted. position (meets wanted) (take home world))
+    (option_and_then (λ shape. slice_get shape.imports token) (slice_get world home))
+
+-- the class that a package exports under a token
+abbrev pub exported_class : List Shape → ℕ → ℕ → Option ClassName
+exported_class world home token =
+    option_and_then (λ row. name_in home row.class)
+    (option_and_then (λ shape. slice_get shape.exports token) (slice_get world home))
+
+-- what a reference spells in the package that stands there
+abbrev pub class_spelled : List Shape → ℕ → ClassRef → Option ClassName
+class_spelled world home (Internal offset) = name_in home offset
+class_spelled world home (External import class) = option_and_then (λ there. exported_class world there class) (import_of world home import)
+
+-- a name that a class has
+abbrev pub if_there : List Shape → ClassName → Option ClassName
+if_there world c = if is_some (class_at world c) then Some c else None
+
+-- the class that a reference of the package that stands there finds
+abbrev pub class_named : List Shape → ℕ → ClassRef → Option ClassName
+class_named world home ref = option_and_then (if_there world) (class_spelled world home ref)
+
+-- the superclass that a record names
+abbrev pub superclass_ref : RecordBody → Option ClassRef
+superclass_ref (Interface r) = None
+superclass_ref (Class r) = r.superclass
+
+-- the interfaces that a record lists
+abbrev pub listed_refs : RecordBody → List ClassRef
+listed_refs (Interface r) = map (λ i. i.interface) r.superinterfaces
+listed_refs (Class r) = map (λ i. i.interface) r.interfaces
+
+-- the superclass of a class, found anew
+abbrev pub superclass_of : List Shape → ClassName → Option ClassName
+superclass_of world c =
+    option_and_then (class_named world (home_of c)) (option_and_then (λ k. superclass_ref k.body) (class_at world c))
+
+-- the interfaces that a class or an interface lists, found anew
+abbrev pub interfaces_of : List Shape → ClassName → List ClassName
+interfaces_of world c = option_map_or (λ k. filter_map (class_named world (home_of c)) (listed_refs k.body)) (class_at world c) []

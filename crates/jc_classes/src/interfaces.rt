@@ -1,0 +1,123 @@
+//! Look-ups of the methods of interfaces.
+
+ghost use Rattle.std.specs.Prelude.{◌≡◌, ◌+◌, ◌≤◌};
+ghost use Rattle.std.specs.Option.{option_map};
+ghost use Rattle.jc_classes.specs.Methods.{is_this, row_for, listing_visit, interface_visit, virtual_method_of, interface_method_of};
+ghost use Rattle.jc_classes.specs.PrivateShape.{record_of};
+ghost use Rattle.jc_classes.specs.PrivateWalk.{step_map, visit_map, step_of};
+ghost use Rattle.jc_classes.specs.Walk.{found};
+ghost use Rattle.jc_classes.specs.World.{class_named};
+
+use crate::methods::PACKAGE_VISIBLE;
+use crate::name::{ClassName, MethodName};
+use crate::shape::{Body, ImplementedInterface};
+use crate::table::ClassTable;
+use crate::walk::{MOST_CLASSES, Step, Visit};
+use jc_base::ClassRef;
+
+impl ClassTable {
+    /// Whether a reference, as it is spelled in the package that stands there, names a class.
+    pub(crate) fn names(&self, class: ClassName, home: usize, reference: ClassRef) -> bool
+        requires { home ≤ 256 }
+        ensures { result ≡ is_this class (class_named self.now home reference) }
+    {
+        match self.class_named(home, reference) {
+            Some(found) => found.is(class),
+            None => false,
+        }
+    }
+
+    /// The first of a class's rows for an interface.
+    fn row_for<'a>(
+        &self,
+        interface: ClassName,
+        home: usize,
+        rows: &'a [ImplementedInterface],
+    ) -> Option<&'a ImplementedInterface>
+        requires { home ≤ 256 }
+        ensures { option_map (λ row. row.now) result ≡ row_for self.now interface home rows.now }
+    {
+        rows.iter()
+            .find(|row| self.names(interface, home, row.interface))
+    }
+
+    /// A record at an interface.
+    fn listing_visit<'a>(
+        &self,
+        interface: ClassName,
+        home: usize,
+        body: &'a Body,
+    ) -> Visit<&'a ImplementedInterface>
+        requires { home ≤ 256 }
+        ensures { visit_map (λ row. row.now.indexes) result ≡ listing_visit self.now interface home (record_of body.now) }
+    {
+        match body {
+            Body::Interface(_) => Visit::Nothing,
+            Body::Class(class) => match self.row_for(interface, home, &class.interfaces) {
+                Some(row) => Visit::Has(row),
+                None => Visit::Above,
+            },
+        }
+    }
+
+    /// One step of the look-up of an interface.
+    fn listing_step(&self, at: ClassName, interface: ClassName) -> Step<&ImplementedInterface>
+        ensures { step_map (λ row. row.now.indexes) result ≡ step_of (interface_visit self.now interface) self.now at }
+    {
+        let Some(found) = self.class_at(at) else {
+            return Step::Ends;
+        };
+        match self.listing_visit(interface, at.home(), &found.body) {
+            Visit::Has(row) => Step::Gives(row),
+            Visit::Nothing => Step::Ends,
+            Visit::Above => match self.superclass_of(at) {
+                Some(above) => Step::On(above),
+                None => Step::Ends,
+            },
+        }
+    }
+
+    /// The row for an interface of the nearest class that lists it.
+    fn listing(&self, class: ClassName, interface: ClassName) -> Option<&ImplementedInterface>
+        ensures { option_map (λ row. row.now.indexes) result ≡ found (interface_visit self.now interface) self.now class }
+    {
+        let mut at = class;
+        for _ in 0..MOST_CLASSES {
+            match self.listing_step(at, interface) {
+                Step::Gives(row) => return Some(row),
+                Step::Ends => return None,
+                Step::On(above) => at = above,
+            }
+        }
+        None
+    }
+
+    /// The virtual method of a class at a token (Java Card Virtual Machine Specification, Linking). A token from 128 on is
+    /// package-visible, and is looked up for the loaded package with the number `asker`, from 1 on: classes of other
+    /// packages are passed over. `None` where there is none, or where superclasses lead round.
+    pub fn virtual_method(&self, class: ClassName, token: u8, asker: u8) -> Option<MethodName>
+        ensures { result ≡ virtual_method_of self.now class token (asker + 1) }
+    {
+        self.virtual_method_for(class, token, usize::from(asker) + 1)
+    }
+
+    /// The method of an object's class that the token of an interface's method leads to (Java Card Virtual Machine
+    /// Specification, Linking and `invokeinterface`): the nearest class of its chain that lists the interface says under
+    /// which virtual token, and that is looked up from the object's class. `None` where no class lists it, or where the
+    /// token leads to no method.
+    pub fn interface_method(
+        &self,
+        class: ClassName,
+        interface: ClassName,
+        token: u8,
+    ) -> Option<MethodName>
+        ensures { result ≡ interface_method_of self.now class interface token }
+    {
+        let row = self.listing(class, interface)?;
+        let index = row.indexes.get(usize::from(token)).copied()?;
+        if index >= PACKAGE_VISIBLE {
+            return None;
+        }
+        self.virtual_method_for(class, index, 0)
+    }
+}

@@ -1,0 +1,154 @@
+//! Look-ups of methods.
+
+ghost use Rattle.std.specs.Prelude.{◌≡◌, ◌≤◌, ◌==◌};
+ghost use Rattle.std.specs.List.{find};
+ghost use Rattle.std.specs.Option.{option_map};
+ghost use Rattle.jc_classes.specs.Methods.{method_of_class, has_method, method_name, method_there, entry_visit, table_visit, record_visit, virtual_visit, virtual_method_of};
+ghost use Rattle.jc_classes.specs.PrivateShape.{record_of};
+ghost use Rattle.jc_classes.specs.PrivateWalk.{step_of};
+
+use crate::name::{ClassName, MethodName};
+use crate::shape::{Body, Class, Method, PackageShape, Table};
+use crate::table::ClassTable;
+use crate::walk::{MOST_CLASSES, Step, Visit};
+
+/// Tokens from here on are package-visible.
+pub(crate) const PACKAGE_VISIBLE: u8 = 128;
+/// What stands in a table in place of a method that another package's class declares.
+const DECLARED_ABOVE: u16 = 0xFFFF;
+
+/// The name of the method at an offset of the package that stands there.
+fn method_name(home: usize, offset: u16) -> MethodName
+    requires { home ≤ 256 }
+    ensures { result ≡ method_name home offset }
+{
+    if home < 2 {
+        MethodName::Api { member: offset }
+    } else {
+        MethodName::Loaded {
+            package: (home - 1) as u8,
+            offset,
+        }
+    }
+}
+
+/// The method with a header at an offset.
+fn method_in(methods: &[Method], offset: u16) -> Option<&Method>
+    ensures { option_map (λ m. m.now) result ≡ find (λ m. m.offset == offset) methods.now }
+{
+    methods.iter().find(|m| m.offset == offset)
+}
+
+impl Class {
+    /// Its method with a header at an offset; an interface's methods have none.
+    fn method_with(&self, offset: u16) -> Option<&Method>
+        ensures { option_map (λ m. m.now) result ≡ method_of_class offset self.now }
+    {
+        match &self.body {
+            Body::Interface(_) => None,
+            Body::Class(_) => method_in(&self.methods, offset),
+        }
+    }
+}
+
+impl PackageShape {
+    /// Whether a method stands at an offset.
+    fn has_method(&self, offset: u16) -> bool
+        ensures { result ≡ has_method offset self.now }
+    {
+        self.classes.iter().any(|k| k.method_with(offset).is_some())
+    }
+}
+
+impl ClassTable {
+    /// The method that stands there, if one does.
+    fn method_there(&self, home: usize, offset: u16) -> Visit<MethodName>
+        requires { home ≤ 256 }
+        ensures { result ≡ method_there self.now home offset }
+    {
+        match self.shape(home) {
+            Some(shape) if shape.has_method(offset) => Visit::Has(method_name(home, offset)),
+            _ => Visit::Nothing,
+        }
+    }
+
+    /// An entry of a table.
+    fn entry_visit(&self, home: usize, entry: Option<u16>) -> Visit<MethodName>
+        requires { home ≤ 256 }
+        ensures { result ≡ entry_visit self.now home entry }
+    {
+        match entry {
+            None => Visit::Nothing,
+            Some(offset) if offset == DECLARED_ABOVE => Visit::Above,
+            Some(offset) => self.method_there(home, offset),
+        }
+    }
+
+    /// A table at a token.
+    fn table_visit(&self, home: usize, table: &Table, token: u8) -> Visit<MethodName>
+        requires { home ≤ 256 }
+        ensures { result ≡ table_visit self.now home table.now token }
+    {
+        if token < table.base || table.methods.len() == 0 {
+            return Visit::Above;
+        }
+        let entry = table.methods.get(usize::from(token - table.base)).copied();
+        self.entry_visit(home, entry)
+    }
+
+    /// A record at a virtual token, asked for the package that stands there.
+    fn record_visit(&self, asker: usize, token: u8, home: usize, body: &Body) -> Visit<MethodName>
+        requires { home ≤ 256 }
+        ensures { result ≡ record_visit self.now asker token home (record_of body.now) }
+    {
+        match body {
+            Body::Interface(_) => Visit::Nothing,
+            Body::Class(class) => {
+                if token < PACKAGE_VISIBLE {
+                    self.table_visit(home, &class.public_methods, token)
+                } else if home == asker {
+                    self.table_visit(home, &class.package_methods, token - PACKAGE_VISIBLE)
+                } else {
+                    Visit::Above
+                }
+            }
+        }
+    }
+
+    /// One step of the look-up of a virtual method.
+    fn method_step(&self, at: ClassName, token: u8, asker: usize) -> Step<MethodName>
+        ensures { result ≡ step_of (virtual_visit self.now asker token) self.now at }
+    {
+        let Some(found) = self.class_at(at) else {
+            return Step::Ends;
+        };
+        match self.record_visit(asker, token, at.home(), &found.body) {
+            Visit::Has(method) => Step::Gives(method),
+            Visit::Nothing => Step::Ends,
+            Visit::Above => match self.superclass_of(at) {
+                Some(above) => Step::On(above),
+                None => Step::Ends,
+            },
+        }
+    }
+
+    /// The virtual method of a class at a token, asked for the package that stands there.
+    pub(crate) fn virtual_method_for(
+        &self,
+        class: ClassName,
+        token: u8,
+        asker: usize,
+    ) -> Option<MethodName>
+        ensures { result ≡ virtual_method_of self.now class token asker }
+    {
+        let mut at = class;
+        for _ in 0..MOST_CLASSES {
+            match self.method_step(at, token, asker) {
+                Step::Gives(method) => return Some(method),
+                Step::Ends => return None,
+                Step::On(above) => at = above,
+            }
+        }
+        None
+    }
+}

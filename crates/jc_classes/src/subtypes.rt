@@ -1,0 +1,84 @@
+//! Which class is below which.
+
+ghost use Rattle.std.specs.Prelude.{◌≡◌, ◌↔◌, true, IsTrue};
+ghost use Rattle.jc_classes.specs.Subtype.{IsSubtype, IsOrderly, IsLeastAbove, is_class_at};
+ghost use Rattle.jc_cap_class.specs.Component.{is_class};
+
+use crate::name::ClassName;
+use crate::shape::{Body, Class};
+use crate::table::ClassTable;
+use crate::walk::MOST_CLASSES;
+use jc_api::ApiClass;
+
+/// What is above all classes and interfaces.
+const OBJECT: ClassName = ClassName::Api(ApiClass::Object);
+
+impl Class {
+    /// Whether it is a class, and not an interface.
+    fn is_class(&self) -> bool
+        ensures { result ≡ is_class self.now.body }
+    {
+        match self.body {
+            Body::Interface(_) => false,
+            Body::Class(_) => true,
+        }
+    }
+}
+
+impl ClassTable {
+    /// Whether a class or interface is another one or below it (Java Card Virtual Machine Specification, Verification
+    /// types): Object is above all, and else its superclass and the interfaces that it lists are above it, and what is
+    /// above these. Superclasses and interfaces may lead round.
+    pub fn is_subclass(&self, class: ClassName, above: ClassName) -> bool
+        ensures { IsTrue result ↔ IsSubtype self.now class above }
+    {
+        if class.is(above) {
+            return true;
+        }
+        if above.is(OBJECT) {
+            return true;
+        }
+        let marks = self.closure(class);
+        match self.place(above) {
+            Some(place) => marks.contains(place),
+            None => false,
+        }
+    }
+
+    /// Whether a class stands there, and not an interface.
+    fn is_class(&self, class: ClassName) -> bool
+        ensures { result ≡ is_class_at self.now class }
+    {
+        match self.class_at(class) {
+            Some(found) => found.is_class(),
+            None => false,
+        }
+    }
+
+    /// Whether a class stands there that is above another one.
+    fn is_class_above(&self, above: ClassName, class: ClassName) -> bool
+        ensures { IsTrue result ↔ (is_class_at self.now above ≡ true × IsSubtype self.now class above) }
+    {
+        self.is_class(above) && self.is_subclass(class, above)
+    }
+
+    /// A class that is above both of two: the nearest one above the first. Where no class's superclasses lead round and
+    /// what is listed as an interface is one, it is the least that is above both.
+    pub fn common_super(&self, one: ClassName, other: ClassName) -> ClassName
+        ensures first { IsSubtype self.now one result }
+        ensures second { IsSubtype self.now other result }
+        ensures least { IsOrderly self.now → IsLeastAbove self.now one other result }
+    {
+        let mut at = one;
+        for _ in 0..MOST_CLASSES {
+            if self.is_class_above(at, other) {
+                return at;
+            }
+            match self.superclass_of(at) {
+                Some(above) => at = above,
+                None => return OBJECT,
+            }
+        }
+        OBJECT
+    }
+}

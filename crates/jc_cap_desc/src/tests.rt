@@ -1,5 +1,6 @@
 use super::*;
 use jc_base::{DeclaredType, LoadFault, ReturnType, cut};
+use std::alloc::Global;
 use std::test::*;
 
 /// A package with one applet, whose class has an install method at 1 and another method at 10.
@@ -107,6 +108,31 @@ const PACKAGE_OF_FORMAT_2_2: [u8; 159] = [
     0x00, 0x61, 0x01, 0x10, // Descriptor
 ];
 
+/// What stands before and behind the Class component of a package of format 2.2, whose one row names the record at 32,767.
+const BEFORE_CLASSES: [u8; 25] = [
+    1, 0, 16, 0xDE, 0xCA, 0xFF, 0xED, 2, 2, 0, 0, 1, 5, 1, 2, 3, 4, 5, 0, // Header
+    5, 0, 2, 0, 0, // no pool entries
+    6, // and then the Class component
+];
+const BEHIND_CLASSES: [u8; 32] = [
+    7, 0, 1, 0, // no handlers
+    8, 0, 10, 0, 0, 0, 0, 0, 0, 0, 0, 0, 0, // no static fields
+    11, 0, 12, 1, 0xFF, 0, 0x7F, 0xFF, 0, 0, 0, 0, 0, 0, 0, // Descriptor
+];
+
+/// That package, whose one record stands behind so many bytes of signatures.
+fn record_behind(signatures: u16, alloc: Global) -> Result<Vec<u8>, Fail> {
+    let mut image = Vec::from_slice(alloc, &BEFORE_CLASSES)?;
+    image.extend_from_slice(&signatures.wrapping_add(12).to_be_bytes())?;
+    image.extend_from_slice(&signatures.to_be_bytes())?;
+    for _ in 0..signatures {
+        image.push(0)?;
+    }
+    image.extend_from_slice(&[0, 0xFF, 0xFF, 1, 0, 0, 0, 0, 0, 0])?;
+    image.extend_from_slice(&BEHIND_CLASSES)?;
+    Ok(image)
+}
+
 fn read(image: &[u8]) -> Result<(), LoadFault> {
     read_package(&cut(image)?)?;
     Ok(())
@@ -135,6 +161,13 @@ fn refusals(rt: HostRuntime) {
         assert_eq!(rt; read(&image).err(), fault, "at {first}");
     }
     assert!(rt; read(&PACKAGE_OF_FORMAT_2_2).is_ok());
+}
+
+#[test]
+fn the_last_record_that_can_be_named(rt: HostRuntime) -> Result<(), Fail> {
+    assert_eq!(rt; read(&record_behind(32_765, rt.alloc())?), Ok(()));
+    assert_eq!(rt; read(&record_behind(32_766, rt.alloc())?), Err(LoadFault::Malformed(11)));
+    Ok(())
 }
 
 #[test]

@@ -1,5 +1,5 @@
 -- Numbers as bits of words.
-use Rattle.std.proofs.Common.{◌≡◌, ℕ, ◌+◌, ◌*◌, ◌/◌, ◌%◌, ◌^◌, ◌<◌, ◌≤◌, ◌==◌, ◌||◌, Bool, true, false, List, length, refl, ap, sym, ◌∙◌, ◌⊎◌, inl, inr, arith, bit_or, get_or, set, replicate}
+use Rattle.std.proofs.Common.{◌≡◌, ℕ, ◌*◌, ◌/◌, ◌%◌, ◌^◌, ◌<◌, ◌≤◌, ◌==◌, ◌||◌, Bool, true, false, List, length, ap, sym, ◌∙◌, ◌⊎◌, inl, inr, arith, bit_or, get_or, set, replicate}
 use Rattle.std.specs.Int.{w64, bit_at}
 use Rattle.std.proofs.lemmas.Bool.{cases_eq, cases_lt, eq-eqb, ne_eqb}
 use Rattle.std.proofs.lemmas.List.{get_or-set_same, get_or-set_other, get_or-replicate, get_or_past}

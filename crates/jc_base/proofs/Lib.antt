@@ -1,4 +1,5 @@
 pub mod Binding
+pub mod Copied
 pub mod Pieces
 pub mod Put
 pub mod Steps

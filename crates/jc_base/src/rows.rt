@@ -148,6 +148,13 @@ impl<S: Source, R: Row<S>> Rows<S, R> {
         usize::from(self.count)
     }
 
+    /// How many rows there are, as the count says that they were read by.
+    pub fn count(&self) -> u16
+        ensures { result ≡ length self.now }
+    {
+        self.count
+    }
+
     /// Whether there is no row.
     pub fn is_empty(&self) -> bool
         ensures { IsTrue result ↔ (self.now ≡ []) }

@@ -73,3 +73,7 @@ HasFewRows found = IfOk found.descriptor (λ info. length info.classes ≤ 255)
 
 abbrev pub HasFewRecords : Components → Type 0
 HasFewRecords found = IfOk found.records (λ records. IfOk found.descriptor (λ info. length records ≤ 255))
+
+-- no more imports than a byte counts
+abbrev pub HasFewImports : Components → Type 0
+HasFewImports found = IfOk found.imports (λ imports. length imports ≤ 255)

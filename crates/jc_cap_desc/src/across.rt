@@ -56,7 +56,7 @@ fn records_have_rows(records: &Records, rows: &ClassRows) -> bool
 }
 
 /// The record that a row is of, if it is one's.
-fn record_of<'a>(records: &Records<'a>, row: &ClassRow) -> Option<Record<'a>>
+pub(crate) fn record_of<'a>(records: &Records<'a>, row: &ClassRow) -> Option<Record<'a>>
     ensures { result ≡ record_of records.now row.now }
 {
     match row.this {

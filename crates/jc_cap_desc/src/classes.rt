@@ -1,6 +1,6 @@
 //! The classes of a package: what their records say, and what their rows say.
 
-ghost use Rattle.std.specs.Prelude.{◌≡◌, ◌∷◌, [], IfSome, IfNone};
+ghost use Rattle.std.specs.Prelude.{◌≡◌, ◌∷◌, [], true, IfSome, IfNone};
 ghost use Rattle.std.specs.List.{find};
 ghost use Rattle.jc_cap_desc.specs.Across.{is_row_of};
 ghost use Rattle.jc_cap_desc.specs.Shape.{class_shape};
@@ -11,7 +11,7 @@ use crate::component::DescriptorInfo;
 use crate::fields::Fields;
 use crate::interfaces::is_interface;
 use crate::methods::ClassMethods;
-use jc_base::Placed;
+use jc_base::{ClassRef, Placed};
 use jc_cap_class::{Record, RecordBody, Records};
 use jc_cap_method::MethodInfo;
 use jc_cap_pool::Descriptors;
@@ -27,19 +27,26 @@ pub struct Class<'p, 'a> {
 }
 
 impl<'p, 'a> Model for Class<'p, 'a> {
+    ghost use Rattle.std.specs.Prelude.{◌≡◌, true};
+    ghost use Rattle.jc_cap_desc.specs.Across.{is_row_of};
     ghost use Rattle.jc_cap_desc.specs.Shape.{ClassShape, joined};
 
     ghost Value = { ClassShape };
 
     ghost view = { λ c. joined c.types c.bodies.now c.placed c.row };
+
+    ghost invariant = { λ c. is_row_of c.placed.offset c.row ≡ true };
 }
 
 impl<'p, 'a> Class<'p, 'a> {
-    /// Where its record stands in the Class component.
-    pub fn offset(&self) -> usize
+    /// Where its record stands in the Class component: its row says so.
+    pub fn offset(&self) -> u16
         ensures { result ≡ self.now.offset }
     {
-        self.placed.offset
+        match self.row.this {
+            ClassRef::Internal { offset } => offset,
+            ClassRef::External { .. } => 0,
+        }
     }
 
     /// What its record says.
@@ -81,7 +88,8 @@ impl<'p, 'a> Class<'p, 'a> {
 
 /// The row of the record at an offset, if there is one.
 fn row_of<'a>(offset: usize, rows: &ClassRows<'a>) -> Option<ClassRow<'a>>
-    ensures { result ≡ find (is_row_of offset) rows.now }
+    ensures found { result ≡ find (is_row_of offset) rows.now }
+    ensures named { IfSome result (λ row. is_row_of offset row ≡ true) }
 {
     let mut left = rows.again();
     while let Some(row) = left.next() {

@@ -3,6 +3,7 @@
 
 mod across;
 mod applets;
+mod bodies;
 mod class_row;
 mod classes;
 mod component;
@@ -16,6 +17,7 @@ mod standing;
 mod type_index;
 mod types;
 
+pub use bodies::{MethodBodies, MethodBody};
 pub use class_row::{
     ClassRow, ClassRows, FieldPlace, FieldRow, FieldRows, MethodRow, MethodRows, StatedType,
 };

@@ -3,8 +3,9 @@
 ghost use Rattle.std.specs.Prelude.{◌≡◌, ◌≤◌, length, slice_get};
 ghost use Rattle.std.specs.Option.{option_and_then};
 ghost use Rattle.jc_cap_desc.specs.Package.{layout_in, package_fault, package_of};
-ghost use Rattle.jc_cap_desc.specs.PrivatePackage.{records_in, components_in, class_fault_in, component_fault_in, HasFewRows, HasFewRecords, joined};
+ghost use Rattle.jc_cap_desc.specs.PrivatePackage.{records_in, components_in, class_fault_in, component_fault_in, HasFewRows, HasFewRecords, HasFewImports, joined};
 
+use crate::bodies::MethodBodies;
 use crate::classes::Classes;
 use crate::component::{DescriptorInfo, descriptor_layout, read_descriptor};
 use crate::faults::{across_fault, fault_of, told};
@@ -45,7 +46,7 @@ impl<'a> Model for Package<'a> {
       body = body_of p.header.name p.applets p.pool p.statics p.records p.descriptor p.methods;
     } };
 
-    ghost invariant = { λ p. length p.records ≤ 255 };
+    ghost invariant = { λ p. (length p.records ≤ 255) × (length p.imports ≤ 255) };
 }
 
 impl<'a> Package<'a> {
@@ -75,7 +76,8 @@ impl<'a> Package<'a> {
 
     /// The packages that are imported, by their package tokens.
     pub fn imports(&self) -> Imports<'a>
-        ensures { result ≡ self.now.shape.imports }
+        ensures imports { result ≡ self.now.shape.imports }
+        ensures few { length self.now.shape.imports ≤ 255 }
     {
         self.imports.again()
     }
@@ -118,6 +120,17 @@ impl<'a> Package<'a> {
         self.descriptor.types.at(usize::from(offset))
     }
 
+    /// The methods with code, in the order of their rows.
+    pub fn bodies(&self) -> MethodBodies<'_, 'a>
+        ensures { result ≡ self.now.body.methods }
+    {
+        MethodBodies::new(
+            &self.methods,
+            &self.records,
+            self.descriptor.classes.again(),
+        )
+    }
+
     /// The static fields.
     pub fn statics(&self) -> &StaticFields<'a>
         ensures { result.now ≡ self.now.body.statics }
@@ -157,6 +170,7 @@ fn read_records<'a>(
 fn read_components<'a>(parts: &Parts<'a>) -> Components<'a>
     ensures read { result ≡ components_in parts.now }
     ensures few { HasFewRows result }
+    ensures imports { HasFewImports result }
 {
     let header = read_header(parts);
     let records = read_records(parts, &header);
@@ -227,7 +241,8 @@ fn package_fault(parts: &Parts, found: &Components) -> Option<LoadFault>
 /// The package, where all components were read.
 #[tactic(auto, unfolding(crate::specs::PrivatePackage::joined))]
 fn joined<'a>(found: Components<'a>) -> Result<Package<'a>, LoadFault>
-    requires { HasFewRecords found }
+    requires records { HasFewRecords found }
+    requires imports { HasFewImports found }
     ensures { result ≡ joined found.entry }
 {
     Ok(Package {

@@ -14,7 +14,7 @@ use jc_base::NumberSet;
 use jc_cap_method::{Handler, Handlers, Method, MethodInfo};
 
 /// Whether a method has code.
-fn has_code(row: &MethodRow) -> bool
+pub(crate) fn has_code(row: &MethodRow) -> bool
     ensures { result ≡ has_code row.now }
 {
     row.bytecode_count > 0

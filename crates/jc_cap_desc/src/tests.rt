@@ -114,6 +114,7 @@ const BEFORE_CLASSES: [u8; 25] = [
     5, 0, 2, 0, 0, // no pool entries
     6, // and then the Class component
 ];
+
 const BEHIND_CLASSES: [u8; 32] = [
     7, 0, 1, 0, // no handlers
     8, 0, 10, 0, 0, 0, 0, 0, 0, 0, 0, 0, 0, // no static fields
@@ -166,7 +167,10 @@ fn refusals(rt: HostRuntime) {
 #[test]
 fn the_last_record_that_can_be_named(rt: HostRuntime) -> Result<(), Fail> {
     assert_eq!(rt; read(&record_behind(32_765, rt.alloc())?), Ok(()));
-    assert_eq!(rt; read(&record_behind(32_766, rt.alloc())?), Err(LoadFault::Malformed(11)));
+    assert_eq!(rt;
+        read(&record_behind(32_766, rt.alloc())?),
+        Err(LoadFault::Malformed(11))
+    );
     Ok(())
 }
 

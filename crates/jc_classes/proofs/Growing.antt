@@ -1,9 +1,9 @@
 -- A package behind the others is seen by none of them.
 use Rattle.std.proofs.Common.{◌≡◌, ℕ, zero, suc, ◌-◌, ◌==◌, ◌<◌, ◌≤◌, Bool, true, false, cond, ◌||◌, List, [], ◌∷◌, ◌++◌, length, take, Option, Some, None, inl, inr, refl, sym, ap, subst, ◌∙◌, arith, nat_lt, is_some, slice_get}
-use Rattle.std.specs.List.{filter_map, cons_option, position, position_or_len}
+use Rattle.std.specs.List.{filter_map, cons_option, position}
 use Rattle.std.specs.Option.{option_and_then, option_map_or}
 use Rattle.std.proofs.lemmas.List.{take-append-le, length-take-le}
-use Rattle.std.proofs.lemmas.Bool.{eqb-true, ltb-true, ltb-false}
+use Rattle.std.proofs.lemmas.Bool.{eqb-true, ltb-false}
 use Rattle.jc_base.proofs.Binding.{the_some, none_some}
 use Rattle.jc_base.specs.declared.class_ref.ClassRef.{ClassRef}
 use Rattle.jc_base.specs.declared.class_ref.ClassRef.TheVariants.{Internal, External}
@@ -16,11 +16,13 @@ use Rattle.jc_api.specs.Class.{class_of, package_of}
 use Rattle.jc_api.specs.declared.class.ApiClass.{ApiClass}
 use Rattle.jc_classes.proofs.Passing.{some_of, position_is}
 use Rattle.jc_classes.specs.Growth.{grown, IsWithin, KeepsLookups}
+use Rattle.jc_classes.specs.Members.{declared_in, method_home, method_offset, method_at}
 use Rattle.jc_classes.specs.Methods.{has_method, method_name, method_there, entry_visit, table_visit, record_visit, virtual_method_of, is_this, row_for, indexes_visit, listing_visit, interface_visit, public_method_of, interface_method_of, package_visible, declared_above}
 use Rattle.jc_classes.specs.Subtype.{IsAmong, Lists, IsSubtype, Implements, same, object, by_superclass, by_interface, listed}
 use Rattle.jc_classes.specs.Walk.{found_from, walk, found, most_classes}
 use Rattle.jc_classes.specs.World.{api_home, api_name, home_of, offset_of, name_in, class_in, package_at, class_at, meets, import_of, exported_class, class_spelled, if_there, class_named, superclass_ref, listed_refs, superclass_of, interfaces_of}
 use Rattle.jc_classes.specs.declared.name.ClassName.{ClassName}
+use Rattle.jc_classes.specs.declared.name.MethodName.{MethodName}
 use Rattle.jc_classes.specs.declared.walk.Visit.{Visit}
 use Rattle.jc_classes.specs.declared.walk.Visit.TheVariants.{Has, Nothing, Above}
 use Rattle.jc_classes.specs.declared.name.ClassName.TheVariants.{Api, Loaded}
@@ -39,7 +41,7 @@ map_same : {A B : Type 0} (f g : A → Option B) → ((a : A) → f a ≡ g a) �
 map_same f g h [] = refl
 map_same f g h (x ∷ xs) = ap (λ o. cons_option o (filter_map f xs)) (h x) ∙ ap (cons_option (g x)) (map_same f g h xs)
 
-get_before : {A : Type 0} (xs : List A) (y : A) (i : ℕ) → i < length xs → slice_get (xs ++ y ∷ []) i ≡ slice_get xs i
+pub get_before : {A : Type 0} (xs : List A) (y : A) (i : ℕ) → i < length xs → slice_get (xs ++ y ∷ []) i ≡ slice_get xs i
 get_before [] y i h = absurd (omega arith)
 get_before (x ∷ xs) y zero h = refl
 get_before (x ∷ xs) y (suc i) h = get_before xs y i (omega arith)
@@ -92,7 +94,7 @@ named_within world home ref c h e =
     let same : home_of a.0 ≡ home_of c = ap home_of (there_same world a.0 c a.2) in
     omega arith
 
-superclass_within : (world : List Shape) (c d : ClassName) → IsWithin world c → superclass_of world c ≡ Some d → IsWithin world d
+pub superclass_within : (world : List Shape) (c d : ClassName) → IsWithin world c → superclass_of world c ≡ Some d → IsWithin world d
 superclass_within world c d h e =
     let a = some_of (class_named world (home_of c)) (option_and_then (λ k. superclass_ref k.body) (class_at world c)) d e in
     named_within world (home_of c) a.0 d h a.2
@@ -120,7 +122,7 @@ module _ (world : List Shape) (more : Shape) where
   at_home : (home : ℕ) → home < length world → slice_get (grown world more) home ≡ slice_get world home
   at_home home h = get_before world more home h
 
-  packages_keep : (c : ClassName) → IsWithin world c → package_at (grown world more) c ≡ package_at world c
+  pub packages_keep : (c : ClassName) → IsWithin world c → package_at (grown world more) c ≡ package_at world c
   packages_keep (Api class) h = at_home (home_of (Api class)) h
   packages_keep (Loaded zero offset) h = refl
   packages_keep (Loaded (suc n) offset) h = at_home (suc (suc n)) h
@@ -150,7 +152,7 @@ module _ (world : List Shape) (more : Shape) where
       let k = spelled_home world home ref c (omega arith) e in
       ap (λ (o : Option ClassShape). cond (is_some o) (Some c) None) (classes_keep c (omega arith)))
 
-  superclasses_keep : (c : ClassName) → IsWithin world c → superclass_of (grown world more) c ≡ superclass_of world c
+  pub superclasses_keep : (c : ClassName) → IsWithin world c → superclass_of (grown world more) c ≡ superclass_of world c
   superclasses_keep c h =
       ap (λ (o : Option ClassShape). option_and_then (class_named (grown world more) (home_of c)) (option_and_then (λ k. superclass_ref k.body) o)) (classes_keep c h)
       ∙ then_same _ (class_named world (home_of c)) (λ ref. references_keep (home_of c) ref h) _
@@ -191,7 +193,7 @@ module _ (world : List Shape) (more : Shape) where
       ap (λ v. cond (nat_lt token package_visible) v (cond (home == asker) (table_visit (grown world more) home r.package_methods (token - package_visible)) Above)) (tables_keep home r.public_methods token h)
       ∙ ap (λ v. cond (nat_lt token package_visible) (table_visit world home r.public_methods token) (cond (home == asker) v Above)) (tables_keep home r.package_methods (token - package_visible) h)
 
-  virtual_methods_keep : (c : ClassName) (token asker : ℕ) → IsWithin world c → virtual_method_of (grown world more) c token asker ≡ virtual_method_of world c token asker
+  pub virtual_methods_keep : (c : ClassName) (token asker : ℕ) → IsWithin world c → virtual_method_of (grown world more) c token asker ≡ virtual_method_of world c token asker
   virtual_methods_keep c token asker w = walks_keep _ _ (λ d k h. records_keep asker token (home_of d) k.body h) most_classes c w
 
   rows_keep : (interface : ClassName) (home : ℕ) (rows : List Implemented) → home < length world → row_for (grown world more) interface home rows ≡ row_for world interface home rows
@@ -207,10 +209,13 @@ module _ (world : List Shape) (more : Shape) where
   public_methods_keep : (c : ClassName) (token : ℕ) → IsWithin world c → public_method_of (grown world more) c token ≡ public_method_of world c token
   public_methods_keep c token w = ap (λ o. cond (nat_lt token package_visible) o None) (virtual_methods_keep c token 0 w)
 
+  pub listings_found_keep : (interface c : ClassName) → IsWithin world c → found (interface_visit (grown world more) interface) (grown world more) c ≡ found (interface_visit world interface) world c
+  listings_found_keep interface c w = walks_keep _ (interface_visit world interface) (λ d k h. listings_keep interface (home_of d) k.body h) most_classes c w
+
   interface_methods_keep : (c interface : ClassName) (token : ℕ) → IsWithin world c → interface_method_of (grown world more) c interface token ≡ interface_method_of world c interface token
   interface_methods_keep c interface token w =
       ap (option_and_then (λ indexes. option_and_then (public_method_of (grown world more) c) (slice_get indexes token)))
-      (walks_keep _ (interface_visit world interface) (λ d k h. listings_keep interface (home_of d) k.body h) most_classes c w)
+      (listings_found_keep interface c w)
       ∙ then_same _ _ (λ indexes. then_same _ _ (λ index. public_methods_keep c index w) (slice_get indexes token)) (found (interface_visit world interface) world c)
 
   lists_grow : (c i : ClassName) → IsWithin world c → Lists world c i → Lists (grown world more) c i
@@ -245,6 +250,11 @@ module _ (world : List Shape) (more : Shape) where
   implementations_shrink _ _ w (by_interface c j i m r) =
       let l = lists_shrink c j w m in by_interface c j i l (implementations_shrink j i (listed_within world c j w l) r)
 
+  methods_keep : (m : MethodName) (home : ℕ) → method_home m ≡ Some home → home < length world → method_at (grown world more) m ≡ method_at world m
+  methods_keep m home e h = then_same_at _ _ (method_home m) (λ i f.
+      let l : i < length world = subst (λ n. n < length world) (the_some _ _ (sym e ∙ f)) h in
+      ap (option_and_then (declared_in i (method_offset m))) (at_home i l))
+
   pub adding_keeps : KeepsLookups world more
   adding_keeps = record {
     classes = classes_keep;
@@ -255,4 +265,5 @@ module _ (world : List Shape) (more : Shape) where
     interface_methods = interface_methods_keep;
     subtypes = λ c d w. (subtypes_shrink c d w, subtypes_grow c d w);
     implementations = λ c i w. (implementations_shrink c i w, implementations_grow c i w);
+    methods = methods_keep;
   }

@@ -2,6 +2,8 @@ mod Copied
 mod Growing
 mod Numbering
 mod Small
+mod Placing
+mod Tabling
 mod Walking
 mod Marking
 mod Passing

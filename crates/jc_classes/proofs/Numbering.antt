@@ -6,15 +6,15 @@ use Rattle.std.proofs.lemmas.Bool.{leb-true, cases_lt, lt-ltb, le-ltb}
 use Rattle.std.proofs.lemmas.List.{map-append}
 use Rattle.std.proofs.lemmas.List.Elements.{filter_map-append}
 use Rattle.std.proofs.lemmas.List.Folds.{find-append}
+use Rattle.std.proofs.lemmas.Option.{slice_get_past}
 use Rattle.jc_base.proofs.Binding.{both_true, the_some}
-use Rattle.jc_cap_desc.specs.Shape.{Shape}
 use Rattle.jc_api.specs.Bound.{Bound}
 use Rattle.jc_api.specs.Member.{ApiMember, members, member_of, shown}
-use Rattle.jc_api.specs.declared.class.ApiPackage.TheVariants.{Lang, Framework}
+use Rattle.jc_api.specs.declared.class.ApiPackage.{ApiPackage}
 use Rattle.jc_api.specs.declared.member.Member.{Member}
-use Rattle.jc_classes.specs.Api.{those_to, each_below, room_for, room_to, is_token, number_to, class_shape_of, api_world, last_class}
+use Rattle.jc_classes.specs.Api.{those_to, each_below, room_for, room_to, is_token, number_to, class_shape_of, last_class}
 use Rattle.jc_classes.specs.PrivateApi.{with_room, if_token}
-use Rattle.jc_classes.specs.Limits.{IsSmall, most_classes_of_one}
+use Rattle.jc_classes.specs.Limits.{most_classes_of_one}
 
 range_more : (a n : ℕ) → range_with_len a (suc n) ≡ range_with_len a n ++ (a + n) ∷ []
 range_more a zero = let e : a ≡ a + 0 = omega arith in ap (λ m. m ∷ []) e
@@ -121,10 +121,13 @@ those_few {A = A} f (suc n) = rw (those_suc f n) (by_one (f (suc n)) (those_few 
     by_one None h = omega (arith, length-append (those_to n f) [])
     by_one (Some x) h = omega (arith, length-append (those_to n f) (x ∷ []))
 
-pub api_is_small : (bound : Bound) → IsSmall (api_world bound)
-api_is_small bound = record { packages = omega arith; classes = each }
+pub few_classes : (bound : Bound) (which : ApiPackage) → length (those_to last_class (class_shape_of bound which)) ≤ most_classes_of_one
+few_classes bound which = let h = those_few (class_shape_of bound which) last_class in omega arith
+
+-- no member has a number past a byte
+pub member_past : (n : ℕ) → 256 ≤ n → member_of n ≡ None
+member_past zero h = refl
+member_past (suc n) h = slice_get_past members n (le-suc h)
   where
-    each : (i : ℕ) (shape : Shape) → slice_get (api_world bound) i ≡ Some shape → length shape.classes ≤ most_classes_of_one
-    each zero shape e = let P : Shape → Type 0 = λ s. length s.classes ≤ most_classes_of_one in let h = those_few (class_shape_of bound Lang) last_class in subst P (the_some _ _ e) (omega arith)
-    each (suc zero) shape e = let P : Shape → Type 0 = λ s. length s.classes ≤ most_classes_of_one in let h = those_few (class_shape_of bound Framework) last_class in subst P (the_some _ _ e) (omega arith)
-    each (suc (suc i)) shape e = absurd cc
+    le-suc : 256 ≤ suc n → length members ≤ n
+    le-suc h = omega arith

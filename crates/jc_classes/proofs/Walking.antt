@@ -47,12 +47,12 @@ module _ {A : Type 0} (visit : ClassName → ClassShape → Visit A) (world : Li
   pub goes_on : (d : ClassName) → step_of visit world c ≡ On d → walk visit world m d ≡ total
   goes_on d e = behind_one (On d) e
 
-pub most_is : most_classes ≡ 16_830
+pub most_is : most_classes ≡ 17_085
 unfolding most_classes
 most_is = refl
 
 -- one step of the whole walk
-pub one_less : (counter : ℕ) → counter < 16_830 → most_classes - counter ≡ suc (most_classes - (counter + 1))
+pub one_less : (counter : ℕ) → counter < 17_085 → most_classes - counter ≡ suc (most_classes - (counter + 1))
 one_less counter h = omega (arith, most_is)
 
 pub all_steps : {A : Type 0} (visit : ClassName → ClassShape → Visit A) (world : List Shape) (c : ClassName) → walk visit world (most_classes - 0) c ≡ found visit world c

@@ -1,11 +1,13 @@
 -- A world that grows: a package behind the others changes nothing of what is looked up in those before it.
-use Rattle.std.specs.Prelude.{◌≡◌, ◌↔◌, ℕ, ◌<◌, List, [], ◌∷◌, ◌++◌, length}
+use Rattle.std.specs.Prelude.{◌≡◌, ◌↔◌, ℕ, ◌<◌, List, [], ◌∷◌, ◌++◌, length, Some}
 use Rattle.jc_base.specs.declared.class_ref.ClassRef.{ClassRef}
 use Rattle.jc_cap_desc.specs.Shape.{Shape}
+use Rattle.jc_classes.specs.Members.{method_home, method_at}
 use Rattle.jc_classes.specs.Methods.{virtual_method_of, interface_method_of}
 use Rattle.jc_classes.specs.Subtype.{IsSubtype, Implements}
 use Rattle.jc_classes.specs.World.{home_of, class_at, class_named, superclass_of, interfaces_of}
 use Rattle.jc_classes.specs.declared.name.ClassName.{ClassName}
+use Rattle.jc_classes.specs.declared.name.MethodName.{MethodName}
 
 -- a world with one more package
 abbrev pub grown : List Shape → Shape → List Shape
@@ -25,3 +27,4 @@ pub record KeepsLookups (world : List Shape) (more : Shape) : Type 0 where
   pub interface_methods : (c interface : ClassName) (token : ℕ) → IsWithin world c → interface_method_of (grown world more) c interface token ≡ interface_method_of world c interface token
   pub subtypes : (c d : ClassName) → IsWithin world c → IsSubtype (grown world more) c d ↔ IsSubtype world c d
   pub implementations : (c i : ClassName) → IsWithin world c → Implements (grown world more) c i ↔ Implements world c i
+  pub methods : (m : MethodName) (home : ℕ) → method_home m ≡ Some home → home < length world → method_at (grown world more) m ≡ method_at world m

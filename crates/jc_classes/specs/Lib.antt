@@ -10,3 +10,7 @@ pub mod PrivateSearch
 pub mod Limits
 pub mod Api
 pub mod PrivateApi
+pub mod Record
+pub mod Members
+pub mod PrivatePlaces
+pub mod PrivateTables

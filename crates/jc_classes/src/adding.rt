@@ -1,17 +1,18 @@
 //! A table that grows by a package.
 
-ghost use Rattle.std.specs.Prelude.{◌≡◌, ◌<◌, length, IfOk, IfErr};
+ghost use Rattle.std.specs.Prelude.{◌≡◌, ◌<◌, ◌≤◌, List, length, IfOk, IfErr};
+ghost use Rattle.jc_cap_desc.specs.Shape.{Shape};
 ghost use Rattle.jc_classes.specs.Growth.{grown};
-ghost use Rattle.jc_classes.specs.Limits.{most_packages};
+ghost use Rattle.jc_classes.specs.Limits.{most_packages, most_classes_of_one};
 
 use crate::copying::shape_of;
+use crate::shape::PackageShape;
 use crate::table::ClassTable;
 use jc_cap_desc::Package;
-use std::alloc::AllocError;
+use std::alloc::{AllocError, Global};
 
 impl ClassTable {
     /// Puts a package behind the others. Where no memory is left the table is as it was.
-    #[tactic(auto, using(crate::proofs::Small::small_grown))]
     pub fn add(&mut self, package: &Package) -> Result<(), AllocError>
         requires { length self.now < most_packages }
         ensures done { IfOk result (λ u. self.new ≡ grown self.old «package».now.shape) }
@@ -19,7 +20,47 @@ impl ClassTable {
     {
         let alloc = *self.packages.allocator();
         let shape = shape_of(alloc, package)?;
+        self.put_package(alloc, shape)
+    }
+
+    /// Puts a shape behind the others, and makes the tables of its classes. Where no memory is left the table is as it was.
+    pub(crate) fn put_package(
+        &mut self,
+        alloc: Global,
+        shape: PackageShape,
+    ) -> Result<(), AllocError>
+        requires room { length self.now < most_packages }
+        requires few { length shape.classes ≤ most_classes_of_one }
+        ensures done { IfOk result (λ u. self.new ≡ grown self.old shape) }
+        ensures kept { IfErr result (λ e. self.new ≡ self.old) }
+    {
+        self.put_shape(shape)?;
+        match self.make_tables(alloc) {
+            Ok(()) => Ok(()),
+            Err(fault) => {
+                self.drop_last();
+                Err(fault)
+            }
+        }
+    }
+
+    /// Puts a shape behind the others; its classes have no tables.
+    #[tactic(auto, using(crate::proofs::Small::small_grown, crate::proofs::Tabling::tables_grow))]
+    fn put_shape(&mut self, shape: PackageShape) -> Result<(), AllocError>
+        requires room { length self.now < most_packages }
+        requires few { length shape.classes ≤ most_classes_of_one }
+        ensures done { IfOk result (λ u. self.new ≡ grown self.old shape) }
+        ensures kept { IfErr result (λ e. self.new ≡ self.old) }
+    {
         self.packages.push(shape)?;
         Ok(())
+    }
+
+    /// Drops the last package.
+    fn drop_last(&mut self)
+        ensures { (world : List Shape) (more : Shape) → self.old ≡ grown world more → self.new ≡ world }
+    {
+        self.packages.pop();
+        self.tables.truncate(self.packages.len());
     }
 }

@@ -354,7 +354,7 @@ fn class_in(alloc: Global, binding: &Binding, class: ApiClass) -> Result<Class, 
     let body = record_in(alloc, binding, class)?;
     let methods = methods_in(alloc, binding, class)?;
     Ok(Class {
-        offset: usize::from(class.number()),
+        offset: u16::from(class.number()),
         body,
         is_abstract: class.is_abstract(),
         fields: Vec::new(alloc),
@@ -480,12 +480,7 @@ fn api_shape(
     let imports = imports_in(alloc, binding, which)?;
     let exports = exports_in(alloc, binding, which)?;
     let classes = classes_in(alloc, binding, which)?;
-    Ok(PackageShape {
-        package: binding.package(which),
-        imports,
-        exports,
-        classes,
-    })
+    PackageShape::new(alloc, binding.package(which), imports, exports, classes)
 }
 
 impl ClassTable {
@@ -495,9 +490,12 @@ impl ClassTable {
     {
         let lang = api_shape(alloc, binding, ApiPackage::Lang)?;
         let framework = api_shape(alloc, binding, ApiPackage::Framework)?;
-        let mut packages = Vec::new(alloc);
-        packages.push(lang)?;
-        packages.push(framework)?;
-        Ok(ClassTable { packages })
+        let mut table = ClassTable {
+            packages: Vec::new(alloc),
+            tables: Vec::new(alloc),
+        };
+        table.put_package(alloc, lang)?;
+        table.put_package(alloc, framework)?;
+        Ok(table)
     }
 }

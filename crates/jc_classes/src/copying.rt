@@ -9,23 +9,11 @@ ghost use Rattle.jc_classes.specs.declared.shape.Body.TheVariants as Kept;
 use crate::shape::{
     Body, Class, ClassBody, Export, Field, ImplementedInterface, Method, PackageShape, Table,
 };
-use jc_base::{Row, Rows, Source, U2s};
+use jc_base::{U2s, owned_rows};
 use jc_cap_class::{ClassRecord, RecordBody, VirtualTable};
 use jc_cap_data::ExportedClass;
 use jc_cap_desc::{ClassMethod, Package};
 use std::alloc::{AllocError, Global};
-
-/// Rows that lend nothing.
-fn rows_of<S: Source, R: Row<S>>(alloc: Global, rows: &Rows<S, R>) -> Result<Vec<R>, AllocError>
-    ensures { IfOk result (λ copied. copied.items ≡ rows.now) }
-{
-    let mut copied = Vec::new(alloc);
-    let mut left = rows.again();
-    while let Some(row) = left.next() {
-        copied.push(row)?;
-    }
-    Ok(copied)
-}
 
 #[tactic(auto, using(crate::proofs::Copied::at_more))]
 fn numbers_of(alloc: Global, numbers: &U2s) -> Result<Vec<u16>, AllocError>
@@ -95,7 +83,7 @@ fn body_of(alloc: Global, body: &RecordBody) -> Result<Body, AllocError>
 {
     match body {
         RecordBody::Interface(record) => {
-            let superinterfaces = rows_of(alloc, &record.superinterfaces)?;
+            let superinterfaces = owned_rows(alloc, &record.superinterfaces)?;
             Ok(Body::Interface(superinterfaces))
         }
         RecordBody::Class(record) => {
@@ -123,7 +111,7 @@ fn method_of(alloc: Global, method: &ClassMethod) -> Result<Method, AllocError>
     ensures { IfOk result (λ copied. copied ≡ method.now) }
 {
     let signature = method.signature();
-    let parameters = rows_of(alloc, &signature.parameters())?;
+    let parameters = owned_rows(alloc, &signature.parameters())?;
     Ok(Method {
         token: method.token(),
         is_static: method.is_static(),
@@ -200,13 +188,8 @@ pub(crate) fn shape_of(alloc: Global, from: &Package) -> Result<PackageShape, Al
     ensures copied { IfOk result (λ copied. copied ≡ from.now.shape) }
     ensures few { IfOk result (λ u. length from.now.shape.classes ≤ most_classes_of_one) }
 {
-    let imports = rows_of(alloc, &from.imports())?;
+    let imports = owned_rows(alloc, &from.imports())?;
     let exports = exports_of(alloc, from)?;
     let classes = classes_of(alloc, from)?;
-    Ok(PackageShape {
-        package: from.package(),
-        imports,
-        exports,
-        classes,
-    })
+    PackageShape::new(alloc, from.package(), imports, exports, classes)
 }

@@ -3,20 +3,29 @@
 
 mod adding;
 mod api;
+mod copies;
 mod copying;
 mod growth;
 mod interfaces;
+mod lent;
 mod listing;
+mod making;
+mod members;
 mod methods;
 mod name;
+mod places;
 mod search;
 mod shape;
 mod subtypes;
 mod table;
+mod tables;
 mod walk;
 
 pub use growth::adding_keeps_lookups;
+pub use members::DeclaredMethod;
+pub use methods::method_name;
 pub use name::{ClassName, MethodName};
+pub use shape::{Class, Export, Field, ImplementedInterface, Method, PackageShape};
 pub use table::ClassTable;
 
 #[cfg(test)]

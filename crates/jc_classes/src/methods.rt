@@ -1,14 +1,12 @@
 //! Look-ups of methods.
 
-ghost use Rattle.std.specs.Prelude.{◌≡◌, ◌≤◌, ◌==◌};
-ghost use Rattle.std.specs.List.{find};
-ghost use Rattle.std.specs.Option.{option_map};
-ghost use Rattle.jc_classes.specs.Methods.{method_of_class, has_method, method_name, method_there, entry_visit, table_visit, record_visit, virtual_visit, virtual_method_of};
+ghost use Rattle.std.specs.Prelude.{◌≡◌, ◌≤◌};
+ghost use Rattle.jc_classes.specs.Methods.{has_method, method_name, method_there, entry_visit, table_visit, record_visit, virtual_visit, virtual_method_of};
 ghost use Rattle.jc_classes.specs.PrivateShape.{record_of};
 ghost use Rattle.jc_classes.specs.PrivateWalk.{step_of};
 
 use crate::name::{ClassName, MethodName};
-use crate::shape::{Body, Class, Method, PackageShape, Table};
+use crate::shape::{Body, PackageShape, Table};
 use crate::table::ClassTable;
 use crate::walk::{MOST_CLASSES, Step, Visit};
 
@@ -18,7 +16,7 @@ pub(crate) const PACKAGE_VISIBLE: u8 = 128;
 const DECLARED_ABOVE: u16 = 0xFFFF;
 
 /// The name of the method at an offset of the package that stands there.
-fn method_name(home: usize, offset: u16) -> MethodName
+pub fn method_name(home: usize, offset: u16) -> MethodName
     requires { home ≤ 256 }
     ensures { result ≡ method_name home offset }
 {
@@ -32,31 +30,13 @@ fn method_name(home: usize, offset: u16) -> MethodName
     }
 }
 
-/// The method with a header at an offset.
-fn method_in(methods: &[Method], offset: u16) -> Option<&Method>
-    ensures { option_map (λ m. m.now) result ≡ find (λ m. m.offset == offset) methods.now }
-{
-    methods.iter().find(|m| m.offset == offset)
-}
-
-impl Class {
-    /// Its method with a header at an offset; an interface's methods have none.
-    fn method_with(&self, offset: u16) -> Option<&Method>
-        ensures { option_map (λ m. m.now) result ≡ method_of_class offset self.now }
-    {
-        match &self.body {
-            Body::Interface(_) => None,
-            Body::Class(_) => method_in(&self.methods, offset),
-        }
-    }
-}
-
 impl PackageShape {
     /// Whether a method stands at an offset.
+    #[tactic(auto, using(crate::proofs::Placing::has_first))]
     fn has_method(&self, offset: u16) -> bool
         ensures { result ≡ has_method offset self.now }
     {
-        self.classes.iter().any(|k| k.method_with(offset).is_some())
+        self.first_method(offset).is_some()
     }
 }
 
@@ -97,7 +77,13 @@ impl ClassTable {
     }
 
     /// A record at a virtual token, asked for the package that stands there.
-    fn record_visit(&self, asker: usize, token: u8, home: usize, body: &Body) -> Visit<MethodName>
+    pub(crate) fn record_visit(
+        &self,
+        asker: usize,
+        token: u8,
+        home: usize,
+        body: &Body,
+    ) -> Visit<MethodName>
         requires { home ≤ 256 }
         ensures { result ≡ record_visit self.now asker token home (record_of body.now) }
     {
@@ -132,13 +118,24 @@ impl ClassTable {
         }
     }
 
-    /// The virtual method of a class at a token, asked for the package that stands there.
-    pub(crate) fn virtual_method_for(
+    /// The virtual method of a class at a token, asked for the package that stands there: what its table has, or what a walk
+    /// finds where it has none.
+    pub fn virtual_method_for(
         &self,
         class: ClassName,
         token: u8,
         asker: usize,
     ) -> Option<MethodName>
+        ensures { result ≡ virtual_method_of self.now class token asker }
+    {
+        match self.table_of(class) {
+            Some(table) => table.method(token, asker),
+            None => self.walked_method(class, token, asker),
+        }
+    }
+
+    /// The same by a walk along the superclasses.
+    fn walked_method(&self, class: ClassName, token: u8, asker: usize) -> Option<MethodName>
         ensures { result ≡ virtual_method_of self.now class token asker }
     {
         let mut at = class;

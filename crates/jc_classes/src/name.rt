@@ -37,7 +37,7 @@ pub(crate) fn api_home(package: ApiPackage) -> usize
 
 impl ClassName {
     /// Where the class's package stands among the packages.
-    pub(crate) fn home(self) -> usize
+    pub fn home(self) -> usize
         ensures home { result ≡ home_of self }
         ensures most { result ≤ 256 }
     {
@@ -48,7 +48,7 @@ impl ClassName {
     }
 
     /// Where the class stands in its package.
-    pub(crate) fn offset(self) -> u16
+    pub fn offset(self) -> u16
         ensures { result ≡ offset_of self }
     {
         match self {
@@ -58,7 +58,7 @@ impl ClassName {
     }
 
     /// Whether it is the other name.
-    pub(crate) fn is(self, other: ClassName) -> bool
+    pub fn is(self, other: ClassName) -> bool
         ensures { result ≡ is_same_name self other }
     {
         match (self, other) {

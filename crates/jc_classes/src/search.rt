@@ -9,6 +9,7 @@ ghost use Rattle.jc_classes.specs.PrivateShape.{record_of};
 ghost use Rattle.jc_classes.specs.World.{class_named};
 
 use crate::name::ClassName;
+use crate::places::place_at;
 use crate::shape::{Body, Class, ImplementedInterface, PackageShape};
 use crate::table::ClassTable;
 use jc_base::{ClassRef, NumberSet};
@@ -19,17 +20,17 @@ pub(crate) const PLACES: usize = 256;
 
 impl PackageShape {
     /// Which of its classes stands at an offset.
-    fn index_of(&self, offset: u16) -> Option<usize>
+    #[tactic(auto, using(crate::proofs::Placing::position_within))]
+    pub(crate) fn index_of(&self, offset: u16) -> Option<usize>
         ensures found { result ≡ position (λ k. k.offset == offset) self.now.classes }
         ensures within { IfSome result (λ i. i < length self.now.classes) }
     {
-        self.classes
-            .iter()
-            .position(|k| k.offset == usize::from(offset))
+        let place = place_at(&self.class_places, usize::from(offset))?;
+        Some(usize::from(place))
     }
 
     /// The class with an index.
-    fn class_with(&self, index: usize) -> Option<&Class>
+    pub(crate) fn class_with(&self, index: usize) -> Option<&Class>
         ensures { option_map (λ k. k.now) result ≡ slice_get self.now.classes index }
     {
         self.classes.get(index)
@@ -48,7 +49,7 @@ impl PackageShape {
 
 impl ImplementedInterface {
     /// The interface, as it is spelled.
-    pub(crate) fn interface(&self) -> ClassRef
+    pub fn interface(&self) -> ClassRef
         ensures { result ≡ self.now.interface }
     {
         self.interface

@@ -8,7 +8,7 @@ use std::marker::Model;
 
 /// What a package exports of a class.
 #[derive(Drop)]
-pub(crate) struct Export {
+pub struct Export {
     /// Where the class stands.
     pub(crate) class: u16,
     /// Its static fields by their tokens.
@@ -44,7 +44,7 @@ impl Model for Table {
 
 /// An interface that a class implements.
 #[derive(Drop)]
-pub(crate) struct ImplementedInterface {
+pub struct ImplementedInterface {
     pub(crate) interface: ClassRef,
     /// The class's virtual tokens of the interface's methods.
     pub(crate) indexes: Vec<u8>,
@@ -77,7 +77,7 @@ pub(crate) enum Body {
 
 /// A field.
 #[derive(Drop)]
-pub(crate) struct Field {
+pub struct Field {
     pub(crate) place: FieldPlace,
     pub(crate) declared: DeclaredType<ClassRef>,
 }
@@ -92,7 +92,7 @@ impl Model for Field {
 
 /// A method.
 #[derive(Drop)]
-pub(crate) struct Method {
+pub struct Method {
     pub(crate) token: u8,
     pub(crate) is_static: bool,
     pub(crate) offset: u16,
@@ -117,8 +117,8 @@ impl Model for Method {
 
 /// A class or an interface.
 #[derive(Drop)]
-pub(crate) struct Class {
-    pub(crate) offset: usize,
+pub struct Class {
+    pub(crate) offset: u16,
     pub(crate) body: Body,
     pub(crate) is_abstract: bool,
     pub(crate) fields: Vec<Field>,
@@ -140,17 +140,29 @@ impl Model for Class {
     } };
 }
 
+/// Where a method stands: which of the package's classes it belongs to, and which of that class's methods it is.
+#[derive(Clone, Copy)]
+pub(crate) struct MethodPlace {
+    pub(crate) class: u8,
+    pub(crate) method: usize,
+}
+
 /// A package.
 #[derive(Drop)]
-pub(crate) struct PackageShape {
+pub struct PackageShape {
     pub(crate) package: PackageInfo,
     pub(crate) imports: Vec<PackageInfo>,
     pub(crate) exports: Vec<Export>,
     pub(crate) classes: Vec<Class>,
+    /// By an offset: the first class that stands there.
+    pub(crate) class_places: Vec<Option<u8>>,
+    /// By an offset: the first method with a header there.
+    pub(crate) method_places: Vec<Option<MethodPlace>>,
 }
 
 impl Model for PackageShape {
     ghost use Rattle.jc_cap_desc.specs.Shape.{Shape};
+    ghost use Rattle.jc_classes.specs.PrivatePlaces.{ArePlaces};
 
     ghost Value = { Shape };
 
@@ -160,4 +172,6 @@ impl Model for PackageShape {
       exports = p.exports.items;
       classes = p.classes.items;
     } };
+
+    ghost invariant = { λ p. ArePlaces p.class_places.items p.method_places.items p.classes.items };
 }

@@ -2,28 +2,14 @@
 
 ghost use Rattle.std.specs.Prelude.{◌≡◌, ◌↔◌, true, IsTrue};
 ghost use Rattle.jc_classes.specs.Subtype.{IsSubtype, IsOrderly, IsLeastAbove, is_class_at};
-ghost use Rattle.jc_cap_class.specs.Component.{is_class};
 
 use crate::name::ClassName;
-use crate::shape::{Body, Class};
 use crate::table::ClassTable;
 use crate::walk::MOST_CLASSES;
 use jc_api::ApiClass;
 
 /// What is above all classes and interfaces.
 const OBJECT: ClassName = ClassName::Api(ApiClass::Object);
-
-impl Class {
-    /// Whether it is a class, and not an interface.
-    fn is_class(&self) -> bool
-        ensures { result ≡ is_class self.now.body }
-    {
-        match self.body {
-            Body::Interface(_) => false,
-            Body::Class(_) => true,
-        }
-    }
-}
 
 impl ClassTable {
     /// Whether a class or interface is another one or below it (Java Card Virtual Machine Specification, Verification

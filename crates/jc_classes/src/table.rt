@@ -9,6 +9,7 @@ ghost use Rattle.jc_classes.specs.Limits.{IsSmall, most_packages, most_classes_o
 
 use crate::name::{ClassName, name_in};
 use crate::shape::{Body, Class, PackageShape};
+use crate::tables::PackageTables;
 use jc_base::{ClassRef, PackageInfo};
 use std::marker::Model;
 
@@ -16,28 +17,30 @@ use std::marker::Model;
 #[derive(Drop)]
 pub struct ClassTable {
     pub(crate) packages: Vec<PackageShape>,
+    /// By packages: the tables of their classes, as far as they are made.
+    pub(crate) tables: Vec<PackageTables>,
 }
 
 impl Model for ClassTable {
     ghost use Rattle.std.specs.Prelude.{List};
     ghost use Rattle.jc_cap_desc.specs.Shape.{Shape};
-    ghost use Rattle.jc_classes.specs.Limits.{IsSmall};
+    ghost use Rattle.jc_classes.specs.PrivateTables.{IsWhole};
 
     ghost Value = { List Shape };
 
     ghost view = { λ t. t.packages.items };
 
-    ghost invariant = { λ t. IsSmall t.packages.items };
+    ghost invariant = { λ t. IsWhole t.packages.items t.tables.items };
 }
 
 impl PackageShape {
     /// The class at an offset.
+    #[tactic(auto, using(crate::proofs::Placing::found_there, crate::proofs::Placing::none_there))]
     pub(crate) fn class_in(&self, offset: u16) -> Option<&Class>
         ensures { option_map (λ k. k.now) result ≡ class_in offset self.now }
     {
-        self.classes
-            .iter()
-            .find(|k| k.offset == usize::from(offset))
+        let index = self.index_of(offset)?;
+        self.class_with(index)
     }
 
     /// Whether it meets an import: the AID and the major version are those, and the minor version isn't smaller.
@@ -80,7 +83,7 @@ impl ClassTable {
     }
 
     /// The package that stands there.
-    pub(crate) fn shape(&self, home: usize) -> Option<&PackageShape>
+    pub fn shape(&self, home: usize) -> Option<&PackageShape>
         ensures found { option_map (λ s. s.now) result ≡ slice_get self.now home }
         ensures few { IfSome result (λ s. length s.now.classes ≤ most_classes_of_one) }
         ensures home { IfSome result (λ s. home < most_packages) }
@@ -101,7 +104,7 @@ impl ClassTable {
     }
 
     /// The class that has a name.
-    pub(crate) fn class_at(&self, class: ClassName) -> Option<&Class>
+    pub fn class_at(&self, class: ClassName) -> Option<&Class>
         ensures { option_map (λ k. k.now) result ≡ class_at self.now class }
     {
         let shape = self.package_at(class)?;
@@ -109,7 +112,7 @@ impl ClassTable {
     }
 
     /// Where the package stands that meets the import with a token: among those before, the first.
-    fn import_of(&self, home: usize, token: u8) -> Option<usize>
+    pub fn import_of(&self, home: usize, token: u8) -> Option<usize>
         ensures found { result ≡ import_of self.now home token }
         ensures before { IfSome result (λ there. there < home) }
     {
@@ -154,7 +157,7 @@ impl ClassTable {
     }
 
     /// The class that a reference of the package that stands there finds.
-    pub(crate) fn class_named(&self, home: usize, reference: ClassRef) -> Option<ClassName>
+    pub fn class_named(&self, home: usize, reference: ClassRef) -> Option<ClassName>
         requires { home ≤ 256 }
         ensures { result ≡ class_named self.now home reference }
     {
@@ -163,7 +166,7 @@ impl ClassTable {
     }
 
     /// The superclass of a class.
-    pub(crate) fn superclass_of(&self, class: ClassName) -> Option<ClassName>
+    pub fn superclass_of(&self, class: ClassName) -> Option<ClassName>
         ensures { result ≡ superclass_of self.now class }
     {
         let found = self.class_at(class)?;

@@ -47,8 +47,10 @@ fn virtual_methods_of_an_applet(rt: HostRuntime) -> Result<(), Fail> {
     let package = read_package(&parts)?;
     let mut table = ClassTable::new(rt.alloc(), &Binding::default_table())?;
     table.add(&package)?;
+    let copy = table.copy(rt.alloc())?;
     for (token, method) in METHODS {
         assert_eq!(rt; table.virtual_method(APPLET, token, 1), method, "{token}");
+        assert_eq!(rt; copy.virtual_method(APPLET, token, 1), method, "{token}");
     }
     Ok(())
 }

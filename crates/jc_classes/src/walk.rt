@@ -3,7 +3,7 @@
 use crate::name::ClassName;
 
 /// How many classes and interfaces there are at most.
-pub(crate) const MOST_CLASSES: u16 = 16_830;
+pub(crate) const MOST_CLASSES: u16 = 17_085;
 
 /// What a class is for a look-up.
 #[derive(Drop)]

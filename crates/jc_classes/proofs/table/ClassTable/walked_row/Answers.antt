@@ -2,7 +2,7 @@ use Rattle.std.proofs.Common.{ap, sym, ◌∙◌, arith}
 use Rattle.jc_classes.specs.Methods.{interface_visit}
 use Rattle.jc_classes.specs.PrivateWalk.{step_map}
 use Rattle.jc_classes.proofs.Walking.{gives, ends, goes_on, most_is, one_less, all_steps, no_steps}
-use Rattle.jc_classes.proofs.table.ClassTable.listing.Goals as goal
+use Rattle.jc_classes.proofs.table.ClassTable.walked_row.Goals as goal
 
 pub loop-init : goal.loop-init
 loop-init c = all_steps (interface_visit c.args.self.now c.args.interface) c.args.self.now c.args.class

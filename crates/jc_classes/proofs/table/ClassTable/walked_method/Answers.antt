@@ -1,7 +1,7 @@
 use Rattle.std.proofs.Common.{sym, ◌∙◌, arith}
 use Rattle.jc_classes.specs.Methods.{virtual_visit}
 use Rattle.jc_classes.proofs.Walking.{gives, ends, goes_on, most_is, one_less, all_steps, no_steps}
-use Rattle.jc_classes.proofs.table.ClassTable.virtual_method_for.Goals as goal
+use Rattle.jc_classes.proofs.table.ClassTable.walked_method.Goals as goal
 
 pub loop-init : goal.loop-init
 loop-init c = all_steps (virtual_visit c.args.self.now c.args.asker c.args.token) c.args.self.now c.args.class

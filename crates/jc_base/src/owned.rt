@@ -1,0 +1,21 @@
+//! Rows that are kept.
+
+ghost use Rattle.std.specs.Prelude.{◌≡◌, IfOk};
+
+use crate::rows::{Row, Rows, Source};
+use std::alloc::{AllocError, Global};
+
+/// A copy of rows that is kept. It serves rows that lend nothing.
+pub fn owned_rows<S: Source, R: Row<S>>(
+    alloc: Global,
+    rows: &Rows<S, R>,
+) -> Result<Vec<R>, AllocError>
+    ensures { IfOk result (λ owned. owned.items ≡ rows.now) }
+{
+    let mut owned = Vec::new(alloc);
+    let mut left = rows.again();
+    while let Some(row) = left.next() {
+        owned.push(row)?;
+    }
+    Ok(owned)
+}

@@ -1,0 +1,172 @@
+//! The methods with code.
+
+ghost use Rattle.std.specs.Prelude.{◌≡◌, ◌∷◌, [], IfSome, IfNone, if◌then◌else◌};
+ghost use Rattle.std.specs.List.{filter_map};
+ghost use Rattle.jc_cap_desc.specs.Across.{class_methods, is_interface_row};
+ghost use Rattle.jc_cap_desc.specs.Shape.{body_of_method};
+
+use crate::across::record_of;
+use crate::class_row::{ClassRow, ClassRows, MethodRow, MethodRows};
+use crate::interfaces::is_interface;
+use crate::standing::has_code;
+use jc_base::{Cursor, Rows};
+use jc_cap_class::Records;
+use jc_cap_method::{Handlers, MethodInfo};
+use std::marker::Model;
+
+/// A method with code.
+#[derive(Drop)]
+pub struct MethodBody<'a> {
+    offset: u16,
+    code_offset: usize,
+    code: &'a [u8],
+    handlers: Handlers<'a>,
+}
+
+impl<'a> Model for MethodBody<'a> {
+    ghost use Rattle.jc_cap_desc.specs.Shape.{MethodBody as Body};
+
+    ghost Value = { Body };
+
+    ghost view = { λ b. record { offset = b.offset; code_offset = b.code_offset; code = b.code.now; handlers = b.handlers } };
+}
+
+impl<'a> MethodBody<'a> {
+    /// Where the method's header stands in the Method component.
+    pub fn offset(&self) -> u16
+        ensures { result ≡ self.now.offset }
+    {
+        self.offset
+    }
+
+    /// Where its code begins in the Method component, behind the header.
+    pub fn code_offset(&self) -> usize
+        ensures { result ≡ self.now.code_offset }
+    {
+        self.code_offset
+    }
+
+    /// Its code.
+    pub fn code(&self) -> &'a [u8]
+        ensures { result.now ≡ self.now.code }
+    {
+        self.code
+    }
+
+    /// Its handlers, in the order of the table. Their offsets count in the Method component.
+    pub fn handlers(&self) -> Handlers<'a>
+        ensures { result ≡ self.now.handlers }
+    {
+        self.handlers.again()
+    }
+}
+
+/// The code and the handlers of a class's method, if it has code.
+fn body_of_method<'a>(methods: &MethodInfo<'a>, row: &MethodRow) -> Option<MethodBody<'a>>
+    ensures { result ≡ body_of_method methods.now row.now }
+{
+    if !has_code(row) {
+        return None;
+    }
+    let found = methods.method_at(row.offset)?;
+    let handlers = methods.handlers(row.handler_index, row.handler_count)?;
+    let count = found.code().len().min(usize::from(row.bytecode_count));
+    Some(MethodBody {
+        offset: row.offset,
+        code_offset: found.code_offset(),
+        code: &found.code()[..count],
+        handlers,
+    })
+}
+
+/// The rows of a class's methods; an interface's don't count.
+fn rows_of<'a>(records: &Records, class: &ClassRow<'a>) -> MethodRows<'a>
+    ensures { result ≡ if is_interface_row records.now class.now then [] else class.now.methods }
+{
+    match record_of(records, class) {
+        Some(record) if is_interface(&record.body) => Rows::none(Cursor::new(&[])),
+        _ => class.methods.again(),
+    }
+}
+
+/// The rows of the methods of classes.
+#[derive(Drop)]
+struct ClassMethodRows<'p, 'a> {
+    records: &'p Records<'a>,
+    classes: ClassRows<'a>,
+    rows: MethodRows<'a>,
+}
+
+impl<'p, 'a> Model for ClassMethodRows<'p, 'a> {
+    ghost use Rattle.std.specs.Prelude.{List, ◌++◌};
+    ghost use Rattle.jc_cap_desc.specs.Across.{class_methods};
+    ghost use Rattle.jc_cap_desc.specs.declared.class_row.MethodRow.{MethodRow};
+
+    ghost Value = { List MethodRow };
+
+    ghost view = { λ m. m.rows ++ class_methods m.records.now m.classes };
+}
+
+impl<'p, 'a> ClassMethodRows<'p, 'a> {
+    /// Takes the first row off, or answers `None` where there is none.
+    fn next(&mut self) -> Option<MethodRow>
+        ensures some { IfSome result (λ row. self.old ≡ row ∷ self.new) }
+        ensures none { IfNone result ((self.old ≡ []) × (self.new ≡ [])) }
+    {
+        while self.rows.is_empty() {
+            let class = self.classes.next()?;
+            self.rows = rows_of(self.records, &class);
+        }
+        self.rows.next()
+    }
+}
+
+/// The methods with code, in the order of their rows.
+#[derive(Drop)]
+pub struct MethodBodies<'p, 'a> {
+    methods: &'p MethodInfo<'a>,
+    left: ClassMethodRows<'p, 'a>,
+}
+
+impl<'p, 'a> Model for MethodBodies<'p, 'a> {
+    ghost use Rattle.std.specs.Prelude.{List};
+    ghost use Rattle.std.specs.List.{filter_map};
+    ghost use Rattle.jc_cap_desc.specs.Shape.{MethodBody as Body, body_of_method};
+
+    ghost Value = { List Body };
+
+    ghost view = { λ b. filter_map (body_of_method b.methods.now) b.left };
+}
+
+impl<'p, 'a> MethodBodies<'p, 'a> {
+    /// The methods with code of these classes' rows.
+    pub(crate) fn new(
+        methods: &'p MethodInfo<'a>,
+        records: &'p Records<'a>,
+        classes: ClassRows<'a>,
+    ) -> MethodBodies<'p, 'a>
+        ensures { result ≡ filter_map (body_of_method methods.now) (class_methods records.now classes.entry) }
+    {
+        MethodBodies {
+            methods,
+            left: ClassMethodRows {
+                records,
+                classes,
+                rows: Rows::none(Cursor::new(&[])),
+            },
+        }
+    }
+
+    /// Takes the first method off, or answers `None` where there is none.
+    pub fn next(&mut self) -> Option<MethodBody<'a>>
+        ensures some { IfSome result (λ body. self.old ≡ body ∷ self.new) }
+        ensures none { IfNone result ((self.old ≡ []) × (self.new ≡ [])) }
+    {
+        while let Some(row) = self.left.next() {
+            if let Some(body) = body_of_method(self.methods, &row) {
+                return Some(body);
+            }
+        }
+        None
+    }
+}

@@ -1,0 +1,380 @@
+-- Tables of the methods of classes.
+use Rattle.std.proofs.Common.{◌≡◌, ◌⊎◌, inl, inr, ℕ, zero, suc, ◌+◌, ◌-◌, ◌*◌, ◌<◌, ◌≤◌, ◌==◌, Bool, true, false, cond, List, [], ◌∷◌, ◌++◌, length, take, get_or, set, Option, Some, None, refl, sym, ap, subst, ◌∙◌, arith, nat_lt, slice_get, unwrap_or, length-append, append-nil, add-one}
+use Rattle.std.proofs.lemmas.Bool.{cases_lt, le-ltb, ltb-true, ltb-false, ne_eqb}
+use Rattle.std.proofs.lemmas.List.{length-set, length-take}
+use Rattle.std.proofs.lemmas.List.Elements.{filter_map-append}
+use Rattle.std.proofs.Math.Seq.{take-suc}
+use Rattle.std.proofs.lemmas.Option.{slice_get_past, slice_get_within, slice_get-get_or}
+use Rattle.std.specs.List.{find, position, filter_map, cons_option}
+use Rattle.std.specs.Option.{option_map, option_and_then, option_map_or, option_to_list}
+use Rattle.jc_base.proofs.Binding.{the_some, none_some}
+use Rattle.jc_cap_class.specs.Interfaces.{Implemented}
+use Rattle.jc_cap_class.specs.declared.record.RecordBody.{RecordBody}
+use Rattle.jc_cap_class.specs.declared.record.RecordBody.TheVariants.{Interface, Class}
+use Rattle.jc_cap_desc.specs.Shape.{ClassShape, Shape}
+use Rattle.jc_classes.proofs.Growing.{get_before, packages_keep, superclasses_keep, superclass_within, virtual_methods_keep, listings_found_keep}
+use Rattle.jc_classes.proofs.Below.{one_place}
+use Rattle.jc_classes.proofs.Passing.{some_of, package_there}
+use Rattle.jc_classes.proofs.Marking.{true_false}
+use Rattle.jc_classes.specs.Growth.{grown, IsWithin}
+use Rattle.jc_classes.specs.Limits.{IsSmall}
+use Rattle.jc_classes.specs.Names.{is_same_name}
+use Rattle.jc_classes.specs.PrivateSearch.{place_in, place}
+use Rattle.jc_classes.specs.Record.{interface_rows}
+use Rattle.jc_cap_class.specs.Component.{is_class}
+use Rattle.jc_classes.specs.Methods.{is_this, table_visit, record_visit, virtual_visit, virtual_method_of, package_visible, interface_visit, listing_visit, indexes_visit, row_for}
+use Rattle.jc_classes.specs.PrivatePlaces.{place_at}
+use Rattle.jc_classes.specs.PrivateTables.{Listed, Tabled, row_at, entry_in, indexes_in, depth_above, entry_above, visible_above, listed_above, IsTabled, IsTabledAbove, entry_made, listed_row, index_at, table_in, IsPut, AreTables, IsWhole}
+use Rattle.jc_classes.specs.Subtype.{comes_to_end}
+use Rattle.jc_classes.specs.Walk.{most_classes, found_from, walk, found}
+use Rattle.jc_classes.specs.World.{home_of, offset_of, package_at, class_at, class_named, superclass_of}
+use Rattle.jc_classes.specs.declared.name.ClassName.{ClassName}
+use Rattle.jc_classes.specs.declared.name.MethodName.{MethodName}
+use Rattle.jc_classes.specs.declared.walk.Visit.{Visit}
+use Rattle.jc_classes.specs.declared.walk.Visit.TheVariants.{Above}
+
+-- ---- walks that have come to their end
+
+-- more steps find the same
+stable : {A : Type 0} (visit : ClassName → ClassShape → Visit A) (world : List Shape) (n m : ℕ) (c : ClassName) → comes_to_end world n c ≡ true → n ≤ m → walk visit world m c ≡ walk visit world n c
+stable visit world zero m c e h = absurd (true_false (sym e))
+stable visit world (suc n) zero c e h = absurd (omega arith)
+stable {A} visit world (suc n) (suc m) c e h = ap (λ (o : Option A). option_and_then (λ k. found_from (visit c k) o) (class_at world c)) (above (superclass_of world c) e (λ d f. stable visit world n m d f (omega arith)))
+  where
+    above : (o : Option ClassName) → option_map_or (comes_to_end world n) o true ≡ true → ((d : ClassName) → comes_to_end world n d ≡ true → walk visit world m d ≡ walk visit world n d)
+        → option_and_then (walk visit world m) o ≡ option_and_then (walk visit world n) o
+    above None e rest = refl
+    above (Some d) e rest = rest d e
+
+-- what a class says, or what is found above it
+pub one_visit : {A : Type 0} (visit : ClassName → ClassShape → Visit A) (world : List Shape) (n : ℕ) (c : ClassName) (k : ClassShape) → comes_to_end world n c ≡ true → n ≤ most_classes → class_at world c ≡ Some k
+    → found visit world c ≡ found_from (visit c k) (option_and_then (found visit world) (superclass_of world c))
+one_visit visit world n c k e h at =
+    stable visit world n most_classes c e h ∙ sym (stable visit world n (suc most_classes) c e (omega arith))
+    ∙ ap (option_and_then (λ k. found_from (visit c k) (option_and_then (found visit world) (superclass_of world c)))) at
+
+-- ---- tables of the class above
+
+pub none_above : (world : List Shape) (c : ClassName) → superclass_of world c ≡ None → IsTabledAbove world c None
+none_above world c e = record {
+  ends = ap (λ (o : Option ClassName). option_map_or (comes_to_end world 0) o true) e;
+  methods = λ token asker b. sym (ap (option_and_then (λ d. virtual_method_of world d token asker)) e);
+  interfaces = λ interface. sym (ap (option_and_then (found (interface_visit world interface) world)) e);
+}
+
+pub some_above : (world : List Shape) (c d : ClassName) (table : Tabled) → superclass_of world c ≡ Some d → IsTabled world d table → IsTabledAbove world c (Some table)
+some_above world c d table e t = record {
+  ends = ap (λ (o : Option ClassName). option_map_or (comes_to_end world table.depth) o true) e ∙ t.ends;
+  methods = λ token asker b. t.methods token asker b ∙ sym (ap (option_and_then (λ d. virtual_method_of world d token asker)) e);
+  interfaces = λ interface. t.interfaces interface ∙ sym (ap (option_and_then (found (interface_visit world interface) world)) e);
+}
+
+-- a table of what a class says, and of what the table above has
+pub made_right : (world : List Shape) (c : ClassName) (k : ClassShape) (above : Option Tabled) (table : Tabled) → class_at world c ≡ Some k → IsTabledAbove world c above → table.depth ≡ suc (depth_above above) → table.depth ≤ most_classes
+    → ((token asker : ℕ) → token < 256 → entry_in table token asker ≡ entry_made world above (home_of c) k.body token asker)
+    → ((interface : ClassName) → indexes_in table.listed interface ≡ found_from (listing_visit world interface (home_of c) k.body) (indexes_in (listed_above above) interface))
+    → IsTabled world c table
+made_right world c k above table at up one few methods interfaces =
+    let ends : comes_to_end world table.depth c ≡ true = ap (λ n. comes_to_end world n c) one ∙ up.ends in
+    record {
+      ends = ends;
+      depth = few;
+      methods = λ token asker b. methods token asker b ∙ ap (found_from (record_visit world asker token (home_of c) k.body)) (up.methods token asker b) ∙ sym (one_visit (virtual_visit world asker token) world table.depth c k ends few at);
+      interfaces = λ interface. interfaces interface ∙ ap (found_from (listing_visit world interface (home_of c) k.body)) (up.interfaces interface) ∙ sym (one_visit (interface_visit world interface) world table.depth c k ends few at);
+    }
+
+-- ---- worlds that grow
+
+ends_keep : (world : List Shape) (more : Shape) (n : ℕ) (c : ClassName) → IsWithin world c → comes_to_end (grown world more) n c ≡ comes_to_end world n c
+ends_keep world more zero c w = refl
+ends_keep world more (suc n) c w =
+    ap (λ (o : Option ClassName). option_map_or (comes_to_end (grown world more) n) o true) (superclasses_keep world more c w)
+    ∙ above (superclass_of world c) (λ d e. ends_keep world more n d (superclass_within world c d w e))
+  where
+    above : (o : Option ClassName) → ((d : ClassName) → o ≡ Some d → comes_to_end (grown world more) n d ≡ comes_to_end world n d) → option_map_or (comes_to_end (grown world more) n) o true ≡ option_map_or (comes_to_end world n) o true
+    above None rest = refl
+    above (Some d) rest = rest d refl
+
+table_grows : (world : List Shape) (more : Shape) (c : ClassName) (table : Tabled) → IsWithin world c → IsTabled world c table → IsTabled (grown world more) c table
+table_grows world more c table w t = record {
+  ends = ends_keep world more table.depth c w ∙ t.ends;
+  depth = t.depth;
+  methods = λ token asker b. t.methods token asker b ∙ sym (virtual_methods_keep world more c token asker w);
+  interfaces = λ interface. t.interfaces interface ∙ sym (listings_found_keep world more interface c w);
+}
+
+table_shrinks : (world : List Shape) (more : Shape) (c : ClassName) (table : Tabled) → IsWithin world c → IsTabled (grown world more) c table → IsTabled world c table
+table_shrinks world more c table w t = record {
+  ends = sym (ends_keep world more table.depth c w) ∙ t.ends;
+  depth = t.depth;
+  methods = λ token asker b. t.methods token asker b ∙ virtual_methods_keep world more c token asker w;
+  interfaces = λ interface. t.interfaces interface ∙ listings_found_keep world more interface c w;
+}
+
+indexes_keep : (world : List Shape) (more : Shape) (c : ClassName) → IsWithin world c → index_at (grown world more) c ≡ index_at world c
+indexes_keep world more c w = ap (option_and_then (λ (shape : Shape). position (λ (k : ClassShape). k.offset == offset_of c) shape.classes)) (packages_keep world more c w)
+
+table_within : (tables : List (List (Option Tabled))) (home index : ℕ) (table : Tabled) → table_in tables home index ≡ Some table → home < length tables
+table_within tables home index table e =
+    let row = some_of (λ (row : List (Option Tabled)). place_at row index) (slice_get tables home) table e in
+    slice_get_within tables home row.0 row.1
+
+index_within : (world : List Shape) (c : ClassName) (i : ℕ) → index_at world c ≡ Some i → IsWithin world c
+index_within world c i e =
+    let shape = some_of (λ (shape : Shape). position (λ (k : ClassShape). k.offset == offset_of c) shape.classes) (package_at world c) i e in
+    slice_get_within world (home_of c) shape.0 (package_there world c shape.0 shape.1)
+
+pub tables_grow : (world : List Shape) (more : Shape) (tables : List (List (Option Tabled))) → AreTables world tables → AreTables (grown world more) tables
+tables_grow world more tables t = record {
+  few = omega (arith, t.few, length-append world (more ∷ []));
+  right = λ c i table at e.
+      let less = table_within tables (home_of c) i table e in
+      let w : IsWithin world c = omega (arith, less, t.few) in
+      table_grows world more c table w (t.right c i table (sym (indexes_keep world more c w) ∙ at) e);
+}
+
+get_taken : {A : Type 0} (n : ℕ) (xs : List A) (i : ℕ) (x : A) → slice_get (take n xs) i ≡ Some x → slice_get xs i ≡ Some x
+get_taken zero xs i x e = absurd (none_some x e)
+get_taken (suc n) [] i x e = e
+get_taken (suc n) (y ∷ ys) zero x e = e
+get_taken (suc n) (y ∷ ys) (suc i) x e = get_taken n ys i x e
+
+table_taken : (n : ℕ) (tables : List (List (Option Tabled))) (home index : ℕ) (table : Tabled) → table_in (take n tables) home index ≡ Some table → table_in tables home index ≡ Some table
+table_taken n tables home index table e =
+    let row = some_of (λ (row : List (Option Tabled)). place_at row index) (slice_get (take n tables) home) table e in
+    ap (option_and_then (λ (row : List (Option Tabled)). place_at row index)) (get_taken n tables home row.0 row.1) ∙ row.2
+
+pub tables_shrink : (world : List Shape) (more : Shape) (tables : List (List (Option Tabled))) → AreTables (grown world more) tables → AreTables world (take (length world) tables)
+tables_shrink world more tables t = record {
+  few = omega (arith, length-take (length world) tables);
+  right = λ c i table at e.
+      let w = index_within world c i at in
+      table_shrinks world more c table w (t.right c i table (indexes_keep world more c w ∙ at) (table_taken (length world) tables (home_of c) i table e));
+}
+
+-- ---- tables that change
+
+table_pushed : (tables : List (List (Option Tabled))) (row : List (Option Tabled)) (home index : ℕ) → ((i : ℕ) → place_at row i ≡ None) → table_in (tables ++ row ∷ []) home index ≡ table_in tables home index
+table_pushed [] row zero index none = none index
+table_pushed [] row (suc home) index none = refl
+table_pushed (first ∷ tables) row zero index none = refl
+table_pushed (first ∷ tables) row (suc home) index none = table_pushed tables row home index none
+
+pub tables_pushed : (world : List Shape) (tables : List (List (Option Tabled))) (row : List (Option Tabled)) → AreTables world tables → length tables < length world → ((i : ℕ) → place_at row i ≡ None) → AreTables world (tables ++ row ∷ [])
+tables_pushed world tables row t less none = record {
+  few = omega (arith, less, length-append tables (row ∷ []));
+  right = λ c i table at e. t.right c i table at (sym (table_pushed tables row (home_of c) i none) ∙ e);
+}
+
+placed_index : (world : List Shape) (c : ClassName) (i : ℕ) → index_at world c ≡ Some i → place world c ≡ Some (256 * home_of c + i)
+placed_index world c i e = by_package (package_at world c) e
+  where
+    by_package : (o : Option Shape) → option_and_then (λ (shape : Shape). position (λ (k : ClassShape). k.offset == offset_of c) shape.classes) o ≡ Some i → option_and_then (place_in (home_of c) (offset_of c)) o ≡ Some (256 * home_of c + i)
+    by_package None e = absurd (none_some i e)
+    by_package (Some shape) e = ap (option_map (λ (i : ℕ). 256 * home_of c + i)) e
+
+one_class : (world : List Shape) (c d : ClassName) (i j : ℕ) → IsSmall world → index_at world c ≡ Some i → index_at world d ≡ Some j → home_of d ≡ home_of c → j ≡ i → c ≡ d
+one_class world c d i j small e f home same =
+    let n : 256 * home_of d + j ≡ 256 * home_of c + i = omega (arith, home, same) in
+    one_place world c d (256 * home_of c + i) small (placed_index world c i e) (placed_index world d j f ∙ ap Some n)
+
+table_set : (tables : List (List (Option Tabled))) (home : ℕ) (old new : List (Option Tabled)) (index : ℕ) (table : Tabled) → slice_get tables home ≡ Some old → IsPut old index table new
+    → (h i : ℕ) (t : Tabled) → table_in (set tables home new) h i ≡ Some t → (table_in tables h i ≡ Some t) ⊎ ((h ≡ home) × (i ≡ index) × (t ≡ table))
+table_set [] home old new index table at put h i t e = absurd (none_some old at)
+table_set (first ∷ tables) zero old new index table at put zero i t e = by_put (put i t e)
+  where
+    by_put : (place_at old i ≡ Some t) ⊎ ((i ≡ index) × (t ≡ table)) → (place_at first i ≡ Some t) ⊎ ((◌≡◌ {A = ℕ} 0 0) × (i ≡ index) × (t ≡ table))
+    by_put (inl before) = inl (ap (λ (row : List (Option Tabled)). place_at row i) (the_some first old at) ∙ before)
+    by_put (inr now) = inr (refl, now.0, now.1)
+table_set (first ∷ tables) zero old new index table at put (suc h) i t e = inl e
+table_set (first ∷ tables) (suc home) old new index table at put zero i t e = inl e
+table_set (first ∷ tables) (suc home) old new index table at put (suc h) i t e = by_put (table_set tables home old new index table at put h i t e)
+  where
+    by_put : (table_in tables h i ≡ Some t) ⊎ ((h ≡ home) × (i ≡ index) × (t ≡ table)) → (table_in tables h i ≡ Some t) ⊎ ((suc h ≡ suc home) × (i ≡ index) × (t ≡ table))
+    by_put (inl before) = inl before
+    by_put (inr now) = inr (ap suc now.0, now.1, now.2)
+
+pub tables_put : (world : List Shape) (tables : List (List (Option Tabled))) (c : ClassName) (old new : List (Option Tabled)) (index : ℕ) (table : Tabled) → IsSmall world → AreTables world tables → index_at world c ≡ Some index → slice_get tables (home_of c) ≡ Some old
+    → IsPut old index table new → IsTabled world c table → AreTables world (set tables (home_of c) new)
+tables_put world tables c old new index table small t at row put right = record {
+  few = omega (arith, t.few, length-set tables (home_of c) new);
+  right = λ d i u there e. by_put d i u there (table_set tables (home_of c) old new index table row put (home_of d) i u e);
+}
+  where
+    by_put : (d : ClassName) (i : ℕ) (u : Tabled) → index_at world d ≡ Some i → (table_in tables (home_of d) i ≡ Some u) ⊎ ((home_of d ≡ home_of c) × (i ≡ index) × (u ≡ table)) → IsTabled world d u
+    by_put d i u there (inl before) = t.right d i u there before
+    by_put d i u there (inr now) = subst (λ x. IsTabled world x u) (one_class world c d index i small at there now.0 now.1) (subst (IsTabled world c) (sym now.2) right)
+
+-- ---- what a table is to have
+
+same_visit : (world : List Shape) (asker token home : ℕ) (body : RecordBody) → nat_lt token package_visible ≡ true → record_visit world asker token home body ≡ record_visit world 0 token home body
+same_visit world asker token home (Interface r) e = refl
+same_visit world asker token home (Class r) e =
+    ap (λ b. cond b (table_visit world home r.public_methods token) (cond (home == asker) (table_visit world home r.package_methods (token - package_visible)) Above)) e
+    ∙ sym (ap (λ b. cond b (table_visit world home r.public_methods token) (cond (home == 0) (table_visit world home r.package_methods (token - package_visible)) Above)) e)
+
+same_above : (above : Option Tabled) (asker token : ℕ) → nat_lt token package_visible ≡ true → entry_above above token asker ≡ entry_above above token 0
+same_above None asker token e = refl
+same_above (Some t) asker token e =
+    ap (λ b. cond b (place_at t.public token) (place_at (row_at t.visible asker) (token - package_visible))) e
+    ∙ sym (ap (λ b. cond b (place_at t.public token) (place_at (row_at t.visible 0) (token - package_visible))) e)
+
+-- whoever asks, a public method is the same
+same_made : (world : List Shape) (above : Option Tabled) (home : ℕ) (body : RecordBody) (asker token : ℕ) → nat_lt token package_visible ≡ true → entry_made world above home body token 0 ≡ entry_made world above home body token asker
+same_made world above home body asker token e =
+    sym (ap (λ v. found_from v (entry_above above token asker)) (same_visit world asker token home body e) ∙ ap (found_from (record_visit world 0 token home body)) (same_above above asker token e))
+
+-- a table of rows
+pub rows_right : (world : List Shape) (above : Option Tabled) (home : ℕ) (body : RecordBody) (table : Tabled)
+    → ((i : ℕ) → i < 128 → place_at table.public i ≡ entry_made world above home body (0 + i) 0)
+    → ((asker i : ℕ) → i < 128 → place_at (row_at table.visible asker) i ≡ entry_made world above home body (128 + i) asker)
+    → (token asker : ℕ) → token < 256 → entry_in table token asker ≡ entry_made world above home body token asker
+rows_right world above home body table public visible token asker less = by_token (nat_lt token package_visible) refl
+  where
+    by_token : (b : Bool) → nat_lt token package_visible ≡ b → cond b (place_at table.public token) (place_at (row_at table.visible asker) (token - package_visible)) ≡ entry_made world above home body token asker
+    by_token true e =
+        let l = ltb-true token 128 e in
+        let same : 0 + token ≡ token = omega arith in
+        public token l ∙ ap (λ n. entry_made world above home body n 0) same ∙ same_made world above home body asker token e
+    by_token false e =
+        let l = ltb-false token 128 e in
+        let same : 128 + (token - 128) ≡ token = omega (arith, l) in
+        visible asker (token - 128) (omega (arith, l, less)) ∙ ap (λ n. entry_made world above home body n asker) same
+
+-- who isn't among the packages of a class and of those above it finds no package-visible method
+pub none_visible : (world : List Shape) (above : Option Tabled) (home : ℕ) (body : RecordBody) (asker i : ℕ) → home < asker → length (visible_above above) ≤ asker → entry_made world above home body (128 + i) asker ≡ None
+none_visible world above home (Interface r) asker i other past = refl
+none_visible world above home (Class r) asker i other past =
+    let high : nat_lt (128 + i) package_visible ≡ false = le-ltb (128 + i) 128 (omega arith) in
+    let not_home : (home == asker) ≡ false = ne_eqb home asker (λ e. omega (arith, other, e)) in
+    ap (λ b. found_from (cond b (table_visit world home r.public_methods (128 + i)) (cond (home == asker) (table_visit world home r.package_methods (128 + i - package_visible)) Above)) (entry_above above (128 + i) asker)) high
+    ∙ ap (λ b. found_from (cond b (table_visit world home r.package_methods (128 + i - package_visible)) Above) (entry_above above (128 + i) asker)) not_home
+    ∙ by_table above high past
+  where
+    by_table : (above : Option Tabled) → nat_lt (128 + i) package_visible ≡ false → length (visible_above above) ≤ asker → entry_above above (128 + i) asker ≡ None
+    by_table None high past = refl
+    by_table (Some t) high past =
+        ap (λ b. cond b (place_at t.public (128 + i)) (place_at (row_at t.visible asker) (128 + i - package_visible))) high
+        ∙ ap (λ (o : Option (List (Option MethodName))). place_at (unwrap_or o []) (128 + i - package_visible)) (slice_get_past t.visible asker past)
+
+-- ---- interfaces
+
+pub one_listed : (world : List Shape) (home : ℕ) (rows : List Implemented) (listed : List Listed) (i : ℕ) (row : Implemented) → listed ≡ filter_map (listed_row world home) (take i rows) → i < length rows → row ≡ get_or rows i row
+    → listed ++ option_to_list (listed_row world home row) ≡ filter_map (listed_row world home) (take (i + 1) rows)
+one_listed world home rows listed i row so_far less at =
+    ap (λ xs. xs ++ option_to_list (listed_row world home row)) so_far
+    ∙ ap (λ (xs : List Listed). filter_map (listed_row world home) (take i rows) ++ xs) (one_mapped (listed_row world home row))
+    ∙ sym (filter_map-append (listed_row world home) (take i rows) (row ∷ []))
+    ∙ ap (λ x. filter_map (listed_row world home) (take i rows ++ x ∷ [])) at
+    ∙ sym (ap (filter_map (listed_row world home)) (take-suc rows i row less))
+    ∙ ap (λ n. filter_map (listed_row world home) (take n rows)) (sym (add-one i))
+  where
+    one_mapped : (o : Option Listed) → option_to_list o ≡ cons_option o []
+    one_mapped None = refl
+    one_mapped (Some l) = refl
+
+-- the rows of a class, and then those above
+pub listed_right : (world : List Shape) (home : ℕ) (rows : List Implemented) (rest : List Listed) (interface : ClassName)
+    → indexes_in (filter_map (listed_row world home) rows ++ rest) interface ≡ found_from (indexes_visit (row_for world interface home rows)) (indexes_in rest interface)
+listed_right world home [] rest interface = refl
+listed_right world home (row ∷ rows) rest interface = by_name (class_named world home row.interface) (listed_right world home rows rest interface)
+  where
+    by_test : (b : Bool) (c : ClassName) → indexes_in (filter_map (listed_row world home) rows ++ rest) interface ≡ found_from (indexes_visit (row_for world interface home rows)) (indexes_in rest interface)
+        → option_map (λ (l : Listed). l.indexes) (cond b (Some (record { interface = c; indexes = row.indexes })) (find (λ (l : Listed). is_same_name l.interface interface) (filter_map (listed_row world home) rows ++ rest)))
+        ≡ found_from (indexes_visit (cond b (Some row) (row_for world interface home rows))) (indexes_in rest interface)
+    by_test true c others = refl
+    by_test false c others = others
+
+    by_name : (o : Option ClassName) → indexes_in (filter_map (listed_row world home) rows ++ rest) interface ≡ found_from (indexes_visit (row_for world interface home rows)) (indexes_in rest interface)
+        → indexes_in (cons_option (option_map (λ (c : ClassName). record { interface = c; indexes = row.indexes }) o) (filter_map (listed_row world home) rows) ++ rest) interface
+        ≡ found_from (indexes_visit (cond (is_this interface o) (Some row) (row_for world interface home rows))) (indexes_in rest interface)
+    by_name None others = others
+    by_name (Some c) others = by_test (is_same_name c interface) c others
+
+pub class_listing : (world : List Shape) (interface : ClassName) (home : ℕ) (body : RecordBody) → is_class body ≡ true → listing_visit world interface home body ≡ indexes_visit (row_for world interface home (interface_rows body))
+class_listing world interface home (Interface r) e = absurd (true_false (sym e))
+class_listing world interface home (Class r) e = refl
+
+-- ---- rows that are made
+
+place_before : {A : Type 0} (xs : List (Option A)) (y : Option A) (i : ℕ) → i < length xs → place_at (xs ++ y ∷ []) i ≡ place_at xs i
+place_before {A} xs y i h = ap (λ (o : Option (Option A)). unwrap_or o None) (get_before xs y i h)
+
+place_last : {A : Type 0} (xs : List (Option A)) (y : Option A) → place_at (xs ++ y ∷ []) (length xs) ≡ y
+place_last [] y = refl
+place_last (x ∷ xs) y = place_last xs y
+
+pub each_pushed : {A : Type 0} (xs : List (Option A)) (y : Option A) (f : ℕ → Option A) (n : ℕ) → length xs ≡ n → ((i : ℕ) → i < n → place_at xs i ≡ f i) → y ≡ f n → (i : ℕ) → i < n + 1 → place_at (xs ++ y ∷ []) i ≡ f i
+each_pushed xs y f n count so_far last i less = by_order (cases_lt i n)
+  where
+    by_order : (i < n) ⊎ (n ≤ i) → place_at (xs ++ y ∷ []) i ≡ f i
+    by_order (inl before) = place_before xs y i (omega (arith, before, count)) ∙ so_far i before
+    by_order (inr behind) =
+        let same : i ≡ n = omega (arith, behind, less) in
+        ap (place_at (xs ++ y ∷ [])) (same ∙ sym count) ∙ place_last xs y ∙ last ∙ sym (ap f same)
+
+pub rows_all : (world : List Shape) (above : Option Tabled) (home : ℕ) (body : RecordBody) (rows : List (List (Option MethodName))) (n : ℕ) → length rows ≡ n → home < n → length (visible_above above) ≤ n
+    → ((asker i : ℕ) → asker < n → i < 128 → place_at (row_at rows asker) i ≡ entry_made world above home body (128 + i) asker)
+    → (asker i : ℕ) → i < 128 → place_at (row_at rows asker) i ≡ entry_made world above home body (128 + i) asker
+rows_all world above home body rows n count home_less above_less so_far asker i less = by_order (cases_lt asker n)
+  where
+    by_order : (asker < n) ⊎ (n ≤ asker) → place_at (row_at rows asker) i ≡ entry_made world above home body (128 + i) asker
+    by_order (inl before) = so_far asker i before less
+    by_order (inr behind) =
+        ap (λ (o : Option (List (Option MethodName))). place_at (unwrap_or o []) i) (slice_get_past rows asker (omega (arith, count, behind)))
+        ∙ sym (none_visible world above home body asker i (omega (arith, home_less, behind)) (omega (arith, above_less, behind)))
+
+-- ---- a table that is made
+
+whole_table : (world : List Shape) (c : ClassName) (k : ClassShape) (above : Option Tabled) (table : Tabled) → is_class k.body ≡ true → class_at world c ≡ Some k → IsTabledAbove world c above → table.depth ≡ suc (depth_above above) → table.depth ≤ most_classes
+    → ((i : ℕ) → i < 128 → place_at table.public i ≡ entry_made world above (home_of c) k.body (0 + i) 0)
+    → ((asker i : ℕ) → i < 128 → place_at (row_at table.visible asker) i ≡ entry_made world above (home_of c) k.body (128 + i) asker)
+    → table.listed ≡ filter_map (listed_row world (home_of c)) (interface_rows k.body) ++ listed_above above
+    → IsTabled world c table
+whole_table world c k above table class at up one few public visible listed =
+    made_right world c k above table at up one few (rows_right world above (home_of c) k.body table public visible) (λ interface.
+    ap (λ (l : List Listed). indexes_in l interface) listed
+    ∙ listed_right world (home_of c) (interface_rows k.body) (listed_above above) interface
+    ∙ sym (ap (λ v. found_from v (indexes_in (listed_above above) interface)) (class_listing world interface (home_of c) k.body class)))
+
+pub table_made : (world : List Shape) (c : ClassName) (k : ClassShape) (above : Option Tabled) (table : Tabled) (home : ℕ) → home ≡ home_of c → is_class k.body ≡ true → class_at world c ≡ Some k → IsTabledAbove world c above → table.depth ≡ suc (depth_above above) → table.depth ≤ most_classes
+    → ((i : ℕ) → i < 128 → place_at table.public i ≡ entry_made world above home k.body (0 + i) 0)
+    → ((asker i : ℕ) → i < 128 → place_at (row_at table.visible asker) i ≡ entry_made world above home k.body (128 + i) asker)
+    → table.listed ≡ filter_map (listed_row world home) (interface_rows k.body) ++ listed_above above
+    → IsTabled world c table
+table_made world c k above table home e class at up one few =
+    subst (λ (home : ℕ). ((i : ℕ) → i < 128 → place_at table.public i ≡ entry_made world above home k.body (0 + i) 0)
+    → ((asker i : ℕ) → i < 128 → place_at (row_at table.visible asker) i ≡ entry_made world above home k.body (128 + i) asker)
+    → table.listed ≡ filter_map (listed_row world home) (interface_rows k.body) ++ listed_above above
+    → IsTabled world c table) (sym e) (whole_table world c k above table class at up one few)
+
+-- ---- a table that is put, a package that is dropped
+
+pub table_put : (world : List Shape) (tables : List (List (Option Tabled))) (c : ClassName) (home : ℕ) (old new : List (Option Tabled)) (index : ℕ) (table : Tabled) → IsWhole world tables → index_at world c ≡ Some index → home ≡ home_of c → home < length tables
+    → old ≡ get_or tables home old → IsPut old index table new → IsTabled world c table → IsWhole world (set tables home new)
+table_put world tables c home old new index table whole at e less here put right = record {
+  small = whole.small;
+  right =
+      let there : slice_get tables (home_of c) ≡ Some old = ap (slice_get tables) (sym e) ∙ slice_get-get_or tables home old less ∙ ap Some (sym here) in
+      subst (λ n. AreTables world (set tables n new)) (sym e) (tables_put world tables c old new index table whole.small whole.right at there put right);
+}
+
+tables_taken : (world : List Shape) (tables : List (List (Option Tabled))) → AreTables world tables → AreTables world (take (length world) tables)
+tables_taken world tables t = record {
+  few = omega (arith, length-take (length world) tables);
+  right = λ c i table at e. t.right c i table at (table_taken (length world) tables (home_of c) i table e);
+}
+
+small_shrinks : (world : List Shape) (more : Shape) → IsSmall (grown world more) → IsSmall world
+small_shrinks world more small = record {
+  packages = omega (arith, small.packages, length-append world (more ∷ []));
+  classes = λ i shape e. small.classes i shape (get_before world more i (slice_get_within world i shape e) ∙ e);
+}
+
+pub whole_popped : (world rest : List Shape) (last : Option Shape) (tables : List (List (Option Tabled))) → world ≡ rest ++ option_to_list last → IsWhole world tables → IsWhole rest (take (length rest) tables)
+whole_popped world rest None tables e whole =
+    let w = subst (λ w. IsWhole w tables) (e ∙ append-nil rest) whole in
+    record { small = w.small; right = tables_taken rest tables w.right }
+whole_popped world rest (Some more) tables e whole =
+    let w = subst (λ w. IsWhole w tables) e whole in
+    record { small = small_shrinks rest more w.small; right = tables_shrink rest more tables w.right }

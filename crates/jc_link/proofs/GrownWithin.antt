@@ -1,0 +1,172 @@
+-- What is found from a package of a world stands in a package of that world.
+use Rattle.std.proofs.Common.{◌≡◌, ℕ, zero, suc, ◌+◌, ◌-◌, ◌==◌, ◌<◌, ◌≤◌, Bool, true, false, cond, ◌||◌, List, length, take, Option, Some, None, refl, sym, ap, subst, ◌∙◌, arith, nat_lt, is_some, slice_get}
+use Rattle.std.specs.List.{find, position}
+use Rattle.std.specs.Option.{option_and_then, option_map, option_map_or}
+use Rattle.std.proofs.lemmas.List.{length-take-le}
+use Rattle.std.proofs.lemmas.Bool.{eqb-true, ltb-false}
+use Rattle.jc_base.specs.declared.class_ref.ClassRef.{ClassRef}
+use Rattle.jc_base.specs.declared.class_ref.ClassRef.TheVariants.{Internal, External}
+use Rattle.jc_cap_class.specs.declared.record.RecordBody.{RecordBody}
+use Rattle.jc_cap_class.specs.declared.record.RecordBody.TheVariants.{Interface, Class}
+use Rattle.jc_cap_class.specs.declared.record.VirtualTable.{VirtualTable}
+use Rattle.jc_cap_desc.specs.Shape.{ClassShape, MethodShape, Shape}
+use Rattle.jc_api.specs.Class.{class_of, package_of}
+use Rattle.jc_api.specs.Member.{member_of}
+use Rattle.jc_api.specs.declared.class.ApiClass.{ApiClass}
+use Rattle.jc_api.specs.declared.class.ApiPackage.{ApiPackage}
+use Rattle.jc_api.specs.declared.class.ApiPackage.TheVariants.{Lang, Framework}
+use Rattle.jc_classes.specs.Growth.{IsWithin}
+use Rattle.jc_classes.specs.Members.{DeclaredMethod, name_of, declared_in, method_home, method_offset, method_at}
+use Rattle.jc_classes.specs.Methods.{method_of_class, has_method, method_name, method_there, entry_visit, table_visit, record_visit, virtual_method_of, virtual_visit, package_visible, declared_above}
+use Rattle.jc_classes.specs.Walk.{found_from, walk, most_classes}
+use Rattle.jc_classes.specs.World.{api_home, api_name, home_of, name_in, class_at, meets, import_of, exported_class, class_spelled, if_there, class_named, superclass_ref, superclass_of}
+use Rattle.jc_classes.specs.declared.name.ClassName.{ClassName}
+use Rattle.jc_classes.specs.declared.name.ClassName.TheVariants.{Api, Loaded}
+use Rattle.jc_classes.specs.declared.name.MethodName.{MethodName}
+use Rattle.jc_classes.specs.declared.name.MethodName.TheVariants as Method
+use Rattle.jc_link.proofs.GrownParts.{the_some, none_some, some_of, mapped, chosen_of, position_below}
+use Rattle.jc_link.specs.Growth.{HasApi}
+
+-- ---- classes
+
+api_name_home : (home number : ℕ) (c : ClassName) → api_name home number ≡ Some c → home_of c ≡ home
+api_name_home home number c e =
+    let a = some_of _ (class_of number) c e in
+    by_home (api_home (package_of a.0) == home) a.0 a.2 (eqb-true (api_home (package_of a.0)) home)
+  where
+    by_home : (b : Bool) (class : ApiClass) → cond b (Some (Api class)) None ≡ Some c → (b ≡ true → api_home (package_of class) ≡ home) → home_of c ≡ home
+    by_home true class e h = sym (ap home_of (the_some _ _ e)) ∙ h refl
+    by_home false class e h = absurd (none_some c e)
+
+name_home : (home offset : ℕ) (c : ClassName) → name_in home offset ≡ Some c → home_of c ≡ home
+name_home home offset c e = by_home (nat_lt home 2) (ltb-false home 2) e
+  where
+    by_home : (b : Bool) → (b ≡ false → 2 ≤ home) → cond b (api_name home offset) (Some (Loaded (home - 1) offset)) ≡ Some c → home_of c ≡ home
+    by_home true h e = api_name_home home offset c e
+    by_home false h e = let l = h refl in sym (ap home_of (the_some _ _ e)) ∙ omega arith
+
+-- a class's name is of the package that it was made for
+pub class_home : (home : ℕ) (k : ClassShape) (c : ClassName) → name_of home k ≡ Some c → home_of c ≡ home
+class_home home k c e = name_home home k.offset c (chosen_of (nat_lt k.offset 0x10000) (name_in home k.offset) c e)
+
+pub import_before : (world : List Shape) (home token there : ℕ) → home ≤ length world → import_of world home token ≡ Some there → there < home
+import_before world home token there h e =
+    let a = some_of (λ wanted. position (meets wanted) (take home world)) (option_and_then (λ shape. slice_get shape.imports token) (slice_get world home)) there e in
+    let b = position_below (meets a.0) (take home world) there a.2 in
+    omega (arith, b, length-take-le home world h)
+
+spelled_home : (world : List Shape) (home : ℕ) (ref : ClassRef) (c : ClassName) → home ≤ length world → class_spelled world home ref ≡ Some c → home_of c ≤ home
+spelled_home world home (Internal offset) c h e = let k = name_home home offset c e in omega arith
+spelled_home world home (External import class) c h e =
+    let a = some_of (λ there. exported_class world there class) (import_of world home import) c e in
+    let b = some_of (λ row. name_in a.0 row.class) (option_and_then (λ shape. slice_get shape.exports class) (slice_get world a.0)) c a.2 in
+    let k = name_home a.0 (b.0).class c b.2 in
+    let l = import_before world home import a.0 h a.1 in
+    omega arith
+
+there_same : (world : List Shape) (c d : ClassName) → if_there world c ≡ Some d → c ≡ d
+there_same world c d e = the_some _ _ (chosen_of (is_some (class_at world c)) (Some c) d e)
+
+pub named_within : (world : List Shape) (home : ℕ) (ref : ClassRef) (c : ClassName) → home < length world → class_named world home ref ≡ Some c → IsWithin world c
+named_within world home ref c h e =
+    let a = some_of (if_there world) (class_spelled world home ref) c e in
+    let k = spelled_home world home ref a.0 (omega arith) a.1 in
+    let same : home_of a.0 ≡ home_of c = ap home_of (there_same world a.0 c a.2) in
+    omega arith
+
+pub superclass_within : (world : List Shape) (c d : ClassName) → IsWithin world c → superclass_of world c ≡ Some d → IsWithin world d
+superclass_within world c d h e =
+    let a = some_of (class_named world (home_of c)) (option_and_then (λ k. superclass_ref k.body) (class_at world c)) d e in
+    named_within world (home_of c) a.0 d h a.2
+
+-- ---- methods
+
+-- the package of a method, if it has one, is in a world
+abbrev pub IsMethodWithin : List Shape → MethodName → Type 0
+IsMethodWithin world m = (home : ℕ) → method_home m ≡ Some home → home < length world
+
+api_home_small : (p : ApiPackage) → api_home p < 2
+api_home_small Lang = omega arith
+api_home_small Framework = omega arith
+
+loaded_home : (number offset home : ℕ) → 1 ≤ number → method_home (Method.Loaded number offset) ≡ Some home → number + 1 ≡ home
+loaded_home zero offset home h e = absurd (omega arith)
+loaded_home (suc n) offset home h e = let same : suc (suc n) ≡ home = the_some _ _ e in omega arith
+
+pub method_name_within : (world : List Shape) (home offset : ℕ) → HasApi world → home < length world → IsMethodWithin world (method_name home offset)
+method_name_within world home offset api h = by_home (nat_lt home 2) (ltb-false home 2)
+  where
+    by_home : (b : Bool) → (b ≡ false → 2 ≤ home) → IsMethodWithin world (cond b (Method.Api offset) (Method.Loaded (home - 1) offset))
+    by_home true l there e =
+        let a = mapped (λ m. api_home (package_of m.class)) (member_of offset) there e in
+        let small = api_home_small (package_of (a.0).class) in
+        let same = a.2 in
+        omega arith
+    by_home false l there e =
+        let more = l refl in
+        let same = loaded_home (home - 1) offset there (omega arith) e in
+        omega arith
+
+class_of_declared : (home : ℕ) (c : ClassName) (o : Option MethodShape) (d : DeclaredMethod) → home_of c ≡ home
+    → option_map (λ m. record { class = c; method = m }) o ≡ Some d → home_of d.class ≡ home
+class_of_declared home c None d h e = absurd (none_some d e)
+class_of_declared home c (Some m) d h e = sym (ap (λ (d : DeclaredMethod). home_of d.class) (the_some _ _ e)) ∙ h
+
+declared_home : (home offset : ℕ) (shape : Shape) (d : DeclaredMethod) → declared_in home offset shape ≡ Some d → home_of d.class ≡ home
+declared_home home offset shape d e =
+    let k = some_of (λ k. option_and_then (λ class. option_map (λ m. record { class = class; method = m }) (method_of_class offset k)) (name_of home k)) (find (λ k. is_some (method_of_class offset k)) shape.classes) d e in
+    let n = some_of (λ class. option_map (λ m. record { class = class; method = m }) (method_of_class offset k.0)) (name_of home k.0) d k.2 in
+    class_of_declared home n.0 (method_of_class offset k.0) d (class_home home k.0 n.0 n.1) n.2
+
+-- where a method's class stands
+pub declared_within : (world : List Shape) (m : MethodName) (d : DeclaredMethod) → IsMethodWithin world m → method_at world m ≡ Some d → IsWithin world d.class
+declared_within world m d h e =
+    let a = some_of (λ home. option_and_then (declared_in home (method_offset m)) (slice_get world home)) (method_home m) d e in
+    let b = some_of (declared_in a.0 (method_offset m)) (slice_get world a.0) d a.2 in
+    let same = declared_home a.0 (method_offset m) b.0 d b.2 in
+    let less = h a.0 a.1 in
+    omega arith
+
+-- ---- walks
+
+-- what holds of both branches, and of the one that is taken
+pub by_cond : {V : Type 0} (Q : V → Type 0) (b : Bool) (x y : V) → Q x → Q y → Q (cond b x y)
+by_cond Q true x y h k = h
+by_cond Q false x y h k = k
+
+pub by_other : {V : Type 0} (Q : V → Type 0) (b : Bool) (x y : V) → b ≡ false → Q y → Q (cond b x y)
+by_other Q true x y e k = let f : true ≡ false = e in absurd cc
+by_other Q false x y e k = k
+
+module _ (world : List Shape) (api : HasApi world) (home : ℕ) (h : home < length world) (m : MethodName) (above : Option MethodName) (k : above ≡ Some m → IsMethodWithin world m) where
+  there_within : (offset : ℕ) → found_from (method_there world home offset) above ≡ Some m → IsMethodWithin world m
+  there_within offset = by_cond (λ v. found_from v above ≡ Some m → IsMethodWithin world m) (option_map_or (has_method offset) (slice_get world home) false) _ _
+      (λ e. subst (IsMethodWithin world) (the_some _ _ e) (method_name_within world home offset api h)) (λ e. absurd (none_some m e))
+
+  entry_within : (entry : Option ℕ) → found_from (entry_visit world home entry) above ≡ Some m → IsMethodWithin world m
+  entry_within None e = absurd (none_some m e)
+  entry_within (Some offset) e = by_cond (λ v. found_from v above ≡ Some m → IsMethodWithin world m) (offset == declared_above) _ _ k (there_within offset) e
+
+  table_within : (table : VirtualTable) (token : ℕ) → found_from (table_visit world home table token) above ≡ Some m → IsMethodWithin world m
+  table_within table token = by_cond (λ v. found_from v above ≡ Some m → IsMethodWithin world m) (nat_lt token table.base || length table.methods == 0) _ _
+      k (entry_within (slice_get table.methods (token - table.base)))
+
+  record_within : (asker token : ℕ) (body : RecordBody) → found_from (record_visit world asker token home body) above ≡ Some m → IsMethodWithin world m
+  record_within asker token (Interface r) e = absurd (none_some m e)
+  record_within asker token (Class r) e =
+      by_cond (λ v. found_from v above ≡ Some m → IsMethodWithin world m) (nat_lt token package_visible) _ _ (table_within r.public_methods token)
+      (by_cond (λ v. found_from v above ≡ Some m → IsMethodWithin world m) (home == asker) _ _ (table_within r.package_methods (token - package_visible)) k) e
+
+-- the method that a walk finds is in a package of the world
+walk_within : (world : List Shape) (token asker : ℕ) (m : MethodName) → HasApi world → (steps : ℕ) (c : ClassName) → IsWithin world c
+    → walk (virtual_visit world asker token) world steps c ≡ Some m → IsMethodWithin world m
+walk_within world token asker m api zero c h e = absurd (none_some m e)
+walk_within world token asker m api (suc steps) c h e =
+    let above : Option MethodName = option_and_then (walk (virtual_visit world asker token) world steps) (superclass_of world c) in
+    let k = some_of (λ k. found_from (virtual_visit world asker token c k) above) (class_at world c) m e in
+    record_within world api (home_of c) h m above
+    (λ f. let d = some_of (walk (virtual_visit world asker token) world steps) (superclass_of world c) m f in walk_within world token asker m api steps d.0 (superclass_within world c d.0 h d.1) d.2)
+    asker token (k.0).body k.2
+
+pub virtual_within : (world : List Shape) (c : ClassName) (token asker : ℕ) (m : MethodName) → HasApi world → IsWithin world c → virtual_method_of world c token asker ≡ Some m → IsMethodWithin world m
+virtual_within world c token asker m api h e = walk_within world token asker m api most_classes c h e

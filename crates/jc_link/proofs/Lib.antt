@@ -1,0 +1,16 @@
+pub mod Copied
+pub mod Agree
+pub mod Cells
+pub mod Finding
+pub mod Firsts
+pub mod Listed
+pub mod Places
+pub mod Rows
+pub mod StaticOffsets
+pub mod Superclasses
+pub mod Tokens
+pub mod GrownParts
+pub mod GrownWithin
+pub mod GrownNames
+pub mod GrownClasses
+pub mod GrownHeirs

@@ -1,0 +1,77 @@
+-- What makes a class or an interface unfit for its world, whatever it inherits (Java Card Virtual Machine Specification, Class
+-- component; Descriptor component). Each is looked at with the place of its package and with its name.
+use Rattle.std.specs.Prelude.{ℕ, zero, suc, ◌+◌, ◌==◌, Bool, false, not, ◌&&◌, ◌||◌, nat_le, List, length, Option, Some, None, is_some, if◌then◌else◌}
+use Rattle.std.specs.List.{filter_map, list_any}
+use Rattle.std.specs.Option.{option_map_or}
+use Rattle.jc_cap_class.specs.Component.{is_class}
+use Rattle.jc_cap_desc.specs.Across.{are_distinct}
+use Rattle.jc_cap_desc.specs.Shape.{ClassShape, FieldShape, MethodShape, Shape}
+use Rattle.jc_cap_desc.specs.declared.class_row.FieldPlace.{FieldPlace}
+use Rattle.jc_cap_desc.specs.declared.class_row.FieldPlace.TheVariants.{Static, Instance}
+use Rattle.jc_classes.specs.Members.{DeclaredMethod, method_at}
+use Rattle.jc_classes.specs.Methods.{declared_above, method_name}
+use Rattle.jc_classes.specs.Names.{is_same_name}
+use Rattle.jc_classes.specs.Record.{declared_size, package_entries, public_entries}
+use Rattle.jc_classes.specs.Subtype.{is_class_at, is_interface_at}
+use Rattle.jc_classes.specs.Walk.{most_classes}
+use Rattle.jc_classes.specs.World.{class_named, listed_refs, superclass_of}
+use Rattle.jc_classes.specs.declared.name.ClassName.{ClassName}
+use Rattle.jc_link.specs.MemberType.{field_type_of, member_type_of}
+
+-- a class whose superclass is missing, isn't named, or is an interface
+abbrev pub lacks_superclass : List Shape → ClassName → ClassShape → Bool
+lacks_superclass world c k = is_class k.body && not (option_map_or (is_class_at world) (superclass_of world c) false)
+
+-- whether a class is another one or a superclass of it, within so many classes
+abbrev pub is_at_or_above : List Shape → ℕ → ClassName → ClassName → Bool
+is_at_or_above world zero d c = false
+is_at_or_above world (suc n) d c = is_same_name c d || option_map_or (is_at_or_above world n d) (superclass_of world c) false
+
+-- a class whose superclasses lead round to itself
+abbrev pub leads_round : List Shape → ClassName → Bool
+leads_round world c = option_map_or (is_at_or_above world most_classes c) (superclass_of world c) false
+
+-- a class or an interface that lists what is missing, or a class in place of an interface
+abbrev pub lists_no_interface : List Shape → ℕ → ClassShape → Bool
+lists_no_interface world home k = list_any (λ ref. not (option_map_or (is_interface_at world) (class_named world home ref) false)) (listed_refs k.body)
+
+-- a type of its fields or methods that names neither a class nor an interface
+abbrev pub has_unknown_type : List Shape → ℕ → ClassShape → Bool
+has_unknown_type world home k =
+    list_any (λ f. not (is_some (field_type_of world home f))) k.fields || list_any (λ m. not (is_some (member_type_of world home m.signature))) k.methods
+
+-- the token of a field of objects
+abbrev pub instance_token : FieldShape → Option ℕ
+instance_token f = token_in f.place
+  where
+    token_in : FieldPlace → Option ℕ
+    token_in (Static offset) = None
+    token_in (Instance class token) = Some token
+
+-- two fields of objects of one token
+abbrev pub has_field_twice : ClassShape → Bool
+has_field_twice k = not (are_distinct (filter_map instance_token k.fields))
+
+-- a field of objects whose token isn't below the number of cells that the class declares; an interface declares none
+abbrev pub has_field_past_size : ClassShape → Bool
+has_field_past_size k = list_any (λ token. nat_le (declared_size k.body) token) (filter_map instance_token k.fields)
+
+-- whether a method isn't static, and is one of the class or a superclass
+abbrev pub is_inherited : List Shape → ClassName → DeclaredMethod → Bool
+is_inherited world c d = not d.method.is_static && is_at_or_above world most_classes d.class c
+
+-- an entry of a table that is no such method's offset
+abbrev pub is_bad_entry : List Shape → ℕ → ClassName → ℕ → Bool
+is_bad_entry world home c entry =
+    not (entry == declared_above) && not (option_map_or (is_inherited world c) (method_at world (method_name home entry)) false)
+
+abbrev pub has_bad_entry : List Shape → ℕ → ClassName → ClassShape → Bool
+has_bad_entry world home c k = list_any (is_bad_entry world home c) (public_entries k.body) || list_any (is_bad_entry world home c) (package_entries k.body)
+
+-- how many words of arguments a method takes by its type, `this` among them
+abbrev pub words_of : MethodShape → ℕ
+words_of m = if m.is_static then length m.signature.parameters else length m.signature.parameters + 1
+
+-- a method whose header says another number
+abbrev pub has_other_nargs : ClassShape → Bool
+has_other_nargs k = list_any (λ m. option_map_or (λ header. not (header.nargs == words_of m)) m.header false) k.methods

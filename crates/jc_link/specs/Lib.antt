@@ -1,0 +1,17 @@
+pub mod Found
+pub mod PrivateAgree
+pub mod MemberType
+pub mod Named
+pub mod Target
+pub mod Imports
+pub mod Pool
+pub mod Classes
+pub mod Inherited
+pub mod Statics
+pub mod WellFormed
+pub mod Kept
+pub mod Linked
+pub mod PrivateBody
+pub mod PrivateStatics
+pub mod PrivateFaults
+pub mod Growth

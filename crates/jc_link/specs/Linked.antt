@@ -1,0 +1,49 @@
+-- Packages that are bound to those before them, and the world of those (Java Card Virtual Machine Specification, Linking).
+use Rattle.std.specs.Prelude.{◌≡◌, ◌⊎◌, ℕ, List, [], ◌∷◌, ◌++◌, length, Option, Some, Result, Ok, Err}
+use Rattle.jc_base.specs.declared.fault.LoadFault.{LoadFault}
+use Rattle.jc_base.specs.declared.fault.LoadFault.TheVariants.{Memory}
+use Rattle.jc_cap_desc.specs.Shape.{Package, Shape}
+use Rattle.jc_classes.specs.Growth.{grown}
+use Rattle.jc_link.specs.Kept.{Kept, kept_of}
+use Rattle.jc_link.specs.Target.{pool_targets}
+use Rattle.jc_link.specs.WellFormed.{IsWellFormed, fault_behind}
+use Rattle.jc_link.specs.declared.target.PoolTarget.{PoolTarget}
+
+-- what a linked package has beside the shapes: what is kept of its body, and for each entry of its pool what it leads to
+pub record LinkedBody : Type 0 where
+  pub kept : Kept
+  pub targets : List (Option PoolTarget)
+
+-- a package in the world that it was bound to: it is the last one there
+pub record Linked : Type 0 where
+  pub world : List Shape
+  pub body : LinkedBody
+
+-- the shapes of a world, the API's first, and the rest of its loaded packages
+pub record World : Type 0 where
+  pub shapes : List Shape
+  pub bodies : List LinkedBody
+
+-- this package, bound to the packages of a world: it is well-formed there, and its entries lead to its targets
+pub record IsLinked (before : List Shape) (p : Package) (l : Linked) : Type 0 where
+  pub fine : IsWellFormed before p
+  pub world : l.world ≡ grown before p.shape
+  pub kept : l.body.kept ≡ kept_of p.body
+  pub targets : l.body.targets ≡ pool_targets l.world (length before) l.body.kept.pool
+
+-- why a package that was read, or wasn't, isn't linked
+abbrev pub refusal_of : List Shape → Result Package LoadFault → Option LoadFault
+refusal_of before (Err fault) = Some fault
+refusal_of before (Ok p) = fault_behind before p
+
+-- a refusal of a package, or want of memory
+abbrev pub IsRefusal : List Shape → Result Package LoadFault → LoadFault → Type 0
+IsRefusal before read fault = (fault ≡ Memory) ⊎ (refusal_of before read ≡ Some fault)
+
+-- a package was bound to a world as it stands
+abbrev pub IsBoundTo : World → Linked → Type 0
+IsBoundTo w l = (shape : Shape) × (l.world ≡ grown w.shapes shape)
+
+-- the world with a linked package
+abbrev pub with_linked : World → Linked → World
+with_linked w l = record { shapes = l.world; bodies = w.bodies ++ l.body ∷ [] }

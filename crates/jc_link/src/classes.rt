@@ -1,0 +1,283 @@
+//! What makes a class or an interface unfit for its world, whatever it inherits.
+
+ghost use Rattle.std.specs.Prelude.{◌≡◌, ◌≤◌, ◌==◌, not, false, is_some};
+ghost use Rattle.std.specs.List.{list_any, filter_map};
+ghost use Rattle.std.specs.Option.{option_map_or};
+ghost use Rattle.jc_classes.specs.Record.{superinterfaces, interface_rows};
+ghost use Rattle.jc_classes.specs.Walk.{most_classes};
+ghost use Rattle.jc_classes.specs.World.{class_named};
+ghost use Rattle.jc_classes.specs.Subtype.{is_class_at, is_interface_at};
+ghost use Rattle.jc_link.specs.MemberType.{field_type_of, member_type_of};
+ghost use Rattle.jc_link.specs.Classes.{lacks_superclass, is_at_or_above, leads_round, lists_no_interface, has_unknown_type, instance_token, has_field_twice, has_field_past_size, is_inherited, is_bad_entry, has_bad_entry, words_of, has_other_nargs};
+
+use crate::types::{is_known_field, is_known_method};
+use jc_base::ClassRef;
+use jc_cap_desc::FieldPlace;
+use jc_classes::{Class, ClassName, ClassTable, DeclaredMethod, Field, Method, method_name};
+
+/// How many classes and interfaces there are at most.
+pub(crate) const MOST_CLASSES: u16 = 17_085;
+/// What stands in a table in place of a method that another package's class declares.
+const DECLARED_ABOVE: u16 = 0xFFFF;
+
+/// Whether a class stands there, and not an interface.
+fn is_class_at(table: &ClassTable, class: ClassName) -> bool
+    ensures { result ≡ is_class_at table.now class }
+{
+    match table.class_at(class) {
+        Some(found) => found.is_class(),
+        None => false,
+    }
+}
+
+/// Whether an interface stands there.
+fn is_interface_at(table: &ClassTable, class: ClassName) -> bool
+    ensures { result ≡ is_interface_at table.now class }
+{
+    match table.class_at(class) {
+        Some(found) => !found.is_class(),
+        None => false,
+    }
+}
+
+/// Whether it is a class whose superclass is missing, isn't named, or is an interface.
+pub(crate) fn lacks_superclass(table: &ClassTable, class: ClassName, found: &Class) -> bool
+    ensures { result ≡ lacks_superclass table.now class found.now }
+{
+    if !found.is_class() {
+        return false;
+    }
+    match table.superclass_of(class) {
+        Some(above) => !is_class_at(table, above),
+        None => true,
+    }
+}
+
+/// Whether a class is another one or a superclass of it.
+fn is_at_or_above(table: &ClassTable, above: ClassName, class: ClassName) -> bool
+    ensures { result ≡ is_at_or_above table.now most_classes above class }
+{
+    let mut at = class;
+    for _ in 0..MOST_CLASSES {
+        if at.is(above) {
+            return true;
+        }
+        match table.superclass_of(at) {
+            Some(next) => at = next,
+            None => return false,
+        }
+    }
+    false
+}
+
+/// Whether the superclasses of a class lead round to it.
+pub(crate) fn leads_round(table: &ClassTable, class: ClassName) -> bool
+    ensures { result ≡ leads_round table.now class }
+{
+    match table.superclass_of(class) {
+        Some(above) => is_at_or_above(table, class, above),
+        None => false,
+    }
+}
+
+/// Whether a reference of the package that stands there doesn't find an interface.
+fn finds_no_interface(table: &ClassTable, home: usize, reference: ClassRef) -> bool
+    requires { home ≤ 256 }
+    ensures { result ≡ not (option_map_or (is_interface_at table.now) (class_named table.now home reference) false) }
+{
+    match table.class_named(home, reference) {
+        Some(found) => !is_interface_at(table, found),
+        None => true,
+    }
+}
+
+/// Whether one of the interfaces that an interface extends is none.
+fn extends_no_interface(table: &ClassTable, home: usize, found: &Class) -> bool
+    requires { home ≤ 256 }
+    ensures { result ≡ list_any (λ i. not (option_map_or (is_interface_at table.now) (class_named table.now home i.interface) false)) (superinterfaces found.now.body) }
+{
+    found
+        .superinterfaces()
+        .iter()
+        .any(|i| finds_no_interface(table, home, i.interface))
+}
+
+/// Whether one of the interfaces that a class implements is none.
+fn implements_no_interface(table: &ClassTable, home: usize, found: &Class) -> bool
+    requires { home ≤ 256 }
+    ensures { result ≡ list_any (λ i. not (option_map_or (is_interface_at table.now) (class_named table.now home i.interface) false)) (interface_rows found.now.body) }
+{
+    found
+        .interface_rows()
+        .iter()
+        .any(|i| finds_no_interface(table, home, i.interface()))
+}
+
+/// Whether it lists what is missing, or a class in place of an interface.
+#[tactic(auto, using(crate::proofs::Listed::listed_either_way))]
+pub(crate) fn lists_no_interface(table: &ClassTable, home: usize, found: &Class) -> bool
+    requires { home ≤ 256 }
+    ensures { result ≡ lists_no_interface table.now home found.now }
+{
+    extends_no_interface(table, home, found) || implements_no_interface(table, home, found)
+}
+
+/// Whether a method isn't static, and is one of the class or a superclass.
+fn is_inherited(table: &ClassTable, class: ClassName, declared: &DeclaredMethod) -> bool
+    ensures { result ≡ is_inherited table.now class declared.now }
+{
+    !declared.method.is_static() && is_at_or_above(table, declared.class, class)
+}
+
+/// Whether an entry of a table is no offset of such a method.
+fn is_bad_entry(table: &ClassTable, home: usize, class: ClassName, entry: u16) -> bool
+    requires { home ≤ 256 }
+    ensures { result ≡ is_bad_entry table.now home class entry }
+{
+    if entry == DECLARED_ABOVE {
+        return false;
+    }
+    match table.method_at(method_name(home, entry)) {
+        Some(declared) => !is_inherited(table, class, &declared),
+        None => true,
+    }
+}
+
+/// Whether one of some entries is none.
+fn is_bad_table(table: &ClassTable, home: usize, class: ClassName, entries: &[u16]) -> bool
+    requires { home ≤ 256 }
+    ensures { result ≡ list_any (is_bad_entry table.now home class) entries.now }
+{
+    entries
+        .iter()
+        .any(|entry| is_bad_entry(table, home, class, *entry))
+}
+
+/// Whether one of its two tables of virtual methods has such an entry.
+pub(crate) fn has_bad_entry(
+    table: &ClassTable,
+    home: usize,
+    class: ClassName,
+    found: &Class,
+) -> bool
+    requires { home ≤ 256 }
+    ensures { result ≡ has_bad_entry table.now home class found.now }
+{
+    is_bad_table(table, home, class, found.public_entries())
+        || is_bad_table(table, home, class, found.package_entries())
+}
+
+/// Whether the type of a field names neither a class nor an interface.
+fn has_unknown_field(table: &ClassTable, home: usize, found: &Class) -> bool
+    requires { home ≤ 256 }
+    ensures { result ≡ list_any (λ f. not (is_some (field_type_of table.now home f))) found.now.fields }
+{
+    found
+        .fields()
+        .iter()
+        .any(|f| !is_known_field(table, home, f))
+}
+
+/// Whether the type of a method names what is neither a class nor an interface.
+fn has_unknown_method(table: &ClassTable, home: usize, found: &Class) -> bool
+    requires { home ≤ 256 }
+    ensures { result ≡ list_any (λ m. not (is_some (member_type_of table.now home m.signature))) found.now.methods }
+{
+    found
+        .methods()
+        .iter()
+        .any(|m| !is_known_method(table, home, m))
+}
+
+/// Whether a type of its fields or methods names what is neither a class nor an interface.
+pub(crate) fn has_unknown_type(table: &ClassTable, home: usize, found: &Class) -> bool
+    requires { home ≤ 256 }
+    ensures { result ≡ has_unknown_type table.now home found.now }
+{
+    has_unknown_field(table, home, found) || has_unknown_method(table, home, found)
+}
+
+/// The token of a field of objects.
+fn instance_token(field: &Field) -> Option<u8>
+    ensures { result ≡ instance_token field.now }
+{
+    match field.place() {
+        FieldPlace::Static { .. } => None,
+        FieldPlace::Instance { token, .. } => Some(token),
+    }
+}
+
+/// Whether a field of objects among these has a token.
+fn has_token(fields: &[Field], token: u8) -> bool
+    ensures { result ≡ list_any (λ other. token == other) (filter_map instance_token fields.now) }
+{
+    fields
+        .iter()
+        .filter_map(|f| instance_token(f))
+        .any(|other| token == other)
+}
+
+/// Whether a field of objects among these has the token of a field of objects.
+fn is_held_again(field: &Field, others: &[Field]) -> bool
+    ensures { result ≡ option_map_or (λ token. list_any (λ other. token == other) (filter_map instance_token others.now)) (instance_token field.now) false }
+{
+    match instance_token(field) {
+        Some(token) => has_token(others, token),
+        None => false,
+    }
+}
+
+/// Whether two of its fields of objects have one token.
+pub(crate) fn has_field_twice(found: &Class) -> bool
+    ensures { result ≡ has_field_twice found.now }
+{
+    let mut rest = found.fields();
+    while let Some((first, others)) = rest.split_first() {
+        if is_held_again(first, others) {
+            return true;
+        }
+        rest = others;
+    }
+    false
+}
+
+/// Whether the token of one of its fields of objects isn't below the number of cells that it declares.
+pub(crate) fn has_field_past_size(found: &Class) -> bool
+    ensures { result ≡ has_field_past_size found.now }
+{
+    let size = found.declared_size();
+    found
+        .fields()
+        .iter()
+        .filter_map(|f| instance_token(f))
+        .any(|token| size <= token)
+}
+
+/// How many words of arguments a method takes by its type, `this` among them.
+fn words_of(method: &Method) -> usize
+    ensures { result ≡ words_of method.now }
+{
+    let parameters = method.parameters().len();
+    if method.is_static() {
+        parameters
+    } else {
+        parameters + 1
+    }
+}
+
+/// Whether a method's header says another number.
+fn has_other_words(method: &Method) -> bool
+    ensures { result ≡ option_map_or (λ header. not (header.nargs == words_of method.now)) method.now.header false }
+{
+    match method.header() {
+        Some(header) => usize::from(header.nargs) != words_of(method),
+        None => false,
+    }
+}
+
+/// Whether the header of one of its methods says another number of arguments than the method's type.
+pub(crate) fn has_other_nargs(found: &Class) -> bool
+    ensures { result ≡ has_other_nargs found.now }
+{
+    found.methods().iter().any(|m| has_other_words(m))
+}

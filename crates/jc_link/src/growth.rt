@@ -1,0 +1,16 @@
+//! Worlds that grow.
+
+ghost use Rattle.std.specs.Prelude.{List};
+ghost use Rattle.jc_cap_desc.specs.Shape.{Shape};
+ghost use Rattle.jc_link.specs.Growth.{KeepsLinking};
+
+use jc_classes::adding_keeps_lookups;
+
+/// A package that is put behind the others of a world changes nothing of whether those before it are well-formed, nor of what
+/// entries of their pools lead to.
+#[tactic(auto, using(crate::proofs::GrownHeirs::linking_stays))]
+pub fn adding_keeps_linking()
+    ensures { (world : List Shape) (more : Shape) → KeepsLinking world more }
+{
+    adding_keeps_lookups();
+}

@@ -1,0 +1,49 @@
+//! Imports that no package meets, and packages that are there twice.
+
+ghost use Rattle.std.specs.Prelude.{◌≡◌, ◌≤◌, length, take, bytes_eq, false, slice_get};
+ghost use Rattle.std.specs.List.{list_any, range_with_len};
+ghost use Rattle.std.specs.Option.{option_map_or};
+ghost use Rattle.jc_link.specs.Imports.{is_unmet, first_unmet, is_there_already};
+
+use jc_classes::{ClassTable, PackageShape};
+
+/// Whether no package before the one that stands there meets an import.
+fn is_unmet(table: &ClassTable, home: usize, token: u8) -> bool
+    ensures { result ≡ is_unmet table.now home token }
+{
+    table.import_of(home, token).is_none()
+}
+
+/// The first import of the package that stands there that no package before it meets. A byte counts a package's imports.
+pub(crate) fn first_unmet(table: &ClassTable, home: usize, shape: &PackageShape) -> Option<u8>
+    requires { length shape.now.imports ≤ 255 }
+    ensures { result ≡ first_unmet table.now home shape.now }
+{
+    let count = shape.imports().len() as u8;
+    (0..count).find(|token| is_unmet(table, home, *token))
+}
+
+/// Whether a package stands there that has the AID of another one.
+fn has_aid_of(table: &ClassTable, home: usize, shape: &PackageShape) -> bool
+    ensures { result ≡ option_map_or (λ other. bytes_eq other.«package».aid shape.now.«package».aid) (slice_get table.now home) false }
+{
+    match table.shape(home) {
+        Some(other) => other.package().aid == shape.package().aid,
+        None => false,
+    }
+}
+
+/// Whether one of so many places has a package with the AID of another one.
+fn any_has_aid_of(table: &ClassTable, count: usize, shape: &PackageShape) -> bool
+    ensures { result ≡ list_any (λ home. option_map_or (λ other. bytes_eq other.«package».aid shape.now.«package».aid) (slice_get table.now home) false) (range_with_len 0 count) }
+{
+    (0..count).any(|home| has_aid_of(table, home, shape))
+}
+
+/// Whether one of the packages before a place has the AID of another one.
+#[tactic(auto, using(crate::proofs::Places::any_place))]
+pub(crate) fn is_there_already(table: &ClassTable, count: usize, shape: &PackageShape) -> bool
+    ensures { result ≡ is_there_already (take count table.now) shape.now }
+{
+    any_has_aid_of(table, count, shape)
+}

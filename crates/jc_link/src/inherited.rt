@@ -1,0 +1,295 @@
+//! What makes a class unfit for its world by what it inherits.
+
+ghost use Rattle.std.specs.Prelude.{◌≡◌, ◌≤◌};
+ghost use Rattle.std.specs.List.{list_any, range_with_len};
+ghost use Rattle.jc_classes.specs.Methods.{public_method_of};
+ghost use Rattle.jc_link.specs.Inherited.{loses_at, loses_method, is_same_method, is_other_type, retypes_at, overrides_with_another_type, is_abstract_at, leaves_at, leaves_package_abstract, leaves_abstract, public_tokens, rows_of, misses, method_for, is_unimplemented, lacks_methods_of, breaks_row, breaks_interface, is_unfinished};
+ghost use Rattle.jc_link.specs.Named.{method_above};
+
+use crate::classes::MOST_CLASSES;
+use crate::pool::{is_abstract_method, is_concrete};
+use crate::types::{implements_type, is_known_method, same_method_type};
+use jc_classes::{Class, ClassName, ClassTable, ImplementedInterface, Method, MethodName};
+
+/// Tokens from here on are package-visible.
+const PACKAGE_VISIBLE: u8 = 128;
+
+/// The method of the superclass of a class at a token, looked up for the package that stands there.
+fn method_above(table: &ClassTable, home: usize, token: u8, class: ClassName) -> Option<MethodName>
+    ensures { result ≡ method_above table.now home token class }
+{
+    let above = table.superclass_of(class)?;
+    table.virtual_method_for(above, token, home)
+}
+
+/// Whether the superclass finds a method at a token, and the class none.
+fn loses_at(table: &ClassTable, home: usize, class: ClassName, token: u8) -> bool
+    ensures { result ≡ loses_at table.now home class token }
+{
+    method_above(table, home, token, class).is_some()
+        && table.virtual_method_for(class, token, home).is_none()
+}
+
+/// Whether the superclass finds a method at some token, and the class none.
+pub(crate) fn loses_method(table: &ClassTable, home: usize, class: ClassName) -> bool
+    ensures { result ≡ loses_method table.now home class }
+{
+    for token in 0..256u16 {
+        if loses_at(table, home, class, token as u8) {
+            return true;
+        }
+    }
+    false
+}
+
+/// Whether two names are of one method.
+fn is_same_method(one: MethodName, other: MethodName) -> bool
+    ensures { result ≡ is_same_method one other }
+{
+    match (one, other) {
+        (MethodName::Api { member }, MethodName::Api { member: other }) => member == other,
+        (
+            MethodName::Loaded { package, offset },
+            MethodName::Loaded {
+                package: other_package,
+                offset: other_offset,
+            },
+        ) => package == other_package && offset == other_offset,
+        (MethodName::Api { .. }, MethodName::Loaded { .. }) => false,
+        (MethodName::Loaded { .. }, MethodName::Api { .. }) => false,
+    }
+}
+
+/// Whether a method in place of another one is another one, of another type.
+fn is_other_type(table: &ClassTable, method: MethodName, above: MethodName) -> bool
+    ensures { result ≡ is_other_type table.now method above }
+{
+    !is_same_method(method, above) && !same_method_type(table, method, above)
+}
+
+/// Whether the class and its superclass find methods of different types at a token.
+fn retypes_at(table: &ClassTable, home: usize, class: ClassName, token: u8) -> bool
+    ensures { result ≡ retypes_at table.now home class token }
+{
+    let Some(method) = table.virtual_method_for(class, token, home) else {
+        return false;
+    };
+    match method_above(table, home, token, class) {
+        Some(above) => is_other_type(table, method, above),
+        None => false,
+    }
+}
+
+/// Whether the class and its superclass find methods of different types at some token.
+pub(crate) fn overrides_with_another_type(table: &ClassTable, home: usize, class: ClassName) -> bool
+    ensures { result ≡ overrides_with_another_type table.now home class }
+{
+    for token in 0..256u16 {
+        if retypes_at(table, home, class, token as u8) {
+            return true;
+        }
+    }
+    false
+}
+
+/// Whether a method is there that is abstract.
+fn is_abstract_at(table: &ClassTable, method: MethodName) -> bool
+    ensures { result ≡ is_abstract_at table.now method }
+{
+    match table.method_at(method) {
+        Some(declared) => is_abstract_method(declared.method),
+        None => false,
+    }
+}
+
+/// Whether a class leaves the method at a token abstract, looked up for the package that stands there.
+fn leaves_at(table: &ClassTable, class: ClassName, asker: usize, token: u8) -> bool
+    ensures { result ≡ leaves_at table.now class asker token }
+{
+    match table.virtual_method_for(class, token, asker) {
+        Some(method) => is_abstract_at(table, method),
+        None => false,
+    }
+}
+
+/// Whether a class leaves a public method abstract.
+#[tactic(auto, unfolding(crate::specs::Inherited::public_tokens))]
+fn leaves_public_abstract(table: &ClassTable, class: ClassName) -> bool
+    ensures { result ≡ list_any (leaves_at table.now class 0) public_tokens }
+{
+    (0..128u8).any(|token| leaves_at(table, class, 0, token))
+}
+
+/// Whether a class leaves a package-visible method abstract of the package that stands there.
+fn leaves_package_abstract(table: &ClassTable, class: ClassName, asker: usize) -> bool
+    ensures { result ≡ leaves_package_abstract table.now class asker }
+{
+    for token in 128..256u16 {
+        if leaves_at(table, class, asker, token as u8) {
+            return true;
+        }
+    }
+    false
+}
+
+/// Whether a class leaves a package-visible method abstract of one of so many packages.
+fn leaves_any_package_abstract(table: &ClassTable, class: ClassName, count: usize) -> bool
+    ensures { result ≡ list_any (leaves_package_abstract table.now class) (range_with_len 0 count) }
+{
+    (0..count).any(|asker| leaves_package_abstract(table, class, asker))
+}
+
+/// Whether a class leaves a method abstract: a public one, or a package-visible one of any package.
+fn leaves_abstract(table: &ClassTable, class: ClassName) -> bool
+    ensures { result ≡ leaves_abstract table.now class }
+{
+    leaves_public_abstract(table, class) || leaves_any_package_abstract(table, class, table.len())
+}
+
+/// The public virtual method of a class at a token.
+fn public_method(table: &ClassTable, class: ClassName, token: u8) -> Option<MethodName>
+    ensures { result ≡ public_method_of table.now class token }
+{
+    if token < PACKAGE_VISIBLE {
+        table.virtual_method_for(class, token, 0)
+    } else {
+        None
+    }
+}
+
+/// Whether an index of a row leads to no method, or to an abstract one.
+fn misses(table: &ClassTable, class: ClassName, index: u8) -> bool
+    ensures { result ≡ misses table.now class index }
+{
+    match public_method(table, class, index) {
+        Some(method) => !is_concrete(table, method),
+        None => true,
+    }
+}
+
+/// The method that a row's indexes have for a token.
+fn method_for(table: &ClassTable, class: ClassName, indexes: &[u8], token: u8) -> Option<MethodName>
+    ensures { result ≡ method_for table.now class indexes.now token }
+{
+    let index = indexes.get(usize::from(token)).copied()?;
+    public_method(table, class, index)
+}
+
+/// Whether a method of an interface has a type, and the class has none for it, or one of another type.
+fn is_unimplemented(
+    table: &ClassTable,
+    class: ClassName,
+    indexes: &[u8],
+    home: usize,
+    method: &Method,
+) -> bool
+    requires { home ≤ 256 }
+    ensures { result ≡ is_unimplemented table.now class indexes.now home method.now }
+{
+    if !is_known_method(table, home, method) {
+        return false;
+    }
+    let found = method_for(table, class, indexes, method.token());
+    !implements_type(table, home, method, found)
+}
+
+/// Whether one of the methods of an interface is such a method.
+fn lacks_one_of(
+    table: &ClassTable,
+    class: ClassName,
+    indexes: &[u8],
+    home: usize,
+    methods: &[Method],
+) -> bool
+    requires { home ≤ 256 }
+    ensures { result ≡ list_any (is_unimplemented table.now class indexes.now home) methods.now }
+{
+    methods.iter().any(|method| is_unimplemented(table, class, indexes, home, method))
+}
+
+/// Whether an interface has such a method.
+fn lacks_methods_of(
+    table: &ClassTable,
+    class: ClassName,
+    indexes: &[u8],
+    interface: ClassName,
+) -> bool
+    ensures { result ≡ lacks_methods_of table.now class indexes.now interface }
+{
+    match table.class_at(interface) {
+        Some(found) => lacks_one_of(table, class, indexes, interface.home(), found.methods()),
+        None => false,
+    }
+}
+
+/// Whether one of the indexes of a row leads to no method, or to an abstract one.
+fn misses_one(table: &ClassTable, class: ClassName, indexes: &[u8]) -> bool
+    ensures { result ≡ list_any (misses table.now class) indexes.now }
+{
+    indexes.iter().any(|index| misses(table, class, *index))
+}
+
+/// Whether a class doesn't keep a row of the package that stands there.
+fn breaks_row(table: &ClassTable, class: ClassName, home: usize, row: &ImplementedInterface) -> bool
+    requires { home ≤ 256 }
+    ensures { result ≡ breaks_row table.now class (record { home = home; row = row.now }) }
+{
+    if misses_one(table, class, row.indexes()) {
+        return true;
+    }
+    match table.class_named(home, row.interface()) {
+        Some(interface) => lacks_methods_of(table, class, row.indexes(), interface),
+        None => false,
+    }
+}
+
+/// Whether a class doesn't keep one of some rows of the package that stands there.
+fn breaks_one_of(
+    table: &ClassTable,
+    class: ClassName,
+    home: usize,
+    rows: &[ImplementedInterface],
+) -> bool
+    requires { home ≤ 256 }
+    ensures { result ≡ list_any (λ row. breaks_row table.now class (record { home = home; row = row })) rows.now }
+{
+    rows.iter().any(|row| breaks_row(table, class, home, row))
+}
+
+/// Whether a class doesn't keep one of the rows of a class.
+#[tactic(auto, using(crate::proofs::Rows::rows_of_class))]
+fn breaks_row_of(table: &ClassTable, class: ClassName, at: ClassName) -> bool
+    ensures { result ≡ list_any (breaks_row table.now class) (rows_of table.now at) }
+{
+    match table.class_at(at) {
+        Some(found) => breaks_one_of(table, class, at.home(), found.interface_rows()),
+        None => false,
+    }
+}
+
+/// Whether a class doesn't keep one of its own rows, or of those of its superclasses.
+fn breaks_interface(table: &ClassTable, class: ClassName) -> bool
+    ensures { result ≡ breaks_interface table.now class }
+{
+    let mut at = class;
+    for _ in 0..MOST_CLASSES {
+        if breaks_row_of(table, class, at) {
+            return true;
+        }
+        match table.superclass_of(at) {
+            Some(above) => at = above,
+            None => return false,
+        }
+    }
+    false
+}
+
+/// Whether it is a class that isn't abstract, and leaves a method abstract or doesn't keep an interface's row.
+pub(crate) fn is_unfinished(table: &ClassTable, class: ClassName, found: &Class) -> bool
+    ensures { result ≡ is_unfinished table.now class found.now }
+{
+    if !found.is_class() || found.is_abstract() {
+        return false;
+    }
+    leaves_abstract(table, class) || breaks_interface(table, class)
+}

@@ -1,0 +1,28 @@
+//! Packages that are bound to those before them, or refused.
+#![tactic(auto)]
+
+mod body;
+mod classes;
+mod fields;
+mod growth;
+mod imports;
+mod inherited;
+mod linking;
+mod named;
+mod pool;
+mod stated;
+mod statics;
+mod target;
+mod types;
+mod well_formed;
+mod world;
+
+pub use body::{ArrayKind, InitialArray, MethodCode, PackageBody, Statics};
+pub use growth::adding_keeps_linking;
+pub use linking::link;
+pub use named::{Named, StaticPlace};
+pub use target::{MemberType, PoolTarget};
+pub use world::{Linked, LinkedBody, World};
+
+#[cfg(test)]
+mod tests;

@@ -1,0 +1,140 @@
+//! The linker.
+
+ghost use Rattle.std.specs.Prelude.{◌≡◌, ◌<◌, ◌≤◌, length, Some, Ok, IfOk, IfErr};
+ghost use Rattle.jc_cap_desc.specs.Package.{package_of};
+ghost use Rattle.jc_cap_desc.specs.Shape.{Package as PackageRecord};
+ghost use Rattle.jc_classes.specs.Growth.{grown};
+ghost use Rattle.jc_classes.specs.Limits.{most_packages};
+ghost use Rattle.jc_link.specs.Kept.{kept_of};
+ghost use Rattle.jc_link.specs.Target.{pool_targets};
+ghost use Rattle.jc_link.specs.Linked.{IsBoundTo, IsLinked, IsRefusal};
+ghost use Rattle.jc_link.specs.PrivateFaults.{class_fault, pool_fault};
+ghost use Rattle.jc_link.specs.WellFormed.{linking_fault};
+
+use crate::body::body_of;
+use crate::imports::{first_unmet, is_there_already};
+use crate::pool::first_unresolved;
+use crate::stated::first_mistyped;
+use crate::statics::first_bad_static;
+use crate::target::pool_targets;
+use crate::well_formed::first_bad_class;
+use crate::world::{Linked, LinkedBody, World};
+use jc_base::{LoadFault, Parts};
+use jc_cap_desc::{Package, read_package};
+use jc_classes::{ClassTable, PackageShape};
+use std::alloc::{AllocError, Global};
+
+/// What is wrong with the classes or the static fields of the package that stands there, or that it is there already.
+fn class_fault(
+    table: &ClassTable,
+    home: usize,
+    shape: &PackageShape,
+    linked: &Package,
+) -> Option<LoadFault>
+    requires loaded { 2 ≤ home }
+    requires most { home ≤ 256 }
+    ensures { result ≡ class_fault table.now home shape.now linked.now.body }
+{
+    if let Some(offset) = first_bad_class(table, home, shape) {
+        return Some(LoadFault::BadClass(offset));
+    }
+    if let Some(offset) = first_bad_static(linked.statics(), shape) {
+        return Some(LoadFault::BadStatic(offset));
+    }
+    if is_there_already(table, home, shape) {
+        return Some(LoadFault::DuplicatePackage);
+    }
+    None
+}
+
+/// What is wrong with the entries of the pool of the package that stands there.
+fn pool_fault(table: &ClassTable, home: usize, linked: &Package) -> Option<LoadFault>
+    requires loaded { 2 ≤ home }
+    requires most { home ≤ 256 }
+    ensures { result ≡ pool_fault table.now home linked.now.body }
+{
+    if let Some(index) = first_unresolved(table, home, linked) {
+        return Some(LoadFault::Unresolved(index));
+    }
+    if let Some(index) = first_mistyped(table, home, linked) {
+        return Some(LoadFault::TypeMismatch(index));
+    }
+    None
+}
+
+/// Why the package that stands there isn't well-formed.
+fn linking_fault(
+    table: &ClassTable,
+    home: usize,
+    shape: &PackageShape,
+    linked: &Package,
+) -> Option<LoadFault>
+    requires loaded { 2 ≤ home }
+    requires most { home ≤ 256 }
+    requires same { shape.now ≡ linked.now.shape }
+    ensures { result ≡ linking_fault table.now home linked.now }
+{
+    let imports = linked.imports().len();
+    if let Some(token) = first_unmet(table, home, shape) {
+        return Some(LoadFault::MissingImport(token));
+    }
+    if let Some(fault) = pool_fault(table, home, linked) {
+        return Some(fault);
+    }
+    class_fault(table, home, shape, linked)
+}
+
+/// The classes of a world with those of a package behind them.
+fn with_package(
+    alloc: Global,
+    world: &ClassTable,
+    linked: &Package,
+) -> Result<ClassTable, AllocError>
+    requires { length world.now < most_packages }
+    ensures { IfOk result (λ table. table ≡ grown world.now linked.now.shape) }
+{
+    let mut table = world.copy(alloc)?;
+    table.add(linked)?;
+    Ok(table)
+}
+
+/// What a linked package has beside its shape.
+fn linked_body(
+    alloc: Global,
+    table: &ClassTable,
+    home: usize,
+    linked: &Package,
+) -> Result<LinkedBody, AllocError>
+    requires loaded { 2 ≤ home }
+    requires most { home ≤ 256 }
+    ensures kept { IfOk result (λ body. body.kept ≡ kept_of linked.now.body) }
+    ensures targets { IfOk result (λ body. body.targets ≡ pool_targets table.now home linked.now.body.pool) }
+{
+    let kept = body_of(alloc, linked)?;
+    let targets = pool_targets(alloc, table, home, linked)?;
+    Ok(LinkedBody { kept, targets })
+}
+
+/// Binds a package to the packages of a world (Java Card Virtual Machine Specification, Linking): it is well-formed there, or
+/// the refusal with the least number is told, at its first place. Want of memory may be told in place of an answer.
+pub fn link(alloc: Global, parts: &Parts, world: &World) -> Result<Linked, LoadFault>
+    ensures bound { IfOk result (λ l. IsBoundTo world.now l) }
+    ensures linked { IfOk result (λ l. (p : PackageRecord) × (package_of parts.now ≡ Ok p) × IsLinked world.now.shapes p l) }
+    ensures refused { IfErr result (λ fault. IsRefusal world.now.shapes (package_of parts.now) fault) }
+{
+    let linked = read_package(parts)?;
+    let Ok(table) = with_package(alloc, world.table(), &linked) else {
+        return Err(LoadFault::Memory);
+    };
+    let home = world.table().len();
+    let Some(shape) = table.shape(home) else {
+        return Err(LoadFault::Memory);
+    };
+    if let Some(fault) = linking_fault(&table, home, shape, &linked) {
+        return Err(fault);
+    }
+    match linked_body(alloc, &table, home, &linked) {
+        Ok(body) => Ok(Linked { table, body }),
+        Err(_) => Err(LoadFault::Memory),
+    }
+}

@@ -1,0 +1,272 @@
+//! What entries of the constant pool name.
+
+ghost use Rattle.std.specs.Prelude.{◌≡◌, ◌≤◌, false, length, IfSome, slice_get};
+ghost use Rattle.std.specs.Option.{option_and_then, option_map, option_map_or};
+ghost use Rattle.jc_classes.specs.Methods.{method_name, virtual_method_of};
+ghost use Rattle.jc_classes.specs.Subtype.{is_class_at};
+ghost use Rattle.jc_link.specs.Named.{static_place, is_abstract_method, is_concrete, named_field, named_virtual, method_above, named_above, named_static_field, named_static_method, named_by};
+ghost use Rattle.jc_link.specs.Pool.{is_unresolved, first_unresolved};
+
+use crate::fields::{instance_field_at, static_field_at};
+use crate::named::{Named, StaticPlace};
+use jc_cap_desc::Package;
+use jc_cap_pool::{MemberRef, PoolEntry, StaticRef};
+use jc_classes::{ClassName, ClassTable, Export, Method, MethodName};
+
+/// What a package exports under a class token.
+fn export_at(table: &ClassTable, there: usize, class: u8) -> Option<&Export>
+    ensures { option_map (λ e. e.now) result ≡ option_and_then (λ shape. slice_get shape.exports class) (slice_get table.now there) }
+{
+    let shape = table.shape(there)?;
+    shape.exports().get(usize::from(class))
+}
+
+/// Where a static field stands that an entry of the package that stands there refers to.
+fn static_field_place(table: &ClassTable, home: usize, reference: StaticRef) -> Option<StaticPlace>
+    requires { home ≤ 256 }
+    ensures { result ≡ static_place (λ row. row.fields) table.now home reference }
+{
+    match reference {
+        StaticRef::Internal { offset } => Some(StaticPlace { home, offset }),
+        StaticRef::External {
+            package,
+            class,
+            token,
+        } => {
+            let there = table.import_of(home, package)?;
+            let export = export_at(table, there, class)?;
+            let offset = export.fields().get(usize::from(token)).copied()?;
+            Some(StaticPlace {
+                home: there,
+                offset,
+            })
+        }
+    }
+}
+
+/// Where a static method or a constructor stands that an entry of the package that stands there refers to.
+fn static_method_place(table: &ClassTable, home: usize, reference: StaticRef) -> Option<StaticPlace>
+    requires { home ≤ 256 }
+    ensures found { result ≡ static_place (λ row. row.methods) table.now home reference }
+    ensures most { IfSome result (λ place. place.home ≤ 256) }
+{
+    match reference {
+        StaticRef::Internal { offset } => Some(StaticPlace { home, offset }),
+        StaticRef::External {
+            package,
+            class,
+            token,
+        } => {
+            let there = table.import_of(home, package)?;
+            let export = export_at(table, there, class)?;
+            let offset = export.methods().get(usize::from(token)).copied()?;
+            Some(StaticPlace {
+                home: there,
+                offset,
+            })
+        }
+    }
+}
+
+/// Whether a method's header says that it is abstract.
+pub(crate) fn is_abstract_method(method: &Method) -> bool
+    ensures { result ≡ is_abstract_method method.now }
+{
+    match method.header() {
+        Some(header) => header.is_abstract,
+        None => false,
+    }
+}
+
+/// Whether a method is there that isn't abstract.
+pub(crate) fn is_concrete(table: &ClassTable, name: MethodName) -> bool
+    ensures { result ≡ is_concrete table.now name }
+{
+    match table.method_at(name) {
+        Some(found) => !is_abstract_method(found.method),
+        None => false,
+    }
+}
+
+/// Whether a class stands there, and not an interface.
+fn is_class_at(table: &ClassTable, class: ClassName) -> bool
+    ensures { result ≡ is_class_at table.now class }
+{
+    match table.class_at(class) {
+        Some(found) => found.is_class(),
+        None => false,
+    }
+}
+
+/// The name of the method at an offset of the package that stands there.
+fn method_name(place: StaticPlace) -> MethodName
+    requires { place.home ≤ 256 }
+    ensures { result ≡ method_name place.home place.offset }
+{
+    if place.home < 2 {
+        MethodName::Api {
+            member: place.offset,
+        }
+    } else {
+        MethodName::Loaded {
+            package: (place.home - 1) as u8,
+            offset: place.offset,
+        }
+    }
+}
+
+/// The virtual method of a class at a token, looked up for the loaded package that stands there.
+fn virtual_method_for(
+    table: &ClassTable,
+    home: usize,
+    class: ClassName,
+    token: u8,
+) -> Option<MethodName>
+    requires loaded { 2 ≤ home }
+    requires most { home ≤ 256 }
+    ensures { result ≡ virtual_method_of table.now class token home }
+{
+    table.virtual_method(class, token, (home - 1) as u8)
+}
+
+/// A field of a class.
+fn named_field(table: &ClassTable, class: ClassName, token: u8) -> Option<Named>
+    ensures { result ≡ named_field table.now token class }
+{
+    let _found = instance_field_at(table, class, token)?;
+    Some(Named::InstanceField { class, token })
+}
+
+/// A virtual method of a class, which is no interface, looked up for the package that stands there.
+fn named_virtual(table: &ClassTable, home: usize, class: ClassName, token: u8) -> Option<Named>
+    requires loaded { 2 ≤ home }
+    requires most { home ≤ 256 }
+    ensures { result ≡ named_virtual table.now home token class }
+{
+    if !is_class_at(table, class) {
+        return None;
+    }
+    let method = virtual_method_for(table, home, class, token)?;
+    Some(Named::VirtualMethod {
+        class,
+        token,
+        method,
+    })
+}
+
+/// The virtual method of the superclass of a class, looked up for the package that stands there.
+pub(crate) fn method_above(
+    table: &ClassTable,
+    home: usize,
+    class: ClassName,
+    token: u8,
+) -> Option<MethodName>
+    requires loaded { 2 ≤ home }
+    requires most { home ≤ 256 }
+    ensures { result ≡ method_above table.now home token class }
+{
+    let above = table.superclass_of(class)?;
+    virtual_method_for(table, home, above, token)
+}
+
+/// A method, not abstract, of the superclass of a class, looked up for the package that stands there.
+fn named_above(table: &ClassTable, home: usize, class: ClassName, token: u8) -> Option<Named>
+    requires loaded { 2 ≤ home }
+    requires most { home ≤ 256 }
+    ensures { result ≡ named_above table.now home token class }
+{
+    if !is_class_at(table, class) {
+        return None;
+    }
+    let method = method_above(table, home, class, token)?;
+    if !is_concrete(table, method) {
+        return None;
+    }
+    Some(Named::SuperMethod { class, method })
+}
+
+/// A static field.
+fn named_static_field(table: &ClassTable, place: StaticPlace) -> Option<Named>
+    ensures { result ≡ named_static_field table.now place }
+{
+    let _found = static_field_at(table, place)?;
+    Some(Named::StaticField(place))
+}
+
+/// A static method or a constructor, not abstract.
+fn named_static_method(table: &ClassTable, place: StaticPlace) -> Option<Named>
+    requires { place.home ≤ 256 }
+    ensures { result ≡ named_static_method table.now place }
+{
+    let method = method_name(place);
+    if !is_concrete(table, method) {
+        return None;
+    }
+    Some(Named::StaticMethod { method })
+}
+
+/// What an entry of the package that stands there names.
+pub(crate) fn named_by(table: &ClassTable, home: usize, entry: PoolEntry) -> Option<Named>
+    requires loaded { 2 ≤ home }
+    requires most { home ≤ 256 }
+    ensures { result ≡ named_by table.now home entry }
+{
+    match entry {
+        PoolEntry::Classref(reference) => Some(Named::Class(table.class_named(home, reference)?)),
+        PoolEntry::InstanceFieldref(MemberRef { class, token }) => {
+            let class = table.class_named(home, class)?;
+            named_field(table, class, token)
+        }
+        PoolEntry::VirtualMethodref(MemberRef { class, token }) => {
+            let class = table.class_named(home, class)?;
+            named_virtual(table, home, class, token)
+        }
+        PoolEntry::SuperMethodref(MemberRef { class, token }) => {
+            let class = table.class_named(home, class)?;
+            named_above(table, home, class, token)
+        }
+        PoolEntry::StaticFieldref(reference) => {
+            let place = static_field_place(table, home, reference)?;
+            named_static_field(table, place)
+        }
+        PoolEntry::StaticMethodref(reference) => {
+            let place = static_method_place(table, home, reference)?;
+            named_static_method(table, place)
+        }
+    }
+}
+
+/// Whether the entry at an index is there, and names nothing.
+fn is_unresolved_at(table: &ClassTable, home: usize, linked: &Package, index: u16) -> bool
+    requires loaded { 2 ≤ home }
+    requires most { home ≤ 256 }
+    ensures { result ≡ option_map_or (is_unresolved table.now home) (slice_get linked.now.body.pool index) false }
+{
+    match linked.pool().at(index) {
+        Some(entry) => named_by(table, home, entry).is_none(),
+        None => false,
+    }
+}
+
+/// The index of the first entry among so many of the package that stands there that names nothing.
+fn first_unresolved_of(table: &ClassTable, home: usize, linked: &Package, count: u16) -> Option<u16>
+    requires loaded { 2 ≤ home }
+    requires most { home ≤ 256 }
+    ensures { count ≡ length linked.now.body.pool → result ≡ first_unresolved table.now home linked.now.body.pool }
+{
+    for index in 0..count {
+        if is_unresolved_at(table, home, linked, index) {
+            return Some(index);
+        }
+    }
+    None
+}
+
+/// The index of the first entry of the package that stands there that names nothing.
+pub(crate) fn first_unresolved(table: &ClassTable, home: usize, linked: &Package) -> Option<u16>
+    requires loaded { 2 ≤ home }
+    requires most { home ≤ 256 }
+    ensures { result ≡ first_unresolved table.now home linked.now.body.pool }
+{
+    first_unresolved_of(table, home, linked, linked.pool().count())
+}

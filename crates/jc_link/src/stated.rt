@@ -1,0 +1,219 @@
+//! The types that entries of the constant pool state.
+
+ghost use Rattle.std.specs.Prelude.{◌≡◌, ◌≤◌, Some, length};
+ghost use Rattle.std.specs.Option.{option_and_then, option_map};
+ghost use Rattle.jc_link.specs.Found.{type_found};
+ghost use Rattle.jc_link.specs.MemberType.{as_member, type_class, member_type_of, method_type_of, have_same_type};
+ghost use Rattle.jc_link.specs.Pool.{is_member, is_mistyped, is_mistyped_at, first_mistyped};
+ghost use Rattle.jc_link.specs.Named.{named_by};
+ghost use Rattle.jc_link.specs.PrivateAgree.{types_agree, signature_agrees};
+ghost use Rattle.jc_link.specs.Target.{instance_type_of, static_type_of, named_type_of};
+
+use crate::fields::{instance_field_at, static_field_at};
+use crate::named::{Named, StaticPlace};
+use crate::pool::named_by;
+use crate::types::{return_agrees, type_agrees};
+use jc_base::{ClassRef, DeclaredType, ReturnType};
+use jc_cap_desc::Package;
+use jc_cap_pool::{Descriptor, Parameters, PoolEntry};
+use jc_classes::{ClassName, ClassTable, MethodName};
+
+/// Whether the types that an entry states are those of parameters, as two packages spell them.
+fn parameters_agree(
+    table: &ClassTable,
+    home: usize,
+    stated: &Parameters,
+    there: usize,
+    others: &[DeclaredType<ClassRef>],
+) -> bool
+    requires home { home ≤ 256 }
+    requires there { there ≤ 256 }
+    ensures { result ≡ types_agree (type_class table.now home) (type_class table.now there) stated.now others.now }
+{
+    let mut left = stated.again();
+    for other in others {
+        let Some(declared) = left.next() else {
+            return false;
+        };
+        if !type_agrees(table, home, declared, there, *other) {
+            return false;
+        }
+    }
+    left.is_empty()
+}
+
+/// Whether the type that an entry states is that of a member, as two packages spell them.
+fn stated_agrees(
+    table: &ClassTable,
+    home: usize,
+    stated: &Descriptor,
+    there: usize,
+    parameters: &[DeclaredType<ClassRef>],
+    given: ReturnType<ClassRef>,
+) -> bool
+    requires home { home ≤ 256 }
+    requires there { there ≤ 256 }
+    ensures { result ≡ signature_agrees (type_class table.now home) (type_class table.now there) stated.now (record { parameters = parameters.now; result = given }) }
+{
+    parameters_agree(table, home, &stated.parameters(), there, parameters)
+        && return_agrees(table, home, stated.result(), there, given)
+}
+
+/// Whether the type that an entry states is that of a field, which is spelled in the package that stands there.
+#[tactic(auto, using(crate::proofs::Agree::field_agrees_is))]
+fn is_field_type(
+    table: &ClassTable,
+    home: usize,
+    stated: &Descriptor,
+    there: usize,
+    declared: DeclaredType<ClassRef>,
+) -> bool
+    requires home { home ≤ 256 }
+    requires there { there ≤ 256 }
+    ensures { result ≡ have_same_type (member_type_of table.now home stated.now) (option_map as_member (type_found (type_class table.now there) declared)) }
+{
+    stated_agrees(table, home, stated, there, &[], ReturnType::Value(declared))
+}
+
+/// Whether the type that an entry states is that of a field of objects.
+#[tactic(auto, using(crate::proofs::Agree::agree_none))]
+fn is_instance_type(
+    table: &ClassTable,
+    home: usize,
+    stated: &Descriptor,
+    class: ClassName,
+    token: u8,
+) -> bool
+    requires { home ≤ 256 }
+    ensures { result ≡ have_same_type (member_type_of table.now home stated.now) (option_map as_member (instance_type_of table.now class token)) }
+{
+    match instance_field_at(table, class, token) {
+        Some(field) => is_field_type(table, home, stated, class.home(), field.declared_type()),
+        None => false,
+    }
+}
+
+/// Whether the type that an entry states is that of a static field.
+#[tactic(auto, using(crate::proofs::Agree::agree_none))]
+fn is_static_type(table: &ClassTable, home: usize, stated: &Descriptor, place: StaticPlace) -> bool
+    requires { home ≤ 256 }
+    ensures { result ≡ have_same_type (member_type_of table.now home stated.now) (option_map as_member (static_type_of table.now place)) }
+{
+    match static_field_at(table, place) {
+        Some(field) => is_field_type(table, home, stated, place.home, field.declared_type()),
+        None => false,
+    }
+}
+
+/// Whether the type that an entry states is that of a method.
+#[tactic(auto, using(crate::proofs::Agree::agree_none, crate::proofs::Agree::signature_agrees_is))]
+fn is_method_type(table: &ClassTable, home: usize, stated: &Descriptor, method: MethodName) -> bool
+    requires { home ≤ 256 }
+    ensures { result ≡ have_same_type (member_type_of table.now home stated.now) (method_type_of table.now method) }
+{
+    match table.method_at(method) {
+        Some(found) => stated_agrees(
+            table,
+            home,
+            stated,
+            found.class.home(),
+            found.method.parameters(),
+            found.method.result(),
+        ),
+        None => false,
+    }
+}
+
+/// Whether the type that an entry states is that of the member that is named.
+#[tactic(auto, using(crate::proofs::Agree::agree_none))]
+fn is_type_of(table: &ClassTable, home: usize, stated: &Descriptor, named: Named) -> bool
+    requires { home ≤ 256 }
+    ensures { result ≡ have_same_type (member_type_of table.now home stated.now) (named_type_of table.now named) }
+{
+    match named {
+        Named::Class(_) => false,
+        Named::InstanceField { class, token } => is_instance_type(
+            table, home, stated, class, token,
+        ),
+        Named::StaticField(place) => is_static_type(table, home, stated, place),
+        Named::VirtualMethod { method, .. } => is_method_type(table, home, stated, method),
+        Named::SuperMethod { method, .. } => is_method_type(table, home, stated, method),
+        Named::StaticMethod { method } => is_method_type(table, home, stated, method),
+    }
+}
+
+/// Whether an entry refers to a member.
+fn is_member(entry: PoolEntry) -> bool
+    ensures { result ≡ is_member entry }
+{
+    match entry {
+        PoolEntry::Classref(_) => false,
+        PoolEntry::InstanceFieldref(_) => true,
+        PoolEntry::VirtualMethodref(_) => true,
+        PoolEntry::SuperMethodref(_) => true,
+        PoolEntry::StaticFieldref(_) => true,
+        PoolEntry::StaticMethodref(_) => true,
+    }
+}
+
+/// Whether an entry names a member of the type that it states.
+#[tactic(auto, using(crate::proofs::Agree::agree_none))]
+fn has_stated_type(table: &ClassTable, home: usize, entry: PoolEntry, stated: &Descriptor) -> bool
+    requires loaded { 2 ≤ home }
+    requires most { home ≤ 256 }
+    ensures { result ≡ have_same_type (member_type_of table.now home stated.now) (option_and_then (named_type_of table.now) (named_by table.now home entry)) }
+{
+    match named_by(table, home, entry) {
+        Some(named) => is_type_of(table, home, stated, named),
+        None => false,
+    }
+}
+
+/// Whether an entry states another type than that of the member that it names.
+fn is_mistyped(table: &ClassTable, home: usize, entry: PoolEntry, stated: &Descriptor) -> bool
+    requires loaded { 2 ≤ home }
+    requires most { home ≤ 256 }
+    ensures { result ≡ is_mistyped table.now home entry (Some stated.now) }
+{
+    is_member(entry) && !has_stated_type(table, home, entry, stated)
+}
+
+/// Whether the entry at an index is there, and states another type than that of the member that it names.
+fn is_mistyped_at(table: &ClassTable, home: usize, linked: &Package, index: u16) -> bool
+    requires loaded { 2 ≤ home }
+    requires most { home ≤ 256 }
+    ensures { result ≡ is_mistyped_at table.now home linked.now.body index }
+{
+    let Some(entry) = linked.pool().at(index) else {
+        return false;
+    };
+    let Some(stated) = linked.pool_type(index) else {
+        return false;
+    };
+    is_mistyped(table, home, entry, &stated)
+}
+
+/// The index of the first entry among so many of the package that stands there that states another type than that of the
+/// member that it names.
+fn first_mistyped_of(table: &ClassTable, home: usize, linked: &Package, count: u16) -> Option<u16>
+    requires loaded { 2 ≤ home }
+    requires most { home ≤ 256 }
+    ensures { count ≡ length linked.now.body.pool → result ≡ first_mistyped table.now home linked.now.body }
+{
+    for index in 0..count {
+        if is_mistyped_at(table, home, linked, index) {
+            return Some(index);
+        }
+    }
+    None
+}
+
+/// The index of the first entry of the package that stands there that states another type than that of the member that it
+/// names.
+pub(crate) fn first_mistyped(table: &ClassTable, home: usize, linked: &Package) -> Option<u16>
+    requires loaded { 2 ≤ home }
+    requires most { home ≤ 256 }
+    ensures { result ≡ first_mistyped table.now home linked.now.body }
+{
+    first_mistyped_of(table, home, linked, linked.pool().count())
+}

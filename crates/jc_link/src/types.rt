@@ -1,0 +1,259 @@
+//! The types of members, their classes found.
+
+ghost use Rattle.std.specs.Prelude.{◌≡◌, ◌≤◌, is_some, length};
+ghost use Rattle.std.specs.List.{list_all};
+ghost use Rattle.std.specs.Option.{option_and_then};
+ghost use Rattle.jc_link.specs.Found.{type_found, return_found, is_same_type, is_same_return};
+ghost use Rattle.jc_link.specs.MemberType.{counted, type_class, field_type_of, member_type_of, declared_type_of, method_type_of, have_same_type};
+ghost use Rattle.jc_link.specs.PrivateAgree.{type_agrees, types_agree, return_agrees};
+
+use jc_api::ApiClass;
+use jc_base::{ClassRef, DeclaredType, ReturnType};
+use jc_classes::{ClassName, ClassTable, DeclaredMethod, Field, Method, MethodName};
+
+/// A class as it counts in types: an interface as Object.
+fn counted(table: &ClassTable, class: ClassName) -> ClassName
+    ensures { result ≡ counted table.now class }
+{
+    match table.class_at(class) {
+        Some(found) if !found.is_class() => ClassName::Api(ApiClass::Object),
+        _ => class,
+    }
+}
+
+/// The class that a reference of the package that stands there stands for in a type.
+pub(crate) fn type_class(table: &ClassTable, home: usize, reference: ClassRef) -> Option<ClassName>
+    requires { home ≤ 256 }
+    ensures { result ≡ type_class table.now home reference }
+{
+    let class = table.class_named(home, reference)?;
+    Some(counted(table, class))
+}
+
+/// A type with its class found, if it is.
+pub(crate) fn type_found(
+    table: &ClassTable,
+    home: usize,
+    declared: DeclaredType<ClassRef>,
+) -> Option<DeclaredType<ClassName>>
+    requires { home ≤ 256 }
+    ensures { result ≡ type_found (type_class table.now home) declared }
+{
+    match declared {
+        DeclaredType::Boolean => Some(DeclaredType::Boolean),
+        DeclaredType::Byte => Some(DeclaredType::Byte),
+        DeclaredType::Short => Some(DeclaredType::Short),
+        DeclaredType::Reference(class) => {
+            Some(DeclaredType::Reference(type_class(table, home, class)?))
+        }
+        DeclaredType::BooleanArray => Some(DeclaredType::BooleanArray),
+        DeclaredType::ByteArray => Some(DeclaredType::ByteArray),
+        DeclaredType::ShortArray => Some(DeclaredType::ShortArray),
+        DeclaredType::ReferenceArray(class) => Some(DeclaredType::ReferenceArray(type_class(
+            table, home, class,
+        )?)),
+    }
+}
+
+/// A result with its class found, if it is.
+pub(crate) fn return_found(
+    table: &ClassTable,
+    home: usize,
+    declared: ReturnType<ClassRef>,
+) -> Option<ReturnType<ClassName>>
+    requires { home ≤ 256 }
+    ensures { result ≡ return_found (type_class table.now home) declared }
+{
+    match declared {
+        ReturnType::Void => Some(ReturnType::Void),
+        ReturnType::Value(found) => Some(ReturnType::Value(type_found(table, home, found)?)),
+    }
+}
+
+/// Whether two types are one.
+pub(crate) fn is_same_type(one: DeclaredType<ClassName>, other: DeclaredType<ClassName>) -> bool
+    ensures { result ≡ is_same_type one other }
+{
+    match (one, other) {
+        (DeclaredType::Boolean, DeclaredType::Boolean) => true,
+        (DeclaredType::Byte, DeclaredType::Byte) => true,
+        (DeclaredType::Short, DeclaredType::Short) => true,
+        (DeclaredType::Reference(class), DeclaredType::Reference(other)) => class.is(other),
+        (DeclaredType::BooleanArray, DeclaredType::BooleanArray) => true,
+        (DeclaredType::ByteArray, DeclaredType::ByteArray) => true,
+        (DeclaredType::ShortArray, DeclaredType::ShortArray) => true,
+        (DeclaredType::ReferenceArray(class), DeclaredType::ReferenceArray(other)) => {
+            class.is(other)
+        }
+        _ => false,
+    }
+}
+
+/// Whether two results are one.
+pub(crate) fn is_same_return(one: ReturnType<ClassName>, other: ReturnType<ClassName>) -> bool
+    ensures { result ≡ is_same_return one other }
+{
+    match (one, other) {
+        (ReturnType::Void, ReturnType::Void) => true,
+        (ReturnType::Value(one), ReturnType::Value(other)) => is_same_type(one, other),
+        _ => false,
+    }
+}
+
+/// Whether two types that are spelled in two packages are found, and are one.
+pub(crate) fn type_agrees(
+    table: &ClassTable,
+    home: usize,
+    one: DeclaredType<ClassRef>,
+    there: usize,
+    other: DeclaredType<ClassRef>,
+) -> bool
+    requires home { home ≤ 256 }
+    requires there { there ≤ 256 }
+    ensures { result ≡ type_agrees (type_class table.now home) (type_class table.now there) one other }
+{
+    match (
+        type_found(table, home, one),
+        type_found(table, there, other),
+    ) {
+        (Some(one), Some(other)) => is_same_type(one, other),
+        _ => false,
+    }
+}
+
+/// Whether two results that are spelled in two packages are found, and are one.
+pub(crate) fn return_agrees(
+    table: &ClassTable,
+    home: usize,
+    one: ReturnType<ClassRef>,
+    there: usize,
+    other: ReturnType<ClassRef>,
+) -> bool
+    requires home { home ≤ 256 }
+    requires there { there ≤ 256 }
+    ensures { result ≡ return_agrees (type_class table.now home) (type_class table.now there) one other }
+{
+    match (
+        return_found(table, home, one),
+        return_found(table, there, other),
+    ) {
+        (Some(one), Some(other)) => is_same_return(one, other),
+        _ => false,
+    }
+}
+
+/// Whether two lists of types that are spelled in two packages are found, and are one.
+fn types_agree(
+    table: &ClassTable,
+    home: usize,
+    types: &[DeclaredType<ClassRef>],
+    there: usize,
+    others: &[DeclaredType<ClassRef>],
+) -> bool
+    requires home { home ≤ 256 }
+    requires there { there ≤ 256 }
+    ensures { result ≡ types_agree (type_class table.now home) (type_class table.now there) types.now others.now }
+{
+    if types.len() != others.len() {
+        return false;
+    }
+    for index in 0..types.len() {
+        if !type_agrees(table, home, types[index], there, others[index]) {
+            return false;
+        }
+    }
+    true
+}
+
+/// Whether two methods whose types are spelled in two packages have types, and one type.
+#[tactic(auto, using(crate::proofs::Agree::signature_agrees_is))]
+fn same_spelled_type(
+    table: &ClassTable,
+    home: usize,
+    one: &Method,
+    there: usize,
+    other: &Method,
+) -> bool
+    requires home { home ≤ 256 }
+    requires there { there ≤ 256 }
+    ensures { result ≡ have_same_type (member_type_of table.now home one.now.signature) (member_type_of table.now there other.now.signature) }
+{
+    types_agree(table, home, one.parameters(), there, other.parameters())
+        && return_agrees(table, home, one.result(), there, other.result())
+}
+
+/// Whether the class of a field's type is there.
+pub(crate) fn is_known_field(table: &ClassTable, home: usize, field: &Field) -> bool
+    requires { home ≤ 256 }
+    ensures { result ≡ is_some (field_type_of table.now home field.now) }
+{
+    type_found(table, home, field.declared_type()).is_some()
+}
+
+/// Whether the classes of types are there.
+fn are_known_types(table: &ClassTable, home: usize, types: &[DeclaredType<ClassRef>]) -> bool
+    requires { home ≤ 256 }
+    ensures { result ≡ list_all (λ t. is_some (type_found (type_class table.now home) t)) types.now }
+{
+    types
+        .iter()
+        .all(|declared| type_found(table, home, *declared).is_some())
+}
+
+/// Whether the classes of a method's type are there.
+#[tactic(auto, using(crate::proofs::Agree::signature_there))]
+pub(crate) fn is_known_method(table: &ClassTable, home: usize, method: &Method) -> bool
+    requires { home ≤ 256 }
+    ensures { result ≡ is_some (member_type_of table.now home method.now.signature) }
+{
+    are_known_types(table, home, method.parameters())
+        && return_found(table, home, method.result()).is_some()
+}
+
+/// Whether two methods where they are declared have types, and one type.
+pub(crate) fn same_declared_type(
+    table: &ClassTable,
+    one: &DeclaredMethod,
+    other: &DeclaredMethod,
+) -> bool
+    ensures { result ≡ have_same_type (declared_type_of table.now one.now) (declared_type_of table.now other.now) }
+{
+    same_spelled_type(
+        table,
+        one.class.home(),
+        one.method,
+        other.class.home(),
+        other.method,
+    )
+}
+
+/// Whether two methods that have names are there with types, and have one type.
+#[tactic(auto, using(crate::proofs::Agree::agree_none))]
+pub(crate) fn same_method_type(table: &ClassTable, one: MethodName, other: MethodName) -> bool
+    ensures { result ≡ have_same_type (method_type_of table.now one) (method_type_of table.now other) }
+{
+    match (table.method_at(one), table.method_at(other)) {
+        (Some(one), Some(other)) => same_declared_type(table, &one, &other),
+        _ => false,
+    }
+}
+
+/// Whether a method that is spelled in the package that stands there has a type, and another one has the same.
+#[tactic(auto, using(crate::proofs::Agree::agree_none))]
+pub(crate) fn implements_type(
+    table: &ClassTable,
+    home: usize,
+    spelled: &Method,
+    method: Option<MethodName>,
+) -> bool
+    requires { home ≤ 256 }
+    ensures { result ≡ have_same_type (member_type_of table.now home spelled.now.signature) (option_and_then (method_type_of table.now) method) }
+{
+    let Some(name) = method else {
+        return false;
+    };
+    match table.method_at(name) {
+        Some(found) => { same_spelled_type(table, home, spelled, found.class.home(), found.method) }
+        None => false,
+    }
+}

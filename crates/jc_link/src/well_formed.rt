@@ -1,0 +1,70 @@
+//! Whether the classes of a package are well-formed in its world.
+
+ghost use Rattle.std.specs.Prelude.{◌≡◌, ◌≤◌};
+ghost use Rattle.std.specs.List.{find};
+ghost use Rattle.std.specs.Option.{option_map};
+ghost use Rattle.jc_link.specs.WellFormed.{is_bad_alone, is_bad_heir, is_bad_class, first_bad_class};
+
+use crate::classes::{
+    has_bad_entry, has_field_past_size, has_field_twice, has_other_nargs, has_unknown_type,
+    lacks_superclass, leads_round, lists_no_interface,
+};
+use crate::inherited::{is_unfinished, loses_method, overrides_with_another_type};
+use jc_classes::{Class, ClassName, ClassTable, PackageShape};
+
+/// Whether something is wrong with a class by itself.
+fn is_bad_alone(table: &ClassTable, home: usize, class: ClassName, found: &Class) -> bool
+    requires { home ≤ 256 }
+    ensures { result ≡ is_bad_alone table.now home class found.now }
+{
+    lacks_superclass(table, class, found)
+        || leads_round(table, class)
+        || lists_no_interface(table, home, found)
+        || has_unknown_type(table, home, found)
+        || has_field_twice(found)
+        || has_field_past_size(found)
+        || has_bad_entry(table, home, class, found)
+        || has_other_nargs(found)
+}
+
+/// Whether something is wrong with a class by what it inherits.
+fn is_bad_heir(table: &ClassTable, home: usize, class: ClassName, found: &Class) -> bool
+    ensures { result ≡ is_bad_heir table.now home class found.now }
+{
+    loses_method(table, home, class)
+        || overrides_with_another_type(table, home, class)
+        || is_unfinished(table, class, found)
+}
+
+/// Whether a class of the package that stands there isn't well-formed. One that has no name isn't.
+fn is_bad_class(table: &ClassTable, home: usize, found: &Class) -> bool
+    requires { home ≤ 256 }
+    ensures { result ≡ is_bad_class table.now home found.now }
+{
+    match found.name(home) {
+        Some(class) => {
+            is_bad_alone(table, home, class, found) || is_bad_heir(table, home, class, found)
+        }
+        None => true,
+    }
+}
+
+/// The first class of the package that stands there that isn't well-formed.
+fn bad_class<'t>(table: &ClassTable, home: usize, shape: &'t PackageShape) -> Option<&'t Class>
+    requires { home ≤ 256 }
+    ensures { option_map (λ k. k.now) result ≡ find (is_bad_class table.now home) shape.now.classes }
+{
+    shape
+        .classes()
+        .iter()
+        .find(|k| is_bad_class(table, home, k))
+}
+
+/// Where the first class stands of the package that stands there that isn't well-formed.
+pub(crate) fn first_bad_class(table: &ClassTable, home: usize, shape: &PackageShape) -> Option<u16>
+    requires { home ≤ 256 }
+    ensures { result ≡ first_bad_class table.now home shape.now }
+{
+    let found = bad_class(table, home, shape)?;
+    Some(found.offset())
+}

@@ -1,0 +1,145 @@
+//! The world of the packages on a card.
+
+ghost use Rattle.std.specs.Prelude.{◌≡◌, ◌+◌, ◌<◌, ◌≤◌, [], length, IfOk, IfErr};
+ghost use Rattle.jc_classes.specs.Limits.{most_packages};
+ghost use Rattle.jc_classes.specs.Api.{api_world};
+ghost use Rattle.jc_link.specs.Linked.{IsBoundTo, with_linked};
+
+use crate::body::PackageBody;
+use crate::target::PoolTarget;
+use jc_api::Binding;
+use jc_classes::ClassTable;
+use std::alloc::{AllocError, Global};
+use std::marker::Model;
+
+/// What a linked package has beside its shape.
+#[derive(Drop)]
+pub struct LinkedBody {
+    pub(crate) kept: PackageBody,
+    pub(crate) targets: Vec<Option<PoolTarget>>,
+}
+
+impl Model for LinkedBody {
+    ghost use Rattle.jc_link.specs.Linked.{LinkedBody as Body};
+
+    ghost Value = { Body };
+
+    ghost view = { λ b. record { kept = b.kept; targets = b.targets.items } };
+}
+
+impl LinkedBody {
+    /// What is kept of the package's body.
+    pub fn kept(&self) -> &PackageBody
+        ensures { result.now ≡ self.now.kept }
+    {
+        &self.kept
+    }
+
+    /// What each entry of its constant pool leads to.
+    pub fn targets(&self) -> &[Option<PoolTarget>]
+        ensures { result.now ≡ self.now.targets }
+    {
+        &self.targets
+    }
+}
+
+/// A package that is well-formed in the world that it was bound to. It has a copy of that world's classes, with its own behind
+/// them.
+#[derive(Drop)]
+pub struct Linked {
+    pub(crate) table: ClassTable,
+    pub(crate) body: LinkedBody,
+}
+
+impl Model for Linked {
+    ghost use Rattle.jc_link.specs.Linked.{Linked as LinkedPackage};
+
+    ghost Value = { LinkedPackage };
+
+    ghost view = { λ l. record { world = l.table; body = l.body } };
+}
+
+impl Linked {
+    /// The classes of the world, the package's own the last.
+    pub fn table(&self) -> &ClassTable
+        ensures { result.now ≡ self.now.world }
+    {
+        &self.table
+    }
+
+    /// What the package has beside its shape.
+    pub fn body(&self) -> &LinkedBody
+        ensures { result.now ≡ self.now.body }
+    {
+        &self.body
+    }
+}
+
+/// The packages on a card: those of the API, and the loaded ones in the order in which they were loaded.
+#[derive(Drop)]
+pub struct World {
+    table: ClassTable,
+    bodies: Vec<LinkedBody>,
+}
+
+impl Model for World {
+    ghost use Rattle.std.specs.Prelude.{◌<◌, ◌≤◌, length};
+    ghost use Rattle.jc_classes.specs.Limits.{most_packages};
+    ghost use Rattle.jc_link.specs.Linked.{World as LinkedWorld};
+
+    ghost Value = { LinkedWorld };
+
+    ghost view = { λ w. record { shapes = w.table; bodies = w.bodies.items } };
+
+    ghost invariant = { λ w. (2 ≤ length w.table) × (length w.table < most_packages) };
+}
+
+impl World {
+    /// The packages of the API alone.
+    pub fn new(alloc: Global, binding: &Binding) -> Result<World, AllocError>
+        ensures { IfOk result (λ w. w ≡ record { shapes = api_world binding.now; bodies = [] }) }
+    {
+        let table = ClassTable::new(alloc, binding)?;
+        Ok(World {
+            table,
+            bodies: Vec::new(alloc),
+        })
+    }
+
+    /// The classes of the packages.
+    pub fn table(&self) -> &ClassTable
+        ensures table { result.now ≡ self.now.shapes }
+        ensures least { 2 ≤ length self.now.shapes }
+        ensures room { length self.now.shapes < most_packages }
+    {
+        &self.table
+    }
+
+    /// What the loaded packages have beside their shapes.
+    pub fn bodies(&self) -> &[LinkedBody]
+        ensures { result.now ≡ self.now.bodies }
+    {
+        &self.bodies
+    }
+
+    /// How many packages there are, the two of the API among them: at most 66.
+    pub fn len(&self) -> usize
+        ensures count { result ≡ length self.now.shapes }
+        ensures room { result < most_packages }
+    {
+        self.table.len()
+    }
+
+    /// Puts a package behind the others that was bound to this world as it stands, which has fewer than 66. Where no memory is
+    /// left the world is as it was.
+    pub fn add(&mut self, linked: Linked) -> Result<(), AllocError>
+        requires bound { IsBoundTo self.now linked }
+        requires room { length self.now.shapes + 1 < most_packages }
+        ensures done { IfOk result (λ u. self.new ≡ with_linked self.old linked) }
+        ensures kept { IfErr result (λ e. self.new ≡ self.old) }
+    {
+        self.bodies.push(linked.body)?;
+        self.table = linked.table;
+        Ok(())
+    }
+}

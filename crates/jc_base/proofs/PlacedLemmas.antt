@@ -1,12 +1,17 @@
 -- Rows until nothing is left.
-use Rattle.std.proofs.Common.{◌≡◌, ◌↔◌, subst, drop, length-drop, ℕ, zero, suc, ◌-◌, ◌<◌, ◌≤◌, true, false, eqb, List, [], ◌∷◌, length, Some, None, Result, Ok, Err, refl, sym, ap, ◌∙◌, arith}
-use Rattle.std.proofs.lemmas.Bool.{eq-eqb, ne_eqb}
+use Rattle.std.proofs.Common.{◌≡◌, ◌↔◌, subst, drop, length-drop, ℕ, zero, suc, ◌-◌, ◌<◌, ◌≤◌, ◌+◌, Bool, true, false, eqb, cond, List, [], ◌∷◌, length, Some, None, Result, Ok, Err, refl, sym, ap, ◌∙◌, arith}
+use Rattle.std.proofs.lemmas.List.{drop-drop}
+use Rattle.std.proofs.lemmas.Bool.{eq-eqb, eqb-true, ne_eqb}
 use Rattle.jc_base.specs.Cursor.{Read}
 use Rattle.jc_base.specs.Results.{◌>>=◌}
 use Rattle.jc_base.specs.declared.placed_rows.Placed.{Placed}
-use Rattle.jc_base.specs.PlacedRows.{Shrinks, ArePlaced, placed_in, placed_rows, row_at}
-use Rattle.jc_base.proofs.Binding.{the_ok, bind_ok}
+use Rattle.jc_base.specs.PlacedRows.{Shrinks, IsInFront, ArePlaced, placed_in, placed_rows, row_at}
+use Rattle.jc_base.proofs.Binding.{the_ok, the_some, bind_ok}
 use Rattle.jc_base.specs.PrivatePlacedRows.{listed, done}
+
+pub done_ok : {A E : Type 0} (r : Result (List A) E) → Ok tt ≡ done r → Ok (listed r) ≡ r
+done_ok (Ok rows) h = refl
+done_ok (Err e) h = absurd cc
 
 module _ {A E : Type 0} (next_row : List ℕ → Result (Read A) E) (some : Shrinks next_row) where
   -- a row in front of others
@@ -158,10 +163,46 @@ module _ {A E : Type 0} (next_row : List ℕ → Result (Read A) E) (some : Shri
       let le : length (drop first bytes) ≤ length bytes = omega (arith, length-drop first bytes) in
       (placed (length bytes) (length bytes) (drop first bytes) rows le le, read_again (length bytes) (length bytes) (drop first bytes) rows le)
 
+  -- where a row is known to begin, it is read
+  pub record IsKnown (total : ℕ) (bytes : List ℕ) (offset : ℕ) (row : A) : Type 0 where
+    pub behind : total - length bytes ≤ offset
+    pub rest : List ℕ
+    pub read : next_row (drop (offset - (total - length bytes)) bytes) ≡ Ok (record { value = row; rest = rest })
+
+  pub known : (front : IsInFront next_row) (total offset : ℕ) (row : A) (bytes : List ℕ) (rows : List (Placed A)) → ArePlaced next_row total bytes rows
+      → row_at offset rows ≡ Some row → IsKnown total bytes offset row
+  known front total offset row bytes [] is at = absurd cc
+  known front total offset row bytes (p ∷ rows) is at = by_place (eqb p.offset offset) (eqb-true p.offset offset) (λ there. known front total offset row is.0 rows is.3 there) at
+    where
+      by_place : (b : Bool) → (b ≡ true → p.offset ≡ offset) → (row_at offset rows ≡ Some row → IsKnown total is.0 offset row) → cond b (Some p.row) (row_at offset rows) ≡ Some row
+          → IsKnown total bytes offset row
+      by_place true same more there =
+          let here = same refl in
+          let place = is.1 in
+          let none : offset - (total - length bytes) ≡ 0 = omega arith in
+          let first : p.row ≡ row = the_some p.row row there in
+          record { behind = omega arith; rest = is.0; read = ap (λ n. next_row (drop n bytes)) none ∙ is.2 ∙ ap (λ r. Ok (record { value = r; rest = is.0 })) first }
+      by_place false same more there =
+          let k = more there in
+          let place = is.1 in
+          let less = some bytes _ is.2 in
+          let low = k.behind in
+          let sum : (length bytes - length is.0) + (offset - (total - length is.0)) ≡ offset - (total - length bytes) = omega arith in
+          record {
+            behind = omega arith;
+            rest = k.rest;
+            read =
+                ap (λ n. next_row (drop n bytes)) (sym sum)
+                ∙ ap (λ b. next_row b) (sym (drop-drop (offset - (total - length is.0)) (length bytes - length is.0) bytes))
+                ∙ ap (λ b. next_row (drop (offset - (total - length is.0)) b)) (sym (front bytes _ is.2)) ∙ k.read;
+          }
+
+  pub known_left : (front : IsInFront next_row) (total offset : ℕ) (row : A) (bytes : List ℕ) (rows : List (Placed A)) → length bytes ≤ total
+      → done (placed_in next_row total total bytes) ≡ Ok tt → listed (placed_in next_row total total bytes) ≡ rows → row_at offset rows ≡ Some row → IsKnown total bytes offset row
+  known_left front total offset row bytes rows le all is at =
+      known front total offset row bytes (listed (placed_in next_row total total bytes))
+      (placed total total bytes (listed (placed_in next_row total total bytes)) le le (sym (done_ok (placed_in next_row total total bytes) (sym all)))) (ap (row_at offset) is ∙ at)
+
 pub done_err : {A E : Type 0} (r : Result (List A) E) (fault : E) → Err fault ≡ done r → Err fault ≡ r
 done_err (Ok rows) fault h = absurd cc
 done_err (Err e) fault h = cc
-
-pub done_ok : {A E : Type 0} (r : Result (List A) E) → Ok tt ≡ done r → Ok (listed r) ≡ r
-done_ok (Ok rows) h = refl
-done_ok (Err e) h = absurd cc

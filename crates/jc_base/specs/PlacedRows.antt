@@ -8,6 +8,10 @@ use Rattle.jc_base.specs.declared.placed_rows.Placed.{Placed}
 abbrev pub Shrinks : {A E : Type 0} → (List ℕ → Result (Read A) E) → Type 0
 Shrinks {A = A} next_row = (bytes : List ℕ) (x : Read A) → next_row bytes ≡ Ok x → length x.rest < length bytes
 
+-- and is read from the front: the end of the bytes is left
+abbrev pub IsInFront : {A E : Type 0} → (List ℕ → Result (Read A) E) → Type 0
+IsInFront {A = A} next_row = (bytes : List ℕ) (x : Read A) → next_row bytes ≡ Ok x → x.rest ≡ drop (length bytes - length x.rest) bytes
+
 -- the rows that bytes are, the last of so many that offsets count, in at most so many steps
 abbrev pub placed_in : {A E : Type 0} → (List ℕ → Result (Read A) E) → ℕ → ℕ → List ℕ → Result (List (Placed A)) E
 placed_in next_row total steps [] = Ok []
@@ -31,3 +35,7 @@ ArePlaced next_row total bytes (p ∷ rows) =
 abbrev pub row_at : {A : Type 0} → ℕ → List (Placed A) → Option A
 row_at offset [] = None
 row_at offset (p ∷ rows) = if p.offset == offset then Some p.row else row_at offset rows
+
+-- an answer is what is there, where something is
+abbrev pub IsThatOf : {A : Type 0} → Option A → Option A → Type 0
+IsThatOf {A = A} there answer = (a : A) → there ≡ Some a → answer ≡ Some a

@@ -29,7 +29,7 @@ pub use numbers::{S1s, S2s, U2s, has_flag};
 pub use owned::owned_rows;
 pub use package_info::{PackageInfo, next_package_info};
 pub use parts::Parts;
-pub use placed_rows::{Placed, PlacedRow, PlacedRows, placed_rows_are_placed};
+pub use placed_rows::{FrontRow, Placed, PlacedRow, PlacedRows, placed_rows_are_placed};
 pub use reason::Reason;
 pub use rows::{FixedRow, Row, Rows, Source};
 

@@ -1,7 +1,7 @@
 //! Rows one behind the other until nothing is left.
 
 ghost use Rattle.std.specs.Prelude.{◌≡◌, ◌↔◌, ◌≤◌, ◌∷◌, ℕ, List, [], Ok, drop, length, IsTrue, IfSome, IfNone};
-ghost use Rattle.jc_base.specs.PlacedRows.{Shrinks, ArePlaced, placed_in, placed_rows, row_at};
+ghost use Rattle.jc_base.specs.PlacedRows.{Shrinks, IsInFront, IsThatOf, ArePlaced, placed_in, placed_rows, row_at};
 ghost use Rattle.jc_base.specs.PrivatePlacedRows.{done};
 
 use crate::fault::LoadFault;
@@ -11,6 +11,11 @@ use std::marker::{Model, PhantomData};
 /// Rows that take a byte at least, so that bytes are no more rows than they are bytes.
 pub trait PlacedRow<S: Source>: Row<S> {
     ghost shrinks: { Shrinks Self.next_row };
+}
+
+/// Rows that are read from the front of the bytes, so that one is found in one step where it is known to begin.
+pub trait FrontRow<S: Source>: PlacedRow<S> {
+    ghost in_front: { IsInFront Self.next_row };
 }
 
 /// A row with its place.
@@ -120,6 +125,20 @@ impl<S: Source, R: PlacedRow<S>> PlacedRows<S, R> {
         };
         self.left = source;
         Some(Placed { offset, row })
+    }
+}
+
+impl<S: Source, R: FrontRow<S>> PlacedRows<S, R> {
+    /// The row that begins at an offset, where one is known to begin. It costs that row alone.
+    pub fn known_at(&self, offset: usize) -> Option<R>
+        ensures { IsThatOf (row_at offset self.now) result }
+    {
+        let here = self.total - self.left.len();
+        let mut source = self.left.behind(offset.saturating_sub(here));
+        let Ok(row) = R::next_row(&mut source) else {
+            return None;
+        };
+        Some(row)
     }
 }
 

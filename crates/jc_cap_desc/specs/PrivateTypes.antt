@@ -15,9 +15,13 @@ use Rattle.jc_cap_desc.specs.declared.type_index.TypeIndex.{TypeIndex}
 abbrev pub PlacedTypes : Type 0
 PlacedTypes = List (Placed (Signature ClassRef))
 
+-- a set that says of each offset whether a descriptor begins there
+abbrev pub HasStarts : List ℕ → PlacedTypes → Type 0
+HasStarts starts types = (n : ℕ) → n < 65536 → has_number starts n ≡ is_some (row_at n types)
+
 -- sets that say of each offset whether a descriptor begins there, a field's, and an install method's
 pub record IndexesTypes (index : TypeIndex) (types : PlacedTypes) : Type 0 where
-  pub starts : (n : ℕ) → n < 65536 → has_number index.starts n ≡ is_some (row_at n types)
+  pub starts : HasStarts index.starts types
   pub fields : (n : ℕ) → n < 65536 → has_number index.fields n ≡ is_some (option_and_then field_type_of (row_at n types))
   pub installs : (n : ℕ) → n < 65536 → has_number index.installs n ≡ option_map_or is_install_signature (row_at n types) false
 

@@ -12,11 +12,11 @@ ghost use Rattle.jc_cap_desc.specs.PrivateTypes.{IndexesTypes, PlacedTypes};
 
 use crate::class_row::{ClassRows, MethodRow, MethodRows};
 use crate::interfaces::{interface_offsets, is_interface_row};
+use crate::type_descriptors::TypeDescriptors;
 use crate::type_index::TypeIndex;
 use jc_base::NumberSet;
 use jc_cap_class::Records;
 use jc_cap_data::Applets;
-use jc_cap_pool::Descriptors;
 
 /// Whether a method of a class is static, has code, and takes and gives what an install method does.
 fn installs(index: &TypeIndex, method: &MethodRow) -> bool
@@ -68,7 +68,7 @@ fn are_within(set: &NumberSet, applets: &Applets) -> bool
 pub(crate) fn applets_install(
     records: &Records,
     rows: &ClassRows,
-    types: &Descriptors,
+    types: &TypeDescriptors,
     applets: &Applets,
 ) -> bool
     ensures { result ≡ applets_install records.now rows.now types.now applets.now }

@@ -11,16 +11,16 @@ use crate::component::DescriptorInfo;
 use crate::fields::Fields;
 use crate::interfaces::is_interface;
 use crate::methods::ClassMethods;
+use crate::type_descriptors::TypeDescriptors;
 use jc_base::{ClassRef, Placed};
 use jc_cap_class::{Record, RecordBody, Records};
 use jc_cap_method::MethodInfo;
-use jc_cap_pool::Descriptors;
 use std::marker::Model;
 
 /// A class or an interface: what its record says, and what its row says.
 #[derive(Drop)]
 pub struct Class<'p, 'a> {
-    types: Descriptors<'a>,
+    types: &'p TypeDescriptors<'a>,
     bodies: &'p MethodInfo<'a>,
     placed: Placed<Record<'a>>,
     row: ClassRow<'a>,
@@ -33,7 +33,7 @@ impl<'p, 'a> Model for Class<'p, 'a> {
 
     ghost Value = { ClassShape };
 
-    ghost view = { λ c. joined c.types c.bodies.now c.placed c.row };
+    ghost view = { λ c. joined c.types.now c.bodies.now c.placed c.row };
 
     ghost invariant = { λ c. is_row_of c.placed.offset c.row ≡ true };
 }
@@ -64,11 +64,11 @@ impl<'p, 'a> Class<'p, 'a> {
     }
 
     /// Its fields, in the order of their rows.
-    pub fn fields(&self) -> Fields<'a>
+    pub fn fields(&self) -> Fields<'p, 'a>
         ensures { result ≡ self.now.fields }
     {
         Fields {
-            types: self.types.again(),
+            types: self.types,
             left: self.row.fields.again(),
         }
     }
@@ -78,7 +78,7 @@ impl<'p, 'a> Class<'p, 'a> {
         ensures { result ≡ self.now.methods }
     {
         ClassMethods {
-            types: self.types.again(),
+            types: self.types,
             bodies: self.bodies,
             is_class: !is_interface(&self.placed.row.body),
             left: self.row.methods.again(),
@@ -102,7 +102,7 @@ fn row_of<'a>(offset: usize, rows: &ClassRows<'a>) -> Option<ClassRow<'a>>
 
 /// The class or interface whose record this is, if it has a row.
 fn class_of<'p, 'a>(
-    info: &DescriptorInfo<'a>,
+    info: &'p DescriptorInfo<'a>,
     bodies: &'p MethodInfo<'a>,
     placed: Placed<Record<'a>>,
 ) -> Option<Class<'p, 'a>>
@@ -110,7 +110,7 @@ fn class_of<'p, 'a>(
 {
     let row = row_of(placed.offset, &info.classes)?;
     Some(Class {
-        types: info.types.again(),
+        types: &info.types,
         bodies,
         placed,
         row,

@@ -8,10 +8,10 @@ ghost use Rattle.jc_cap_desc.specs.Component.{layout_of};
 ghost use Rattle.jc_cap_desc.specs.Types.{descriptor_of};
 
 use crate::class_row::ClassRows;
+use crate::type_descriptors::TypeDescriptors;
 use crate::types::types_are_there;
 use jc_base::tag::DESCRIPTOR;
 use jc_base::{Cursor, LoadFault, Parts, Rows, U2s};
-use jc_cap_pool::Descriptors;
 
 /// The Descriptor component.
 #[derive(Drop)]
@@ -21,7 +21,7 @@ pub struct DescriptorInfo<'a> {
     /// For each entry of the constant pool where the descriptor of its type begins, `FFFF` where it has no type.
     pub pool_types: U2s<'a>,
     /// The type descriptors. Their offsets count from the number of pool types.
-    pub types: Descriptors<'a>,
+    pub types: TypeDescriptors<'a>,
 }
 
 /// The next `count` rows of classes.
@@ -44,7 +44,7 @@ fn layout_of<'a>(info: &'a [u8]) -> Result<DescriptorInfo<'a>, LoadFault>
     let pool_count = cursor.u2().ok_or(LoadFault::Malformed(DESCRIPTOR))?;
     let size = 2 * usize::from(pool_count);
     let offsets = cursor.take(size).ok_or(LoadFault::Malformed(DESCRIPTOR))?;
-    let types = Descriptors::read(&behind_classes, 2 + size)?;
+    let types = TypeDescriptors::read(&behind_classes, 2 + size)?;
     Ok(DescriptorInfo {
         classes,
         pool_types: U2s::new(offsets),

@@ -5,19 +5,19 @@ ghost use Rattle.jc_cap_desc.specs.Shape.{field_shape};
 ghost use Rattle.jc_cap_desc.specs.Types.{type_of_field};
 
 use crate::class_row::{FieldPlace, FieldRow, FieldRows, StatedType};
+use crate::type_descriptors::TypeDescriptors;
 use jc_base::{ClassRef, DeclaredType};
-use jc_cap_pool::Descriptors;
 use std::marker::Model;
 
 /// The type that a field's row states, if it states one.
-fn type_of_field(types: &Descriptors, stated: StatedType) -> Option<DeclaredType<ClassRef>>
+fn type_of_field(types: &TypeDescriptors, stated: StatedType) -> Option<DeclaredType<ClassRef>>
     ensures { result ≡ type_of_field types.now stated }
 {
     match stated {
         StatedType::Boolean => Some(DeclaredType::Boolean),
         StatedType::Byte => Some(DeclaredType::Byte),
         StatedType::Short => Some(DeclaredType::Short),
-        StatedType::Described { offset } => types.at(usize::from(offset))?.field_type(),
+        StatedType::Described { offset } => types.at(offset)?.field_type(),
         StatedType::Unknown => None,
     }
 }
@@ -54,7 +54,7 @@ impl Field {
 }
 
 /// The field that a row is of, if its type is there.
-fn field_of(types: &Descriptors, row: &FieldRow) -> Option<Field>
+fn field_of(types: &TypeDescriptors, row: &FieldRow) -> Option<Field>
     ensures { result ≡ field_shape types.now row.now }
 {
     let declared = type_of_field(types, row.stated)?;
@@ -66,29 +66,29 @@ fn field_of(types: &Descriptors, row: &FieldRow) -> Option<Field>
 
 /// The fields of a class.
 #[derive(Drop)]
-pub struct Fields<'a> {
-    pub(crate) types: Descriptors<'a>,
+pub struct Fields<'p, 'a> {
+    pub(crate) types: &'p TypeDescriptors<'a>,
     pub(crate) left: FieldRows<'a>,
 }
 
-impl<'a> Model for Fields<'a> {
+impl<'p, 'a> Model for Fields<'p, 'a> {
     ghost use Rattle.std.specs.Prelude.{List};
     ghost use Rattle.std.specs.List.{filter_map};
     ghost use Rattle.jc_cap_desc.specs.Shape.{FieldShape, field_shape};
 
     ghost Value = { List FieldShape };
 
-    ghost view = { λ f. filter_map (field_shape f.types) f.left };
+    ghost view = { λ f. filter_map (field_shape f.types.now) f.left };
 }
 
-impl<'a> Fields<'a> {
+impl<'p, 'a> Fields<'p, 'a> {
     /// Takes the first field off, or answers `None` where there is none.
     pub fn next(&mut self) -> Option<Field>
         ensures some { IfSome result (λ field. self.old ≡ field ∷ self.new) }
         ensures none { IfNone result ((self.old ≡ []) × (self.new ≡ [])) }
     {
         while let Some(row) = self.left.next() {
-            if let Some(field) = field_of(&self.types, &row) {
+            if let Some(field) = field_of(self.types, &row) {
                 return Some(field);
             }
         }

@@ -14,6 +14,7 @@ mod methods;
 mod offsets;
 mod package;
 mod standing;
+mod type_descriptors;
 mod type_index;
 mod types;
 
@@ -26,6 +27,7 @@ pub use component::{DescriptorInfo, descriptor_layout, read_descriptor};
 pub use fields::{Field, Fields};
 pub use methods::{ClassMethod, ClassMethods};
 pub use package::{Package, read_package};
+pub use type_descriptors::TypeDescriptors;
 
 #[cfg(test)]
 mod tests;

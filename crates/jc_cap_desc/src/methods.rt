@@ -5,8 +5,9 @@ ghost use Rattle.jc_cap_desc.specs.PrivateShape.{header_if};
 ghost use Rattle.jc_cap_desc.specs.Shape.{method_shape};
 
 use crate::class_row::{MethodRow, MethodRows};
+use crate::type_descriptors::TypeDescriptors;
 use jc_cap_method::{MethodHeader, MethodInfo};
-use jc_cap_pool::{Descriptor, Descriptors};
+use jc_cap_pool::Descriptor;
 use std::marker::Model;
 
 /// A method of a class or an interface.
@@ -81,13 +82,13 @@ fn header_if(counts: bool, methods: &MethodInfo, offset: u16) -> Option<MethodHe
 
 /// The method that a row is of, if its type is there.
 fn method_of<'a>(
-    types: &Descriptors<'a>,
+    types: &TypeDescriptors<'a>,
     header: Option<MethodHeader>,
     row: MethodRow,
 ) -> Option<ClassMethod<'a>>
     ensures { result ≡ method_shape types.now (λ _. header) row }
 {
-    let signature = types.at(usize::from(row.type_offset))?;
+    let signature = types.at(row.type_offset)?;
     Some(ClassMethod {
         row,
         header,
@@ -98,7 +99,7 @@ fn method_of<'a>(
 /// The methods of a class or an interface.
 #[derive(Drop)]
 pub struct ClassMethods<'p, 'a> {
-    pub(crate) types: Descriptors<'a>,
+    pub(crate) types: &'p TypeDescriptors<'a>,
     pub(crate) bodies: &'p MethodInfo<'a>,
     pub(crate) is_class: bool,
     pub(crate) left: MethodRows<'a>,
@@ -112,7 +113,7 @@ impl<'p, 'a> Model for ClassMethods<'p, 'a> {
 
     ghost Value = { List MethodShape };
 
-    ghost view = { λ m. filter_map (method_shape m.types (header_if m.is_class m.bodies.now)) m.left };
+    ghost view = { λ m. filter_map (method_shape m.types.now (header_if m.is_class m.bodies.now)) m.left };
 }
 
 impl<'p, 'a> ClassMethods<'p, 'a> {
@@ -123,7 +124,7 @@ impl<'p, 'a> ClassMethods<'p, 'a> {
     {
         while let Some(row) = self.left.next() {
             let header = header_if(self.is_class, self.bodies, row.offset);
-            if let Some(method) = method_of(&self.types, header, row) {
+            if let Some(method) = method_of(self.types, header, row) {
                 return Some(method);
             }
         }

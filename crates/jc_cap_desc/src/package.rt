@@ -117,7 +117,7 @@ impl<'a> Package<'a> {
         if offset == NO_TYPE {
             return None;
         }
-        self.descriptor.types.at(usize::from(offset))
+        self.descriptor.types.at(offset)
     }
 
     /// The methods with code, in the order of their rows.

@@ -5,8 +5,9 @@ ghost use Rattle.jc_cap_desc.specs.Across.{is_install_signature};
 ghost use Rattle.jc_cap_desc.specs.PrivateTypes.{IndexedSoFar, IndexesTypes, PlacedTypes};
 
 use crate::offsets::{mark, put};
+use crate::type_descriptors::TypeDescriptors;
 use jc_base::{DeclaredType, NumberSet, Placed, ReturnType};
-use jc_cap_pool::{Descriptor, Descriptors};
+use jc_cap_pool::Descriptor;
 
 /// The offsets at which type descriptors begin.
 #[derive(Drop)]
@@ -44,7 +45,7 @@ fn is_install_signature(descriptor: &Descriptor) -> bool
 
 impl TypeIndex {
     /// The index of descriptors, in one pass over them.
-    pub(crate) fn of(types: &Descriptors) -> TypeIndex
+    pub(crate) fn of(types: &TypeDescriptors) -> TypeIndex
         ensures { IndexesTypes result types.now }
     {
         let mut index = TypeIndex {
@@ -52,7 +53,7 @@ impl TypeIndex {
             fields: NumberSet::empty(),
             installs: NumberSet::empty(),
         };
-        let mut left = types.again();
+        let mut left = types.rows();
         while let Some(placed) = left.next() {
             index.add(&placed);
         }

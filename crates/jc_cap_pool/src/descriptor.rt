@@ -5,13 +5,14 @@ ghost use Rattle.jc_base.specs.Cursor.{Gives};
 ghost use Rattle.jc_base.specs.Signature.{Signature};
 ghost use Rattle.jc_base.specs.declared.class_ref.ClassRef.{ClassRef};
 ghost use Rattle.jc_cap_pool.specs.Descriptor.{IsSpelled, signature_of, next_descriptor, descriptor_at, field_type_of};
-ghost use Rattle.jc_cap_pool.specs.PrivateDescriptor.{descriptor_shrinks};
+ghost use Rattle.jc_cap_pool.specs.PrivateDescriptor.{descriptor_in_front, descriptor_shrinks};
 
 use crate::declared_type::next_return;
 use crate::nibbles::{Nibbles, next_nibbles};
 use jc_base::tag::DESCRIPTOR;
 use jc_base::{
-    ClassRef, Cursor, DeclaredType, LoadFault, PlacedRow, PlacedRows, ReturnType, Row, Rows, Source,
+    ClassRef, Cursor, DeclaredType, FrontRow, LoadFault, PlacedRow, PlacedRows, ReturnType, Row,
+    Rows, Source,
 };
 use std::marker::Model;
 
@@ -104,6 +105,10 @@ impl<'a> Row<Cursor<'a>> for Descriptor<'a> {
 
 impl<'a> PlacedRow<Cursor<'a>> for Descriptor<'a> {
     ghost shrinks = { descriptor_shrinks };
+}
+
+impl<'a> FrontRow<Cursor<'a>> for Descriptor<'a> {
+    ghost in_front = { descriptor_in_front };
 }
 
 /// Descriptors one behind the other until nothing is left, each found at the offset at which it begins.

@@ -1,5 +1,5 @@
 -- Lists that are copied by their indexes.
-use Rattle.std.proofs.Common.{◌≡◌, ℕ, zero, suc, ◌+◌, ◌<◌, List, [], ◌∷◌, ◌++◌, length, take, slice_get, Option, Some, None, sym, ap, ◌∙◌, arith, unwrap_or}
+use Rattle.std.proofs.Common.{◌≡◌, ℕ, zero, suc, ◌+◌, ◌<◌, List, [], ◌∷◌, ◌++◌, length, take, slice_get, Some, None, sym, ap, ◌∙◌, arith, unwrap_or}
 use Rattle.jc_base.proofs.Binding.{none_some}
 use Rattle.jc_base.proofs.Copied.{at_more}
 

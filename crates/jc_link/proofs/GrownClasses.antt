@@ -59,7 +59,7 @@ module _ (world : List Shape) (more : Shape) (keeps : KeepsLookups world more) w
 
   -- ---- classes by themselves
 
-  superclass_stays : (c : ClassName) (k : ClassShape) → IsWithin world c → lacks_superclass (grown world more) c k ≡ lacks_superclass world c k
+  pub superclass_stays : (c : ClassName) (k : ClassShape) → IsWithin world c → lacks_superclass (grown world more) c k ≡ lacks_superclass world c k
   superclass_stays c k h =
       ap (λ b. is_class k.body && not b)
       (ap (λ (o : Option ClassName). option_map_or (is_class_at (grown world more)) o false) (keeps.superclasses c h)
@@ -72,12 +72,12 @@ module _ (world : List Shape) (more : Shape) (keeps : KeepsLookups world more) w
       (ap (λ (o : Option ClassName). option_map_or (is_at_or_above (grown world more) n d) o false) (keeps.superclasses c h)
       ∙ or_same (is_at_or_above (grown world more) n d) (is_at_or_above world n d) false (superclass_of world c) (λ s e. at_or_above_stays n d s (superclass_within world c s h e)))
 
-  round_stays : (c : ClassName) → IsWithin world c → leads_round (grown world more) c ≡ leads_round world c
+  pub round_stays : (c : ClassName) → IsWithin world c → leads_round (grown world more) c ≡ leads_round world c
   round_stays c h =
       ap (λ (o : Option ClassName). option_map_or (is_at_or_above (grown world more) most_classes c) o false) (keeps.superclasses c h)
       ∙ or_same (is_at_or_above (grown world more) most_classes c) (is_at_or_above world most_classes c) false (superclass_of world c) (λ s e. at_or_above_stays most_classes c s (superclass_within world c s h e))
 
-  interfaces_stay : (home : ℕ) (k : ClassShape) → home < length world → lists_no_interface (grown world more) home k ≡ lists_no_interface world home k
+  pub interfaces_stay : (home : ℕ) (k : ClassShape) → home < length world → lists_no_interface (grown world more) home k ≡ lists_no_interface world home k
   interfaces_stay home k h =
       any_same (λ ref. not (option_map_or (is_interface_at (grown world more)) (class_named (grown world more) home ref) false)) (λ ref. not (option_map_or (is_interface_at world) (class_named world home ref) false))
       (λ ref. ap not
@@ -85,7 +85,7 @@ module _ (world : List Shape) (more : Shape) (keeps : KeepsLookups world more) w
       ∙ or_same (is_interface_at (grown world more)) (is_interface_at world) false (class_named world home ref) (λ c e. is_interface_stays world more keeps c (named_within world home ref c h e))))
       (listed_refs k.body)
 
-  unknown_type_stays : (home : ℕ) (k : ClassShape) → home < length world → has_unknown_type (grown world more) home k ≡ has_unknown_type world home k
+  pub unknown_type_stays : (home : ℕ) (k : ClassShape) → home < length world → has_unknown_type (grown world more) home k ≡ has_unknown_type world home k
   unknown_type_stays home k h =
       either_same _ _ _ _
       (any_same (λ f. not (is_some (field_type_of (grown world more) home f))) (λ f. not (is_some (field_type_of world home f))) (λ f. ap (λ o. not (is_some o)) (field_type_stays world more keeps home f h)) k.fields)
@@ -100,7 +100,7 @@ module _ (world : List Shape) (more : Shape) (keeps : KeepsLookups world more) w
       (ap (λ (o : Option DeclaredMethod). option_map_or (is_inherited (grown world more) c) o false) (method_stays world more keeps (method_name home entry) (method_name_within world home entry api h))
       ∙ or_same (is_inherited (grown world more) c) (is_inherited world c) false (method_at world (method_name home entry)) (λ d e. inherited_stays c d w))
 
-  bad_entries_stay : (home : ℕ) (c : ClassName) (k : ClassShape) → HasApi world → home < length world → IsWithin world c → has_bad_entry (grown world more) home c k ≡ has_bad_entry world home c k
+  pub bad_entries_stay : (home : ℕ) (c : ClassName) (k : ClassShape) → HasApi world → home < length world → IsWithin world c → has_bad_entry (grown world more) home c k ≡ has_bad_entry world home c k
   bad_entries_stay home c k api h w =
       either_same _ _ _ _
       (any_same (is_bad_entry (grown world more) home c) (is_bad_entry world home c) (λ entry. bad_entry_stays home c entry api h w) (public_entries k.body))

@@ -51,7 +51,7 @@ one_more : (test : ℕ → Bool) (n from last : ℕ) → from + n ≡ last → t
 one_more test zero from last e h = let same : from ≡ last = omega (arith, e) in ap (λ b. b || false) (ap test same ∙ h)
 one_more test (suc n) from last e h = ap (λ b. test from || b) (one_more test n (from + 1) last (omega (arith, e)) h)
 
-length_more : {A : Type 0} (xs : List A) (y : A) → length (xs ++ y ∷ []) ≡ suc (length xs)
+pub length_more : {A : Type 0} (xs : List A) (y : A) → length (xs ++ y ∷ []) ≡ suc (length xs)
 length_more [] y = refl
 length_more (x ∷ xs) y = ap suc (length_more xs y)
 
@@ -114,7 +114,7 @@ module _ (world : List Shape) (more : Shape) (keeps : KeepsLookups world more) (
       ap (λ (o : Option MethodName). is_some o && not (is_some (virtual_method_of (grown world more) c token home))) (above_stays world more keeps home token c h)
       ∙ ap (λ (o : Option MethodName). is_some (method_above world home token c) && not (is_some o)) (keeps.virtual_methods c token home h)
 
-  loses_stays : (home : ℕ) (c : ClassName) → IsWithin world c → loses_method (grown world more) home c ≡ loses_method world home c
+  pub loses_stays : (home : ℕ) (c : ClassName) → IsWithin world c → loses_method (grown world more) home c ≡ loses_method world home c
   loses_stays home c h = any_same (loses_at (grown world more) home c) (loses_at world home c) (λ token. loses_at_stays home token c h) virtual_tokens
 
   other_type_stays : (m above : MethodName) → IsMethodWithin world m → IsMethodWithin world above → is_other_type (grown world more) m above ≡ is_other_type world m above
@@ -130,7 +130,7 @@ module _ (world : List Shape) (more : Shape) (keeps : KeepsLookups world more) (
       (λ m e. or_same (is_other_type (grown world more) m) (is_other_type world m) false (method_above world home token c)
       (λ above f. other_type_stays m above (virtual_within world c token home m api h e) (above_within world more keeps home token c above api h f)))
 
-  overrides_stay : (home : ℕ) (c : ClassName) → IsWithin world c → overrides_with_another_type (grown world more) home c ≡ overrides_with_another_type world home c
+  pub overrides_stay : (home : ℕ) (c : ClassName) → IsWithin world c → overrides_with_another_type (grown world more) home c ≡ overrides_with_another_type world home c
   overrides_stay home c h = any_same (retypes_at (grown world more) home c) (retypes_at world home c) (λ token. retypes_at_stays home token c h) virtual_tokens
 
   -- ---- methods that are left abstract
@@ -221,7 +221,7 @@ module _ (world : List Shape) (more : Shape) (keeps : KeepsLookups world more) (
 
   -- ---- classes and packages
 
-  unfinished_stays : (c : ClassName) (k : ClassShape) → IsWithin world c → is_unfinished (grown world more) c k ≡ is_unfinished world c k
+  pub unfinished_stays : (c : ClassName) (k : ClassShape) → IsWithin world c → is_unfinished (grown world more) c k ≡ is_unfinished world c k
   unfinished_stays c k h =
       ap (λ b. is_class k.body && not k.is_abstract && b)
       (either_same (leaves_abstract (grown world more) c) (breaks_interface (grown world more) c) (leaves_abstract world c) (breaks_interface world c) (leaves_stays c h) (breaks_stays c h))

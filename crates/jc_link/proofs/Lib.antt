@@ -3,9 +3,16 @@ pub mod Agree
 pub mod Cells
 pub mod Finding
 pub mod Firsts
+pub mod Nones
+pub mod SoundChains
+pub mod SoundMembers
+pub mod Leading
 pub mod Listed
 pub mod Places
 pub mod Rows
+pub mod SameTypes
+pub mod SoundVirtual
+pub mod SoundFinished
 pub mod StaticOffsets
 pub mod Superclasses
 pub mod Tokens
@@ -14,3 +21,10 @@ pub mod GrownWithin
 pub mod GrownNames
 pub mod GrownClasses
 pub mod GrownHeirs
+pub mod SoundGrown
+pub mod ApiLists
+pub mod ApiClasses
+pub mod ApiMembers
+pub mod ApiTables
+pub mod ApiFit
+pub mod Soundness

@@ -34,35 +34,37 @@ signature_found find s =
     option_and_then (λ parameters. option_map (λ result. record { parameters = parameters; result = result }) (return_found find s.result))
     (types_found find s.parameters)
 
+-- what a type is, whatever its class; and its class
+abbrev pub kind_of : {C : Type 0} → DeclaredType C → ℕ
+kind_of Boolean = 0
+kind_of Byte = 1
+kind_of Short = 2
+kind_of (Reference c) = 3
+kind_of BooleanArray = 4
+kind_of ByteArray = 5
+kind_of ShortArray = 6
+kind_of (ReferenceArray c) = 7
+
+abbrev pub class_in : {C : Type 0} → DeclaredType C → Option C
+class_in Boolean = None
+class_in Byte = None
+class_in Short = None
+class_in (Reference c) = Some c
+class_in BooleanArray = None
+class_in ByteArray = None
+class_in ShortArray = None
+class_in (ReferenceArray c) = Some c
+
+-- whether two classes are one, as far as they are there
+abbrev pub is_same_class : Option ClassName → Option ClassName → Bool
+is_same_class None None = true
+is_same_class None (Some d) = false
+is_same_class (Some c) None = false
+is_same_class (Some c) (Some d) = is_same_name c d
+
 -- whether two types are one
 abbrev pub is_same_type : DeclaredType ClassName → DeclaredType ClassName → Bool
 is_same_type one other = kind_of one == kind_of other && is_same_class (class_in one) (class_in other)
-  where
-    kind_of : DeclaredType ClassName → ℕ
-    kind_of Boolean = 0
-    kind_of Byte = 1
-    kind_of Short = 2
-    kind_of (Reference c) = 3
-    kind_of BooleanArray = 4
-    kind_of ByteArray = 5
-    kind_of ShortArray = 6
-    kind_of (ReferenceArray c) = 7
-
-    class_in : DeclaredType ClassName → Option ClassName
-    class_in Boolean = None
-    class_in Byte = None
-    class_in Short = None
-    class_in (Reference c) = Some c
-    class_in BooleanArray = None
-    class_in ByteArray = None
-    class_in ShortArray = None
-    class_in (ReferenceArray c) = Some c
-
-    is_same_class : Option ClassName → Option ClassName → Bool
-    is_same_class None None = true
-    is_same_class None (Some d) = false
-    is_same_class (Some c) None = false
-    is_same_class (Some c) (Some d) = is_same_name c d
 
 abbrev pub are_same_types : List (DeclaredType ClassName) → List (DeclaredType ClassName) → Bool
 are_same_types [] [] = true

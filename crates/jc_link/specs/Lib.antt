@@ -15,3 +15,6 @@ pub mod PrivateBody
 pub mod PrivateStatics
 pub mod PrivateFaults
 pub mod Growth
+pub mod Built
+pub mod Sound
+pub mod PrivateFit

@@ -1,5 +1,5 @@
 -- Packages that are bound to those before them, and the world of those (Java Card Virtual Machine Specification, Linking).
-use Rattle.std.specs.Prelude.{◌≡◌, ◌⊎◌, ℕ, List, [], ◌∷◌, ◌++◌, length, Option, Some, Result, Ok, Err}
+use Rattle.std.specs.Prelude.{◌≡◌, ◌⊎◌, List, [], ◌∷◌, ◌++◌, map, length, Option, Some, Result, Ok, Err}
 use Rattle.jc_base.specs.declared.fault.LoadFault.{LoadFault}
 use Rattle.jc_base.specs.declared.fault.LoadFault.TheVariants.{Memory}
 use Rattle.jc_cap_desc.specs.Shape.{Package, Shape}
@@ -12,7 +12,7 @@ use Rattle.jc_link.specs.declared.target.PoolTarget.{PoolTarget}
 -- what a linked package has beside the shapes: what is kept of its body, and for each entry of its pool what it leads to
 pub record LinkedBody : Type 0 where
   pub kept : Kept
-  pub targets : List (Option PoolTarget)
+  pub targets : List PoolTarget
 
 -- a package in the world that it was bound to: it is the last one there
 pub record Linked : Type 0 where
@@ -24,12 +24,12 @@ pub record World : Type 0 where
   pub shapes : List Shape
   pub bodies : List LinkedBody
 
--- this package, bound to the packages of a world: it is well-formed there, and its entries lead to its targets
+-- this package, bound to the packages of a world: it is well-formed there, and each entry of its pool leads to its target
 pub record IsLinked (before : List Shape) (p : Package) (l : Linked) : Type 0 where
   pub fine : IsWellFormed before p
   pub world : l.world ≡ grown before p.shape
   pub kept : l.body.kept ≡ kept_of p.body
-  pub targets : l.body.targets ≡ pool_targets l.world (length before) l.body.kept.pool
+  pub targets : map Some l.body.targets ≡ pool_targets l.world (length before) l.body.kept.pool
 
 -- why a package that was read, or wasn't, isn't linked
 abbrev pub refusal_of : List Shape → Result Package LoadFault → Option LoadFault

@@ -45,13 +45,14 @@ static_field_in offset shape = find (λ f. is_static_field offset f.place) (flat
 abbrev pub static_field_at : List Shape → StaticPlace → Option FieldShape
 static_field_at world place = option_and_then (static_field_in place.offset) (slice_get world place.home)
 
+-- how many cells of an object a class itself takes
+abbrev pub size_of : List Shape → ClassName → ℕ
+size_of world d = option_map_or (λ k. declared_size k.body) (class_at world d) 0
+
 -- how many cells of an object its superclasses take, within so many classes
 abbrev pub cells_above : List Shape → ℕ → ClassName → ℕ
 cells_above world zero c = 0
 cells_above world (suc n) c = option_map_or (λ d. size_of world d + cells_above world n d) (superclass_of world c) 0
-  where
-    size_of : List Shape → ClassName → ℕ
-    size_of world d = option_map_or (λ k. declared_size k.body) (class_at world d) 0
 
 -- where a static member stands: in its own package, or where a package that is imported exports it, by its tokens
 abbrev pub exported_place : (ExportedClass → List ℕ) → List Shape → ℕ → ℕ → ℕ → Option StaticPlace

@@ -12,6 +12,7 @@ use Rattle.jc_cap_data.specs.declared.arrays.StaticArray.TheVariants as Of
 use Rattle.jc_cap_desc.specs.Shape.{FieldShape, Shape}
 use Rattle.jc_cap_desc.specs.declared.class_row.FieldPlace.{FieldPlace}
 use Rattle.jc_cap_desc.specs.declared.class_row.FieldPlace.TheVariants.{Static, Instance}
+use Rattle.jc_link.specs.Found.{kind_of}
 
 -- a static field: its offset and its type
 pub record StaticField : Type 0 where
@@ -71,41 +72,15 @@ share_a_byte f g = nat_lt f.offset (behind g) && nat_lt g.offset (behind f)
 abbrev pub overlaps_another : List StaticField → StaticField → Bool
 overlaps_another fields f = nat_lt 1 (count_by (share_a_byte f) fields)
 
+-- the type of an initialised array
+abbrev pub array_type : StaticArray → DeclaredType ClassRef
+array_type (Of.Boolean values) = Declared.BooleanArray
+array_type (Of.Byte values) = Declared.ByteArray
+array_type (Of.Short values) = Declared.ShortArray
+
 -- whether an initialised array is exactly of a type
 abbrev pub is_of_type : StaticArray → DeclaredType ClassRef → Bool
-is_of_type (Of.Boolean values) type = is_boolean_array type
-  where
-    is_boolean_array : DeclaredType ClassRef → Bool
-    is_boolean_array Declared.Boolean = false
-    is_boolean_array Declared.Byte = false
-    is_boolean_array Declared.Short = false
-    is_boolean_array (Declared.Reference c) = false
-    is_boolean_array Declared.BooleanArray = true
-    is_boolean_array Declared.ByteArray = false
-    is_boolean_array Declared.ShortArray = false
-    is_boolean_array (Declared.ReferenceArray c) = false
-is_of_type (Of.Byte values) type = is_byte_array type
-  where
-    is_byte_array : DeclaredType ClassRef → Bool
-    is_byte_array Declared.Boolean = false
-    is_byte_array Declared.Byte = false
-    is_byte_array Declared.Short = false
-    is_byte_array (Declared.Reference c) = false
-    is_byte_array Declared.BooleanArray = false
-    is_byte_array Declared.ByteArray = true
-    is_byte_array Declared.ShortArray = false
-    is_byte_array (Declared.ReferenceArray c) = false
-is_of_type (Of.Short values) type = is_short_array type
-  where
-    is_short_array : DeclaredType ClassRef → Bool
-    is_short_array Declared.Boolean = false
-    is_short_array Declared.Byte = false
-    is_short_array Declared.Short = false
-    is_short_array (Declared.Reference c) = false
-    is_short_array Declared.BooleanArray = false
-    is_short_array Declared.ByteArray = false
-    is_short_array Declared.ShortArray = true
-    is_short_array (Declared.ReferenceArray c) = false
+is_of_type array type = kind_of (array_type array) == kind_of type
 
 -- the field of an initialised array, which isn't of that array's type
 abbrev pub is_of_another_array : StaticImage → StaticField → Bool

@@ -1,5 +1,5 @@
 -- What entries of the constant pool lead to, with the types of members: what an instruction needs of an entry.
-use Rattle.std.specs.Prelude.{map, ℕ, ◌+◌, List, [], ◌∷◌, Option, Some, None}
+use Rattle.std.specs.Prelude.{map, ℕ, ◌+◌, List, Option, Some, None}
 use Rattle.std.specs.Option.{option_and_then, option_map}
 use Rattle.jc_base.specs.Signature.{Signature}
 use Rattle.jc_base.specs.declared.declared_type.DeclaredType.{DeclaredType}
@@ -55,6 +55,6 @@ target_of world (Names.StaticMethod m) = option_and_then (target_of_declared wor
 abbrev pub pool_target_of : List Shape → ℕ → PoolEntry → Option PoolTarget
 pool_target_of world home entry = option_and_then (target_of world) (named_by world home entry)
 
--- what the entries of a pool lead to, in their order. In a world of well-formed packages each leads somewhere
+-- what the entries of a pool lead to, in their order, if they lead anywhere
 abbrev pub pool_targets : List Shape → ℕ → List PoolEntry → List (Option PoolTarget)
 pool_targets world home pool = map (pool_target_of world home) pool

@@ -21,7 +21,7 @@ pub(crate) const MOST_CLASSES: u16 = 17_085;
 const DECLARED_ABOVE: u16 = 0xFFFF;
 
 /// Whether a class stands there, and not an interface.
-fn is_class_at(table: &ClassTable, class: ClassName) -> bool
+pub(crate) fn is_class_at(table: &ClassTable, class: ClassName) -> bool
     ensures { result ≡ is_class_at table.now class }
 {
     match table.class_at(class) {

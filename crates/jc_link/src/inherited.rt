@@ -4,29 +4,20 @@ ghost use Rattle.std.specs.Prelude.{◌≡◌, ◌≤◌};
 ghost use Rattle.std.specs.List.{list_any, range_with_len};
 ghost use Rattle.jc_classes.specs.Methods.{public_method_of};
 ghost use Rattle.jc_link.specs.Inherited.{loses_at, loses_method, is_same_method, is_other_type, retypes_at, overrides_with_another_type, is_abstract_at, leaves_at, leaves_package_abstract, leaves_abstract, public_tokens, rows_of, misses, method_for, is_unimplemented, lacks_methods_of, breaks_row, breaks_interface, is_unfinished};
-ghost use Rattle.jc_link.specs.Named.{method_above};
 
 use crate::classes::MOST_CLASSES;
-use crate::pool::{is_abstract_method, is_concrete};
+use crate::pool::{is_abstract_method, is_concrete, method_above};
 use crate::types::{implements_type, is_known_method, same_method_type};
 use jc_classes::{Class, ClassName, ClassTable, ImplementedInterface, Method, MethodName};
 
 /// Tokens from here on are package-visible.
 const PACKAGE_VISIBLE: u8 = 128;
 
-/// The method of the superclass of a class at a token, looked up for the package that stands there.
-fn method_above(table: &ClassTable, home: usize, token: u8, class: ClassName) -> Option<MethodName>
-    ensures { result ≡ method_above table.now home token class }
-{
-    let above = table.superclass_of(class)?;
-    table.virtual_method_for(above, token, home)
-}
-
 /// Whether the superclass finds a method at a token, and the class none.
 fn loses_at(table: &ClassTable, home: usize, class: ClassName, token: u8) -> bool
     ensures { result ≡ loses_at table.now home class token }
 {
-    method_above(table, home, token, class).is_some()
+    method_above(table, home, class, token).is_some()
         && table.virtual_method_for(class, token, home).is_none()
 }
 
@@ -74,7 +65,7 @@ fn retypes_at(table: &ClassTable, home: usize, class: ClassName, token: u8) -> b
     let Some(method) = table.virtual_method_for(class, token, home) else {
         return false;
     };
-    match method_above(table, home, token, class) {
+    match method_above(table, home, class, token) {
         Some(above) => is_other_type(table, method, above),
         None => false,
     }

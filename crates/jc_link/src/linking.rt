@@ -1,17 +1,20 @@
 //! The linker.
 
-ghost use Rattle.std.specs.Prelude.{◌≡◌, ◌<◌, ◌≤◌, length, Some, Ok, IfOk, IfErr};
+ghost use Rattle.std.specs.Prelude.{◌≡◌, ◌<◌, ◌≤◌, map, length, Some, Ok, IfOk, IfErr};
 ghost use Rattle.jc_cap_desc.specs.Package.{package_of};
 ghost use Rattle.jc_cap_desc.specs.Shape.{Package as PackageRecord};
 ghost use Rattle.jc_classes.specs.Growth.{grown};
 ghost use Rattle.jc_classes.specs.Limits.{most_packages};
+ghost use Rattle.jc_link.specs.Built.{IsBuilt};
 ghost use Rattle.jc_link.specs.Kept.{kept_of};
 ghost use Rattle.jc_link.specs.Target.{pool_targets};
+ghost use Rattle.jc_link.specs.Sound.{LeadSomewhere};
 ghost use Rattle.jc_link.specs.Linked.{IsBoundTo, IsLinked, IsRefusal};
 ghost use Rattle.jc_link.specs.PrivateFaults.{class_fault, pool_fault};
-ghost use Rattle.jc_link.specs.WellFormed.{linking_fault};
+ghost use Rattle.jc_link.specs.WellFormed.{IsWellFormed, linking_fault};
 
 use crate::body::body_of;
+use crate::growth::built_worlds_are_sound;
 use crate::imports::{first_unmet, is_there_already};
 use crate::pool::first_unresolved;
 use crate::stated::first_mistyped;
@@ -31,8 +34,7 @@ fn class_fault(
     shape: &PackageShape,
     linked: &Package,
 ) -> Option<LoadFault>
-    requires loaded { 2 ≤ home }
-    requires most { home ≤ 256 }
+    requires { home ≤ 256 }
     ensures { result ≡ class_fault table.now home shape.now linked.now.body }
 {
     if let Some(offset) = first_bad_class(table, home, shape) {
@@ -49,8 +51,7 @@ fn class_fault(
 
 /// What is wrong with the entries of the pool of the package that stands there.
 fn pool_fault(table: &ClassTable, home: usize, linked: &Package) -> Option<LoadFault>
-    requires loaded { 2 ≤ home }
-    requires most { home ≤ 256 }
+    requires { home ≤ 256 }
     ensures { result ≡ pool_fault table.now home linked.now.body }
 {
     if let Some(index) = first_unresolved(table, home, linked) {
@@ -69,7 +70,6 @@ fn linking_fault(
     shape: &PackageShape,
     linked: &Package,
 ) -> Option<LoadFault>
-    requires loaded { 2 ≤ home }
     requires most { home ≤ 256 }
     requires same { shape.now ≡ linked.now.shape }
     ensures { result ≡ linking_fault table.now home linked.now }
@@ -105,14 +105,44 @@ fn linked_body(
     home: usize,
     linked: &Package,
 ) -> Result<LinkedBody, AllocError>
-    requires loaded { 2 ≤ home }
     requires most { home ≤ 256 }
+    requires lead { LeadSomewhere table.now home linked.now.body.pool }
     ensures kept { IfOk result (λ body. body.kept ≡ kept_of linked.now.body) }
-    ensures targets { IfOk result (λ body. body.targets ≡ pool_targets table.now home linked.now.body.pool) }
+    ensures targets { IfOk result (λ body. map Some body.targets ≡ pool_targets table.now home linked.now.body.pool) }
 {
     let kept = body_of(alloc, linked)?;
     let targets = pool_targets(alloc, table, home, linked)?;
     Ok(LinkedBody { kept, targets })
+}
+
+/// With a package that is well-formed in it, a world is built of such packages, and each entry of the package's pool leads
+/// somewhere there.
+#[tactic(auto, using(crate::proofs::Leading::built_behind, crate::proofs::Leading::pool_leads))]
+fn leads(world: &World, table: &ClassTable, linked: &Package)
+    requires table { table.now ≡ grown world.now.shapes linked.now.shape }
+    requires fine { IsWellFormed world.now.shapes linked.now }
+    ensures built { IsBuilt table.now }
+    ensures lead { LeadSomewhere table.now (length world.now.shapes) linked.now.body.pool }
+{
+    let _before = world.table();
+    let _count = table.len();
+    built_worlds_are_sound();
+}
+
+/// The package, bound to the packages of a world: it is well-formed there.
+fn bound(
+    alloc: Global,
+    world: &World,
+    table: ClassTable,
+    linked: &Package,
+) -> Result<Linked, AllocError>
+    requires table { table ≡ grown world.now.shapes linked.now.shape }
+    requires fine { IsWellFormed world.now.shapes linked.now }
+    ensures { IfOk result (λ l. IsLinked world.now.shapes linked.now l) }
+{
+    leads(world, &table, linked);
+    let body = linked_body(alloc, &table, world.len(), linked)?;
+    Ok(Linked { table, body })
 }
 
 /// Binds a package to the packages of a world (Java Card Virtual Machine Specification, Linking): it is well-formed there, or
@@ -130,11 +160,8 @@ pub fn link(alloc: Global, parts: &Parts, world: &World) -> Result<Linked, LoadF
     let Some(shape) = table.shape(home) else {
         return Err(LoadFault::Memory);
     };
-    if let Some(fault) = linking_fault(&table, home, shape, &linked) {
-        return Err(fault);
-    }
-    match linked_body(alloc, &table, home, &linked) {
-        Ok(body) => Ok(Linked { table, body }),
-        Err(_) => Err(LoadFault::Memory),
+    match linking_fault(&table, home, shape, &linked) {
+        Some(fault) => Err(fault),
+        None => bound(alloc, world, table, &linked).map_err(|_| LoadFault::Memory),
     }
 }

@@ -2,16 +2,15 @@
 
 ghost use Rattle.std.specs.Prelude.{◌≡◌, ◌≤◌, false, length, IfSome, slice_get};
 ghost use Rattle.std.specs.Option.{option_and_then, option_map, option_map_or};
-ghost use Rattle.jc_classes.specs.Methods.{method_name, virtual_method_of};
-ghost use Rattle.jc_classes.specs.Subtype.{is_class_at};
 ghost use Rattle.jc_link.specs.Named.{static_place, is_abstract_method, is_concrete, named_field, named_virtual, method_above, named_above, named_static_field, named_static_method, named_by};
 ghost use Rattle.jc_link.specs.Pool.{is_unresolved, first_unresolved};
 
+use crate::classes::is_class_at;
 use crate::fields::{instance_field_at, static_field_at};
 use crate::named::{Named, StaticPlace};
 use jc_cap_desc::Package;
 use jc_cap_pool::{MemberRef, PoolEntry, StaticRef};
-use jc_classes::{ClassName, ClassTable, Export, Method, MethodName};
+use jc_classes::{ClassName, ClassTable, Export, Method, MethodName, method_name};
 
 /// What a package exports under a class token.
 fn export_at(table: &ClassTable, there: usize, class: u8) -> Option<&Export>
@@ -88,47 +87,6 @@ pub(crate) fn is_concrete(table: &ClassTable, name: MethodName) -> bool
     }
 }
 
-/// Whether a class stands there, and not an interface.
-fn is_class_at(table: &ClassTable, class: ClassName) -> bool
-    ensures { result ≡ is_class_at table.now class }
-{
-    match table.class_at(class) {
-        Some(found) => found.is_class(),
-        None => false,
-    }
-}
-
-/// The name of the method at an offset of the package that stands there.
-fn method_name(place: StaticPlace) -> MethodName
-    requires { place.home ≤ 256 }
-    ensures { result ≡ method_name place.home place.offset }
-{
-    if place.home < 2 {
-        MethodName::Api {
-            member: place.offset,
-        }
-    } else {
-        MethodName::Loaded {
-            package: (place.home - 1) as u8,
-            offset: place.offset,
-        }
-    }
-}
-
-/// The virtual method of a class at a token, looked up for the loaded package that stands there.
-fn virtual_method_for(
-    table: &ClassTable,
-    home: usize,
-    class: ClassName,
-    token: u8,
-) -> Option<MethodName>
-    requires loaded { 2 ≤ home }
-    requires most { home ≤ 256 }
-    ensures { result ≡ virtual_method_of table.now class token home }
-{
-    table.virtual_method(class, token, (home - 1) as u8)
-}
-
 /// A field of a class.
 fn named_field(table: &ClassTable, class: ClassName, token: u8) -> Option<Named>
     ensures { result ≡ named_field table.now token class }
@@ -139,14 +97,12 @@ fn named_field(table: &ClassTable, class: ClassName, token: u8) -> Option<Named>
 
 /// A virtual method of a class, which is no interface, looked up for the package that stands there.
 fn named_virtual(table: &ClassTable, home: usize, class: ClassName, token: u8) -> Option<Named>
-    requires loaded { 2 ≤ home }
-    requires most { home ≤ 256 }
     ensures { result ≡ named_virtual table.now home token class }
 {
     if !is_class_at(table, class) {
         return None;
     }
-    let method = virtual_method_for(table, home, class, token)?;
+    let method = table.virtual_method_for(class, token, home)?;
     Some(Named::VirtualMethod {
         class,
         token,
@@ -161,18 +117,14 @@ pub(crate) fn method_above(
     class: ClassName,
     token: u8,
 ) -> Option<MethodName>
-    requires loaded { 2 ≤ home }
-    requires most { home ≤ 256 }
     ensures { result ≡ method_above table.now home token class }
 {
     let above = table.superclass_of(class)?;
-    virtual_method_for(table, home, above, token)
+    table.virtual_method_for(above, token, home)
 }
 
 /// A method, not abstract, of the superclass of a class, looked up for the package that stands there.
 fn named_above(table: &ClassTable, home: usize, class: ClassName, token: u8) -> Option<Named>
-    requires loaded { 2 ≤ home }
-    requires most { home ≤ 256 }
     ensures { result ≡ named_above table.now home token class }
 {
     if !is_class_at(table, class) {
@@ -198,7 +150,7 @@ fn named_static_method(table: &ClassTable, place: StaticPlace) -> Option<Named>
     requires { place.home ≤ 256 }
     ensures { result ≡ named_static_method table.now place }
 {
-    let method = method_name(place);
+    let method = method_name(place.home, place.offset);
     if !is_concrete(table, method) {
         return None;
     }
@@ -207,8 +159,7 @@ fn named_static_method(table: &ClassTable, place: StaticPlace) -> Option<Named>
 
 /// What an entry of the package that stands there names.
 pub(crate) fn named_by(table: &ClassTable, home: usize, entry: PoolEntry) -> Option<Named>
-    requires loaded { 2 ≤ home }
-    requires most { home ≤ 256 }
+    requires { home ≤ 256 }
     ensures { result ≡ named_by table.now home entry }
 {
     match entry {
@@ -238,8 +189,7 @@ pub(crate) fn named_by(table: &ClassTable, home: usize, entry: PoolEntry) -> Opt
 
 /// Whether the entry at an index is there, and names nothing.
 fn is_unresolved_at(table: &ClassTable, home: usize, linked: &Package, index: u16) -> bool
-    requires loaded { 2 ≤ home }
-    requires most { home ≤ 256 }
+    requires { home ≤ 256 }
     ensures { result ≡ option_map_or (is_unresolved table.now home) (slice_get linked.now.body.pool index) false }
 {
     match linked.pool().at(index) {
@@ -250,8 +200,7 @@ fn is_unresolved_at(table: &ClassTable, home: usize, linked: &Package, index: u1
 
 /// The index of the first entry among so many of the package that stands there that names nothing.
 fn first_unresolved_of(table: &ClassTable, home: usize, linked: &Package, count: u16) -> Option<u16>
-    requires loaded { 2 ≤ home }
-    requires most { home ≤ 256 }
+    requires { home ≤ 256 }
     ensures { count ≡ length linked.now.body.pool → result ≡ first_unresolved table.now home linked.now.body.pool }
 {
     for index in 0..count {
@@ -264,8 +213,7 @@ fn first_unresolved_of(table: &ClassTable, home: usize, linked: &Package, count:
 
 /// The index of the first entry of the package that stands there that names nothing.
 pub(crate) fn first_unresolved(table: &ClassTable, home: usize, linked: &Package) -> Option<u16>
-    requires loaded { 2 ≤ home }
-    requires most { home ≤ 256 }
+    requires { home ≤ 256 }
     ensures { result ≡ first_unresolved table.now home linked.now.body.pool }
 {
     first_unresolved_of(table, home, linked, linked.pool().count())

@@ -159,8 +159,7 @@ fn is_member(entry: PoolEntry) -> bool
 /// Whether an entry names a member of the type that it states.
 #[tactic(auto, using(crate::proofs::Agree::agree_none))]
 fn has_stated_type(table: &ClassTable, home: usize, entry: PoolEntry, stated: &Descriptor) -> bool
-    requires loaded { 2 ≤ home }
-    requires most { home ≤ 256 }
+    requires { home ≤ 256 }
     ensures { result ≡ have_same_type (member_type_of table.now home stated.now) (option_and_then (named_type_of table.now) (named_by table.now home entry)) }
 {
     match named_by(table, home, entry) {
@@ -171,8 +170,7 @@ fn has_stated_type(table: &ClassTable, home: usize, entry: PoolEntry, stated: &D
 
 /// Whether an entry states another type than that of the member that it names.
 fn is_mistyped(table: &ClassTable, home: usize, entry: PoolEntry, stated: &Descriptor) -> bool
-    requires loaded { 2 ≤ home }
-    requires most { home ≤ 256 }
+    requires { home ≤ 256 }
     ensures { result ≡ is_mistyped table.now home entry (Some stated.now) }
 {
     is_member(entry) && !has_stated_type(table, home, entry, stated)
@@ -180,8 +178,7 @@ fn is_mistyped(table: &ClassTable, home: usize, entry: PoolEntry, stated: &Descr
 
 /// Whether the entry at an index is there, and states another type than that of the member that it names.
 fn is_mistyped_at(table: &ClassTable, home: usize, linked: &Package, index: u16) -> bool
-    requires loaded { 2 ≤ home }
-    requires most { home ≤ 256 }
+    requires { home ≤ 256 }
     ensures { result ≡ is_mistyped_at table.now home linked.now.body index }
 {
     let Some(entry) = linked.pool().at(index) else {
@@ -196,8 +193,7 @@ fn is_mistyped_at(table: &ClassTable, home: usize, linked: &Package, index: u16)
 /// The index of the first entry among so many of the package that stands there that states another type than that of the
 /// member that it names.
 fn first_mistyped_of(table: &ClassTable, home: usize, linked: &Package, count: u16) -> Option<u16>
-    requires loaded { 2 ≤ home }
-    requires most { home ≤ 256 }
+    requires { home ≤ 256 }
     ensures { count ≡ length linked.now.body.pool → result ≡ first_mistyped table.now home linked.now.body }
 {
     for index in 0..count {
@@ -211,8 +207,7 @@ fn first_mistyped_of(table: &ClassTable, home: usize, linked: &Package, count: u
 /// The index of the first entry of the package that stands there that states another type than that of the member that it
 /// names.
 pub(crate) fn first_mistyped(table: &ClassTable, home: usize, linked: &Package) -> Option<u16>
-    requires loaded { 2 ≤ home }
-    requires most { home ≤ 256 }
+    requires { home ≤ 256 }
     ensures { result ≡ first_mistyped table.now home linked.now.body }
 {
     first_mistyped_of(table, home, linked, linked.pool().count())

@@ -1,9 +1,10 @@
 //! What entries of the constant pool lead to, with the types of members.
 
-ghost use Rattle.std.specs.Prelude.{◌≡◌, ◌≤◌, IfOk};
+ghost use Rattle.std.specs.Prelude.{◌≡◌, ◌≤◌, map, Some, IfOk};
 ghost use Rattle.std.specs.Option.{option_and_then, option_map};
 ghost use Rattle.jc_link.specs.Found.{types_found};
 ghost use Rattle.jc_link.specs.MemberType.{type_class, member_type_of, method_type_of};
+ghost use Rattle.jc_link.specs.Sound.{LeadSomewhere};
 ghost use Rattle.jc_link.specs.Target.{instance_type_of, static_type_of, cell_of, target_of, pool_target_of, pool_targets};
 ghost use Rattle.jc_link.specs.declared.named.Named.TheVariants as Names;
 
@@ -253,8 +254,7 @@ fn pool_target_of(
     home: usize,
     entry: PoolEntry,
 ) -> Result<Option<PoolTarget>, AllocError>
-    requires loaded { 2 ≤ home }
-    requires most { home ≤ 256 }
+    requires { home ≤ 256 }
     ensures { IfOk result (λ target. target ≡ pool_target_of table.now home entry) }
 {
     match named_by(table, home, entry) {
@@ -263,21 +263,22 @@ fn pool_target_of(
     }
 }
 
-/// What the entries of the package that stands there lead to, in their order.
+/// What the entries of the package that stands there lead to, in their order: each leads somewhere.
 pub(crate) fn pool_targets(
     alloc: Global,
     table: &ClassTable,
     home: usize,
     linked: &Package,
-) -> Result<Vec<Option<PoolTarget>>, AllocError>
-    requires loaded { 2 ≤ home }
+) -> Result<Vec<PoolTarget>, AllocError>
     requires most { home ≤ 256 }
-    ensures { IfOk result (λ targets. targets.items ≡ pool_targets table.now home linked.now.body.pool) }
+    requires lead { LeadSomewhere table.now home linked.now.body.pool }
+    ensures { IfOk result (λ targets. map Some targets.items ≡ pool_targets table.now home linked.now.body.pool) }
 {
     let mut targets = Vec::new(alloc);
     let mut left = linked.pool();
     while let Some(entry) = left.next() {
-        targets.push(pool_target_of(alloc, table, home, entry)?)?;
+        let target = pool_target_of(alloc, table, home, entry)?;
+        targets.push(target.unwrap())?;
     }
     Ok(targets)
 }

@@ -3,6 +3,7 @@
 ghost use Rattle.std.specs.Prelude.{◌≡◌, ◌+◌, ◌<◌, ◌≤◌, [], length, IfOk, IfErr};
 ghost use Rattle.jc_classes.specs.Limits.{most_packages};
 ghost use Rattle.jc_classes.specs.Api.{api_world};
+ghost use Rattle.jc_link.specs.Built.{IsBuilt};
 ghost use Rattle.jc_link.specs.Linked.{IsBoundTo, with_linked};
 
 use crate::body::PackageBody;
@@ -16,7 +17,7 @@ use std::marker::Model;
 #[derive(Drop)]
 pub struct LinkedBody {
     pub(crate) kept: PackageBody,
-    pub(crate) targets: Vec<Option<PoolTarget>>,
+    pub(crate) targets: Vec<PoolTarget>,
 }
 
 impl Model for LinkedBody {
@@ -36,7 +37,7 @@ impl LinkedBody {
     }
 
     /// What each entry of its constant pool leads to.
-    pub fn targets(&self) -> &[Option<PoolTarget>]
+    pub fn targets(&self) -> &[PoolTarget]
         ensures { result.now ≡ self.now.targets }
     {
         &self.targets
@@ -52,17 +53,21 @@ pub struct Linked {
 }
 
 impl Model for Linked {
+    ghost use Rattle.jc_link.specs.Built.{IsBuilt};
     ghost use Rattle.jc_link.specs.Linked.{Linked as LinkedPackage};
 
     ghost Value = { LinkedPackage };
 
     ghost view = { λ l. record { world = l.table; body = l.body } };
+
+    ghost invariant = { λ l. IsBuilt l.table };
 }
 
 impl Linked {
     /// The classes of the world, the package's own the last.
     pub fn table(&self) -> &ClassTable
-        ensures { result.now ≡ self.now.world }
+        ensures table { result.now ≡ self.now.world }
+        ensures built { IsBuilt self.now.world }
     {
         &self.table
     }
@@ -85,13 +90,14 @@ pub struct World {
 impl Model for World {
     ghost use Rattle.std.specs.Prelude.{◌<◌, ◌≤◌, length};
     ghost use Rattle.jc_classes.specs.Limits.{most_packages};
+    ghost use Rattle.jc_link.specs.Built.{IsBuilt};
     ghost use Rattle.jc_link.specs.Linked.{World as LinkedWorld};
 
     ghost Value = { LinkedWorld };
 
     ghost view = { λ w. record { shapes = w.table; bodies = w.bodies.items } };
 
-    ghost invariant = { λ w. (2 ≤ length w.table) × (length w.table < most_packages) };
+    ghost invariant = { λ w. (2 ≤ length w.table) × (length w.table < most_packages) × IsBuilt w.table };
 }
 
 impl World {
@@ -100,6 +106,7 @@ impl World {
         ensures { IfOk result (λ w. w ≡ record { shapes = api_world binding.now; bodies = [] }) }
     {
         let table = ClassTable::new(alloc, binding)?;
+        binding.has_no_clash();
         Ok(World {
             table,
             bodies: Vec::new(alloc),
@@ -109,6 +116,7 @@ impl World {
     /// The classes of the packages.
     pub fn table(&self) -> &ClassTable
         ensures table { result.now ≡ self.now.shapes }
+        ensures built { IsBuilt self.now.shapes }
         ensures least { 2 ≤ length self.now.shapes }
         ensures room { length self.now.shapes < most_packages }
     {

@@ -1,0 +1,243 @@
+-- The members of the API in their world: each stands at its name, its type is there, and its header says how many words it takes.
+use Rattle.std.proofs.Common.{◌≡◌, ℕ, suc, ◌+◌, ◌≤◌, ◌==◌, ◌&&◌, not, Bool, true, false, cond, map, List, [], ◌∷◌, length, Option, Some, None, refl, ap, sym, ◌∙◌, is_some, slice_get}
+use Rattle.std.proofs.lemmas.Bool.{eq-eqb, eqb-true}
+use Rattle.std.specs.List.{find, list_all}
+use Rattle.std.specs.Option.{option_and_then, option_map, option_map_or}
+use Rattle.jc_base.specs.Signature.{Signature, return_map, signature_map, type_map}
+use Rattle.jc_base.specs.declared.class_ref.ClassRef.{ClassRef}
+use Rattle.jc_base.specs.declared.declared_type.DeclaredType.{DeclaredType}
+use Rattle.jc_base.specs.declared.declared_type.DeclaredType.TheVariants.{Boolean, Byte, Short, Reference, BooleanArray, ByteArray, ShortArray, ReferenceArray}
+use Rattle.jc_base.specs.declared.declared_type.ReturnType.{ReturnType}
+use Rattle.jc_base.specs.declared.declared_type.ReturnType.TheVariants.{Void, Value}
+use Rattle.jc_cap_class.specs.Component.{is_class}
+use Rattle.jc_cap_class.specs.declared.record.ClassRecord.{ClassRecord}
+use Rattle.jc_cap_class.specs.declared.record.InterfaceRecord.{InterfaceRecord}
+use Rattle.jc_cap_class.specs.declared.record.RecordBody.TheVariants.{Interface, Class}
+use Rattle.jc_cap_desc.specs.Shape.{ClassShape, MethodShape}
+use Rattle.jc_api.specs.Bound.{Bound}
+use Rattle.jc_api.specs.Class.{is_interface, number_of, package_of, size_of, superclass_of}
+use Rattle.jc_api.specs.Member.{ApiMember, member_of, members}
+use Rattle.jc_api.specs.NoClash.{HasNoClash}
+use Rattle.jc_api.specs.Token.{is_same_class}
+use Rattle.jc_api.specs.declared.class.ApiClass.{ApiClass}
+use Rattle.jc_api.specs.declared.class.ApiPackage.{ApiPackage}
+use Rattle.jc_classes.specs.Api.{api_shape, api_world, class_in_api, class_shape_of, declared_by, is_static, last_class, last_member, method_in, method_of, nargs_of, no_table, public_table, record_in, spelled_in, those_to}
+use Rattle.jc_classes.specs.Members.{DeclaredMethod, declared_in, method_at, name_of}
+use Rattle.jc_classes.specs.Methods.{has_method, method_of_class}
+use Rattle.jc_classes.specs.World.{api_home}
+use Rattle.jc_classes.specs.declared.name.ClassName.{ClassName}
+use Rattle.jc_classes.specs.declared.name.ClassName.TheVariants as Names
+use Rattle.jc_classes.specs.declared.name.MethodName.TheVariants.{Api}
+use Rattle.jc_link.proofs.ApiClasses.{class_itself, in_range, is_seen, named, named_again, number_is, package_there, same_class, shape_is, shape_there}
+use Rattle.jc_link.proofs.ApiLists.{all_numbered, any_found, none_of, numbered_within, those_found, those_from}
+use Rattle.jc_link.proofs.GrownParts.{chosen_of, mapped, none_some, some_of, the_some}
+use Rattle.jc_link.proofs.Nones.{found_at, found_passes, left_true, not_true, right_true, there_some, true_false}
+use Rattle.jc_link.specs.Classes.{has_other_nargs, has_unknown_type, words_of}
+use Rattle.jc_link.specs.Found.{return_found, signature_found, type_found, types_found}
+use Rattle.jc_link.specs.MemberType.{counted, member_type_of, type_class}
+
+-- ---- each member
+
+pub each_member : (p : ApiMember → Bool) → list_all p members ≡ true → (n : ℕ) (m : ApiMember) → member_of n ≡ Some m → p m ≡ true
+each_member p all n m e = all_numbered p members all n m e
+
+pub member_range : (n : ℕ) (m : ApiMember) → member_of n ≡ Some m → (1 ≤ n) × (n ≤ 55)
+member_range n m e = numbered_within members n m e
+
+pub no_interface : (n : ℕ) (m : ApiMember) → member_of n ≡ Some m → is_interface m.class ≡ false
+no_interface n m e = not_true (is_interface m.class) (each_member (λ m. not (is_interface m.class)) refl n m e)
+
+class_or : (b : Bool) (i : InterfaceRecord) (k : ClassRecord) → is_class (cond b (Interface i) (Class k)) ≡ not b
+class_or true i k = refl
+class_or false i k = refl
+
+pub class_body : (bound : Bound) (c : ApiClass) → is_class (record_in bound c) ≡ not (is_interface c)
+class_body bound c = class_or (is_interface c) (record { superinterfaces = [] }) (record {
+  superclass = option_map (spelled_in bound (package_of c)) (superclass_of c);
+  declared_size = size_of c;
+  public_methods = public_table bound c;
+  package_methods = no_table;
+  interfaces = [];
+})
+
+-- ---- members where they are declared
+
+abbrev pub made : ClassName → MethodShape → DeclaredMethod
+made c m = record { class = c; method = m }
+
+module _ (bound : Bound) where
+  pub method_is : (c : ApiClass) (n : ℕ) (x : MethodShape) → method_of bound c n ≡ Some x
+      → (m : ApiMember) × (member_of n ≡ Some m) × (m.class ≡ c) × (method_in bound n m ≡ x)
+  method_is c n x e =
+      let a = mapped (method_in bound n) (declared_by c n) x e in
+      let b = some_of (λ (m : ApiMember). cond (is_same_class m.class c) (Some m) None) (member_of n) a.0 a.1 in
+      by_class b.0 a.0 b.1 a.2 (is_same_class (b.0).class c) (same_class (b.0).class c) b.2
+    where
+      by_class : (m l : ApiMember) → member_of n ≡ Some m → method_in bound n l ≡ x → (b : Bool) → (b ≡ true → m.class ≡ c) → cond b (Some m) None ≡ Some l
+          → (m : ApiMember) × (member_of n ≡ Some m) × (m.class ≡ c) × (method_in bound n m ≡ x)
+      by_class m l f g true h e = (m, f, h refl, ap (method_in bound n) (the_some m l e) ∙ g)
+      by_class m l f g false h e = absurd (none_some l e)
+
+  pub method_from : (n : ℕ) (m : ApiMember) → member_of n ≡ Some m → method_of bound m.class n ≡ Some (method_in bound n m)
+  method_from n m e =
+      ap (λ o. option_map (method_in bound n) (option_and_then (λ (l : ApiMember). cond (is_same_class l.class m.class) (Some l) None) o)) e
+      ∙ ap (λ b. option_map (method_in bound n) (cond b (Some m) None)) (class_itself m.class)
+
+  pub method_in_class : (n : ℕ) (m : ApiMember) → member_of n ≡ Some m → method_of_class n (class_in_api bound m.class) ≡ Some (method_in bound n m)
+  method_in_class n m e =
+      ap (λ b. cond b (find (λ (x : MethodShape). x.offset == n) (those_to last_member (method_of bound m.class))) None)
+      (class_body bound m.class ∙ ap not (no_interface n m e))
+      ∙ those_found (λ x. x.offset == n) (method_of bound m.class) last_member n (method_in bound n m) (member_range n m e).0 (member_range n m e).1
+      (method_from n m e) (eq-eqb n n refl) only
+    where
+      only : (k : ℕ) (x : MethodShape) → method_of bound m.class k ≡ Some x → (x.offset == n) ≡ true → k ≡ n
+      only k x f g = let a = method_is m.class k x f in ap (λ (x : MethodShape). x.offset) a.3 ∙ eqb-true x.offset n g
+
+  method_only : (n : ℕ) (m : ApiMember) (c : ApiClass) → member_of n ≡ Some m → is_some (method_of_class n (class_in_api bound c)) ≡ true → c ≡ m.class
+  method_only n m c e h =
+      let x = there_some (method_of_class n (class_in_api bound c)) h in
+      by_found x.0 (chosen_of (is_class (record_in bound c)) (find (λ (x : MethodShape). x.offset == n) (those_to last_member (method_of bound c))) x.0 x.1)
+    where
+      by_member : (k : ℕ) (l : ApiMember) → member_of k ≡ Some l → l.class ≡ c → k ≡ n → c ≡ m.class
+      by_member k l f its one = sym its ∙ ap (λ (m : ApiMember). m.class) (the_some l m (sym f ∙ ap member_of one ∙ e))
+
+      by_number : (x : MethodShape) (k : ℕ) → x.offset ≡ n → method_of bound c k ≡ Some x → c ≡ m.class
+      by_number x k p f = let a = method_is c k x f in by_member k a.0 a.1 a.2 (ap (λ (x : MethodShape). x.offset) a.3 ∙ p)
+
+      by_found : (x : MethodShape) → find (λ (x : MethodShape). x.offset == n) (those_to last_member (method_of bound c)) ≡ Some x → c ≡ m.class
+      by_found x f =
+          let i = found_at (λ (x : MethodShape). x.offset == n) (those_to last_member (method_of bound c)) x f in
+          let k = those_from (method_of bound c) last_member i.0 x i.1 in
+          by_number x k.0 (eqb-true x.offset n (found_passes (λ (x : MethodShape). x.offset == n) (those_to last_member (method_of bound c)) x f)) k.1
+
+  pub declared : (n : ℕ) (m : ApiMember) → member_of n ≡ Some m
+      → find (λ k. is_some (method_of_class n k)) (those_to last_class (class_shape_of bound (package_of m.class))) ≡ Some (class_in_api bound m.class)
+  declared n m e =
+      those_found (λ k. is_some (method_of_class n k)) (class_shape_of bound (package_of m.class)) last_class (number_of m.class) (class_in_api bound m.class)
+      (in_range m.class).0 (in_range m.class).1 (shape_there bound m.class) (ap is_some (method_in_class n m e)) only
+    where
+      only : (k : ℕ) (y : ClassShape) → class_shape_of bound (package_of m.class) k ≡ Some y → is_some (method_of_class n y) ≡ true → k ≡ number_of m.class
+      only k y f g =
+          let a = shape_is bound (package_of m.class) k y f in
+          sym (number_is k a.0 a.1) ∙ ap number_of (method_only n m a.0 e (ap (λ y. is_some (method_of_class n y)) a.3 ∙ g))
+
+  pub has_member : (n : ℕ) (m : ApiMember) → member_of n ≡ Some m → has_method n (api_shape bound (package_of m.class)) ≡ true
+  has_member n m e =
+      any_found (λ k. is_some (method_of_class n k)) (those_to last_class (class_shape_of bound (package_of m.class))) (class_in_api bound m.class) (declared n m e)
+
+  pub member_there : (n : ℕ) (m : ApiMember) → member_of n ≡ Some m → method_at (api_world bound) (Api n) ≡ Some (made (Names.Api m.class) (method_in bound n m))
+  member_there n m e =
+      ap (λ o. option_and_then (λ home. option_and_then (declared_in home n) (slice_get (api_world bound) home))
+      (option_map (λ (l : ApiMember). api_home (package_of l.class)) o)) e
+      ∙ ap (option_and_then (declared_in (api_home (package_of m.class)) n)) (package_there bound (package_of m.class))
+      ∙ ap (option_and_then (λ k. option_and_then (λ class. option_map (made class) (method_of_class n k)) (name_of (api_home (package_of m.class)) k)))
+      (declared n m e)
+      ∙ ap (option_and_then (λ class. option_map (made class) (method_of_class n (class_in_api bound m.class)))) (named_again bound m.class)
+      ∙ ap (option_map (made (Names.Api m.class))) (method_in_class n m e)
+
+-- ---- types
+
+there_twice : {A B C : Type 0} (f : A → B → C) (o : Option A) (p : Option B) → is_some o ≡ true → is_some p ≡ true
+    → is_some (option_and_then (λ a. option_map (f a) p) o) ≡ true
+there_twice f None p e g = true_false (sym e)
+there_twice f (Some a) None e g = true_false (sym g)
+there_twice f (Some a) (Some b) e g = refl
+
+there_mapped : {A B : Type 0} (f : A → B) (o : Option A) → is_some o ≡ true → is_some (option_map f o) ≡ true
+there_mapped f None e = true_false (sym e)
+there_mapped f (Some a) e = refl
+
+abbrev type_seen : (ApiClass → Bool) → DeclaredType ApiClass → Bool
+type_seen seen Boolean = true
+type_seen seen Byte = true
+type_seen seen Short = true
+type_seen seen (Reference c) = seen c
+type_seen seen BooleanArray = true
+type_seen seen ByteArray = true
+type_seen seen ShortArray = true
+type_seen seen (ReferenceArray c) = seen c
+
+abbrev return_seen : (ApiClass → Bool) → ReturnType ApiClass → Bool
+return_seen seen Void = true
+return_seen seen (Value type) = type_seen seen type
+
+abbrev signature_seen : (ApiClass → Bool) → Signature ApiClass → Bool
+signature_seen seen s = list_all (type_seen seen) s.parameters && return_seen seen s.result
+
+-- where each class that is seen is found, each type of such classes is
+module _ (spell : ApiClass → ClassRef) (finds : ClassRef → Option ClassName) (seen : ApiClass → Bool)
+    (found : (c : ApiClass) → seen c ≡ true → is_some (finds (spell c)) ≡ true) where
+  type_there : (type : DeclaredType ApiClass) → type_seen seen type ≡ true → is_some (type_found finds (type_map spell type)) ≡ true
+  type_there Boolean e = refl
+  type_there Byte e = refl
+  type_there Short e = refl
+  type_there (Reference c) e = there_mapped Reference (finds (spell c)) (found c e)
+  type_there BooleanArray e = refl
+  type_there ByteArray e = refl
+  type_there ShortArray e = refl
+  type_there (ReferenceArray c) e = there_mapped ReferenceArray (finds (spell c)) (found c e)
+
+  types_there : (types : List (DeclaredType ApiClass)) → list_all (type_seen seen) types ≡ true → is_some (types_found finds (map (type_map spell) types)) ≡ true
+  types_there [] e = refl
+  types_there (type ∷ types) e =
+      there_twice (λ t ts. t ∷ ts) (type_found finds (type_map spell type)) (types_found finds (map (type_map spell) types))
+      (type_there type (left_true (type_seen seen type) (list_all (type_seen seen) types) e))
+      (types_there types (right_true (type_seen seen type) (list_all (type_seen seen) types) e))
+
+  return_there : (result : ReturnType ApiClass) → return_seen seen result ≡ true → is_some (return_found finds (return_map spell result)) ≡ true
+  return_there Void e = refl
+  return_there (Value type) e = there_mapped Value (type_found finds (type_map spell type)) (type_there type e)
+
+  pub signature_there : (s : Signature ApiClass) → signature_seen seen s ≡ true → is_some (signature_found finds (signature_map spell s)) ≡ true
+  signature_there s e =
+      there_twice (λ parameters result. record { parameters = parameters; result = result }) (types_found finds (map (type_map spell) s.parameters))
+      (return_found finds (return_map spell s.result))
+      (types_there s.parameters (left_true (list_all (type_seen seen) s.parameters) (return_seen seen s.result) e))
+      (return_there s.result (right_true (list_all (type_seen seen) s.parameters) (return_seen seen s.result) e))
+
+module _ (bound : Bound) (clear : HasNoClash bound) where
+  type_class_there : (which : ApiPackage) (c : ApiClass) → is_seen which c ≡ true
+      → is_some (type_class (api_world bound) (api_home which) (spelled_in bound which c)) ≡ true
+  type_class_there which c e = ap (λ o. is_some (option_map (counted (api_world bound)) o)) (named bound clear which c e)
+
+  member_type_there : (n : ℕ) (m : ApiMember) → member_of n ≡ Some m
+      → is_some (member_type_of (api_world bound) (api_home (package_of m.class)) (method_in bound n m).signature) ≡ true
+  member_type_there n m e =
+      signature_there (spelled_in bound (package_of m.class)) (type_class (api_world bound) (api_home (package_of m.class))) (is_seen (package_of m.class))
+      (type_class_there (package_of m.class)) m.signature (each_member (λ m. signature_seen (is_seen (package_of m.class)) m.signature) refl n m e)
+
+  pub types_known : (c : ApiClass) → has_unknown_type (api_world bound) (api_home (package_of c)) (class_in_api bound c) ≡ false
+  types_known c =
+      none_of (λ (x : MethodShape). not (is_some (member_type_of (api_world bound) (api_home (package_of c)) x.signature)))
+      (those_to last_member (method_of bound c)) each
+    where
+      each : (i : ℕ) (x : MethodShape) → slice_get (those_to last_member (method_of bound c)) i ≡ Some x
+          → not (is_some (member_type_of (api_world bound) (api_home (package_of c)) x.signature)) ≡ false
+      each i x e =
+          let k = those_from (method_of bound c) last_member i x e in
+          let a = method_is bound c k.0 x k.1 in
+          ap (λ (x : MethodShape). not (is_some (member_type_of (api_world bound) (api_home (package_of c)) x.signature))) (sym a.3)
+          ∙ ap (λ d. not (is_some (member_type_of (api_world bound) (api_home (package_of d)) (method_in bound k.0 a.0).signature))) (sym a.2)
+          ∙ ap not (member_type_there k.0 a.0 a.1)
+
+-- ---- words of arguments
+
+as_many : {A B : Type 0} (f : A → B) (xs : List A) → length xs ≡ length (map f xs)
+as_many f [] = refl
+as_many f (x ∷ xs) = ap suc (as_many f xs)
+
+pub words_right : (bound : Bound) (c : ApiClass) → has_other_nargs (class_in_api bound c) ≡ false
+words_right bound c =
+    none_of (λ (x : MethodShape). option_map_or (λ header. not (header.nargs == words_of x)) x.header false) (those_to last_member (method_of bound c)) each
+  where
+    each : (i : ℕ) (x : MethodShape) → slice_get (those_to last_member (method_of bound c)) i ≡ Some x
+        → option_map_or (λ header. not (header.nargs == words_of x)) x.header false ≡ false
+    each i x e =
+        let k = those_from (method_of bound c) last_member i x e in
+        let a = method_is bound c k.0 x k.1 in
+        ap (λ (x : MethodShape). option_map_or (λ header. not (header.nargs == words_of x)) x.header false) (sym a.3) ∙ of_member k.0 a.0
+      where
+        of_member : (n : ℕ) (m : ApiMember) → not (nargs_of m == words_of (method_in bound n m)) ≡ false
+        of_member n m =
+            ap not (eq-eqb (nargs_of m) (words_of (method_in bound n m))
+            (ap (λ l. cond (is_static m.kind) l (l + 1)) (as_many (type_map (spelled_in bound (package_of m.class))) m.signature.parameters)))

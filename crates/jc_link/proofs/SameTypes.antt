@@ -1,0 +1,120 @@
+-- Names and types that are told to be the same are the same.
+use Rattle.std.proofs.Common.{◌≡◌, ℕ, ◌==◌, true, cond, List, [], ◌∷◌, Option, Some, None, refl, ap, sym, ◌∙◌, slice_get}
+use Rattle.std.proofs.lemmas.Bool.{eqb-true}
+use Rattle.jc_api.specs.Class.{class_of, number_of}
+use Rattle.jc_api.specs.declared.class.ApiClass.{ApiClass}
+use Rattle.jc_api.specs.declared.class.ApiClass.TheVariants.{Object, Throwable, Exception, RuntimeException, ArithmeticException, ArrayStoreException, ClassCastException, IndexOutOfBoundsException, ArrayIndexOutOfBoundsException, NegativeArraySizeException, NullPointerException, SecurityException, Shareable, CardRuntimeException, IsoException, SystemException, ApduException, Aid, Apdu, Applet, JcSystem, Util}
+use Rattle.jc_base.specs.Signature.{Signature}
+use Rattle.jc_base.specs.declared.declared_type.DeclaredType.{DeclaredType}
+use Rattle.jc_base.specs.declared.declared_type.DeclaredType.TheVariants.{Boolean, Byte, Short, Reference, BooleanArray, ByteArray, ShortArray, ReferenceArray}
+use Rattle.jc_base.specs.declared.declared_type.ReturnType.{ReturnType}
+use Rattle.jc_base.specs.declared.declared_type.ReturnType.TheVariants.{Void, Value}
+use Rattle.jc_classes.specs.Names.{is_same_name}
+use Rattle.jc_classes.specs.declared.name.ClassName.{ClassName}
+use Rattle.jc_classes.specs.declared.name.ClassName.TheVariants.{Api, Loaded}
+use Rattle.jc_link.proofs.GrownParts.{the_some}
+use Rattle.jc_link.proofs.Nones.{true_false, left_true, right_true}
+use Rattle.jc_link.specs.Found.{kind_of, class_in, is_same_class, is_same_type, are_same_types, is_same_return, is_same_signature}
+use Rattle.jc_link.specs.MemberType.{have_same_type}
+
+-- ---- names
+
+numbered_again : (a : ApiClass) → class_of (number_of a) ≡ Some a
+numbered_again Object = refl
+numbered_again Throwable = refl
+numbered_again Exception = refl
+numbered_again RuntimeException = refl
+numbered_again ArithmeticException = refl
+numbered_again ArrayStoreException = refl
+numbered_again ClassCastException = refl
+numbered_again IndexOutOfBoundsException = refl
+numbered_again ArrayIndexOutOfBoundsException = refl
+numbered_again NegativeArraySizeException = refl
+numbered_again NullPointerException = refl
+numbered_again SecurityException = refl
+numbered_again Shareable = refl
+numbered_again CardRuntimeException = refl
+numbered_again IsoException = refl
+numbered_again SystemException = refl
+numbered_again ApduException = refl
+numbered_again Aid = refl
+numbered_again Apdu = refl
+numbered_again Applet = refl
+numbered_again JcSystem = refl
+numbered_again Util = refl
+
+same_number : (a b : ApiClass) → number_of a ≡ number_of b → a ≡ b
+same_number a b e = the_some a b (sym (numbered_again a) ∙ ap class_of e ∙ numbered_again b)
+
+pub same_class : (c d : ClassName) → is_same_name c d ≡ true → c ≡ d
+same_class (Api a) (Api b) e = ap Api (same_number a b (eqb-true (number_of a) (number_of b) e))
+same_class (Loaded p m) (Loaded q n) e =
+    ap (λ i. Loaded i m) (eqb-true p q (left_true (p == q) (m == n) e)) ∙ ap (Loaded q) (eqb-true m n (right_true (p == q) (m == n) e))
+same_class (Api a) (Loaded q n) e = true_false (sym e)
+same_class (Loaded p m) (Api b) e = true_false (sym e)
+
+-- ---- types
+
+-- a type, from what it is and its class
+made : ℕ → Option ClassName → Option (DeclaredType ClassName)
+made kind None = slice_get (Boolean ∷ Byte ∷ Short ∷ Boolean ∷ BooleanArray ∷ ByteArray ∷ ShortArray ∷ []) kind
+made kind (Some c) = cond (kind == 3) (Some (Reference c)) (Some (ReferenceArray c))
+
+made_again : (t : DeclaredType ClassName) → made (kind_of t) (class_in t) ≡ Some t
+unfolding made
+made_again Boolean = refl
+made_again Byte = refl
+made_again Short = refl
+made_again (Reference c) = refl
+made_again BooleanArray = refl
+made_again ByteArray = refl
+made_again ShortArray = refl
+made_again (ReferenceArray c) = refl
+
+same_if_there : (c d : Option ClassName) → is_same_class c d ≡ true → c ≡ d
+same_if_there None None e = refl
+same_if_there None (Some d) e = true_false (sym e)
+same_if_there (Some c) None e = true_false (sym e)
+same_if_there (Some c) (Some d) e = ap Some (same_class c d e)
+
+same_type : (s t : DeclaredType ClassName) → is_same_type s t ≡ true → s ≡ t
+same_type s t e =
+    let kinds = eqb-true (kind_of s) (kind_of t) (left_true (kind_of s == kind_of t) (is_same_class (class_in s) (class_in t)) e) in
+    let classes = same_if_there (class_in s) (class_in t) (right_true (kind_of s == kind_of t) (is_same_class (class_in s) (class_in t)) e) in
+    the_some s t (sym (made_again s) ∙ ap (λ kind. made kind (class_in s)) kinds ∙ ap (made (kind_of t)) classes ∙ made_again t)
+
+same_types : (ss ts : List (DeclaredType ClassName)) → are_same_types ss ts ≡ true → ss ≡ ts
+same_types [] [] e = refl
+same_types [] (t ∷ ts) e = true_false (sym e)
+same_types (s ∷ ss) [] e = true_false (sym e)
+same_types (s ∷ ss) (t ∷ ts) e =
+    ap (λ x. x ∷ ss) (same_type s t (left_true (is_same_type s t) (are_same_types ss ts) e))
+    ∙ ap (λ xs. t ∷ xs) (same_types ss ts (right_true (is_same_type s t) (are_same_types ss ts) e))
+
+same_return : (s t : ReturnType ClassName) → is_same_return s t ≡ true → s ≡ t
+same_return Void Void e = refl
+same_return Void (Value t) e = true_false (sym e)
+same_return (Value s) Void e = true_false (sym e)
+same_return (Value s) (Value t) e = ap Value (same_type s t e)
+
+abbrev signed : List (DeclaredType ClassName) → ReturnType ClassName → Signature ClassName
+signed parameters result = record { parameters = parameters; result = result }
+
+pub same_signature : (s t : Signature ClassName) → is_same_signature s t ≡ true → s ≡ t
+same_signature s t e =
+    let parameters = same_types s.parameters t.parameters (left_true (are_same_types s.parameters t.parameters) (is_same_return s.result t.result) e) in
+    let results = same_return s.result t.result (right_true (are_same_types s.parameters t.parameters) (is_same_return s.result t.result) e) in
+    ap (λ ps. signed ps s.result) parameters ∙ ap (signed t.parameters) results
+
+-- ---- types that were found
+
+pub same_when_agree : (s t : Option (Signature ClassName)) → have_same_type s t ≡ true → s ≡ t
+same_when_agree None t e = true_false (sym e)
+same_when_agree (Some s) None e = true_false (sym e)
+same_when_agree (Some s) (Some t) e = ap Some (same_signature s t e)
+
+-- and both are there
+pub there_when_agree : (s t : Option (Signature ClassName)) → have_same_type s t ≡ true → (u : Signature ClassName) × (s ≡ Some u) × (t ≡ Some u)
+there_when_agree None t e = true_false (sym e)
+there_when_agree (Some s) None e = true_false (sym e)
+there_when_agree (Some s) (Some t) e = (t, ap Some (same_signature s t e), refl)

@@ -1,0 +1,395 @@
+-- What fit classes say of the chains of superclasses: they come to an end, in Object, and whoever walks them finds the same with more steps.
+use Rattle.std.proofs.Common.{◌≡◌, ℕ, zero, suc, ◌+◌, ◌-◌, ◌*◌, ◌<◌, ◌≤◌, ◌==◌, ◌&&◌, ◌||◌, ◌⊎◌, inl, inr, Bool, true, false, not, cond, List, [], ◌∷◌, length, Option, Some, None, refl, sym, ap, subst, ◌∙◌, arith, is_some, slice_get}
+use Rattle.std.proofs.lemmas.Bool.{eqb-true, eq-eqb}
+use Rattle.std.proofs.lemmas.List.Folds.{find_at}
+use Rattle.std.proofs.lemmas.Map.Keys.{IsDistinct-cons}
+use Rattle.std.proofs.lemmas.Map.Steps.{length-le_from_distinct_below}
+use Rattle.std.proofs.lemmas.Option.{slice_get_within}
+use Rattle.std.specs.List.{AllByRecursion, IsDistinct, cons_option, filter_map, list_any, position_or_len}
+use Rattle.std.specs.Option.{option_and_then, option_map_or}
+use Rattle.jc_base.specs.declared.class_ref.ClassRef.{ClassRef}
+use Rattle.jc_cap_class.specs.Component.{is_class}
+use Rattle.jc_cap_class.specs.declared.record.RecordBody.{RecordBody}
+use Rattle.jc_cap_class.specs.declared.record.RecordBody.TheVariants.{Interface, Class}
+use Rattle.jc_cap_desc.specs.Shape.{ClassShape, Shape}
+use Rattle.jc_api.specs.Class.{class_of, number_of, package_of}
+use Rattle.jc_api.specs.declared.class.ApiClass.{ApiClass}
+use Rattle.jc_api.specs.declared.class.ApiClass.TheVariants.{Object, Throwable, Exception, RuntimeException, ArithmeticException, ArrayStoreException, ClassCastException, IndexOutOfBoundsException, ArrayIndexOutOfBoundsException, NegativeArraySizeException, NullPointerException, SecurityException, Shareable, CardRuntimeException, IsoException, SystemException, ApduException, Aid, Apdu, Applet, JcSystem, Util}
+use Rattle.jc_api.specs.declared.class.ApiPackage.{ApiPackage}
+use Rattle.jc_api.specs.declared.class.ApiPackage.TheVariants.{Lang, Framework}
+use Rattle.jc_classes.specs.Limits.{IsSmall}
+use Rattle.jc_classes.specs.Names.{is_same_name}
+use Rattle.jc_classes.specs.Subtype.{comes_to_end, IsAmong, Lists, is_class_at, is_interface_at}
+use Rattle.jc_classes.specs.Walk.{found_from, most_classes, walk}
+use Rattle.jc_classes.specs.World.{api_home, class_at, class_in, class_named, home_of, if_there, listed_refs, class_spelled, offset_of, package_at, superclass_of, superclass_ref}
+use Rattle.jc_classes.specs.declared.name.ClassName.{ClassName}
+use Rattle.jc_classes.specs.declared.name.ClassName.TheVariants.{Api, Loaded}
+use Rattle.jc_link.proofs.GrownParts.{the_some, none_some, some_of, then_same, or_same}
+use Rattle.jc_link.proofs.Nones.{true_false, left_false, right_false, then_false, not_false, left_true, right_true, found_passes}
+use Rattle.jc_link.proofs.Superclasses.{most_is}
+use Rattle.jc_link.specs.Classes.{is_at_or_above}
+use Rattle.jc_link.specs.Named.{cells_above, size_of}
+use Rattle.jc_link.specs.PrivateFit.{AreFit, IsRoot}
+use Rattle.jc_link.specs.Sound.{IsHeir, itself, behind, HaveSuperclasses}
+
+-- ---- names
+
+pub numbered_again : (a : ApiClass) → class_of (number_of a) ≡ Some a
+numbered_again Object = refl
+numbered_again Throwable = refl
+numbered_again Exception = refl
+numbered_again RuntimeException = refl
+numbered_again ArithmeticException = refl
+numbered_again ArrayStoreException = refl
+numbered_again ClassCastException = refl
+numbered_again IndexOutOfBoundsException = refl
+numbered_again ArrayIndexOutOfBoundsException = refl
+numbered_again NegativeArraySizeException = refl
+numbered_again NullPointerException = refl
+numbered_again SecurityException = refl
+numbered_again Shareable = refl
+numbered_again CardRuntimeException = refl
+numbered_again IsoException = refl
+numbered_again SystemException = refl
+numbered_again ApduException = refl
+numbered_again Aid = refl
+numbered_again Apdu = refl
+numbered_again Applet = refl
+numbered_again JcSystem = refl
+numbered_again Util = refl
+
+pub same_class : (a b : ApiClass) → number_of a ≡ number_of b → a ≡ b
+same_class a b e = the_some a b (sym (numbered_again a) ∙ ap class_of e ∙ numbered_again b)
+
+pub name_is : (c d : ClassName) → is_same_name c d ≡ true → c ≡ d
+name_is (Api a) (Api b) e = ap Api (same_class a b (eqb-true (number_of a) (number_of b) e))
+name_is (Loaded p m) (Loaded q n) e =
+    ap (λ i. Loaded i m) (eqb-true p q (left_true (p == q) (m == n) e)) ∙ ap (Loaded q) (eqb-true m n (right_true (p == q) (m == n) e))
+name_is (Api a) (Loaded q n) e = true_false (sym e)
+name_is (Loaded p m) (Api b) e = true_false (sym e)
+
+pub name_itself : (c : ClassName) → is_same_name c c ≡ true
+name_itself (Api a) = eq-eqb (number_of a) (number_of a) refl
+name_itself (Loaded p m) = ap (λ b. b && (m == m)) (eq-eqb p p refl) ∙ eq-eqb m m refl
+
+-- ---- chains
+
+pub heir_on : (world : List Shape) (c d e : ClassName) → IsHeir world c d → IsHeir world d e → IsHeir world c e
+heir_on world _ _ e (itself c) g = g
+heir_on world _ _ e (behind c s d f h) g = behind c s e f (heir_on world s d e h g)
+
+pub heir_of_walk : (world : List Shape) (n : ℕ) (d c : ClassName) → is_at_or_above world n d c ≡ true → IsHeir world c d
+heir_of_walk world zero d c e = true_false (sym e)
+heir_of_walk world (suc n) d c e = by_name (is_same_name c d) refl (superclass_of world c) refl e (λ s. heir_of_walk world n d s)
+  where
+    by_name : (b : Bool) → is_same_name c d ≡ b → (o : Option ClassName) → superclass_of world c ≡ o → (b || option_map_or (is_at_or_above world n d) o false) ≡ true
+        → ((s : ClassName) → is_at_or_above world n d s ≡ true → IsHeir world s d) → IsHeir world c d
+    by_name true same o f e rest = subst (IsHeir world c) (name_is c d same) (itself c)
+    by_name false other None f e rest = true_false (sym e)
+    by_name false other (Some s) f e rest = behind c s d f (rest s e)
+
+-- ---- walks with enough steps
+
+-- one class less is enough above it
+pub ends_above : (world : List Shape) (n : ℕ) (c d : ClassName) → comes_to_end world (suc n) c ≡ true → superclass_of world c ≡ Some d → comes_to_end world n d ≡ true
+ends_above world n c d e f = sym (ap (λ (o : Option ClassName). option_map_or (comes_to_end world n) o true) f) ∙ e
+
+pub walk_enough : {A : Type 0} (visit : ClassName → ClassShape → _) (world : List Shape) (n m : ℕ) (c : ClassName)
+    → comes_to_end world n c ≡ true → n ≤ m → walk {A = A} visit world m c ≡ walk visit world n c
+walk_enough visit world zero m c e l = true_false (sym e)
+walk_enough visit world (suc n) zero c e l = absurd (omega arith)
+walk_enough visit world (suc n) (suc m) c e l =
+    ap (λ above. option_and_then (λ k. found_from (visit c k) above) (class_at world c))
+    (then_same (walk visit world m) (walk visit world n) (superclass_of world c) (λ d f. walk_enough visit world n m d (ends_above world n c d e f) (omega arith)))
+
+cells_enough : (world : List Shape) (n m : ℕ) (c : ClassName) → comes_to_end world n c ≡ true → n ≤ m → cells_above world m c ≡ cells_above world n c
+cells_enough world zero m c e l = true_false (sym e)
+cells_enough world (suc n) zero c e l = absurd (omega arith)
+cells_enough world (suc n) (suc m) c e l =
+    or_same (λ d. size_of world d + cells_above world m d) (λ d. size_of world d + cells_above world n d) 0 (superclass_of world c)
+    (λ d f. ap (λ n. size_of world d + n) (cells_enough world n m d (ends_above world n c d e f) (omega arith)))
+
+pub cells_follow : (world : List Shape) → HaveSuperclasses world → (c d : ClassName) → superclass_of world c ≡ Some d
+    → cells_above world most_classes c ≡ size_of world d + cells_above world most_classes d
+cells_follow world have c d e =
+    let one : most_classes ≡ suc (most_classes - 1) = omega (arith, most_is) in
+    let ends : comes_to_end world (suc (most_classes - 1)) c ≡ true = ap (λ n. comes_to_end world n c) (sym one) ∙ have.orderly.ends c in
+    ap (λ n. cells_above world n c) one
+    ∙ ap (λ (o : Option ClassName). option_map_or (λ d. size_of world d + cells_above world (most_classes - 1) d) o 0) e
+    ∙ ap (λ n. size_of world d + n) (sym (cells_enough world (most_classes - 1) most_classes d (ends_above world (most_classes - 1) c d ends e) (omega arith)))
+
+-- ---- where a class has a superclass
+
+named_there : (world : List Shape) (home : ℕ) (ref : ClassRef) (c : ClassName) → class_named world home ref ≡ Some c → (k : ClassShape) × (class_at world c ≡ Some k)
+named_there world home ref c e =
+    let a = some_of (if_there world) (class_spelled world home ref) c e in
+    by_class a.0 (class_at world a.0) refl a.2
+  where
+    by_class : (d : ClassName) (o : Option ClassShape) → class_at world d ≡ o → cond (is_some o) (Some d) None ≡ Some c → (k : ClassShape) × (class_at world c ≡ Some k)
+    by_class d None at f = absurd (none_some c f)
+    by_class d (Some k) at f = (k, ap (class_at world) (sym (the_some d c f)) ∙ at)
+
+-- it is there itself, as a class that names the superclass, which is there too
+pub record HasSuperclass (world : List Shape) (c d : ClassName) : Type 0 where
+  pub shape : ClassShape
+  pub there : class_at world c ≡ Some shape
+  pub class : is_class shape.body ≡ true
+  pub above : ClassShape
+  pub there_above : class_at world d ≡ Some above
+
+pub has_superclass : (world : List Shape) (c d : ClassName) → superclass_of world c ≡ Some d → HasSuperclass world c d
+has_superclass world c d e =
+    let a = some_of (class_named world (home_of c)) (option_and_then (λ (k : ClassShape). superclass_ref k.body) (class_at world c)) d e in
+    let b = some_of (λ (k : ClassShape). superclass_ref k.body) (class_at world c) a.0 a.1 in
+    let up = named_there world (home_of c) a.0 d a.2 in
+    record { shape = b.0; there = b.1; class = by_body (b.0).body a.0 b.2; above = up.0; there_above = up.1 }
+  where
+    by_body : (body : RecordBody) (ref : ClassRef) → superclass_ref body ≡ Some ref → is_class body ≡ true
+    by_body (Interface r) ref f = absurd (none_some ref f)
+    by_body (Class r) ref f = refl
+
+-- ---- numbers that tell the classes of a small world apart
+
+pub package_there : (world : List Shape) (c : ClassName) (s : Shape) → package_at world c ≡ Some s → slice_get world (home_of c) ≡ Some s
+package_there world (Api class) s e = e
+package_there world (Loaded zero offset) s e = absurd (none_some s e)
+package_there world (Loaded (suc n) offset) s e = e
+
+pub api_low : (p : ApiPackage) → api_home p < 2
+api_low Lang = omega arith
+api_low Framework = omega arith
+
+-- names of one place are one, where packages have numbers
+one_name : (world : List Shape) (c d : ClassName) (s t : Shape) → package_at world c ≡ Some s → package_at world d ≡ Some t → home_of c ≡ home_of d → offset_of c ≡ offset_of d → c ≡ d
+one_name world (Api a) (Api b) s t f g e o = ap Api (same_class a b o)
+one_name world (Api a) (Loaded zero o) s t f g e h = absurd (none_some t g)
+one_name world (Api a) (Loaded (suc n) o) s t f g e h = absurd (omega (arith, e, api_low (package_of a)))
+one_name world (Loaded zero o) d s t f g e h = absurd (none_some s f)
+one_name world (Loaded (suc n) o) (Api b) s t f g e h = absurd (omega (arith, e, api_low (package_of b)))
+one_name world (Loaded (suc n) o) (Loaded m p) s t f g e h =
+    let k : suc n ≡ m = omega (arith, e) in ap (λ i. Loaded i o) k ∙ ap (Loaded m) h
+
+abbrev index_of : List Shape → ClassName → ℕ
+index_of world c = option_map_or (λ s. position_or_len (λ k. k.offset == offset_of c) s.classes) (package_at world c) 0
+
+abbrev number : List Shape → ClassName → ℕ
+number world c = 255 * home_of c + index_of world c
+
+record IsNumbered (world : List Shape) (c : ClassName) (k : ClassShape) : Type 0 where
+  shape : Shape
+  home : package_at world c ≡ Some shape
+  found : slice_get shape.classes (index_of world c) ≡ Some k
+  offset : k.offset ≡ offset_of c
+  small : index_of world c < 255
+  low : home_of c < 67
+
+is_numbered : (world : List Shape) (c : ClassName) (k : ClassShape) → IsSmall world → class_at world c ≡ Some k → IsNumbered world c k
+is_numbered world c k small e =
+    let a = some_of (class_in (offset_of c)) (package_at world c) k e in
+    let test : ClassShape → Bool = λ q. q.offset == offset_of c in
+    let there = package_there world c a.0 a.1 in
+    let index : index_of world c ≡ position_or_len test (a.0).classes = ap (λ (o : Option Shape). option_map_or (λ s. position_or_len test s.classes) o 0) a.1 in
+    let found : slice_get (a.0).classes (index_of world c) ≡ Some k = ap (slice_get (a.0).classes) index ∙ sym (find_at test (a.0).classes) ∙ a.2 in
+    let within = slice_get_within (a.0).classes (index_of world c) k found in
+    let low = slice_get_within world (home_of c) a.0 there in
+    record {
+      shape = a.0;
+      home = a.1;
+      found = found;
+      offset = eqb-true k.offset (offset_of c) (found_passes test (a.0).classes k a.2);
+      small = omega (arith, within, small.classes (home_of c) a.0 there);
+      low = omega (arith, low, small.packages);
+    }
+
+one_number : (world : List Shape) (c d : ClassName) (k l : ClassShape) → IsSmall world → class_at world c ≡ Some k → class_at world d ≡ Some l → number world c ≡ number world d → c ≡ d
+one_number world c d k l small e f same =
+    let p = is_numbered world c k small e in
+    let q = is_numbered world d l small f in
+    let home : home_of c ≡ home_of d = omega (arith, same, p.small, q.small) in
+    let index : index_of world c ≡ index_of world d = omega (arith, same, home) in
+    let shapes : p.shape ≡ q.shape = the_some _ _ (sym (package_there world c p.shape p.home) ∙ ap (slice_get world) home ∙ package_there world d q.shape q.home) in
+    let both : k ≡ l = the_some _ _ (sym p.found ∙ ap (λ (s : Shape). slice_get s.classes (index_of world c)) shapes ∙ ap (slice_get (q.shape).classes) index ∙ q.found) in
+    one_name world c d p.shape q.shape p.home q.home home (sym p.offset ∙ ap (λ (k : ClassShape). k.offset) both ∙ q.offset)
+
+number_below : (world : List Shape) (c : ClassName) (k : ClassShape) → IsSmall world → class_at world c ≡ Some k → number world c < most_classes
+number_below world c k small e = let p = is_numbered world c k small e in omega (arith, most_is, p.small, p.low)
+
+-- ---- the numbers of a chain
+
+abbrev chain : List Shape → ℕ → ClassName → List ℕ
+chain world zero c = []
+chain world (suc n) c = number world c ∷ option_map_or (chain world n) (superclass_of world c) []
+
+long : (world : List Shape) (n : ℕ) (c : ClassName) → comes_to_end world n c ≡ false → suc n ≤ length (chain world (suc n) c)
+long world zero c e = omega arith
+long world (suc n) c e = by_superclass (superclass_of world c) e (λ d. long world n d)
+  where
+    by_superclass : (o : Option ClassName) → option_map_or (comes_to_end world n) o true ≡ false → ((d : ClassName) → comes_to_end world n d ≡ false → suc n ≤ length (chain world (suc n) d))
+        → suc (suc n) ≤ suc (length (option_map_or (chain world (suc n)) o []))
+    by_superclass None e rest = true_false e
+    by_superclass (Some d) e rest = let more = rest d e in omega (arith, more)
+
+-- a class of a chain with a number
+record IsOnChain (world : List Shape) (n : ℕ) (c : ClassName) (q : ℕ) : Type 0 where
+  class : ClassName
+  shape : ClassShape
+  there : class_at world class ≡ Some shape
+  number : q ≡ number world class
+  above : is_at_or_above world n class c ≡ true
+
+or_true : (a b : Bool) → b ≡ true → (a || b) ≡ true
+or_true true b e = refl
+or_true false b e = e
+
+on_chain : (world : List Shape) (n : ℕ) (c : ClassName) (k : ClassShape) (q : ℕ) → class_at world c ≡ Some k → list_any (λ r. q == r) (chain world n c) ≡ true → IsOnChain world n c q
+on_chain world zero c k q there e = true_false (sym e)
+on_chain world (suc n) c k q there e = by_first (q == number world c) (eqb-true q (number world c)) (superclass_of world c) refl e (λ d. on_chain world n d)
+  where
+    by_first : (b : Bool) → (b ≡ true → q ≡ number world c) → (o : Option ClassName) → superclass_of world c ≡ o → (b || list_any (λ r. q == r) (option_map_or (chain world n) o [])) ≡ true
+        → ((d : ClassName) (l : ClassShape) (q : ℕ) → class_at world d ≡ Some l → list_any (λ r. q == r) (chain world n d) ≡ true → IsOnChain world n d q) → IsOnChain world (suc n) c q
+    by_first true same o f e rest = record {
+      class = c;
+      shape = k;
+      there = there;
+      number = same refl;
+      above = ap (λ b. b || option_map_or (is_at_or_above world n c) (superclass_of world c) false) (name_itself c);
+    }
+    by_first false other None f e rest = true_false (sym e)
+    by_first false other (Some d) f e rest =
+        let up = has_superclass world c d f in
+        let on = rest d up.above q up.there_above e in
+        record {
+          class = on.class;
+          shape = on.shape;
+          there = on.there;
+          number = on.number;
+          above = or_true (is_same_name c on.class) _ (ap (λ (o : Option ClassName). option_map_or (is_at_or_above world n on.class) o false) f ∙ on.above);
+        }
+
+-- more steps find what fewer do
+above_more : (world : List Shape) (n m : ℕ) (d c : ClassName) → n ≤ m → is_at_or_above world n d c ≡ true → is_at_or_above world m d c ≡ true
+above_more world zero m d c l e = true_false (sym e)
+above_more world (suc n) zero d c l e = absurd (omega arith)
+above_more world (suc n) (suc m) d c l e = by_name (is_same_name c d) (superclass_of world c) e (λ s. above_more world n m d s (omega arith))
+  where
+    by_name : (b : Bool) (o : Option ClassName) → (b || option_map_or (is_at_or_above world n d) o false) ≡ true
+        → ((s : ClassName) → is_at_or_above world n d s ≡ true → is_at_or_above world m d s ≡ true) → (b || option_map_or (is_at_or_above world m d) o false) ≡ true
+    by_name true o e rest = refl
+    by_name false None e rest = e
+    by_name false (Some s) e rest = rest s e
+
+all_apart : (q : ℕ) (xs : List ℕ) → list_any (λ r. q == r) xs ≡ false → AllByRecursion (λ r. (q == r) ≡ false) xs
+all_apart q [] e = tt
+all_apart q (x ∷ xs) e = (left_false (q == x) (list_any (λ r. q == r) xs) e, all_apart q xs (right_false (q == x) (list_any (λ r. q == r) xs) e))
+
+none_distinct : IsDistinct ◌==◌ []
+unfolding IsDistinct
+none_distinct = tt
+
+module _ (world : List Shape) (small : IsSmall world) (fit : AreFit world) where
+  -- a class isn't on the chain of its superclass
+  not_above : (n : ℕ) (c d : ClassName) → n ≤ most_classes → superclass_of world c ≡ Some d → list_any (λ r. number world c == r) (chain world n d) ≡ false
+  not_above n c d l e = by_test (list_any (λ r. number world c == r) (chain world n d)) refl
+    where
+      by_test : (b : Bool) → list_any (λ r. number world c == r) (chain world n d) ≡ b → b ≡ false
+      by_test false f = refl
+      by_test true f =
+          let up = has_superclass world c d e in
+          let on = on_chain world n d up.above (number world c) up.there_above f in
+          let same : c ≡ on.class = one_number world c on.class up.shape on.shape small up.there on.there on.number in
+          let round : is_at_or_above world most_classes c d ≡ true = above_more world n most_classes c d l (ap (λ a. is_at_or_above world n a d) same ∙ on.above) in
+          true_false (sym (ap (λ (o : Option ClassName). option_map_or (is_at_or_above world most_classes c) o false) e ∙ round) ∙ (fit c up.shape up.there).round)
+
+  distinct : (n : ℕ) (c : ClassName) → n ≤ suc most_classes → IsDistinct ◌==◌ (chain world n c)
+  distinct zero c l = none_distinct
+  distinct (suc n) c l = by_superclass (superclass_of world c) refl (λ d. distinct n d (omega arith))
+    where
+      by_superclass : (o : Option ClassName) → superclass_of world c ≡ o → ((d : ClassName) → IsDistinct ◌==◌ (chain world n d)) → IsDistinct ◌==◌ (number world c ∷ option_map_or (chain world n) o [])
+      by_superclass None e rest = IsDistinct-cons ◌==◌ (number world c) [] tt none_distinct
+      by_superclass (Some d) e rest = IsDistinct-cons ◌==◌ (number world c) (chain world n d) (all_apart (number world c) (chain world n d) (not_above n c d (omega arith) e)) (rest d)
+
+  ends : (c : ClassName) → comes_to_end world most_classes c ≡ true
+  ends c = by_test (comes_to_end world most_classes c) refl
+    where
+      one : most_classes ≡ suc (most_classes - 1)
+      one = omega (arith, most_is)
+
+      there : (o : Option ClassName) → superclass_of world c ≡ o → comes_to_end world (suc (most_classes - 1)) c ≡ false → (k : ClassShape) × (class_at world c ≡ Some k)
+      there None e f = true_false (sym (ap (λ (o : Option ClassName). option_map_or (comes_to_end world (most_classes - 1)) o true) e) ∙ f)
+      there (Some d) e f = let up = has_superclass world c d e in (up.shape, up.there)
+
+      by_test : (b : Bool) → comes_to_end world most_classes c ≡ b → b ≡ true
+      by_test true e = refl
+      by_test false e =
+          let k = there (superclass_of world c) refl (ap (λ n. comes_to_end world n c) (sym one) ∙ e) in
+          let many = long world most_classes c e in
+          let few = length-le_from_distinct_below (chain world (suc most_classes) c) most_classes (distinct (suc most_classes) c (omega arith))
+          (λ q h. let on = on_chain world (suc most_classes) c k.0 q k.1 h in let below = number_below world on.class on.shape small on.there in omega (arith, below, on.number)) in
+          absurd (omega (arith, many, few))
+
+-- ---- superclasses and interfaces of fit classes
+
+module _ (world : List Shape) (fit : AreFit world) where
+  -- a class is Object, or has a superclass, which is a class
+  class_above : (c : ClassName) (k : ClassShape) → class_at world c ≡ Some k → is_class k.body ≡ true → IsRoot world c ⊎ (option_map_or (is_class_at world) (superclass_of world c) false ≡ true)
+  class_above c k there class = by_kind (fit c k there).superclass
+    where
+      by_kind : IsRoot world c ⊎ ((is_class k.body && not (option_map_or (is_class_at world) (superclass_of world c) false)) ≡ false)
+          → IsRoot world c ⊎ (option_map_or (is_class_at world) (superclass_of world c) false ≡ true)
+      by_kind (inl root) = inl root
+      by_kind (inr has) = inr (not_false _ (then_false (is_class k.body) _ has class))
+
+  superclasses_are_classes : (c d : ClassName) → superclass_of world c ≡ Some d → is_class_at world d ≡ true
+  superclasses_are_classes c d e = let up = has_superclass world c d e in by_kind (class_above c up.shape up.there up.class)
+    where
+      by_kind : IsRoot world c ⊎ (option_map_or (is_class_at world) (superclass_of world c) false ≡ true) → is_class_at world d ≡ true
+      by_kind (inl root) = absurd (none_some d (sym root.nothing ∙ e))
+      by_kind (inr has) = sym (ap (λ (o : Option ClassName). option_map_or (is_class_at world) o false) e) ∙ has
+
+  up_to_object : (n : ℕ) (c : ClassName) → comes_to_end world n c ≡ true → is_class_at world c ≡ true → IsHeir world c (Api Object)
+  up_to_object zero c e class = true_false (sym e)
+  up_to_object (suc n) c e class = by_class (class_at world c) refl class (λ d. up_to_object n d)
+    where
+      by_superclass : (o : Option ClassName) → superclass_of world c ≡ o → option_map_or (is_class_at world) o false ≡ true
+          → ((d : ClassName) → comes_to_end world n d ≡ true → is_class_at world d ≡ true → IsHeir world d (Api Object)) → IsHeir world c (Api Object)
+      by_superclass None f has rest = true_false (sym has)
+      by_superclass (Some d) f has rest = behind c d (Api Object) f (rest d (ends_above world n c d e f) has)
+
+      by_kind : IsRoot world c ⊎ (option_map_or (is_class_at world) (superclass_of world c) false ≡ true)
+          → ((d : ClassName) → comes_to_end world n d ≡ true → is_class_at world d ≡ true → IsHeir world d (Api Object)) → IsHeir world c (Api Object)
+      by_kind (inl root) rest = subst (IsHeir world c) root.object (itself c)
+      by_kind (inr has) rest = by_superclass (superclass_of world c) refl has rest
+
+      by_class : (o : Option ClassShape) → class_at world c ≡ o → option_map_or (λ k. is_class k.body) o false ≡ true
+          → ((d : ClassName) → comes_to_end world n d ≡ true → is_class_at world d ≡ true → IsHeir world d (Api Object)) → IsHeir world c (Api Object)
+      by_class None there class rest = true_false (sym class)
+      by_class (Some k) there class rest = by_kind (class_above c k there class) rest
+
+  among_interfaces : (home : ℕ) (refs : List ClassRef) (i : ClassName) → list_any (λ ref. not (option_map_or (is_interface_at world) (class_named world home ref) false)) refs ≡ false
+      → IsAmong i (filter_map (class_named world home) refs) → is_interface_at world i ≡ true
+  among_interfaces home [] i e m = absurd m
+  among_interfaces home (ref ∷ refs) i e m =
+      by_name (class_named world home ref) (left_false _ (list_any no_interface refs) e) m (among_interfaces home refs i (right_false (no_interface ref) (list_any no_interface refs) e))
+    where
+      no_interface : ClassRef → Bool
+      no_interface ref = not (option_map_or (is_interface_at world) (class_named world home ref) false)
+
+      by_name : (o : Option ClassName) → not (option_map_or (is_interface_at world) o false) ≡ false → IsAmong i (cons_option o (filter_map (class_named world home) refs))
+          → (IsAmong i (filter_map (class_named world home) refs) → is_interface_at world i ≡ true) → is_interface_at world i ≡ true
+      by_name None e m rest = rest m
+      by_name (Some d) e (inl same) rest = ap (is_interface_at world) (sym same) ∙ not_false _ e
+      by_name (Some d) e (inr m) rest = rest m
+
+  listed_are_interfaces : (c i : ClassName) → Lists world c i → is_interface_at world i ≡ true
+  listed_are_interfaces c i m = by_class (class_at world c) refl m
+    where
+      by_class : (o : Option ClassShape) → class_at world c ≡ o → IsAmong i (option_map_or (λ k. filter_map (class_named world (home_of c)) (listed_refs k.body)) o []) → is_interface_at world i ≡ true
+      by_class None there m = absurd m
+      by_class (Some k) there m = among_interfaces (home_of c) (listed_refs k.body) i (fit c k there).interfaces m
+
+pub superclasses_hold : (world : List Shape) → IsSmall world → AreFit world → HaveSuperclasses world
+superclasses_hold world small fit = record {
+  orderly = record { ends = ends world small fit; interfaces = listed_are_interfaces world fit };
+  classes = superclasses_are_classes world fit;
+  object = λ c class. up_to_object world fit most_classes c (ends world small fit c) class;
+}

@@ -1,0 +1,255 @@
+-- What a class finds at virtual tokens is a method of objects, and keeps what is found above it.
+use Rattle.std.proofs.Common.{◌≡◌, ℕ, zero, suc, ◌-◌, ◌<◌, ◌≤◌, ◌==◌, ◌&&◌, ◌||◌, Bool, true, false, cond, not, List, length, Option, Some, None, refl, ap, sym, subst, ◌∙◌, arith, nat_lt, is_some, slice_get}
+use Rattle.std.proofs.Math.Path.{fun_ext}
+use Rattle.std.proofs.lemmas.Bool.{eqb-true}
+use Rattle.std.specs.List.{list_any}
+use Rattle.std.specs.Option.{option_and_then, option_map_or}
+use Rattle.jc_cap_class.specs.declared.record.RecordBody.{RecordBody}
+use Rattle.jc_cap_class.specs.declared.record.RecordBody.TheVariants.{Interface, Class}
+use Rattle.jc_cap_class.specs.declared.record.VirtualTable.{VirtualTable}
+use Rattle.jc_cap_desc.specs.Shape.{ClassShape, Shape}
+use Rattle.jc_base.specs.declared.class_ref.ClassRef.{ClassRef}
+use Rattle.jc_classes.specs.Members.{method_at}
+use Rattle.jc_classes.specs.Methods.{has_method, method_name, method_there, declared_above, entry_visit, table_visit, package_visible, record_visit, virtual_visit, virtual_method_of}
+use Rattle.jc_classes.specs.Names.{is_same_name}
+use Rattle.jc_classes.specs.Record.{public_entries, package_entries}
+use Rattle.jc_classes.specs.Subtype.{comes_to_end}
+use Rattle.jc_classes.specs.Walk.{found_from, walk, most_classes}
+use Rattle.jc_classes.specs.World.{class_at, class_named, home_of, superclass_of, superclass_ref}
+use Rattle.jc_classes.specs.declared.name.ClassName.{ClassName}
+use Rattle.jc_classes.specs.declared.name.MethodName.{MethodName}
+use Rattle.jc_classes.specs.declared.name.MethodName.TheVariants.{Api, Loaded}
+use Rattle.jc_link.proofs.GrownParts.{some_of, the_some, none_some}
+use Rattle.jc_link.proofs.GrownWithin.{by_other}
+use Rattle.jc_link.proofs.Nones.{true_false, left_false, right_false, then_false, left_true, right_true, not_false, not_true, there_some, none_at, none_in_range}
+use Rattle.jc_link.proofs.SameTypes.{same_class, same_when_agree}
+use Rattle.jc_link.proofs.Superclasses.{most_is}
+use Rattle.jc_link.specs.Classes.{is_at_or_above, is_inherited, is_bad_entry}
+use Rattle.jc_link.specs.Inherited.{virtual_tokens, loses_at, is_same_method, is_other_type, retypes_at}
+use Rattle.jc_link.specs.MemberType.{have_same_type, method_type_of}
+use Rattle.jc_link.specs.Named.{method_above}
+use Rattle.jc_link.specs.PrivateFit.{AreFit, IsFit}
+use Rattle.jc_link.specs.Sound.{IsHeir, itself, behind, HaveSuperclasses, IsInstanceMethod, HasInPlace, HaveVirtualMethods}
+
+-- ---- tests
+
+-- what is told of an option is told of what is there
+pub told_of : {A : Type 0} (p : A → Bool) (o : Option A) → option_map_or p o false ≡ true → (a : A) × (o ≡ Some a) × (p a ≡ true)
+told_of p None e = true_false (sym e)
+told_of p (Some a) e = (a, refl, e)
+
+-- what holds of the branch that is taken
+by_test : {V : Type 0} (Q : V → Type 0) (b : Bool) (x y : V) → (b ≡ true → Q x) → (b ≡ false → Q y) → Q (cond b x y)
+by_test Q true x y h k = h refl
+by_test Q false x y h k = k refl
+
+-- ---- superclasses
+
+heir_within : (world : List Shape) (d : ClassName) (steps : ℕ) (c : ClassName) → is_at_or_above world steps d c ≡ true → IsHeir world c d
+heir_within world d zero c e = true_false (sym e)
+heir_within world d (suc n) c e = by_name (is_same_name c d) (same_class c d) (λ a. heir_within world d n a) e
+  where
+    by_name : (b : Bool) → (b ≡ true → c ≡ d) → ((a : ClassName) → is_at_or_above world n d a ≡ true → IsHeir world a d)
+        → (b || option_map_or (is_at_or_above world n d) (superclass_of world c) false) ≡ true → IsHeir world c d
+    by_name true same rest e = subst (IsHeir world c) (same refl) (itself c)
+    by_name false same rest e = let a = told_of (is_at_or_above world n d) (superclass_of world c) e in behind c a.0 d a.1 (rest a.0 a.2)
+
+-- a class with a superclass is there, and is no interface
+pub record IsBelow (world : List Shape) (c : ClassName) : Type 0 where
+  pub body : ClassShape
+  pub there : class_at world c ≡ Some body
+  pub ref : ClassRef
+  pub names : superclass_ref body.body ≡ Some ref
+
+below : (world : List Shape) (c d : ClassName) → superclass_of world c ≡ Some d → IsBelow world c
+below world c d e =
+    let a = some_of (class_named world (home_of c)) (option_and_then (λ (k : ClassShape). superclass_ref k.body) (class_at world c)) d e in
+    let b = some_of (λ (k : ClassShape). superclass_ref k.body) (class_at world c) a.0 a.1 in
+    record { body = b.0; there = b.1; ref = a.0; names = b.2 }
+
+-- a walk that comes to an end finds no more with more steps
+pub steps_enough : (asker token : ℕ) (world : List Shape) (n m : ℕ) (c : ClassName) → comes_to_end world n c ≡ true → n ≤ m
+    → walk (virtual_visit world asker token) world m c ≡ walk (virtual_visit world asker token) world n c
+steps_enough asker token world zero m c e l = true_false (sym e)
+steps_enough asker token world (suc n) zero c e l = absurd (omega arith)
+steps_enough asker token world (suc n) (suc m) c e l =
+    ap (λ o. option_and_then (λ k. found_from (virtual_visit world asker token c k) o) (class_at world c))
+    (by_above (superclass_of world c) (λ d end. steps_enough asker token world n m d end (omega arith)) e)
+  where
+    by_above : (o : Option ClassName)
+        → ((d : ClassName) → comes_to_end world n d ≡ true → walk (virtual_visit world asker token) world m d ≡ walk (virtual_visit world asker token) world n d)
+        → option_map_or (comes_to_end world n) o true ≡ true
+        → option_and_then (walk (virtual_visit world asker token) world m) o ≡ option_and_then (walk (virtual_visit world asker token) world n) o
+    by_above None rest e = refl
+    by_above (Some d) rest e = rest d e
+
+-- ---- a method that a class finds
+
+module _ (world : List Shape) (c : ClassName) where
+  abbrev is_bad : ℕ → Bool
+  is_bad = is_bad_entry world (home_of c) c
+
+  entry_is : (offset : ℕ) → is_bad_entry world (home_of c) c offset ≡ false → (offset == declared_above) ≡ false → IsInstanceMethod world c (method_name (home_of c) offset)
+  entry_is offset fine other =
+      let o = method_at world (method_name (home_of c) offset) in
+      let is = not_false _ (then_false (not (offset == declared_above)) (not (option_map_or (is_inherited world c) o false)) fine (ap not other)) in
+      let d = told_of (is_inherited world c) o is in
+      record {
+        declared = d.0;
+        there = d.1;
+        instance = not_true _ (left_true (not (d.0).method.is_static) (is_at_or_above world most_classes (d.0).class c) d.2);
+        heir = heir_within world (d.0).class most_classes c (right_true (not (d.0).method.is_static) (is_at_or_above world most_classes (d.0).class c) d.2);
+      }
+
+  module _ (above : Option MethodName) (m : MethodName) (k : above ≡ Some m → IsInstanceMethod world c m) where
+    good_there : (offset : ℕ) → is_bad offset ≡ false → (offset == declared_above) ≡ false
+        → found_from (method_there world (home_of c) offset) above ≡ Some m → IsInstanceMethod world c m
+    good_there offset fine other =
+        by_test (λ v. found_from v above ≡ Some m → IsInstanceMethod world c m) (option_map_or (has_method offset) (slice_get world (home_of c)) false) _ _
+        (λ h e. subst (IsInstanceMethod world c) (the_some _ _ e) (entry_is offset fine other)) (λ h e. absurd (none_some m e))
+
+    good_entry : (entry : Option ℕ) → ((offset : ℕ) → entry ≡ Some offset → is_bad offset ≡ false)
+        → found_from (entry_visit world (home_of c) entry) above ≡ Some m → IsInstanceMethod world c m
+    good_entry None fine e = absurd (none_some m e)
+    good_entry (Some offset) fine e =
+        by_test (λ v. found_from v above ≡ Some m → IsInstanceMethod world c m) (offset == declared_above) _ _ (λ h. k) (λ h. good_there offset (fine offset refl) h) e
+
+    good_table : (table : VirtualTable) (token : ℕ) → list_any is_bad table.methods ≡ false
+        → found_from (table_visit world (home_of c) table token) above ≡ Some m → IsInstanceMethod world c m
+    good_table table token fine =
+        by_test (λ v. found_from v above ≡ Some m → IsInstanceMethod world c m) (nat_lt token table.base || length table.methods == 0) _ _
+        (λ h. k) (λ h. good_entry (slice_get table.methods (token - table.base)) (λ offset e. none_at is_bad table.methods (token - table.base) offset fine e))
+
+    good_record : (asker token : ℕ) (body : RecordBody) → list_any is_bad (public_entries body) ≡ false → list_any is_bad (package_entries body) ≡ false
+        → found_from (record_visit world asker token (home_of c) body) above ≡ Some m → IsInstanceMethod world c m
+    good_record asker token (Interface r) fine also e = absurd (none_some m e)
+    good_record asker token (Class r) fine also e =
+        by_test (λ v. found_from v above ≡ Some m → IsInstanceMethod world c m) (nat_lt token package_visible) _ _ (λ h. good_table r.public_methods token fine)
+        (λ h. by_test (λ v. found_from v above ≡ Some m → IsInstanceMethod world c m) (home_of c == asker) _ _
+        (λ h. good_table r.package_methods (token - package_visible) also) (λ h. k)) e
+
+module _ (world : List Shape) (fit : AreFit world) (asker token : ℕ) (m : MethodName) where
+  walk_finds : (steps : ℕ) (c : ClassName) → walk (virtual_visit world asker token) world steps c ≡ Some m → IsInstanceMethod world c m
+  walk_finds zero c e = absurd (none_some m e)
+  walk_finds (suc n) c e = by_class c (λ d. walk_finds n d) e
+    where
+      from_above : (c : ClassName) → ((d : ClassName) → walk (virtual_visit world asker token) world n d ≡ Some m → IsInstanceMethod world d m)
+          → option_and_then (walk (virtual_visit world asker token) world n) (superclass_of world c) ≡ Some m → IsInstanceMethod world c m
+      from_above c rest e =
+          let d = some_of (walk (virtual_visit world asker token) world n) (superclass_of world c) m e in
+          let is = rest d.0 d.2 in
+          record { declared = is.declared; there = is.there; instance = is.instance; heir = behind c d.0 (is.declared).class d.1 is.heir }
+
+      by_class : (c : ClassName) → ((d : ClassName) → walk (virtual_visit world asker token) world n d ≡ Some m → IsInstanceMethod world d m)
+          → walk (virtual_visit world asker token) world (suc n) c ≡ Some m → IsInstanceMethod world c m
+      by_class c rest e =
+          let above : Option MethodName = option_and_then (walk (virtual_visit world asker token) world n) (superclass_of world c) in
+          let k = some_of (λ k. found_from (virtual_visit world asker token c k) above) (class_at world c) m e in
+          let entries = (fit c k.0 k.1).entries in
+          good_record world c above m (from_above c rest) asker token (k.0).body
+          (left_false (list_any (is_bad_entry world (home_of c) c) (public_entries (k.0).body)) (list_any (is_bad_entry world (home_of c) c) (package_entries (k.0).body)) entries)
+          (right_false (list_any (is_bad_entry world (home_of c) c) (public_entries (k.0).body)) (list_any (is_bad_entry world (home_of c) c) (package_entries (k.0).body)) entries)
+          k.2
+
+-- ---- below 128 each asks alike
+
+taken : {V : Type 0} (b : Bool) (x y z : V) → b ≡ true → cond b x y ≡ cond b x z
+taken true x y z e = refl
+taken false x y z e = true_false (sym e)
+
+same_visit : (world : List Shape) (a b token : ℕ) → nat_lt token package_visible ≡ true → virtual_visit world a token ≡ virtual_visit world b token
+same_visit world a b token low = fun_ext (λ c. fun_ext (λ (k : ClassShape). by_body (home_of c) k.body))
+  where
+    by_body : (home : ℕ) (body : RecordBody) → record_visit world a token home body ≡ record_visit world b token home body
+    by_body home (Interface r) = refl
+    by_body home (Class r) = taken (nat_lt token package_visible) _ _ _ low
+
+pub asked_alike : (world : List Shape) (a b token : ℕ) (c : ClassName) → nat_lt token package_visible ≡ true
+    → virtual_method_of world c token a ≡ virtual_method_of world c token b
+asked_alike world a b token c low = ap (λ visit. walk visit world most_classes c) (same_visit world a b token low)
+
+-- ---- a method in place of another one
+
+same_method : (m n : MethodName) → is_same_method m n ≡ true → m ≡ n
+same_method (Api a) (Api b) e = ap Api (eqb-true a b e)
+same_method (Loaded p m) (Loaded q n) e =
+    ap (λ i. Loaded i m) (eqb-true p q (left_true (p == q) (m == n) e)) ∙ ap (Loaded q) (eqb-true m n (right_true (p == q) (m == n) e))
+same_method (Api a) (Loaded q n) e = true_false (sym e)
+same_method (Loaded p m) (Api b) e = true_false (sym e)
+
+same_kept : (world : List Shape) (m above : MethodName) → is_other_type world m above ≡ false → method_type_of world m ≡ method_type_of world above
+same_kept world m above e = by_name (is_same_method m above) (same_method m above) e
+  where
+    by_name : (b : Bool) → (b ≡ true → m ≡ above) → (not b && not (have_same_type (method_type_of world m) (method_type_of world above))) ≡ false
+        → method_type_of world m ≡ method_type_of world above
+    by_name true same e = ap (method_type_of world) (same refl)
+    by_name false same e = same_when_agree (method_type_of world m) (method_type_of world above) (not_false _ e)
+
+at_token : (p : ℕ → Bool) (token : ℕ) → token < 256 → list_any p virtual_tokens ≡ false → p token ≡ false
+unfolding virtual_tokens
+at_token p token less e = none_in_range p 0 256 token e (omega arith) (omega arith)
+
+-- a class and its superclass
+module _ (world : List Shape) (c d : ClassName) (s : superclass_of world c ≡ Some d) (token : ℕ) (above : MethodName) where
+  kept_home : (k : ClassShape) → IsFit world c k → token < 256 → virtual_method_of world d token (home_of c) ≡ Some above → HasInPlace world c token (home_of c) above
+  kept_home k fit less e =
+      let up : method_above world (home_of c) token c ≡ Some above = ap (option_and_then (λ d. virtual_method_of world d token (home_of c))) s ∙ e in
+      let kept = at_token (loses_at world (home_of c) c) token less fit.keeps in
+      let own = virtual_method_of world c token (home_of c) in
+      let m = there_some own (not_false _ (then_false (is_some (method_above world (home_of c) token c)) (not (is_some own)) kept (ap is_some up))) in
+      let types = at_token (retypes_at world (home_of c) c) token less fit.types_kept in
+      let same : is_other_type world m.0 above ≡ false
+      = sym (ap (λ o. option_map_or (λ m. option_map_or (is_other_type world m) (method_above world (home_of c) token c) false) o false) m.1
+      ∙ ap (λ o. option_map_or (is_other_type world m.0) o false) up) ∙ types in
+      record { method = m.0; found = m.1; type = same_kept world m.0 above same }
+
+  module _ (asker : ℕ) where
+    passes : (body : RecordBody) (ref : ClassRef) (above : Option MethodName) → superclass_ref body ≡ Some ref → nat_lt token package_visible ≡ false
+        → (home_of c == asker) ≡ false
+        → found_from (record_visit world asker token (home_of c) body) above ≡ above
+    passes (Interface r) ref above e high other = absurd (none_some ref e)
+    passes (Class r) ref above e high other =
+        by_other (λ v. found_from v above ≡ above) (nat_lt token package_visible) _ _ high (by_other (λ v. found_from v above ≡ above) (home_of c == asker) _ _ other refl)
+
+    passed : HaveSuperclasses world → nat_lt token package_visible ≡ false → (home_of c == asker) ≡ false
+        → virtual_method_of world c token asker ≡ virtual_method_of world d token asker
+    passed supers high other =
+        let is = below world c d s in
+        let n = most_classes - 1 in
+        let one : most_classes ≡ suc n = omega (arith, most_is) in
+        let behind = option_and_then (walk (virtual_visit world asker token) world n) (superclass_of world c) in
+        let end : comes_to_end world n d ≡ true
+        = sym (ap (λ o. option_map_or (comes_to_end world n) o true) s) ∙ sym (ap (λ i. comes_to_end world i c) one) ∙ supers.orderly.ends c in
+        ap (λ i. walk (virtual_visit world asker token) world i c) one
+        ∙ ap (option_and_then (λ k. found_from (virtual_visit world asker token c k) behind)) is.there
+        ∙ passes (is.body).body is.ref behind is.names high other
+        ∙ ap (option_and_then (walk (virtual_visit world asker token) world n)) s
+        ∙ sym (steps_enough asker token world n most_classes d end (omega (arith, one)))
+
+    kept_one : HaveSuperclasses world → AreFit world → token < 256 → virtual_method_of world d token asker ≡ Some above → HasInPlace world c token asker above
+    kept_one supers fit less e =
+        let is = below world c d s in
+        by_asker (nat_lt token package_visible) (home_of c == asker) refl refl (kept_home is.body (fit c is.body is.there) less)
+      where
+        by_asker : (low own : Bool) → nat_lt token package_visible ≡ low → (home_of c == asker) ≡ own
+            → (virtual_method_of world d token (home_of c) ≡ Some above → HasInPlace world c token (home_of c) above) → HasInPlace world c token asker above
+        by_asker true own is same home =
+            let h = home (asked_alike world (home_of c) asker token d is ∙ e) in
+            record { method = h.method; found = asked_alike world asker (home_of c) token c is ∙ h.found; type = h.type }
+        by_asker false true is same home =
+            subst (λ a. virtual_method_of world d token a ≡ Some above → HasInPlace world c token a above) (eqb-true (home_of c) asker same) home e
+        by_asker false false is same home = record { method = above; found = passed supers is same ∙ e; type = refl }
+
+-- ---- all of it
+
+module _ (world : List Shape) (supers : HaveSuperclasses world) (fit : AreFit world) where
+  kept_all : (c d : ClassName) (token asker : ℕ) (above : MethodName) → IsHeir world c d → token < 256 → virtual_method_of world d token asker ≡ Some above
+      → HasInPlace world c token asker above
+  kept_all _ _ token asker above (itself c) less e = record { method = above; found = e; type = refl }
+  kept_all _ _ token asker above (behind c d f s heir) less e =
+      let up = kept_all d f token asker above heir less e in
+      let own = kept_one world c d s token up.method asker supers fit less up.found in
+      record { method = own.method; found = own.found; type = own.type ∙ up.type }
+
+  pub virtual_methods_hold : HaveVirtualMethods world
+  virtual_methods_hold = record { found = λ c token asker m e. walk_finds world fit asker token m most_classes c e; kept = kept_all }

@@ -1,0 +1,94 @@
+-- What a machine relies on in the world of a card (Java Card Virtual Machine Specification, Binary Compatibility; getfield,
+-- invokevirtual, invokespecial, invokestatic, invokeinterface).
+use Rattle.std.specs.Prelude.{◌≡◌, ℕ, ◌+◌, ◌<◌, Bool, true, false, List, length, Some, IsSome, is_some, slice_get}
+use Rattle.std.specs.List.{list_all}
+use Rattle.jc_cap_class.specs.Component.{is_class}
+use Rattle.jc_cap_desc.specs.Shape.{ClassShape, FieldShape, MethodShape, Shape}
+use Rattle.jc_cap_method.specs.declared.header.MethodHeader.{MethodHeader}
+use Rattle.jc_cap_pool.specs.declared.entry.PoolEntry.{PoolEntry}
+use Rattle.jc_api.specs.declared.class.ApiClass.TheVariants.{Object}
+use Rattle.jc_classes.specs.Members.{DeclaredMethod, method_at}
+use Rattle.jc_classes.specs.Methods.{interface_method_of, interface_visit, virtual_method_of}
+use Rattle.jc_classes.specs.Subtype.{is_class_at, IsOrderly}
+use Rattle.jc_classes.specs.Walk.{found, most_classes}
+use Rattle.jc_classes.specs.World.{class_at, home_of, superclass_of}
+use Rattle.jc_classes.specs.declared.name.ClassName.{ClassName}
+use Rattle.jc_classes.specs.declared.name.ClassName.TheVariants.{Api}
+use Rattle.jc_classes.specs.declared.name.MethodName.{MethodName}
+use Rattle.jc_link.specs.Classes.{words_of}
+use Rattle.jc_link.specs.MemberType.{declared_type_of, member_type_of, method_type_of}
+use Rattle.jc_link.specs.Named.{cells_above, instance_field_at, is_concrete, size_of, static_field_at}
+use Rattle.jc_link.specs.Target.{instance_type_of, pool_target_of, static_type_of}
+use Rattle.jc_link.specs.declared.named.StaticPlace.{StaticPlace}
+
+-- a class is another one, or its superclasses lead there
+pub data IsHeir (world : List Shape) : ClassName → ClassName → Type 0 where
+  itself : (c : ClassName) → IsHeir world c c
+  behind : (c d e : ClassName) → superclass_of world c ≡ Some d → IsHeir world d e → IsHeir world c e
+
+-- superclasses are classes, and come to an end in Object
+pub record HaveSuperclasses (world : List Shape) : Type 0 where
+  pub orderly : IsOrderly world
+  pub classes : (c d : ClassName) → superclass_of world c ≡ Some d → is_class_at world d ≡ true
+  pub object : (c : ClassName) → is_class_at world c ≡ true → IsHeir world c (Api Object)
+
+-- a field of objects has a type, and a cell among those of its class, which stand behind those of the superclass; a static field
+-- has a type
+pub record HaveFields (world : List Shape) : Type 0 where
+  pub types : (c : ClassName) (token : ℕ) (f : FieldShape) → instance_field_at world c token ≡ Some f → IsSome (instance_type_of world c token)
+  pub cells : (c : ClassName) (token : ℕ) (f : FieldShape) → instance_field_at world c token ≡ Some f → token < size_of world c
+  pub above : (c d : ClassName) → superclass_of world c ≡ Some d → cells_above world most_classes c ≡ size_of world d + cells_above world most_classes d
+  pub statics : (place : StaticPlace) (f : FieldShape) → static_field_at world place ≡ Some f → IsSome (static_type_of world place)
+
+-- a method has a type, and its header counts the words of its arguments
+pub record HaveMethods (world : List Shape) : Type 0 where
+  pub types : (m : MethodName) (d : DeclaredMethod) → method_at world m ≡ Some d → IsSome (declared_type_of world d)
+  pub words : (m : MethodName) (d : DeclaredMethod) (h : MethodHeader) → method_at world m ≡ Some d → d.method.header ≡ Some h → h.nargs ≡ words_of d.method
+
+-- a method that a class finds is there, isn't static, and is declared by the class or above it
+pub record IsInstanceMethod (world : List Shape) (c : ClassName) (m : MethodName) : Type 0 where
+  pub declared : DeclaredMethod
+  pub there : method_at world m ≡ Some declared
+  pub instance : declared.method.is_static ≡ false
+  pub heir : IsHeir world c declared.class
+
+-- a class has a method of the same type in place of one that is found above it
+pub record HasInPlace (world : List Shape) (c : ClassName) (token asker : ℕ) (above : MethodName) : Type 0 where
+  pub method : MethodName
+  pub found : virtual_method_of world c token asker ≡ Some method
+  pub type : method_type_of world method ≡ method_type_of world above
+
+-- what a class finds at a virtual token is a method of objects, and what is found there above it it finds too, or overrides it
+pub record HaveVirtualMethods (world : List Shape) : Type 0 where
+  pub found : (c : ClassName) (token asker : ℕ) (m : MethodName) → virtual_method_of world c token asker ≡ Some m → IsInstanceMethod world c m
+  pub kept : (c d : ClassName) (token asker : ℕ) (above : MethodName) → IsHeir world c d → token < 256 → virtual_method_of world d token asker ≡ Some above
+      → HasInPlace world c token asker above
+
+-- an object's class has the method of an interface: it isn't abstract, and has the type that the interface says
+pub record HasMethodOf (world : List Shape) (c interface : ClassName) (row : MethodShape) : Type 0 where
+  pub method : MethodName
+  pub found : interface_method_of world c interface row.token ≡ Some method
+  pub concrete : is_concrete world method ≡ true
+  pub type : method_type_of world method ≡ member_type_of world (home_of interface) row.signature
+
+-- a class of which objects are made leaves no method abstract, and has each method of each interface that its chain lists
+pub record IsFinished (world : List Shape) (c : ClassName) : Type 0 where
+  pub concrete : (token asker : ℕ) (m : MethodName) → token < 256 → asker < length world → virtual_method_of world c token asker ≡ Some m
+      → is_concrete world m ≡ true
+  pub interfaces : (interface : ClassName) (k : ClassShape) (n : ℕ) (row : MethodShape) → IsSome (found (interface_visit world interface) world c)
+      → class_at world interface ≡ Some k → slice_get k.methods n ≡ Some row → HasMethodOf world c interface row
+
+-- all of that
+pub record IsSound (world : List Shape) : Type 0 where
+  pub superclasses : HaveSuperclasses world
+  pub fields : HaveFields world
+  pub methods : HaveMethods world
+  pub virtual_methods : HaveVirtualMethods world
+  pub finished : (c : ClassName) (k : ClassShape) → class_at world c ≡ Some k → is_class k.body ≡ true → k.is_abstract ≡ false → IsFinished world c
+
+-- each entry of the pool of the package that stands there leads somewhere
+abbrev pub leads_somewhere : List Shape → ℕ → PoolEntry → Bool
+leads_somewhere world home entry = is_some (pool_target_of world home entry)
+
+abbrev pub LeadSomewhere : List Shape → ℕ → List PoolEntry → Type 0
+LeadSomewhere world home pool = list_all (leads_somewhere world home) pool ≡ true

@@ -1,0 +1,309 @@
+"""Writes images of packages from what they say: classes, members and references by name. The layout is
+docs/profile/files.md; tests/link and bench/link use it."""
+from dataclasses import dataclass, field
+from struct import pack
+
+# Types, and those of members: what they take, and what they give.
+VOID, BOOLEAN, BYTE, SHORT = 'void', 'boolean', 'byte', 'short'
+BOOLEANS, BYTES, SHORTS = 'boolean[]', 'byte[]', 'short[]'
+NIBBLES = {VOID: 1, BOOLEAN: 2, BYTE: 3, SHORT: 4, BOOLEANS: 0xA, BYTES: 0xB, SHORTS: 0xC}
+PRIMITIVES = {BOOLEAN: 0x8002, BYTE: 0x8003, SHORT: 0x8004}
+ARRAYS = {BOOLEANS: 2, BYTES: 3, SHORTS: 4}
+ABOVE = 0xFFFF  # in a table, where another package declares the method
+NO_TYPE = 0xFFFF
+INSTALL = ((BYTES, SHORT, BYTE), VOID)
+
+
+@dataclass(frozen=True)
+class Reference:
+    """The type of references to a class, or of arrays of them."""
+    to: object
+    is_array: bool = False
+
+
+@dataclass(frozen=True)
+class Imported:
+    """A class of an imported package, by the tokens of both."""
+    package: int
+    token: int
+
+
+@dataclass
+class Method:
+    """A method of a class, or of an interface where there is no code. nargs is counted where it isn't said."""
+    name: str
+    takes: tuple = ()
+    gives: object = VOID
+    token: int = 0
+    static: bool = False
+    abstract: bool = False
+    code: bytes = bytes([0x7A])
+    nargs: int = None
+
+
+@dataclass
+class Field:
+    """A field, static where it has an offset."""
+    type: object
+    token: int = 0
+    offset: int = None
+
+
+@dataclass
+class Table:
+    """Virtual methods from a base on: names of methods, offsets, or ABOVE."""
+    entries: list = field(default_factory=list)
+    base: int = 0
+
+
+@dataclass
+class Class:
+    name: str
+    above: object = None
+    size: int = 0
+    public: Table = field(default_factory=Table)
+    package: Table = field(default_factory=Table)
+    interfaces: list = field(default_factory=list)  # of pairs: a class, and virtual tokens
+    fields: list = field(default_factory=list)
+    methods: list = field(default_factory=list)
+    abstract: bool = False
+    interface: bool = False
+
+
+@dataclass
+class Entry:
+    """An entry of the pool, with the type that it states, if it does: a field's, or a pair of a method's."""
+    kind: str
+    of: object
+    token: int = 0
+    type: object = None
+
+
+@dataclass
+class Statics:
+    """The static image: references, initialised arrays (a type and their bytes), default bytes, and bytes with values."""
+    references: int = 0
+    arrays: list = field(default_factory=list)
+    defaults: int = 0
+    values: bytes = b''
+
+
+@dataclass
+class Package:
+    aid: bytes
+    version: tuple = (1, 0)
+    imports: list = field(default_factory=list)  # of pairs: an AID and a version
+    applets: list = field(default_factory=list)  # of pairs: an AID and a method's name
+    exports: list = field(default_factory=list)  # of triples: a class, offsets of static fields, names of static methods
+    classes: list = field(default_factory=list)
+    pool: list = field(default_factory=list)
+    statics: Statics = field(default_factory=Statics)
+
+
+def u1(number):
+    return pack('>B', number)
+
+
+def u2(number):
+    return pack('>H', number)
+
+
+def named(version, aid):
+    """A package as Header and Import have it."""
+    major, minor = version
+    return u1(minor) + u1(major) + u1(len(aid)) + aid
+
+
+class Image:
+    """What stands where in the image of a package."""
+
+    def __init__(self, package):
+        self.package = package
+        self.classes, self.methods, self.types = {}, {}, {}
+        self.place_classes()
+        self.place_methods()
+        self.spelled = b''
+
+    # Offsets
+
+    def place_classes(self):
+        at = 0
+        for c in self.package.classes:
+            self.classes[c.name] = at
+            at += len(self.record(c, sizes=True))
+
+    def place_methods(self):
+        self.method_info = u1(0)
+        for c in self.package.classes:
+            for m in c.methods:
+                if not c.interface:
+                    self.methods[m.name] = len(self.method_info)
+                    self.method_info += self.header(m) + (b'' if m.abstract else m.code)
+
+    def header(self, method):
+        nargs = len(method.takes) + (0 if method.static else 1) if method.nargs is None else method.nargs
+        return bytes([0xC0 if method.abstract else 0x80, 4, nargs, 2])
+
+    # References and types
+
+    def class_ref(self, to):
+        if to is None:
+            return u2(0xFFFF)
+        if isinstance(to, Imported):
+            return u1(0x80 | to.package) + u1(to.token)
+        return u2(self.classes.get(to, to) if isinstance(to, str) else to)
+
+    def nibbles(self, kind):
+        if isinstance(kind, Reference):
+            bytes_of = self.class_ref(kind.to)
+            return [14 if kind.is_array else 6] + [n for b in bytes_of for n in (b >> 4, b & 15)]
+        return [NIBBLES[kind]]
+
+    def type_at(self, takes, gives):
+        """Where a type descriptor stands; it is written where it isn't there yet."""
+        nibbles = [n for kind in (*takes, gives) for n in self.nibbles(kind)]
+        padded = nibbles + [0] * (len(nibbles) % 2)
+        spelled = u1(len(nibbles)) + bytes(16 * high + low for high, low in zip(padded[::2], padded[1::2]))
+        if spelled not in self.types:
+            self.types[spelled] = 2 + 2 * len(self.package.pool) + len(self.spelled)
+            self.spelled += spelled
+        return self.types[spelled]
+
+    def field_type(self, kind):
+        return PRIMITIVES[kind] if kind in PRIMITIVES else self.type_at((), kind)
+
+    # Class
+
+    def record(self, c, sizes=False):
+        """A record; only its size is right where classes haven't been placed yet."""
+        ref = (lambda to: u2(0)) if sizes else self.class_ref
+        entry = (lambda e: u2(0)) if sizes else (lambda e: u2(self.methods[e] if isinstance(e, str) else e))
+        flags = u1((0x80 if c.interface else 0) | len(c.interfaces))
+        if c.interface:
+            return flags + b''.join(ref(to) for to, _ in c.interfaces)
+        tables = [c.public, c.package]
+        return b''.join(
+            [flags, ref(c.above), bytes([c.size, 0xFF, 0])]
+            + [u1(t.base) + u1(len(t.entries)) for t in tables]
+            + [entry(e) for t in tables for e in t.entries]
+            + [ref(to) + u1(len(tokens)) + bytes(tokens) for to, tokens in c.interfaces]
+        )
+
+    # Descriptor
+
+    def field_row(self, c, f):
+        if f.offset is not None:
+            return bytes([0, 8, 0]) + u2(f.offset) + u2(self.field_type(f.type))
+        return bytes([0, 0]) + u2(self.classes[c.name]) + u1(f.token) + u2(self.field_type(f.type))
+
+    def method_row(self, c, m):
+        count = 0 if m.abstract or c.interface else len(m.code)
+        flags = u1(8 if m.static else 0)
+        return u1(m.token) + flags + u2(self.methods.get(m.name, 0)) + u2(self.type_at(m.takes, m.gives)) + u2(count) + bytes(4)
+
+    def class_row(self, c):
+        flags = (0x80 if c.abstract else 0) | (0x40 if c.interface else 0)
+        interfaces = b''.join(self.class_ref(to) for to, _ in c.interfaces)
+        counts = u1(len(c.interfaces)) + u2(len(c.fields)) + u2(len(c.methods))
+        rows = [self.field_row(c, f) for f in c.fields] + [self.method_row(c, m) for m in c.methods]
+        return bytes([0xFF, flags]) + u2(self.classes[c.name]) + counts + interfaces + b''.join(rows)
+
+    def pool_type(self, entry):
+        if entry.type is None:
+            return u2(NO_TYPE)
+        takes, gives = entry.type if isinstance(entry.type, tuple) else ((), entry.type)
+        return u2(self.type_at(takes, gives))
+
+    def descriptor(self):
+        rows = [self.class_row(c) for c in self.package.classes]
+        pool = [self.pool_type(e) for e in self.package.pool]
+        return u1(len(rows)) + b''.join(rows) + u2(len(pool)) + b''.join(pool) + self.spelled
+
+    # Constant pool
+
+    def static_ref(self, of):
+        if isinstance(of, tuple):
+            package, class_token, token = of
+            return bytes([0x80 | package, class_token, token])
+        return bytes([0]) + u2(self.methods[of] if isinstance(of, str) else of)
+
+    def entry(self, e):
+        tag = ['class', 'field', 'virtual', 'super', 'static field', 'static method'].index(e.kind) + 1
+        return u1(tag) + (self.static_ref(e.of) if tag > 4 else self.class_ref(e.of) + u1(e.token))
+
+    # The other components
+
+    def statics(self):
+        s = self.package.statics
+        arrays = b''.join(u1(ARRAYS[kind]) + u2(len(values)) + values for kind, values in s.arrays)
+        size = 2 * s.references + s.defaults + len(s.values)
+        return u2(size) + u2(s.references) + u2(len(s.arrays)) + arrays + u2(s.defaults) + u2(len(s.values)) + s.values
+
+    def export(self, row):
+        name, fields, methods = row
+        offsets = [u2(f) for f in fields] + [u2(self.methods[m]) for m in methods]
+        return self.class_ref(name) + u1(len(fields)) + u1(len(methods)) + b''.join(offsets)
+
+    def infos(self):
+        p = self.package
+        infos = {
+            1: bytes.fromhex('DECAFFED') + bytes([1, 2, 0]) + named(p.version, p.aid),
+            4: u1(len(p.imports)) + b''.join(named(version, aid) for aid, version in p.imports),
+            5: u2(len(p.pool)) + b''.join(map(self.entry, p.pool)),
+            6: b''.join(map(self.record, p.classes)),
+            7: self.method_info,
+            8: self.statics(),
+            11: self.descriptor(),
+        }
+        if p.applets:
+            infos[3] = u1(len(p.applets)) + b''.join(u1(len(aid)) + aid + u2(self.methods[m]) for aid, m in p.applets)
+        if p.exports:
+            infos[10] = u1(len(p.exports)) + b''.join(map(self.export, p.exports))
+        return infos
+
+
+def image(package):
+    """The bytes of a package in format 2.1, components by ascending tags."""
+    infos = Image(package).infos()
+    return b''.join(u1(tag) + u2(len(infos[tag])) + infos[tag] for tag in sorted(infos))
+
+
+# The API, and packages over it
+
+LANG = (bytes.fromhex('F04A430101'), (1, 0))
+FRAMEWORK = (bytes.fromhex('F04A430102'), (1, 0))
+OBJECT = Imported(0, 0)  # of packages that import java.lang first
+SHAREABLE, APDU, APPLET = Imported(1, 0), Imported(1, 6), Imported(1, 7)  # and javacard.framework then
+API = [LANG, FRAMEWORK]
+
+# The default table: the tokens of classes 1 to 22, and of members 1 to 55.
+CLASS_TOKENS = [*range(12), *range(10)]
+MEMBER_TOKENS = [
+    *[0] * 13, *range(3), 0, 1, 0, 1, 0, 1, *range(3), *range(1, 8), *range(8), *range(8), *range(7),
+]
+
+
+def aid(number):
+    return bytes([0xF0, 9, 9, 9, number])
+
+
+def package(number, *classes, **more):
+    """A package of its own that imports the API's."""
+    return Package(aid(number), classes=list(classes), **{'imports': API, **more})
+
+
+def cls(name, above=OBJECT, **more):
+    return Class(name, above, **more)
+
+
+def table(*entries, base=0):
+    return Table(list(entries), base)
+
+
+def bound(*lines):
+    """The default table's text, with these lines in place of its own."""
+    text = {('package', '1'): 'package 1 F04A430101 1 0', ('package', '2'): 'package 2 F04A430102 1 0'}
+    text.update({('class', str(i + 1)): 'class %d %d' % (i + 1, t) for i, t in enumerate(CLASS_TOKENS)})
+    text.update({('member', str(i + 1)): 'member %d %d' % (i + 1, t) for i, t in enumerate(MEMBER_TOKENS)})
+    text.update({tuple(line.split()[:2]): line for line in lines})
+    return '\n'.join(text.values()) + '\n'

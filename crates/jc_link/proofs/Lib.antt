@@ -28,3 +28,4 @@ pub mod ApiMembers
 pub mod ApiTables
 pub mod ApiFit
 pub mod Soundness
+pub mod Applet

@@ -17,4 +17,5 @@ pub mod PrivateFaults
 pub mod Growth
 pub mod Built
 pub mod Sound
+pub mod Applet
 pub mod PrivateFit

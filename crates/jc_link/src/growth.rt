@@ -2,10 +2,14 @@
 
 ghost use Rattle.std.specs.Prelude.{List};
 ghost use Rattle.jc_cap_desc.specs.Shape.{Shape};
+ghost use Rattle.jc_api.specs.Bound.{default_binding};
+ghost use Rattle.jc_classes.specs.Api.{api_world};
 ghost use Rattle.jc_classes.specs.Limits.{IsSmall};
+ghost use Rattle.jc_link.specs.Applet.{applet};
 ghost use Rattle.jc_link.specs.Built.{IsBuilt};
 ghost use Rattle.jc_link.specs.Growth.{KeepsLinking};
 ghost use Rattle.jc_link.specs.Sound.{IsSound};
+ghost use Rattle.jc_link.specs.WellFormed.{IsWellFormed};
 
 use jc_classes::adding_keeps_lookups;
 
@@ -24,3 +28,9 @@ pub fn built_worlds_are_sound()
 {
     adding_keeps_lookups();
 }
+
+/// A package with an applet is well-formed behind the API's packages.
+#[tactic(auto, using(crate::proofs::Applet::applet_is_well_formed))]
+pub fn an_applet_is_well_formed()
+    ensures { IsWellFormed (api_world default_binding) applet }
+{}

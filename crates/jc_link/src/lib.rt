@@ -18,7 +18,7 @@ mod well_formed;
 mod world;
 
 pub use body::{ArrayKind, InitialArray, MethodCode, PackageBody, Statics};
-pub use growth::{adding_keeps_linking, built_worlds_are_sound};
+pub use growth::{adding_keeps_linking, an_applet_is_well_formed, built_worlds_are_sound};
 pub use linking::link;
 pub use named::{Named, StaticPlace};
 pub use target::{MemberType, PoolTarget};

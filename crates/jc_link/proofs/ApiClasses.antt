@@ -24,39 +24,16 @@ use Rattle.jc_classes.specs.World.{api_home, class_at, class_in, class_named, cl
 use Rattle.jc_classes.specs.declared.name.ClassName.TheVariants.{Api}
 use Rattle.jc_link.proofs.ApiLists.{all_numbered, each_there, number_has, number_there, numbered_there, numbered_within, those_found, within_room}
 use Rattle.jc_link.proofs.GrownParts.{mapped, none_some, some_of, the_some}
+use Rattle.jc_link.proofs.SameNames.{numbered_again, same_number}
 use Rattle.jc_link.proofs.Nones.{left_true, not_true, right_true, true_false}
 
 -- ---- each class
 
-pub numbered_class : (c : ApiClass) → class_of (number_of c) ≡ Some c
-numbered_class Object = refl
-numbered_class Throwable = refl
-numbered_class Exception = refl
-numbered_class RuntimeException = refl
-numbered_class ArithmeticException = refl
-numbered_class ArrayStoreException = refl
-numbered_class ClassCastException = refl
-numbered_class IndexOutOfBoundsException = refl
-numbered_class ArrayIndexOutOfBoundsException = refl
-numbered_class NegativeArraySizeException = refl
-numbered_class NullPointerException = refl
-numbered_class SecurityException = refl
-numbered_class Shareable = refl
-numbered_class CardRuntimeException = refl
-numbered_class IsoException = refl
-numbered_class SystemException = refl
-numbered_class ApduException = refl
-numbered_class Aid = refl
-numbered_class Apdu = refl
-numbered_class Applet = refl
-numbered_class JcSystem = refl
-numbered_class Util = refl
-
 pub each_class : (p : ApiClass → Bool) → list_all p numbered_classes ≡ true → (c : ApiClass) → p c ≡ true
-each_class p all c = all_numbered p numbered_classes all (number_of c) c (numbered_class c)
+each_class p all c = all_numbered p numbered_classes all (number_of c) c (numbered_again c)
 
 pub same_class : (a b : ApiClass) → is_same_class a b ≡ true → a ≡ b
-same_class a b e = the_some a b (sym (numbered_class a) ∙ ap class_of (eqb-true (number_of a) (number_of b) e) ∙ numbered_class b)
+same_class a b e = same_number a b (eqb-true (number_of a) (number_of b) e)
 
 pub class_itself : (c : ApiClass) → is_same_class c c ≡ true
 class_itself c = eq-eqb (number_of c) (number_of c) refl
@@ -82,7 +59,7 @@ number_is zero c e = absurd (none_some c e)
 number_is (suc n) c e = let k = number_counted 1 numbered_classes refl n c e in omega (arith, k)
 
 pub in_range : (c : ApiClass) → (1 ≤ number_of c) × (number_of c ≤ 22)
-in_range c = numbered_within numbered_classes (number_of c) c (numbered_class c)
+in_range c = numbered_within numbered_classes (number_of c) c (numbered_again c)
 
 -- ---- packages
 
@@ -99,7 +76,7 @@ package_itself Framework = refl
 -- the name at a class's number
 pub name_again : (c : ApiClass) → name_in (api_home (package_of c)) (number_of c) ≡ Some (Api c)
 name_again c =
-    by_low (package_of c) ∙ ap (option_and_then (λ class. cond (api_home (package_of class) == api_home (package_of c)) (Some (Api class)) None)) (numbered_class c)
+    by_low (package_of c) ∙ ap (option_and_then (λ class. cond (api_home (package_of class) == api_home (package_of c)) (Some (Api class)) None)) (numbered_again c)
     ∙ ap (λ b. cond b (Some (Api c)) None) (eq-eqb (api_home (package_of c)) (api_home (package_of c)) refl)
   where
     by_low : (p : ApiPackage) → name_in (api_home p) (number_of c)
@@ -199,7 +176,7 @@ module _ (bound : Bound) where
 
   pub shape_there : (c : ApiClass) → class_shape_of bound (package_of c) (number_of c) ≡ Some (class_in_api bound c)
   shape_there c =
-      ap (λ o. option_map (class_in_api bound) (option_and_then (λ d. cond (is_same_package (package_of d) (package_of c)) (Some d) None) o)) (numbered_class c)
+      ap (λ o. option_map (class_in_api bound) (option_and_then (λ d. cond (is_same_package (package_of d) (package_of c)) (Some d) None) o)) (numbered_again c)
       ∙ ap (λ b. option_map (class_in_api bound) (cond b (Some c) None)) (package_itself (package_of c))
 
   pub class_there : (c : ApiClass) → class_at (api_world bound) (Api c) ≡ Some (class_in_api bound c)
@@ -246,7 +223,7 @@ module _ (bound : Bound) (clear : HasNoClash bound) where
 
   token_is : (c : ApiClass) (t : ℕ) → package_of c ≡ Lang → numbered bound.classes (number_of c) ≡ Some t → lang_token bound (number_of c) ≡ Some t
   token_is c t lang e =
-      ap (option_and_then (λ d. cond (is_same_package (package_of d) Lang) (numbered bound.classes (number_of c)) None)) (numbered_class c)
+      ap (option_and_then (λ d. cond (is_same_package (package_of d) Lang) (numbered bound.classes (number_of c)) None)) (numbered_again c)
       ∙ ap (λ p. cond (is_same_package p Lang) (numbered bound.classes (number_of c)) None) lang ∙ e
 
   -- a class of java.lang is exported under its token
@@ -266,9 +243,9 @@ module _ (bound : Bound) (clear : HasNoClash bound) where
           by_package : (d : ApiClass) → class_of n ≡ Some d → (b : Bool) → is_same_package (package_of d) Lang ≡ b → cond b (numbered bound.classes n) None ≡ Some t
               → class_of n ≡ Some c
           by_package d g true h k =
-              ap class_of (clear.class_tokens n (number_of c) t d c g (numbered_class c)
+              ap class_of (clear.class_tokens n (number_of c) t d c g (numbered_again c)
               (ap (is_same_package (package_of d)) lang ∙ h) k e)
-              ∙ numbered_class c
+              ∙ numbered_again c
           by_package d g false h k = absurd (none_some t k)
 
   lang_exported : (c : ApiClass) (t : ℕ) → package_of c ≡ Lang → numbered bound.classes (number_of c) ≡ Some t → exported_class (api_world bound) 0 t ≡ Some (Api c)

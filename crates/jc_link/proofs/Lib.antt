@@ -4,13 +4,14 @@ pub mod Cells
 pub mod Finding
 pub mod Firsts
 pub mod Nones
+pub mod SameNames
+pub mod SameTypes
 pub mod SoundChains
 pub mod SoundMembers
 pub mod Leading
 pub mod Listed
 pub mod Places
 pub mod Rows
-pub mod SameTypes
 pub mod SoundVirtual
 pub mod SoundFinished
 pub mod StaticOffsets
@@ -21,6 +22,7 @@ pub mod GrownWithin
 pub mod GrownNames
 pub mod GrownClasses
 pub mod GrownHeirs
+pub mod Resolved
 pub mod SoundGrown
 pub mod ApiLists
 pub mod ApiClasses

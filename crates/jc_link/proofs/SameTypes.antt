@@ -1,57 +1,17 @@
--- Names and types that are told to be the same are the same.
+-- Types that are told to be the same are the same.
 use Rattle.std.proofs.Common.{◌≡◌, ℕ, ◌==◌, true, cond, List, [], ◌∷◌, Option, Some, None, refl, ap, sym, ◌∙◌, slice_get}
 use Rattle.std.proofs.lemmas.Bool.{eqb-true}
-use Rattle.jc_api.specs.Class.{class_of, number_of}
-use Rattle.jc_api.specs.declared.class.ApiClass.{ApiClass}
-use Rattle.jc_api.specs.declared.class.ApiClass.TheVariants.{Object, Throwable, Exception, RuntimeException, ArithmeticException, ArrayStoreException, ClassCastException, IndexOutOfBoundsException, ArrayIndexOutOfBoundsException, NegativeArraySizeException, NullPointerException, SecurityException, Shareable, CardRuntimeException, IsoException, SystemException, ApduException, Aid, Apdu, Applet, JcSystem, Util}
 use Rattle.jc_base.specs.Signature.{Signature}
 use Rattle.jc_base.specs.declared.declared_type.DeclaredType.{DeclaredType}
 use Rattle.jc_base.specs.declared.declared_type.DeclaredType.TheVariants.{Boolean, Byte, Short, Reference, BooleanArray, ByteArray, ShortArray, ReferenceArray}
 use Rattle.jc_base.specs.declared.declared_type.ReturnType.{ReturnType}
 use Rattle.jc_base.specs.declared.declared_type.ReturnType.TheVariants.{Void, Value}
-use Rattle.jc_classes.specs.Names.{is_same_name}
 use Rattle.jc_classes.specs.declared.name.ClassName.{ClassName}
-use Rattle.jc_classes.specs.declared.name.ClassName.TheVariants.{Api, Loaded}
 use Rattle.jc_link.proofs.GrownParts.{the_some}
+use Rattle.jc_link.proofs.SameNames.{same_name}
 use Rattle.jc_link.proofs.Nones.{true_false, left_true, right_true}
 use Rattle.jc_link.specs.Found.{kind_of, class_in, is_same_class, is_same_type, are_same_types, is_same_return, is_same_signature}
 use Rattle.jc_link.specs.MemberType.{have_same_type}
-
--- ---- names
-
-numbered_again : (a : ApiClass) → class_of (number_of a) ≡ Some a
-numbered_again Object = refl
-numbered_again Throwable = refl
-numbered_again Exception = refl
-numbered_again RuntimeException = refl
-numbered_again ArithmeticException = refl
-numbered_again ArrayStoreException = refl
-numbered_again ClassCastException = refl
-numbered_again IndexOutOfBoundsException = refl
-numbered_again ArrayIndexOutOfBoundsException = refl
-numbered_again NegativeArraySizeException = refl
-numbered_again NullPointerException = refl
-numbered_again SecurityException = refl
-numbered_again Shareable = refl
-numbered_again CardRuntimeException = refl
-numbered_again IsoException = refl
-numbered_again SystemException = refl
-numbered_again ApduException = refl
-numbered_again Aid = refl
-numbered_again Apdu = refl
-numbered_again Applet = refl
-numbered_again JcSystem = refl
-numbered_again Util = refl
-
-same_number : (a b : ApiClass) → number_of a ≡ number_of b → a ≡ b
-same_number a b e = the_some a b (sym (numbered_again a) ∙ ap class_of e ∙ numbered_again b)
-
-pub same_class : (c d : ClassName) → is_same_name c d ≡ true → c ≡ d
-same_class (Api a) (Api b) e = ap Api (same_number a b (eqb-true (number_of a) (number_of b) e))
-same_class (Loaded p m) (Loaded q n) e =
-    ap (λ i. Loaded i m) (eqb-true p q (left_true (p == q) (m == n) e)) ∙ ap (Loaded q) (eqb-true m n (right_true (p == q) (m == n) e))
-same_class (Api a) (Loaded q n) e = true_false (sym e)
-same_class (Loaded p m) (Api b) e = true_false (sym e)
 
 -- ---- types
 
@@ -75,7 +35,7 @@ same_if_there : (c d : Option ClassName) → is_same_class c d ≡ true → c �
 same_if_there None None e = refl
 same_if_there None (Some d) e = true_false (sym e)
 same_if_there (Some c) None e = true_false (sym e)
-same_if_there (Some c) (Some d) e = ap Some (same_class c d e)
+same_if_there (Some c) (Some d) e = ap Some (same_name c d e)
 
 same_type : (s t : DeclaredType ClassName) → is_same_type s t ≡ true → s ≡ t
 same_type s t e =

@@ -1,6 +1,6 @@
 -- What fit classes say of the chains of superclasses: they come to an end, in Object, and whoever walks them finds the same with more steps.
 use Rattle.std.proofs.Common.{◌≡◌, ℕ, zero, suc, ◌+◌, ◌-◌, ◌*◌, ◌<◌, ◌≤◌, ◌==◌, ◌&&◌, ◌||◌, ◌⊎◌, inl, inr, Bool, true, false, not, cond, List, [], ◌∷◌, length, Option, Some, None, refl, sym, ap, subst, ◌∙◌, arith, is_some, slice_get}
-use Rattle.std.proofs.lemmas.Bool.{eqb-true, eq-eqb}
+use Rattle.std.proofs.lemmas.Bool.{eqb-true}
 use Rattle.std.proofs.lemmas.List.Folds.{find_at}
 use Rattle.std.proofs.lemmas.Map.Keys.{IsDistinct-cons}
 use Rattle.std.proofs.lemmas.Map.Steps.{length-le_from_distinct_below}
@@ -12,9 +12,8 @@ use Rattle.jc_cap_class.specs.Component.{is_class}
 use Rattle.jc_cap_class.specs.declared.record.RecordBody.{RecordBody}
 use Rattle.jc_cap_class.specs.declared.record.RecordBody.TheVariants.{Interface, Class}
 use Rattle.jc_cap_desc.specs.Shape.{ClassShape, Shape}
-use Rattle.jc_api.specs.Class.{class_of, number_of, package_of}
-use Rattle.jc_api.specs.declared.class.ApiClass.{ApiClass}
-use Rattle.jc_api.specs.declared.class.ApiClass.TheVariants.{Object, Throwable, Exception, RuntimeException, ArithmeticException, ArrayStoreException, ClassCastException, IndexOutOfBoundsException, ArrayIndexOutOfBoundsException, NegativeArraySizeException, NullPointerException, SecurityException, Shareable, CardRuntimeException, IsoException, SystemException, ApduException, Aid, Apdu, Applet, JcSystem, Util}
+use Rattle.jc_api.specs.Class.{package_of}
+use Rattle.jc_api.specs.declared.class.ApiClass.TheVariants.{Object}
 use Rattle.jc_api.specs.declared.class.ApiPackage.{ApiPackage}
 use Rattle.jc_api.specs.declared.class.ApiPackage.TheVariants.{Lang, Framework}
 use Rattle.jc_classes.specs.Limits.{IsSmall}
@@ -25,52 +24,13 @@ use Rattle.jc_classes.specs.World.{api_home, class_at, class_in, class_named, ho
 use Rattle.jc_classes.specs.declared.name.ClassName.{ClassName}
 use Rattle.jc_classes.specs.declared.name.ClassName.TheVariants.{Api, Loaded}
 use Rattle.jc_link.proofs.GrownParts.{the_some, none_some, some_of, then_same, or_same}
-use Rattle.jc_link.proofs.Nones.{true_false, left_false, right_false, then_false, not_false, left_true, right_true, found_passes}
+use Rattle.jc_link.proofs.Nones.{true_false, left_false, right_false, then_false, not_false, found_passes}
+use Rattle.jc_link.proofs.SameNames.{same_name, same_number, name_itself}
 use Rattle.jc_link.proofs.Superclasses.{most_is}
 use Rattle.jc_link.specs.Classes.{is_at_or_above}
 use Rattle.jc_link.specs.Named.{cells_above, size_of}
 use Rattle.jc_link.specs.PrivateFit.{AreFit, IsRoot}
 use Rattle.jc_link.specs.Sound.{IsHeir, itself, behind, HaveSuperclasses}
-
--- ---- names
-
-pub numbered_again : (a : ApiClass) → class_of (number_of a) ≡ Some a
-numbered_again Object = refl
-numbered_again Throwable = refl
-numbered_again Exception = refl
-numbered_again RuntimeException = refl
-numbered_again ArithmeticException = refl
-numbered_again ArrayStoreException = refl
-numbered_again ClassCastException = refl
-numbered_again IndexOutOfBoundsException = refl
-numbered_again ArrayIndexOutOfBoundsException = refl
-numbered_again NegativeArraySizeException = refl
-numbered_again NullPointerException = refl
-numbered_again SecurityException = refl
-numbered_again Shareable = refl
-numbered_again CardRuntimeException = refl
-numbered_again IsoException = refl
-numbered_again SystemException = refl
-numbered_again ApduException = refl
-numbered_again Aid = refl
-numbered_again Apdu = refl
-numbered_again Applet = refl
-numbered_again JcSystem = refl
-numbered_again Util = refl
-
-pub same_class : (a b : ApiClass) → number_of a ≡ number_of b → a ≡ b
-same_class a b e = the_some a b (sym (numbered_again a) ∙ ap class_of e ∙ numbered_again b)
-
-pub name_is : (c d : ClassName) → is_same_name c d ≡ true → c ≡ d
-name_is (Api a) (Api b) e = ap Api (same_class a b (eqb-true (number_of a) (number_of b) e))
-name_is (Loaded p m) (Loaded q n) e =
-    ap (λ i. Loaded i m) (eqb-true p q (left_true (p == q) (m == n) e)) ∙ ap (Loaded q) (eqb-true m n (right_true (p == q) (m == n) e))
-name_is (Api a) (Loaded q n) e = true_false (sym e)
-name_is (Loaded p m) (Api b) e = true_false (sym e)
-
-pub name_itself : (c : ClassName) → is_same_name c c ≡ true
-name_itself (Api a) = eq-eqb (number_of a) (number_of a) refl
-name_itself (Loaded p m) = ap (λ b. b && (m == m)) (eq-eqb p p refl) ∙ eq-eqb m m refl
 
 -- ---- chains
 
@@ -84,7 +44,7 @@ heir_of_walk world (suc n) d c e = by_name (is_same_name c d) refl (superclass_o
   where
     by_name : (b : Bool) → is_same_name c d ≡ b → (o : Option ClassName) → superclass_of world c ≡ o → (b || option_map_or (is_at_or_above world n d) o false) ≡ true
         → ((s : ClassName) → is_at_or_above world n d s ≡ true → IsHeir world s d) → IsHeir world c d
-    by_name true same o f e rest = subst (IsHeir world c) (name_is c d same) (itself c)
+    by_name true same o f e rest = subst (IsHeir world c) (same_name c d same) (itself c)
     by_name false other None f e rest = true_false (sym e)
     by_name false other (Some s) f e rest = behind c s d f (rest s e)
 
@@ -161,7 +121,7 @@ api_low Framework = omega arith
 
 -- names of one place are one, where packages have numbers
 one_name : (world : List Shape) (c d : ClassName) (s t : Shape) → package_at world c ≡ Some s → package_at world d ≡ Some t → home_of c ≡ home_of d → offset_of c ≡ offset_of d → c ≡ d
-one_name world (Api a) (Api b) s t f g e o = ap Api (same_class a b o)
+one_name world (Api a) (Api b) s t f g e o = ap Api (same_number a b o)
 one_name world (Api a) (Loaded zero o) s t f g e h = absurd (none_some t g)
 one_name world (Api a) (Loaded (suc n) o) s t f g e h = absurd (omega (arith, e, api_low (package_of a)))
 one_name world (Loaded zero o) d s t f g e h = absurd (none_some s f)

@@ -17,7 +17,8 @@ use Rattle.jc_classes.specs.declared.name.ClassName.{ClassName}
 use Rattle.jc_classes.specs.declared.name.MethodName.{MethodName}
 use Rattle.jc_link.proofs.GrownParts.{some_of, the_some, none_some}
 use Rattle.jc_link.proofs.Nones.{true_false, left_false, right_false, neither, then_false, not_false, there_some, none_at, none_found, none_in_range, found_passes}
-use Rattle.jc_link.proofs.SameTypes.{same_class, there_when_agree}
+use Rattle.jc_link.proofs.SameNames.{same_name}
+use Rattle.jc_link.proofs.SameTypes.{there_when_agree}
 use Rattle.jc_link.proofs.SoundMembers.{method_typed}
 use Rattle.jc_link.proofs.SoundVirtual.{asked_alike, virtual_methods_hold}
 use Rattle.jc_link.specs.Inherited.{ListedRow, public_tokens, package_tokens, is_abstract_at, leaves_at, leaves_package_abstract, leaves_abstract, rows_of, rows_along, misses, method_for, is_unimplemented, lacks_methods_of, breaks_row, breaks_interface}
@@ -63,7 +64,7 @@ module _ (world : List Shape) (interface : ClassName) (indexes : List ℕ) (p : 
 
   this_is : (o : Option ClassName) → is_this interface o ≡ true → o ≡ Some interface
   this_is None e = true_false (sym e)
-  this_is (Some d) e = ap Some (same_class d interface e)
+  this_is (Some d) e = ap Some (same_name d interface e)
 
   at_row : (home : ℕ) (rows : List Implemented) (above : Option (List ℕ)) (o : Option Implemented) → list_any (λ row. p (listed_row home row)) rows ≡ false
       → (above ≡ Some indexes → IsRowFor)

@@ -20,7 +20,8 @@ use Rattle.jc_link.proofs.GrownNames.{packages_stay}
 use Rattle.jc_link.proofs.GrownParts.{the_some, none_some, some_of, chosen_of}
 use Rattle.jc_link.proofs.GrownWithin.{class_home}
 use Rattle.jc_link.proofs.Nones.{true_false, left_false, right_false, none_first, found_at, found_passes}
-use Rattle.jc_link.proofs.SoundChains.{api_low, numbered_again, package_there}
+use Rattle.jc_link.proofs.SameNames.{numbered_again}
+use Rattle.jc_link.proofs.SoundChains.{api_low, package_there}
 use Rattle.jc_link.specs.Built.{IsBuilt, api, loaded}
 use Rattle.jc_link.specs.Classes.{has_bad_entry, has_field_past_size, has_field_twice, has_other_nargs, has_unknown_type, lacks_superclass, leads_round, lists_no_interface}
 use Rattle.jc_link.specs.Growth.{HasApi}

@@ -1,5 +1,5 @@
 -- What a class finds at virtual tokens is a method of objects, and keeps what is found above it.
-use Rattle.std.proofs.Common.{◌≡◌, ℕ, zero, suc, ◌-◌, ◌<◌, ◌≤◌, ◌==◌, ◌&&◌, ◌||◌, Bool, true, false, cond, not, List, length, Option, Some, None, refl, ap, sym, subst, ◌∙◌, arith, nat_lt, is_some, slice_get}
+use Rattle.std.proofs.Common.{◌≡◌, ℕ, zero, suc, ◌-◌, ◌<◌, ◌==◌, ◌&&◌, ◌||◌, Bool, true, false, cond, not, List, length, Option, Some, None, refl, ap, sym, subst, ◌∙◌, arith, nat_lt, is_some, slice_get}
 use Rattle.std.proofs.Math.Path.{fun_ext}
 use Rattle.std.proofs.lemmas.Bool.{eqb-true}
 use Rattle.std.specs.List.{list_any}
@@ -11,7 +11,6 @@ use Rattle.jc_cap_desc.specs.Shape.{ClassShape, Shape}
 use Rattle.jc_base.specs.declared.class_ref.ClassRef.{ClassRef}
 use Rattle.jc_classes.specs.Members.{method_at}
 use Rattle.jc_classes.specs.Methods.{has_method, method_name, method_there, declared_above, entry_visit, table_visit, package_visible, record_visit, virtual_visit, virtual_method_of}
-use Rattle.jc_classes.specs.Names.{is_same_name}
 use Rattle.jc_classes.specs.Record.{public_entries, package_entries}
 use Rattle.jc_classes.specs.Subtype.{comes_to_end}
 use Rattle.jc_classes.specs.Walk.{found_from, walk, most_classes}
@@ -22,7 +21,8 @@ use Rattle.jc_classes.specs.declared.name.MethodName.TheVariants.{Api, Loaded}
 use Rattle.jc_link.proofs.GrownParts.{some_of, the_some, none_some}
 use Rattle.jc_link.proofs.GrownWithin.{by_other}
 use Rattle.jc_link.proofs.Nones.{true_false, left_false, right_false, then_false, left_true, right_true, not_false, not_true, there_some, none_at, none_in_range}
-use Rattle.jc_link.proofs.SameTypes.{same_class, same_when_agree}
+use Rattle.jc_link.proofs.SoundChains.{heir_of_walk, walk_enough}
+use Rattle.jc_link.proofs.SameTypes.{same_when_agree}
 use Rattle.jc_link.proofs.Superclasses.{most_is}
 use Rattle.jc_link.specs.Classes.{is_at_or_above, is_inherited, is_bad_entry}
 use Rattle.jc_link.specs.Inherited.{virtual_tokens, loses_at, is_same_method, is_other_type, retypes_at}
@@ -45,15 +45,6 @@ by_test Q false x y h k = k refl
 
 -- ---- superclasses
 
-heir_within : (world : List Shape) (d : ClassName) (steps : ℕ) (c : ClassName) → is_at_or_above world steps d c ≡ true → IsHeir world c d
-heir_within world d zero c e = true_false (sym e)
-heir_within world d (suc n) c e = by_name (is_same_name c d) (same_class c d) (λ a. heir_within world d n a) e
-  where
-    by_name : (b : Bool) → (b ≡ true → c ≡ d) → ((a : ClassName) → is_at_or_above world n d a ≡ true → IsHeir world a d)
-        → (b || option_map_or (is_at_or_above world n d) (superclass_of world c) false) ≡ true → IsHeir world c d
-    by_name true same rest e = subst (IsHeir world c) (same refl) (itself c)
-    by_name false same rest e = let a = told_of (is_at_or_above world n d) (superclass_of world c) e in behind c a.0 d a.1 (rest a.0 a.2)
-
 -- a class with a superclass is there, and is no interface
 pub record IsBelow (world : List Shape) (c : ClassName) : Type 0 where
   pub body : ClassShape
@@ -66,22 +57,6 @@ below world c d e =
     let a = some_of (class_named world (home_of c)) (option_and_then (λ (k : ClassShape). superclass_ref k.body) (class_at world c)) d e in
     let b = some_of (λ (k : ClassShape). superclass_ref k.body) (class_at world c) a.0 a.1 in
     record { body = b.0; there = b.1; ref = a.0; names = b.2 }
-
--- a walk that comes to an end finds no more with more steps
-pub steps_enough : (asker token : ℕ) (world : List Shape) (n m : ℕ) (c : ClassName) → comes_to_end world n c ≡ true → n ≤ m
-    → walk (virtual_visit world asker token) world m c ≡ walk (virtual_visit world asker token) world n c
-steps_enough asker token world zero m c e l = true_false (sym e)
-steps_enough asker token world (suc n) zero c e l = absurd (omega arith)
-steps_enough asker token world (suc n) (suc m) c e l =
-    ap (λ o. option_and_then (λ k. found_from (virtual_visit world asker token c k) o) (class_at world c))
-    (by_above (superclass_of world c) (λ d end. steps_enough asker token world n m d end (omega arith)) e)
-  where
-    by_above : (o : Option ClassName)
-        → ((d : ClassName) → comes_to_end world n d ≡ true → walk (virtual_visit world asker token) world m d ≡ walk (virtual_visit world asker token) world n d)
-        → option_map_or (comes_to_end world n) o true ≡ true
-        → option_and_then (walk (virtual_visit world asker token) world m) o ≡ option_and_then (walk (virtual_visit world asker token) world n) o
-    by_above None rest e = refl
-    by_above (Some d) rest e = rest d e
 
 -- ---- a method that a class finds
 
@@ -98,7 +73,7 @@ module _ (world : List Shape) (c : ClassName) where
         declared = d.0;
         there = d.1;
         instance = not_true _ (left_true (not (d.0).method.is_static) (is_at_or_above world most_classes (d.0).class c) d.2);
-        heir = heir_within world (d.0).class most_classes c (right_true (not (d.0).method.is_static) (is_at_or_above world most_classes (d.0).class c) d.2);
+        heir = heir_of_walk world most_classes (d.0).class c (right_true (not (d.0).method.is_static) (is_at_or_above world most_classes (d.0).class c) d.2);
       }
 
   module _ (above : Option MethodName) (m : MethodName) (k : above ≡ Some m → IsInstanceMethod world c m) where
@@ -224,7 +199,7 @@ module _ (world : List Shape) (c d : ClassName) (s : superclass_of world c ≡ S
         ∙ ap (option_and_then (λ k. found_from (virtual_visit world asker token c k) behind)) is.there
         ∙ passes (is.body).body is.ref behind is.names high other
         ∙ ap (option_and_then (walk (virtual_visit world asker token) world n)) s
-        ∙ sym (steps_enough asker token world n most_classes d end (omega (arith, one)))
+        ∙ sym (walk_enough (virtual_visit world asker token) world n most_classes d end (omega (arith, one)))
 
     kept_one : HaveSuperclasses world → AreFit world → token < 256 → virtual_method_of world d token asker ≡ Some above → HasInPlace world c token asker above
     kept_one supers fit less e =

@@ -10,12 +10,12 @@ pub mod Inherited
 pub mod Statics
 pub mod WellFormed
 pub mod Kept
-pub mod Linked
 pub mod PrivateBody
 pub mod PrivateStatics
 pub mod PrivateFaults
 pub mod Growth
 pub mod Built
+pub mod Linked
 pub mod Sound
 pub mod Applet
 pub mod PrivateFit

@@ -1,9 +1,10 @@
 -- Packages that are bound to those before them, and the world of those (Java Card Virtual Machine Specification, Linking).
-use Rattle.std.specs.Prelude.{◌≡◌, ◌⊎◌, List, [], ◌∷◌, ◌++◌, map, length, Option, Some, Result, Ok, Err}
+use Rattle.std.specs.Prelude.{◌≡◌, ◌⊎◌, ℕ, ◌+◌, ◌-◌, List, [], ◌∷◌, ◌++◌, map, length, Option, Some, Result, Ok, Err, slice_get}
 use Rattle.jc_base.specs.declared.fault.LoadFault.{LoadFault}
 use Rattle.jc_base.specs.declared.fault.LoadFault.TheVariants.{Memory}
 use Rattle.jc_cap_desc.specs.Shape.{Package, Shape}
 use Rattle.jc_classes.specs.Growth.{grown}
+use Rattle.jc_link.specs.Built.{IsBuilt}
 use Rattle.jc_link.specs.Kept.{Kept, kept_of}
 use Rattle.jc_link.specs.Target.{pool_targets}
 use Rattle.jc_link.specs.WellFormed.{IsWellFormed, fault_behind}
@@ -23,6 +24,22 @@ pub record Linked : Type 0 where
 pub record World : Type 0 where
   pub shapes : List Shape
   pub bodies : List LinkedBody
+
+-- the entries of a kept pool lead to its targets, where its package stands
+abbrev pub IsResolved : List Shape → ℕ → LinkedBody → Type 0
+IsResolved world home body = map Some body.targets ≡ pool_targets world home body.kept.pool
+
+-- what each linked package is: its world is built of well-formed packages, the last of which it is, and its pool is resolved there
+pub record IsLast (l : Linked) : Type 0 where
+  pub built : IsBuilt l.world
+  pub resolved : IsResolved l.world (length l.world - 1) l.body
+
+-- what each world is: it is built of well-formed packages, and the pool of each of the loaded ones, which stand behind the API's
+-- two, is resolved there
+pub record IsWorld (w : World) : Type 0 where
+  pub built : IsBuilt w.shapes
+  pub count : length w.shapes ≡ 2 + length w.bodies
+  pub resolved : (n : ℕ) (body : LinkedBody) → slice_get w.bodies n ≡ Some body → IsResolved w.shapes (2 + n) body
 
 -- this package, bound to the packages of a world: it is well-formed there, and each entry of its pool leads to its target
 pub record IsLinked (before : List Shape) (p : Package) (l : Linked) : Type 0 where

@@ -1,12 +1,13 @@
 //! The world of the packages on a card.
 
-ghost use Rattle.std.specs.Prelude.{◌≡◌, ◌+◌, ◌<◌, ◌≤◌, [], length, IfOk, IfErr};
+ghost use Rattle.std.specs.Prelude.{◌≡◌, ◌+◌, ◌-◌, ◌<◌, ◌≤◌, [], length, IfOk, IfErr};
 ghost use Rattle.jc_classes.specs.Limits.{most_packages};
 ghost use Rattle.jc_classes.specs.Api.{api_world};
 ghost use Rattle.jc_link.specs.Built.{IsBuilt};
-ghost use Rattle.jc_link.specs.Linked.{IsBoundTo, with_linked};
+ghost use Rattle.jc_link.specs.Linked.{IsBoundTo, IsResolved, IsWorld, with_linked};
 
 use crate::body::PackageBody;
+use crate::growth::adding_keeps_linking;
 use crate::target::PoolTarget;
 use jc_api::Binding;
 use jc_classes::ClassTable;
@@ -53,14 +54,13 @@ pub struct Linked {
 }
 
 impl Model for Linked {
-    ghost use Rattle.jc_link.specs.Built.{IsBuilt};
-    ghost use Rattle.jc_link.specs.Linked.{Linked as LinkedPackage};
+    ghost use Rattle.jc_link.specs.Linked.{IsLast, Linked as LinkedPackage};
 
     ghost Value = { LinkedPackage };
 
     ghost view = { λ l. record { world = l.table; body = l.body } };
 
-    ghost invariant = { λ l. IsBuilt l.table };
+    ghost invariant = { λ l. IsLast (record { world = l.table; body = l.body }) };
 }
 
 impl Linked {
@@ -74,7 +74,8 @@ impl Linked {
 
     /// What the package has beside its shape.
     pub fn body(&self) -> &LinkedBody
-        ensures { result.now ≡ self.now.body }
+        ensures body { result.now ≡ self.now.body }
+        ensures resolved { IsResolved self.now.world (length self.now.world - 1) self.now.body }
     {
         &self.body
     }
@@ -90,14 +91,13 @@ pub struct World {
 impl Model for World {
     ghost use Rattle.std.specs.Prelude.{◌<◌, ◌≤◌, length};
     ghost use Rattle.jc_classes.specs.Limits.{most_packages};
-    ghost use Rattle.jc_link.specs.Built.{IsBuilt};
-    ghost use Rattle.jc_link.specs.Linked.{World as LinkedWorld};
+    ghost use Rattle.jc_link.specs.Linked.{IsWorld, World as LinkedWorld};
 
     ghost Value = { LinkedWorld };
 
     ghost view = { λ w. record { shapes = w.table; bodies = w.bodies.items } };
 
-    ghost invariant = { λ w. (2 ≤ length w.table) × (length w.table < most_packages) × IsBuilt w.table };
+    ghost invariant = { λ w. (2 ≤ length w.table) × (length w.table < most_packages) × IsWorld (record { shapes = w.table; bodies = w.bodies.items }) };
 }
 
 impl World {
@@ -125,7 +125,8 @@ impl World {
 
     /// What the loaded packages have beside their shapes.
     pub fn bodies(&self) -> &[LinkedBody]
-        ensures { result.now ≡ self.now.bodies }
+        ensures bodies { result.now ≡ self.now.bodies }
+        ensures world { IsWorld self.now }
     {
         &self.bodies
     }
@@ -146,6 +147,7 @@ impl World {
         ensures done { IfOk result (λ u. self.new ≡ with_linked self.old linked) }
         ensures kept { IfErr result (λ e. self.new ≡ self.old) }
     {
+        adding_keeps_linking();
         self.bodies.push(linked.body)?;
         self.table = linked.table;
         Ok(())

@@ -16,6 +16,3 @@ pub use class::{ApiClass, ApiPackage};
 pub use fault::BindingFault;
 pub use member::{Member, MemberKind};
 pub use token::is_at_or_above;
-
-#[cfg(test)]
-mod tests;

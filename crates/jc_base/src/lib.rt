@@ -32,8 +32,3 @@ pub use parts::Parts;
 pub use placed_rows::{FrontRow, Placed, PlacedRow, PlacedRows, placed_rows_are_placed};
 pub use reason::Reason;
 pub use rows::{FixedRow, Row, Rows, Source};
-
-#[cfg(test)]
-mod fault_rows;
-#[cfg(test)]
-mod tests;

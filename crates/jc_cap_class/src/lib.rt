@@ -10,6 +10,3 @@ pub use interfaces::{
     ImplementedInterface, ImplementedInterfaces, Superinterface, Superinterfaces,
 };
 pub use record::{ClassRecord, InterfaceRecord, Record, RecordBody, VirtualTable};
-
-#[cfg(test)]
-mod tests;

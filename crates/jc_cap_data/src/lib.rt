@@ -12,6 +12,3 @@ pub use arrays::{StaticArray, StaticArrays};
 pub use exports::{ExportedClass, Exports, read_exports};
 pub use imports::{Imports, read_imports};
 pub use statics::{StaticFields, read_static_fields};
-
-#[cfg(test)]
-mod tests;

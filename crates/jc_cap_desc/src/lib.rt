@@ -28,6 +28,3 @@ pub use fields::{Field, Fields};
 pub use methods::{ClassMethod, ClassMethods};
 pub use package::{Package, read_package};
 pub use type_descriptors::TypeDescriptors;
-
-#[cfg(test)]
-mod tests;

@@ -4,6 +4,3 @@
 mod header;
 
 pub use header::{Format, Header, read_header};
-
-#[cfg(test)]
-mod tests;

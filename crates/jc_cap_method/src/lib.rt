@@ -10,6 +10,3 @@ mod header;
 pub use component::{Method, MethodInfo, read_method};
 pub use handler::{Handler, Handlers};
 pub use header::MethodHeader;
-
-#[cfg(test)]
-mod tests;

@@ -16,6 +16,3 @@ pub use descriptor::{
 pub use entry::{MemberRef, PoolEntry, StaticRef};
 pub use nibbles::Nibbles;
 pub use pool::{ConstantPool, read_pool};
-
-#[cfg(test)]
-mod tests;

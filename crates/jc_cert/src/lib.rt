@@ -12,6 +12,3 @@ pub use cert::{Cert, MethodRow, StateRow};
 pub use law::one_spelling;
 pub use reading::read;
 pub use writing::write;
-
-#[cfg(test)]
-mod tests;

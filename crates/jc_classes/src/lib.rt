@@ -27,6 +27,3 @@ pub use methods::method_name;
 pub use name::{ClassName, MethodName};
 pub use shape::{Class, Export, Field, ImplementedInterface, Method, PackageShape};
 pub use table::ClassTable;
-
-#[cfg(test)]
-mod tests;

@@ -5,6 +5,7 @@ use Rattle.std.specs.List.{list_any, range_with_len}
 use Rattle.std.specs.Option.{option_and_then, option_map, option_map_or}
 use Rattle.jc_cap_class.specs.Component.{is_class}
 use Rattle.jc_cap_class.specs.Interfaces.{Implemented}
+use Rattle.jc_cap_class.specs.declared.record.RecordBody.{RecordBody}
 use Rattle.jc_cap_class.specs.declared.record.RecordBody.TheVariants.{Interface, Class}
 use Rattle.jc_cap_desc.specs.Shape.{ClassShape, Shape}
 use Rattle.jc_api.specs.Bound.{Bound}
@@ -45,26 +46,23 @@ use Rattle.jc_link.specs.PrivateFit.{AreAllFit, IsFit, IsFitThere, IsRoot}
 
 -- ---- what a record of the API says
 
-nothing_listed : (bound : Bound) (c : ApiClass) → listed_refs (record_in bound c) ≡ []
-nothing_listed bound c = by_kind (is_interface c)
+-- what a record gives, where that of an interface gives it and that of a class does
+of_record : {A : Type 0} (f : RecordBody → A) (x : A) (bound : Bound) (c : ApiClass)
+    → f (Interface (record { superinterfaces = [] })) ≡ x → f (Class (class_record bound c)) ≡ x → f (record_in bound c) ≡ x
+of_record f x bound c i r = by_kind (is_interface c)
   where
-    by_kind : (b : Bool) → listed_refs (cond b (Interface (record { superinterfaces = [] })) (Class (class_record bound c))) ≡ []
-    by_kind true = refl
-    by_kind false = refl
+    by_kind : (b : Bool) → f (cond b (Interface (record { superinterfaces = [] })) (Class (class_record bound c))) ≡ x
+    by_kind true = i
+    by_kind false = r
+
+nothing_listed : (bound : Bound) (c : ApiClass) → listed_refs (record_in bound c) ≡ []
+nothing_listed bound c = of_record listed_refs [] bound c refl refl
 
 nothing_implemented : (bound : Bound) (c : ApiClass) → interface_rows (record_in bound c) ≡ []
-nothing_implemented bound c = by_kind (is_interface c)
-  where
-    by_kind : (b : Bool) → interface_rows (cond b (Interface (record { superinterfaces = [] })) (Class (class_record bound c))) ≡ []
-    by_kind true = refl
-    by_kind false = refl
+nothing_implemented bound c = of_record interface_rows [] bound c refl refl
 
 nothing_visible : (bound : Bound) (c : ApiClass) → package_entries (record_in bound c) ≡ []
-nothing_visible bound c = by_kind (is_interface c)
-  where
-    by_kind : (b : Bool) → package_entries (cond b (Interface (record { superinterfaces = [] })) (Class (class_record bound c))) ≡ []
-    by_kind true = refl
-    by_kind false = refl
+nothing_visible bound c = of_record package_entries [] bound c refl refl
 
 entry_from : (bound : Bound) (c : ApiClass) (i x : ℕ) → slice_get (public_entries (record_in bound c)) i ≡ Some x → (t : ℕ) × (x ≡ entry bound c t)
 entry_from bound c i x e = by_kind (is_interface c) e

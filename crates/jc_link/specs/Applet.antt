@@ -34,10 +34,13 @@ applet = record {
   };
   body = record {
     name = [];
-    applets = None;
+    applets = Some (record { aid = 0xF0 ∷ 1 ∷ 2 ∷ 3 ∷ 4 ∷ 1 ∷ []; install = 1 } ∷ []);
     pool = Classref (Internal 0) ∷ VirtualMethodref (record { class = Internal 0; token = 1 }) ∷ [];
     pool_types = None ∷ Some (record { parameters = []; result = Void }) ∷ [];
     statics = record { size = 0; references = 0; arrays = []; defaults = 0; values = [] };
-    methods = [];
+    methods =
+        record { offset = 1; code_offset = 3; code = 0x8F ∷ 0 ∷ 0 ∷ 0x8B ∷ 0 ∷ 1 ∷ 0x7A ∷ []; handlers = [] }
+        ∷ record { offset = 10; code_offset = 12; code = 0x7A ∷ []; handlers = [] }
+        ∷ [];
   };
 }

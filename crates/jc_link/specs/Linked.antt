@@ -46,7 +46,7 @@ pub record IsLinked (before : List Shape) (p : Package) (l : Linked) : Type 0 wh
   pub fine : IsWellFormed before p
   pub world : l.world ≡ grown before p.shape
   pub kept : l.body.kept ≡ kept_of p.body
-  pub targets : map Some l.body.targets ≡ pool_targets l.world (length before) l.body.kept.pool
+  pub targets : IsResolved l.world (length before) l.body
 
 -- why a package that was read, or wasn't, isn't linked
 abbrev pub refusal_of : List Shape → Result Package LoadFault → Option LoadFault

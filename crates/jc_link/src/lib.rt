@@ -23,6 +23,3 @@ pub use linking::link;
 pub use named::{Named, StaticPlace};
 pub use target::{MemberType, PoolTarget};
 pub use world::{Linked, LinkedBody, World};
-
-#[cfg(test)]
-mod tests;

@@ -2,6 +2,9 @@
 //! certificates.
 #![tactic(auto)]
 
+ghost use Rattle.std.specs.Prelude.{◌≡◌, IfOk, IfErr};
+ghost use Rattle.jc_link.specs.Linked.{IsBoundTo, Linked as LinkedPackage, with_linked};
+
 use jc_api::Binding;
 use jc_base::{LoadFault, cut};
 use jc_link::{World, link};
@@ -11,8 +14,11 @@ use std::{env, fs, io};
 // The greatest number of packages that can be put behind one another, those of the API among them.
 const MOST_PACKAGES: usize = 66;
 
-// Puts a package behind the others of a world, if it is well-formed there.
-fn load(alloc: Global, world: &mut World, image: &[u8]) -> Result<(), LoadFault> {
+// Puts a package behind the others of a world, if it is well-formed there; else the world is as it was.
+fn load(alloc: Global, world: &mut World, image: &[u8]) -> Result<(), LoadFault>
+    ensures loaded { IfOk result (λ u. (l : LinkedPackage) × IsBoundTo world.old l × (world.new ≡ with_linked world.old l)) }
+    ensures refused { IfErr result (λ fault. world.new ≡ world.old) }
+{
     let linked = link(alloc, &cut(image)?, world)?;
     if world.len() >= MOST_PACKAGES {
         return Err(LoadFault::Full);

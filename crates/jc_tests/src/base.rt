@@ -1,4 +1,4 @@
-use super::*;
+use jc_base::*;
 use std::test::*;
 
 /// A package with one applet, in eight components: Header, Applet, Import, ConstantPool, Class, Method,

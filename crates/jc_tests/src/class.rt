@@ -1,4 +1,4 @@
-use super::*;
+use jc_cap_class::*;
 use jc_base::{ClassRef, LoadFault, cut};
 use jc_cap_head::Format;
 use std::test::*;

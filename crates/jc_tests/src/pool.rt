@@ -1,4 +1,4 @@
-use super::*;
+use jc_cap_pool::*;
 use jc_base::{ClassRef, Cursor, DeclaredType, ReturnType, cut};
 use std::test::*;
 

@@ -1,4 +1,4 @@
-use super::*;
+use jc_api::*;
 use std::test::*;
 
 /// The default table's own text.

@@ -1,7 +1,6 @@
 //! One row a fault: the derived text says the same as the proved words, and no two faults are equal.
 
-use crate::fault::LoadFault;
-use crate::reason::Reason;
+use jc_base::{LoadFault, Reason};
 use std::test::Fail;
 
 const FAULTS: [LoadFault; 20] = [

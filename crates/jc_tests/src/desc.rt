@@ -1,4 +1,4 @@
-use super::*;
+use jc_cap_desc::*;
 use jc_base::{DeclaredType, LoadFault, ReturnType, cut};
 use std::alloc::Global;
 use std::test::*;

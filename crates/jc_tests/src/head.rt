@@ -1,4 +1,4 @@
-use super::*;
+use jc_cap_head::*;
 use jc_base::{Aid, LoadFault, PackageInfo, cut};
 use std::test::*;
 

@@ -1,4 +1,4 @@
-use super::*;
+use jc_classes::*;
 use jc_api::Binding;
 use jc_base::cut;
 use jc_cap_desc::read_package;

@@ -1,7 +1,7 @@
 ghost use Rattle.std.specs.Prelude.{IfOk};
 ghost use Rattle.jc_link.specs.Linked.{IsBoundTo};
 
-use super::*;
+use jc_link::*;
 use jc_api::Binding;
 use jc_base::{LoadFault, cut};
 use std::alloc::Global;

@@ -1,4 +1,4 @@
-use super::*;
+use jc_cert::*;
 use jc_base::LoadFault;
 use jc_types::{State, Ty};
 use std::alloc::Global;

@@ -1,4 +1,4 @@
-use super::*;
+use jc_cap_method::*;
 use jc_base::cut;
 use std::test::*;
 

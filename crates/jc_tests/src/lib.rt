@@ -1,0 +1,28 @@
+//! Tests of what the libraries' public calls give and no program shows. They stand apart from the libraries, so that these
+//! are proved without them.
+#![tactic(auto)]
+
+#[cfg(test)]
+mod api;
+#[cfg(test)]
+mod base;
+#[cfg(test)]
+mod cert;
+#[cfg(test)]
+mod class;
+#[cfg(test)]
+mod classes;
+#[cfg(test)]
+mod data;
+#[cfg(test)]
+mod desc;
+#[cfg(test)]
+mod faults;
+#[cfg(test)]
+mod head;
+#[cfg(test)]
+mod link;
+#[cfg(test)]
+mod method;
+#[cfg(test)]
+mod pool;

@@ -39,7 +39,7 @@ no_super world c d i e = by_class (class_at world c) i e
     by_class (Some x) i e = by_body x.body i e
 
 -- of classes only Object is above an interface
-above_interface : (world : List Shape) (i e : ClassName) → IsOrderly world → is_interface_at world i ≡ true → is_class_at world e ≡ true → IsSubtype world i e → e ≡ Api Object
+pub above_interface : (world : List Shape) (i e : ClassName) → IsOrderly world → is_interface_at world i ≡ true → is_class_at world e ≡ true → IsSubtype world i e → e ≡ Api Object
 above_interface world _ _ o i k (same c) = absurd (not_both world c i k)
 above_interface world _ _ o i k (object c) = refl
 above_interface world _ _ o i k (by_superclass c d e s r) = absurd (no_super world c d i s)

@@ -9,4 +9,5 @@ mod Marking
 mod Passing
 mod Below
 mod Least
+mod Superclasses
 mod Implemented

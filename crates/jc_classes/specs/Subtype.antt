@@ -1,10 +1,11 @@
 -- Which class is below which (Java Card Virtual Machine Specification, Verification types; Java Language Specification,
 -- Subtyping).
-use Rattle.std.specs.Prelude.{◌≡◌, ◌⊎◌, ℕ, zero, suc, Bool, true, false, not, Some, List, [], ◌∷◌}
+use Rattle.std.specs.Prelude.{◌≡◌, ◌⊎◌, ℕ, zero, suc, Bool, true, false, not, ◌||◌, Some, List, [], ◌∷◌}
 use Rattle.std.specs.Option.{option_map_or}
 use Rattle.jc_cap_class.specs.Component.{is_class}
 use Rattle.jc_cap_desc.specs.Shape.{Shape}
 use Rattle.jc_api.specs.declared.class.ApiClass.TheVariants.{Object}
+use Rattle.jc_classes.specs.Names.{is_same_name}
 use Rattle.jc_classes.specs.Walk.{most_classes}
 use Rattle.jc_classes.specs.World.{class_at, superclass_of, interfaces_of}
 use Rattle.jc_classes.specs.declared.name.ClassName.{ClassName}
@@ -55,3 +56,19 @@ pub record IsLeastAbove (world : List Shape) (one other above : ClassName) : Typ
   pub first : IsSubtype world one above
   pub second : IsSubtype world other above
   pub least : (e : ClassName) → is_class_at world e ≡ true → IsSubtype world one e → IsSubtype world other e → IsSubtype world above e
+
+-- whether a class is another one or a superclass of it, within so many classes
+abbrev pub is_at_or_above : List Shape → ℕ → ClassName → ClassName → Bool
+is_at_or_above world zero d c = false
+is_at_or_above world (suc n) d c = is_same_name c d || option_map_or (is_at_or_above world n d) (superclass_of world c) false
+
+-- whether a class is another one, or a superclass of it leads there; Object is above all
+abbrev pub is_class_below : List Shape → ClassName → ClassName → Bool
+is_class_below world c d = is_same_name (Api Object) d || is_at_or_above world most_classes d c
+
+-- an order of classes: each is below itself, two that are below one another are one, and what is below a class is below all
+-- that this class is below
+pub record IsOrder (below : ClassName → ClassName → Bool) : Type 0 where
+  pub reflexive : (c : ClassName) → below c c ≡ true
+  pub antisymmetric : (c d : ClassName) → below c d ≡ true → below d c ≡ true → c ≡ d
+  pub transitive : (c d e : ClassName) → below c d ≡ true → below d e ≡ true → below c e ≡ true

@@ -26,4 +26,5 @@ pub use members::DeclaredMethod;
 pub use methods::method_name;
 pub use name::{ClassName, MethodName};
 pub use shape::{Class, Export, Field, ImplementedInterface, Method, PackageShape};
+pub use subtypes::superclass_laws;
 pub use table::ClassTable;

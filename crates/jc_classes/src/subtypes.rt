@@ -1,7 +1,10 @@
 //! Which class is below which.
 
-ghost use Rattle.std.specs.Prelude.{◌≡◌, ◌↔◌, true, IsTrue};
-ghost use Rattle.jc_classes.specs.Subtype.{IsSubtype, IsOrderly, IsLeastAbove, is_class_at};
+ghost use Rattle.std.specs.Prelude.{◌≡◌, ◌⊎◌, ◌↔◌, true, IsTrue, List};
+ghost use Rattle.jc_cap_desc.specs.Shape.{Shape};
+ghost use Rattle.jc_classes.specs.Subtype.{IsSubtype, IsOrderly, IsLeastAbove, IsOrder, is_at_or_above, is_class_at, is_class_below};
+ghost use Rattle.jc_classes.specs.Walk.{most_classes};
+ghost use Rattle.jc_classes.specs.World.{superclass_of};
 
 use crate::name::ClassName;
 use crate::table::ClassTable;
@@ -11,7 +14,45 @@ use jc_api::ApiClass;
 /// What is above all classes and interfaces.
 const OBJECT: ClassName = ClassName::Api(ApiClass::Object);
 
+/// The class that a walk remembers behind so many steps: where it stands at each power of two, and else the one before.
+fn anchor_behind(steps: u16, at: ClassName, anchor: ClassName) -> ClassName
+    ensures { (result ≡ at) ⊎ (result ≡ anchor) }
+{
+    if steps.is_power_of_two() { at } else { anchor }
+}
+
 impl ClassTable {
+    /// Whether a class is another one or a superclass of it. Superclasses may lead round: where the walk comes again to a
+    /// class that it remembers, the other one isn't above.
+    pub fn is_at_or_above(&self, above: ClassName, class: ClassName) -> bool
+        ensures { result ≡ is_at_or_above self.now most_classes above class }
+    {
+        let mut at = class;
+        let mut anchor = class;
+        for steps in 0..MOST_CLASSES {
+            if at.is(above) {
+                return true;
+            }
+            match self.superclass_of(at) {
+                Some(next) => at = next,
+                None => return false,
+            }
+            if at.is(anchor) {
+                return false;
+            }
+            anchor = anchor_behind(steps + 1, at, anchor);
+        }
+        false
+    }
+
+    /// Whether a class is another one or below it, along superclasses; Object is above all. Where classes are in order and
+    /// the other one is a class, `is_subclass` says the same.
+    pub fn is_class_below(&self, class: ClassName, above: ClassName) -> bool
+        ensures { result ≡ is_class_below self.now class above }
+    {
+        OBJECT.is(above) || self.is_at_or_above(above, class)
+    }
+
     /// Whether a class or interface is another one or below it (Java Card Virtual Machine Specification, Verification
     /// types): Object is above all, and else its superclass and the interfaces that it lists are above it, and what is
     /// above these. Superclasses and interfaces may lead round.
@@ -68,3 +109,10 @@ impl ClassTable {
         OBJECT
     }
 }
+
+/// Where classes are in order and Object has no superclass, `is_class_below` is an order, and a class is above another
+/// one by it exactly where that one is its subtype.
+pub fn superclass_laws()
+    ensures subtypes { (world : List Shape) → IsOrderly world → superclass_of world (ClassName.Api ApiClass.Object) ≡ None → (c d : ClassName) → is_class_at world d ≡ true → (is_class_below world c d ≡ true ↔ IsSubtype world c d) }
+    ensures order { (world : List Shape) → IsOrderly world → superclass_of world (ClassName.Api ApiClass.Object) ≡ None → IsOrder (is_class_below world) }
+{}

@@ -24,7 +24,7 @@ use Rattle.jc_classes.specs.Api.{api_shape, api_world, class_in_api, class_shape
 use Rattle.jc_classes.specs.Members.{DeclaredMethod, method_at, name_of}
 use Rattle.jc_classes.specs.Methods.{declared_above, method_name, virtual_method_of}
 use Rattle.jc_classes.specs.Record.{interface_rows, package_entries, public_entries}
-use Rattle.jc_classes.specs.Subtype.{is_class_at, is_interface_at}
+use Rattle.jc_classes.specs.Subtype.{is_class_at, is_interface_at, is_at_or_above}
 use Rattle.jc_classes.specs.Walk.{most_classes}
 use Rattle.jc_classes.specs.World as World
 use Rattle.jc_classes.specs.World.{api_home, class_named, listed_refs}
@@ -38,7 +38,7 @@ use Rattle.jc_link.proofs.ApiTables.{IsDeclared, IsMember, class_record, declare
 use Rattle.jc_link.proofs.GrownParts.{none_some, the_some}
 use Rattle.jc_link.proofs.Nones.{neither, true_false}
 use Rattle.jc_link.proofs.Superclasses.{most_is}
-use Rattle.jc_link.specs.Classes.{has_bad_entry, is_at_or_above, is_bad_entry, is_inherited, lacks_superclass, leads_round}
+use Rattle.jc_link.specs.Classes.{has_bad_entry, is_bad_entry, is_inherited, lacks_superclass, leads_round}
 use Rattle.jc_link.specs.Inherited.{ListedRow, breaks_interface, breaks_row, is_abstract_at, is_other_type, is_same_method, is_unfinished, leaves_abstract, leaves_at, leaves_package_abstract, loses_at, package_tokens, public_tokens, retypes_at, rows_along, virtual_tokens}
 use Rattle.jc_link.specs.MemberType.{have_same_type, method_type_of}
 use Rattle.jc_link.specs.Named.{is_abstract_method}

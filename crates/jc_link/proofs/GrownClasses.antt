@@ -12,14 +12,14 @@ use Rattle.jc_classes.specs.Members.{DeclaredMethod, method_at}
 use Rattle.jc_classes.specs.Methods.{declared_above, method_name}
 use Rattle.jc_classes.specs.Names.{is_same_name}
 use Rattle.jc_classes.specs.Record.{package_entries, public_entries}
-use Rattle.jc_classes.specs.Subtype.{is_class_at, is_interface_at}
+use Rattle.jc_classes.specs.Subtype.{is_class_at, is_interface_at, is_at_or_above}
 use Rattle.jc_classes.specs.Walk.{most_classes}
 use Rattle.jc_classes.specs.World.{class_named, listed_refs, superclass_of}
 use Rattle.jc_classes.specs.declared.name.ClassName.{ClassName}
 use Rattle.jc_link.proofs.GrownParts.{then_same, or_same, any_same, find_same, position_same, either_same}
 use Rattle.jc_link.proofs.GrownWithin.{named_within, superclass_within, method_name_within}
 use Rattle.jc_link.proofs.GrownNames.{is_class_stays, is_interface_stays, member_type_stays, field_type_stays, method_stays, import_stays, names_stay, named_there, named_type_stays}
-use Rattle.jc_link.specs.Classes.{lacks_superclass, is_at_or_above, leads_round, lists_no_interface, has_unknown_type, has_field_twice, has_field_past_size, is_inherited, is_bad_entry, has_bad_entry, has_other_nargs}
+use Rattle.jc_link.specs.Classes.{lacks_superclass, leads_round, lists_no_interface, has_unknown_type, has_field_twice, has_field_past_size, is_inherited, is_bad_entry, has_bad_entry, has_other_nargs}
 use Rattle.jc_link.specs.Growth.{HasApi}
 use Rattle.jc_link.specs.Imports.{is_unmet, first_unmet}
 use Rattle.jc_link.specs.MemberType.{have_same_type, member_type_of, field_type_of}

@@ -12,7 +12,7 @@ use Rattle.jc_base.specs.declared.class_ref.ClassRef.{ClassRef}
 use Rattle.jc_classes.specs.Members.{method_at}
 use Rattle.jc_classes.specs.Methods.{has_method, method_name, method_there, declared_above, entry_visit, table_visit, package_visible, record_visit, virtual_visit, virtual_method_of}
 use Rattle.jc_classes.specs.Record.{public_entries, package_entries}
-use Rattle.jc_classes.specs.Subtype.{comes_to_end}
+use Rattle.jc_classes.specs.Subtype.{comes_to_end, is_at_or_above}
 use Rattle.jc_classes.specs.Walk.{found_from, walk, most_classes}
 use Rattle.jc_classes.specs.World.{class_at, class_named, home_of, superclass_of, superclass_ref}
 use Rattle.jc_classes.specs.declared.name.ClassName.{ClassName}
@@ -24,7 +24,7 @@ use Rattle.jc_link.proofs.Nones.{true_false, left_false, right_false, then_false
 use Rattle.jc_link.proofs.SoundChains.{heir_of_walk, walk_enough}
 use Rattle.jc_link.proofs.SameTypes.{same_when_agree}
 use Rattle.jc_link.proofs.Superclasses.{most_is}
-use Rattle.jc_link.specs.Classes.{is_at_or_above, is_inherited, is_bad_entry}
+use Rattle.jc_link.specs.Classes.{is_inherited, is_bad_entry}
 use Rattle.jc_link.specs.Inherited.{virtual_tokens, loses_at, is_same_method, is_other_type, retypes_at}
 use Rattle.jc_link.specs.MemberType.{have_same_type, method_type_of}
 use Rattle.jc_link.specs.Named.{method_above}

@@ -1,6 +1,6 @@
 -- What makes a class or an interface unfit for its world, whatever it inherits (Java Card Virtual Machine Specification, Class
 -- component; Descriptor component). Each is looked at with the place of its package and with its name.
-use Rattle.std.specs.Prelude.{ℕ, zero, suc, ◌+◌, ◌==◌, Bool, false, not, ◌&&◌, ◌||◌, nat_le, List, length, Option, Some, None, is_some, if◌then◌else◌}
+use Rattle.std.specs.Prelude.{ℕ, ◌+◌, ◌==◌, Bool, false, not, ◌&&◌, ◌||◌, nat_le, List, length, Option, Some, None, is_some, if◌then◌else◌}
 use Rattle.std.specs.List.{filter_map, list_any}
 use Rattle.std.specs.Option.{option_map_or}
 use Rattle.jc_cap_class.specs.Component.{is_class}
@@ -10,9 +10,8 @@ use Rattle.jc_cap_desc.specs.declared.class_row.FieldPlace.{FieldPlace}
 use Rattle.jc_cap_desc.specs.declared.class_row.FieldPlace.TheVariants.{Static, Instance}
 use Rattle.jc_classes.specs.Members.{DeclaredMethod, method_at}
 use Rattle.jc_classes.specs.Methods.{declared_above, method_name}
-use Rattle.jc_classes.specs.Names.{is_same_name}
 use Rattle.jc_classes.specs.Record.{declared_size, package_entries, public_entries}
-use Rattle.jc_classes.specs.Subtype.{is_class_at, is_interface_at}
+use Rattle.jc_classes.specs.Subtype.{is_at_or_above, is_class_at, is_interface_at}
 use Rattle.jc_classes.specs.Walk.{most_classes}
 use Rattle.jc_classes.specs.World.{class_named, listed_refs, superclass_of}
 use Rattle.jc_classes.specs.declared.name.ClassName.{ClassName}
@@ -21,11 +20,6 @@ use Rattle.jc_link.specs.MemberType.{field_type_of, member_type_of}
 -- a class whose superclass is missing, isn't named, or is an interface
 abbrev pub lacks_superclass : List Shape → ClassName → ClassShape → Bool
 lacks_superclass world c k = is_class k.body && not (option_map_or (is_class_at world) (superclass_of world c) false)
-
--- whether a class is another one or a superclass of it, within so many classes
-abbrev pub is_at_or_above : List Shape → ℕ → ClassName → ClassName → Bool
-is_at_or_above world zero d c = false
-is_at_or_above world (suc n) d c = is_same_name c d || option_map_or (is_at_or_above world n d) (superclass_of world c) false
 
 -- a class whose superclasses lead round to itself
 abbrev pub leads_round : List Shape → ClassName → Bool

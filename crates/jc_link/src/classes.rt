@@ -4,11 +4,10 @@ ghost use Rattle.std.specs.Prelude.{◌≡◌, ◌≤◌, ◌==◌, not, false, 
 ghost use Rattle.std.specs.List.{list_any, filter_map};
 ghost use Rattle.std.specs.Option.{option_map_or};
 ghost use Rattle.jc_classes.specs.Record.{superinterfaces, interface_rows};
-ghost use Rattle.jc_classes.specs.Walk.{most_classes};
 ghost use Rattle.jc_classes.specs.World.{class_named};
 ghost use Rattle.jc_classes.specs.Subtype.{is_class_at, is_interface_at};
 ghost use Rattle.jc_link.specs.MemberType.{field_type_of, member_type_of};
-ghost use Rattle.jc_link.specs.Classes.{lacks_superclass, is_at_or_above, leads_round, lists_no_interface, has_unknown_type, instance_token, has_field_twice, has_field_past_size, is_inherited, is_bad_entry, has_bad_entry, words_of, has_other_nargs};
+ghost use Rattle.jc_link.specs.Classes.{lacks_superclass, leads_round, lists_no_interface, has_unknown_type, instance_token, has_field_twice, has_field_past_size, is_inherited, is_bad_entry, has_bad_entry, words_of, has_other_nargs};
 
 use crate::types::{is_known_field, is_known_method};
 use jc_base::ClassRef;
@@ -53,29 +52,12 @@ pub(crate) fn lacks_superclass(table: &ClassTable, class: ClassName, found: &Cla
     }
 }
 
-/// Whether a class is another one or a superclass of it.
-fn is_at_or_above(table: &ClassTable, above: ClassName, class: ClassName) -> bool
-    ensures { result ≡ is_at_or_above table.now most_classes above class }
-{
-    let mut at = class;
-    for _ in 0..MOST_CLASSES {
-        if at.is(above) {
-            return true;
-        }
-        match table.superclass_of(at) {
-            Some(next) => at = next,
-            None => return false,
-        }
-    }
-    false
-}
-
 /// Whether the superclasses of a class lead round to it.
 pub(crate) fn leads_round(table: &ClassTable, class: ClassName) -> bool
     ensures { result ≡ leads_round table.now class }
 {
     match table.superclass_of(class) {
-        Some(above) => is_at_or_above(table, class, above),
+        Some(above) => table.is_at_or_above(class, above),
         None => false,
     }
 }
@@ -126,7 +108,7 @@ pub(crate) fn lists_no_interface(table: &ClassTable, home: usize, found: &Class)
 fn is_inherited(table: &ClassTable, class: ClassName, declared: &DeclaredMethod) -> bool
     ensures { result ≡ is_inherited table.now class declared.now }
 {
-    !declared.method.is_static() && is_at_or_above(table, declared.class, class)
+    !declared.method.is_static() && table.is_at_or_above(declared.class, class)
 }
 
 /// Whether an entry of a table is no offset of such a method.

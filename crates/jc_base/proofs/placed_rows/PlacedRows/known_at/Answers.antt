@@ -1,4 +1,4 @@
-use Rattle.std.proofs.Common.{◌≡◌, ℕ, ◌-◌, Some, drop, length, sym, ap, ◌∙◌}
+use Rattle.std.proofs.Common.{ℕ, ◌-◌, Some, drop, sym, ap, ◌∙◌}
 use Rattle.jc_base.proofs.Binding.{the_ok}
 use Rattle.jc_base.proofs.PlacedLemmas.{known_left}
 use Rattle.jc_base.proofs.placed_rows.PlacedRows.known_at.Goals as goal

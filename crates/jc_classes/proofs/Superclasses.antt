@@ -1,0 +1,239 @@
+-- Walks up the superclasses: what they find, that they may end where they come round, and the order that they make.
+use Rattle.std.proofs.Common.{◌≡◌, ◌↔◌, ℕ, zero, suc, ◌+◌, ◌≤◌, ◌⊎◌, inl, inr, ◌||◌, Bool, true, false, Option, Some, None, List, refl, sym, ap, subst, ◌∙◌, arith}
+use Rattle.std.specs.Option.{option_map_or}
+use Rattle.jc_base.proofs.Binding.{none_some}
+use Rattle.jc_cap_desc.specs.Shape.{Shape}
+use Rattle.jc_api.specs.declared.class.ApiClass.TheVariants.{Object}
+use Rattle.jc_classes.proofs.Below.{name_is, name_itself}
+use Rattle.jc_classes.proofs.Least.{above_interface}
+use Rattle.jc_classes.proofs.Marking.{true_false}
+use Rattle.jc_classes.proofs.Walking.{most_is}
+use Rattle.jc_classes.specs.Names.{is_same_name}
+use Rattle.jc_classes.specs.PrivateSearch.{IsOnWalk}
+use Rattle.jc_classes.specs.Subtype.{IsSubtype, same, object, by_superclass, by_interface, is_class_at, comes_to_end, IsOrderly, IsOrder, is_at_or_above, is_class_below}
+use Rattle.jc_classes.specs.Walk.{most_classes}
+use Rattle.jc_classes.specs.World.{superclass_of}
+use Rattle.jc_classes.specs.declared.name.ClassName.{ClassName}
+use Rattle.jc_classes.specs.declared.name.ClassName.TheVariants.{Api}
+
+-- ---- a walk of one class more
+
+either : (a b : Bool) → (a || b) ≡ true → (a ≡ true) ⊎ (b ≡ true)
+either true b e = inl refl
+either false b e = inr e
+
+or_true : (a b : Bool) → b ≡ true → (a || b) ≡ true
+or_true true b e = refl
+or_true false b e = e
+
+module _ (world : List Shape) (d c : ClassName) (n : ℕ) where
+  one_more : (b : Bool) (o : Option ClassName) → is_same_name c d ≡ b → superclass_of world c ≡ o → is_at_or_above world (suc n) d c ≡ (b || option_map_or (is_at_or_above world n d) o false)
+  one_more b o e f = ap (λ x. x || option_map_or (is_at_or_above world n d) (superclass_of world c) false) e ∙ ap (λ x. b || option_map_or (is_at_or_above world n d) x false) f
+
+  met : is_same_name c d ≡ true → is_at_or_above world (suc n) d c ≡ true
+  met e = one_more true (superclass_of world c) e refl
+
+  above_it : (s : ClassName) → superclass_of world c ≡ Some s → is_at_or_above world n d s ≡ true → is_at_or_above world (suc n) d c ≡ true
+  above_it s f e = or_true (is_same_name c d) _ (ap (λ o. option_map_or (is_at_or_above world n d) o false) f ∙ e)
+
+  -- where a walk that finds comes from
+  found_by : is_at_or_above world (suc n) d c ≡ true → (c ≡ d) ⊎ ((s : ClassName) × (superclass_of world c ≡ Some s) × (is_at_or_above world n d s ≡ true))
+  found_by e = by_name (either (is_same_name c d) _ e)
+    where
+      by_super : (o : Option ClassName) → superclass_of world c ≡ o → option_map_or (is_at_or_above world n d) o false ≡ true → (s : ClassName) × (superclass_of world c ≡ Some s) × (is_at_or_above world n d s ≡ true)
+      by_super None f h = absurd (true_false (sym h))
+      by_super (Some s) f h = (s, f, h)
+
+      by_name : (is_same_name c d ≡ true) ⊎ (option_map_or (is_at_or_above world n d) (superclass_of world c) false ≡ true) → (c ≡ d) ⊎ ((s : ClassName) × (superclass_of world c ≡ Some s) × (is_at_or_above world n d s ≡ true))
+      by_name (inl h) = inl (name_is c d h)
+      by_name (inr h) = inr (by_super (superclass_of world c) refl h)
+
+-- more steps find what fewer do
+above_more : (world : List Shape) (n m : ℕ) (d c : ClassName) → n ≤ m → is_at_or_above world n d c ≡ true → is_at_or_above world m d c ≡ true
+above_more world zero m d c l e = absurd (true_false (sym e))
+above_more world (suc n) zero d c l e = absurd (omega arith)
+above_more world (suc n) (suc m) d c l e = by_way (found_by world d c n e) (λ s. above_more world n m d s (omega arith))
+  where
+    by_way : (c ≡ d) ⊎ ((s : ClassName) × (superclass_of world c ≡ Some s) × (is_at_or_above world n d s ≡ true)) → ((s : ClassName) → is_at_or_above world n d s ≡ true → is_at_or_above world m d s ≡ true)
+        → is_at_or_above world (suc m) d c ≡ true
+    by_way (inl is) rest = met world d c m (ap (is_same_name c) (sym is) ∙ name_itself c)
+    by_way (inr r) rest = above_it world d c m r.0 r.1 (rest r.0 r.2)
+
+-- ---- the answers of a walk with an anchor
+
+-- where a walk of some steps more finds the same, however many are left, nothing is found
+module _ (world : List Shape) (d c : ClassName) (between : ℕ) (round : (n : ℕ) → is_at_or_above world (n + suc between) d c ≡ is_at_or_above world n d c) where
+  nothing_past : (n : ℕ) → (m : ℕ) × (n ≤ m) × (is_at_or_above world m d c ≡ false)
+  nothing_past zero = (0, omega arith, refl)
+  nothing_past (suc n) = let p = nothing_past n in (p.0 + suc between, omega (arith, p.1), round p.0 ∙ p.2)
+
+  nothing_at_all : (n : ℕ) → is_at_or_above world n d c ≡ false
+  nothing_at_all n = by_test (is_at_or_above world n d c) refl
+    where
+      by_test : (b : Bool) → is_at_or_above world n d c ≡ b → b ≡ false
+      by_test false e = refl
+      by_test true e = let p = nothing_past n in absurd (true_false (sym (above_more world n p.0 d c p.1 e) ∙ p.2))
+
+module _ (world : List Shape) (above anchor at : ClassName) (n m : ℕ) (total : Bool) (one : n ≡ suc m) (on : IsOnWalk world above anchor at n total) where
+  walked : is_at_or_above world (suc m) above at ≡ total
+  walked = ap (λ i. is_at_or_above world i above at) (sym one) ∙ on.so_far
+
+  pub is_here : is_same_name at above ≡ true → true ≡ total
+  is_here e = sym (met world above at m e) ∙ walked
+
+  module _ (next : ClassName) (other : is_same_name at above ≡ false) (up : superclass_of world at ≡ Some next) where
+    on_from_here : is_at_or_above world m above next ≡ total
+    on_from_here = sym (one_more world above at m false (Some next) other up) ∙ walked
+
+    further : (k : ℕ) → is_at_or_above world (k + suc on.between) above anchor ≡ is_at_or_above world k above next
+    further k =
+        let shift : k + suc on.between ≡ suc k + on.between = omega arith in
+        ap (λ i. is_at_or_above world i above anchor) shift ∙ on.anchored (suc k) ∙ one_more world above at k false (Some next) other up
+
+    pub comes_round : is_same_name next anchor ≡ true → false ≡ total
+    comes_round e =
+        let is = name_is next anchor e in
+        sym (nothing_at_all world above anchor on.between (λ k. further k ∙ ap (is_at_or_above world k above) is) m)
+        ∙ ap (is_at_or_above world m above) (sym is) ∙ on_from_here
+
+    pub goes_on : (kept : ClassName) → (kept ≡ next) ⊎ (kept ≡ anchor) → IsOnWalk world above kept next m total
+    goes_on kept (inl is) = subst (λ a. IsOnWalk world above a next m total) (sym is) (record {
+      so_far = on_from_here;
+      between = 0;
+      anchored = λ k. let none : k + 0 ≡ k = omega arith in ap (λ i. is_at_or_above world i above next) none;
+    })
+    goes_on kept (inr is) = subst (λ a. IsOnWalk world above a next m total) (sym is) (record { so_far = on_from_here; between = suc on.between; anchored = further })
+
+pub has_ended : (world : List Shape) (above anchor at : ClassName) (n : ℕ) (total : Bool) → n ≡ 0 → IsOnWalk world above anchor at n total → false ≡ total
+has_ended world above anchor at n total none on = ap (λ i. is_at_or_above world i above at) (sym none) ∙ on.so_far
+
+-- ---- the order
+
+-- one walk behind another one
+beyond : (world : List Shape) (n m : ℕ) (e d c : ClassName) → is_at_or_above world n d c ≡ true → is_at_or_above world m e d ≡ true → is_at_or_above world (n + m) e c ≡ true
+beyond world zero m e d c h k = absurd (true_false (sym h))
+beyond world (suc n) m e d c h k = by_way (found_by world d c n h) (λ s r. beyond world n m e d s r k)
+  where
+    by_way : (c ≡ d) ⊎ ((s : ClassName) × (superclass_of world c ≡ Some s) × (is_at_or_above world n d s ≡ true)) → ((s : ClassName) → is_at_or_above world n d s ≡ true → is_at_or_above world (n + m) e s ≡ true)
+        → is_at_or_above world (suc n + m) e c ≡ true
+    by_way (inl is) rest = above_more world m (suc n + m) e c (omega arith) (ap (is_at_or_above world m e) is ∙ k)
+    by_way (inr r) rest = let one : suc n + m ≡ suc (n + m) = omega arith in ap (λ i. is_at_or_above world i e c) one ∙ above_it world e c (n + m) r.0 r.1 (rest r.0 r.2)
+
+ends_above : (world : List Shape) (n : ℕ) (c s : ClassName) → comes_to_end world (suc n) c ≡ true → superclass_of world c ≡ Some s → comes_to_end world n s ≡ true
+ends_above world n c s e f = sym (ap (λ o. option_map_or (comes_to_end world n) o true) f) ∙ e
+
+-- as many steps as there are superclasses find what more do
+enough : (world : List Shape) (n m : ℕ) (d c : ClassName) → comes_to_end world n c ≡ true → is_at_or_above world m d c ≡ true → is_at_or_above world n d c ≡ true
+enough world zero m d c e h = absurd (true_false (sym e))
+enough world (suc n) zero d c e h = absurd (true_false (sym h))
+enough world (suc n) (suc m) d c e h = by_way (found_by world d c m h) (λ s f r. enough world n m d s (ends_above world n c s e f) r)
+  where
+    by_way : (c ≡ d) ⊎ ((s : ClassName) × (superclass_of world c ≡ Some s) × (is_at_or_above world m d s ≡ true))
+        → ((s : ClassName) → superclass_of world c ≡ Some s → is_at_or_above world m d s ≡ true → is_at_or_above world n d s ≡ true) → is_at_or_above world (suc n) d c ≡ true
+    by_way (inl is) rest = met world d c n (ap (is_same_name c) (sym is) ∙ name_itself c)
+    by_way (inr r) rest = above_it world d c n r.0 r.1 (rest r.0 r.1 r.2)
+
+-- superclasses that come to an end don't lead round
+no_round : (world : List Shape) (n m : ℕ) (c s : ClassName) → comes_to_end world n c ≡ true → superclass_of world c ≡ Some s → is_at_or_above world m c s ≡ true → ⊥
+no_round world zero m c s e f h = true_false (sym e)
+no_round world (suc n) zero c s e f h = true_false (sym h)
+no_round world (suc n) (suc m) c s e f h = by_way (found_by world c s m h) (λ k t. no_round world n k s t (ends_above world n c s e f))
+  where
+    by_way : (s ≡ c) ⊎ ((t : ClassName) × (superclass_of world s ≡ Some t) × (is_at_or_above world m c t ≡ true)) → ((k : ℕ) (t : ClassName) → superclass_of world s ≡ Some t → is_at_or_above world k s t ≡ true → ⊥) → ⊥
+    by_way (inl is) rest = rest 1 s (ap (superclass_of world) is ∙ f) (met world s s 0 (name_itself s))
+    by_way (inr r) rest = rest (m + 2) r.0 r.1 (beyond world m 2 s c r.0 r.2 (above_it world s c 1 s f (met world s s 0 (name_itself s))))
+
+-- classes that are above one another are one
+one_of_both : (world : List Shape) (o : IsOrderly world) (n m : ℕ) (c d : ClassName) → is_at_or_above world n d c ≡ true → is_at_or_above world m c d ≡ true → c ≡ d
+one_of_both world o zero m c d h k = absurd (true_false (sym h))
+one_of_both world o (suc n) m c d h k = by_way (found_by world d c n h)
+  where
+    by_way : (c ≡ d) ⊎ ((s : ClassName) × (superclass_of world c ≡ Some s) × (is_at_or_above world n d s ≡ true)) → c ≡ d
+    by_way (inl is) = is
+    by_way (inr r) = absurd (no_round world most_classes (n + m) c r.0 (o.ends c) r.1 (beyond world n m c d r.0 r.2 k))
+
+above_object : (world : List Shape) (n : ℕ) (c : ClassName) → superclass_of world (Api Object) ≡ None → is_at_or_above world n c (Api Object) ≡ true → Api Object ≡ c
+above_object world zero c top h = absurd (true_false (sym h))
+above_object world (suc n) c top h = by_way (found_by world c (Api Object) n h)
+  where
+    by_way : (Api Object ≡ c) ⊎ ((s : ClassName) × (superclass_of world (Api Object) ≡ Some s) × (is_at_or_above world n c s ≡ true)) → Api Object ≡ c
+    by_way (inl is) = is
+    by_way (inr r) = absurd (none_some r.0 (sym top ∙ r.1))
+
+module _ (world : List Shape) where
+  -- how a class is below another one
+  way_up : (c d : ClassName) → is_class_below world c d ≡ true → (Api Object ≡ d) ⊎ (is_at_or_above world most_classes d c ≡ true)
+  way_up c d h = by_name (either (is_same_name (Api Object) d) _ h)
+    where
+      by_name : (is_same_name (Api Object) d ≡ true) ⊎ (is_at_or_above world most_classes d c ≡ true) → (Api Object ≡ d) ⊎ (is_at_or_above world most_classes d c ≡ true)
+      by_name (inl e) = inl (name_is (Api Object) d e)
+      by_name (inr e) = inr e
+
+  below_object : (c d : ClassName) → Api Object ≡ d → is_class_below world c d ≡ true
+  below_object c d is = ap (is_class_below world c) (sym is)
+
+  walked_up : (c d : ClassName) → is_at_or_above world most_classes d c ≡ true → is_class_below world c d ≡ true
+  walked_up c d h = or_true (is_same_name (Api Object) d) _ h
+
+  module _ (o : IsOrderly world) (top : superclass_of world (Api Object) ≡ None) where
+    only_object : (c : ClassName) → is_class_below world (Api Object) c ≡ true → Api Object ≡ c
+    only_object c h = by_way (way_up (Api Object) c h)
+      where
+        by_way : (Api Object ≡ c) ⊎ (is_at_or_above world most_classes c (Api Object) ≡ true) → Api Object ≡ c
+        by_way (inl is) = is
+        by_way (inr e) = above_object world most_classes c top e
+
+    itself : (c : ClassName) → is_class_below world c c ≡ true
+    itself c = walked_up c c (above_more world 1 most_classes c c (omega (arith, most_is)) (met world c c 0 (name_itself c)))
+
+    both_ways : (c d : ClassName) → is_class_below world c d ≡ true → is_class_below world d c ≡ true → c ≡ d
+    both_ways c d h k = by_ways (way_up c d h) (way_up d c k)
+      where
+        by_ways : (Api Object ≡ d) ⊎ (is_at_or_above world most_classes d c ≡ true) → (Api Object ≡ c) ⊎ (is_at_or_above world most_classes c d ≡ true) → c ≡ d
+        by_ways (inl is) q = sym (only_object c (ap (λ x. is_class_below world x c) is ∙ k)) ∙ is
+        by_ways (inr p) (inl is) = sym is ∙ only_object d (ap (λ x. is_class_below world x d) is ∙ h)
+        by_ways (inr p) (inr q) = one_of_both world o most_classes most_classes c d p q
+
+    on_through : (c d e : ClassName) → is_class_below world c d ≡ true → is_class_below world d e ≡ true → is_class_below world c e ≡ true
+    on_through c d e h k = by_ways (way_up c d h) (way_up d e k)
+      where
+        by_ways : (Api Object ≡ d) ⊎ (is_at_or_above world most_classes d c ≡ true) → (Api Object ≡ e) ⊎ (is_at_or_above world most_classes e d ≡ true) → is_class_below world c e ≡ true
+        by_ways p (inl is) = below_object c e is
+        by_ways (inl is) (inr q) = below_object c e (only_object e (ap (λ x. is_class_below world x e) is ∙ k))
+        by_ways (inr p) (inr q) = walked_up c e (enough world most_classes (most_classes + most_classes) e c (o.ends c) (beyond world most_classes most_classes e d c p q))
+
+pub is_order : (world : List Shape) → IsOrderly world → superclass_of world (Api Object) ≡ None → IsOrder (is_class_below world)
+is_order world o top = record { reflexive = itself world o top; antisymmetric = both_ways world o top; transitive = on_through world o top }
+
+-- ---- the order and subtypes
+
+climbs : (world : List Shape) (n : ℕ) (d c : ClassName) → is_at_or_above world n d c ≡ true → IsSubtype world c d
+climbs world zero d c h = absurd (true_false (sym h))
+climbs world (suc n) d c h = by_way (found_by world d c n h) (λ s. climbs world n d s)
+  where
+    by_way : (c ≡ d) ⊎ ((s : ClassName) × (superclass_of world c ≡ Some s) × (is_at_or_above world n d s ≡ true)) → ((s : ClassName) → is_at_or_above world n d s ≡ true → IsSubtype world s d) → IsSubtype world c d
+    by_way (inl is) rest = subst (IsSubtype world c) is (same c)
+    by_way (inr r) rest = by_superclass c r.0 d r.1 (rest r.0 r.2)
+
+-- a class that is above is Object, or is met along superclasses
+met_above : (world : List Shape) (n : ℕ) (c d : ClassName) → IsOrderly world → is_class_at world d ≡ true → comes_to_end world n c ≡ true → IsSubtype world c d → (Api Object ≡ d) ⊎ (is_at_or_above world n d c ≡ true)
+met_above world zero c d o k e s = absurd (true_false (sym e))
+met_above world (suc n) _ _ o k e (same c) = inr (met world c c n (name_itself c))
+met_above world (suc n) _ _ o k e (object c) = inl refl
+met_above world (suc n) _ _ o k e (by_superclass c s d f r) = by_way (met_above world n s d o k (ends_above world n c s e f) r)
+  where
+    by_way : (Api Object ≡ d) ⊎ (is_at_or_above world n d s ≡ true) → (Api Object ≡ d) ⊎ (is_at_or_above world (suc n) d c ≡ true)
+    by_way (inl is) = inl is
+    by_way (inr h) = inr (above_it world d c n s f h)
+met_above world (suc n) _ _ o k e (by_interface c i d m r) = inl (sym (above_interface world i d o (o.interfaces c i m) k r))
+
+pub are_subtypes : (world : List Shape) → IsOrderly world → superclass_of world (Api Object) ≡ None → (c d : ClassName) → is_class_at world d ≡ true → (is_class_below world c d ≡ true ↔ IsSubtype world c d)
+are_subtypes world o top c d k = (λ h. up (way_up world c d h), λ s. down (met_above world most_classes c d o k (o.ends c) s))
+  where
+    up : (Api Object ≡ d) ⊎ (is_at_or_above world most_classes d c ≡ true) → IsSubtype world c d
+    up (inl is) = subst (IsSubtype world c) is (object c)
+    up (inr h) = climbs world most_classes d c h
+
+    down : (Api Object ≡ d) ⊎ (is_at_or_above world most_classes d c ≡ true) → is_class_below world c d ≡ true
+    down (inl is) = below_object world c d is
+    down (inr h) = walked_up world c d h

@@ -4,6 +4,7 @@ use Rattle.std.specs.List.{AllByRecursion}
 use Rattle.std.proofs.lemmas.Bool.{lt-ltb}
 use Rattle.jc_base.specs.declared.reason.Reason.{Reason}
 use Rattle.jc_base.specs.Results.{◌>>=◌}
+use Rattle.jc_code.specs.Instructions.{word_instr_at}
 use Rattle.jc_code.specs.Listing.{PlacedInstr, StandBetween, placed_at, ListingLaws}
 use Rattle.jc_code.specs.Targets.{targets_of, falls_of}
 use Rattle.jc_check.proofs.Listings.{placed_behind, placed_front}
@@ -65,7 +66,7 @@ visit_goes m states c x flow (Some s) e at f = live_goes m c.listing states c.ty
 visit_goes m states c x (Some t) None e at f = live_goes m c.listing states c.typing x t (c.live x.pc x t at f)
 visit_goes m states c x None None e at f = record { flow = None; is = refl; fits = c.dead x.pc x at f }
 
-walk_ok : (laws : ListingLaws) (m : Method) (states : List Stated) (c : Carries m states) (xs : List PlacedInstr) (pc : ℕ) (flow : Option Types) → StandBetween m.code pc xs (length m.code) → ((q : ℕ) → pc ≤ q → placed_at c.listing q ≡ placed_at xs q)
+walk_ok : (laws : ListingLaws word_instr_at) (m : Method) (states : List Stated) (c : Carries m states) (xs : List PlacedInstr) (pc : ℕ) (flow : Option Types) → StandBetween word_instr_at m.code pc xs (length m.code) → ((q : ℕ) → pc ≤ q → placed_at c.listing q ≡ placed_at xs q)
     → Flow (state_at states pc) (c.typing pc) flow → walk m c.listing states flow xs ≡ Ok tt
 unfolding walk visit
 walk_ok laws m states c [] pc flow runs same f = refl
@@ -77,7 +78,7 @@ walk_ok laws m states c (x ∷ xs) pc flow runs same f =
     let W : Result (Option Types) Reason → Type 0 = λ r. (told_at x.pc r >>= λ next. walk m c.listing states next xs) ≡ Ok tt in
     subst W (sym g.is) (walk_ok laws m states c xs x.instr.next_pc g.flow runs.2 (λ q le. same q (omega arith) ∙ placed_behind laws m.code pc (length m.code) x xs q runs le) g.fits)
 
-pub complete : (laws : ListingLaws) (m : Method) (states : List Stated) (c : Carries m states) → findings_of m c.listing states ≡ Ok tt
+pub complete : (laws : ListingLaws word_instr_at) (m : Method) (states : List Stated) (c : Carries m states) → findings_of m c.listing states ≡ Ok tt
 unfolding findings_of
 complete laws m states c =
     let g = falls_goes m states c.typing (entry_of m) 0 c.entry.0 c.entry.1 in

@@ -4,7 +4,7 @@ use Rattle.std.specs.Prelude.{replicate}
 use Rattle.std.proofs.lemmas.List.{length-replicate}
 use Rattle.std.proofs.lemmas.Bool.{cases_eq, eq-eqb, ne_eqb}
 use Rattle.jc_code.specs.declared.instr.Instr.{Instr}
-use Rattle.jc_code.specs.Decoding.{instr_at}
+use Rattle.jc_code.specs.Instructions.{word_instr_at}
 use Rattle.jc_code.specs.Listing.{PlacedInstr, StandBetween, IsListing, begins}
 use Rattle.jc_check.proofs.Listings.{stand-append, begins-push}
 use Rattle.jc_check.specs.declared.mark.Mark.{Mark}
@@ -14,7 +14,7 @@ use Rattle.jc_check.specs.PrivateMarks.{mark_of, MarksStarts, placed}
 -- what is marked once the instructions up to a pc have been decoded
 pub record SoFar (code : List ℕ) (pc : ℕ) (marks : List Mark) : Type 0 where
   pub front : List PlacedInstr
-  pub runs : StandBetween code 0 front pc
+  pub runs : StandBetween word_instr_at code 0 front pc
   pub within : pc ≤ length code
   pub marked : MarksStarts code front marks
 
@@ -56,7 +56,7 @@ one_more code pc i front marks lt marked = record {
   ];
 }
 
-pub goes_on : (code : List ℕ) (pc : ℕ) (i : Instr) (marks : List Mark) → pc < length code → instr_at code pc ≡ Ok i → i.next_pc ≤ length code → SoFar code pc marks → SoFar code i.next_pc (set marks pc Start)
+pub goes_on : (code : List ℕ) (pc : ℕ) (i : Instr) (marks : List Mark) → pc < length code → word_instr_at code pc ≡ Ok i → i.next_pc ≤ length code → SoFar code pc marks → SoFar code i.next_pc (set marks pc Start)
 goes_on code pc i marks lt at within s = record {
   front = s.front ++ placed pc i ∷ [];
   runs = stand-append code 0 pc i.next_pc s.front (placed pc i ∷ []) s.runs (refl, at, refl);
@@ -64,8 +64,8 @@ goes_on code pc i marks lt at within s = record {
   marked = one_more code pc i s.front marks lt s.marked;
 }
 
-pub is_done : (code : List ℕ) (pc : ℕ) (marks : List Mark) → length code ≤ pc → SoFar code pc marks → (listing : List PlacedInstr) × IsListing code listing × MarksStarts code listing marks
+pub is_done : (code : List ℕ) (pc : ℕ) (marks : List Mark) → length code ≤ pc → SoFar code pc marks → (listing : List PlacedInstr) × IsListing word_instr_at code listing × MarksStarts code listing marks
 is_done code pc marks le s =
     let end : pc ≡ length code = omega (arith, s.within) in
-    let R : ℕ → Type 0 = λ n. StandBetween code 0 s.front n in
+    let R : ℕ → Type 0 = λ n. StandBetween word_instr_at code 0 s.front n in
     (s.front, subst R end s.runs, s.marked)

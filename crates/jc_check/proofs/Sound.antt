@@ -5,12 +5,13 @@ use Rattle.std.proofs.lemmas.Bool.{ltb-true, ltb-false, eqb-true, eq-eqb, ne_eqb
 use Rattle.jc_base.specs.declared.reason.Reason.{Reason}
 use Rattle.jc_base.specs.declared.reason.Reason.TheVariants.{CertMismatch, FallsOff, NoTarget}
 use Rattle.jc_base.proofs.Binding.{both_true, bind_ok, guard_ok, the_ok, the_some, none_some, choice}
+use Rattle.jc_code.specs.Instructions.{word_instr_at}
 use Rattle.jc_code.specs.Listing.{PlacedInstr, StandBetween, IsListing, placed_at, begins, ListingLaws}
 use Rattle.jc_code.specs.Targets.{targets_of, falls_of}
 use Rattle.jc_types.specs.State.{Types, types_below}
-use Rattle.jc_step.specs.Effect.{effect_of}
 use Rattle.jc_cert.specs.Cert.{Stated}
 use Rattle.jc_check.specs.Method.{Method, entry_of}
+use Rattle.jc_check.specs.WordEffect.{word_effect}
 use Rattle.jc_check.specs.Typing.{Typing}
 use Rattle.jc_check.specs.Carried.{state_at, has_shape, Stands, Arrives, GoesOn, NothingGoesOn, GoesOnIf, IsCarriedAt, Carries}
 use Rattle.jc_check.specs.FirstFault.{told_at, fault_at, states_stand, meets, arrives, all_arrive, flows, falls_to, falls_if, visit_live, visit_on, visit, walk, findings_of}
@@ -89,16 +90,16 @@ later : (m : Method) (listing : List PlacedInstr) (states : List Stated) (flow :
 later m listing states flow x xs q f v ne = rw (ne_eqb x.pc q ne, v) refl
 
 -- at the first pc it is the certificate's state, or else what flows in
-first_state : (m : Method) (listing : List PlacedInstr) (states : List Stated) (flow : Option Types) (xs : List PlacedInstr) (pc : ℕ) → StandBetween m.code pc xs (length m.code) → pc < length m.code → typing_of m listing states flow xs pc ≡ choose (state_at states pc) flow
+first_state : (m : Method) (listing : List PlacedInstr) (states : List Stated) (flow : Option Types) (xs : List PlacedInstr) (pc : ℕ) → StandBetween word_instr_at m.code pc xs (length m.code) → pc < length m.code → typing_of m listing states flow xs pc ≡ choose (state_at states pc) flow
 first_state m listing states flow [] pc runs lt = absurd (omega (arith, runs))
 first_state m listing states flow (x ∷ xs) pc runs lt = rw (eq-eqb x.pc pc runs.0) refl
 
 -- where nothing flows in and the certificate has nothing, there is no state
-first_none : (m : Method) (listing : List PlacedInstr) (states : List Stated) (xs : List PlacedInstr) (pc : ℕ) → StandBetween m.code pc xs (length m.code) → state_at states pc ≡ None → typing_of m listing states None xs pc ≡ None
+first_none : (m : Method) (listing : List PlacedInstr) (states : List Stated) (xs : List PlacedInstr) (pc : ℕ) → StandBetween word_instr_at m.code pc xs (length m.code) → state_at states pc ≡ None → typing_of m listing states None xs pc ≡ None
 first_none m listing states [] pc runs e = refl
 first_none m listing states (x ∷ xs) pc runs e = rw (eq-eqb x.pc pc runs.0, e) refl
 
-nothing_goes : (m : Method) (listing : List PlacedInstr) (states : List Stated) (typing : Typing) (xs : List PlacedInstr) (pc : ℕ) → StandBetween m.code pc xs (length m.code) → typing pc ≡ typing_of m listing states None xs pc → NothingGoesOn (state_at states pc) (typing pc)
+nothing_goes : (m : Method) (listing : List PlacedInstr) (states : List Stated) (typing : Typing) (xs : List PlacedInstr) (pc : ℕ) → StandBetween word_instr_at m.code pc xs (length m.code) → typing pc ≡ typing_of m listing states None xs pc → NothingGoesOn (state_at states pc) (typing pc)
 nothing_goes m listing states typing xs pc runs same = by (state_at states pc) refl
   where
     by : (o : Option Types) → state_at states pc ≡ o → NothingGoesOn o (typing pc)
@@ -110,7 +111,7 @@ goes_by t None f state e h = e ∙ sym (the_ok _ _ h)
 goes_by t (Some c) f state e h = (guard_ok (types_below t c) (Ok None) CertMismatch f h).0
 
 -- what goes on behind an instruction
-behind : (m : Method) (listing : List PlacedInstr) (states : List Stated) (typing : Typing) (xs : List PlacedInstr) (falls : Bool) (t : Types) (pc : ℕ) (f : Option Types) → StandBetween m.code pc xs (length m.code)
+behind : (m : Method) (listing : List PlacedInstr) (states : List Stated) (typing : Typing) (xs : List PlacedInstr) (falls : Bool) (t : Types) (pc : ℕ) (f : Option Types) → StandBetween word_instr_at m.code pc xs (length m.code)
     → typing pc ≡ typing_of m listing states f xs pc → falls_if m states falls t pc ≡ Ok f → GoesOnIf m states typing falls t pc
 unfolding falls_to
 behind m listing states typing xs true t pc f runs same h =
@@ -140,11 +141,11 @@ all_arrived listing states t (p ∷ ps) h =
     (arrived listing states t p g.1, all_arrived listing states t ps g.2)
 
 -- an instruction at which no fault is found is carried
-live_carried : (m : Method) (listing : List PlacedInstr) (states : List Stated) (typing : Typing) (x : PlacedInstr) (xs : List PlacedInstr) (s : Types) (f : Option Types) → StandBetween m.code x.instr.next_pc xs (length m.code)
+live_carried : (m : Method) (listing : List PlacedInstr) (states : List Stated) (typing : Typing) (x : PlacedInstr) (xs : List PlacedInstr) (s : Types) (f : Option Types) → StandBetween word_instr_at m.code x.instr.next_pc xs (length m.code)
     → typing x.instr.next_pc ≡ typing_of m listing states f xs x.instr.next_pc → visit_live m listing states x s ≡ Ok f → IsCarriedAt m listing states typing x s
 unfolding visit_live
 live_carried m listing states typing x xs s f runs same h =
-    let one = bind_ok (effect_of m.max_stack m.returned x.instr.operation s) _ f h in
+    let one = bind_ok (word_effect m.max_stack m.returned x.instr.operation s) _ f h in
     let two = bind_ok (all_arrive listing states one.0 (targets_of x.pc x.instr.operation)) _ f one.2 in
     record {
       after = one.0;
@@ -159,7 +160,7 @@ record AtPlace (m : Method) (listing : List PlacedInstr) (states : List Stated) 
   pub dead : typing pc ≡ None → NothingGoesOn (state_at states x.instr.next_pc) (typing x.instr.next_pc)
 
 -- by what the certificate has there, and what flows in
-visited : (m : Method) (listing : List PlacedInstr) (states : List Stated) (typing : Typing) (x : PlacedInstr) (xs : List PlacedInstr) (o flow f : Option Types) → StandBetween m.code x.instr.next_pc xs (length m.code)
+visited : (m : Method) (listing : List PlacedInstr) (states : List Stated) (typing : Typing) (x : PlacedInstr) (xs : List PlacedInstr) (o flow f : Option Types) → StandBetween word_instr_at m.code x.instr.next_pc xs (length m.code)
     → typing x.instr.next_pc ≡ typing_of m listing states f xs x.instr.next_pc → typing x.pc ≡ choose o flow → visit_on m listing states x o flow ≡ Ok f → AtPlace m listing states typing x.pc x
 visited m listing states typing x xs (Some c) flow f runs same is h =
     let C : Types → Type 0 = λ v. IsCarriedAt m listing states typing x v in record {
@@ -179,7 +180,7 @@ visited m listing states typing x xs None None f runs same is h =
     }
 
 -- from a pc on, each instruction
-each_place : (laws : ListingLaws) (m : Method) (listing : List PlacedInstr) (states : List Stated) (typing : Typing) (flow : Option Types) (xs : List PlacedInstr) (pc : ℕ) → StandBetween m.code pc xs (length m.code)
+each_place : (laws : ListingLaws word_instr_at) (m : Method) (listing : List PlacedInstr) (states : List Stated) (typing : Typing) (flow : Option Types) (xs : List PlacedInstr) (pc : ℕ) → StandBetween word_instr_at m.code pc xs (length m.code)
     → ((q : ℕ) → pc ≤ q → typing q ≡ typing_of m listing states flow xs q) → walk m listing states flow xs ≡ Ok tt → (q : ℕ) (y : PlacedInstr) → placed_at xs q ≡ Some y → AtPlace m listing states typing q y
 unfolding walk visit placed_at
 each_place laws m listing states typing flow [] pc runs same h q y e = absurd (none_some y e)
@@ -199,7 +200,7 @@ each_place laws m listing states typing flow (x ∷ xs) pc runs same h q y e =
       | inr p ↦ each_place laws m listing states typing one.0 xs x.instr.next_pc runs.2 next one.2 q y p.1
     ]
 
-pub sound : (laws : ListingLaws) (m : Method) (listing : List PlacedInstr) (states : List Stated) → IsListing m.code listing → findings_of m listing states ≡ Ok tt → Carries m states
+pub sound : (laws : ListingLaws word_instr_at) (m : Method) (listing : List PlacedInstr) (states : List Stated) → IsListing word_instr_at m.code listing → findings_of m listing states ≡ Ok tt → Carries m states
 unfolding findings_of
 sound laws m listing states whole h =
     let one = bind_ok (states_stand m listing states) _ tt h in

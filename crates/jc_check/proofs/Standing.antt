@@ -7,6 +7,7 @@ use Rattle.std.proofs.lemmas.List.{length-take-le}
 use Rattle.jc_base.specs.declared.reason.Reason.TheVariants.{CertMismatch}
 use Rattle.jc_base.proofs.Binding.{none_some, the_some}
 use Rattle.jc_types.specs.State.{Types}
+use Rattle.jc_code.specs.Instructions.{word_instr_at}
 use Rattle.jc_code.specs.Listing.{PlacedInstr, IsListing, begins, ListingLaws}
 use Rattle.jc_check.proofs.Listings.{none_past}
 use Rattle.jc_cert.specs.declared.cert.StateRow.{StateRow}
@@ -108,7 +109,7 @@ pub record StatesSoFar (m : Method) (listing : List PlacedInstr) (states : List 
   pub rest : states_stand m listing (drop k states) ≡ states_stand m listing states
   pub table : IsTable m listing (take k states) marks
 
-pub no_states : (laws : ListingLaws) (m : Method) (listing : List PlacedInstr) (states : List Stated) (marks : List Mark) → IsListing m.code listing → MarksStarts m.code listing marks → StatesSoFar m listing states 0 marks
+pub no_states : (laws : ListingLaws word_instr_at) (m : Method) (listing : List PlacedInstr) (states : List Stated) (marks : List Mark) → IsListing word_instr_at m.code listing → MarksStarts m.code listing marks → StatesSoFar m listing states 0 marks
 unfolding state_at
 no_states laws m listing states marks whole marked = record {
   rest = refl;

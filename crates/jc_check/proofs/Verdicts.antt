@@ -8,6 +8,7 @@ use Rattle.jc_base.specs.declared.reason.Reason.{Reason}
 use Rattle.jc_base.specs.declared.reason.Reason.TheVariants.{FallsOff}
 use Rattle.jc_base.proofs.Binding.{ok_err, the_some}
 use Rattle.jc_code.specs.declared.fault.CodeFault.{CodeFault}
+use Rattle.jc_code.specs.Instructions.{word_instr_at}
 use Rattle.jc_code.specs.Listing.{PlacedInstr, IsListing, StopsAt, ListingLaws}
 use Rattle.jc_types.specs.State.{Types, StateWithRoom}
 use Rattle.jc_cert.specs.Cert.{Stated, Row}
@@ -43,7 +44,7 @@ unfolding findings_of
 findings_stop m listing states fault e = rw e refl
 
 -- where the states carry the method there is no first fault
-pub no_fault : (laws : ListingLaws) (m : Method) (states : List Stated) (fault : Fault) → IsFirstFault m states fault → Carries m states → ⊥
+pub no_fault : (laws : ListingLaws word_instr_at) (m : Method) (states : List Stated) (fault : Fault) → IsFirstFault m states fault → Carries m states → ⊥
 no_fault laws m states fault (empty e) c = let n : length m.code ≡ 0 = ap (λ (w : List ℕ). length w) e in omega (arith, c.entry.0)
 no_fault laws m states fault (undecoded pc why s) c = laws.never_both m.code c.listing pc why c.whole s
 no_fault laws m states fault (found listing f whole some e) c =
@@ -52,15 +53,15 @@ no_fault laws m states fault (found listing f whole some e) c =
     ok_err tt f (sym (complete laws m states c) ∙ subst V same e)
 
 -- what is found in code that decodes decides
-by_findings : (laws : ListingLaws) (m : Method) (states : List Stated) (listing : List PlacedInstr) (r : Result ⊤ Fault) → IsListing m.code listing → m.code ≢ [] → findings_of m listing states ≡ r → Carries m states ⊎ ((fault : Fault) × IsFirstFault m states fault)
+by_findings : (laws : ListingLaws word_instr_at) (m : Method) (states : List Stated) (listing : List PlacedInstr) (r : Result ⊤ Fault) → IsListing word_instr_at m.code listing → m.code ≢ [] → findings_of m listing states ≡ r → Carries m states ⊎ ((fault : Fault) × IsFirstFault m states fault)
 by_findings laws m states listing (Ok x) whole some e = inl (sound laws m listing states whole e)
 by_findings laws m states listing (Err fault) whole some e = inr (fault, found listing fault whole some e)
 
-by_decoding : (laws : ListingLaws) (m : Method) (states : List Stated) → m.code ≢ [] → ((listing : List PlacedInstr) × IsListing m.code listing) ⊎ ((pc : ℕ) × (fault : CodeFault) × StopsAt m.code pc fault) → Carries m states ⊎ ((fault : Fault) × IsFirstFault m states fault)
+by_decoding : (laws : ListingLaws word_instr_at) (m : Method) (states : List Stated) → m.code ≢ [] → ((listing : List PlacedInstr) × IsListing word_instr_at m.code listing) ⊎ ((pc : ℕ) × (fault : CodeFault) × StopsAt word_instr_at m.code pc fault) → Carries m states ⊎ ((fault : Fault) × IsFirstFault m states fault)
 by_decoding laws m states some (inl listed) = by_findings laws m states listed.0 (findings_of m listed.0 states) listed.1 some refl
 by_decoding laws m states some (inr stop) = inr (fault_at stop.0 (reason_of stop.1), undecoded stop.0 stop.1 stop.2)
 
-by_length : (laws : ListingLaws) (m : Method) (states : List Stated) (code : List ℕ) → m.code ≡ code → Carries m states ⊎ ((fault : Fault) × IsFirstFault m states fault)
+by_length : (laws : ListingLaws word_instr_at) (m : Method) (states : List Stated) (code : List ℕ) → m.code ≡ code → Carries m states ⊎ ((fault : Fault) × IsFirstFault m states fault)
 by_length laws m states [] e = inr (fault_at 0 FallsOff, empty e)
 by_length laws m states (b ∷ bytes) e = by_decoding laws m states (λ nil. no_bytes b bytes (sym e ∙ nil)) (laws.decides m.code)
   where
@@ -68,11 +69,11 @@ by_length laws m states (b ∷ bytes) e = by_decoding laws m states (λ nil. no_
     no_bytes b bytes h = cc
 
 -- each method is carried or has a first fault
-pub either : (laws : ListingLaws) (m : Method) (states : List Stated) → Carries m states ⊎ ((fault : Fault) × IsFirstFault m states fault)
+pub either : (laws : ListingLaws word_instr_at) (m : Method) (states : List Stated) → Carries m states ⊎ ((fault : Fault) × IsFirstFault m states fault)
 either laws m states = by_length laws m states m.code refl
 
 -- decoding stops nowhere in code without a byte
-no_stop : (code : List ℕ) (pc : ℕ) (why : CodeFault) → code ≡ [] → StopsAt code pc why → ⊥
+no_stop : (code : List ℕ) (pc : ℕ) (why : CodeFault) → code ≡ [] → StopsAt word_instr_at code pc why → ⊥
 no_stop code pc why e s = let n : length code ≡ 0 = ap (λ (w : List ℕ). length w) e in omega (arith, s.within)
 
 told_the_same : (p q : ℕ) (a b : CodeFault) → p ≡ q → a ≡ b → fault_at p (reason_of a) ≡ fault_at q (reason_of b)
@@ -82,7 +83,7 @@ the_err : (a b : Fault) → ◌≡◌ {A = Result ⊤ Fault} (Err a) (Err b) →
 the_err a b e = cc
 
 -- a method has one first fault
-pub one_fault : (laws : ListingLaws) (m : Method) (states : List Stated) (a b : Fault) → IsFirstFault m states a → IsFirstFault m states b → a ≡ b
+pub one_fault : (laws : ListingLaws word_instr_at) (m : Method) (states : List Stated) (a b : Fault) → IsFirstFault m states a → IsFirstFault m states b → a ≡ b
 one_fault laws m states a b (empty e) (empty f) = refl
 one_fault laws m states a b (empty e) (undecoded pc why s) = absurd (no_stop m.code pc why e s)
 one_fault laws m states a b (empty e) (found listing f whole some g) = absurd (some e)
@@ -96,21 +97,21 @@ one_fault laws m states a b (found k f u some g) (found l h v other i) =
     let V : List PlacedInstr → Type 0 = λ z. findings_of m z states ≡ Err f in
     the_err f h (sym (subst V same g) ∙ i)
 
-pub stopped : (m : Method) (states : List Stated) (f : Fault) → ((why : CodeFault) × StopsAt m.code f.pc why × (f.reason ≡ reason_of why)) → IsFirstFault m states f
+pub stopped : (m : Method) (states : List Stated) (f : Fault) → ((why : CodeFault) × StopsAt word_instr_at m.code f.pc why × (f.reason ≡ reason_of why)) → IsFirstFault m states f
 stopped m states f h =
     let F : Fault → Type 0 = λ g. IsFirstFault m states g in
     subst F (ap (λ (r : Reason). fault_at f.pc r) (sym h.2)) (undecoded f.pc h.0 h.1)
 
 -- what is found is the first fault, and nothing is found only where the states carry the method
-pub accepted : (laws : ListingLaws) (r : Result ⊤ Fault) (m : Method) (listing : List PlacedInstr) (states : List Stated) → IsListing m.code listing → states_stand m listing states ≡ Ok tt → r ≡ flow_findings_of m listing states → OnOk r (Carries m states)
+pub accepted : (laws : ListingLaws word_instr_at) (r : Result ⊤ Fault) (m : Method) (listing : List PlacedInstr) (states : List Stated) → IsListing word_instr_at m.code listing → states_stand m listing states ≡ Ok tt → r ≡ flow_findings_of m listing states → OnOk r (Carries m states)
 accepted laws (Ok x) m listing states whole stand v = sound laws m listing states whole (findings_are m listing states stand ∙ sym v)
 accepted laws (Err fault) m listing states whole stand v = tt
 
-pub refused : (r : Result ⊤ Fault) (m : Method) (listing : List PlacedInstr) (states : List Stated) → IsListing m.code listing → m.code ≢ [] → states_stand m listing states ≡ Ok tt → r ≡ flow_findings_of m listing states → IfErr r (λ f. IsFirstFault m states f)
+pub refused : (r : Result ⊤ Fault) (m : Method) (listing : List PlacedInstr) (states : List Stated) → IsListing word_instr_at m.code listing → m.code ≢ [] → states_stand m listing states ≡ Ok tt → r ≡ flow_findings_of m listing states → IfErr r (λ f. IsFirstFault m states f)
 refused (Ok x) m listing states whole some stand v = tt
 refused (Err fault) m listing states whole some stand v = found listing fault whole some (findings_are m listing states stand ∙ sym v)
 
-pub refused_states : (m : Method) (listing : List PlacedInstr) (states : List Stated) (fault : Fault) → IsListing m.code listing → m.code ≢ [] → states_stand m listing states ≡ Err fault → IsFirstFault m states fault
+pub refused_states : (m : Method) (listing : List PlacedInstr) (states : List Stated) (fault : Fault) → IsListing word_instr_at m.code listing → m.code ≢ [] → states_stand m listing states ≡ Err fault → IsFirstFault m states fault
 refused_states m listing states fault whole some e = found listing fault whole some (findings_stop m listing states fault e)
 
 -- where a certificate carries the code, only memory can be wanting

@@ -2,12 +2,13 @@
 -- from instruction to instruction, and it is well typed.
 use Rattle.std.specs.Prelude.{⊤, ◌≡◌, ℕ, ℤ, pos, ◌+◌, ◌^◌, ◌<◌, ◌==◌, ◌&&◌, List, [], ◌∷◌, length, Option, Some, None, Ok, Bool, true, false, nat_le, if◌then◌else◌}
 use Rattle.std.specs.List.{AllByRecursion}
+use Rattle.jc_code.specs.Instructions.{word_instr_at}
 use Rattle.jc_code.specs.Listing.{PlacedInstr, IsListing, placed_at, begins}
 use Rattle.jc_code.specs.Targets.{targets_of, falls_of}
 use Rattle.jc_types.specs.State.{Types, types_below, stated_types}
-use Rattle.jc_step.specs.Effect.{effect_of}
 use Rattle.jc_cert.specs.Cert.{Stated, Row}
 use Rattle.jc_check.specs.Method.{Method, entry_of, word_method, states_of}
+use Rattle.jc_check.specs.WordEffect.{word_effect}
 use Rattle.jc_check.specs.Typing.{Typing}
 
 -- the types of a certificate's state
@@ -55,7 +56,7 @@ GoesOnIf m states typing false t pc = NothingGoesOn (state_at states pc) (typing
 -- an instruction has an effect on the state before it, and the state after goes where the certificate says
 pub record IsCarriedAt (m : Method) (listing : List PlacedInstr) (states : List Stated) (typing : Typing) (x : PlacedInstr) (s : Types) : Type 0 where
   pub after : Types
-  pub effect : effect_of m.max_stack m.returned x.instr.operation s ≡ Ok after
+  pub effect : word_effect m.max_stack m.returned x.instr.operation s ≡ Ok after
   pub branches : AllByRecursion (Arrives listing states after) (targets_of x.pc x.instr.operation)
   pub behind : GoesOnIf m states typing (falls_of x.instr.operation) after x.instr.next_pc
 
@@ -63,7 +64,7 @@ pub record IsCarriedAt (m : Method) (listing : List PlacedInstr) (states : List 
 pub record Carries (m : Method) (states : List Stated) : Type 0 where
   -- the code decodes
   pub listing : List PlacedInstr
-  pub whole : IsListing m.code listing
+  pub whole : IsListing word_instr_at m.code listing
   -- each state stands where an instruction begins, in the method's shape
   pub fitting : AllByRecursion (Stands m listing) states
   -- there is a typing, of starts of instructions alone

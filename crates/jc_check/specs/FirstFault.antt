@@ -7,13 +7,14 @@ use Rattle.jc_base.specs.declared.reason.Reason.TheVariants as reasons
 use Rattle.jc_base.specs.Results.{◌>>=◌}
 use Rattle.jc_code.specs.declared.fault.CodeFault.{CodeFault}
 use Rattle.jc_code.specs.declared.fault.CodeFault.TheVariants as faults
+use Rattle.jc_code.specs.Instructions.{word_instr_at}
 use Rattle.jc_code.specs.Listing.{PlacedInstr, IsListing, StopsAt, begins}
 use Rattle.jc_code.specs.Targets.{targets_of, falls_of}
 use Rattle.jc_types.specs.State.{Types, types_below}
-use Rattle.jc_step.specs.Effect.{effect_of}
 use Rattle.jc_cert.specs.Cert.{Stated}
 use Rattle.jc_check.specs.declared.fault.Fault.{Fault}
 use Rattle.jc_check.specs.Method.{Method, entry_of, word_method}
+use Rattle.jc_check.specs.WordEffect.{word_effect}
 use Rattle.jc_check.specs.Carried.{state_at, has_shape}
 
 abbrev pub told_at : {A : Type 0} → ℕ → Result A Reason → Result A Fault
@@ -53,7 +54,7 @@ falls_if m states falls t pc = if falls then falls_to m states t pc else Ok None
 -- an instruction on a state: its effect, its branches, and then what goes on behind it
 unfoldable pub visit_live : Method → List PlacedInstr → List Stated → PlacedInstr → Types → Result (Option Types) Reason
 visit_live m listing states x s = do
-  after ← effect_of m.max_stack m.returned x.instr.operation s
+  after ← word_effect m.max_stack m.returned x.instr.operation s
   _ ← all_arrive listing states after (targets_of x.pc x.instr.operation)
   falls_if m states (falls_of x.instr.operation) after x.instr.next_pc
 
@@ -90,8 +91,8 @@ fault_at pc reason = record { pc = pc; reason = reason }
 
 pub data IsFirstFault (m : Method) (states : List Stated) : Fault → Type 0 where
   empty : m.code ≡ [] → IsFirstFault m states (fault_at 0 FallsOff)
-  undecoded : (pc : ℕ) (fault : CodeFault) → StopsAt m.code pc fault → IsFirstFault m states (fault_at pc (reason_of fault))
-  found : (listing : List PlacedInstr) (fault : Fault) → IsListing m.code listing → m.code ≢ [] → findings_of m listing states ≡ Err fault → IsFirstFault m states fault
+  undecoded : (pc : ℕ) (fault : CodeFault) → StopsAt word_instr_at m.code pc fault → IsFirstFault m states (fault_at pc (reason_of fault))
+  found : (listing : List PlacedInstr) (fault : Fault) → IsListing word_instr_at m.code listing → m.code ≢ [] → findings_of m listing states ≡ Err fault → IsFirstFault m states fault
 
 -- the first fault of code alone with a certificate
 abbrev pub IsFirstFaultOf : List ℕ → Option (List Stated) → Fault → Type 0

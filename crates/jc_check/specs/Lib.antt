@@ -1,5 +1,6 @@
 pub mod Fault
 pub mod Method
+pub mod WordEffect
 pub mod Typing
 pub mod Carried
 pub mod FirstFault

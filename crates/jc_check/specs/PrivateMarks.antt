@@ -1,6 +1,7 @@
 -- Private. The table of marks that the check keeps beside the code, and what its steps leave.
 use Rattle.std.specs.Prelude.{⊤, ◌≡◌, ℕ, ◌+◌, ◌<◌, ◌≤◌, List, length, Option, Some, None, Result, Ok, Err, Bool, true, false, slice_get, slice_index_or, if◌then◌else◌}
 use Rattle.jc_base.specs.declared.reason.Reason.{Reason}
+use Rattle.jc_code.specs.Instructions.{word_instr_at}
 use Rattle.jc_code.specs.Listing.{PlacedInstr, IsListing, begins}
 use Rattle.jc_types.specs.State.{Types, StateWithRoom}
 use Rattle.jc_code.specs.declared.instr.Instr.{Instr}
@@ -37,7 +38,7 @@ IsMark m listing states pc Start = (begins listing pc ≡ true) × (state_at sta
 IsMark m listing states pc (Holds k) = IsHeld m listing states pc k
 
 pub record IsTable (m : Method) (listing : List PlacedInstr) (states : List Stated) (marks : List Mark) : Type 0 where
-  pub whole : IsListing m.code listing
+  pub whole : IsListing word_instr_at m.code listing
   pub len : length marks ≡ length m.code
   pub past : (pc : ℕ) → length m.code ≤ pc → begins listing pc ≡ false
   pub each : (pc : ℕ) → pc < length m.code → IsMark m listing states pc (slice_index_or marks pc Inside)

@@ -3,11 +3,12 @@
 use Rattle.std.specs.Prelude.{◌≡◌, ℕ, ℤ, pos, List, Option, Some, true}
 use Rattle.std.specs.List.{AllByRecursion}
 use Rattle.std.specs.Prelude.{Ok}
+use Rattle.jc_code.specs.Instructions.{word_instr_at}
 use Rattle.jc_code.specs.Listing.{PlacedInstr, IsListing, placed_at}
 use Rattle.jc_code.specs.Targets.{targets_of, falls_of}
 use Rattle.jc_types.specs.State.{Types, types_below}
-use Rattle.jc_step.specs.Effect.{effect_of}
 use Rattle.jc_check.specs.Method.{Method, entry_of, word_method}
+use Rattle.jc_check.specs.WordEffect.{word_effect}
 
 -- a typing has a state at some pcs
 abbrev pub Typing : Type 0
@@ -28,7 +29,7 @@ pub record BranchLeads (typing : Typing) (t : Types) (place : ℤ) : Type 0 wher
 -- an instruction has an effect on the state before it, and leads only to places whose states are above the state after
 pub record IsFine (m : Method) (typing : Typing) (x : PlacedInstr) (s : Types) : Type 0 where
   pub after : Types
-  pub effect : effect_of m.max_stack m.returned x.instr.operation s ≡ Ok after
+  pub effect : word_effect m.max_stack m.returned x.instr.operation s ≡ Ok after
   pub branches : AllByRecursion (BranchLeads typing after) (targets_of x.pc x.instr.operation)
   pub falls : falls_of x.instr.operation ≡ true → Leads typing after x.instr.next_pc
 
@@ -41,7 +42,7 @@ pub record IsFineAt (m : Method) (typing : Typing) (listing : List PlacedInstr) 
 -- the entry state lies below the state at pc 0, and where the typing has a state an instruction begins and is fine
 pub record IsTyping (m : Method) (typing : Typing) : Type 0 where
   pub listing : List PlacedInstr
-  pub whole : IsListing m.code listing
+  pub whole : IsListing word_instr_at m.code listing
   pub entry : Leads typing (entry_of m) 0
   pub each : (pc : ℕ) (s : Types) → typing pc ≡ Some s → IsFineAt m typing listing pc s
 

@@ -1,13 +1,16 @@
 //! The pass over the instructions by ascending pc, with one state that is changed in place.
 
-ghost use Rattle.std.specs.Prelude.{◌≡◌, ◌<◌, ◌^◌, ℤ, Some, List, map, length, pos, slice_get};
+ghost use Rattle.std.specs.Option.{option_copied};
+ghost use Rattle.std.specs.Prelude.{◌≡◌, ◌<◌, ◌≤◌, ◌^◌, ℤ, Some, List, map, length, pos, slice_get};
 ghost use Rattle.jc_code.specs.Listing.{PlacedInstr};
-ghost use Rattle.jc_code.specs.Decoding.{instr_at};
+ghost use Rattle.jc_code.specs.Instructions.{word_instr_at};
 ghost use Rattle.jc_code.specs.Targets.{targets_of};
 ghost use Rattle.jc_cert.specs.Cert.{stated};
+ghost use Rattle.jc_types.specs.Changes.{Became};
 ghost use Rattle.jc_types.specs.State.{types_below};
 ghost use Rattle.jc_check.specs.Carried.{has_shape, types_of};
 ghost use Rattle.jc_check.specs.FirstFault.{arrives, all_arrive, falls_to, visit_live, visit, walk};
+ghost use Rattle.jc_check.specs.WordEffect.{word_effect};
 ghost use Rattle.jc_check.specs.PrivateMarks.{IsTable, AreSafe, Flowed, flowing, HasRoom, placed};
 
 use crate::fault::Fault;
@@ -15,9 +18,9 @@ use crate::mark::Mark;
 use crate::method::Method;
 use jc_base::Reason;
 use jc_cert::StateRow;
-use jc_code::{Instr, Targets, decode, listing_laws};
+use jc_code::{Instr, Operation, Targets, decode_words, listing_laws};
 use jc_step::transfer_words;
-use jc_types::State;
+use jc_types::{State, Ty};
 
 /// What the pass goes by: the method, the table of its marks, and the certificate's states.
 #[derive(Drop)]
@@ -107,6 +110,24 @@ pub(crate) fn fall_to(input: &PassInput, state: &State, pc: usize) -> Result<boo
     }
 }
 
+/// The effect of an instruction of code alone, which has those on words.
+fn transfer(
+    instr: &Instr,
+    state: &mut State,
+    max_stack: u8,
+    returned: Option<&Ty>,
+) -> Result<(), Reason>
+    requires { max_stack ≤ state.old.room }
+    ensures became { Became result state.new.types (word_effect max_stack (option_copied returned.entry) instr.now.operation state.old.types) }
+    ensures room { state.new.room ≡ state.old.room }
+    ensures locals { length state.new.types.locals ≡ length state.old.types.locals }
+{
+    match &instr.operation {
+        Operation::Word(operation) => transfer_words(operation, state, max_stack, returned),
+        Operation::Object(_) => Err(Reason::BadOpcode),
+    }
+}
+
 /// An instruction on the state before it: whether the state goes on to the instruction behind it.
 #[tactic(auto, unfolding(crate::specs::FirstFault::visit_live))]
 fn visit_live_at(
@@ -122,7 +143,7 @@ fn visit_live_at(
     ensures room { HasRoom input.now.method.now state.new }
 {
     let method = input.method;
-    transfer_words(instr, state, method.max_stack, method.returned.as_ref())?;
+    transfer(instr, state, method.max_stack, method.returned.as_ref())?;
     arrive_all(input, state, pc, instr)?;
     if instr.falls_through() {
         fall_to(input, state, instr.next_pc)
@@ -179,7 +200,7 @@ pub(crate) fn walk_code(input: &PassInput, state: &mut State, live: bool) -> Res
     let mut live = live;
     let mut pc = 0;
     while pc < code.len() {
-        let Ok(instr) = decode(code, pc) else {
+        let Ok(instr) = decode_words(code, pc) else {
             unreachable!()
         };
         match visit_at(input, state, live, pc as u16, &instr) {

@@ -1,6 +1,7 @@
 //! The table of marks: where instructions begin, and where the certificate has a state.
 
 ghost use Rattle.std.specs.Prelude.{◌≡◌, ◌<◌, ◌^◌, ℕ, List, map, length, replicate, IfOk, IfErr, OnOk};
+ghost use Rattle.jc_code.specs.Instructions.{word_instr_at};
 ghost use Rattle.jc_code.specs.Listing.{PlacedInstr, IsListing, StopsAt};
 ghost use Rattle.jc_cert.specs.Cert.{stated};
 ghost use Rattle.jc_check.specs.FirstFault.{reason_of};
@@ -14,7 +15,7 @@ use crate::mark::Mark;
 use crate::method::Method;
 use jc_base::Reason;
 use jc_cert::StateRow;
-use jc_code::{CodeFault, decode, listing_laws};
+use jc_code::{CodeFault, decode_words, listing_laws};
 use std::alloc::{AllocError, Global};
 
 fn reason_for(fault: CodeFault) -> Reason
@@ -42,12 +43,12 @@ pub(crate) fn no_marks(alloc: Global, count: usize) -> Result<Vec<Mark>, AllocEr
 pub(crate) fn mark_starts(code: &[u8], marks: &mut [Mark]) -> Result<(), Fault>
     requires none { marks.old ≡ replicate (length code.now) Inside }
     requires short { length code.now < 2 ^ 16 }
-    ensures ok { OnOk result ((listing : List PlacedInstr) × IsListing code.now listing × MarksStarts code.now listing marks.new) }
-    ensures err { IfErr result (λ fault. (why : CodeFault) × StopsAt code.now fault.pc why × (fault.reason ≡ reason_of why)) }
+    ensures ok { OnOk result ((listing : List PlacedInstr) × IsListing word_instr_at code.now listing × MarksStarts code.now listing marks.new) }
+    ensures err { IfErr result (λ fault. (why : CodeFault) × StopsAt word_instr_at code.now fault.pc why × (fault.reason ≡ reason_of why)) }
 {
     let mut pc = 0;
     while pc < code.len() {
-        match decode(code, pc) {
+        match decode_words(code, pc) {
             Ok(instr) => {
                 marks[pc] = Mark::Start;
                 pc = instr.next_pc;
@@ -79,7 +80,7 @@ pub(crate) fn mark_states(
 ) -> Result<(), Fault>
     requires code { length method.now.code ≡ length marks.old }
     requires count { length states.now < 2 ^ 16 }
-    ensures { (listing : List PlacedInstr) → IsListing method.now.code listing → MarksStarts method.now.code listing marks.old → StatesMarked result method.now listing (map stated states.now) marks.new }
+    ensures { (listing : List PlacedInstr) → IsListing word_instr_at method.now.code listing → MarksStarts method.now.code listing marks.old → StatesMarked result method.now listing (map stated states.now) marks.new }
 {
     listing_laws();
     for index in 0..states.len() {

@@ -1,15 +1,12 @@
--- Reading goes forward: an instruction ends behind its pc, and within the code.
-use Rattle.std.proofs.Common.{◌≡◌, ℕ, suc, ◌+◌, ◌-◌, ◌*◌, ◌/◌, ◌%◌, ◌==◌, ◌≤◌, ◌<◌, List, [], ◌∷◌, length, take, drop, Bool, true, false, cond, nat_lt, Option, Some, None, Result, Ok, Err, ap, subst, arith, length-drop}
+-- Reading goes forward: what is left behind an operation on words is no more than there was.
+use Rattle.std.proofs.Common.{ℕ, ◌+◌, ◌-◌, ◌*◌, ◌/◌, ◌%◌, ◌==◌, ◌≤◌, List, [], ◌∷◌, length, take, drop, Bool, true, false, cond, nat_lt, Option, Some, None, Result, Ok, Err, arith, length-drop}
 use Rattle.std.specs.Prelude.{◌-ℤ◌, unsigned_abs, int_lt}
-use Rattle.jc_base.proofs.Binding.{the_some}
 use Rattle.jc_base.specs.Cursor.{Read, next_u1, next_u2, next_s1, next_s2, next_bytes}
 use Rattle.jc_base.specs.Results.{◌>>=◌}
 use Rattle.jc_code.specs.declared.fault.CodeFault.{CodeFault}
 use Rattle.jc_code.specs.declared.fault.CodeFault.TheVariants.{BadOpcode, BadOperand}
-use Rattle.jc_code.specs.declared.instr.Instr.{Instr}
-use Rattle.jc_code.specs.declared.instr.Operation.{Operation}
 use Rattle.jc_code.specs.Tables.{operand, next_offsets, next_cases, offsets_of_bytes, cases_of_bytes}
-use Rattle.jc_code.specs.Decoding.{listed, next_stable_switch, next_lookup_switch, next_wide_increment, when_of, next_wide_branch, next_control, next_branch, operator_of, next_arithmetic, is_duplicate, is_swap, next_shuffle, next_local, next_constant, next_operation, instr_of, instr_at}
+use Rattle.jc_code.specs.Decoding.{listed, next_stable_switch, next_lookup_switch, next_wide_increment, when_of, next_wide_branch, next_control, next_branch, operator_of, next_arithmetic, is_duplicate, is_swap, next_shuffle, next_local, next_constant}
 
 -- what is left is no longer than n
 abbrev pub Left : {A : Type 0} → ℕ → Result (Read A) CodeFault → Type 0
@@ -19,46 +16,46 @@ Left n (Err fault) = Unit {0}
 pub record IsLeft {A : Type 0} (n : ℕ) (read : Result (Read A) CodeFault) : Type 0 where
   pub left : Left n read
 
-abbrev Field : {A : Type 0} → ℕ → Option (Read A) → Type 0
+abbrev pub Field : {A : Type 0} → ℕ → Option (Read A) → Type 0
 Field n (Some read) = length read.rest ≤ n
 Field n None = Unit {0}
 
-field : {A B : Type 0} (n : ℕ) (o : Option (Read A)) (f : Read A → Result (Read B) CodeFault) → Field n o → ((r : Read A) → length r.rest ≤ n → IsLeft n (f r)) → IsLeft n (operand o >>= f)
+pub field : {A B : Type 0} (n : ℕ) (o : Option (Read A)) (f : Read A → Result (Read B) CodeFault) → Field n o → ((r : Read A) → length r.rest ≤ n → IsLeft n (f r)) → IsLeft n (operand o >>= f)
 field n (Some r) f h k = k r h
 field n None f h k = record { left = tt }
 
-read_on : {A B : Type 0} (n : ℕ) (r : Result (Read A) CodeFault) (f : Read A → Result (Read B) CodeFault) → IsLeft n r → ((r : Read A) → length r.rest ≤ n → IsLeft n (f r)) → IsLeft n (r >>= f)
+pub read_on : {A B : Type 0} (n : ℕ) (r : Result (Read A) CodeFault) (f : Read A → Result (Read B) CodeFault) → IsLeft n r → ((r : Read A) → length r.rest ≤ n → IsLeft n (f r)) → IsLeft n (r >>= f)
 read_on n (Ok r) f h k = k r h.left
 read_on n (Err fault) f h k = record { left = tt }
 
-chosen : {A : Type 0} (n : ℕ) (b : Bool) (x y : Result (Read A) CodeFault) → IsLeft n x → IsLeft n y → IsLeft n (cond b x y)
+pub chosen : {A : Type 0} (n : ℕ) (b : Bool) (x y : Result (Read A) CodeFault) → IsLeft n x → IsLeft n y → IsLeft n (cond b x y)
 chosen n true x y h k = h
 chosen n false x y h k = k
 
-either : {A B : Type 0} (n : ℕ) (o : Option A) (f : A → Result (Read B) CodeFault) (other : Result (Read B) CodeFault) → ((x : A) → IsLeft n (f x)) → IsLeft n other → IsLeft n (listed o f other)
+pub either : {A B : Type 0} (n : ℕ) (o : Option A) (f : A → Result (Read B) CodeFault) (other : Result (Read B) CodeFault) → ((x : A) → IsLeft n (f x)) → IsLeft n other → IsLeft n (listed o f other)
 either n (Some x) f other k h = k x
 either n None f other k h = h
 
-none : {A : Type 0} (n : ℕ) (fault : CodeFault) → IsLeft {A = A} n (Err fault)
+pub none : {A : Type 0} (n : ℕ) (fault : CodeFault) → IsLeft {A = A} n (Err fault)
 none n fault = record { left = tt }
 
-same : {A : Type 0} (n : ℕ) (x : A) (rest : List ℕ) → length rest ≤ n → IsLeft {A = A} n (Ok (record { value = x; rest = rest }))
+pub same : {A : Type 0} (n : ℕ) (x : A) (rest : List ℕ) → length rest ≤ n → IsLeft {A = A} n (Ok (record { value = x; rest = rest }))
 same n x rest le = record { left = le }
 
-u1_left : (n : ℕ) (bytes : List ℕ) → length bytes ≤ n → Field n (next_u1 bytes)
+pub u1_left : (n : ℕ) (bytes : List ℕ) → length bytes ≤ n → Field n (next_u1 bytes)
 u1_left n [] le = tt
 u1_left n (b ∷ rest) le = omega arith
 
-s1_left : (n : ℕ) (bytes : List ℕ) → length bytes ≤ n → Field n (next_s1 bytes)
+pub s1_left : (n : ℕ) (bytes : List ℕ) → length bytes ≤ n → Field n (next_s1 bytes)
 s1_left n [] le = tt
 s1_left n (b ∷ rest) le = omega arith
 
-u2_left : (n : ℕ) (bytes : List ℕ) → length bytes ≤ n → Field n (next_u2 bytes)
+pub u2_left : (n : ℕ) (bytes : List ℕ) → length bytes ≤ n → Field n (next_u2 bytes)
 u2_left n [] le = tt
 u2_left n (a ∷ []) le = tt
 u2_left n (a ∷ b ∷ rest) le = omega arith
 
-s2_left : (n : ℕ) (bytes : List ℕ) → length bytes ≤ n → Field n (next_s2 bytes)
+pub s2_left : (n : ℕ) (bytes : List ℕ) → length bytes ≤ n → Field n (next_s2 bytes)
 s2_left n [] le = tt
 s2_left n (a ∷ []) le = tt
 s2_left n (a ∷ b ∷ rest) le = omega arith
@@ -123,37 +120,8 @@ local_left n op bytes le =
     chosen n (op == 22) _ _ (field n (next_u1 bytes) _ (u1_left n bytes le) (λ r h. same n _ r.rest h)) (chosen n (op == 28) _ _ (same n _ bytes le) (chosen n (op == 29) _ _ (same n _ bytes le) (chosen n (op == 30) _ _ (same n _ bytes le) (chosen n (op == 31) _ _ (same n _ bytes le)
     (chosen n (op == 41) _ _ (field n (next_u1 bytes) _ (u1_left n bytes le) (λ r h. same n _ r.rest h)) (chosen n (op == 47) _ _ (same n _ bytes le) (chosen n (op == 48) _ _ (same n _ bytes le) (chosen n (op == 49) _ _ (same n _ bytes le) (chosen n (op == 50) _ _ (same n _ bytes le) (shuffle_left n op bytes le))))))))))
 
-operation_left : (n op : ℕ) (bytes : List ℕ) → length bytes ≤ n → IsLeft n (next_constant op bytes)
+pub words_left : (n op : ℕ) (bytes : List ℕ) → length bytes ≤ n → IsLeft n (next_constant op bytes)
 unfolding next_constant
-operation_left n op bytes le =
+words_left n op bytes le =
     chosen n (op == 0) _ _ (same n _ bytes le) (chosen n (op == 2) _ _ (same n _ bytes le) (chosen n (op == 3) _ _ (same n _ bytes le) (chosen n (op == 4) _ _ (same n _ bytes le) (chosen n (op == 5) _ _ (same n _ bytes le) (chosen n (op == 6) _ _ (same n _ bytes le) (chosen n (op == 7) _ _ (same n _ bytes le) (chosen n (op == 8) _ _ (same n _ bytes le)
     (chosen n (op == 16) _ _ (field n (next_s1 bytes) _ (s1_left n bytes le) (λ r h. same n _ r.rest h)) (chosen n (op == 17) _ _ (field n (next_s2 bytes) _ (s2_left n bytes le) (λ r h. same n _ r.rest h)) (local_left n op bytes le))))))))))
-
--- what is left behind a byte is one less than there was
-pub left_behind_byte : (bytes left : List ℕ) (x : ℕ) → next_u1 bytes ≡ Some (record { value = x; rest = left }) → suc (length left) ≡ length bytes
-left_behind_byte [] left x e = absurd cc
-left_behind_byte (b ∷ bytes) left x e = let r : bytes ≡ left = ap (λ (r : Read ℕ). r.rest) (the_some _ _ e) in omega (arith, ap length r)
-
--- what is left behind an operation is no more than there was
-pub left_behind : (op : ℕ) (bytes : List ℕ) (operation : Operation) (rest : List ℕ) → next_constant op bytes ≡ Ok (record { value = operation; rest = rest }) → length rest ≤ length bytes
-left_behind op bytes operation rest e =
-    let P : Result (Read Operation) CodeFault → Type 0 = λ r. IsLeft (length bytes) r in
-    (subst P e (operation_left (length bytes) op bytes (omega arith))).left
-
--- the instruction at a pc ends behind it, and within the code
-abbrev pub Advances : ℕ → ℕ → Result Instr CodeFault → Type 0
-Advances n pc (Ok instr) = (pc < instr.next_pc) × (instr.next_pc ≤ n)
-Advances n pc (Err fault) = Unit {0}
-
-behind : (code : List ℕ) (pc n : ℕ) (r : Result (Read Operation) CodeFault) → suc n + pc ≡ length code → IsLeft n r → Advances (length code) pc (r >>= (λ read. Ok (instr_of code read)))
-behind code pc n (Ok read) e h = (omega (arith, h.left), omega (arith, h.left))
-behind code pc n (Err fault) e h = tt
-
-at_front : (code : List ℕ) (pc : ℕ) (bytes : List ℕ) → length bytes ≡ length code - pc → Advances (length code) pc (next_operation bytes >>= (λ read. Ok (instr_of code read)))
-unfolding next_operation
-at_front code pc [] e = tt
-at_front code pc (op ∷ bytes) e = behind code pc (length bytes) (next_constant op bytes) (omega arith) (operation_left (length bytes) op bytes (omega arith))
-
-pub advances : (code : List ℕ) (pc : ℕ) → Advances (length code) pc (instr_at code pc)
-unfolding instr_at
-advances code pc = at_front code pc (drop pc code) (length-drop pc code)

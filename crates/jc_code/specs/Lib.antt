@@ -1,4 +1,6 @@
 pub mod Tables
 pub mod Decoding
+pub mod Objects
+pub mod Instructions
 pub mod Targets
 pub mod Listing

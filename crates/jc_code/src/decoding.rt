@@ -1,11 +1,11 @@
-//! Decoding.
+//! The tables of the instructions on words.
 
-ghost use Rattle.std.specs.Prelude.{◌≡◌, ◌<◌, ◌≤◌, length, IfOk};
+ghost use Rattle.std.specs.Prelude.{◌≡◌, ◌<◌, ◌≤◌};
 ghost use Rattle.jc_base.specs.Cursor.{Gives};
-ghost use Rattle.jc_code.specs.Decoding.{next_stable_switch, next_lookup_switch, next_wide_increment, when_of, next_wide_branch, next_control, next_branch, operator_of, next_arithmetic, is_duplicate, is_swap, next_shuffle, next_local, next_constant, next_operation, instr_at, next_pc_of};
+ghost use Rattle.jc_code.specs.Decoding.{next_stable_switch, next_lookup_switch, next_wide_increment, when_of, next_wide_branch, next_control, next_branch, operator_of, next_arithmetic, is_duplicate, is_swap, next_shuffle, next_local, next_constant};
 
 use crate::fault::CodeFault;
-use crate::instr::{BinaryOperator, Condition, Instr, Operation, Shuffle, UnaryOperator, When};
+use crate::instr::{BinaryOperator, Condition, Shuffle, UnaryOperator, When, WordOperation};
 use crate::tables::{LookupTable, StableTable, next_cases, next_offsets};
 use jc_base::Cursor;
 
@@ -44,12 +44,12 @@ pub fn next_lookup_switch<'a>(cursor: &mut Cursor<'a>) -> Result<LookupTable<'a>
 
 #[inline(always)]
 #[tactic(auto, unfolding(crate::specs::Decoding::next_wide_increment))]
-fn wide_increment<'a>(cursor: &mut Cursor<'a>) -> Result<Operation<'a>, CodeFault>
+fn wide_increment<'a>(cursor: &mut Cursor<'a>) -> Result<WordOperation<'a>, CodeFault>
     ensures { Gives (λ o. o) result cursor.new (next_wide_increment cursor.old) }
 {
     let local = cursor.u1().ok_or(CodeFault::CutShort)?;
     let by = cursor.s2().ok_or(CodeFault::CutShort)?;
-    Ok(Operation::Increment { local, by })
+    Ok(WordOperation::Increment { local, by })
 }
 
 /// When the branch of an opcode with an offset of one byte is taken; `None` where no branch has the opcode.
@@ -78,18 +78,18 @@ pub fn when_of(opcode: u8) -> Option<When>
 
 #[inline(always)]
 #[tactic(auto, unfolding(crate::specs::Decoding::next_wide_branch))]
-fn wide_branch<'a>(opcode: u8, cursor: &mut Cursor<'a>) -> Result<Operation<'a>, CodeFault>
+fn wide_branch<'a>(opcode: u8, cursor: &mut Cursor<'a>) -> Result<WordOperation<'a>, CodeFault>
     requires { 152 ≤ opcode }
     ensures { Gives (λ o. o) result cursor.new (next_wide_branch opcode cursor.old) }
 {
     let when = when_of(opcode - 56).ok_or(CodeFault::BadOpcode)?;
     let offset = cursor.s2().ok_or(CodeFault::CutShort)?;
-    Ok(Operation::Branch { when, offset })
+    Ok(WordOperation::Branch { when, offset })
 }
 
 #[inline(always)]
 #[tactic(auto, unfolding(crate::specs::Decoding::next_control))]
-fn control<'a>(opcode: u8, cursor: &mut Cursor<'a>) -> Result<Operation<'a>, CodeFault>
+fn control<'a>(opcode: u8, cursor: &mut Cursor<'a>) -> Result<WordOperation<'a>, CodeFault>
     ensures { Gives (λ o. o) result cursor.new (next_control opcode cursor.old) }
 {
     match opcode {
@@ -99,7 +99,7 @@ fn control<'a>(opcode: u8, cursor: &mut Cursor<'a>) -> Result<Operation<'a>, Cod
                 low,
                 offsets,
             } = next_stable_switch(cursor)?;
-            Ok(Operation::StableSwitch {
+            Ok(WordOperation::StableSwitch {
                 default,
                 low,
                 offsets,
@@ -107,9 +107,9 @@ fn control<'a>(opcode: u8, cursor: &mut Cursor<'a>) -> Result<Operation<'a>, Cod
         }
         117 => {
             let LookupTable { default, cases } = next_lookup_switch(cursor)?;
-            Ok(Operation::LookupSwitch { default, cases })
+            Ok(WordOperation::LookupSwitch { default, cases })
         }
-        120 => Ok(Operation::ReturnWord),
+        120 => Ok(WordOperation::ReturnWord),
         150 => wide_increment(cursor),
         152.. => wide_branch(opcode, cursor),
         _ => Err(CodeFault::BadOpcode),
@@ -118,14 +118,14 @@ fn control<'a>(opcode: u8, cursor: &mut Cursor<'a>) -> Result<Operation<'a>, Cod
 
 #[inline(always)]
 #[tactic(auto, unfolding(crate::specs::Decoding::next_branch))]
-fn branch<'a>(opcode: u8, cursor: &mut Cursor<'a>) -> Result<Operation<'a>, CodeFault>
+fn branch<'a>(opcode: u8, cursor: &mut Cursor<'a>) -> Result<WordOperation<'a>, CodeFault>
     ensures { Gives (λ o. o) result cursor.new (next_branch opcode cursor.old) }
 {
     let Some(when) = when_of(opcode) else {
         return control(opcode, cursor);
     };
     let offset = cursor.s1().ok_or(CodeFault::CutShort)?;
-    Ok(Operation::Branch {
+    Ok(WordOperation::Branch {
         when,
         offset: i16::from(offset),
     })
@@ -154,22 +154,22 @@ fn operator(opcode: u8) -> Option<BinaryOperator>
 
 #[inline(always)]
 #[tactic(auto, unfolding(crate::specs::Decoding::next_arithmetic))]
-fn arithmetic<'a>(opcode: u8, cursor: &mut Cursor<'a>) -> Result<Operation<'a>, CodeFault>
+fn arithmetic<'a>(opcode: u8, cursor: &mut Cursor<'a>) -> Result<WordOperation<'a>, CodeFault>
     ensures { Gives (λ o. o) result cursor.new (next_arithmetic opcode cursor.old) }
 {
     match opcode {
-        75 => Ok(Operation::Unary(UnaryOperator::Negate)),
+        75 => Ok(WordOperation::Unary(UnaryOperator::Negate)),
         89 => {
             let local = cursor.u1().ok_or(CodeFault::CutShort)?;
             let by = cursor.s1().ok_or(CodeFault::CutShort)?;
-            Ok(Operation::Increment {
+            Ok(WordOperation::Increment {
                 local,
                 by: i16::from(by),
             })
         }
-        91 => Ok(Operation::Unary(UnaryOperator::ToByte)),
+        91 => Ok(WordOperation::Unary(UnaryOperator::ToByte)),
         _ => match operator(opcode) {
-            Some(operator) => Ok(Operation::Binary(operator)),
+            Some(operator) => Ok(WordOperation::Binary(operator)),
             None => branch(opcode, cursor),
         },
     }
@@ -192,20 +192,23 @@ fn can_swap(upper: u8, lower: u8) -> bool
 
 #[inline(always)]
 #[tactic(auto, unfolding(crate::specs::Decoding::next_shuffle))]
-fn shuffle_operation<'a>(opcode: u8, cursor: &mut Cursor<'a>) -> Result<Operation<'a>, CodeFault>
+fn shuffle_operation<'a>(
+    opcode: u8,
+    cursor: &mut Cursor<'a>,
+) -> Result<WordOperation<'a>, CodeFault>
     ensures { Gives (λ o. o) result cursor.new (next_shuffle opcode cursor.old) }
 {
     match opcode {
-        59 => Ok(Operation::Shuffle(Shuffle::Pop { count: 1 })),
-        60 => Ok(Operation::Shuffle(Shuffle::Pop { count: 2 })),
-        61 => Ok(Operation::Shuffle(Shuffle::Duplicate { count: 1, depth: 0 })),
-        62 => Ok(Operation::Shuffle(Shuffle::Duplicate { count: 2, depth: 0 })),
+        59 => Ok(WordOperation::Shuffle(Shuffle::Pop { count: 1 })),
+        60 => Ok(WordOperation::Shuffle(Shuffle::Pop { count: 2 })),
+        61 => Ok(WordOperation::Shuffle(Shuffle::Duplicate { count: 1, depth: 0 })),
+        62 => Ok(WordOperation::Shuffle(Shuffle::Duplicate { count: 2, depth: 0 })),
         63 => {
             let shape = cursor.u1().ok_or(CodeFault::CutShort)?;
             let count = shape / 16;
             let depth = shape % 16;
             if can_duplicate(count, depth) {
-                Ok(Operation::Shuffle(Shuffle::Duplicate { count, depth }))
+                Ok(WordOperation::Shuffle(Shuffle::Duplicate { count, depth }))
             } else {
                 Err(CodeFault::BadOperand)
             }
@@ -215,7 +218,7 @@ fn shuffle_operation<'a>(opcode: u8, cursor: &mut Cursor<'a>) -> Result<Operatio
             let upper = shape / 16;
             let lower = shape % 16;
             if can_swap(upper, lower) {
-                Ok(Operation::Shuffle(Shuffle::Swap { upper, lower }))
+                Ok(WordOperation::Shuffle(Shuffle::Swap { upper, lower }))
             } else {
                 Err(CodeFault::BadOperand)
             }
@@ -226,85 +229,57 @@ fn shuffle_operation<'a>(opcode: u8, cursor: &mut Cursor<'a>) -> Result<Operatio
 
 #[inline(always)]
 #[tactic(auto, unfolding(crate::specs::Decoding::next_local))]
-fn local<'a>(opcode: u8, cursor: &mut Cursor<'a>) -> Result<Operation<'a>, CodeFault>
+fn local<'a>(opcode: u8, cursor: &mut Cursor<'a>) -> Result<WordOperation<'a>, CodeFault>
     ensures { Gives (λ o. o) result cursor.new (next_local opcode cursor.old) }
 {
     match opcode {
         22 => {
             let index = cursor.u1().ok_or(CodeFault::CutShort)?;
-            Ok(Operation::Load(index))
+            Ok(WordOperation::Load(index))
         }
-        28 => Ok(Operation::Load(0)),
-        29 => Ok(Operation::Load(1)),
-        30 => Ok(Operation::Load(2)),
-        31 => Ok(Operation::Load(3)),
+        28 => Ok(WordOperation::Load(0)),
+        29 => Ok(WordOperation::Load(1)),
+        30 => Ok(WordOperation::Load(2)),
+        31 => Ok(WordOperation::Load(3)),
         41 => {
             let index = cursor.u1().ok_or(CodeFault::CutShort)?;
-            Ok(Operation::Store(index))
+            Ok(WordOperation::Store(index))
         }
-        47 => Ok(Operation::Store(0)),
-        48 => Ok(Operation::Store(1)),
-        49 => Ok(Operation::Store(2)),
-        50 => Ok(Operation::Store(3)),
+        47 => Ok(WordOperation::Store(0)),
+        48 => Ok(WordOperation::Store(1)),
+        49 => Ok(WordOperation::Store(2)),
+        50 => Ok(WordOperation::Store(3)),
         _ => shuffle_operation(opcode, cursor),
     }
 }
 
-// The first of the tables. Each hands an opcode that it hasn't on to the next, so that all compile to one jump.
+/// The operation on words that an opcode and the bytes behind it spell: the first of the tables. Each hands an opcode
+/// that it hasn't on to the next, so that all compile to one jump.
 #[inline(always)]
 #[tactic(auto, unfolding(crate::specs::Decoding::next_constant))]
-fn constant<'a>(opcode: u8, cursor: &mut Cursor<'a>) -> Result<Operation<'a>, CodeFault>
+pub(crate) fn next_constant<'a>(
+    opcode: u8,
+    cursor: &mut Cursor<'a>,
+) -> Result<WordOperation<'a>, CodeFault>
     ensures { Gives (λ o. o) result cursor.new (next_constant opcode cursor.old) }
 {
     match opcode {
-        0 => Ok(Operation::Nop),
-        2 => Ok(Operation::Push(-1)),
-        3 => Ok(Operation::Push(0)),
-        4 => Ok(Operation::Push(1)),
-        5 => Ok(Operation::Push(2)),
-        6 => Ok(Operation::Push(3)),
-        7 => Ok(Operation::Push(4)),
-        8 => Ok(Operation::Push(5)),
+        0 => Ok(WordOperation::Nop),
+        2 => Ok(WordOperation::Push(-1)),
+        3 => Ok(WordOperation::Push(0)),
+        4 => Ok(WordOperation::Push(1)),
+        5 => Ok(WordOperation::Push(2)),
+        6 => Ok(WordOperation::Push(3)),
+        7 => Ok(WordOperation::Push(4)),
+        8 => Ok(WordOperation::Push(5)),
         16 => {
             let value = cursor.s1().ok_or(CodeFault::CutShort)?;
-            Ok(Operation::Push(i16::from(value)))
+            Ok(WordOperation::Push(i16::from(value)))
         }
         17 => {
             let value = cursor.s2().ok_or(CodeFault::CutShort)?;
-            Ok(Operation::Push(value))
+            Ok(WordOperation::Push(value))
         }
         _ => local(opcode, cursor),
     }
-}
-
-/// The instruction that begins at a pc.
-///
-/// `CutShort` also where the pc lies at the code's end or past it.
-#[inline(always)]
-#[tactic(auto, unfolding(crate::specs::Decoding::instr_at, crate::specs::Decoding::next_operation))]
-pub fn decode<'a>(code: &'a [u8], pc: usize) -> Result<Instr<'a>, CodeFault>
-    ensures instr { result ≡ instr_at code.now pc }
-    ensures behind { IfOk result (λ i. pc < i.next_pc) }
-    ensures within { IfOk result (λ i. i.next_pc ≤ length code.now) }
-{
-    if code.len() < pc {
-        return Err(CodeFault::CutShort);
-    }
-    let (_, rest) = code.split_at(pc);
-    let mut cursor = Cursor::new(rest);
-    let Some(opcode) = cursor.u1() else {
-        return Err(CodeFault::CutShort);
-    };
-    let operation = constant(opcode, &mut cursor)?;
-    Ok(Instr {
-        operation,
-        next_pc: code.len() - cursor.len(),
-    })
-}
-
-/// Where the instruction behind the one at a pc begins.
-pub fn next_pc(code: &[u8], pc: usize) -> Result<usize, CodeFault>
-    ensures { result ≡ next_pc_of (instr_at code.now pc) }
-{
-    Ok(decode(code, pc)?.next_pc)
 }

@@ -1,5 +1,6 @@
 //! What an instruction says.
 
+use crate::object::ObjectOperation;
 use crate::tables::{Cases, Offsets};
 
 /// An instruction as it stands in code.
@@ -14,6 +15,15 @@ pub struct Instr<'a> {
 /// instruction set). Offsets count from the instruction's own opcode.
 #[derive(Drop)]
 pub enum Operation<'a> {
+    /// On words, and moves of operands.
+    Word(WordOperation<'a>),
+    /// On references: to objects, arrays, members and methods.
+    Object(ObjectOperation),
+}
+
+/// What an instruction on words does: all that code alone may use.
+#[derive(Drop)]
+pub enum WordOperation<'a> {
     /// nop
     Nop,
     /// sconst, bspush, sspush: puts a short on the operand stack.

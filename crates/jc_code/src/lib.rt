@@ -4,15 +4,25 @@
 mod decoding;
 mod fault;
 mod instr;
+mod instructions;
 mod listing;
+mod object;
+mod objects;
 mod operands;
 mod tables;
 mod targets;
 
-pub use decoding::{decode, next_lookup_switch, next_pc, next_stable_switch, when_of};
+pub use decoding::{next_lookup_switch, next_stable_switch, when_of};
 pub use fault::CodeFault;
-pub use instr::{BinaryOperator, Condition, Instr, Operation, Shuffle, UnaryOperator, When};
+pub use instr::{
+    BinaryOperator, Condition, Instr, Operation, Shuffle, UnaryOperator, When, WordOperation,
+};
+pub use instructions::{decode, decode_words, next_pc};
 pub use listing::listing_laws;
+pub use object::{
+    Creation, FieldAccess, FieldAction, Form, Holder, Invocation, ObjectOperation,
+    ReferenceCondition, TestedType, WordKind,
+};
 pub use operands::{next_at, s1_at, s2_at, u1_at};
 pub use tables::{Case, Cases, LookupTable, Offsets, StableTable};
 pub use targets::Targets;

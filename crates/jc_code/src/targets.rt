@@ -1,9 +1,10 @@
 //! Where an instruction may go on.
 
 ghost use Rattle.std.specs.Prelude.{◌≡◌, length, slice_get};
-ghost use Rattle.jc_code.specs.Targets.{falls_of, offsets_of, target_of, targets_of};
+ghost use Rattle.jc_code.specs.Targets.{falls_of, object_falls, object_offsets, offsets_of, target_of, targets_of, word_falls, word_offsets};
 
-use crate::instr::{Instr, Operation, When};
+use crate::instr::{Instr, Operation, When, WordOperation};
+use crate::object::ObjectOperation;
 use std::marker::Model;
 
 /// The places that an instruction may branch to, in the order of the code. A place may lie before the code,
@@ -40,23 +41,54 @@ impl<'a> Instr<'a> {
         ensures { result ≡ falls_of self.now.operation }
     {
         match &self.operation {
-            Operation::Nop => true,
-            Operation::Push(_) => true,
-            Operation::Load(_) => true,
-            Operation::Store(_) => true,
-            Operation::Increment { .. } => true,
-            Operation::Shuffle(_) => true,
-            Operation::Binary(_) => true,
-            Operation::Unary(_) => true,
-            Operation::Branch { when, .. } => match when {
-                When::Always => false,
-                When::Zero(_) => true,
-                When::Compare(_) => true,
-            },
-            Operation::StableSwitch { .. } => false,
-            Operation::LookupSwitch { .. } => false,
-            Operation::ReturnWord => false,
+            Operation::Word(operation) => word_falls(operation),
+            Operation::Object(operation) => object_falls(*operation),
         }
+    }
+}
+
+fn word_falls(operation: &WordOperation) -> bool
+    ensures { result ≡ word_falls operation.now }
+{
+    match operation {
+        WordOperation::Nop => true,
+        WordOperation::Push(_) => true,
+        WordOperation::Load(_) => true,
+        WordOperation::Store(_) => true,
+        WordOperation::Increment { .. } => true,
+        WordOperation::Shuffle(_) => true,
+        WordOperation::Binary(_) => true,
+        WordOperation::Unary(_) => true,
+        WordOperation::Branch { when, .. } => match when {
+            When::Always => false,
+            When::Zero(_) => true,
+            When::Compare(_) => true,
+        },
+        WordOperation::StableSwitch { .. } => false,
+        WordOperation::LookupSwitch { .. } => false,
+        WordOperation::ReturnWord => false,
+    }
+}
+
+fn object_falls(operation: ObjectOperation) -> bool
+    ensures { result ≡ object_falls operation }
+{
+    match operation {
+        ObjectOperation::PushNull => true,
+        ObjectOperation::Load(_) => true,
+        ObjectOperation::Store(_) => true,
+        ObjectOperation::LoadComponent(_) => true,
+        ObjectOperation::StoreComponent(_) => true,
+        ObjectOperation::ArrayLength => true,
+        ObjectOperation::Branch { .. } => true,
+        ObjectOperation::Field { .. } => true,
+        ObjectOperation::Invoke(_) => true,
+        ObjectOperation::Create(_) => true,
+        ObjectOperation::CheckCast(_) => true,
+        ObjectOperation::InstanceOf(_) => true,
+        ObjectOperation::Throw => false,
+        ObjectOperation::ReturnReference => false,
+        ObjectOperation::ReturnVoid => false,
     }
 }
 
@@ -67,20 +99,20 @@ fn target(pc: u16, offset: i16) -> i32
     i32::from(pc) + i32::from(offset)
 }
 
-fn offset_at(operation: &Operation, index: usize) -> Option<i16>
-    ensures { result ≡ slice_get (offsets_of operation.now) index }
+fn word_offset_at(operation: &WordOperation, index: usize) -> Option<i16>
+    ensures { result ≡ slice_get (word_offsets operation.now) index }
 {
     match operation {
-        Operation::Nop => None,
-        Operation::Push(_) => None,
-        Operation::Load(_) => None,
-        Operation::Store(_) => None,
-        Operation::Increment { .. } => None,
-        Operation::Shuffle(_) => None,
-        Operation::Binary(_) => None,
-        Operation::Unary(_) => None,
-        Operation::Branch { offset, .. } => { if index == 0 { Some(*offset) } else { None } }
-        Operation::StableSwitch {
+        WordOperation::Nop => None,
+        WordOperation::Push(_) => None,
+        WordOperation::Load(_) => None,
+        WordOperation::Store(_) => None,
+        WordOperation::Increment { .. } => None,
+        WordOperation::Shuffle(_) => None,
+        WordOperation::Binary(_) => None,
+        WordOperation::Unary(_) => None,
+        WordOperation::Branch { offset, .. } => { if index == 0 { Some(*offset) } else { None } }
+        WordOperation::StableSwitch {
             default,
             offsets,
             ..
@@ -91,14 +123,86 @@ fn offset_at(operation: &Operation, index: usize) -> Option<i16>
                 offsets.get(index - 1)
             }
         }
-        Operation::LookupSwitch { default, cases } => {
+        WordOperation::LookupSwitch { default, cases } => {
             if index == 0 {
                 Some(*default)
             } else {
                 Some(cases.get(index - 1)?.offset)
             }
         }
-        Operation::ReturnWord => None,
+        WordOperation::ReturnWord => None,
+    }
+}
+
+fn object_offset_at(operation: ObjectOperation, index: usize) -> Option<i16>
+    ensures { result ≡ slice_get (object_offsets operation) index }
+{
+    match operation {
+        ObjectOperation::PushNull => None,
+        ObjectOperation::Load(_) => None,
+        ObjectOperation::Store(_) => None,
+        ObjectOperation::LoadComponent(_) => None,
+        ObjectOperation::StoreComponent(_) => None,
+        ObjectOperation::ArrayLength => None,
+        ObjectOperation::Branch { offset, .. } => { if index == 0 { Some(offset) } else { None } }
+        ObjectOperation::Field { .. } => None,
+        ObjectOperation::Invoke(_) => None,
+        ObjectOperation::Create(_) => None,
+        ObjectOperation::CheckCast(_) => None,
+        ObjectOperation::InstanceOf(_) => None,
+        ObjectOperation::Throw => None,
+        ObjectOperation::ReturnReference => None,
+        ObjectOperation::ReturnVoid => None,
+    }
+}
+
+fn offset_at(operation: &Operation, index: usize) -> Option<i16>
+    ensures { result ≡ slice_get (offsets_of operation.now) index }
+{
+    match operation {
+        Operation::Word(operation) => word_offset_at(operation, index),
+        Operation::Object(operation) => object_offset_at(*operation, index),
+    }
+}
+
+fn word_count(operation: &WordOperation) -> usize
+    ensures { result ≡ length (word_offsets operation.now) }
+{
+    match operation {
+        WordOperation::Nop => 0,
+        WordOperation::Push(_) => 0,
+        WordOperation::Load(_) => 0,
+        WordOperation::Store(_) => 0,
+        WordOperation::Increment { .. } => 0,
+        WordOperation::Shuffle(_) => 0,
+        WordOperation::Binary(_) => 0,
+        WordOperation::Unary(_) => 0,
+        WordOperation::Branch { .. } => 1,
+        WordOperation::StableSwitch { offsets, .. } => offsets.len() + 1,
+        WordOperation::LookupSwitch { cases, .. } => cases.len() + 1,
+        WordOperation::ReturnWord => 0,
+    }
+}
+
+fn object_count(operation: ObjectOperation) -> usize
+    ensures { result ≡ length (object_offsets operation) }
+{
+    match operation {
+        ObjectOperation::PushNull => 0,
+        ObjectOperation::Load(_) => 0,
+        ObjectOperation::Store(_) => 0,
+        ObjectOperation::LoadComponent(_) => 0,
+        ObjectOperation::StoreComponent(_) => 0,
+        ObjectOperation::ArrayLength => 0,
+        ObjectOperation::Branch { .. } => 1,
+        ObjectOperation::Field { .. } => 0,
+        ObjectOperation::Invoke(_) => 0,
+        ObjectOperation::Create(_) => 0,
+        ObjectOperation::CheckCast(_) => 0,
+        ObjectOperation::InstanceOf(_) => 0,
+        ObjectOperation::Throw => 0,
+        ObjectOperation::ReturnReference => 0,
+        ObjectOperation::ReturnVoid => 0,
     }
 }
 
@@ -108,18 +212,8 @@ impl<'i, 'a> Targets<'i, 'a> {
         ensures { result ≡ length self.now }
     {
         match self.operation {
-            Operation::Nop => 0,
-            Operation::Push(_) => 0,
-            Operation::Load(_) => 0,
-            Operation::Store(_) => 0,
-            Operation::Increment { .. } => 0,
-            Operation::Shuffle(_) => 0,
-            Operation::Binary(_) => 0,
-            Operation::Unary(_) => 0,
-            Operation::Branch { .. } => 1,
-            Operation::StableSwitch { offsets, .. } => offsets.len() + 1,
-            Operation::LookupSwitch { cases, .. } => cases.len() + 1,
-            Operation::ReturnWord => 0,
+            Operation::Word(operation) => word_count(operation),
+            Operation::Object(operation) => object_count(*operation),
         }
     }
 

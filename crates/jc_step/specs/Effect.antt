@@ -1,4 +1,4 @@
--- What an operation does to the types of a method's locals and operands (Java Card Virtual Machine Specification,
+-- What an operation on words does to the types of a method's locals and operands (Java Card Virtual Machine Specification,
 -- instruction set: the format, the operand stack and the description of each instruction).
 -- The order of reasons is said here, and nowhere else: of several reasons against an instruction the first of BadLocal,
 -- StackUnder, WrongType and StackOver is told. What asks nothing but the code's bytes, BadOpcode, BadOperand and CutShort,
@@ -7,8 +7,8 @@ use Rattle.std.specs.Prelude.{⊤, ℕ, ◌∷◌, [], Option, Some, None, Resul
 use Rattle.jc_base.specs.declared.reason.Reason.{Reason}
 use Rattle.jc_base.specs.declared.reason.Reason.TheVariants.{WrongType}
 use Rattle.jc_base.specs.Results.{◌>>=◌}
-use Rattle.jc_code.specs.declared.instr.Operation.{Operation}
-use Rattle.jc_code.specs.declared.instr.Operation.TheVariants.{Nop, Push, Load, Store, Increment, Shuffle, Binary, Unary, Branch, StableSwitch, LookupSwitch, ReturnWord}
+use Rattle.jc_code.specs.declared.instr.WordOperation.{WordOperation}
+use Rattle.jc_code.specs.declared.instr.WordOperation.TheVariants.{Nop, Push, Load, Store, Increment, Shuffle, Binary, Unary, Branch, StableSwitch, LookupSwitch, ReturnWord}
 use Rattle.jc_code.specs.declared.instr.Shuffle as shuffles
 use Rattle.jc_code.specs.declared.instr.Shuffle.TheVariants.{Pop, Duplicate, Swap}
 use Rattle.jc_code.specs.declared.instr.When.{When}
@@ -41,7 +41,7 @@ branch_effect (Zero condition) s = take_types (Word ∷ []) s
 branch_effect (Compare condition) s = take_types (Word ∷ Word ∷ []) s
 
 -- the state after an operation, in a method of max_stack operands at most that returns a value of this type, or none
-unfoldable pub effect_of : ℕ → Option Ty → Operation → Types → Result Types Reason
+unfoldable pub effect_of : ℕ → Option Ty → WordOperation → Types → Result Types Reason
 effect_of max_stack returned Nop s = Ok s
 effect_of max_stack returned (Push value) s = push_type max_stack Word s
 effect_of max_stack returned (Load local) s = local_type local s >>= λ t. fits t Word >>= λ _. push_type max_stack Word s

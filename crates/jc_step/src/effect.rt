@@ -6,7 +6,7 @@ ghost use Rattle.jc_types.specs.Changes.{Became};
 ghost use Rattle.jc_step.specs.Effect.{fits, fits_result, shuffle_effect, branch_effect, effect_of};
 
 use jc_base::Reason;
-use jc_code::{Instr, Operation, Shuffle, When};
+use jc_code::{Shuffle, When, WordOperation};
 use jc_types::{Lattice, State, Ty};
 
 #[tactic(auto, unfolding(crate::specs::Effect::fits))]
@@ -55,47 +55,47 @@ fn transfer_branch(when: When, state: &mut State) -> Result<(), Reason>
     }
 }
 
-/// Puts the types after an instruction in place of those before it, in a method of at most `max_stack` operands
+/// Puts the types after an operation in place of those before it, in a method of at most `max_stack` operands
 /// that returns a value of the type `returned`, or none. Of several reasons against it the first is told, in the order
-/// of `effect_of`. The state isn't to be used after a reason: some of the instruction's changes may be made.
+/// of `effect_of`. The state isn't to be used after a reason: some of the operation's changes may be made.
 #[tactic(auto, unfolding(crate::specs::Effect::effect_of))]
 pub fn transfer_words(
-    instr: &Instr,
+    operation: &WordOperation,
     state: &mut State,
     max_stack: u8,
     returned: Option<&Ty>,
 ) -> Result<(), Reason>
     requires { max_stack ≤ state.old.room }
-    ensures became { Became result state.new.types (effect_of max_stack (option_copied returned.entry) instr.now.operation state.old.types) }
+    ensures became { Became result state.new.types (effect_of max_stack (option_copied returned.entry) operation.now state.old.types) }
     ensures room { state.new.room ≡ state.old.room }
     ensures locals { length state.new.types.locals ≡ length state.old.types.locals }
 {
-    match &instr.operation {
-        Operation::Nop => Ok(()),
-        Operation::Push(_) => state.push(max_stack, Ty::Word),
-        Operation::Load(local) => {
+    match operation {
+        WordOperation::Nop => Ok(()),
+        WordOperation::Push(_) => state.push(max_stack, Ty::Word),
+        WordOperation::Load(local) => {
             expect(state.local(*local)?, Ty::Word)?;
             state.push(max_stack, Ty::Word)
         }
-        Operation::Store(local) => {
+        WordOperation::Store(local) => {
             state.local(*local)?;
             state.take(&[Ty::Word])?;
             state.set_local(*local, Ty::Word)
         }
-        Operation::Increment { local, .. } => expect(state.local(*local)?, Ty::Word),
-        Operation::Shuffle(shuffle) => transfer_shuffle(*shuffle, state, max_stack),
-        Operation::Binary(_) => {
+        WordOperation::Increment { local, .. } => expect(state.local(*local)?, Ty::Word),
+        WordOperation::Shuffle(shuffle) => transfer_shuffle(*shuffle, state, max_stack),
+        WordOperation::Binary(_) => {
             state.take(&[Ty::Word, Ty::Word])?;
             state.push(max_stack, Ty::Word)
         }
-        Operation::Unary(_) => {
+        WordOperation::Unary(_) => {
             state.take(&[Ty::Word])?;
             state.push(max_stack, Ty::Word)
         }
-        Operation::Branch { when, .. } => transfer_branch(*when, state),
-        Operation::StableSwitch { .. } => state.take(&[Ty::Word]),
-        Operation::LookupSwitch { .. } => state.take(&[Ty::Word]),
-        Operation::ReturnWord => {
+        WordOperation::Branch { when, .. } => transfer_branch(*when, state),
+        WordOperation::StableSwitch { .. } => state.take(&[Ty::Word]),
+        WordOperation::LookupSwitch { .. } => state.take(&[Ty::Word]),
+        WordOperation::ReturnWord => {
             state.take(&[Ty::Word])?;
             expect_result(returned)
         }

@@ -1,5 +1,5 @@
-use jc_cert::*;
 use jc_base::LoadFault;
+use jc_cert::*;
 use jc_types::{State, Ty};
 use std::alloc::Global;
 use std::test::Fail;

@@ -1,5 +1,5 @@
-use jc_cap_class::*;
 use jc_base::{ClassRef, LoadFault, cut};
+use jc_cap_class::*;
 use jc_cap_head::Format;
 use std::test::*;
 

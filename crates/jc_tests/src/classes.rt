@@ -1,7 +1,7 @@
-use jc_classes::*;
 use jc_api::Binding;
 use jc_base::cut;
 use jc_cap_desc::read_package;
+use jc_classes::*;
 use std::test::*;
 
 /// A package with an applet that declares `process` alone.

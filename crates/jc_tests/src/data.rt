@@ -1,5 +1,5 @@
-use jc_cap_data::*;
 use jc_base::{Aid, LoadFault, PackageInfo, cut};
+use jc_cap_data::*;
 use std::test::*;
 
 /// Two applets, an imported package, static fields and an exported class; the other components have no bytes.

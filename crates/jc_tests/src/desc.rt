@@ -1,5 +1,5 @@
-use jc_cap_desc::*;
 use jc_base::{DeclaredType, LoadFault, ReturnType, cut};
+use jc_cap_desc::*;
 use std::alloc::Global;
 use std::test::*;
 

@@ -1,9 +1,9 @@
 ghost use Rattle.std.specs.Prelude.{IfOk};
 ghost use Rattle.jc_link.specs.Linked.{IsBoundTo};
 
-use jc_link::*;
 use jc_api::Binding;
 use jc_base::{LoadFault, cut};
+use jc_link::*;
 use std::alloc::Global;
 use std::test::*;
 

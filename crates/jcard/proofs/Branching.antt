@@ -3,7 +3,7 @@ use Rattle.std.proofs.Common.{◌≡◌, ℕ, zero, suc, List, [], ◌∷◌, Bo
 use Rattle.std.specs.Prelude.{ℤ, slice_get, int_lt, unsigned_abs, ◌-ℤ◌, unwrap_or, map}
 use Rattle.std.specs.List.{AllByRecursion}
 use Rattle.jc_base.proofs.Binding.{the_ok}
-use Rattle.jc_code.specs.declared.instr.Operation.TheVariants.{Branch, StableSwitch, LookupSwitch}
+use Rattle.jc_code.specs.declared.instr.WordOperation.TheVariants.{Branch, StableSwitch, LookupSwitch}
 use Rattle.jc_code.specs.declared.instr.When.{When}
 use Rattle.jc_code.specs.declared.instr.When.TheVariants.{Always, Zero, Compare}
 use Rattle.jc_code.specs.declared.tables.Case.{Case}
@@ -16,7 +16,7 @@ use Rattle.jc_check.specs.Method.{Method}
 use Rattle.jc_check.specs.Typing.{Typing, BranchLeads}
 use Rattle.std.specs.Ordering.{int_eq}
 use Rattle.jcard.specs.Shorts.{short, holds}
-use Rattle.jcard.specs.Tagged.{TaggedValue, Frame, goes, jumps, stable_offset, lookup_offset, act}
+use Rattle.jcard.specs.Tagged.{TaggedValue, Frame, goes, jumps, stable_offset, lookup_offset, act_word}
 use Rattle.jcard.specs.PrivateWords.{UntaggedFrame, continues, pc_of}
 use Rattle.jcard.specs.PrivateAgree.{Pointwise, HasType, Simulates}
 use Rattle.jcard.proofs.Taking.{takes_one, takes_two}
@@ -29,7 +29,7 @@ either_way typing true to next wl ws vl vs taken falls = taken
 either_way typing false to next wl ws vl vs taken falls = falls
 
 pub branch_owes : (m : Method) (typing : Typing) (x : PlacedInstr) (when : When) (offset : ℤ) (w : UntaggedFrame) (f : Frame) (s after : Types) → Known m typing x (Branch when offset) w f s after → Owes m typing x (Branch when offset) w f
-unfolding effect_of act
+unfolding effect_of act_word
 branch_owes m typing x Always offset w f s after k =
     let same : s ≡ after = the_ok s after k.effect in
     let B : Types → Type 0 = λ t. BranchLeads typing t (target_of x.pc offset) in
@@ -71,7 +71,7 @@ lookup_there P pc default (c ∷ cs) key d h = by (int_eq c.key key) (lookup_the
     by false later = later
 
 pub stable_owes : (m : Method) (typing : Typing) (x : PlacedInstr) (default low : ℤ) (offsets : List ℤ) (w : UntaggedFrame) (f : Frame) (s after : Types) → Known m typing x (StableSwitch default low offsets) w f s after → Owes m typing x (StableSwitch default low offsets) w f
-unfolding effect_of act
+unfolding effect_of act_word
 stable_owes m typing x default low offsets w f s after k =
     let t = takes_one w.operands f.operands s after k.read_operands k.operands k.effect in
     let L : List Ty → Type 0 = λ ts. Pointwise HasType f.locals ts in
@@ -80,7 +80,7 @@ stable_owes m typing x default low offsets w f s after k =
     owes_at m typing x (StableSwitch default low offsets) w f _ _ t.words_are t.values_are ((omega arith, j.0), j.1)
 
 pub lookup_owes : (m : Method) (typing : Typing) (x : PlacedInstr) (default : ℤ) (cases : List Case) (w : UntaggedFrame) (f : Frame) (s after : Types) → Known m typing x (LookupSwitch default cases) w f s after → Owes m typing x (LookupSwitch default cases) w f
-unfolding effect_of act
+unfolding effect_of act_word
 lookup_owes m typing x default cases w f s after k =
     let t = takes_one w.operands f.operands s after k.read_operands k.operands k.effect in
     let L : List Ty → Type 0 = λ ts. Pointwise HasType f.locals ts in

@@ -6,7 +6,7 @@ use Rattle.jc_base.specs.declared.reason.Reason.{Reason}
 use Rattle.jc_base.specs.declared.reason.Reason.TheVariants.{StackUnder, StackOver}
 use Rattle.jc_base.proofs.Binding.{bind_ok, the_ok}
 use Rattle.jc_base.specs.Stack.{duplicated, swapped}
-use Rattle.jc_code.specs.declared.instr.Operation.TheVariants.{Shuffle, Binary, Unary, ReturnWord}
+use Rattle.jc_code.specs.declared.instr.WordOperation.TheVariants.{Shuffle, Binary, Unary, ReturnWord}
 use Rattle.jc_code.specs.declared.instr.Shuffle as shuffles
 use Rattle.jc_code.specs.declared.instr.Shuffle.TheVariants.{Pop, Duplicate, Swap}
 use Rattle.jc_code.specs.declared.instr.BinaryOperator.{BinaryOperator}
@@ -20,7 +20,7 @@ use Rattle.jc_step.specs.Effect.{fits_result, effect_of}
 use Rattle.jc_check.specs.Method.{Method}
 use Rattle.jc_check.specs.Typing.{Typing, Leads}
 use Rattle.jcard.specs.Shorts.{binary_of, unary_of}
-use Rattle.jcard.specs.Tagged.{TaggedValue, Word, Frame, goes, pushed, on_result, on_fitting, act, Returns}
+use Rattle.jcard.specs.Tagged.{TaggedValue, Word, Frame, goes, pushed, on_result, on_fitting, act_word, Returns}
 use Rattle.jcard.specs.PrivateWords.{UntaggedFrame, continues, result_of, moved, Yields}
 use Rattle.jcard.specs.PrivateAgree.{Pointwise, WithoutTag, HasType, IsOperand, Simulates}
 use Rattle.jcard.proofs.Points.{point_length, point_drop, point_duplicated, point_swapped, written}
@@ -35,7 +35,7 @@ moves m typing x shuffle w f s after k vs ts r t e =
     goes_on typing x.instr.next_pc w.locals (moved shuffle w.operands) f.locals vs (with_operands s ts) k.read_locals r k.locals t (subst L (sym e) (k.falls refl))
 
 pub shuffle_owes : (m : Method) (typing : Typing) (x : PlacedInstr) (shuffle : shuffles.Shuffle) (w : UntaggedFrame) (f : Frame) (s after : Types) → Known m typing x (Shuffle shuffle) w f s after → Owes m typing x (Shuffle shuffle) w f
-unfolding effect_of act drop_types duplicate_types swap_types
+unfolding effect_of act_word drop_types duplicate_types swap_types
 shuffle_owes m typing x (Pop n) w f s after k =
     let u = under (nat_lt (length s.operands) n) (Ok (with_operands s (drop n s.operands))) StackUnder after k.effect in
     let le : n ≤ length s.operands = ltb-false (length s.operands) n u.0 in
@@ -67,7 +67,7 @@ results typing most pc wl ws vl vs s after None rl rs tl ts e leads = ((pushes t
 results typing most pc wl ws vl vs s after (Some n) rl rs tl ts e leads = pushes typing most pc wl ws vl vs s after n rl rs tl ts e leads
 
 pub binary_owes : (m : Method) (typing : Typing) (x : PlacedInstr) (operator : BinaryOperator) (w : UntaggedFrame) (f : Frame) (s after : Types) → Known m typing x (Binary operator) w f s after → Owes m typing x (Binary operator) w f
-unfolding effect_of act
+unfolding effect_of act_word
 binary_owes m typing x operator w f s after k =
     let one = bind_ok (take_types (types.Word ∷ types.Word ∷ []) s) _ after k.effect in
     let t = takes_two w.operands f.operands s one.0 k.read_operands k.operands one.1 in
@@ -76,7 +76,7 @@ binary_owes m typing x operator w f s after k =
     owes_at m typing x (Binary operator) w f _ _ t.words_are t.values_are ((omega arith, omega arith, p.0), p.1)
 
 pub unary_owes : (m : Method) (typing : Typing) (x : PlacedInstr) (operator : UnaryOperator) (w : UntaggedFrame) (f : Frame) (s after : Types) → Known m typing x (Unary operator) w f s after → Owes m typing x (Unary operator) w f
-unfolding effect_of act
+unfolding effect_of act_word
 unary_owes m typing x operator w f s after k =
     let one = bind_ok (take_types (types.Word ∷ []) s) _ after k.effect in
     let t = takes_one w.operands f.operands s one.0 k.read_operands k.operands one.1 in
@@ -90,7 +90,7 @@ returned typing (Ok _) n e = refl
 returned typing (Err reason) n e = absurd cc
 
 pub return_owes : (m : Method) (typing : Typing) (x : PlacedInstr) (w : UntaggedFrame) (f : Frame) (s after : Types) → Known m typing x ReturnWord w f s after → Owes m typing x ReturnWord w f
-unfolding effect_of act
+unfolding effect_of act_word
 return_owes m typing x w f s after k =
     let one = bind_ok (take_types (types.Word ∷ []) s) _ after k.effect in
     let two = bind_ok (fits_result m.returned) _ after one.2 in

@@ -9,7 +9,10 @@ use Rattle.jc_code.specs.declared.instr.Instr.{Instr}
 use Rattle.jc_base.specs.Cursor.{Read}
 use Rattle.jc_base.specs.Results.{◌>>=◌}
 use Rattle.jc_code.specs.declared.instr.Operation.{Operation}
-use Rattle.jc_code.specs.Decoding.{instr_at, instr_of, next_constant, next_operation}
+use Rattle.jc_code.specs.declared.instr.Operation.TheVariants as operations
+use Rattle.jc_code.specs.declared.instr.WordOperation.{WordOperation}
+use Rattle.jc_code.specs.Decoding.{next_constant, next_word_operation}
+use Rattle.jc_code.specs.Instructions.{instr_of, word_instr_at}
 use Rattle.jc_code.specs.Listing.{PlacedInstr, ListingLaws}
 use Rattle.jc_check.specs.Method.{Method, word_method, word_max_stack}
 use Rattle.jc_check.specs.Typing.{Typing, IsTyping, IsWellTyped}
@@ -19,7 +22,7 @@ use Rattle.jcard.specs.declared.run.Step.TheVariants as went
 use Rattle.jcard.specs.declared.run.Ending.{Ending}
 use Rattle.jcard.specs.declared.run.Ending.TheVariants as endings
 use Rattle.jcard.specs.Tagged.{Word, Ref, Null, Unset, Frame, Outcome, Next, Throws, Returns, Stuck, defensive_step, RunEnd, run_on, runtime_call, first_frame}
-use Rattle.jcard.specs.PrivateWords.{UntaggedFrame, UntaggedOutcome, Continues, Raises, Yields, Ready, do_operation}
+use Rattle.jcard.specs.PrivateWords.{UntaggedFrame, UntaggedOutcome, Continues, Raises, Yields, ReadyAny, do_any}
 use Rattle.jcard.specs.PrivateAgree.{Agree, WellTyped, Simulates}
 use Rattle.jcard.specs.PrivateRuns.{Ended, ReadyFor, Performed, Follows, FollowsEach, EndsAs, CanRun}
 use Rattle.jcard.proofs.Stepping.{at_step, first_agrees, first_typed, first_words}
@@ -47,20 +50,24 @@ follows typing (went.Done word) new (Yields n) (Returns Null) is sim = elim sim 
 follows typing (went.Done word) new (Yields n) (Returns Unset) is sim = elim sim [ ]
 follows typing (went.Done word) new (Yields n) Stuck is sim = elim sim [ ]
 
+-- an operation on words that was read, as any operation
+abbrev as_any : Read WordOperation → Read Operation
+as_any read = record { value = operations.Word read.value; rest = read.rest }
+
 -- the instruction at a pc within the code, by its opcode and the bytes behind it
-at_opcode : (code : List ℕ) (pc : ℕ) → pc < length code → instr_at code pc ≡ (next_constant (get_or code pc 0) (drop (pc + 1) code) >>= (λ read. Ok (instr_of code read)))
-unfolding instr_at next_operation
+at_opcode : (code : List ℕ) (pc : ℕ) → pc < length code → word_instr_at code pc ≡ (next_constant (get_or code pc 0) (drop (pc + 1) code) >>= (λ read. Ok (instr_of code (as_any read))))
+unfolding word_instr_at next_word_operation
 at_opcode code pc lt =
     let front : drop pc code ≡ get_or code pc 0 ∷ drop (suc pc) code = drop-cons code pc 0 lt in
     let next : suc pc ≡ pc + 1 = omega arith in
-    ap (λ bytes. next_operation bytes >>= (λ read. Ok (instr_of code read))) front ∙ ap (λ (n : ℕ). next_constant (get_or code pc 0) (drop n code) >>= (λ read. Ok (instr_of code read))) next
+    ap (λ bytes. next_word_operation bytes >>= (λ read. Ok (instr_of code (as_any read)))) front ∙ ap (λ (n : ℕ). next_constant (get_or code pc 0) (drop n code) >>= (λ read. Ok (instr_of code (as_any read)))) next
 
-ready_for : (code : List ℕ) (w : UntaggedFrame) (instr : Instr) (r : Result (Read Operation) CodeFault) → (r >>= (λ read. Ok (instr_of code read))) ≡ Ok instr → Ready word_max_stack w.pc instr.operation w → ReadyFor r w
-ready_for code w instr (Ok read) e h = let R : Instr → Type 0 = λ i. Ready word_max_stack w.pc i.operation w in subst R (sym (binding.the_ok (instr_of code read) instr e)) h
+ready_for : (code : List ℕ) (w : UntaggedFrame) (instr : Instr) (r : Result (Read WordOperation) CodeFault) → (r >>= (λ read. Ok (instr_of code (as_any read)))) ≡ Ok instr → ReadyAny word_max_stack w.pc instr.operation w → ReadyFor r w
+ready_for code w instr (Ok read) e h = let R : Instr → Type 0 = λ i. ReadyAny word_max_stack w.pc i.operation w in subst R (sym (binding.the_ok (instr_of code (as_any read)) instr e)) h
 ready_for code w instr (Err fault) e h = absurd cc
 
-ended : (code : List ℕ) (old new : UntaggedFrame) (s : Step) (instr : Instr) (r : Result (Read Operation) CodeFault) → (r >>= (λ read. Ok (instr_of code read))) ≡ Ok instr → Performed code r old s new → Ended s new (do_operation old.pc instr.next_pc instr.operation old)
-ended code old new s instr (Ok read) e h = let E : Instr → Type 0 = λ i. Ended s new (do_operation old.pc i.next_pc i.operation old) in subst E (binding.the_ok (instr_of code read) instr e) h
+ended : (code : List ℕ) (old new : UntaggedFrame) (s : Step) (instr : Instr) (r : Result (Read WordOperation) CodeFault) → (r >>= (λ read. Ok (instr_of code (as_any read)))) ≡ Ok instr → Performed code r old s new → Ended s new (do_any old.pc instr.next_pc instr.operation old)
+ended code old new s instr (Ok read) e h = let E : Instr → Type 0 = λ i. Ended s new (do_any old.pc i.next_pc i.operation old) in subst E (binding.the_ok (instr_of code (as_any read)) instr e) h
 ended code old new s instr (Err fault) e h = absurd h
 
 -- what a step owes to a frame of words: its pc lies within the code, and it is ready for the operation there
@@ -73,10 +80,10 @@ can_step code w c =
     let a = at_step c.laws (word_method code) c.typing c.typed w c.real.frame c.real.agree c.real.well in
     record { within = a.within; ready = ready_for code w a.instr _ (sym (at_opcode code w.pc a.within) ∙ a.stands) a.ready }
 
-pub steps_on : (laws : ListingLaws) (code : List ℕ) (w new : UntaggedFrame) (s : Step) → Performed code (next_constant (get_or code w.pc 0) (drop (w.pc + 1) code)) w s new → FollowsEach code w s new
+pub steps_on : (laws : ListingLaws word_instr_at) (code : List ℕ) (w new : UntaggedFrame) (s : Step) → Performed code (next_constant (get_or code w.pc 0) (drop (w.pc + 1) code)) w s new → FollowsEach code w s new
 steps_on laws code w new s done typing t f agree well =
     let a = at_step laws (word_method code) typing t w f agree well in
-    follows typing s new (do_operation w.pc a.instr.next_pc a.instr.operation w) (defensive_step (word_method code) t.listing f)
+    follows typing s new (do_any w.pc a.instr.next_pc a.instr.operation w) (defensive_step (word_method code) t.listing f)
     (ended code w new s a.instr _ (sym (at_opcode code w.pc a.within) ∙ a.stands) done) a.simulates
 
 -- after so many of a run's steps, this frame of words is the defensive machine's without tags
@@ -92,7 +99,7 @@ IsGoing code done steps w = (typing : Typing) → (t : IsTyping (word_method cod
 pub starts : (code : List ℕ) (steps : ℕ) → IsGoing code 0 steps first_words
 starts code steps typing t = record { frame = first_frame (word_method code); agree = first_agrees code; well = first_typed code typing t; rest = simp unary_clauses refl }
 
-pub can_run : (laws : ListingLaws) (code : List ℕ) (done steps : ℕ) (w : UntaggedFrame) → IsWellTyped code → IsGoing code done steps w → CanRun code w
+pub can_run : (laws : ListingLaws word_instr_at) (code : List ℕ) (done steps : ℕ) (w : UntaggedFrame) → IsWellTyped code → IsGoing code done steps w → CanRun code w
 can_run laws code done steps w well going =
     let g = going well.typing well.typed in
     record { laws = laws; typing = well.typing; typed = well.typed; real = record { frame = g.frame; agree = g.agree; well = g.well } }

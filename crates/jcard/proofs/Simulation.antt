@@ -4,8 +4,9 @@ use Rattle.std.specs.Prelude.{ℤ, pos, negsuc, slice_get, slice_set}
 use Rattle.std.specs.List.{AllByRecursion}
 use Rattle.std.proofs.lemmas.Bool.{ltb-true, lt-ltb}
 use Rattle.jc_base.proofs.Binding.{bind_ok, guard_ok, the_ok}
-use Rattle.jc_code.specs.declared.instr.Operation.{Operation}
-use Rattle.jc_code.specs.declared.instr.Operation.TheVariants.{Nop, Push, Load, Store, Increment}
+use Rattle.jc_code.specs.declared.instr.Operation.TheVariants as operations
+use Rattle.jc_code.specs.declared.instr.WordOperation.{WordOperation}
+use Rattle.jc_code.specs.declared.instr.WordOperation.TheVariants.{Nop, Push, Load, Store, Increment}
 use Rattle.jc_code.specs.Listing.{PlacedInstr}
 use Rattle.jc_code.specs.Targets.{targets_of, falls_of}
 use Rattle.jc_types.specs.declared.ty.Ty.{Ty}
@@ -17,7 +18,7 @@ use Rattle.jc_step.specs.Effect.{fits, effect_of}
 use Rattle.jc_check.specs.Method.{Method}
 use Rattle.jc_check.specs.Typing.{Typing, Leads, BranchLeads}
 use Rattle.jcard.specs.Shorts.{word_of, incremented}
-use Rattle.jcard.specs.Tagged.{TaggedValue, Word, Frame, goes, jumps, pushed, act}
+use Rattle.jcard.specs.Tagged.{TaggedValue, Word, Frame, goes, jumps, pushed, act_word}
 use Rattle.jcard.specs.PrivateWords.{UntaggedFrame, continues, pc_of, do_operation, IsPc, Ready}
 use Rattle.jcard.specs.PrivateAgree.{Pointwise, WithoutTag, HasType, IsOperand, Simulates}
 use Rattle.jcard.proofs.Points.{point_length, point_set, widen, widen_operands}
@@ -53,8 +54,8 @@ pushes typing most pc wl ws vl vs s after n rl rs tl ts e leads =
     )
 
 -- what an operation owes
-abbrev pub Owes : Method → Typing → PlacedInstr → Operation → UntaggedFrame → Frame → Type 0
-Owes m typing x o w f = Ready m.max_stack x.pc o w × Simulates typing (do_operation x.pc x.instr.next_pc o w) (act m x o f)
+abbrev pub Owes : Method → Typing → PlacedInstr → WordOperation → UntaggedFrame → Frame → Type 0
+Owes m typing x o w f = Ready m.max_stack x.pc o w × Simulates typing (do_operation x.pc x.instr.next_pc o w) (act_word m x o f)
 
 -- the frames with their operands written out
 abbrev pub held : UntaggedFrame → List ℕ → UntaggedFrame
@@ -63,36 +64,36 @@ held w ws = record { pc = w.pc; locals = w.locals; operands = ws }
 abbrev pub tagged : Frame → List TaggedValue → Frame
 tagged f vs = record { pc = f.pc; locals = f.locals; operands = vs }
 
-pub owes_at : (m : Method) (typing : Typing) (x : PlacedInstr) (o : Operation) (w : UntaggedFrame) (f : Frame) (ws : List ℕ) (vs : List TaggedValue) → w.operands ≡ ws → f.operands ≡ vs → Owes m typing x o (held w ws) (tagged f vs) → Owes m typing x o w f
+pub owes_at : (m : Method) (typing : Typing) (x : PlacedInstr) (o : WordOperation) (w : UntaggedFrame) (f : Frame) (ws : List ℕ) (vs : List TaggedValue) → w.operands ≡ ws → f.operands ≡ vs → Owes m typing x o (held w ws) (tagged f vs) → Owes m typing x o w f
 owes_at m typing x o w f ws vs e g h =
     let P : List ℕ → Type 0 = λ k. Owes m typing x o (held w k) f in
     let Q : List TaggedValue → Type 0 = λ k. Owes m typing x o (held w ws) (tagged f k) in
     subst P (sym e) (subst Q (sym g) h)
 
 -- what is known where an operation of a well-typed frame has an effect
-pub record Known (m : Method) (typing : Typing) (x : PlacedInstr) (o : Operation) (w : UntaggedFrame) (f : Frame) (s after : Types) : Type 0 where
+pub record Known (m : Method) (typing : Typing) (x : PlacedInstr) (o : WordOperation) (w : UntaggedFrame) (f : Frame) (s after : Types) : Type 0 where
   pub read_locals : Pointwise WithoutTag w.locals f.locals
   pub read_operands : Pointwise WithoutTag w.operands f.operands
   pub locals : Pointwise HasType f.locals s.locals
   pub operands : Pointwise IsOperand f.operands s.operands
   pub effect : effect_of m.max_stack m.returned o s ≡ Ok after
-  pub branches : AllByRecursion (BranchLeads typing after) (targets_of x.pc o)
-  pub falls : falls_of o ≡ true → Leads typing after x.instr.next_pc
+  pub branches : AllByRecursion (BranchLeads typing after) (targets_of x.pc (operations.Word o))
+  pub falls : falls_of (operations.Word o) ≡ true → Leads typing after x.instr.next_pc
 
 pub nop_owes : (m : Method) (typing : Typing) (x : PlacedInstr) (w : UntaggedFrame) (f : Frame) (s after : Types) → Known m typing x Nop w f s after → Owes m typing x Nop w f
-unfolding effect_of act
+unfolding effect_of act_word
 nop_owes m typing x w f s after k =
     let same : s ≡ after = the_ok s after k.effect in
     let L : Types → Type 0 = λ t. Leads typing t x.instr.next_pc in
     (tt, goes_on typing x.instr.next_pc w.locals w.operands f.locals f.operands s k.read_locals k.read_operands k.locals k.operands (subst L (sym same) (k.falls refl)))
 
 pub push_owes : (m : Method) (typing : Typing) (x : PlacedInstr) (value : ℤ) (w : UntaggedFrame) (f : Frame) (s after : Types) → Known m typing x (Push value) w f s after → Owes m typing x (Push value) w f
-unfolding effect_of act
+unfolding effect_of act_word
 push_owes m typing x value w f s after k =
     pushes typing m.max_stack x.instr.next_pc w.locals w.operands f.locals f.operands s after (word_of value) k.read_locals k.read_operands k.locals k.operands k.effect (k.falls refl)
 
 pub load_owes : (m : Method) (typing : Typing) (x : PlacedInstr) (i : ℕ) (w : UntaggedFrame) (f : Frame) (s after : Types) → Known m typing x (Load i) w f s after → Owes m typing x (Load i) w f
-unfolding effect_of act
+unfolding effect_of act_word
 load_owes m typing x i w f s after k =
     let one = bind_ok (local_type i s) _ after k.effect in
     let two = bind_ok (fits one.0 types.Word) _ after one.2 in
@@ -101,7 +102,7 @@ load_owes m typing x i w f s after k =
     ((l.within, p.0), rw (l.word_is, l.value_is) p.1)
 
 pub store_owes : (m : Method) (typing : Typing) (x : PlacedInstr) (i : ℕ) (w : UntaggedFrame) (f : Frame) (s after : Types) → Known m typing x (Store i) w f s after → Owes m typing x (Store i) w f
-unfolding effect_of act set_local_type
+unfolding effect_of act_word set_local_type
 store_owes m typing x i w f s after k =
     let one = bind_ok (local_type i s) _ after k.effect in
     let two = bind_ok (take_types (types.Word ∷ []) s) _ after one.2 in
@@ -130,7 +131,7 @@ set_there (u ∷ us) zero t e = ap (λ (z : Ty). z ∷ us) (let h = e in cc)
 set_there (u ∷ us) (suc i) t e = ap (λ (zs : List Ty). u ∷ zs) (set_there us i t e)
 
 pub increment_owes : (m : Method) (typing : Typing) (x : PlacedInstr) (i : ℕ) (by : ℤ) (w : UntaggedFrame) (f : Frame) (s after : Types) → Known m typing x (Increment i by) w f s after → Owes m typing x (Increment i by) w f
-unfolding effect_of act
+unfolding effect_of act_word
 increment_owes m typing x i by w f s after k =
     let one = bind_ok (local_type i s) _ after k.effect in
     let two = bind_ok (fits one.0 types.Word) _ after one.2 in

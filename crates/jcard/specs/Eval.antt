@@ -4,6 +4,7 @@ use Rattle.std.specs.Prelude.{◌≡◌, ◌≢◌, ℕ, ℤ, List, Bool, true, 
 use Rattle.jc_base.specs.declared.reason.Reason.{Reason}
 use Rattle.jc_cert.specs.Cert.{Row, IsCert}
 use Rattle.jc_cert.specs.Writing.{spelling}
+use Rattle.jc_code.specs.Instructions.{word_instr_at}
 use Rattle.jc_code.specs.Listing.{PlacedInstr, IsListing}
 use Rattle.jc_check.specs.Method.{word_method, states_of}
 use Rattle.jc_check.specs.Carried.{CertCarriesCode}
@@ -34,7 +35,7 @@ pub record RunEnds (code bytes : List ℕ) (steps : ℕ) (end : machine.RunEnd) 
   pub spelled : SpellsCert bytes rows
   pub carried : CertCarriesCode code rows
   pub listing : List PlacedInstr
-  pub whole : IsListing code listing
+  pub whole : IsListing word_instr_at code listing
   pub run : machine.runtime_call (word_method code) listing steps (machine.first_frame (word_method code)) ≡ end
 
 -- the run gives a word, which is the short n

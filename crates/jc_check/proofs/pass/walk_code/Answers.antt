@@ -12,25 +12,25 @@ loop-pc-init c = record {
 pub unreachable-requires : goal.unreachable-requires
 unreachable-requires c =
     let lt = rw c.code-code.ensures at c.loop-pc-test.true in
-    let fails = rw c.code-code.ensures at (sym c.decode.ensures.instr ∙ c.in_default.is) in
+    let fails = rw c.code-code.ensures at (sym c.decode_words.ensures.instr ∙ c.in_default.is) in
     decodes c.args.input.now.method.now c.requires.listed.0 (map stated c.args.input.now.states.now) _ c.loop-pc.pc _ c.in_default.field-0 lt (c.loop-pc.invariant.left c.requires.listed.0 c.requires.listed.1) fails
 
 pub returns-in-Err : goal.returns-in-Err
 returns-in-Err c listing table =
     let lt = rw c.code-code.ensures at c.loop-pc-test.true in
-    let at = rw c.code-code.ensures at (sym c.decode.ensures.instr ∙ c.in-Ok.is) in
+    let at = rw c.code-code.ensures at (sym c.decode_words.ensures.instr ∙ c.in-Ok.is) in
     sym (stops c.args.input.now.method.now listing (map stated c.args.input.now.states.now) _ c.loop-pc.pc c.in-Ok.instr c.visit_at.new.state.types c.in-Err.reason _ lt at (c.in-Err.ensures.flow listing table) (c.loop-pc.invariant.left listing table))
 
 pub loop-pc-smaller : goal.loop-pc-smaller
 loop-pc-smaller c =
     let lt = rw c.code-code.ensures at c.loop-pc-test.true in
-    let n = c.listing_laws.ensures.ascends c.args.input.now.method.now.code c.loop-pc.pc c.in-Ok.instr (rw c.code-code.ensures at (sym c.decode.ensures.instr ∙ c.in-Ok.is)) in
+    let n = c.listing_laws.ensures.words.ascends c.args.input.now.method.now.code c.loop-pc.pc c.in-Ok.instr (rw c.code-code.ensures at (sym c.decode_words.ensures.instr ∙ c.in-Ok.is)) in
     omega arith
 
 pub loop-pc-preserved : goal.loop-pc-preserved
 loop-pc-preserved c =
     let lt = rw c.code-code.ensures at c.loop-pc-test.true in
-    let at = rw c.code-code.ensures at (sym c.decode.ensures.instr ∙ c.in-Ok.is) in record {
+    let at = rw c.code-code.ensures at (sym c.decode_words.ensures.instr ∙ c.in-Ok.is) in record {
       room = c.visit_at.ensures.room;
       left = λ listing table.
           goes_on c.args.input.now.method.now listing (map stated c.args.input.now.states.now) _ c.loop-pc.pc c.in-Ok.instr c.in-Ok-visit_at.falls c.visit_at.new.state.types _ lt at (c.in-Ok-visit_at.ensures.flow listing table) (c.loop-pc.invariant.left listing table);
@@ -38,4 +38,4 @@ loop-pc-preserved c =
 
 pub returns : goal.returns
 returns c listing table =
-    sym (is_done c.listing_laws.ensures c.args.input.now.method.now listing (map stated c.args.input.now.states.now) _ c.loop-pc.pc _ (rw c.code-code.ensures at c.loop-pc-test.false) (c.loop-pc.invariant.left listing table))
+    sym (is_done c.listing_laws.ensures.words c.args.input.now.method.now listing (map stated c.args.input.now.states.now) _ c.loop-pc.pc _ (rw c.code-code.ensures at c.loop-pc-test.false) (c.loop-pc.invariant.left listing table))

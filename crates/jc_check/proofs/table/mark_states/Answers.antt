@@ -8,7 +8,7 @@ use Rattle.jc_check.proofs.table.mark_states.Goals as goal
 use Rattle.jc_check.proofs.table.mark_states.Goals.{in-Start, in-Holds}
 
 pub loop-index-init : goal.loop-index-init
-loop-index-init c listing whole marked = no_states c.listing_laws.ensures _ listing _ _ whole marked
+loop-index-init c listing whole marked = no_states c.listing_laws.ensures.words _ listing _ _ whole marked
 
 pub returns-then-not-fits : goal.returns-then-not-fits
 returns-then-not-fits c listing whole marked =
@@ -19,7 +19,7 @@ pub returns-then-pc-marks : goal.returns-then-pc-marks
 returns-then-pc-marks c listing whole marked =
     rw c.mismatch-then-pc-marks.ensures (told_place c.args.method.now listing (map stated c.args.states.now) c.loop-index.index c.loop-index.marks (stated c.index-states-index.result)
     (row_there c.args.states.now c.loop-index.index c.index-states-index.result c.loop-index-test.true c.index-states-index.is) (c.loop-index.invariant listing whole marked)
-    (none_past c.listing_laws.ensures c.args.method.now.code listing c.index-states-index.result.pc whole (omega (arith, c.from-pc.ensures, c.if-pc-marks.true, c.loop-index.auto.marks, c.requires.code))))
+    (none_past c.listing_laws.ensures.words c.args.method.now.code listing c.index-states-index.result.pc whole (omega (arith, c.from-pc.ensures, c.if-pc-marks.true, c.loop-index.auto.marks, c.requires.code))))
 
 pub returns-in-Inside : goal.returns-in-Inside
 returns-in-Inside c listing whole marked =

@@ -19,7 +19,7 @@ pub returns-clause-accepted : goal.returns-clause-accepted
 returns-clause-accepted c =
     let l = rw c.code.ensures at c.in_ok-mark_starts.ensures.ok in
     let t = c.in_ok-mark_states.ensures l.0 l.1 l.2 in
-    accepted c.listing_laws.ensures c.check_flow.result c.args.method.now l.0 (map stated c.args.states.now) l.1 t.0 (c.check_flow.ensures l.0 t.1)
+    accepted c.listing_laws.ensures.words c.check_flow.result c.args.method.now l.0 (map stated c.args.states.now) l.1 t.0 (c.check_flow.ensures l.0 t.1)
 
 pub returns-clause-refused : goal.returns-clause-refused
 returns-clause-refused c =

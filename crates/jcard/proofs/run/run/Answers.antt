@@ -8,7 +8,7 @@ pub loop-init : goal.loop-init
 loop-init c = rw c.new-frame.ensures (starts c.args.checked.now c.args.steps)
 
 pub take_step-requires-clause-ready : goal.take_step-requires-clause-ready
-take_step-requires-clause-ready c = rw c.code-code.ensures.code (can_run c.listing_laws.ensures c.args.checked.now c.loop.counter c.args.steps c.loop.frame c.code-code.ensures.typed c.loop.invariant)
+take_step-requires-clause-ready c = rw c.code-code.ensures.code (can_run c.listing_laws.ensures.words c.args.checked.now c.loop.counter c.args.steps c.loop.frame c.code-code.ensures.typed c.loop.invariant)
 
 pub returns-in-Thrown : goal.returns-in-Thrown
 returns-in-Thrown c =

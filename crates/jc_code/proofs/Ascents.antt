@@ -1,0 +1,79 @@
+-- An instruction ends behind its pc, and within the code.
+use Rattle.std.proofs.Common.{◌≡◌, ℕ, suc, ◌+◌, ◌-◌, ◌≤◌, ◌<◌, List, [], ◌∷◌, length, drop, Result, Ok, Err, subst, arith, length-drop}
+use Rattle.jc_base.specs.Cursor.{Read}
+use Rattle.jc_base.specs.Results.{◌>>=◌}
+use Rattle.jc_code.specs.declared.fault.CodeFault.{CodeFault}
+use Rattle.jc_code.specs.declared.fault.CodeFault.TheVariants.{BadOpcode, BadOperand, CutShort}
+use Rattle.jc_code.specs.declared.instr.Instr.{Instr}
+use Rattle.jc_code.specs.declared.instr.Operation.{Operation}
+use Rattle.jc_code.specs.declared.instr.Operation.TheVariants.{Word}
+use Rattle.jc_code.specs.declared.instr.WordOperation.{WordOperation}
+use Rattle.jc_code.specs.declared.object.ObjectOperation.{ObjectOperation}
+use Rattle.jc_code.specs.Decoding.{next_constant, next_word_operation}
+use Rattle.jc_code.specs.Objects.{next_object}
+use Rattle.jc_code.specs.Instructions.{either_operation, next_operation, instr_of, instr_at, word_instr_at}
+use Rattle.jc_code.specs.Listing.{Decoder}
+use Rattle.jc_code.proofs.Advance.{IsLeft, words_left}
+use Rattle.jc_code.proofs.ObjectAdvance.{objects_left}
+
+left_of : {A : Type 0} (n : ℕ) (r : Result (Read A) CodeFault) (operation : A) (rest : List ℕ) → IsLeft n r → r ≡ Ok (record { value = operation; rest = rest }) → length rest ≤ n
+left_of {A = A} n r operation rest h e =
+    let P : Result (Read A) CodeFault → Type 0 = λ q. IsLeft n q in
+    (subst P e h).left
+
+-- what is left behind an operation is no more than there was
+pub left_behind_word : (op : ℕ) (bytes : List ℕ) (operation : WordOperation) (rest : List ℕ) → next_constant op bytes ≡ Ok (record { value = operation; rest = rest }) → length rest ≤ length bytes
+left_behind_word op bytes operation rest e = left_of (length bytes) (next_constant op bytes) operation rest (words_left (length bytes) op bytes (omega arith)) e
+
+pub left_behind_object : (op : ℕ) (bytes : List ℕ) (operation : ObjectOperation) (rest : List ℕ) → next_object op bytes ≡ Ok (record { value = operation; rest = rest }) → length rest ≤ length bytes
+left_behind_object op bytes operation rest e = left_of (length bytes) (next_object op bytes) operation rest (objects_left (length bytes) op bytes (omega arith)) e
+
+either_left : (n : ℕ) (word : Result (Read WordOperation) CodeFault) (object : Result (Read ObjectOperation) CodeFault) → IsLeft n word → IsLeft n object → IsLeft n (either_operation word object)
+either_left n (Ok word) object h k = record { left = h.left }
+either_left n (Err BadOpcode) (Ok object) h k = record { left = k.left }
+either_left n (Err BadOpcode) (Err fault) h k = record { left = tt }
+either_left n (Err BadOperand) object h k = record { left = tt }
+either_left n (Err CutShort) object h k = record { left = tt }
+
+abbrev Advances : ℕ → ℕ → Result Instr CodeFault → Type 0
+Advances n pc (Ok instr) = (pc < instr.next_pc) × (instr.next_pc ≤ n)
+Advances n pc (Err fault) = Unit {0}
+
+behind : {A : Type 0} (code : List ℕ) (pc n : ℕ) (view : A → Operation) (r : Result (Read A) CodeFault) → suc n + pc ≡ length code → IsLeft n r
+    → Advances (length code) pc (r >>= (λ read. Ok (instr_of code (record { value = view read.value; rest = read.rest }))))
+behind code pc n view (Ok read) e h = (omega (arith, h.left), omega (arith, h.left))
+behind code pc n view (Err fault) e h = tt
+
+at_front : (code : List ℕ) (pc : ℕ) (bytes : List ℕ) → length bytes ≡ length code - pc → Advances (length code) pc (next_operation bytes >>= (λ read. Ok (instr_of code read)))
+unfolding next_operation
+at_front code pc [] e = tt
+at_front code pc (op ∷ bytes) e =
+    behind code pc (length bytes) (λ operation. operation) (either_operation (next_constant op bytes) (next_object op bytes)) (omega arith)
+    (either_left (length bytes) _ _ (words_left (length bytes) op bytes (omega arith)) (objects_left (length bytes) op bytes (omega arith)))
+
+words_at_front : (code : List ℕ) (pc : ℕ) (bytes : List ℕ) → length bytes ≡ length code - pc
+    → Advances (length code) pc (next_word_operation bytes >>= (λ read. Ok (instr_of code (record { value = Word read.value; rest = read.rest }))))
+unfolding next_word_operation
+words_at_front code pc [] e = tt
+words_at_front code pc (op ∷ bytes) e = behind code pc (length bytes) Word (next_constant op bytes) (omega arith) (words_left (length bytes) op bytes (omega arith))
+
+-- what a decoder gives ends behind its pc and within the code
+abbrev pub Ascends : Decoder → Type 0
+Ascends decoder = (code : List ℕ) (pc : ℕ) (instr : Instr) → decoder code pc ≡ Ok instr → (pc < instr.next_pc) × (instr.next_pc ≤ length code)
+
+ascends_by : (decoder : Decoder) → ((code : List ℕ) (pc : ℕ) → Advances (length code) pc (decoder code pc)) → Ascends decoder
+ascends_by decoder h code pc instr e = let P : Result Instr CodeFault → Type 0 = λ r. Advances (length code) pc r in subst P e (h code pc)
+
+all_advance : (code : List ℕ) (pc : ℕ) → Advances (length code) pc (instr_at code pc)
+unfolding instr_at
+all_advance code pc = at_front code pc (drop pc code) (length-drop pc code)
+
+words_advance : (code : List ℕ) (pc : ℕ) → Advances (length code) pc (word_instr_at code pc)
+unfolding word_instr_at
+words_advance code pc = words_at_front code pc (drop pc code) (length-drop pc code)
+
+pub all_ascend : Ascends instr_at
+all_ascend = ascends_by instr_at all_advance
+
+pub words_ascend : Ascends word_instr_at
+words_ascend = ascends_by word_instr_at words_advance

@@ -8,6 +8,7 @@ mod Walking
 mod Marking
 mod Passing
 mod Below
+mod Rounds
 mod Least
 mod Superclasses
 mod Implemented

@@ -7,9 +7,10 @@ use Rattle.jc_api.specs.declared.class.ApiClass.TheVariants.{Object}
 use Rattle.jc_classes.proofs.Below.{name_is, name_itself}
 use Rattle.jc_classes.proofs.Least.{above_interface}
 use Rattle.jc_classes.proofs.Marking.{true_false}
+use Rattle.jc_classes.proofs.Rounds.{comes_round, keeps_on}
 use Rattle.jc_classes.proofs.Walking.{most_is}
 use Rattle.jc_classes.specs.Names.{is_same_name}
-use Rattle.jc_classes.specs.PrivateSearch.{IsOnWalk}
+use Rattle.jc_classes.specs.PrivateWalk.{IsOnWalk}
 use Rattle.jc_classes.specs.Subtype.{IsSubtype, same, object, by_superclass, by_interface, is_class_at, comes_to_end, IsOrderly, IsOrder, is_at_or_above, is_class_below}
 use Rattle.jc_classes.specs.Walk.{most_classes}
 use Rattle.jc_classes.specs.World.{superclass_of}
@@ -61,50 +62,28 @@ above_more world (suc n) (suc m) d c l e = by_way (found_by world d c n e) (λ s
 
 -- ---- the answers of a walk with an anchor
 
--- where a walk of some steps more finds the same, however many are left, nothing is found
-module _ (world : List Shape) (d c : ClassName) (between : ℕ) (round : (n : ℕ) → is_at_or_above world (n + suc between) d c ≡ is_at_or_above world n d c) where
-  nothing_past : (n : ℕ) → (m : ℕ) × (n ≤ m) × (is_at_or_above world m d c ≡ false)
-  nothing_past zero = (0, omega arith, refl)
-  nothing_past (suc n) = let p = nothing_past n in (p.0 + suc between, omega (arith, p.1), round p.0 ∙ p.2)
+not_by_fewer : (world : List Shape) (d : ClassName) (n m : ℕ) (c : ClassName) → n ≤ m → is_at_or_above world m d c ≡ false → is_at_or_above world n d c ≡ false
+not_by_fewer world d n m c l e = by_test (is_at_or_above world n d c) refl
+  where
+    by_test : (b : Bool) → is_at_or_above world n d c ≡ b → b ≡ false
+    by_test false f = refl
+    by_test true f = absurd (true_false (sym (above_more world n m d c l f) ∙ e))
 
-  nothing_at_all : (n : ℕ) → is_at_or_above world n d c ≡ false
-  nothing_at_all n = by_test (is_at_or_above world n d c) refl
-    where
-      by_test : (b : Bool) → is_at_or_above world n d c ≡ b → b ≡ false
-      by_test false e = refl
-      by_test true e = let p = nothing_past n in absurd (true_false (sym (above_more world n p.0 d c p.1 e) ∙ p.2))
-
-module _ (world : List Shape) (above anchor at : ClassName) (n m : ℕ) (total : Bool) (one : n ≡ suc m) (on : IsOnWalk world above anchor at n total) where
-  walked : is_at_or_above world (suc m) above at ≡ total
-  walked = ap (λ i. is_at_or_above world i above at) (sym one) ∙ on.so_far
-
+module _ (world : List Shape) (above anchor at : ClassName) (n m : ℕ) (total : Bool) (one : n ≡ suc m) (on : IsOnWalk (λ i. is_at_or_above world i above) anchor at n total) where
   pub is_here : is_same_name at above ≡ true → true ≡ total
-  is_here e = sym (met world above at m e) ∙ walked
+  is_here e = sym (met world above at m e) ∙ ap (λ i. is_at_or_above world i above at) (sym one) ∙ on.so_far
 
   module _ (next : ClassName) (other : is_same_name at above ≡ false) (up : superclass_of world at ≡ Some next) where
-    on_from_here : is_at_or_above world m above next ≡ total
-    on_from_here = sym (one_more world above at m false (Some next) other up) ∙ walked
+    step : (k : ℕ) → is_at_or_above world (suc k) above at ≡ is_at_or_above world k above next
+    step k = one_more world above at k false (Some next) other up
 
-    further : (k : ℕ) → is_at_or_above world (k + suc on.between) above anchor ≡ is_at_or_above world k above next
-    further k =
-        let shift : k + suc on.between ≡ suc k + on.between = omega arith in
-        ap (λ i. is_at_or_above world i above anchor) shift ∙ on.anchored (suc k) ∙ one_more world above at k false (Some next) other up
+    pub meets_anchor : is_same_name next anchor ≡ true → false ≡ total
+    meets_anchor = comes_round (λ i. is_at_or_above world i above) false (λ c. refl) (not_by_fewer world above) anchor at next n m total one on step
 
-    pub comes_round : is_same_name next anchor ≡ true → false ≡ total
-    comes_round e =
-        let is = name_is next anchor e in
-        sym (nothing_at_all world above anchor on.between (λ k. further k ∙ ap (is_at_or_above world k above) is) m)
-        ∙ ap (is_at_or_above world m above) (sym is) ∙ on_from_here
+    pub goes_on : (kept : ClassName) → (kept ≡ next) ⊎ (kept ≡ anchor) → IsOnWalk (λ i. is_at_or_above world i above) kept next m total
+    goes_on = keeps_on (λ i. is_at_or_above world i above) false (λ c. refl) (not_by_fewer world above) anchor at next n m total one on step
 
-    pub goes_on : (kept : ClassName) → (kept ≡ next) ⊎ (kept ≡ anchor) → IsOnWalk world above kept next m total
-    goes_on kept (inl is) = subst (λ a. IsOnWalk world above a next m total) (sym is) (record {
-      so_far = on_from_here;
-      between = 0;
-      anchored = λ k. let none : k + 0 ≡ k = omega arith in ap (λ i. is_at_or_above world i above next) none;
-    })
-    goes_on kept (inr is) = subst (λ a. IsOnWalk world above a next m total) (sym is) (record { so_far = on_from_here; between = suc on.between; anchored = further })
-
-pub has_ended : (world : List Shape) (above anchor at : ClassName) (n : ℕ) (total : Bool) → n ≡ 0 → IsOnWalk world above anchor at n total → false ≡ total
+pub has_ended : (world : List Shape) (above anchor at : ClassName) (n : ℕ) (total : Bool) → n ≡ 0 → IsOnWalk (λ i. is_at_or_above world i above) anchor at n total → false ≡ total
 has_ended world above anchor at n total none on = ap (λ i. is_at_or_above world i above at) (sym none) ∙ on.so_far
 
 -- ---- the order

@@ -26,7 +26,7 @@ behind_visit world c (Has a) rest = refl
 behind_visit world c Nothing rest = refl
 behind_visit world c Above rest = behind_to (superclass_of world c) rest
 
-walk_behind : {A : Type 0} (visit : ClassName → ClassShape → Visit A) (world : List Shape) (n : ℕ) (c : ClassName) → walk visit world (suc n) c ≡ behind (step_of visit world c) (walk visit world n)
+pub walk_behind : {A : Type 0} (visit : ClassName → ClassShape → Visit A) (world : List Shape) (n : ℕ) (c : ClassName) → walk visit world (suc n) c ≡ behind (step_of visit world c) (walk visit world n)
 walk_behind visit world n c = by_class (class_at world c)
   where
     by_class : (o : Option ClassShape) → option_and_then (λ k. found_from (visit c k) (option_and_then (walk visit world n) (superclass_of world c))) o ≡ behind (option_map_or (λ k. step_from world c (visit c k)) o Ends) (walk visit world n)
@@ -43,9 +43,6 @@ module _ {A : Type 0} (visit : ClassName → ClassShape → Visit A) (world : Li
 
   pub ends : step_of visit world c ≡ Ends → None ≡ total
   ends e = behind_one Ends e
-
-  pub goes_on : (d : ClassName) → step_of visit world c ≡ On d → walk visit world m d ≡ total
-  goes_on d e = behind_one (On d) e
 
 pub most_is : most_classes ≡ 17_085
 unfolding most_classes

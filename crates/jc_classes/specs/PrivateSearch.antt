@@ -7,7 +7,7 @@ use Rattle.jc_cap_class.specs.declared.record.RecordBody.{RecordBody}
 use Rattle.jc_cap_class.specs.declared.record.RecordBody.TheVariants.{Interface, Class}
 use Rattle.jc_cap_desc.specs.Shape.{ClassShape, Shape}
 use Rattle.jc_classes.specs.Methods.{is_this}
-use Rattle.jc_classes.specs.Subtype.{IsAmong, IsSubtype, IsOrderly, is_at_or_above, is_class_at, comes_to_end}
+use Rattle.jc_classes.specs.Subtype.{IsAmong, IsSubtype, IsOrderly, is_class_at, comes_to_end}
 use Rattle.jc_classes.specs.World.{home_of, offset_of, package_at, class_named, superclass_ref, listed_refs, superclass_of, interfaces_of}
 use Rattle.jc_classes.specs.declared.name.ClassName.{ClassName}
 
@@ -90,10 +90,3 @@ lists_this world home interface (Class r) = list_any (λ i. is_this interface (c
 abbrev pub IsListing : List Shape → List ℕ → ClassName → ℕ → ℕ → Type 0
 IsListing world marks interface home index =
     (k : ClassShape) × (class_placed world home index ≡ Some k) × (has_number marks (256 * home + index) ≡ true) × IsAmong interface (filter_map (class_named world home) (listed_refs k.body))
-
--- a class on the way up, with so many classes to go: what is found from here is the whole answer, and a walk from an anchor,
--- with as many steps more as lie between the two, finds what a walk from here does
-pub record IsOnWalk (world : List Shape) (above anchor at : ClassName) (n : ℕ) (total : Bool) : Type 0 where
-  pub so_far : is_at_or_above world n above at ≡ total
-  pub between : ℕ
-  pub anchored : (m : ℕ) → is_at_or_above world (m + between) above anchor ≡ is_at_or_above world m above at

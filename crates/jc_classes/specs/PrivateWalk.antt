@@ -1,5 +1,5 @@
 -- Private. Walks step by step.
-use Rattle.std.specs.Prelude.{Option, Some, None, List}
+use Rattle.std.specs.Prelude.{◌≡◌, ℕ, ◌+◌, Option, Some, None, List}
 use Rattle.std.specs.Option.{option_map_or}
 use Rattle.jc_cap_desc.specs.Shape.{ClassShape, Shape}
 use Rattle.jc_classes.specs.World.{class_at, superclass_of}
@@ -37,3 +37,10 @@ abbrev pub step_map : {A B : Type 0} → (A → B) → Step A → Step B
 step_map f (Gives a) = Gives (f a)
 step_map f Ends = Ends
 step_map f (On c) = On c
+
+-- a class on the way up, with so many classes to go: what is found from here is the whole answer, and a look-up from an
+-- anchor, with as many steps more as lie between the two, finds what one from here does
+pub record IsOnWalk {A : Type 0} (look : ℕ → ClassName → A) (anchor at : ClassName) (n : ℕ) (total : A) : Type 0 where
+  pub so_far : look n at ≡ total
+  pub between : ℕ
+  pub anchored : (m : ℕ) → look (m + between) anchor ≡ look m at

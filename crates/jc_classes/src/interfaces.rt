@@ -12,7 +12,7 @@ use crate::methods::PACKAGE_VISIBLE;
 use crate::name::{ClassName, MethodName};
 use crate::shape::{Body, ImplementedInterface};
 use crate::table::ClassTable;
-use crate::walk::{MOST_CLASSES, Step, Visit};
+use crate::walk::{MOST_CLASSES, Step, Visit, anchor_behind};
 use jc_base::ClassRef;
 
 impl ClassTable {
@@ -91,17 +91,23 @@ impl ClassTable {
         }
     }
 
-    /// The row for an interface of the nearest class that lists it, by a walk along the superclasses.
+    /// The row for an interface of the nearest class that lists it, by a walk along the superclasses. Where it comes again
+    /// to a class that it remembers, there is none.
     fn walked_row(&self, class: ClassName, interface: ClassName) -> Option<&ImplementedInterface>
         ensures { option_map (λ row. row.now.indexes) result ≡ found (interface_visit self.now interface) self.now class }
     {
         let mut at = class;
-        for _ in 0..MOST_CLASSES {
+        let mut anchor = class;
+        for steps in 0..MOST_CLASSES {
             match self.listing_step(at, interface) {
                 Step::Gives(row) => return Some(row),
                 Step::Ends => return None,
                 Step::On(above) => at = above,
             }
+            if at.is(anchor) {
+                return None;
+            }
+            anchor = anchor_behind(steps + 1, at, anchor);
         }
         None
     }

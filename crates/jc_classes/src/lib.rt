@@ -28,3 +28,4 @@ pub use name::{ClassName, MethodName};
 pub use shape::{Class, Export, Field, ImplementedInterface, Method, PackageShape};
 pub use subtypes::superclass_laws;
 pub use table::ClassTable;
+pub use walk::anchor_behind;

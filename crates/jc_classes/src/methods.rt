@@ -8,7 +8,7 @@ ghost use Rattle.jc_classes.specs.PrivateWalk.{step_of};
 use crate::name::{ClassName, MethodName};
 use crate::shape::{Body, PackageShape, Table};
 use crate::table::ClassTable;
-use crate::walk::{MOST_CLASSES, Step, Visit};
+use crate::walk::{MOST_CLASSES, Step, Visit, anchor_behind};
 
 /// Tokens from here on are package-visible.
 pub(crate) const PACKAGE_VISIBLE: u8 = 128;
@@ -134,17 +134,22 @@ impl ClassTable {
         }
     }
 
-    /// The same by a walk along the superclasses.
+    /// The same by a walk along the superclasses. Where it comes again to a class that it remembers, there is none.
     fn walked_method(&self, class: ClassName, token: u8, asker: usize) -> Option<MethodName>
         ensures { result ≡ virtual_method_of self.now class token asker }
     {
         let mut at = class;
-        for _ in 0..MOST_CLASSES {
+        let mut anchor = class;
+        for steps in 0..MOST_CLASSES {
             match self.method_step(at, token, asker) {
                 Step::Gives(method) => return Some(method),
                 Step::Ends => return None,
                 Step::On(above) => at = above,
             }
+            if at.is(anchor) {
+                return None;
+            }
+            anchor = anchor_behind(steps + 1, at, anchor);
         }
         None
     }

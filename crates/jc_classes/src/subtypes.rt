@@ -1,6 +1,6 @@
 //! Which class is below which.
 
-ghost use Rattle.std.specs.Prelude.{◌≡◌, ◌⊎◌, ◌↔◌, true, IsTrue, List};
+ghost use Rattle.std.specs.Prelude.{◌≡◌, ◌↔◌, true, IsTrue, List};
 ghost use Rattle.jc_cap_desc.specs.Shape.{Shape};
 ghost use Rattle.jc_classes.specs.Subtype.{IsSubtype, IsOrderly, IsLeastAbove, IsOrder, is_at_or_above, is_class_at, is_class_below};
 ghost use Rattle.jc_classes.specs.Walk.{most_classes};
@@ -8,18 +8,11 @@ ghost use Rattle.jc_classes.specs.World.{superclass_of};
 
 use crate::name::ClassName;
 use crate::table::ClassTable;
-use crate::walk::MOST_CLASSES;
+use crate::walk::{MOST_CLASSES, anchor_behind};
 use jc_api::ApiClass;
 
 /// What is above all classes and interfaces.
 const OBJECT: ClassName = ClassName::Api(ApiClass::Object);
-
-/// The class that a walk remembers behind so many steps: where it stands at each power of two, and else the one before.
-fn anchor_behind(steps: u16, at: ClassName, anchor: ClassName) -> ClassName
-    ensures { (result ≡ at) ⊎ (result ≡ anchor) }
-{
-    if steps.is_power_of_two() { at } else { anchor }
-}
 
 impl ClassTable {
     /// Whether a class is another one or a superclass of it. Superclasses may lead round: where the walk comes again to a

@@ -7,6 +7,7 @@ pub mod Imports
 pub mod Pool
 pub mod Classes
 pub mod Inherited
+pub mod PrivateRows
 pub mod Statics
 pub mod WellFormed
 pub mod Kept

@@ -8,7 +8,9 @@ ghost use Rattle.jc_link.specs.Inherited.{loses_at, loses_method, is_same_method
 use crate::classes::MOST_CLASSES;
 use crate::pool::{is_abstract_method, is_concrete, method_above};
 use crate::types::{implements_type, is_known_method, same_method_type};
-use jc_classes::{Class, ClassName, ClassTable, ImplementedInterface, Method, MethodName};
+use jc_classes::{
+    Class, ClassName, ClassTable, ImplementedInterface, Method, MethodName, anchor_behind,
+};
 
 /// Tokens from here on are package-visible.
 const PACKAGE_VISIBLE: u8 = 128;
@@ -258,12 +260,14 @@ fn breaks_row_of(table: &ClassTable, class: ClassName, at: ClassName) -> bool
     }
 }
 
-/// Whether a class doesn't keep one of its own rows, or of those of its superclasses.
+/// Whether a class doesn't keep one of its own rows, or of those of its superclasses. These may lead round: where they come
+/// again to a class that is remembered, all of their rows were looked at.
 fn breaks_interface(table: &ClassTable, class: ClassName) -> bool
     ensures { result ≡ breaks_interface table.now class }
 {
     let mut at = class;
-    for _ in 0..MOST_CLASSES {
+    let mut anchor = class;
+    for steps in 0..MOST_CLASSES {
         if breaks_row_of(table, class, at) {
             return true;
         }
@@ -271,6 +275,10 @@ fn breaks_interface(table: &ClassTable, class: ClassName) -> bool
             Some(above) => at = above,
             None => return false,
         }
+        if at.is(anchor) {
+            return false;
+        }
+        anchor = anchor_behind(steps + 1, at, anchor);
     }
     false
 }

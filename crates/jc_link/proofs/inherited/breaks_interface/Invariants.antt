@@ -1,8 +1,8 @@
-use Rattle.std.proofs.Common.{◌≡◌, ◌-◌}
-use Rattle.std.specs.List.{list_any}
+use Rattle.std.proofs.Common.{◌-◌}
 use Rattle.jc_classes.specs.Walk.{most_classes}
-use Rattle.jc_link.specs.Inherited.{breaks_row, breaks_interface, rows_along}
+use Rattle.jc_link.specs.Inherited.{breaks_row, breaks_interface}
+use Rattle.jc_link.specs.PrivateRows.{IsOnRows}
 use Rattle.jc_link.proofs.inherited.breaks_interface.Given as goal
 
-abbrev pub invariant-loop : goal.invariant-loop
-invariant-loop l = list_any (breaks_row l.table l.class) (rows_along l.table (most_classes - l.counter) l.at) ≡ breaks_interface l.table l.class
+abbrev pub invariant-loop-steps : goal.invariant-loop-steps
+invariant-loop-steps l = IsOnRows (breaks_row l.table l.class) l.table l.anchor l.at (most_classes - l.steps) (breaks_interface l.table l.class)

@@ -1,5 +1,5 @@
 use Rattle.std.proofs.Common.{◌-◌, sym, ◌∙◌, arith}
-use Rattle.jc_classes.proofs.Superclasses.{is_here, comes_round, goes_on, has_ended}
+use Rattle.jc_classes.proofs.Superclasses.{is_here, meets_anchor, goes_on, has_ended}
 use Rattle.jc_classes.proofs.Walking.{most_is, one_less}
 use Rattle.jc_classes.specs.Walk.{most_classes}
 use Rattle.jc_classes.proofs.table.ClassTable.is_at_or_above.Goals as goal
@@ -10,7 +10,7 @@ returns-then-is c =
 
 pub returns-then-is-2 : goal.returns-then-is-2
 returns-then-is-2 c =
-    comes_round c.args.self.now c.args.above c.loop-steps.anchor c.loop-steps.at _ _ _ (one_less c.loop-steps.steps c.loop-steps-test.true) c.loop-steps.invariant c.in-Some.next
+    meets_anchor c.args.self.now c.args.above c.loop-steps.anchor c.loop-steps.at _ _ _ (one_less c.loop-steps.steps c.loop-steps-test.true) c.loop-steps.invariant c.in-Some.next
     (sym c.is.ensures ∙ c.if-is.false) (sym c.superclass_of.ensures ∙ c.in-Some.is) (sym c.is-in-loop-steps.ensures ∙ c.if-is-2.true)
 
 pub loop-steps-preserved : goal.loop-steps-preserved

@@ -1,14 +1,11 @@
 -- One field after the other: what is read was spelled in front, and what is spelled in front is read.
-use Rattle.std.proofs.Common.{◌≡◌, ℕ, zero, suc, ◌+◌, ◌*◌, ◌/◌, ◌%◌, ◌^◌, ◌<◌, ◌≤◌, Bool, true, false, cond, eqb, ltb, List, [], ◌∷◌, ◌++◌, length, Result, Ok, Err, refl, sym, ap, subst, ◌∙◌, append_assoc, arith}
+use Rattle.std.proofs.Common.{◌≡◌, ℕ, zero, suc, ◌+◌, ◌*◌, ◌/◌, ◌%◌, ◌^◌, ◌<◌, ◌≤◌, Bool, true, false, cond, ltb, List, [], ◌∷◌, ◌++◌, length, Result, Ok, Err, refl, sym, ap, subst, ◌∙◌, append_assoc, arith}
 use Rattle.std.specs.List.{flat_map, AllByRecursion}
 use Rattle.std.specs.Int.{w16, to_be_bytes}
-use Rattle.std.proofs.lemmas.Bool.{ltb-false, le-ltb, eqb-true}
+use Rattle.std.proofs.lemmas.Bool.{ltb-false, le-ltb}
 use Rattle.jc_base.specs.Cursor.{Read, next_u1, next_u2}
 use Rattle.jc_base.specs.Results.{◌>>=◌}
-use Rattle.jc_types.specs.declared.ty.Ty.{Ty}
-use Rattle.jc_types.specs.declared.ty.Ty.TheVariants.{Top, Word, Null}
-use Rattle.jc_cert.specs.Writing.{type_bytes}
-use Rattle.jc_cert.specs.PrivateReading.{no_spelling, spelled, repeat_at, next_number, next_type}
+use Rattle.jc_cert.specs.PrivateReading.{no_spelling, spelled, repeat_at, next_number}
 use Rattle.jc_cert.specs.declared.refusal.NoSpelling.{NoSpelling}
 use Rattle.jc_cert.proofs.Repeats.{read_as}
 
@@ -73,32 +70,6 @@ number_again least n rest fits =
     let above : ltb n least ≡ false = le-ltb _ _ fits.1 in
     let whole : 256 * (n / 256 % 256) + n % 256 ≡ n = let lt = fits.0 in omega arith in
     rw (whole, above) refl
-
--- ---- types
-
-abbrev pub IsType : Ty → Type 0
-IsType t = Unit {0}
-
-pub type_took : (bytes : List ℕ) → IsBytes bytes → Took type_bytes IsType bytes (next_type bytes)
-unfolding next_type
-type_took bytes fits =
-    took_bind (λ b. b ∷ []) (λ b. b < 2 ^ 8) type_bytes IsType bytes bytes (spelled (next_u1 bytes)) _ (u1_took bytes fits) (λ tag rest e more lt. tags tag rest e more (eqb tag 0) (eqb tag 1) (eqb tag 2) refl refl refl)
-  where
-    at : (tag k : ℕ) (rest : List ℕ) → bytes ≡ tag ∷ rest → eqb tag k ≡ true → bytes ≡ k ∷ rest
-    at tag k rest e t = e ∙ ap (λ (n : ℕ). n ∷ rest) (eqb-true tag k t)
-
-    tags : (tag : ℕ) (rest : List ℕ) → bytes ≡ tag ∷ rest → IsBytes rest → (b0 b1 b2 : Bool) → eqb tag 0 ≡ b0 → eqb tag 1 ≡ b1 → eqb tag 2 ≡ b2
-        → Took type_bytes IsType bytes (cond b0 (Ok (read_as Top rest)) (cond b1 (Ok (read_as Word rest)) (cond b2 (Ok (read_as Null rest)) (Err no_spelling))))
-    tags tag rest e more true b1 b2 t0 t1 t2 = (at tag 0 rest e t0, more, tt)
-    tags tag rest e more false true b2 t0 t1 t2 = (at tag 1 rest e t1, more, tt)
-    tags tag rest e more false false true t0 t1 t2 = (at tag 2 rest e t2, more, tt)
-    tags tag rest e more false false false t0 t1 t2 = tt
-
-pub type_again : (t : Ty) (rest : List ℕ) → next_type (type_bytes t ++ rest) ≡ Ok (read_as t rest)
-unfolding next_type
-type_again Top rest = refl
-type_again Word rest = refl
-type_again Null rest = refl
 
 -- ---- so many, one after the other
 

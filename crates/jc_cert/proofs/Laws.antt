@@ -7,33 +7,38 @@ use Rattle.std.proofs.lemmas.List.{append-nil, nil_from_length}
 use Rattle.jc_base.specs.Cursor.{Read, next_u1, next_u2}
 use Rattle.jc_base.specs.declared.fault.LoadFault.{LoadFault}
 use Rattle.jc_base.specs.declared.fault.LoadFault.TheVariants as fault
-use Rattle.jc_types.specs.declared.ty.Ty.{Ty}
+use Rattle.jc_cert.specs.declared.stated_type.StatedType.{StatedType}
 use Rattle.jc_cert.specs.declared.refusal.Refusal.{Refusal}
 use Rattle.jc_cert.specs.declared.refusal.Refusal.TheVariants.{Unspelled, Memory}
 use Rattle.jc_cert.specs.declared.refusal.NoSpelling.{NoSpelling}
-use Rattle.jc_cert.specs.Cert.{Stated, Row, PcsAscend, OffsetsAscend, IsStated, IsRow, IsCert}
+use Rattle.jc_cert.specs.Cert.{Stated, Row, PcsAscend, OffsetsAscend, IsStatedType, IsStated, IsRow, IsCert}
 use Rattle.jc_cert.specs.Writing.{type_bytes, stated_bytes, row_bytes, spelling}
 use Rattle.jc_cert.specs.PrivateReading.{next_number, next_type, next_types, next_stated, next_states, next_row, next_rows, next_cert, Fails, fault_of, no_spelling, spelled}
 use Rattle.jc_cert.proofs.Repeats.{read_as}
-use Rattle.jc_cert.proofs.Fields.{IsBytes, Took, took_bind, took_some, u1_took, u2_took, NumberFits, number_took, number_again, IsType, type_took, type_again, Chain, repeat_took, repeat_again}
+use Rattle.jc_cert.proofs.Types.{type_took, type_again}
+use Rattle.jc_cert.proofs.Fields.{IsBytes, Took, took_bind, took_some, u1_took, u2_took, NumberFits, number_took, number_again, Chain, repeat_took, repeat_again}
 
 -- ---- so many types
 
-abbrev pub type_in : ℕ → List ℕ → Result (Read Ty) NoSpelling
+abbrev pub type_in : ℕ → List ℕ → Result (Read StatedType) NoSpelling
 type_in s bytes = next_type bytes
 
-abbrev pub Types : ℕ → List Ty → Type 0
-Types n ts = (length ts ≡ n) × Chain type_in (λ t. 0) type_bytes (λ s. IsType) 0 ts
+abbrev pub Types : ℕ → List StatedType → Type 0
+Types n ts = (length ts ≡ n) × Chain type_in (λ t. 0) type_bytes (λ s. IsStatedType) 0 ts
 
 types_took : (n : ℕ) (bytes : List ℕ) → IsBytes bytes → Took (flat_map type_bytes) (Types n) bytes (next_types n bytes)
-types_took n bytes fits = repeat_took type_in (λ t. 0) type_bytes (λ s. IsType) (λ s bs f. type_took bs f) n 0 bytes fits
+types_took n bytes fits = repeat_took type_in (λ t. 0) type_bytes (λ s. IsStatedType) (λ s bs f. type_took bs f) n 0 bytes fits
 
-any_types : (ts : List Ty) → Chain type_in (λ t. 0) type_bytes (λ s. IsType) 0 ts
-any_types [] = tt
-any_types (t ∷ ts) = (tt, any_types ts)
+types_each : (ts : List StatedType) → Chain type_in (λ t. 0) type_bytes (λ s. IsStatedType) 0 ts → AllByRecursion IsStatedType ts
+types_each [] h = tt
+types_each (t ∷ ts) h = (h.0, types_each ts h.1)
 
-types_again : (ts : List Ty) (rest : List ℕ) → next_types (length ts) (flat_map type_bytes ts ++ rest) ≡ Ok (read_as ts rest)
-types_again ts rest = repeat_again type_in (λ t. 0) type_bytes (λ s. IsType) (λ s t r f. type_again t r) 0 ts rest (any_types ts)
+types_from : (ts : List StatedType) → AllByRecursion IsStatedType ts → Chain type_in (λ t. 0) type_bytes (λ s. IsStatedType) 0 ts
+types_from [] h = tt
+types_from (t ∷ ts) h = (h.0, types_from ts h.1)
+
+types_again : (ts : List StatedType) (rest : List ℕ) → AllByRecursion IsStatedType ts → next_types (length ts) (flat_map type_bytes ts ++ rest) ≡ Ok (read_as ts rest)
+types_again ts rest each = repeat_again type_in (λ t. 0) type_bytes (λ s. IsStatedType) (λ s t r f. type_again t r f) 0 ts rest (types_from ts each)
 
 -- ---- a state
 
@@ -48,12 +53,12 @@ stated_took least bytes fits =
     took_bind (flat_map type_bytes) (Types count) stated_bytes (StatedIn least) r2 bytes (next_types count r2) _ (types_took count r2 m2) (λ locals r3 e3 m3 f3.
     took_bind (λ b. b ∷ []) (λ b. b < 2 ^ 8) stated_bytes (StatedIn least) r3 bytes (spelled (next_u1 r3)) _ (u1_took r3 m3) (λ depth r4 e4 m4 f4.
     took_bind (flat_map type_bytes) (Types depth) stated_bytes (StatedIn least) r4 bytes (next_types depth r4) _ (types_took depth r4 m4) (λ operands r5 e5 m5 f5.
-    (text pc count depth locals operands r1 r2 r3 r4 r5 e1 e2 e3 e4 e5 f3.0 f5.0, m5, (record { pc = f1.0; locals = fitted (length locals) count (2 ^ 16) f3.0 f2; depth = fitted (length operands) depth (2 ^ 8) f5.0 f4 }, f1.1)))))))
+    (text pc count depth locals operands r1 r2 r3 r4 r5 e1 e2 e3 e4 e5 f3.0 f5.0, m5, (record { pc = f1.0; locals = fitted (length locals) count (2 ^ 16) f3.0 f2; depth = fitted (length operands) depth (2 ^ 8) f5.0 f4; each_local = types_each locals f3.1; each_operand = types_each operands f5.1 }, f1.1)))))))
   where
     fitted : (n m top : ℕ) → n ≡ m → m < top → n < top
     fitted n m top e lt = rw e lt
 
-    text : (pc count depth : ℕ) (locals operands : List Ty) (r1 r2 r3 r4 r5 : List ℕ) → bytes ≡ to_be_bytes w16 pc ++ r1 → r1 ≡ to_be_bytes w16 count ++ r2 → r2 ≡ flat_map type_bytes locals ++ r3
+    text : (pc count depth : ℕ) (locals operands : List StatedType) (r1 r2 r3 r4 r5 : List ℕ) → bytes ≡ to_be_bytes w16 pc ++ r1 → r1 ≡ to_be_bytes w16 count ++ r2 → r2 ≡ flat_map type_bytes locals ++ r3
         → r3 ≡ depth ∷ r4 → r4 ≡ flat_map type_bytes operands ++ r5 → length locals ≡ count → length operands ≡ depth
         → bytes ≡ stated_bytes (record { pc = pc; locals = locals; operands = operands }) ++ r5
     text pc count depth locals operands r1 r2 r3 r4 r5 e1 e2 e3 e4 e5 n k =
@@ -65,8 +70,8 @@ stated_again least s rest fits =
     let behind : List ℕ = flat_map type_bytes s.locals ++ length s.operands ∷ flat_map type_bytes s.operands in
     let pc = number_again least s.pc (to_be_bytes w16 (length s.locals) ++ (behind ++ rest)) (fits.0.pc, fits.1) in
     let count : 256 * (length s.locals / 256 % 256) + length s.locals % 256 ≡ length s.locals = let h = fits.0.locals in omega arith in
-    let locals = types_again s.locals (length s.operands ∷ (flat_map type_bytes s.operands ++ rest)) in
-    let operands = types_again s.operands rest in
+    let locals = types_again s.locals (length s.operands ∷ (flat_map type_bytes s.operands ++ rest)) fits.0.each_local in
+    let operands = types_again s.operands rest fits.0.each_operand in
     rw (pc, count, append_assoc (flat_map type_bytes s.locals) (length s.operands ∷ flat_map type_bytes s.operands) rest, locals, operands) refl
 
 -- ---- so many states

@@ -1,4 +1,5 @@
 mod Repeats
 mod Fields
+mod Types
 mod Laws
 mod Each

@@ -1,15 +1,19 @@
 -- What a certificate says: for methods, the types of the locals and the operands at places of their code.
 use Rattle.std.specs.Prelude.{ℕ, ◌+◌, ◌<◌, ◌≤◌, ◌^◌, List, [], ◌∷◌, length, map}
 use Rattle.std.specs.List.{AllByRecursion}
-use Rattle.jc_types.specs.declared.ty.Ty.{Ty}
+use Rattle.jc_base.specs.Aid.{shortest_aid, longest_aid}
+use Rattle.jc_cert.specs.declared.stated_type.SpelledClass.{SpelledClass}
+use Rattle.jc_cert.specs.declared.stated_type.SpelledClass.TheVariants.{Own, Api, Other}
+use Rattle.jc_cert.specs.declared.stated_type.StatedType.{StatedType}
+use Rattle.jc_cert.specs.declared.stated_type.StatedType.TheVariants.{Top, Word, Null, Class, BooleanArray, ByteArray, ShortArray, ReferenceArray}
 use Rattle.jc_cert.specs.declared.cert.StateRow.{StateRow}
 use Rattle.jc_cert.specs.declared.cert.MethodRow.{MethodRow}
 
 -- the types at a pc, the operands bottom first
 pub record Stated : Type 0 where
   pub pc : ℕ
-  pub locals : List Ty
-  pub operands : List Ty
+  pub locals : List StatedType
+  pub operands : List StatedType
 
 -- the states of the method whose header is at an offset
 pub record Row : Type 0 where
@@ -26,11 +30,30 @@ abbrev pub OffsetsAscend : ℕ → List Row → Type 0
 OffsetsAscend least [] = Unit {0}
 OffsetsAscend least (r ∷ rows) = (least ≤ r.offset) × OffsetsAscend (r.offset + 1) rows
 
+-- a class's name whose offset goes into two bytes, and whose AID has the length of one
+abbrev pub IsSpelledClass : SpelledClass → Type 0
+IsSpelledClass (Own offset) = offset < 2 ^ 16
+IsSpelledClass (Api class) = Unit {0}
+IsSpelledClass (Other aid offset) = (shortest_aid ≤ length aid) × (length aid ≤ longest_aid) × (offset < 2 ^ 16)
+
+-- a type whose class, if it has one, has a name
+abbrev pub IsStatedType : StatedType → Type 0
+IsStatedType Top = Unit {0}
+IsStatedType Word = Unit {0}
+IsStatedType Null = Unit {0}
+IsStatedType (Class class) = IsSpelledClass class
+IsStatedType BooleanArray = Unit {0}
+IsStatedType ByteArray = Unit {0}
+IsStatedType ShortArray = Unit {0}
+IsStatedType (ReferenceArray class) = IsSpelledClass class
+
 -- a state whose pc and count of locals go into two bytes each, and whose depth into one
 pub record IsStated (s : Stated) : Type 0 where
   pub pc : s.pc < 2 ^ 16
   pub locals : length s.locals < 2 ^ 16
   pub depth : length s.operands < 2 ^ 8
+  pub each_local : AllByRecursion IsStatedType s.locals
+  pub each_operand : AllByRecursion IsStatedType s.operands
 
 -- a row of one state or more, by strictly ascending pc
 pub record IsRow (r : Row) : Type 0 where

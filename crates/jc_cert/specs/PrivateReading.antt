@@ -1,13 +1,18 @@
 -- Private. Reading a certificate from left to right, each part in the state that the one before leaves. It says what the
 -- code reads, and is proved to be the inverse of the spelling.
-use Rattle.std.specs.Prelude.{◌≡◌, ℕ, zero, suc, ◌+◌, List, [], ◌∷◌, length, Option, Result, Ok, Err, nat_lt, ◌==◌, if◌then◌else◌}
+use Rattle.std.specs.Prelude.{◌≡◌, ℕ, zero, suc, ◌+◌, List, [], ◌∷◌, length, Option, Result, Ok, Err, nat_lt, ◌==◌, ◌&&◌, if◌then◌else◌}
 use Rattle.std.specs.Option.{ok_or}
-use Rattle.jc_base.specs.Cursor.{Read, next_u1, next_u2}
+use Rattle.jc_base.specs.Cursor.{Read, next_u1, next_u2, next_bytes}
 use Rattle.jc_base.specs.Results.{◌>>=◌}
 use Rattle.jc_base.specs.declared.fault.LoadFault.{LoadFault}
 use Rattle.jc_base.specs.declared.fault.LoadFault.TheVariants as fault
-use Rattle.jc_types.specs.declared.ty.Ty.{Ty}
-use Rattle.jc_types.specs.declared.ty.Ty.TheVariants.{Top, Word, Null}
+use Rattle.jc_base.specs.Aid.{aid_of}
+use Rattle.jc_api.specs.Class.{class_of}
+use Rattle.jc_api.specs.declared.class.ApiClass.{ApiClass}
+use Rattle.jc_cert.specs.declared.stated_type.SpelledClass.{SpelledClass}
+use Rattle.jc_cert.specs.declared.stated_type.SpelledClass.TheVariants.{Own, Api, Other}
+use Rattle.jc_cert.specs.declared.stated_type.StatedType.{StatedType}
+use Rattle.jc_cert.specs.declared.stated_type.StatedType.TheVariants.{Top, Word, Null, Class, BooleanArray, ByteArray, ShortArray, ReferenceArray}
 use Rattle.jc_cert.specs.declared.refusal.NoSpelling.{NoSpelling}
 use Rattle.jc_cert.specs.declared.refusal.Refusal.{Refusal}
 use Rattle.jc_cert.specs.declared.refusal.Refusal.TheVariants.{Unspelled, Memory}
@@ -26,12 +31,48 @@ next_number least bytes = do
   n ← spelled (next_u2 bytes)
   if nat_lt n.value least then Err no_spelling else Ok n
 
-unfoldable pub next_type : List ℕ → Result (Read Ty) NoSpelling
+-- what was read, made into something
+abbrev pub read_with : {A B : Type 0} → (A → B) → Result (Read A) NoSpelling → Result (Read B) NoSpelling
+read_with make read = do
+  x ← read
+  Ok (record { value = make x.value; rest = x.rest })
+
+-- a class of the API: two bytes 00 and its number
+unfoldable pub next_api : List ℕ → Result (Read ApiClass) NoSpelling
+next_api bytes = do
+  first ← spelled (next_u1 bytes)
+  high ← spelled (next_u1 first.rest)
+  number ← spelled (next_u1 high.rest)
+  class ← spelled (class_of number.value)
+  if first.value == 0 && high.value == 0 then Ok (record { value = class; rest = number.rest }) else Err no_spelling
+
+-- an offset in another package behind its AID, of so many bytes
+unfoldable pub next_other : ℕ → List ℕ → Result (Read SpelledClass) NoSpelling
+next_other len bytes = do
+  front ← spelled (next_bytes len bytes)
+  aid ← spelled (aid_of front.value)
+  offset ← spelled (next_u2 front.rest)
+  Ok (record { value = Other aid offset.value; rest = offset.rest })
+
+-- a class's name behind its length
+unfoldable pub next_class : List ℕ → Result (Read SpelledClass) NoSpelling
+next_class bytes = do
+  len ← spelled (next_u1 bytes)
+  if len.value == 0 then read_with Own (spelled (next_u2 len.rest))
+      else (if len.value == 1 then read_with Api (next_api len.rest) else next_other len.value len.rest)
+
+-- a type with its class's name
+unfoldable pub next_type : List ℕ → Result (Read StatedType) NoSpelling
 next_type bytes = do
   tag ← spelled (next_u1 bytes)
   if tag.value == 0 then Ok (record { value = Top; rest = tag.rest })
       else (if tag.value == 1 then Ok (record { value = Word; rest = tag.rest })
-      else (if tag.value == 2 then Ok (record { value = Null; rest = tag.rest }) else Err no_spelling))
+      else (if tag.value == 2 then Ok (record { value = Null; rest = tag.rest })
+      else (if tag.value == 3 then read_with Class (next_class tag.rest)
+      else (if tag.value == 4 then Ok (record { value = BooleanArray; rest = tag.rest })
+      else (if tag.value == 5 then Ok (record { value = ByteArray; rest = tag.rest })
+      else (if tag.value == 6 then Ok (record { value = ShortArray; rest = tag.rest })
+      else (if tag.value == 7 then read_with ReferenceArray (next_class tag.rest) else Err no_spelling)))))))
 
 -- so many, one after the other, each read in the state that the one before leaves
 unfoldable pub repeat_at : {S A : Type 0} → (S → List ℕ → Result (Read A) NoSpelling) → (A → S) → ℕ → S → List ℕ → Result (Read (List A)) NoSpelling
@@ -41,7 +82,7 @@ repeat_at read next (suc n) s bytes = do
   others ← repeat_at read next n (next first.value) first.rest
   Ok (record { value = first.value ∷ others.value; rest = others.rest })
 
-abbrev pub next_types : ℕ → List ℕ → Result (Read (List Ty)) NoSpelling
+abbrev pub next_types : ℕ → List ℕ → Result (Read (List StatedType)) NoSpelling
 next_types n bytes = repeat_at (λ (s : ℕ) bs. next_type bs) (λ t. 0) n 0 bytes
 
 -- a state whose pc is at least this

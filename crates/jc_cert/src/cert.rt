@@ -3,7 +3,7 @@
 ghost use Rattle.std.specs.Prelude.{◌≡◌, []};
 ghost use Rattle.jc_cert.specs.Cert.{IsCert};
 
-use jc_types::Ty;
+use crate::stated_type::StatedType;
 use std::alloc::Global;
 use std::marker::Model;
 
@@ -13,9 +13,9 @@ pub struct StateRow {
     /// The place: bytes from the first of the method's code.
     pub pc: u16,
     /// The types of the locals, at most 65,535.
-    pub locals: Vec<Ty>,
+    pub locals: Vec<StatedType>,
     /// The types of the operands, bottom first, at most 255.
-    pub operands: Vec<Ty>,
+    pub operands: Vec<StatedType>,
 }
 
 /// What a certificate claims of one method.

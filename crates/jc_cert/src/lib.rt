@@ -6,9 +6,11 @@ mod cert;
 mod law;
 mod reading;
 mod refusal;
+mod stated_type;
 mod writing;
 
 pub use cert::{Cert, MethodRow, StateRow};
 pub use law::one_spelling;
 pub use reading::read;
+pub use stated_type::{SpelledClass, StatedType};
 pub use writing::write;

@@ -4,12 +4,13 @@ ghost use Rattle.std.specs.Prelude.{◌≡◌, ◌⊎◌, List, [], IfOk, IfErr,
 ghost use Rattle.jc_base.specs.Cursor.{Gives};
 ghost use Rattle.jc_cert.specs.Cert.{Row, IsCert, stated, row, rows};
 ghost use Rattle.jc_cert.specs.Writing.{spelling};
-ghost use Rattle.jc_cert.specs.PrivateReading.{next_number, next_type, next_types, next_stated, next_states, next_row, next_rows, next_cert, GivesUnlessMemory};
+ghost use Rattle.jc_cert.specs.PrivateReading.{next_number, next_api, next_other, next_class, next_type, next_types, next_stated, next_states, next_row, next_rows, next_cert, GivesUnlessMemory};
 
 use crate::cert::{Cert, MethodRow, StateRow};
 use crate::refusal::{NoSpelling, Refusal};
-use jc_base::{Cursor, LoadFault};
-use jc_types::Ty;
+use crate::stated_type::{SpelledClass, StatedType};
+use jc_api::ApiClass;
+use jc_base::{Aid, Cursor, LoadFault};
 use std::alloc::Global;
 
 /// The next two bytes, where they spell a number from `least` on.
@@ -24,25 +25,71 @@ fn read_number(cursor: &mut Cursor, least: u32) -> Result<u16, NoSpelling>
     Ok(number)
 }
 
+/// A class of the API, behind the length 1.
+#[tactic(auto, unfolding(crate::specs::PrivateReading::next_api))]
+fn read_api(cursor: &mut Cursor) -> Result<ApiClass, NoSpelling>
+    ensures { Gives (λ class. class) result cursor.new (next_api cursor.old) }
+{
+    let first = cursor.u1().ok_or(NoSpelling)?;
+    let high = cursor.u1().ok_or(NoSpelling)?;
+    let number = cursor.u1().ok_or(NoSpelling)?;
+    let class = ApiClass::from_number(number).ok_or(NoSpelling)?;
+    if first != 0 || high != 0 {
+        return Err(NoSpelling);
+    }
+    Ok(class)
+}
+
+/// A class of another package, behind the length of that package's AID.
+#[tactic(auto, unfolding(crate::specs::PrivateReading::next_other))]
+fn read_other(cursor: &mut Cursor, len: usize) -> Result<SpelledClass, NoSpelling>
+    ensures { Gives (λ class. class) result cursor.new (next_other len cursor.old) }
+{
+    let bytes = cursor.take(len).ok_or(NoSpelling)?;
+    let package = Aid::from_slice(bytes).ok_or(NoSpelling)?;
+    let offset = cursor.u2().ok_or(NoSpelling)?;
+    Ok(SpelledClass::Other { package, offset })
+}
+
+#[tactic(auto, unfolding(crate::specs::PrivateReading::next_class))]
+fn read_class(cursor: &mut Cursor) -> Result<SpelledClass, NoSpelling>
+    ensures { Gives (λ class. class) result cursor.new (next_class cursor.old) }
+{
+    match cursor.u1().ok_or(NoSpelling)? {
+        0 => {
+            let offset = cursor.u2().ok_or(NoSpelling)?;
+            Ok(SpelledClass::Own { offset })
+        }
+        1 => Ok(SpelledClass::Api(read_api(cursor)?)),
+        len => read_other(cursor, usize::from(len)),
+    }
+}
+
 #[tactic(auto, unfolding(crate::specs::PrivateReading::next_type))]
-fn read_type(cursor: &mut Cursor) -> Result<Ty, NoSpelling>
+fn read_type(cursor: &mut Cursor) -> Result<StatedType, NoSpelling>
     ensures { Gives (λ ty. ty) result cursor.new (next_type cursor.old) }
 {
     match cursor.u1().ok_or(NoSpelling)? {
-        0 => Ok(Ty::Top),
-        1 => Ok(Ty::Word),
-        2 => Ok(Ty::Null),
+        0 => Ok(StatedType::Top),
+        1 => Ok(StatedType::Word),
+        2 => Ok(StatedType::Null),
+        3 => Ok(StatedType::Class(read_class(cursor)?)),
+        4 => Ok(StatedType::BooleanArray),
+        5 => Ok(StatedType::ByteArray),
+        6 => Ok(StatedType::ShortArray),
+        7 => Ok(StatedType::ReferenceArray(read_class(cursor)?)),
         _ => Err(NoSpelling),
     }
 }
 
-fn read_types(alloc: Global, cursor: &mut Cursor, count: u16) -> Result<Vec<Ty>, Refusal>
+fn read_types(alloc: Global, cursor: &mut Cursor, count: u16) -> Result<Vec<StatedType>, Refusal>
     ensures { GivesUnlessMemory (λ types. types.items) result cursor.new (next_types count cursor.old) }
 {
     let mut types = Vec::new(alloc);
     for _ in 0..count {
         let ty = read_type(cursor)?;
-        types.push(ty)?;
+        // As a slice: `push` hands its value back where memory is lacking, and the check fails on that for enums in enums.
+        types.extend_from_slice(&[ty])?;
     }
     Ok(types)
 }

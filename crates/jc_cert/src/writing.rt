@@ -3,27 +3,56 @@
 ghost use Rattle.std.specs.Prelude.{◌≡◌, [], ◌∷◌, ◌++◌, OnOk, IfOk};
 ghost use Rattle.std.specs.List.{flat_map};
 ghost use Rattle.jc_cert.specs.Cert.{IsStated, IsRow, IsCert, stated, row, rows};
-ghost use Rattle.jc_cert.specs.Writing.{type_bytes, stated_bytes, row_bytes, spelling};
+ghost use Rattle.jc_cert.specs.Writing.{class_bytes, type_bytes, stated_bytes, row_bytes, spelling};
 
 use crate::cert::{Cert, MethodRow, StateRow};
-use jc_types::Ty;
+use crate::stated_type::{SpelledClass, StatedType};
 use std::alloc::{AllocError, Global};
 
-fn type_byte(ty: Ty) -> u8
-    ensures { result ∷ [] ≡ type_bytes ty }
+fn put_class(out: &mut Vec<u8>, class: SpelledClass) -> Result<(), AllocError>
+    ensures { OnOk result (out.new.items ≡ out.old.items ++ class_bytes class) }
 {
-    match ty {
-        Ty::Top => 0,
-        Ty::Word => 1,
-        Ty::Null => 2,
+    match class {
+        SpelledClass::Own { offset } => {
+            out.push(0)?;
+            out.extend_from_slice(&offset.to_be_bytes())
+        }
+        SpelledClass::Api(class) => out.extend_from_slice(&[1, 0, 0, class.number()]),
+        SpelledClass::Other { package, offset } => {
+            out.push(package.len() as u8)?;
+            out.extend_from_slice(package.as_slice())?;
+            out.extend_from_slice(&offset.to_be_bytes())
+        }
     }
 }
 
-fn put_types(out: &mut Vec<u8>, types: &[Ty]) -> Result<(), AllocError>
+fn put_type(out: &mut Vec<u8>, ty: StatedType) -> Result<(), AllocError>
+    ensures { OnOk result (out.new.items ≡ out.old.items ++ type_bytes ty) }
+{
+    match ty {
+        StatedType::Top => out.push(0)?,
+        StatedType::Word => out.push(1)?,
+        StatedType::Null => out.push(2)?,
+        StatedType::Class(class) => {
+            out.push(3)?;
+            put_class(out, class)?;
+        }
+        StatedType::BooleanArray => out.push(4)?,
+        StatedType::ByteArray => out.push(5)?,
+        StatedType::ShortArray => out.push(6)?,
+        StatedType::ReferenceArray(class) => {
+            out.push(7)?;
+            put_class(out, class)?;
+        }
+    }
+    Ok(())
+}
+
+fn put_types(out: &mut Vec<u8>, types: &[StatedType]) -> Result<(), AllocError>
     ensures { OnOk result (out.new.items ≡ out.old.items ++ flat_map type_bytes types.now) }
 {
     for ty in types {
-        out.push(type_byte(*ty))?;
+        put_type(out, *ty)?;
     }
     Ok(())
 }

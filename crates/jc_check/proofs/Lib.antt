@@ -1,9 +1,13 @@
-mod Complete
-mod Sound
-mod Typed
+mod Pieces
+mod Claims
+mod Listings
 mod Marking
 mod Standing
+mod Handlers
 mod Branches
 mod Walking
+mod Sound
+mod Complete
+mod NoClasses
+mod Typed
 mod Verdicts
-mod Listings

@@ -1,12 +1,11 @@
 -- Instructions one behind the other.
 use Rattle.std.proofs.Common.{◌≡◌, ℕ, ◌≤◌, ◌==◌, List, [], ◌∷◌, ◌++◌, length, Bool, true, false, ◌||◌, Some, cond, refl, sym, subst, arith}
 use Rattle.std.proofs.lemmas.Bool.{eq-eqb, ne_eqb}
-use Rattle.jc_code.specs.Instructions.{word_instr_at}
-use Rattle.jc_code.specs.Listing.{PlacedInstr, StandBetween, IsListing, placed_at, begins, ListingLaws}
+use Rattle.jc_code.specs.Listing.{Decoder, PlacedInstr, StandBetween, IsListing, placed_at, begins, ListingLaws}
 
-pub stand-append : (code : List ℕ) (from mid to : ℕ) (xs ys : List PlacedInstr) → StandBetween word_instr_at code from xs mid → StandBetween word_instr_at code mid ys to → StandBetween word_instr_at code from (xs ++ ys) to
-stand-append code from mid to [] ys h k = let P : ℕ → Type 0 = λ n. StandBetween word_instr_at code n ys to in subst P (sym h) k
-stand-append code from mid to (x ∷ xs) ys h k = (h.0, h.1, stand-append code x.instr.next_pc mid to xs ys h.2 k)
+pub stand-append : (decoder : Decoder) (code : List ℕ) (from mid to : ℕ) (xs ys : List PlacedInstr) → StandBetween decoder code from xs mid → StandBetween decoder code mid ys to → StandBetween decoder code from (xs ++ ys) to
+stand-append decoder code from mid to [] ys h k = let P : ℕ → Type 0 = λ n. StandBetween decoder code n ys to in subst P (sym h) k
+stand-append decoder code from mid to (x ∷ xs) ys h k = (h.0, h.1, stand-append decoder code x.instr.next_pc mid to xs ys h.2 k)
 
 pub placed_begins : (xs : List PlacedInstr) (pc : ℕ) → begins xs pc ≡ true → (x : PlacedInstr) × (placed_at xs pc ≡ Some x)
 unfolding placed_at begins
@@ -18,7 +17,7 @@ placed_begins (y ∷ ys) pc e = step (y.pc == pc) (λ k. placed_begins ys pc k) 
     step false later e = later e
 
 -- from one instruction on, a listing has those behind it
-pub placed_behind : (laws : ListingLaws word_instr_at) (code : List ℕ) (from to : ℕ) (x : PlacedInstr) (xs : List PlacedInstr) (pc : ℕ) → StandBetween word_instr_at code from (x ∷ xs) to → x.instr.next_pc ≤ pc → placed_at (x ∷ xs) pc ≡ placed_at xs pc
+pub placed_behind : {decoder : Decoder} (laws : ListingLaws decoder) (code : List ℕ) (from to : ℕ) (x : PlacedInstr) (xs : List PlacedInstr) (pc : ℕ) → StandBetween decoder code from (x ∷ xs) to → x.instr.next_pc ≤ pc → placed_at (x ∷ xs) pc ≡ placed_at xs pc
 unfolding placed_at
 placed_behind laws code from to x xs pc h le =
     let n = laws.ascends code from x.instr h.1 in
@@ -43,7 +42,7 @@ begins-push (y ∷ ys) x pc = rw (begins-push ys x pc) (regroup (y.pc == pc) (be
     regroup false b c = refl
 
 -- no instruction begins past the code
-pub none_past : (laws : ListingLaws word_instr_at) (code : List ℕ) (listing : List PlacedInstr) (pc : ℕ) → IsListing word_instr_at code listing → length code ≤ pc → begins listing pc ≡ false
+pub none_past : {decoder : Decoder} (laws : ListingLaws decoder) (code : List ℕ) (listing : List PlacedInstr) (pc : ℕ) → IsListing decoder code listing → length code ≤ pc → begins listing pc ≡ false
 none_past laws code listing pc whole le = by (begins listing pc) refl
   where
     by : (b : Bool) → begins listing pc ≡ b → b ≡ false

@@ -1,20 +1,19 @@
--- Marking where instructions begin, and where the certificate has states.
+-- Marking where instructions begin.
 use Rattle.std.proofs.Common.{◌≡◌, ℕ, zero, suc, ◌≤◌, ◌<◌, ◌==◌, List, [], ◌∷◌, ◌++◌, length, get_or, set, Ok, Bool, true, false, ◌||◌, inl, inr, refl, sym, ap, ◌∙◌, subst, arith, length-set, get_or-set_same, get_or-set_other}
 use Rattle.std.specs.Prelude.{replicate}
 use Rattle.std.proofs.lemmas.List.{length-replicate}
 use Rattle.std.proofs.lemmas.Bool.{cases_eq, eq-eqb, ne_eqb}
 use Rattle.jc_code.specs.declared.instr.Instr.{Instr}
-use Rattle.jc_code.specs.Instructions.{word_instr_at}
-use Rattle.jc_code.specs.Listing.{PlacedInstr, StandBetween, IsListing, begins}
+use Rattle.jc_code.specs.Listing.{Decoder, PlacedInstr, StandBetween, IsListing, begins}
 use Rattle.jc_check.proofs.Listings.{stand-append, begins-push}
 use Rattle.jc_check.specs.declared.mark.Mark.{Mark}
 use Rattle.jc_check.specs.declared.mark.Mark.TheVariants.{Inside, Start}
 use Rattle.jc_check.specs.PrivateMarks.{mark_of, MarksStarts, placed}
 
 -- what is marked once the instructions up to a pc have been decoded
-pub record SoFar (code : List ℕ) (pc : ℕ) (marks : List Mark) : Type 0 where
+pub record SoFar (decoder : Decoder) (code : List ℕ) (pc : ℕ) (marks : List Mark) : Type 0 where
   pub front : List PlacedInstr
-  pub runs : StandBetween word_instr_at code 0 front pc
+  pub runs : StandBetween decoder code 0 front pc
   pub within : pc ≤ length code
   pub marked : MarksStarts code front marks
 
@@ -23,13 +22,13 @@ all_inside zero pc = refl
 all_inside (suc n) zero = refl
 all_inside (suc n) (suc pc) = all_inside n pc
 
-pub none_yet : (code : List ℕ) (marks : List Mark) → marks ≡ replicate (length code) Inside → SoFar code 0 marks
+pub none_yet : (decoder : Decoder) (code : List ℕ) (marks : List Mark) → marks ≡ replicate (length code) Inside → SoFar decoder code 0 marks
 unfolding begins
-none_yet code marks e = record {
+none_yet decoder code marks e = record {
   front = [];
   runs = refl;
   within = omega arith;
-  marked = record { len = ap (λ (ps : List Mark). length ps) e ∙ length-replicate (length code) Inside; each = λ pc lt. ap (λ (ps : List Mark). get_or ps pc Inside) e ∙ all_inside (length code) pc };
+  marked = record { len = ap (λ (ps : List Mark). length ps) e ∙ length-replicate (length code) Inside; each = λ pc. ap (λ (ps : List Mark). get_or ps pc Inside) e ∙ all_inside (length code) pc };
 }
 
 true_last : (b : Bool) → b || true ≡ true
@@ -43,7 +42,7 @@ false_last false = refl
 one_more : (code : List ℕ) (pc : ℕ) (i : Instr) (front : List PlacedInstr) (marks : List Mark) → pc < length code → MarksStarts code front marks → MarksStarts code (front ++ placed pc i ∷ []) (set marks pc Start)
 one_more code pc i front marks lt marked = record {
   len = length-set marks pc Start ∙ marked.len;
-  each = λ q q_in. elim (cases_eq pc q) [
+  each = λ q. elim (cases_eq pc q) [
     | inl same ↦
         let e : (pc == q) ≡ true = eq-eqb pc q same in
         let b : begins (front ++ placed pc i ∷ []) q ≡ true = begins-push front (placed pc i) q ∙ ap (λ (t : Bool). begins front q || t) e ∙ true_last (begins front q) in
@@ -52,20 +51,20 @@ one_more code pc i front marks lt marked = record {
     | inr ne ↦
         let e : (pc == q) ≡ false = ne_eqb pc q ne in
         let b : begins (front ++ placed pc i ∷ []) q ≡ begins front q = begins-push front (placed pc i) q ∙ ap (λ (t : Bool). begins front q || t) e ∙ false_last (begins front q) in
-        get_or-set_other marks pc q Start Inside (λ h. ne (sym h)) ∙ marked.each q q_in ∙ ap mark_of (sym b)
+        get_or-set_other marks pc q Start Inside (λ h. ne (sym h)) ∙ marked.each q ∙ ap mark_of (sym b)
   ];
 }
 
-pub goes_on : (code : List ℕ) (pc : ℕ) (i : Instr) (marks : List Mark) → pc < length code → word_instr_at code pc ≡ Ok i → i.next_pc ≤ length code → SoFar code pc marks → SoFar code i.next_pc (set marks pc Start)
-goes_on code pc i marks lt at within s = record {
+pub goes_on : (decoder : Decoder) (code : List ℕ) (pc : ℕ) (i : Instr) (marks : List Mark) → pc < length code → decoder code pc ≡ Ok i → i.next_pc ≤ length code → SoFar decoder code pc marks → SoFar decoder code i.next_pc (set marks pc Start)
+goes_on decoder code pc i marks lt at within s = record {
   front = s.front ++ placed pc i ∷ [];
-  runs = stand-append code 0 pc i.next_pc s.front (placed pc i ∷ []) s.runs (refl, at, refl);
+  runs = stand-append decoder code 0 pc i.next_pc s.front (placed pc i ∷ []) s.runs (refl, at, refl);
   within = within;
   marked = one_more code pc i s.front marks lt s.marked;
 }
 
-pub is_done : (code : List ℕ) (pc : ℕ) (marks : List Mark) → length code ≤ pc → SoFar code pc marks → (listing : List PlacedInstr) × IsListing word_instr_at code listing × MarksStarts code listing marks
-is_done code pc marks le s =
+pub is_done : (decoder : Decoder) (code : List ℕ) (pc : ℕ) (marks : List Mark) → length code ≤ pc → SoFar decoder code pc marks → (listing : List PlacedInstr) × IsListing decoder code listing × MarksStarts code listing marks
+is_done decoder code pc marks le s =
     let end : pc ≡ length code = omega (arith, s.within) in
-    let R : ℕ → Type 0 = λ n. StandBetween word_instr_at code 0 s.front n in
+    let R : ℕ → Type 0 = λ n. StandBetween decoder code 0 s.front n in
     (s.front, subst R end s.runs, s.marked)

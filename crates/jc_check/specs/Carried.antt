@@ -1,22 +1,23 @@
 -- What it means that a certificate carries a method: with the certificate's states there is one typing that goes
 -- from instruction to instruction, and it is well typed.
-use Rattle.std.specs.Prelude.{⊤, ◌≡◌, ℕ, ℤ, pos, ◌+◌, ◌^◌, ◌<◌, ◌==◌, ◌&&◌, List, [], ◌∷◌, length, Option, Some, None, Ok, Bool, true, false, nat_le, if◌then◌else◌}
+use Rattle.std.specs.Prelude.{⊤, ◌≡◌, ℕ, ℤ, pos, ◌+◌, ◌^◌, ◌<◌, ◌==◌, ◌&&◌, List, [], ◌∷◌, length, map, Option, Some, None, Ok, Bool, true, false, nat_le, if◌then◌else◌}
 use Rattle.std.specs.List.{AllByRecursion}
-use Rattle.jc_code.specs.Instructions.{word_instr_at}
+use Rattle.jc_classes.specs.declared.name.ClassName.{ClassName}
 use Rattle.jc_code.specs.Listing.{PlacedInstr, IsListing, placed_at, begins}
 use Rattle.jc_code.specs.Targets.{targets_of, falls_of}
 use Rattle.jc_types.specs.State.{Types, types_below, stated_types}
 use Rattle.jc_cert.specs.Cert.{Stated, Row}
-use Rattle.jc_check.specs.Method.{Method, entry_of, word_method, states_of}
-use Rattle.jc_check.specs.WordEffect.{word_effect}
+use Rattle.jc_check.specs.Rules.{Rules, word_rules}
+use Rattle.jc_check.specs.Method.{Handler, Method, caught_types, covers, entry_of, word_method, states_of}
+use Rattle.jc_check.specs.Claim.{Claim, claim_of}
 use Rattle.jc_check.specs.Typing.{Typing}
 
--- the types of a certificate's state
-abbrev pub types_of : Stated → Types
+-- the types of a claim
+abbrev pub types_of : Claim → Types
 types_of c = stated_types c.locals c.operands
 
--- the certificate's state at a pc
-unfoldable pub state_at : List Stated → ℕ → Option Types
+-- the claimed state at a pc
+unfoldable pub state_at : List Claim → ℕ → Option Types
 state_at [] pc = None
 state_at (c ∷ cs) pc = if c.pc == pc then Some (types_of c) else state_at cs pc
 
@@ -29,19 +30,25 @@ pub record Stands (m : Method) (listing : List PlacedInstr) (c : Stated) : Type 
   pub begin : begins listing c.pc ≡ true
   pub shape : has_shape m c ≡ true
 
+-- a handler goes on where an instruction begins, and catches a class
+pub record HandlerStands (listing : List PlacedInstr) (h : Handler) : Type 0 where
+  pub begin : begins listing h.goes_on ≡ true
+  pub class : ClassName
+  pub catches : h.caught ≡ Some class
+
 -- a branch leads to an instruction where the certificate has a state above these types
-pub record Arrives (listing : List PlacedInstr) (states : List Stated) (t : Types) (place : ℤ) : Type 0 where
+pub record Arrives (rules : Rules) (listing : List PlacedInstr) (claims : List Claim) (t : Types) (place : ℤ) : Type 0 where
   pub pc : ℕ
   pub is : place ≡ pos pc
   pub begin : begins listing pc ≡ true
   pub state : Types
-  pub stated : state_at states pc ≡ Some state
-  pub below : types_below t state ≡ true
+  pub stated : state_at claims pc ≡ Some state
+  pub below : types_below rules.below t state ≡ true
 
 -- these types go on to the next pc: they are its state, unless the certificate has one there, which is above them
-abbrev pub GoesOn : Option Types → Option Types → Types → Type 0
-GoesOn None state t = state ≡ Some t
-GoesOn (Some c) state t = types_below t c ≡ true
+abbrev pub GoesOn : Rules → Option Types → Option Types → Types → Type 0
+GoesOn rules None state t = state ≡ Some t
+GoesOn rules (Some c) state t = types_below rules.below t c ≡ true
 
 -- nothing goes on to the next pc: it has no state, unless the certificate has one there
 abbrev pub NothingGoesOn : Option Types → Option Types → Type 0
@@ -49,40 +56,58 @@ NothingGoesOn None state = state ≡ None
 NothingGoesOn (Some c) state = ⊤
 
 -- what goes on to a pc, which lies within the code where anything does
-abbrev pub GoesOnIf : Method → List Stated → Typing → Bool → Types → ℕ → Type 0
-GoesOnIf m states typing true t pc = (pc < length m.code) × GoesOn (state_at states pc) (typing pc) t
-GoesOnIf m states typing false t pc = NothingGoesOn (state_at states pc) (typing pc)
+abbrev pub GoesOnIf : Rules → Method → List Claim → Typing → Bool → Types → ℕ → Type 0
+GoesOnIf rules m claims typing true t pc = (pc < length m.code) × GoesOn rules (state_at claims pc) (typing pc) t
+GoesOnIf rules m claims typing false t pc = NothingGoesOn (state_at claims pc) (typing pc)
 
--- an instruction has an effect on the state before it, and the state after goes where the certificate says
-pub record IsCarriedAt (m : Method) (listing : List PlacedInstr) (states : List Stated) (typing : Typing) (x : PlacedInstr) (s : Types) : Type 0 where
+-- a handler catches a class, and the certificate has a state where it goes on, which is above these types with that class caught
+pub record IsCaught (rules : Rules) (claims : List Claim) (t : Types) (h : Handler) : Type 0 where
+  pub class : ClassName
+  pub catches : h.caught ≡ Some class
+  pub state : Types
+  pub stated : state_at claims h.goes_on ≡ Some state
+  pub below : types_below rules.below (caught_types class t) state ≡ true
+
+-- so it is where the handler covers a pc with these types
+abbrev pub IsHandled : Rules → List Claim → ℕ → Types → Handler → Type 0
+IsHandled rules claims pc t h = covers h pc ≡ true → IsCaught rules claims t h
+
+-- the handlers that cover an instruction catch in the state before it; it has an effect on that state, and the state after goes where the certificate says
+pub record IsCarriedAt (rules : Rules) (m : Method) (listing : List PlacedInstr) (claims : List Claim) (typing : Typing) (x : PlacedInstr) (s : Types) : Type 0 where
+  pub handled : AllByRecursion (IsHandled rules claims x.pc s) m.handlers
   pub after : Types
-  pub effect : word_effect m.max_stack m.returned x.instr.operation s ≡ Ok after
-  pub branches : AllByRecursion (Arrives listing states after) (targets_of x.pc x.instr.operation)
-  pub behind : GoesOnIf m states typing (falls_of x.instr.operation) after x.instr.next_pc
+  pub effect : rules.effect m.max_stack m.returned x.instr.operation s ≡ Ok after
+  pub branches : AllByRecursion (Arrives rules listing claims after) (targets_of x.pc x.instr.operation)
+  pub behind : GoesOnIf rules m claims typing (falls_of x.instr.operation) after x.instr.next_pc
 
 -- the states carry the method
-pub record Carries (m : Method) (states : List Stated) : Type 0 where
+pub record Carries (rules : Rules) (m : Method) (states : List Stated) : Type 0 where
+  -- their classes are found
+  pub claims : List Claim
+  pub found : map (claim_of rules) states ≡ map Some claims
   -- the code decodes
   pub listing : List PlacedInstr
-  pub whole : IsListing word_instr_at m.code listing
+  pub whole : IsListing rules.decoder m.code listing
+  -- each handler goes on where an instruction begins, and catches a class
+  pub caught : AllByRecursion (HandlerStands listing) m.handlers
   -- each state stands where an instruction begins, in the method's shape
   pub fitting : AllByRecursion (Stands m listing) states
   -- there is a typing, of starts of instructions alone
   pub typing : Typing
   pub starts : (pc : ℕ) (s : Types) → typing pc ≡ Some s → begins listing pc ≡ true
   -- it has the certificate's state wherever the certificate has one
-  pub stated : (pc : ℕ) (s : Types) → state_at states pc ≡ Some s → typing pc ≡ Some s
+  pub stated : (pc : ℕ) (s : Types) → state_at claims pc ≡ Some s → typing pc ≡ Some s
   -- the entry state goes to pc 0
-  pub entry : GoesOnIf m states typing true (entry_of m) 0
+  pub entry : GoesOnIf rules m claims typing true (entry_of m) 0
   -- each instruction with a state is carried, and behind one without a state nothing goes on
-  pub live : (pc : ℕ) (x : PlacedInstr) (s : Types) → placed_at listing pc ≡ Some x → typing pc ≡ Some s → IsCarriedAt m listing states typing x s
-  pub dead : (pc : ℕ) (x : PlacedInstr) → placed_at listing pc ≡ Some x → typing pc ≡ None → NothingGoesOn (state_at states x.instr.next_pc) (typing x.instr.next_pc)
+  pub live : (pc : ℕ) (x : PlacedInstr) (s : Types) → placed_at listing pc ≡ Some x → typing pc ≡ Some s → IsCarriedAt rules m listing claims typing x s
+  pub dead : (pc : ℕ) (x : PlacedInstr) → placed_at listing pc ≡ Some x → typing pc ≡ None → NothingGoesOn (state_at claims x.instr.next_pc) (typing x.instr.next_pc)
 
 -- a certificate carries code alone
 pub record CertCarriesCode (code : List ℕ) (rows : List Row) : Type 0 where
   pub states : List Stated
   pub are : states_of rows ≡ Some states
-  pub carried : Carries (word_method code) states
+  pub carried : Carries word_rules (word_method code) states
 
 -- code that some certificate carries, of at most 65,535 bytes
 pub record IsCarriedBySome (code : List ℕ) : Type 0 where

@@ -1,84 +1,127 @@
 -- The first fault of a method that its certificate doesn't carry, in the order of the tests: rows for no method,
--- empty code, decoding, the certificate's states, and then the instructions by ascending pc.
+-- empty code, decoding, the handlers, the certificate's states, and then the instructions by ascending pc.
 use Rattle.std.specs.Prelude.{⊤, ◌≡◌, ◌≢◌, ℕ, ℤ, pos, negsuc, List, [], ◌∷◌, length, Option, Some, None, Result, Ok, Err, Bool, ◌&&◌, nat_lt, if◌then◌else◌}
 use Rattle.jc_base.specs.declared.reason.Reason.{Reason}
-use Rattle.jc_base.specs.declared.reason.Reason.TheVariants.{NoTarget, CertMismatch, FallsOff}
+use Rattle.jc_base.specs.declared.reason.Reason.TheVariants.{NoTarget, CertMismatch, FallsOff, WrongType}
 use Rattle.jc_base.specs.declared.reason.Reason.TheVariants as reasons
 use Rattle.jc_base.specs.Results.{◌>>=◌}
 use Rattle.jc_code.specs.declared.fault.CodeFault.{CodeFault}
 use Rattle.jc_code.specs.declared.fault.CodeFault.TheVariants as faults
-use Rattle.jc_code.specs.Instructions.{word_instr_at}
+use Rattle.jc_classes.specs.declared.name.ClassName.{ClassName}
 use Rattle.jc_code.specs.Listing.{PlacedInstr, IsListing, StopsAt, begins}
 use Rattle.jc_code.specs.Targets.{targets_of, falls_of}
 use Rattle.jc_types.specs.State.{Types, types_below}
 use Rattle.jc_cert.specs.Cert.{Stated}
 use Rattle.jc_check.specs.declared.fault.Fault.{Fault}
-use Rattle.jc_check.specs.Method.{Method, entry_of, word_method}
-use Rattle.jc_check.specs.WordEffect.{word_effect}
+use Rattle.jc_check.specs.Rules.{Rules, word_rules}
+use Rattle.jc_check.specs.Method.{Handler, Method, caught_types, covers, entry_of, word_method}
+use Rattle.jc_check.specs.Claim.{Claim, claim_of}
 use Rattle.jc_check.specs.Carried.{state_at, has_shape}
 
 abbrev pub told_at : {A : Type 0} → ℕ → Result A Reason → Result A Fault
 told_at pc (Ok x) = Ok x
 told_at pc (Err reason) = Err (record { pc = pc; reason = reason })
 
--- the certificate's states in order: each where an instruction begins, in the method's shape
-unfoldable pub states_stand : Method → List PlacedInstr → List Stated → Result ⊤ Fault
-states_stand m listing [] = Ok tt
-states_stand m listing (c ∷ cs) = if begins listing c.pc && has_shape m c then states_stand m listing cs else Err (record { pc = c.pc; reason = CertMismatch })
+-- what a handler catches
+abbrev pub catches_some : Option ClassName → Result ⊤ Reason
+catches_some None = Err WrongType
+catches_some (Some class) = Ok tt
 
-abbrev pub meets : Types → Option Types → Result ⊤ Reason
-meets t None = Err CertMismatch
-meets t (Some c) = if types_below t c then Ok tt else Err CertMismatch
+-- a handler: it goes on where an instruction begins, and catches a class
+abbrev pub handler_stands : List PlacedInstr → Handler → Result ⊤ Reason
+handler_stands listing h = if begins listing h.goes_on then catches_some h.caught else Err NoTarget
+
+-- the handlers in order
+unfoldable pub handlers_stand : List PlacedInstr → List Handler → Result ⊤ Fault
+handlers_stand listing [] = Ok tt
+handlers_stand listing (h ∷ hs) = told_at h.goes_on (handler_stands listing h) >>= λ _. handlers_stand listing hs
+
+-- a claim, if there is one
+abbrev pub claim_or_fault : Option Claim → Result Claim Reason
+claim_or_fault None = Err CertMismatch
+claim_or_fault (Some claim) = Ok claim
+
+-- a state of the certificate: it is where an instruction begins, in the method's shape, and its classes are found
+abbrev pub state_stands : Rules → Method → List PlacedInstr → Stated → Result Claim Reason
+state_stands rules m listing c = if begins listing c.pc && has_shape m c then claim_or_fault (claim_of rules c) else Err CertMismatch
+
+-- the certificate's states in order, with their classes found
+unfoldable pub states_stand : Rules → Method → List PlacedInstr → List Stated → Result (List Claim) Fault
+states_stand rules m listing [] = Ok []
+states_stand rules m listing (c ∷ cs) = told_at c.pc (state_stands rules m listing c) >>= λ claim. states_stand rules m listing cs >>= λ claims. Ok (claim ∷ claims)
+
+-- types where a state is claimed, which is above them
+abbrev pub meets : Rules → Types → Option Types → Result ⊤ Reason
+meets rules t None = Err CertMismatch
+meets rules t (Some c) = if types_below rules.below t c then Ok tt else Err CertMismatch
 
 -- a branch to a place: an instruction begins there, and the certificate has a state there, above these types
-unfoldable pub arrives : List PlacedInstr → List Stated → Types → ℤ → Result ⊤ Reason
-arrives listing states t (pos pc) = if begins listing pc then meets t (state_at states pc) else Err NoTarget
-arrives listing states t (negsuc n) = Err NoTarget
+unfoldable pub arrives : Rules → List PlacedInstr → List Claim → Types → ℤ → Result ⊤ Reason
+arrives rules listing claims t (pos pc) = if begins listing pc then meets rules t (state_at claims pc) else Err NoTarget
+arrives rules listing claims t (negsuc n) = Err NoTarget
 
 -- each branch in turn
-abbrev pub all_arrive : List PlacedInstr → List Stated → Types → List ℤ → Result ⊤ Reason
-all_arrive listing states t [] = Ok tt
-all_arrive listing states t (place ∷ places) = arrives listing states t place >>= λ _. all_arrive listing states t places
+abbrev pub all_arrive : Rules → List PlacedInstr → List Claim → Types → List ℤ → Result ⊤ Reason
+all_arrive rules listing claims t [] = Ok tt
+all_arrive rules listing claims t (place ∷ places) = arrives rules listing claims t place >>= λ _. all_arrive rules listing claims t places
 
-abbrev pub flows : Types → Option Types → Result (Option Types) Reason
-flows t None = Ok (Some t)
-flows t (Some c) = if types_below t c then Ok None else Err CertMismatch
+-- these types, or nothing where a state is claimed that is above them
+abbrev pub flows : Rules → Types → Option Types → Result (Option Types) Reason
+flows rules t None = Ok (Some t)
+flows rules t (Some c) = if types_below rules.below t c then Ok None else Err CertMismatch
 
 -- what goes on to a pc: these types, or nothing where the certificate has a state above them
-unfoldable pub falls_to : Method → List Stated → Types → ℕ → Result (Option Types) Reason
-falls_to m states t pc = if nat_lt pc (length m.code) then flows t (state_at states pc) else Err FallsOff
+unfoldable pub falls_to : Rules → Method → List Claim → Types → ℕ → Result (Option Types) Reason
+falls_to rules m claims t pc = if nat_lt pc (length m.code) then flows rules t (state_at claims pc) else Err FallsOff
 
-abbrev pub falls_if : Method → List Stated → Bool → Types → ℕ → Result (Option Types) Reason
-falls_if m states falls t pc = if falls then falls_to m states t pc else Ok None
+abbrev pub falls_if : Rules → Method → List Claim → Bool → Types → ℕ → Result (Option Types) Reason
+falls_if rules m claims falls t pc = if falls then falls_to rules m claims t pc else Ok None
 
--- an instruction on a state: its effect, its branches, and then what goes on behind it
-unfoldable pub visit_live : Method → List PlacedInstr → List Stated → PlacedInstr → Types → Result (Option Types) Reason
-visit_live m listing states x s = do
-  after ← word_effect m.max_stack m.returned x.instr.operation s
-  _ ← all_arrive listing states after (targets_of x.pc x.instr.operation)
-  falls_if m states (falls_of x.instr.operation) after x.instr.next_pc
+-- a handler that covers an instruction: it catches a class, and the types before the instruction with that class caught meet the
+-- claimed state where it goes on
+abbrev pub catches_at : Rules → List Claim → Types → ℕ → Option ClassName → Result ⊤ Reason
+catches_at rules claims t goes_on None = Err CertMismatch
+catches_at rules claims t goes_on (Some class) = meets rules (caught_types class t) (state_at claims goes_on)
+
+-- a handler at an instruction
+unfoldable pub handles : Rules → List Claim → ℕ → Types → Handler → Result ⊤ Reason
+handles rules claims pc t h = if covers h pc then catches_at rules claims t h.goes_on h.caught else Ok tt
+
+-- each handler in turn
+abbrev pub all_handle : Rules → List Claim → ℕ → Types → List Handler → Result ⊤ Reason
+all_handle rules claims pc t [] = Ok tt
+all_handle rules claims pc t (h ∷ hs) = handles rules claims pc t h >>= λ _. all_handle rules claims pc t hs
+
+-- an instruction on a state: the handlers that cover it, its effect, its branches, and then what goes on behind it
+unfoldable pub visit_live : Rules → Method → List PlacedInstr → List Claim → PlacedInstr → Types → Result (Option Types) Reason
+visit_live rules m listing claims x s = do
+  _ ← all_handle rules claims x.pc s m.handlers
+  after ← rules.effect m.max_stack m.returned x.instr.operation s
+  _ ← all_arrive rules listing claims after (targets_of x.pc x.instr.operation)
+  falls_if rules m claims (falls_of x.instr.operation) after x.instr.next_pc
 
 -- the state at an instruction is the certificate's, if it has one, else what flows in; with neither it is dead
-abbrev pub visit_on : Method → List PlacedInstr → List Stated → PlacedInstr → Option Types → Option Types → Result (Option Types) Reason
-visit_on m listing states x (Some c) flow = visit_live m listing states x c
-visit_on m listing states x None (Some s) = visit_live m listing states x s
-visit_on m listing states x None None = Ok None
+abbrev pub visit_on : Rules → Method → List PlacedInstr → List Claim → PlacedInstr → Option Types → Option Types → Result (Option Types) Reason
+visit_on rules m listing claims x (Some c) flow = visit_live rules m listing claims x c
+visit_on rules m listing claims x None (Some s) = visit_live rules m listing claims x s
+visit_on rules m listing claims x None None = Ok None
 
-unfoldable pub visit : Method → List PlacedInstr → List Stated → PlacedInstr → Option Types → Result (Option Types) Reason
-visit m listing states x flow = visit_on m listing states x (state_at states x.pc) flow
+unfoldable pub visit : Rules → Method → List PlacedInstr → List Claim → PlacedInstr → Option Types → Result (Option Types) Reason
+visit rules m listing claims x flow = visit_on rules m listing claims x (state_at claims x.pc) flow
 
 -- the instructions in order, with what flows into the first
-unfoldable pub walk : Method → List PlacedInstr → List Stated → Option Types → List PlacedInstr → Result ⊤ Fault
-walk m listing states flow [] = Ok tt
-walk m listing states flow (x ∷ xs) = told_at x.pc (visit m listing states x flow) >>= λ next. walk m listing states next xs
+unfoldable pub walk : Rules → Method → List PlacedInstr → List Claim → Option Types → List PlacedInstr → Result ⊤ Fault
+walk rules m listing claims flow [] = Ok tt
+walk rules m listing claims flow (x ∷ xs) = told_at x.pc (visit rules m listing claims x flow) >>= λ next. walk rules m listing claims next xs
 
 -- the entry state goes to pc 0, and the instructions follow
-abbrev pub flow_findings_of : Method → List PlacedInstr → List Stated → Result ⊤ Fault
-flow_findings_of m listing states = told_at 0 (falls_to m states (entry_of m) 0) >>= λ flow. walk m listing states flow listing
+abbrev pub flow_findings_of : Rules → Method → List PlacedInstr → List Claim → Result ⊤ Fault
+flow_findings_of rules m listing claims = told_at 0 (falls_to rules m claims (entry_of m) 0) >>= λ flow. walk rules m listing claims flow listing
 
--- what is found in code that decodes: a state of the certificate that doesn't stand, or else what the pass finds
-unfoldable pub findings_of : Method → List PlacedInstr → List Stated → Result ⊤ Fault
-findings_of m listing states = states_stand m listing states >>= λ _. flow_findings_of m listing states
+-- what is found in code that decodes: a handler that doesn't stand, a state of the certificate that doesn't, or else what the pass
+-- finds
+unfoldable pub findings_of : Rules → Method → List PlacedInstr → List Stated → Result ⊤ Fault
+findings_of rules m listing states = handlers_stand listing m.handlers >>= λ _. states_stand rules m listing states >>= λ claims. flow_findings_of rules m listing claims
 
 -- the reason that is told of a fault in decoding
 abbrev pub reason_of : CodeFault → Reason
@@ -89,12 +132,12 @@ reason_of faults.CutShort = reasons.CutShort
 abbrev pub fault_at : ℕ → Reason → Fault
 fault_at pc reason = record { pc = pc; reason = reason }
 
-pub data IsFirstFault (m : Method) (states : List Stated) : Fault → Type 0 where
-  empty : m.code ≡ [] → IsFirstFault m states (fault_at 0 FallsOff)
-  undecoded : (pc : ℕ) (fault : CodeFault) → StopsAt word_instr_at m.code pc fault → IsFirstFault m states (fault_at pc (reason_of fault))
-  found : (listing : List PlacedInstr) (fault : Fault) → IsListing word_instr_at m.code listing → m.code ≢ [] → findings_of m listing states ≡ Err fault → IsFirstFault m states fault
+pub data IsFirstFault (rules : Rules) (m : Method) (states : List Stated) : Fault → Type 0 where
+  empty : m.code ≡ [] → IsFirstFault rules m states (fault_at 0 FallsOff)
+  undecoded : (pc : ℕ) (fault : CodeFault) → StopsAt rules.decoder m.code pc fault → IsFirstFault rules m states (fault_at pc (reason_of fault))
+  found : (listing : List PlacedInstr) (fault : Fault) → IsListing rules.decoder m.code listing → m.code ≢ [] → findings_of rules m listing states ≡ Err fault → IsFirstFault rules m states fault
 
 -- the first fault of code alone with a certificate
 abbrev pub IsFirstFaultOf : List ℕ → Option (List Stated) → Fault → Type 0
 IsFirstFaultOf code None fault = fault ≡ fault_at 0 CertMismatch
-IsFirstFaultOf code (Some states) fault = IsFirstFault (word_method code) states fault
+IsFirstFaultOf code (Some states) fault = IsFirstFault word_rules (word_method code) states fault

@@ -1,6 +1,7 @@
+pub mod Rules
 pub mod Fault
 pub mod Method
-pub mod WordEffect
+pub mod Claim
 pub mod Typing
 pub mod Carried
 pub mod FirstFault

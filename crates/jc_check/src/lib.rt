@@ -1,11 +1,15 @@
 //! The check that a certificate carries a method.
 #![tactic(auto)]
 
+mod check;
+mod claim;
 mod fault;
+mod handler;
 mod law;
 mod mark;
 mod method;
 mod pass;
+mod rules;
 mod table;
 mod words;
 

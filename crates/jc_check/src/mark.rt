@@ -7,6 +7,6 @@ pub(crate) enum Mark {
     Inside,
     /// The first byte of an instruction.
     Start,
-    /// The same, where the certificate has its state of this number.
+    /// The same, where the claim of this number is.
     Holds(u16),
 }

@@ -3,6 +3,7 @@
 ghost use Rattle.std.specs.Prelude.{◌≡◌};
 ghost use Rattle.jc_check.specs.Method.{word_method};
 
+use crate::handler::Handler;
 use jc_types::Ty;
 use std::marker::Model;
 
@@ -13,7 +14,7 @@ pub const WORD_LOCALS: usize = 2;
 pub const WORD_MAX_STACK: usize = 8;
 
 /// A method: its code, the types of its arguments, how many locals it has beside them, how many operands it may have,
-/// and the type of its result, if it isn't void.
+/// the type of its result, if it isn't void, and its handlers.
 #[derive(Drop)]
 pub(crate) struct Method<'a> {
     pub(crate) code: &'a [u8],
@@ -21,6 +22,7 @@ pub(crate) struct Method<'a> {
     pub(crate) max_locals: u8,
     pub(crate) max_stack: u8,
     pub(crate) returned: Option<Ty>,
+    pub(crate) handlers: &'a [Handler],
 }
 
 impl<'a> Model for Method<'a> {
@@ -28,11 +30,11 @@ impl<'a> Model for Method<'a> {
 
     ghost Value = { Method };
 
-    ghost view = { λ m. record { code = m.code.now; arguments = m.arguments.now; max_locals = m.max_locals; max_stack = m.max_stack; returned = m.returned } };
+    ghost view = { λ m. record { code = m.code.now; arguments = m.arguments.now; max_locals = m.max_locals; max_stack = m.max_stack; returned = m.returned; handlers = m.handlers.now } };
 }
 
 impl<'a> Method<'a> {
-    /// Code alone: a static method without arguments that returns a short.
+    /// Code alone: a static method without arguments and handlers that returns a short.
     pub(crate) fn of_words(code: &'a [u8]) -> Method<'a>
         ensures { result ≡ word_method code.now }
     {
@@ -42,6 +44,7 @@ impl<'a> Method<'a> {
             max_locals: WORD_LOCALS as u8,
             max_stack: WORD_MAX_STACK as u8,
             returned: Some(Ty::Word),
+            handlers: &[],
         }
     }
 
@@ -50,5 +53,12 @@ impl<'a> Method<'a> {
         ensures { result.now ≡ self.now.code }
     {
         self.code
+    }
+
+    /// Its handlers.
+    pub(crate) fn handlers(&self) -> &'a [Handler]
+        ensures { result.now ≡ self.now.handlers }
+    {
+        self.handlers
     }
 }

@@ -1,56 +1,130 @@
 //! The pass over the instructions by ascending pc, with one state that is changed in place.
 
-ghost use Rattle.std.specs.Option.{option_copied};
-ghost use Rattle.std.specs.Prelude.{◌≡◌, ◌<◌, ◌≤◌, ◌^◌, ℤ, Some, List, map, length, pos, slice_get};
+ghost use Rattle.std.specs.Prelude.{◌≡◌, ◌<◌, ◌^◌, ℤ, Some, List, length, pos, slice_get};
 ghost use Rattle.jc_code.specs.Listing.{PlacedInstr};
-ghost use Rattle.jc_code.specs.Instructions.{word_instr_at};
 ghost use Rattle.jc_code.specs.Targets.{targets_of};
-ghost use Rattle.jc_cert.specs.Cert.{stated};
-ghost use Rattle.jc_types.specs.Changes.{Became};
 ghost use Rattle.jc_types.specs.State.{types_below};
-ghost use Rattle.jc_check.specs.Carried.{has_shape, types_of};
-ghost use Rattle.jc_check.specs.FirstFault.{arrives, all_arrive, falls_to, visit_live, visit, walk};
-ghost use Rattle.jc_check.specs.WordEffect.{word_effect};
+ghost use Rattle.jc_check.specs.Method.{caught_types};
+ghost use Rattle.jc_check.specs.Carried.{types_of};
+ghost use Rattle.jc_check.specs.FirstFault.{arrives, all_arrive, catches_at, handles, all_handle, falls_to, visit_live, visit, walk};
 ghost use Rattle.jc_check.specs.PrivateMarks.{IsTable, AreSafe, Flowed, flowing, HasRoom, placed};
 
+use crate::claim::Claim;
 use crate::fault::Fault;
+use crate::handler::{Handler, covers};
 use crate::mark::Mark;
 use crate::method::Method;
+use crate::rules::CheckRules;
+use crate::table::mark_at;
 use jc_base::Reason;
-use jc_cert::StateRow;
-use jc_code::{Instr, Operation, Targets, decode_words, listing_laws};
-use jc_step::transfer_words;
+use jc_classes::ClassName;
+use jc_code::{Instr, Targets};
 use jc_types::{State, Ty};
 
-/// What the pass goes by: the method, the table of its marks, and the certificate's states.
+/// What the pass goes by: the rules, the method, the table of its marks, and what the certificate claims.
 #[derive(Drop)]
-pub(crate) struct PassInput<'c, 'a> {
+pub(crate) struct PassInput<'c, 'a, R> {
+    pub(crate) rules: &'c R,
     pub(crate) method: &'c Method<'a>,
     pub(crate) marks: &'c [Mark],
-    pub(crate) states: &'c [StateRow],
+    pub(crate) claims: &'c [Claim],
 }
 
-fn is_met(state: &State, row: &StateRow) -> bool
-    ensures { result ≡ types_below state.now.types (types_of (stated row.now)) }
+fn is_met<R: CheckRules>(rules: &R, state: &State, claim: &Claim) -> bool
+    ensures { result ≡ types_below (R.rules rules.now).below state.now.types (types_of claim.now) }
 {
-    state.is_below(&row.locals, &row.operands)
+    state.is_below(&claim.locals, &claim.operands, rules.order())
+}
+
+fn is_caught<R: CheckRules>(rules: &R, state: &State, class: ClassName, claim: &Claim) -> bool
+    ensures { result ≡ types_below (R.rules rules.now).below (caught_types class state.now.types) (types_of claim.now) }
+{
+    state.is_below_with(
+        Ty::Class(class),
+        &claim.locals,
+        &claim.operands,
+        rules.order(),
+    )
+}
+
+/// A class that is caught where a handler goes on.
+fn catch_at<R: CheckRules>(
+    input: &PassInput<R>,
+    state: &State,
+    pc: u16,
+    class: ClassName,
+) -> Result<(), Reason>
+    requires { AreSafe input.now.method.now input.now.claims.now input.now.marks.now }
+    ensures { (listing : List PlacedInstr) → IsTable (R.rules input.now.rules.now) input.now.method.now listing input.now.claims.now input.now.marks.now
+        → result ≡ catches_at (R.rules input.now.rules.now) input.now.claims.now state.now.types pc (Some class) }
+{
+    match mark_at(input.marks, usize::from(pc)) {
+        Mark::Start | Mark::Inside => Err(Reason::CertMismatch),
+        Mark::Holds(number) => {
+            if is_caught(
+                input.rules,
+                state,
+                class,
+                &input.claims[usize::from(number)],
+            ) {
+                Ok(())
+            } else {
+                Err(Reason::CertMismatch)
+            }
+        }
+    }
+}
+
+/// A handler at an instruction: where it covers it, the state before it is caught.
+#[tactic(auto, unfolding(crate::specs::FirstFault::handles))]
+fn handle<R: CheckRules>(
+    input: &PassInput<R>,
+    state: &State,
+    pc: u16,
+    handler: &Handler,
+) -> Result<(), Reason>
+    requires { AreSafe input.now.method.now input.now.claims.now input.now.marks.now }
+    ensures { (listing : List PlacedInstr) → IsTable (R.rules input.now.rules.now) input.now.method.now listing input.now.claims.now input.now.marks.now
+        → result ≡ handles (R.rules input.now.rules.now) input.now.claims.now pc state.now.types handler.now }
+{
+    if !covers(handler, pc) {
+        return Ok(());
+    }
+    match handler.caught {
+        Some(class) => catch_at(input, state, handler.goes_on, class),
+        None => Err(Reason::CertMismatch),
+    }
+}
+
+/// Each handler in turn.
+fn handle_all<R: CheckRules>(
+    input: &PassInput<R>,
+    state: &State,
+    pc: u16,
+    handlers: &[Handler],
+) -> Result<(), Reason>
+    requires { AreSafe input.now.method.now input.now.claims.now input.now.marks.now }
+    ensures { (listing : List PlacedInstr) → IsTable (R.rules input.now.rules.now) input.now.method.now listing input.now.claims.now input.now.marks.now
+        → result ≡ all_handle (R.rules input.now.rules.now) input.now.claims.now pc state.now.types handlers.now }
+{
+    for index in 0..handlers.len() {
+        handle(input, state, pc, &handlers[index])?;
+    }
+    Ok(())
 }
 
 /// A branch from a state to a pc.
-#[tactic(auto, unfolding(crate::specs::FirstFault::arrives), using(crate::proofs::Standing::past_code))]
-fn arrive_at(input: &PassInput, state: &State, pc: usize) -> Result<(), Reason>
-    requires { AreSafe input.now.method.now (map stated input.now.states.now) input.now.marks.now }
-    ensures { (listing : List PlacedInstr) → IsTable input.now.method.now listing (map stated input.now.states.now) input.now.marks.now
-        → result ≡ arrives listing (map stated input.now.states.now) state.now.types (pos pc) }
+#[tactic(auto, unfolding(crate::specs::FirstFault::arrives))]
+fn arrive_at<R: CheckRules>(input: &PassInput<R>, state: &State, pc: usize) -> Result<(), Reason>
+    requires { AreSafe input.now.method.now input.now.claims.now input.now.marks.now }
+    ensures { (listing : List PlacedInstr) → IsTable (R.rules input.now.rules.now) input.now.method.now listing input.now.claims.now input.now.marks.now
+        → result ≡ arrives (R.rules input.now.rules.now) listing input.now.claims.now state.now.types (pos pc) }
 {
-    if pc >= input.marks.len() {
-        return Err(Reason::NoTarget);
-    }
-    match input.marks[pc] {
+    match mark_at(input.marks, pc) {
         Mark::Inside => Err(Reason::NoTarget),
         Mark::Start => Err(Reason::CertMismatch),
         Mark::Holds(number) => {
-            if is_met(state, &input.states[usize::from(number)]) {
+            if is_met(input.rules, state, &input.claims[usize::from(number)]) {
                 Ok(())
             } else {
                 Err(Reason::CertMismatch)
@@ -61,11 +135,16 @@ fn arrive_at(input: &PassInput, state: &State, pc: usize) -> Result<(), Reason>
 
 /// The branch of an index from a state to its place.
 #[tactic(auto, unfolding(crate::specs::FirstFault::arrives))]
-fn arrive(input: &PassInput, state: &State, targets: &Targets, index: usize) -> Result<(), Reason>
-    requires table { AreSafe input.now.method.now (map stated input.now.states.now) input.now.marks.now }
+fn arrive<R: CheckRules>(
+    input: &PassInput<R>,
+    state: &State,
+    targets: &Targets,
+    index: usize,
+) -> Result<(), Reason>
+    requires table { AreSafe input.now.method.now input.now.claims.now input.now.marks.now }
     requires index { index < length targets.now }
-    ensures { (listing : List PlacedInstr) → IsTable input.now.method.now listing (map stated input.now.states.now) input.now.marks.now
-        → (place : ℤ) → slice_get targets.now index ≡ Some place → result ≡ arrives listing (map stated input.now.states.now) state.now.types place }
+    ensures { (listing : List PlacedInstr) → IsTable (R.rules input.now.rules.now) input.now.method.now listing input.now.claims.now input.now.marks.now
+        → (place : ℤ) → slice_get targets.now index ≡ Some place → result ≡ arrives (R.rules input.now.rules.now) listing input.now.claims.now state.now.types place }
 {
     let target = targets.get(index).unwrap();
     if target < 0 {
@@ -76,10 +155,15 @@ fn arrive(input: &PassInput, state: &State, targets: &Targets, index: usize) -> 
 }
 
 /// Each branch of an instruction in turn.
-fn arrive_all(input: &PassInput, state: &State, pc: u16, instr: &Instr) -> Result<(), Reason>
-    requires { AreSafe input.now.method.now (map stated input.now.states.now) input.now.marks.now }
-    ensures { (listing : List PlacedInstr) → IsTable input.now.method.now listing (map stated input.now.states.now) input.now.marks.now
-        → result ≡ all_arrive listing (map stated input.now.states.now) state.now.types (targets_of pc instr.now.operation) }
+fn arrive_all<R: CheckRules>(
+    input: &PassInput<R>,
+    state: &State,
+    pc: u16,
+    instr: &Instr,
+) -> Result<(), Reason>
+    requires { AreSafe input.now.method.now input.now.claims.now input.now.marks.now }
+    ensures { (listing : List PlacedInstr) → IsTable (R.rules input.now.rules.now) input.now.method.now listing input.now.claims.now input.now.marks.now
+        → result ≡ all_arrive (R.rules input.now.rules.now) listing input.now.claims.now state.now.types (targets_of pc instr.now.operation) }
 {
     let targets = instr.targets(pc);
     for index in 0..targets.len() {
@@ -90,18 +174,22 @@ fn arrive_all(input: &PassInput, state: &State, pc: u16, instr: &Instr) -> Resul
 
 /// What goes on to a pc: the state as it is (true), or nothing, where the certificate has a state above it.
 #[tactic(auto, unfolding(crate::specs::FirstFault::falls_to))]
-pub(crate) fn fall_to(input: &PassInput, state: &State, pc: usize) -> Result<bool, Reason>
-    requires { AreSafe input.now.method.now (map stated input.now.states.now) input.now.marks.now }
-    ensures { (listing : List PlacedInstr) → IsTable input.now.method.now listing (map stated input.now.states.now) input.now.marks.now
-        → Flowed result state.now.types (falls_to input.now.method.now (map stated input.now.states.now) state.now.types pc) }
+pub(crate) fn fall_to<R: CheckRules>(
+    input: &PassInput<R>,
+    state: &State,
+    pc: usize,
+) -> Result<bool, Reason>
+    requires { AreSafe input.now.method.now input.now.claims.now input.now.marks.now }
+    ensures { (listing : List PlacedInstr) → IsTable (R.rules input.now.rules.now) input.now.method.now listing input.now.claims.now input.now.marks.now
+        → Flowed result state.now.types (falls_to (R.rules input.now.rules.now) input.now.method.now input.now.claims.now state.now.types pc) }
 {
     if pc >= input.marks.len() {
         return Err(Reason::FallsOff);
     }
-    match input.marks[pc] {
+    match mark_at(input.marks, pc) {
         Mark::Inside | Mark::Start => Ok(true),
         Mark::Holds(number) => {
-            if is_met(state, &input.states[usize::from(number)]) {
+            if is_met(input.rules, state, &input.claims[usize::from(number)]) {
                 Ok(false)
             } else {
                 Err(Reason::CertMismatch)
@@ -110,40 +198,28 @@ pub(crate) fn fall_to(input: &PassInput, state: &State, pc: usize) -> Result<boo
     }
 }
 
-/// The effect of an instruction of code alone, which has those on words.
-fn transfer(
-    instr: &Instr,
-    state: &mut State,
-    max_stack: u8,
-    returned: Option<&Ty>,
-) -> Result<(), Reason>
-    requires { max_stack ≤ state.old.room }
-    ensures became { Became result state.new.types (word_effect max_stack (option_copied returned.entry) instr.now.operation state.old.types) }
-    ensures room { state.new.room ≡ state.old.room }
-    ensures locals { length state.new.types.locals ≡ length state.old.types.locals }
-{
-    match &instr.operation {
-        Operation::Word(operation) => transfer_words(operation, state, max_stack, returned),
-        Operation::Object(_) => Err(Reason::BadOpcode),
-    }
-}
-
 /// An instruction on the state before it: whether the state goes on to the instruction behind it.
 #[tactic(auto, unfolding(crate::specs::FirstFault::visit_live))]
-fn visit_live_at(
-    input: &PassInput,
+fn visit_live_at<R: CheckRules>(
+    input: &PassInput<R>,
     state: &mut State,
     pc: u16,
     instr: &Instr,
 ) -> Result<bool, Reason>
-    requires table { AreSafe input.now.method.now (map stated input.now.states.now) input.now.marks.now }
+    requires table { AreSafe input.now.method.now input.now.claims.now input.now.marks.now }
     requires room { HasRoom input.now.method.now state.old }
-    ensures flow { (listing : List PlacedInstr) → IsTable input.now.method.now listing (map stated input.now.states.now) input.now.marks.now
-        → Flowed result state.new.types (visit_live input.now.method.now listing (map stated input.now.states.now) (placed pc instr.now) state.old.types) }
+    ensures flow { (listing : List PlacedInstr) → IsTable (R.rules input.now.rules.now) input.now.method.now listing input.now.claims.now input.now.marks.now
+        → Flowed result state.new.types (visit_live (R.rules input.now.rules.now) input.now.method.now listing input.now.claims.now (placed pc instr.now) state.old.types) }
     ensures room { HasRoom input.now.method.now state.new }
 {
     let method = input.method;
-    transfer(instr, state, method.max_stack, method.returned.as_ref())?;
+    handle_all(input, state, pc, method.handlers)?;
+    input.rules.transfer(
+        &instr.operation,
+        state,
+        method.max_stack,
+        method.returned.as_ref(),
+    )?;
     arrive_all(input, state, pc, instr)?;
     if instr.falls_through() {
         fall_to(input, state, instr.next_pc)
@@ -155,24 +231,24 @@ fn visit_live_at(
 /// An instruction on what flows into it: the certificate's state, if it has one, else the state that flows in
 /// (where it is live); with neither it is skipped.
 #[tactic(auto, unfolding(crate::specs::FirstFault::visit))]
-fn visit_at(
-    input: &PassInput,
+fn visit_at<R: CheckRules>(
+    input: &PassInput<R>,
     state: &mut State,
     live: bool,
     pc: u16,
     instr: &Instr,
 ) -> Result<bool, Reason>
-    requires table { AreSafe input.now.method.now (map stated input.now.states.now) input.now.marks.now }
+    requires table { AreSafe input.now.method.now input.now.claims.now input.now.marks.now }
     requires room { HasRoom input.now.method.now state.old }
     requires within { pc < length input.now.method.now.code }
-    ensures flow { (listing : List PlacedInstr) → IsTable input.now.method.now listing (map stated input.now.states.now) input.now.marks.now
-        → Flowed result state.new.types (visit input.now.method.now listing (map stated input.now.states.now) (placed pc instr.now) (flowing live state.old.types)) }
+    ensures flow { (listing : List PlacedInstr) → IsTable (R.rules input.now.rules.now) input.now.method.now listing input.now.claims.now input.now.marks.now
+        → Flowed result state.new.types (visit (R.rules input.now.rules.now) input.now.method.now listing input.now.claims.now (placed pc instr.now) (flowing live state.old.types)) }
     ensures room { HasRoom input.now.method.now state.new }
 {
-    match input.marks[usize::from(pc)] {
+    match mark_at(input.marks, usize::from(pc)) {
         Mark::Holds(number) => {
-            let row = &input.states[usize::from(number)];
-            state.load(&row.locals, &row.operands);
+            let claim = &input.claims[usize::from(number)];
+            state.load(&claim.locals, &claim.operands);
             visit_live_at(input, state, pc, instr)
         }
         Mark::Inside | Mark::Start => {
@@ -187,20 +263,24 @@ fn visit_at(
 
 /// The instructions by ascending pc, the first with the state that flows into it (where it is live). The state isn't to
 /// be used behind it.
-pub(crate) fn walk_code(input: &PassInput, state: &mut State, live: bool) -> Result<(), Fault>
-    requires listed { (listing : List PlacedInstr) × IsTable input.now.method.now listing (map stated input.now.states.now) input.now.marks.now }
-    requires table { AreSafe input.now.method.now (map stated input.now.states.now) input.now.marks.now }
+pub(crate) fn walk_code<R: CheckRules>(
+    input: &PassInput<R>,
+    state: &mut State,
+    live: bool,
+) -> Result<(), Fault>
+    requires listed { (listing : List PlacedInstr) × IsTable (R.rules input.now.rules.now) input.now.method.now listing input.now.claims.now input.now.marks.now }
+    requires table { AreSafe input.now.method.now input.now.claims.now input.now.marks.now }
     requires room { HasRoom input.now.method.now state.old }
     requires short { length input.now.method.now.code < 2 ^ 16 }
-    ensures { (listing : List PlacedInstr) → IsTable input.now.method.now listing (map stated input.now.states.now) input.now.marks.now
-        → result ≡ walk input.now.method.now listing (map stated input.now.states.now) (flowing live state.old.types) listing }
+    ensures { (listing : List PlacedInstr) → IsTable (R.rules input.now.rules.now) input.now.method.now listing input.now.claims.now input.now.marks.now
+        → result ≡ walk (R.rules input.now.rules.now) input.now.method.now listing input.now.claims.now (flowing live state.old.types) listing }
 {
-    listing_laws();
+    input.rules.listing_laws();
     let code = input.method.code();
     let mut live = live;
     let mut pc = 0;
     while pc < code.len() {
-        let Ok(instr) = decode_words(code, pc) else {
+        let Ok(instr) = input.rules.decode(code, pc) else {
             unreachable!()
         };
         match visit_at(input, state, live, pc as u16, &instr) {

@@ -1,21 +1,28 @@
-//! The table of marks: where instructions begin, and where the certificate has a state.
+//! The table of marks: where instructions begin, and where the certificate claims a state.
 
-ghost use Rattle.std.specs.Prelude.{◌≡◌, ◌<◌, ◌^◌, ℕ, List, map, length, replicate, IfOk, IfErr, OnOk};
-ghost use Rattle.jc_code.specs.Instructions.{word_instr_at};
-ghost use Rattle.jc_code.specs.Listing.{PlacedInstr, IsListing, StopsAt};
-ghost use Rattle.jc_cert.specs.Cert.{stated};
-ghost use Rattle.jc_check.specs.FirstFault.{reason_of};
-ghost use Rattle.jc_check.specs.PrivateMarks.{MarksStarts, StatesMarked};
-ghost use Rattle.jc_check.specs.Carried.{has_shape};
-ghost use Rattle.jc_check.specs.declared.mark.Mark.TheVariants.{Inside};
+ghost use Rattle.std.specs.Prelude.{◌≡◌, ◌<◌, ◌^◌, ◌++◌, [], ◌∷◌, List, Ok, Err, map, true, length, replicate, slice_index_or, IfOk, IfErr, OnOk};
 ghost use Rattle.jc_code.specs.declared.fault.CodeFault.{CodeFault};
+ghost use Rattle.jc_code.specs.Listing.{PlacedInstr, StopsAt, begins};
+ghost use Rattle.jc_cert.specs.Cert.{stated};
+ghost use Rattle.jc_check.specs.Fault.{IfRefused};
+ghost use Rattle.jc_check.specs.Rules.{Rules};
+ghost use Rattle.jc_check.specs.Method as methods;
+ghost use Rattle.jc_check.specs.Claim as claimed;
+ghost use Rattle.jc_check.specs.Claim.{claim_of};
+ghost use Rattle.jc_check.specs.Carried.{has_shape};
+ghost use Rattle.jc_check.specs.FirstFault.{reason_of, told_at, handler_stands, handlers_stand, state_stands, states_stand};
+ghost use Rattle.jc_check.specs.PrivateMarks.{IsTable, claim_fits};
+ghost use Rattle.jc_check.specs.declared.mark.Mark.TheVariants.{Inside};
 
-use crate::fault::Fault;
+use crate::claim::{Claim, types_found};
+use crate::fault::{Fault, WordFault};
+use crate::handler::Handler;
 use crate::mark::Mark;
 use crate::method::Method;
+use crate::rules::CheckRules;
 use jc_base::Reason;
 use jc_cert::StateRow;
-use jc_code::{CodeFault, decode_words, listing_laws};
+use jc_code::CodeFault;
 use std::alloc::{AllocError, Global};
 
 fn reason_for(fault: CodeFault) -> Reason
@@ -40,15 +47,21 @@ pub(crate) fn no_marks(alloc: Global, count: usize) -> Result<Vec<Mark>, AllocEr
 }
 
 /// Decodes the code from its first byte on, and marks where instructions begin. After a fault the marks aren't to be used.
-pub(crate) fn mark_starts(code: &[u8], marks: &mut [Mark]) -> Result<(), Fault>
-    requires none { marks.old ≡ replicate (length code.now) Inside }
-    requires short { length code.now < 2 ^ 16 }
-    ensures ok { OnOk result ((listing : List PlacedInstr) × IsListing word_instr_at code.now listing × MarksStarts code.now listing marks.new) }
-    ensures err { IfErr result (λ fault. (why : CodeFault) × StopsAt word_instr_at code.now fault.pc why × (fault.reason ≡ reason_of why)) }
+pub(crate) fn mark_starts<R: CheckRules>(
+    rules: &R,
+    method: &Method,
+    marks: &mut [Mark],
+) -> Result<(), Fault>
+    requires none { marks.old ≡ replicate (length method.now.code) Inside }
+    requires short { length method.now.code < 2 ^ 16 }
+    ensures ok { OnOk result ((listing : List PlacedInstr) × IsTable (R.rules rules.now) method.now listing [] marks.new) }
+    ensures err { IfErr result (λ fault. (why : CodeFault) × StopsAt (R.rules rules.now).decoder method.now.code fault.pc why × (fault.reason ≡ reason_of why)) }
 {
+    rules.listing_laws();
+    let code = method.code();
     let mut pc = 0;
     while pc < code.len() {
-        match decode_words(code, pc) {
+        match rules.decode(code, pc) {
             Ok(instr) => {
                 marks[pc] = Mark::Start;
                 pc = instr.next_pc;
@@ -64,6 +77,57 @@ pub(crate) fn mark_starts(code: &[u8], marks: &mut [Mark]) -> Result<(), Fault>
     Ok(())
 }
 
+/// The mark at a pc; past the code nothing begins.
+#[inline(always)]
+pub(crate) fn mark_at(marks: &[Mark], pc: usize) -> Mark
+    ensures { result ≡ slice_index_or marks.now pc Inside }
+{
+    if pc < marks.len() {
+        marks[pc]
+    } else {
+        Mark::Inside
+    }
+}
+
+/// Whether an instruction begins at a pc.
+fn begins_at(marks: &[Mark], pc: usize) -> bool
+    ensures within { result ≡ true → pc < length marks.now }
+    ensures begins { (rules : Rules) (m : methods.Method) (listing : List PlacedInstr) (claims : List claimed.Claim) → IsTable rules m listing claims marks.now → result ≡ begins listing pc }
+{
+    match mark_at(marks, pc) {
+        Mark::Inside => false,
+        Mark::Start | Mark::Holds(_) => true,
+    }
+}
+
+fn stand_handler(marks: &[Mark], handler: &Handler) -> Result<(), Reason>
+    ensures { (rules : Rules) (m : methods.Method) (listing : List PlacedInstr) (claims : List claimed.Claim) → IsTable rules m listing claims marks.now → result ≡ handler_stands listing handler.now }
+{
+    if !begins_at(marks, usize::from(handler.goes_on)) {
+        return Err(Reason::NoTarget);
+    }
+    match handler.caught {
+        Some(_) => Ok(()),
+        None => Err(Reason::WrongType),
+    }
+}
+
+/// The handlers in order: each goes on where an instruction begins, and catches a class.
+pub(crate) fn stand_handlers(marks: &[Mark], handlers: &[Handler]) -> Result<(), Fault>
+    ensures { (rules : Rules) (m : methods.Method) (listing : List PlacedInstr) (claims : List claimed.Claim) → IsTable rules m listing claims marks.now → result ≡ handlers_stand listing handlers.now }
+{
+    for index in 0..handlers.len() {
+        let handler = &handlers[index];
+        if let Err(reason) = stand_handler(marks, handler) {
+            return Err(Fault {
+                pc: handler.goes_on,
+                reason,
+            });
+        }
+    }
+    Ok(())
+}
+
 fn fits(method: &Method, row: &StateRow) -> bool
     ensures { result ≡ has_shape method.now (stated row.now) }
 {
@@ -71,42 +135,97 @@ fn fits(method: &Method, row: &StateRow) -> bool
         && row.operands.len() <= usize::from(method.max_stack)
 }
 
-/// Marks where the certificate has states: each has to stand where an instruction begins, in the method's shape. After a
-/// fault the marks aren't to be used.
-pub(crate) fn mark_states(
-    method: &Method,
-    marks: &mut [Mark],
-    states: &[StateRow],
-) -> Result<(), Fault>
-    requires code { length method.now.code ≡ length marks.old }
-    requires count { length states.now < 2 ^ 16 }
-    ensures { (listing : List PlacedInstr) → IsListing word_instr_at method.now.code listing → MarksStarts method.now.code listing marks.old → StatesMarked result method.now listing (map stated states.now) marks.new }
+/// The state of a row with its classes, if they are found.
+#[tactic(auto, unfolding(crate::specs::Claim::claim_of))]
+fn claim_found<R: CheckRules>(
+    alloc: Global,
+    rules: &R,
+    row: &StateRow,
+) -> Result<Option<Claim>, AllocError>
+    ensures { IfOk result (λ found. found ≡ claim_of (R.rules rules.now) (stated row.now)) }
 {
-    listing_laws();
-    for index in 0..states.len() {
-        let row = &states[index];
-        let pc = usize::from(row.pc);
-        if !fits(method, row) {
-            return Err(mismatch(row.pc));
-        }
-        if pc >= marks.len() {
-            return Err(mismatch(row.pc));
-        }
-        match marks[pc] {
-            Mark::Inside => return Err(mismatch(row.pc)),
-            Mark::Start => marks[pc] = Mark::Holds(index as u16),
-            // States ascend by pc, so no other one stands here.
-            Mark::Holds(_) => {}
-        }
-    }
-    Ok(())
+    let Some(locals) = types_found(alloc, rules, &row.locals)? else {
+        return Ok(None);
+    };
+    let Some(operands) = types_found(alloc, rules, &row.operands)? else {
+        return Ok(None);
+    };
+    Ok(Some(Claim {
+        pc: row.pc,
+        locals,
+        operands,
+    }))
 }
 
-fn mismatch(pc: u16) -> Fault
-    ensures { result ≡ record { pc = pc; reason = Reason.CertMismatch } }
+/// A row's state: it stands where an instruction begins, in the method's shape, and its classes are found.
+fn stand_state<R: CheckRules>(
+    alloc: Global,
+    rules: &R,
+    method: &Method,
+    marks: &[Mark],
+    row: &StateRow,
+) -> Result<Claim, WordFault>
+    ensures within { IfOk result (λ claim. row.now.pc < length marks.now) }
+    ensures ok { IfOk result (λ claim. (listing : List PlacedInstr) (claims : List claimed.Claim) → IsTable (R.rules rules.now) method.now listing claims marks.now
+        → state_stands (R.rules rules.now) method.now listing (stated row.now) ≡ Ok claim) }
+    ensures err { IfErr result (λ fault. IfRefused fault (λ f. (listing : List PlacedInstr) (claims : List claimed.Claim) → IsTable (R.rules rules.now) method.now listing claims marks.now
+        → told_at row.now.pc (state_stands (R.rules rules.now) method.now listing (stated row.now)) ≡ Err f)) }
 {
-    Fault {
+    if !begins_at(marks, usize::from(row.pc)) {
+        return Err(mismatch(row.pc));
+    }
+    if !fits(method, row) {
+        return Err(mismatch(row.pc));
+    }
+    match claim_found(alloc, rules, row)? {
+        Some(claim) => Ok(claim),
+        None => Err(mismatch(row.pc)),
+    }
+}
+
+fn mismatch(pc: u16) -> WordFault
+    ensures { result ≡ WordFault.Refused pc Reason.CertMismatch }
+{
+    WordFault::Refused {
         pc,
         reason: Reason::CertMismatch,
     }
+}
+
+/// Marks the place of the claim of a number, unless one is there already.
+fn hold(marks: &mut [Mark], pc: usize, number: u16)
+    requires within { pc < length marks.old }
+    ensures len { length marks.new ≡ length marks.old }
+    ensures table { (rules : Rules) (m : methods.Method) (listing : List PlacedInstr) (claims : List claimed.Claim) (claim : claimed.Claim) → IsTable rules m listing claims marks.old → length claims ≡ number
+        → claim.pc ≡ pc → begins listing pc ≡ true → claim_fits m claim ≡ true → IsTable rules m listing (claims ++ claim ∷ []) marks.new }
+{
+    match marks[pc] {
+        Mark::Start => marks[pc] = Mark::Holds(number),
+        // States ascend by pc, so no other one stands here.
+        Mark::Inside | Mark::Holds(_) => {}
+    }
+}
+
+/// The certificate's states with their classes, and marks where they are. After a fault the marks aren't to be used.
+pub(crate) fn mark_states<R: CheckRules>(
+    alloc: Global,
+    rules: &R,
+    method: &Method,
+    marks: &mut [Mark],
+    states: &[StateRow],
+) -> Result<Vec<Claim>, WordFault>
+    requires { length states.now < 2 ^ 16 }
+    ensures ok { IfOk result (λ claims. (listing : List PlacedInstr) → IsTable (R.rules rules.now) method.now listing [] marks.old
+        → (states_stand (R.rules rules.now) method.now listing (map stated states.now) ≡ Ok claims.items) × IsTable (R.rules rules.now) method.now listing claims.items marks.new) }
+    ensures err { IfErr result (λ fault. IfRefused fault (λ f. (listing : List PlacedInstr) → IsTable (R.rules rules.now) method.now listing [] marks.old
+        → states_stand (R.rules rules.now) method.now listing (map stated states.now) ≡ Err f)) }
+{
+    let mut claims = Vec::with_capacity(alloc, states.len())?;
+    for index in 0..states.len() {
+        let row = &states[index];
+        let claim = stand_state(alloc, rules, method, marks, row)?;
+        hold(marks, usize::from(row.pc), index as u16);
+        claims.push(claim)?;
+    }
+    Ok(claims)
 }

@@ -22,4 +22,5 @@ pub use growth::{adding_keeps_linking, an_applet_is_well_formed, built_worlds_ar
 pub use linking::link;
 pub use named::{Named, StaticPlace};
 pub use target::{MemberType, PoolTarget};
+pub use types::{counted, is_known_method, return_found, type_found};
 pub use world::{Linked, LinkedBody, World};

@@ -12,7 +12,7 @@ use jc_base::{ClassRef, DeclaredType, ReturnType};
 use jc_classes::{ClassName, ClassTable, DeclaredMethod, Field, Method, MethodName};
 
 /// A class as it counts in types: an interface as Object.
-fn counted(table: &ClassTable, class: ClassName) -> ClassName
+pub fn counted(table: &ClassTable, class: ClassName) -> ClassName
     ensures { result ≡ counted table.now class }
 {
     match table.class_at(class) {
@@ -31,7 +31,7 @@ pub(crate) fn type_class(table: &ClassTable, home: usize, reference: ClassRef) -
 }
 
 /// A type with its class found, if it is.
-pub(crate) fn type_found(
+pub fn type_found(
     table: &ClassTable,
     home: usize,
     declared: DeclaredType<ClassRef>,
@@ -56,7 +56,7 @@ pub(crate) fn type_found(
 }
 
 /// A result with its class found, if it is.
-pub(crate) fn return_found(
+pub fn return_found(
     table: &ClassTable,
     home: usize,
     declared: ReturnType<ClassRef>,
@@ -202,7 +202,7 @@ fn are_known_types(table: &ClassTable, home: usize, types: &[DeclaredType<ClassR
 
 /// Whether the classes of a method's type are there.
 #[tactic(auto, using(crate::proofs::Agree::signature_there))]
-pub(crate) fn is_known_method(table: &ClassTable, home: usize, method: &Method) -> bool
+pub fn is_known_method(table: &ClassTable, home: usize, method: &Method) -> bool
     requires { home ≤ 256 }
     ensures { result ≡ is_some (member_type_of table.now home method.now.signature) }
 {

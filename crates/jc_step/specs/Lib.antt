@@ -1,1 +1,7 @@
+pub mod Row
+pub mod Words
+pub mod Objects
 pub mod Effect
+pub mod Method
+pub mod Laws
+pub mod Coded

@@ -1,103 +1,96 @@
-//! The effect of the instructions on words.
+//! The effect of an instruction.
 
-ghost use Rattle.std.specs.Prelude.{◌≡◌, ◌≤◌, length};
-ghost use Rattle.std.specs.Option.{option_copied};
+ghost use Rattle.std.specs.Prelude.{◌≡◌, ◌≤◌, ◌-◌, length, true, Some};
 ghost use Rattle.jc_types.specs.Changes.{Became};
-ghost use Rattle.jc_step.specs.Effect.{fits, fits_result, shuffle_effect, branch_effect, effect_of};
+ghost use Rattle.jc_step.specs.Effect.{effect_of};
+ghost use Rattle.jc_step.specs.Method.{own_method, returned_type, result_of, setting_of, has_own_method, max_stack_of};
 
-use jc_base::Reason;
-use jc_code::{Shuffle, When, WordOperation};
-use jc_types::{Lattice, State, Ty};
+use crate::applying::apply;
+use crate::objects::object_row;
+use crate::setting::Setting;
+use crate::words::transfer_word;
+use jc_base::{Reason, ReturnType};
+use jc_classes::{ClassName, ClassTable, DeclaredMethod, method_name};
+use jc_code::{Instr, Operation};
+use jc_link::{Linked, is_known_method, return_found};
+use jc_types::{State, Ty};
+use std::marker::Model;
 
-#[tactic(auto, unfolding(crate::specs::Effect::fits))]
-fn expect(ty: Ty, wanted: Ty) -> Result<(), Reason>
-    ensures { result ≡ fits ty wanted }
-{
-    if ty.below(&wanted, &()) {
-        Ok(())
-    } else {
-        Err(Reason::WrongType)
-    }
-}
-
-#[tactic(auto, unfolding(crate::specs::Effect::fits_result))]
-fn expect_result(returned: Option<&Ty>) -> Result<(), Reason>
-    ensures { result ≡ fits_result (option_copied returned.entry) }
-{
-    match returned {
-        None => Err(Reason::WrongType),
-        Some(ty) => expect(Ty::Word, *ty),
-    }
-}
-
-fn transfer_shuffle(shuffle: Shuffle, state: &mut State, max_stack: u8) -> Result<(), Reason>
-    requires { max_stack ≤ state.old.room }
-    ensures became { Became result state.new.types (shuffle_effect max_stack shuffle state.old.types) }
-    ensures room { state.new.room ≡ state.old.room }
-    ensures locals { length state.new.types.locals ≡ length state.old.types.locals }
-{
-    match shuffle {
-        Shuffle::Pop { count } => state.drop_top(count),
-        Shuffle::Duplicate { count, depth } => state.duplicate(max_stack, count, depth),
-        Shuffle::Swap { upper, lower } => state.swap(upper, lower),
-    }
-}
-
-fn transfer_branch(when: When, state: &mut State) -> Result<(), Reason>
-    ensures became { Became result state.new.types (branch_effect when state.old.types) }
-    ensures room { state.new.room ≡ state.old.room }
-    ensures locals { length state.new.types.locals ≡ length state.old.types.locals }
-{
-    match when {
-        When::Always => Ok(()),
-        When::Zero(_) => state.take(&[Ty::Word]),
-        When::Compare(_) => state.take(&[Ty::Word, Ty::Word]),
-    }
-}
-
-/// Puts the types after an operation in place of those before it, in a method of at most `max_stack` operands
-/// that returns a value of the type `returned`, or none. Of several reasons against it the first is told, in the order
-/// of `effect_of`. The state isn't to be used after a reason: some of the operation's changes may be made.
-#[tactic(auto, unfolding(crate::specs::Effect::effect_of))]
-pub fn transfer_words(
-    operation: &WordOperation,
+/// Puts the types behind an operation in place of those before it, in a method of at most `max_stack` operands, read against its
+/// setting. Of several reasons against it the first is told, in the order of `applied`. The
+/// state isn't to be used after a reason.
+#[tactic(auto, unfolding(crate::specs::Effect::effect_of, crate::specs::Row::applied))]
+pub fn transfer_in(
+    operation: &Operation,
     state: &mut State,
     max_stack: u8,
-    returned: Option<&Ty>,
+    setting: &Setting,
 ) -> Result<(), Reason>
     requires { max_stack ≤ state.old.room }
-    ensures became { Became result state.new.types (effect_of max_stack (option_copied returned.entry) operation.now state.old.types) }
+    ensures became { Became result state.new.types (effect_of setting.now max_stack operation.now state.old.types) }
     ensures room { state.new.room ≡ state.old.room }
     ensures locals { length state.new.types.locals ≡ length state.old.types.locals }
 {
+    let table = setting.table();
     match operation {
-        WordOperation::Nop => Ok(()),
-        WordOperation::Push(_) => state.push(max_stack, Ty::Word),
-        WordOperation::Load(local) => {
-            expect(state.local(*local)?, Ty::Word)?;
-            state.push(max_stack, Ty::Word)
+        Operation::Word(operation) => {
+            transfer_word(operation, state, max_stack, setting.returned(), table)
         }
-        WordOperation::Store(local) => {
-            state.local(*local)?;
-            state.take(&[Ty::Word])?;
-            state.set_local(*local, Ty::Word)
-        }
-        WordOperation::Increment { local, .. } => expect(state.local(*local)?, Ty::Word),
-        WordOperation::Shuffle(shuffle) => transfer_shuffle(*shuffle, state, max_stack),
-        WordOperation::Binary(_) => {
-            state.take(&[Ty::Word, Ty::Word])?;
-            state.push(max_stack, Ty::Word)
-        }
-        WordOperation::Unary(_) => {
-            state.take(&[Ty::Word])?;
-            state.push(max_stack, Ty::Word)
-        }
-        WordOperation::Branch { when, .. } => transfer_branch(*when, state),
-        WordOperation::StableSwitch { .. } => state.take(&[Ty::Word]),
-        WordOperation::LookupSwitch { .. } => state.take(&[Ty::Word]),
-        WordOperation::ReturnWord => {
-            state.take(&[Ty::Word])?;
-            expect_result(returned)
-        }
+        Operation::Object(operation) => match object_row(setting, operation) {
+            Some(row) => apply(row, state, max_stack, table),
+            None => Err(Reason::BadOperand),
+        },
     }
+}
+
+/// The type of what is given, if anything is.
+fn returned_type(returned: ReturnType<ClassName>) -> Option<Ty>
+    ensures { result ≡ returned_type returned }
+{
+    match returned {
+        ReturnType::Void => None,
+        ReturnType::Value(declared) => Some(Ty::of(declared)),
+    }
+}
+
+/// The type of a method's result, if it gives one.
+#[tactic(auto, using(crate::proofs::Results::known_result, crate::proofs::Results::unknown_result))]
+fn result_of(table: &ClassTable, declared: &DeclaredMethod) -> Option<Ty>
+    ensures { result ≡ result_of table.now declared.now }
+{
+    let home = declared.class.home();
+    if !is_known_method(table, home, declared.method) {
+        return None;
+    }
+    returned_type(return_found(table, home, declared.method.result())?)
+}
+
+/// The method of a linked package that stands at an offset.
+fn own_method(linked: &Linked, offset: u16) -> Option<DeclaredMethod<'_>>
+    ensures { result ≡ own_method linked.now offset }
+{
+    let table = linked.table();
+    let home = table.len().saturating_sub(1);
+    table.method_at(method_name(home, offset))
+}
+
+/// Puts the types behind an instruction of a method of a linked package in place of those before it. The method is given by
+/// the offset of its header. Of several reasons against the instruction the first is told, in the order of `applied`. The state
+/// isn't to be used after a reason.
+pub fn transfer(
+    instr: &Instr,
+    state: &mut State,
+    method: u16,
+    linked: &Linked,
+) -> Result<(), Reason>
+    requires there { has_own_method linked.now method ≡ true }
+    requires room { max_stack_of linked.now method ≤ state.old.room }
+    ensures became { Became result state.new.types (effect_of (setting_of linked.now method) (max_stack_of linked.now method) instr.now.operation state.old.types) }
+    ensures room { state.new.room ≡ state.old.room }
+    ensures locals { length state.new.types.locals ≡ length state.old.types.locals }
+{
+    let declared = own_method(linked, method).unwrap();
+    let header = declared.method.header().unwrap();
+    let setting = Setting::new(linked, result_of(linked.table(), &declared));
+    transfer_in(&instr.operation, state, header.max_stack, &setting)
 }

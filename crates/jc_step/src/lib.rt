@@ -1,7 +1,22 @@
 //! The effect of one instruction on the types of a method's locals and operands.
 #![tactic(auto)]
 
+mod applying;
+mod calls;
+mod demands;
 mod effect;
+mod fields;
+mod laws;
+mod objects;
+mod row;
+mod setting;
+mod words;
 
-pub use effect::transfer_words;
+pub use applying::{Row, apply};
+pub use demands::Wanted;
+pub use effect::{transfer, transfer_in};
 pub use jc_base::Reason;
+pub use laws::effects_are_monotone;
+pub use row::{Demand, Given, Place};
+pub use setting::Setting;
+pub use words::transfer_word;

@@ -1,4 +1,5 @@
-mod Order
+mod NoWorld
+mod PointsOrder
 mod Tops
 mod Points
 mod Operands

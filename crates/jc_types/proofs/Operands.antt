@@ -4,9 +4,10 @@ use Rattle.std.proofs.lemmas.Bool.{le-ltb}
 use Rattle.std.proofs.lemmas.List.{length-reverse, length-take-le, drop-take}
 use Rattle.jc_base.specs.declared.reason.Reason.TheVariants.{WrongType}
 use Rattle.jc_base.proofs.StackViews.{dropped, topmost}
+use Rattle.jc_classes.specs.declared.name.ClassName.{ClassName}
 use Rattle.jc_types.specs.declared.ty.Ty.{Ty}
 use Rattle.jc_types.specs.State.{Types, all_below}
-use Rattle.jc_types.specs.Changes.{drop_types, take_types}
+use Rattle.jc_types.specs.Changes.{with_operands, drop_types, take_types}
 
 abbrev pub state_of : List Ty → ℕ → List Ty → Types
 state_of locals depth slots = record { locals = locals; operands = reverse (take depth slots) }
@@ -26,10 +27,26 @@ window slots depth count le =
     let e : (depth - count) + (depth - (depth - count)) ≡ depth = omega arith in
     sym (drop-take (depth - count) (depth - (depth - count)) slots) ∙ ap (λ (n : ℕ). drop (depth - count) (take n slots)) e
 
-pub takes : (locals slots wanted : List Ty) (depth : ℕ) (b : Bool) → length wanted ≤ depth → depth ≤ length slots → b ≡ all_below (take (depth - (depth - length wanted)) (drop (depth - length wanted) slots)) wanted
-    → take_types wanted (state_of locals depth slots) ≡ cond b (Ok (state_of locals (depth - length wanted) slots)) (Err WrongType)
+within_depth : (slots : List Ty) (depth count : ℕ) → count ≤ length (reverse (take depth slots)) → depth ≤ length slots → count ≤ depth
+within_depth slots depth count le within =
+    let n : length (reverse (take depth slots)) ≡ depth = length-reverse (take depth slots) ∙ length-take-le depth slots within in
+    omega (arith, n, le)
+
+-- the operands without the top ones, and the top ones, as the slots hold them
+pub shallower : (locals slots : List Ty) (depth count : ℕ) → count ≤ length (reverse (take depth slots)) → depth ≤ length slots
+    → state_of locals (depth - count) slots ≡ with_operands (state_of locals depth slots) (drop count (reverse (take depth slots)))
+shallower locals slots depth count le within = rw (dropped slots depth count (within_depth slots depth count le within) within) refl
+
+pub on_top : (slots : List Ty) (depth count : ℕ) → count ≤ length (reverse (take depth slots)) → depth ≤ length slots
+    → take (depth - (depth - count)) (drop (depth - count) slots) ≡ reverse (take count (reverse (take depth slots)))
+on_top slots depth count le within =
+    let l = within_depth slots depth count le within in
+    window slots depth count l ∙ sym (topmost slots depth count l within)
+
+pub takes : (below : ClassName → ClassName → Bool) (locals slots wanted : List Ty) (depth : ℕ) (b : Bool) → length wanted ≤ depth → depth ≤ length slots → b ≡ all_below below (take (depth - (depth - length wanted)) (drop (depth - length wanted) slots)) wanted
+    → take_types below wanted (state_of locals depth slots) ≡ cond b (Ok (state_of locals (depth - length wanted) slots)) (Err WrongType)
 unfolding take_types
-takes locals slots wanted depth b le within e =
-    let same : all_below (reverse (take (length wanted) (reverse (take depth slots)))) wanted ≡ b =
-    ap (λ (ts : List Ty). all_below ts wanted) (topmost slots depth (length wanted) le within ∙ sym (window slots depth (length wanted) le)) ∙ sym e in
+takes below locals slots wanted depth b le within e =
+    let same : all_below below (reverse (take (length wanted) (reverse (take depth slots)))) wanted ≡ b =
+    ap (λ (ts : List Ty). all_below below ts wanted) (topmost slots depth (length wanted) le within ∙ sym (window slots depth (length wanted) le)) ∙ sym e in
     rw (deep slots depth (length wanted) le within, same, dropped slots depth (length wanted) le within) refl

@@ -1,8 +1,9 @@
 -- What code may do to a state, or the reason why it may not.
-use Rattle.std.specs.Prelude.{⊤, ◌≡◌, ℕ, ◌+◌, max, List, ◌∷◌, length, take, drop, reverse, Option, Some, None, Result, Ok, Err, nat_lt, if◌then◌else◌, slice_get, slice_set}
+use Rattle.std.specs.Prelude.{⊤, ◌≡◌, ℕ, ◌+◌, max, Bool, List, ◌∷◌, length, take, drop, reverse, Option, Some, None, Result, Ok, Err, nat_lt, if◌then◌else◌, slice_get, slice_set}
 use Rattle.jc_base.specs.declared.reason.Reason.{Reason}
 use Rattle.jc_base.specs.declared.reason.Reason.TheVariants.{BadLocal, StackUnder, WrongType, StackOver}
 use Rattle.jc_base.specs.Stack.{duplicated, swapped}
+use Rattle.jc_classes.specs.declared.name.ClassName.{ClassName}
 use Rattle.jc_types.specs.declared.ty.Ty.{Ty}
 use Rattle.jc_types.specs.State.{Types, all_below}
 
@@ -15,6 +16,11 @@ Became (Err reason) new effect = effect ≡ Err reason
 abbrev pub with_operands : Types → List Ty → Types
 with_operands s operands = record { locals = s.locals; operands = operands }
 
+-- the same state with another type of a local
+abbrev pub with_local : Types → ℕ → Ty → Types
+with_local s i t = record { locals = slice_set s.locals i t; operands = s.operands }
+
+-- what is known of a local that is looked for
 abbrev pub local_or_fault : Option Ty → Result Ty Reason
 local_or_fault None = Err BadLocal
 local_or_fault (Some t) = Ok t
@@ -25,17 +31,17 @@ local_type i s = local_or_fault (slice_get s.locals i)
 
 -- a local gets a type
 unfoldable pub set_local_type : ℕ → Ty → Types → Result Types Reason
-set_local_type i t s = if nat_lt i (length s.locals) then Ok (record { locals = slice_set s.locals i t; operands = s.operands }) else Err BadLocal
+set_local_type i t s = if nat_lt i (length s.locals) then Ok (with_local s i t) else Err BadLocal
 
 -- an operand more, of so many at max_stack
 unfoldable pub push_type : ℕ → Ty → Types → Result Types Reason
 push_type max_stack t s = if nat_lt (length s.operands) max_stack then Ok (with_operands s (t ∷ s.operands)) else Err StackOver
 
--- operands of these types are taken, the last of them from the top
-unfoldable pub take_types : List Ty → Types → Result Types Reason
-take_types wanted s =
+-- operands that lie below these types are taken, the last of them from the top
+unfoldable pub take_types : (ClassName → ClassName → Bool) → List Ty → Types → Result Types Reason
+take_types below wanted s =
     if nat_lt (length s.operands) (length wanted) then Err StackUnder
-    else if all_below (reverse (take (length wanted) s.operands)) wanted then Ok (with_operands s (drop (length wanted) s.operands)) else Err WrongType
+    else if all_below below (reverse (take (length wanted) s.operands)) wanted then Ok (with_operands s (drop (length wanted) s.operands)) else Err WrongType
 
 -- so many operands are dropped
 unfoldable pub drop_types : ℕ → Types → Result Types Reason

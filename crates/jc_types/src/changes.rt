@@ -1,24 +1,25 @@
 //! What code may do to a state.
 
-ghost use Rattle.std.specs.Prelude.{◌≡◌, ◌≤◌, ◌&&◌, ◌==◌, ◌+◌, length, take, IfErr};
+ghost use Rattle.std.specs.Prelude.{◌≡◌, ◌<◌, ◌≤◌, ◌&&◌, ◌==◌, ◌+◌, [], ◌∷◌, length, take, drop, reverse, slice_get, IfErr};
 ghost use Rattle.jc_types.specs.State.{Types, all_below, stated_types, types_below};
-ghost use Rattle.jc_types.specs.Changes.{Became, local_type, set_local_type, push_type, take_types, drop_types, duplicate_types, swap_types};
+ghost use Rattle.jc_types.specs.Changes.{Became, with_operands, with_local, local_type, set_local_type, push_type, take_types, drop_types, duplicate_types, swap_types};
 
-use crate::lattice::Lattice;
+use crate::classes::Classes;
+use crate::order::is_below;
 use crate::state::State;
 use crate::ty::Ty;
 use jc_base::Reason;
 use jc_base::stack::{duplicate_top, swap_top};
 
-/// Whether lists of one length lie point by point one below the other.
-pub fn are_below(lower: &[Ty], upper: &[Ty]) -> bool
-    ensures { result ≡ all_below lower.now upper.now }
+/// Whether lists of one length lie point by point one below the other, beside an order of classes.
+pub fn are_below<C: Classes>(lower: &[Ty], upper: &[Ty], classes: &C) -> bool
+    ensures { result ≡ all_below (C.lies_below classes.now) lower.now upper.now }
 {
     if lower.len() != upper.len() {
         return false;
     }
     for index in 0..lower.len() {
-        if !lower[index].below(&upper[index], &()) {
+        if !is_below(lower[index], upper[index], classes) {
             return false;
         }
     }
@@ -81,11 +82,11 @@ impl State {
         Ok(())
     }
 
-    /// Takes operands of these types, the last of them from the top: `StackUnder`, then `WrongType`; the state is
-    /// unchanged then.
+    /// Takes operands that lie below these types, the last of them from the top: `StackUnder`, then `WrongType`; the
+    /// state is unchanged then.
     #[tactic(auto, unfolding(crate::specs::Changes::take_types))]
-    pub fn take(&mut self, wanted: &[Ty]) -> Result<(), Reason>
-        ensures became { Became result self.new.types (take_types wanted.now self.old.types) }
+    pub fn take<C: Classes>(&mut self, wanted: &[Ty], classes: &C) -> Result<(), Reason>
+        ensures became { Became result self.new.types (take_types (C.lies_below classes.now) wanted.now self.old.types) }
         ensures kept { IfErr result (λ _. self.new.types ≡ self.old.types) }
         ensures room { self.new.room ≡ self.old.room }
         ensures locals { length self.new.types.locals ≡ length self.old.types.locals }
@@ -94,7 +95,7 @@ impl State {
             return Err(Reason::StackUnder);
         }
         let below = self.depth - wanted.len();
-        if !are_below(&self.slots[below..self.depth], wanted) {
+        if !are_below(&self.slots[below..self.depth], wanted, classes) {
             return Err(Reason::WrongType);
         }
         self.depth = below;
@@ -158,6 +159,65 @@ impl State {
         Ok(())
     }
 
+    /// How many operands there are.
+    #[inline]
+    pub fn depth(&self) -> usize
+        ensures { result ≡ length self.now.types.operands }
+    {
+        self.depth
+    }
+
+    /// The type of a local, if there is one with that index.
+    #[inline]
+    pub fn local_type(&self, index: u8) -> Option<Ty>
+        ensures { result ≡ slice_get self.now.types.locals index }
+    {
+        self.locals.get(usize::from(index)).copied()
+    }
+
+    /// The types of the top operands, the last of them on top.
+    #[inline]
+    pub fn top(&self, count: usize) -> &[Ty]
+        requires { count ≤ length self.now.types.operands }
+        ensures { result.now ≡ reverse (take count self.now.types.operands) }
+    {
+        &self.slots[self.depth - count..self.depth]
+    }
+
+    /// Drops the top operands, of which there are so many.
+    #[inline]
+    pub fn drop_operands(&mut self, count: usize)
+        requires { count ≤ length self.old.types.operands }
+        ensures types { self.new.types ≡ with_operands self.old.types (drop count self.old.types.operands) }
+        ensures room { self.new.room ≡ self.old.room }
+        ensures locals { length self.new.types.locals ≡ length self.old.types.locals }
+    {
+        self.depth -= count;
+    }
+
+    /// Puts an operand on top, for which there is room.
+    #[inline]
+    pub fn put(&mut self, ty: Ty)
+        requires { length self.old.types.operands < self.old.room }
+        ensures types { self.new.types ≡ with_operands self.old.types (ty ∷ self.old.types.operands) }
+        ensures room { self.new.room ≡ self.old.room }
+        ensures locals { length self.new.types.locals ≡ length self.old.types.locals }
+    {
+        self.slots[self.depth] = ty;
+        self.depth += 1;
+    }
+
+    /// Gives a local a type, where there is one with that index.
+    #[inline]
+    pub fn put_local(&mut self, index: u8, ty: Ty)
+        requires { index < length self.old.types.locals }
+        ensures types { self.new.types ≡ with_local self.old.types index ty }
+        ensures room { self.new.room ≡ self.old.room }
+        ensures locals { length self.new.types.locals ≡ length self.old.types.locals }
+    {
+        self.locals[usize::from(index)] = ty;
+    }
+
     /// Takes over the types that a certificate states, the bottom operand first.
     pub fn load(&mut self, locals: &[Ty], operands: &[Ty])
         requires locals { length locals.now ≡ length self.old.types.locals }
@@ -172,9 +232,24 @@ impl State {
 
     /// Whether it lies below the types that a certificate states, the bottom operand first.
     #[tactic(auto, using(crate::proofs::Turned::reversed))]
-    pub fn is_below(&self, locals: &[Ty], operands: &[Ty]) -> bool
-        ensures { result ≡ types_below self.now.types (stated_types locals.now operands.now) }
+    pub fn is_below<C: Classes>(&self, locals: &[Ty], operands: &[Ty], classes: &C) -> bool
+        ensures { result ≡ types_below (C.lies_below classes.now) self.now.types (stated_types locals.now operands.now) }
     {
-        are_below(&self.locals, locals) && are_below(&self.slots[..self.depth], operands)
+        are_below(&self.locals, locals, classes)
+            && are_below(&self.slots[..self.depth], operands, classes)
+    }
+
+    /// Whether its locals, with a type as the one operand, lie below the types that a certificate states.
+    #[tactic(auto, using(crate::proofs::Turned::reversed))]
+    pub fn is_below_with<C: Classes>(
+        &self,
+        operand: Ty,
+        locals: &[Ty],
+        operands: &[Ty],
+        classes: &C,
+    ) -> bool
+        ensures { result ≡ types_below (C.lies_below classes.now) (with_operands self.now.types (operand ∷ [])) (stated_types locals.now operands.now) }
+    {
+        are_below(&self.locals[..], locals, classes) && are_below(&[operand], operands, classes)
     }
 }

@@ -2,11 +2,15 @@
 #![tactic(auto)]
 
 mod changes;
+mod classes;
 mod lattice;
+mod order;
 mod state;
 mod ty;
 
 pub use changes::are_below;
+pub use classes::{Classes, NoClasses};
 pub use lattice::{Lattice, order_laws};
+pub use order::is_below;
 pub use state::State;
 pub use ty::Ty;

@@ -11,14 +11,15 @@ use Rattle.jc_code.specs.Listing.{PlacedInstr}
 use Rattle.jc_code.specs.Targets.{target_of}
 use Rattle.jc_types.specs.declared.ty.Ty.{Ty}
 use Rattle.jc_types.specs.State.{Types}
-use Rattle.jc_step.specs.Effect.{effect_of}
 use Rattle.jc_check.specs.Method.{Method}
+use Rattle.jc_check.specs.Rules.{word_rules}
 use Rattle.jc_check.specs.Typing.{Typing, BranchLeads}
 use Rattle.std.specs.Ordering.{int_eq}
 use Rattle.jcard.specs.Shorts.{short, holds}
 use Rattle.jcard.specs.Tagged.{TaggedValue, Frame, goes, jumps, stable_offset, lookup_offset, act_word}
 use Rattle.jcard.specs.PrivateWords.{UntaggedFrame, continues, pc_of}
 use Rattle.jcard.specs.PrivateAgree.{Pointwise, HasType, Simulates}
+use Rattle.jcard.specs.PrivateEffect.{parts_of}
 use Rattle.jcard.proofs.Taking.{takes_one, takes_two}
 use Rattle.jcard.proofs.Simulation.{goes_on, jumps_on, Owes, owes_at, Known}
 
@@ -29,10 +30,10 @@ either_way typing true to next wl ws vl vs taken falls = taken
 either_way typing false to next wl ws vl vs taken falls = falls
 
 pub branch_owes : (m : Method) (typing : Typing) (x : PlacedInstr) (when : When) (offset : ℤ) (w : UntaggedFrame) (f : Frame) (s after : Types) → Known m typing x (Branch when offset) w f s after → Owes m typing x (Branch when offset) w f
-unfolding effect_of act_word
+unfolding parts_of act_word
 branch_owes m typing x Always offset w f s after k =
     let same : s ≡ after = the_ok s after k.effect in
-    let B : Types → Type 0 = λ t. BranchLeads typing t (target_of x.pc offset) in
+    let B : Types → Type 0 = λ t. BranchLeads word_rules typing t (target_of x.pc offset) in
     jumps_on typing (target_of x.pc offset) w.locals w.operands f.locals f.operands s k.read_locals k.read_operands k.locals k.operands (subst B (sym same) k.branches.0)
 branch_owes m typing x (Zero condition) offset w f s after k =
     let t = takes_one w.operands f.operands s after k.read_operands k.operands k.effect in
@@ -71,19 +72,19 @@ lookup_there P pc default (c ∷ cs) key d h = by (int_eq c.key key) (lookup_the
     by false later = later
 
 pub stable_owes : (m : Method) (typing : Typing) (x : PlacedInstr) (default low : ℤ) (offsets : List ℤ) (w : UntaggedFrame) (f : Frame) (s after : Types) → Known m typing x (StableSwitch default low offsets) w f s after → Owes m typing x (StableSwitch default low offsets) w f
-unfolding effect_of act_word
+unfolding parts_of act_word
 stable_owes m typing x default low offsets w f s after k =
     let t = takes_one w.operands f.operands s after k.read_operands k.operands k.effect in
     let L : List Ty → Type 0 = λ ts. Pointwise HasType f.locals ts in
-    let b = stable_there (BranchLeads typing after) x.pc default low offsets (short t.word) k.branches.0 k.branches.1 in
+    let b = stable_there (BranchLeads word_rules typing after) x.pc default low offsets (short t.word) k.branches.0 k.branches.1 in
     let j = jumps_on typing (target_of x.pc (stable_offset default low offsets (short t.word))) w.locals t.words f.locals t.values after k.read_locals t.read (subst L t.locals k.locals) t.typed b in
     owes_at m typing x (StableSwitch default low offsets) w f _ _ t.words_are t.values_are ((omega arith, j.0), j.1)
 
 pub lookup_owes : (m : Method) (typing : Typing) (x : PlacedInstr) (default : ℤ) (cases : List Case) (w : UntaggedFrame) (f : Frame) (s after : Types) → Known m typing x (LookupSwitch default cases) w f s after → Owes m typing x (LookupSwitch default cases) w f
-unfolding effect_of act_word
+unfolding parts_of act_word
 lookup_owes m typing x default cases w f s after k =
     let t = takes_one w.operands f.operands s after k.read_operands k.operands k.effect in
     let L : List Ty → Type 0 = λ ts. Pointwise HasType f.locals ts in
-    let b = lookup_there (BranchLeads typing after) x.pc default cases (short t.word) k.branches.0 k.branches.1 in
+    let b = lookup_there (BranchLeads word_rules typing after) x.pc default cases (short t.word) k.branches.0 k.branches.1 in
     let j = jumps_on typing (target_of x.pc (lookup_offset default cases (short t.word))) w.locals t.words f.locals t.values after k.read_locals t.read (subst L t.locals k.locals) t.typed b in
     owes_at m typing x (LookupSwitch default cases) w f _ _ t.words_are t.values_are ((omega arith, j.0), j.1)

@@ -2,6 +2,7 @@
 use Rattle.std.proofs.Common.{◌≡◌, ℕ, List, true, refl, sym, ap, ◌∙◌, subst}
 use Rattle.std.specs.Prelude.{⊤, ◌≢◌}
 use Rattle.jc_check.specs.Method.{word_method}
+use Rattle.jc_check.specs.Rules.{word_rules}
 use Rattle.jc_check.specs.Typing.{Typing, IsTyping, IsWellTyped}
 use Rattle.jc_check.specs.Carried.{CertCarriesCode}
 use Rattle.jc_cert.specs.Cert.{Row}
@@ -53,7 +54,7 @@ record CarriedRun (code bytes : List ℕ) : Type 0 where
   pub spelled : SpellsCert bytes rows
   pub carried : CertCarriesCode code rows
   pub typing : Typing
-  pub typed : IsTyping (word_method code) typing
+  pub typed : IsTyping word_rules (word_method code) typing
 
 ends : (code bytes : List ℕ) (steps : ℕ) (g : CarriedRun code bytes) (end : RunEnd) → runtime_call (word_method code) g.typed.listing steps (first_frame (word_method code)) ≡ end → RunEnds code bytes steps end
 ends code bytes steps g end e = record { rows = g.rows; spelled = g.spelled; carried = g.carried; listing = g.typed.listing; whole = g.typed.whole; run = e }
@@ -83,7 +84,7 @@ ending_tells endings.UsedUp = refl
 
 -- the end of a run of code that is carried
 pub for_ending : (code bytes : List ℕ) (steps : ℕ) (rows : List Row) (ending : Ending) → Spelled bytes rows → CertCarriesCode code rows → IsWellTyped code
-    → ((typing : Typing) → (t : IsTyping (word_method code) typing) → EndsAs ending (runtime_call (word_method code) t.listing steps (first_frame (word_method code))))
+    → ((typing : Typing) → (t : IsTyping word_rules (word_method code) typing) → EndsAs ending (runtime_call (word_method code) t.listing steps (first_frame (word_method code))))
     → IsAnswer (answer_to ending) code bytes steps
 for_ending code bytes steps rows ending spelled carried well so =
     let ground : CarriedRun code bytes = record { rows = rows; spelled = spelled.spells; carried = carried; typing = well.typing; typed = well.typed } in

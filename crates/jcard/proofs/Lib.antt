@@ -1,5 +1,6 @@
 mod Points
 mod Taking
+mod Effects
 mod Simulation
 mod Moves
 mod Branching

@@ -1,15 +1,16 @@
 -- Lists that are related point by point.
-use Rattle.std.proofs.Common.{◌≡◌, ℕ, zero, suc, ◌+◌, List, [], ◌∷◌, ◌++◌, length, take, drop, Some, true, refl, subst, arith}
+use Rattle.std.proofs.Common.{◌≡◌, ℕ, zero, suc, ◌+◌, List, [], ◌∷◌, ◌++◌, length, take, drop, Some, Bool, true, false, refl, subst, arith}
 use Rattle.std.specs.Prelude.{slice_get, slice_set}
 use Rattle.jc_base.proofs.Binding.{none_some, the_some}
 use Rattle.jc_base.specs.Stack.{duplicated, swapped}
 use Rattle.jc_types.specs.declared.ty.Ty.{Ty}
 use Rattle.jc_types.specs.declared.ty.Ty.TheVariants as types
-use Rattle.jc_types.specs.Ty.{is_below}
+use Rattle.jc_types.specs.Ty.{is_below, is_null, is_word}
 use Rattle.jc_types.specs.State.{all_below}
 use Rattle.jc_base.proofs.Binding.{both_true}
+use Rattle.jc_check.specs.Rules.{word_rules}
 use Rattle.jcard.specs.Tagged.{TaggedValue, Word, Ref, Null, Unset, all_written}
-use Rattle.jcard.specs.PrivateAgree.{Pointwise, HasType, IsOperand}
+use Rattle.jcard.specs.PrivateAgree.{Pointwise, HasType, IsWord, IsReference, IsOperand}
 
 pub point_length : {A B : Type 0} (R : A → B → Type 0) (xs : List A) (ys : List B) → Pointwise R xs ys → length xs ≡ length ys
 point_length R [] [] h = refl
@@ -61,22 +62,56 @@ point_set R (u ∷ us) [] i x y h r = absurd h
 point_set R (u ∷ us) (v ∷ vs) zero x y h r = (r, h.1)
 point_set R (u ∷ us) (v ∷ vs) (suc i) x y h r = (h.0, point_set R us vs i x y h.1 r)
 
-wider : (v : TaggedValue) (t u : Ty) → HasType v t → is_below t u ≡ true → HasType v u
-wider v types.Top types.Top h b = tt
-wider v types.Word types.Top h b = tt
-wider v types.Null types.Top h b = tt
-wider v types.Word types.Word h b = h
-wider v types.Null types.Null h b = h
-wider v types.Top types.Word h b = absurd cc
-wider v types.Top types.Null h b = absurd cc
-wider v types.Word types.Null h b = absurd cc
-wider v types.Null types.Word h b = absurd cc
+-- what is of a type of references is one; a test that neither Top nor Word passes finds such types
+refers : (v : TaggedValue) (t : Ty) (test : Ty → Bool) → test types.Top ≡ false → test types.Word ≡ false → HasType v t
+    → test t ≡ true → IsReference v
+refers v types.Top test top word h b = absurd cc
+refers v types.Word test top word h b = absurd cc
+refers Null types.Null test top word h b = tt
+refers (Word n) types.Null test top word h b = absurd h
+refers (Ref n) types.Null test top word h b = absurd h
+refers Unset types.Null test top word h b = absurd h
+refers v (types.Class c) test top word h b = h
+refers v types.BooleanArray test top word h b = h
+refers v types.ByteArray test top word h b = h
+refers v types.ShortArray test top word h b = h
+refers v (types.ReferenceArray c) test top word h b = h
+
+pub word_is : (t : Ty) → is_word t ≡ true → t ≡ types.Word
+word_is types.Top b = absurd cc
+word_is types.Word b = refl
+word_is types.Null b = absurd cc
+word_is (types.Class c) b = absurd cc
+word_is types.BooleanArray b = absurd cc
+word_is types.ByteArray b = absurd cc
+word_is types.ShortArray b = absurd cc
+word_is (types.ReferenceArray c) b = absurd cc
+
+null_is : (t : Ty) → is_null t ≡ true → t ≡ types.Null
+null_is types.Top b = absurd cc
+null_is types.Word b = absurd cc
+null_is types.Null b = refl
+null_is (types.Class c) b = absurd cc
+null_is types.BooleanArray b = absurd cc
+null_is types.ByteArray b = absurd cc
+null_is types.ShortArray b = absurd cc
+null_is (types.ReferenceArray c) b = absurd cc
+
+wider : (v : TaggedValue) (t u : Ty) → HasType v t → is_below word_rules.below t u ≡ true → HasType v u
+wider v t types.Top h b = tt
+wider v t types.Word h b = let H : Ty → Type 0 = λ x. HasType v x in subst H (word_is t b) h
+wider v t types.Null h b = let H : Ty → Type 0 = λ x. HasType v x in subst H (null_is t b) h
+wider v t (types.Class c) h b = refers v t (λ x. is_below word_rules.below x (types.Class c)) refl refl h b
+wider v t types.BooleanArray h b = refers v t (λ x. is_below word_rules.below x types.BooleanArray) refl refl h b
+wider v t types.ByteArray h b = refers v t (λ x. is_below word_rules.below x types.ByteArray) refl refl h b
+wider v t types.ShortArray h b = refers v t (λ x. is_below word_rules.below x types.ShortArray) refl refl h b
+wider v t (types.ReferenceArray c) h b = refers v t (λ x. is_below word_rules.below x (types.ReferenceArray c)) refl refl h b
 
 -- what is in such a relation to types is so to the types above them
-widen_by : (R : TaggedValue → Ty → Type 0) → ((v : TaggedValue) (t u : Ty) → R v t → is_below t u ≡ true → R v u) → (vs : List TaggedValue) (ts us : List Ty) → Pointwise R vs ts → all_below ts us ≡ true → Pointwise R vs us
+widen_by : (R : TaggedValue → Ty → Type 0) → ((v : TaggedValue) (t u : Ty) → R v t → is_below word_rules.below t u ≡ true → R v u) → (vs : List TaggedValue) (ts us : List Ty) → Pointwise R vs ts → all_below word_rules.below ts us ≡ true → Pointwise R vs us
 widen_by R up [] [] [] h b = tt
 widen_by R up (v ∷ vs) (t ∷ ts) (u ∷ us) h b =
-    let p = both_true (is_below t u) (all_below ts us) b in
+    let p = both_true (is_below word_rules.below t u) (all_below word_rules.below ts us) b in
     (up v t u h.0 p.0, widen_by R up vs ts us h.1 p.1)
 widen_by R up [] [] (u ∷ us) h b = absurd cc
 widen_by R up [] (t ∷ ts) us h b = absurd h
@@ -84,10 +119,10 @@ widen_by R up (v ∷ vs) [] us h b = absurd h
 widen_by R up (v ∷ vs) (t ∷ ts) [] h b = absurd cc
 
 -- values of types have the types above them
-pub widen : (vs : List TaggedValue) (ts us : List Ty) → Pointwise HasType vs ts → all_below ts us ≡ true → Pointwise HasType vs us
+pub widen : (vs : List TaggedValue) (ts us : List Ty) → Pointwise HasType vs ts → all_below word_rules.below ts us ≡ true → Pointwise HasType vs us
 widen vs ts us h b = widen_by HasType wider vs ts us h b
 
-pub widen_operands : (vs : List TaggedValue) (ts us : List Ty) → Pointwise IsOperand vs ts → all_below ts us ≡ true → Pointwise IsOperand vs us
+pub widen_operands : (vs : List TaggedValue) (ts us : List Ty) → Pointwise IsOperand vs ts → all_below word_rules.below ts us ≡ true → Pointwise IsOperand vs us
 widen_operands vs ts us h b = widen_by IsOperand (λ v t u k below. (wider v t u k.0 below, k.1)) vs ts us h b
 
 -- operands were written
@@ -98,10 +133,11 @@ written (suc n) (v ∷ vs) [] h = absurd h
 written (suc n) (v ∷ vs) (t ∷ ts) h = rw h.0.1 (written n vs ts h.1)
 
 -- what is of a type below Word is a word
-pub as_word : (v : TaggedValue) (t : Ty) → HasType v t → is_below t types.Word ≡ true → (n : ℕ) × (v ≡ Word n)
-as_word (Word n) types.Word h b = (n, refl)
-as_word (Ref n) types.Word h b = absurd h
-as_word Null types.Word h b = absurd h
-as_word Unset types.Word h b = absurd h
-as_word v types.Top h b = absurd cc
-as_word v types.Null h b = absurd cc
+pub as_word : (v : TaggedValue) (t : Ty) → HasType v t → is_below word_rules.below t types.Word ≡ true → (n : ℕ) × (v ≡ Word n)
+as_word v t h b = let H : Ty → Type 0 = λ x. HasType v x in of v (subst H (word_is t b) h)
+  where
+    of : (v : TaggedValue) → IsWord v → (n : ℕ) × (v ≡ Word n)
+    of (Word n) w = (n, refl)
+    of (Ref n) w = absurd w
+    of Null w = absurd w
+    of Unset w = absurd w

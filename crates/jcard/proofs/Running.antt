@@ -15,6 +15,7 @@ use Rattle.jc_code.specs.Decoding.{next_constant, next_word_operation}
 use Rattle.jc_code.specs.Instructions.{instr_of, word_instr_at}
 use Rattle.jc_code.specs.Listing.{PlacedInstr, ListingLaws}
 use Rattle.jc_check.specs.Method.{Method, word_method, word_max_stack}
+use Rattle.jc_check.specs.Rules.{word_rules}
 use Rattle.jc_check.specs.Typing.{Typing, IsTyping, IsWellTyped}
 use Rattle.jcard.specs.declared.exception.Exception.{Exception}
 use Rattle.jcard.specs.declared.run.Step.{Step}
@@ -87,14 +88,14 @@ steps_on laws code w new s done typing t f agree well =
     (ended code w new s a.instr _ (sym (at_opcode code w.pc a.within) ∙ a.stands) done) a.simulates
 
 -- after so many of a run's steps, this frame of words is the defensive machine's without tags
-pub record Going (code : List ℕ) (done steps : ℕ) (w : UntaggedFrame) (typing : Typing) (t : IsTyping (word_method code) typing) : Type 0 where
+pub record Going (code : List ℕ) (done steps : ℕ) (w : UntaggedFrame) (typing : Typing) (t : IsTyping word_rules (word_method code) typing) : Type 0 where
   pub frame : Frame
   pub agree : Agree w frame
   pub well : WellTyped typing frame
   pub rest : runtime_call (word_method code) t.listing (steps - done) frame ≡ runtime_call (word_method code) t.listing steps (first_frame (word_method code))
 
 abbrev pub IsGoing : List ℕ → ℕ → ℕ → UntaggedFrame → Type 0
-IsGoing code done steps w = (typing : Typing) → (t : IsTyping (word_method code) typing) → Going code done steps w typing t
+IsGoing code done steps w = (typing : Typing) → (t : IsTyping word_rules (word_method code) typing) → Going code done steps w typing t
 
 pub starts : (code : List ℕ) (steps : ℕ) → IsGoing code 0 steps first_words
 starts code steps typing t = record { frame = first_frame (word_method code); agree = first_agrees code; well = first_typed code typing t; rest = simp unary_clauses refl }
@@ -124,7 +125,7 @@ onward code done steps w new lt going step typing t =
 
 -- every ending of the runner, as the defensive machine's run ends
 abbrev pub EndsSo : Ending → List ℕ → ℕ → Type 0
-EndsSo ending code steps = (typing : Typing) → (t : IsTyping (word_method code) typing) → EndsAs ending (runtime_call (word_method code) t.listing steps (first_frame (word_method code)))
+EndsSo ending code steps = (typing : Typing) → (t : IsTyping word_rules (word_method code) typing) → EndsAs ending (runtime_call (word_method code) t.listing steps (first_frame (word_method code)))
 
 thrown_out : (m : Method) (listing : List PlacedInstr) (typing : Typing) (new : UntaggedFrame) (e : Exception) (n : ℕ) (out : Outcome) → Follows typing (went.Thrown e) new out → EndsAs (endings.Threw e) (run_on (runtime_call m listing n) out)
 thrown_out m listing typing new e n (Next f) follows = elim follows [ ]

@@ -13,11 +13,12 @@ use Rattle.jc_types.specs.State.{Types, all_below}
 use Rattle.jc_types.specs.declared.ty.Ty.TheVariants as types
 use Rattle.jc_base.proofs.Binding.{both_true}
 use Rattle.jc_check.specs.Method.{Method, entry_of, word_method}
+use Rattle.jc_check.specs.Rules.{word_rules}
 use Rattle.jc_check.specs.Typing.{Typing, Leads, BranchLeads, IsTyping}
-use Rattle.jc_check.specs.WordEffect.{word_effect}
 use Rattle.jcard.specs.Tagged.{unset, Frame, Outcome, act, act_at, defensive_step, first_frame}
 use Rattle.jcard.specs.PrivateWords.{UntaggedFrame, do_any, ReadyAny}
 use Rattle.jcard.specs.PrivateAgree.{Pointwise, HasType, IsOperand, Agree, WellTyped, Simulates}
+use Rattle.jcard.proofs.Effects.{effect_has_parts}
 use Rattle.jcard.proofs.Points.{widen, widen_operands}
 use Rattle.jcard.proofs.Simulation.{Owes, Known, nop_owes, push_owes, load_owes, store_owes, increment_owes}
 use Rattle.jcard.proofs.Moves.{shuffle_owes, binary_owes, unary_owes, return_owes}
@@ -39,10 +40,10 @@ word_owes m typing x ReturnWord w f s after k = return_owes m typing x w f s aft
 
 -- what any operation owes, where it has an effect
 any_owes : (m : Method) (typing : Typing) (x : PlacedInstr) (o : Operation) (w : UntaggedFrame) (f : Frame) (s after : Types) → Agree w f → Pointwise HasType f.locals s.locals → Pointwise IsOperand f.operands s.operands
-    → word_effect m.max_stack m.returned o s ≡ Ok after → AllByRecursion (BranchLeads typing after) (targets_of x.pc o) → (falls_of o ≡ true → Leads typing after x.instr.next_pc)
+    → word_rules.effect m.max_stack m.returned o s ≡ Ok after → AllByRecursion (BranchLeads word_rules typing after) (targets_of x.pc o) → (falls_of o ≡ true → Leads word_rules typing after x.instr.next_pc)
     → ReadyAny m.max_stack x.pc o w × Simulates typing (do_any x.pc x.instr.next_pc o w) (act m x o f)
 any_owes m typing x (operations.Word o) w f s after a locals operands effect branches falls =
-    word_owes m typing x o w f s after (record { read_locals = a.locals; read_operands = a.operands; locals = locals; operands = operands; effect = effect; branches = branches; falls = falls })
+    word_owes m typing x o w f s after (record { read_locals = a.locals; read_operands = a.operands; locals = locals; operands = operands; effect = effect_has_parts word_rules.below m.max_stack m.returned o s after effect; branches = branches; falls = falls })
 any_owes m typing x (operations.Object o) w f s after a locals operands effect branches falls = absurd cc
 
 -- what stands where a well-typed frame is, and what it owes
@@ -53,7 +54,7 @@ pub record AtStep (m : Method) (typing : Typing) (listing : List PlacedInstr) (w
   pub ready : ReadyAny m.max_stack w.pc instr.operation w
   pub simulates : Simulates typing (do_any w.pc instr.next_pc instr.operation w) (defensive_step m listing f)
 
-pub at_step : (laws : ListingLaws word_instr_at) (m : Method) (typing : Typing) (t : IsTyping m typing) (w : UntaggedFrame) (f : Frame) → Agree w f → WellTyped typing f → AtStep m typing t.listing w f
+pub at_step : (laws : ListingLaws word_instr_at) (m : Method) (typing : Typing) (t : IsTyping word_rules m typing) (w : UntaggedFrame) (f : Frame) → Agree w f → WellTyped typing f → AtStep m typing t.listing w f
 at_step laws m typing t w f a k =
     let e = t.each f.pc k.state k.«at» in
     let x = e.instr in
@@ -85,8 +86,8 @@ first_words = record { pc = 0; locals = 0 ∷ 0 ∷ []; operands = [] }
 pub first_agrees : (code : List ℕ) → Agree first_words (first_frame (word_method code))
 first_agrees code = record { pc = refl; locals = (tt, (tt, tt)); operands = tt }
 
-pub first_typed : (code : List ℕ) (typing : Typing) → IsTyping (word_method code) typing → WellTyped typing (first_frame (word_method code))
+pub first_typed : (code : List ℕ) (typing : Typing) → IsTyping word_rules (word_method code) typing → WellTyped typing (first_frame (word_method code))
 first_typed code typing t =
     let s = t.entry in
-    let b = both_true (all_below (entry_of (word_method code)).locals s.state.locals) (all_below (entry_of (word_method code)).operands s.state.operands) s.below in
+    let b = both_true (all_below word_rules.below (entry_of (word_method code)).locals s.state.locals) (all_below word_rules.below (entry_of (word_method code)).operands s.state.operands) s.below in
     record { state = s.state; «at» = s.typed; locals = widen (unset 2) (replicate 2 types.Top) s.state.locals (never_written 2) b.0; operands = widen_operands [] [] s.state.operands tt b.1 }

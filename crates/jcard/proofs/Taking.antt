@@ -11,9 +11,10 @@ use Rattle.jc_types.specs.Ty.{is_below}
 use Rattle.jc_types.specs.State.{Types}
 use Rattle.jc_base.proofs.Binding.{both_true}
 use Rattle.jc_types.specs.Changes.{with_operands, local_or_fault, local_type, push_type, take_types}
-use Rattle.jc_step.specs.Effect.{fits}
+use Rattle.jc_check.specs.Rules.{word_rules}
 use Rattle.jcard.specs.Tagged.{TaggedValue, Word}
 use Rattle.jcard.specs.PrivateAgree.{Pointwise, WithoutTag, HasType, IsOperand}
+use Rattle.jcard.specs.PrivateEffect.{fits}
 use Rattle.jcard.proofs.Points.{as_word, point_get}
 
 -- an operand more
@@ -38,7 +39,7 @@ pub record TakesOne (ws : List ℕ) (vs : List TaggedValue) (s after : Types) : 
   pub typed : Pointwise IsOperand values after.operands
   pub locals : s.locals ≡ after.locals
 
-one_of : (ws : List ℕ) (vs : List TaggedValue) (locals ts : List Ty) (after : Types) → Pointwise WithoutTag ws vs → Pointwise IsOperand vs ts → take_types (types.Word ∷ []) (record { locals = locals; operands = ts }) ≡ Ok after
+one_of : (ws : List ℕ) (vs : List TaggedValue) (locals ts : List Ty) (after : Types) → Pointwise WithoutTag ws vs → Pointwise IsOperand vs ts → take_types word_rules.below (types.Word ∷ []) (record { locals = locals; operands = ts }) ≡ Ok after
     → TakesOne ws vs (record { locals = locals; operands = ts }) after
 unfolding take_types
 one_of ws vs locals [] after r h e = absurd cc
@@ -47,15 +48,15 @@ one_of [] (v ∷ vs) locals (t ∷ ts) after r h e = absurd r
 one_of (w ∷ ws) [] locals (t ∷ ts) after r h e = absurd h
 one_of (w ∷ ws) (v ∷ vs) locals (t ∷ ts) after r h e =
     let u = under (nat_lt (length (t ∷ ts)) 1) _ StackUnder after e in
-    let g = guard_ok (is_below t types.Word && true) (Ok (record { locals = locals; operands = ts })) WrongType after u.1 in
-    let b = both_true (is_below t types.Word) true g.0 in
+    let g = guard_ok (is_below word_rules.below t types.Word && true) (Ok (record { locals = locals; operands = ts })) WrongType after u.1 in
+    let b = both_true (is_below word_rules.below t types.Word) true g.0 in
     let a = as_word v t h.0.0 b.0 in
     let R : TaggedValue → Type 0 = λ z. WithoutTag w z in
     let same : w ≡ a.0 = subst R a.1 r.0 in
     let T : Types → Type 0 = λ q. TakesOne (w ∷ ws) (v ∷ vs) (record { locals = locals; operands = t ∷ ts }) q in
     subst T (the_ok _ _ g.1) (record { word = w; words = ws; values = vs; words_are = refl; values_are = ap (λ (z : TaggedValue). z ∷ vs) (a.1 ∙ ap Word (sym same)); read = r.1; typed = h.1; locals = refl })
 
-pub takes_one : (ws : List ℕ) (vs : List TaggedValue) (s after : Types) → Pointwise WithoutTag ws vs → Pointwise IsOperand vs s.operands → take_types (types.Word ∷ []) s ≡ Ok after → TakesOne ws vs s after
+pub takes_one : (ws : List ℕ) (vs : List TaggedValue) (s after : Types) → Pointwise WithoutTag ws vs → Pointwise IsOperand vs s.operands → take_types word_rules.below (types.Word ∷ []) s ≡ Ok after → TakesOne ws vs s after
 takes_one ws vs s after r h e = one_of ws vs s.locals s.operands after r h e
 
 -- two words are taken
@@ -70,7 +71,7 @@ pub record TakesTwo (ws : List ℕ) (vs : List TaggedValue) (s after : Types) : 
   pub typed : Pointwise IsOperand values after.operands
   pub locals : s.locals ≡ after.locals
 
-two_of : (ws : List ℕ) (vs : List TaggedValue) (locals ts : List Ty) (after : Types) → Pointwise WithoutTag ws vs → Pointwise IsOperand vs ts → take_types (types.Word ∷ types.Word ∷ []) (record { locals = locals; operands = ts }) ≡ Ok after
+two_of : (ws : List ℕ) (vs : List TaggedValue) (locals ts : List Ty) (after : Types) → Pointwise WithoutTag ws vs → Pointwise IsOperand vs ts → take_types word_rules.below (types.Word ∷ types.Word ∷ []) (record { locals = locals; operands = ts }) ≡ Ok after
     → TakesTwo ws vs (record { locals = locals; operands = ts }) after
 unfolding take_types
 two_of ws vs locals [] after r h e = absurd cc
@@ -83,9 +84,9 @@ two_of (w ∷ []) (v ∷ x ∷ vs) locals (t ∷ u ∷ ts) after r h e = absurd 
 two_of (w ∷ y ∷ ws) (v ∷ []) locals (t ∷ u ∷ ts) after r h e = absurd h.1
 two_of (w ∷ y ∷ ws) (v ∷ x ∷ vs) locals (t ∷ u ∷ ts) after r h e =
     let k = under (nat_lt (length (t ∷ u ∷ ts)) 2) _ StackUnder after e in
-    let g = guard_ok (is_below u types.Word && (is_below t types.Word && true)) (Ok (record { locals = locals; operands = ts })) WrongType after k.1 in
-    let b = both_true (is_below u types.Word) (is_below t types.Word && true) g.0 in
-    let d = both_true (is_below t types.Word) true b.1 in
+    let g = guard_ok (is_below word_rules.below u types.Word && (is_below word_rules.below t types.Word && true)) (Ok (record { locals = locals; operands = ts })) WrongType after k.1 in
+    let b = both_true (is_below word_rules.below u types.Word) (is_below word_rules.below t types.Word && true) g.0 in
+    let d = both_true (is_below word_rules.below t types.Word) true b.1 in
     let a = as_word v t h.0.0 d.0 in
     let c = as_word x u h.1.0.0 b.0 in
     let R : TaggedValue → Type 0 = λ z. WithoutTag w z in
@@ -105,7 +106,7 @@ two_of (w ∷ y ∷ ws) (v ∷ x ∷ vs) locals (t ∷ u ∷ ts) after r h e =
       locals = refl;
     })
 
-pub takes_two : (ws : List ℕ) (vs : List TaggedValue) (s after : Types) → Pointwise WithoutTag ws vs → Pointwise IsOperand vs s.operands → take_types (types.Word ∷ types.Word ∷ []) s ≡ Ok after → TakesTwo ws vs s after
+pub takes_two : (ws : List ℕ) (vs : List TaggedValue) (s after : Types) → Pointwise WithoutTag ws vs → Pointwise IsOperand vs s.operands → take_types word_rules.below (types.Word ∷ types.Word ∷ []) s ≡ Ok after → TakesTwo ws vs s after
 takes_two ws vs s after r h e = two_of ws vs s.locals s.operands after r h e
 
 -- a local that is read as a word
@@ -131,11 +132,11 @@ within_of (y ∷ ys) (suc i) x e = let h = within_of ys i x e in omega arith
 pub is_within : {A : Type 0} (xs : List A) (i : ℕ) (x : A) → slice_get xs i ≡ Some x → i < length xs
 is_within xs i x e = within_of xs i x e
 
-pub reads_local : (wl : List ℕ) (vl : List TaggedValue) (i : ℕ) (s : Types) (t : Ty) → Pointwise WithoutTag wl vl → Pointwise HasType vl s.locals → local_type i s ≡ Ok t → fits t types.Word ≡ Ok tt → ReadsLocal wl vl i
+pub reads_local : (wl : List ℕ) (vl : List TaggedValue) (i : ℕ) (s : Types) (t : Ty) → Pointwise WithoutTag wl vl → Pointwise HasType vl s.locals → local_type i s ≡ Ok t → fits word_rules.below t types.Word ≡ Ok tt → ReadsLocal wl vl i
 unfolding fits
 reads_local wl vl i s t r h e f =
     let v = point_get HasType vl s.locals i t h (local_there i s t e) in
-    let a = as_word v.0 t v.2 (guard_ok (is_below t types.Word) (Ok tt) WrongType tt f).0 in
+    let a = as_word v.0 t v.2 (guard_ok (is_below word_rules.below t types.Word) (Ok tt) WrongType tt f).0 in
     let w = point_get WithoutTag wl vl i v.0 r v.1 in
     let R : TaggedValue → Type 0 = λ z. WithoutTag w.0 z in
     let same : w.0 ≡ a.0 = subst R a.1 w.2 in

@@ -9,3 +9,4 @@ pub mod Tagged
 pub mod PrivateWords
 pub mod PrivateAgree
 pub mod PrivateRuns
+pub mod PrivateEffect

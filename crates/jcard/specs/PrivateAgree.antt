@@ -21,17 +21,35 @@ WithoutTag w (Ref n) = w ≡ n
 WithoutTag w Null = w ≡ 0
 WithoutTag w Unset = ⊤
 
--- a value of a type
+abbrev pub IsWord : TaggedValue → Type 0
+IsWord (Word n) = ⊤
+IsWord (Ref n) = ⊥
+IsWord Null = ⊥
+IsWord Unset = ⊥
+
+abbrev pub IsNull : TaggedValue → Type 0
+IsNull (Word n) = ⊥
+IsNull (Ref n) = ⊥
+IsNull Null = ⊤
+IsNull Unset = ⊥
+
+-- null, or a reference to an object
+abbrev pub IsReference : TaggedValue → Type 0
+IsReference (Word n) = ⊥
+IsReference (Ref n) = ⊤
+IsReference Null = ⊤
+IsReference Unset = ⊥
+
+-- a value of a type. Code alone has no objects, so nothing is said of their classes
 abbrev pub HasType : TaggedValue → Ty → Type 0
 HasType v types.Top = ⊤
-HasType (Word n) types.Word = ⊤
-HasType (Ref n) types.Word = ⊥
-HasType Null types.Word = ⊥
-HasType Unset types.Word = ⊥
-HasType (Word n) types.Null = ⊥
-HasType (Ref n) types.Null = ⊥
-HasType Null types.Null = ⊤
-HasType Unset types.Null = ⊥
+HasType v types.Word = IsWord v
+HasType v types.Null = IsNull v
+HasType v (types.Class c) = IsReference v
+HasType v types.BooleanArray = IsReference v
+HasType v types.ByteArray = IsReference v
+HasType v types.ShortArray = IsReference v
+HasType v (types.ReferenceArray c) = IsReference v
 
 -- an operand of a type: a value that was written
 abbrev pub IsOperand : TaggedValue → Ty → Type 0

@@ -2,6 +2,7 @@
 
 ghost use Rattle.std.specs.Prelude.{◌<◌, ◌^◌, length};
 ghost use Rattle.jc_check.specs.Method.{word_method};
+ghost use Rattle.jc_check.specs.Rules.{word_rules};
 ghost use Rattle.jc_check.specs.Typing.{Typing, IsTyping};
 ghost use Rattle.jcard.specs.PrivateRuns.{CanRun, EndsAs, FollowsEach};
 ghost use Rattle.jcard.specs.Tagged.{first_frame, runtime_call};
@@ -50,7 +51,7 @@ fn take_step(code: &[u8], frame: &mut WordFrame) -> Step
 // By itself it has all registers of the processor.
 #[inline(never)]
 pub(crate) fn run(checked: &CheckedWords, steps: u32) -> Ending
-    ensures { (typing : Typing) → (t : IsTyping (word_method checked.now) typing)
+    ensures { (typing : Typing) → (t : IsTyping word_rules (word_method checked.now) typing)
         → EndsAs result (runtime_call (word_method checked.now) t.listing steps (first_frame (word_method checked.now))) }
 {
     listing_laws();

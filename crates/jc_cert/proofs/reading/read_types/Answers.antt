@@ -11,7 +11,7 @@ returns-in_err-ty c =
     rw (p.1, p.2) (refuses (λ (s : ℕ) bs. next_type bs) (λ t. 0) Unspelled _ c.loop.types.items c.args.count c.loop.counter 0 c.loop.cursor c.loop-test.true c.in_err-ty.ensures c.loop.invariant)
 
 pub loop-preserved : goal.loop-preserved
-loop-preserved c = rw c.in_ok-push.ensures.items
+loop-preserved c = rw c.in_ok-extend_from_slice.ensures.items
     (goes_on (λ (s : ℕ) bs. next_type bs) (λ t. 0) _ c.loop.types.items c.args.count c.loop.counter 0 c.loop.cursor c.in_ok-ty.ty c.read_type.new.cursor c.loop-test.true c.in_ok-ty.ensures c.loop.invariant)
 
 pub returns : goal.returns

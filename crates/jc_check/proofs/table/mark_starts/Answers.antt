@@ -1,12 +1,19 @@
-use Rattle.std.proofs.Common.{arith, sym, ◌∙◌}
-use Rattle.jc_check.proofs.Marking.{none_yet, goes_on}
+use Rattle.std.proofs.Common.{sym, ◌∙◌}
+use Rattle.jc_check.proofs.Marking.{none_yet, goes_on, is_done}
+use Rattle.jc_check.proofs.Standing.{no_claims}
 use Rattle.jc_check.proofs.table.mark_starts.Goals as goal
 
 pub loop-pc-init : goal.loop-pc-init
-loop-pc-init c = none_yet c.args.code.now c.args.marks.now c.requires.none
-
-pub loop-pc-smaller : goal.loop-pc-smaller
-loop-pc-smaller c = omega (arith, c.in-Ok.ensures.behind, c.in-Ok.ensures.within)
+loop-pc-init g c = none_yet (g.R.CheckRules.rules c.args.rules.now).decoder c.args.method.now.code c.args.marks.now c.requires.none
 
 pub loop-pc-preserved : goal.loop-pc-preserved
-loop-pc-preserved c = goes_on c.args.code.now c.loop-pc.pc c.in-Ok.instr c.loop-pc.marks c.loop-pc-test.true (sym c.decode_words.ensures.instr ∙ c.in-Ok.is) c.in-Ok.ensures.within c.loop-pc.invariant
+loop-pc-preserved g c =
+    let at = rw c.code-code.ensures at (sym c.decode.ensures ∙ c.in-Ok.is) in
+    let lt = rw c.code-code.ensures at c.loop-pc-test.true in
+    goes_on (g.R.CheckRules.rules c.args.rules.now).decoder c.args.method.now.code c.loop-pc.pc c.in-Ok.instr c.loop-pc.marks lt at (c.listing_laws.ensures.ascends c.args.method.now.code c.loop-pc.pc c.in-Ok.instr at).1 c.loop-pc.invariant
+
+pub returns-clause-ok : goal.returns-clause-ok
+returns-clause-ok g c =
+    let rules = g.R.CheckRules.rules c.args.rules.now in
+    let done = is_done rules.decoder c.args.method.now.code c.loop-pc.pc c.loop-pc.marks (rw c.code-code.ensures at c.loop-pc-test.false) c.loop-pc.invariant in
+    (done.0, no_claims rules c.listing_laws.ensures c.args.method.now done.0 c.loop-pc.marks done.1 done.2)

@@ -1,16 +1,18 @@
-use Rattle.std.proofs.Common.{map, sym}
+use Rattle.std.proofs.Common.{[], map, sym}
 use Rattle.jc_cert.specs.Cert.{stated}
+use Rattle.jc_classes.specs.Subtype.{is_class_below}
+use Rattle.jc_check.proofs.NoClasses.{ordered}
 use Rattle.jc_check.proofs.Typed.{well_typed}
 use Rattle.jc_check.proofs.words.check_words.Goals as goal
 
 pub invariant_of-result : goal.invariant_of-result
 invariant_of-result c =
-    let carries = rw c.of_words.ensures at c.in_ok-check_in_memory.ensures.accepted in (
+    let carries = rw c.of_words.ensures at c.in_ok-check.ensures.accepted in (
       record { rows = c.args.cert.now; carried = record { states = map stated c.in-Some.states.now; are = sym c.in-Some.ensures.states; carried = carries }; short = c.requires },
-      well_typed c.order_laws.ensures.reflexive c.args.code.now (map stated c.in-Some.states.now) carries,
+      well_typed (c.order_laws.ensures.reflexive (is_class_below []) (ordered c.order_laws.ensures.tables)) c.args.code.now (map stated c.in-Some.states.now) carries,
     )
 
 pub returns-clause-typed : goal.returns-clause-typed
 returns-clause-typed c =
-    let carries = rw c.of_words.ensures at c.in_ok-check_in_memory.ensures.accepted in
-    well_typed c.order_laws.ensures.reflexive c.args.code.now (map stated c.in-Some.states.now) carries
+    let carries = rw c.of_words.ensures at c.in_ok-check.ensures.accepted in
+    well_typed (c.order_laws.ensures.reflexive (is_class_below []) (ordered c.order_laws.ensures.tables)) c.args.code.now (map stated c.in-Some.states.now) carries

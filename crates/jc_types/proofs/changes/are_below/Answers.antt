@@ -3,10 +3,10 @@ use Rattle.std.proofs.Common.{sym, ◌∙◌}
 use Rattle.jc_types.proofs.changes.are_below.Goals as goal
 
 pub returns-then-lower-upper : goal.returns-then-lower-upper
-returns-then-lower-upper c = sym (other_lengths c.args.lower.now c.args.upper.now c.if-lower-upper.true)
+returns-then-lower-upper g c = sym (other_lengths _ c.args.lower.now c.args.upper.now c.if-lower-upper.true)
 
-pub returns-then-not-below : goal.returns-then-not-below
-returns-then-not-below c = stops c.args.lower.now c.args.upper.now c.loop-index.index _ c.loop-index-test.true c.if-lower-upper.false (sym c.below.ensures ∙ c.if-not-below.true) c.loop-index.invariant
+pub returns-then-not-is_below : goal.returns-then-not-is_below
+returns-then-not-is_below g c = stops _ c.args.lower.now c.args.upper.now c.loop-index.index _ c.loop-index-test.true c.if-lower-upper.false (sym c.is_below.ensures ∙ c.if-not-is_below.true) c.loop-index.invariant
 
 pub loop-index-preserved : goal.loop-index-preserved
-loop-index-preserved c = goes_on c.args.lower.now c.args.upper.now c.loop-index.index _ c.loop-index-test.true c.if-lower-upper.false (sym c.below.ensures ∙ c.if-not-below.false) c.loop-index.invariant
+loop-index-preserved g c = goes_on _ c.args.lower.now c.args.upper.now c.loop-index.index _ c.loop-index-test.true c.if-lower-upper.false (sym c.is_below.ensures ∙ c.if-not-is_below.false) c.loop-index.invariant

@@ -1,0 +1,94 @@
+//! The check of a method with the certificate's states for it.
+
+ghost use Rattle.std.specs.Prelude.{◌≡◌, ◌≢◌, ◌<◌, ◌^◌, [], List, map, length, replicate, OnOk, IfErr};
+ghost use Rattle.jc_code.specs.Listing.{PlacedInstr};
+ghost use Rattle.jc_cert.specs.Cert.{stated};
+ghost use Rattle.jc_check.specs.Fault.{IfRefused};
+ghost use Rattle.jc_check.specs.Method.{entry_of};
+ghost use Rattle.jc_check.specs.Carried.{Carries};
+ghost use Rattle.jc_check.specs.FirstFault.{IsFirstFault, flow_findings_of};
+ghost use Rattle.jc_check.specs.PrivateMarks.{IsTable, AreSafe, HasRoom};
+ghost use Rattle.jc_check.specs.declared.mark.Mark.TheVariants.{Inside};
+
+use crate::fault::{Fault, WordFault};
+use crate::mark::Mark;
+use crate::method::Method;
+use crate::pass::{PassInput, fall_to, walk_code};
+use crate::rules::CheckRules;
+use crate::table::{mark_starts, mark_states, no_marks, stand_handlers};
+use jc_base::Reason;
+use jc_cert::StateRow;
+use jc_types::State;
+use std::alloc::Global;
+
+// What goes on from the entry, and the pass from there.
+fn check_flow<R: CheckRules>(input: &PassInput<R>, state: &mut State) -> Result<(), Fault>
+    requires listed { (listing : List PlacedInstr) × IsTable (R.rules input.now.rules.now) input.now.method.now listing input.now.claims.now input.now.marks.now }
+    requires table { AreSafe input.now.method.now input.now.claims.now input.now.marks.now }
+    requires short { length input.now.method.now.code < 2 ^ 16 }
+    requires entry { state.old.types ≡ entry_of input.now.method.now }
+    requires room { HasRoom input.now.method.now state.old }
+    ensures { (listing : List PlacedInstr) → IsTable (R.rules input.now.rules.now) input.now.method.now listing input.now.claims.now input.now.marks.now
+        → result ≡ flow_findings_of (R.rules input.now.rules.now) input.now.method.now listing input.now.claims.now }
+{
+    match fall_to(input, state, 0) {
+        Ok(live) => walk_code(input, state, live),
+        Err(reason) => Err(Fault { pc: 0, reason }),
+    }
+}
+
+// A method with some code whose marks are blank, and the state at its entry.
+fn check_method<R: CheckRules>(
+    alloc: Global,
+    rules: &R,
+    method: &Method,
+    marks: &mut [Mark],
+    state: &mut State,
+    states: &[StateRow],
+) -> Result<(), WordFault>
+    requires some { method.now.code ≢ [] }
+    requires short { length method.now.code < 2 ^ 16 }
+    requires count { length states.now < 2 ^ 16 }
+    requires none { marks.old ≡ replicate (length method.now.code) Inside }
+    requires entry { state.old.types ≡ entry_of method.now }
+    requires room { HasRoom method.now state.old }
+    ensures accepted { OnOk result (Carries (R.rules rules.now) method.now (map stated states.now)) }
+    ensures refused { IfErr result (λ fault. IfRefused fault (IsFirstFault (R.rules rules.now) method.now (map stated states.now))) }
+{
+    rules.listing_laws();
+    mark_starts(rules, method, marks)?;
+    stand_handlers(marks, method.handlers())?;
+    let claims = mark_states(alloc, rules, method, marks, states)?;
+    let input = PassInput {
+        rules,
+        method,
+        marks,
+        claims: &claims,
+    };
+    check_flow(&input, state)?;
+    Ok(())
+}
+
+/// Checks a method with the certificate's states for it. All that is allocated for the check is allocated here, and where
+/// the certificate's states are looked at.
+pub(crate) fn check<R: CheckRules>(
+    alloc: Global,
+    rules: &R,
+    method: &Method,
+    states: &[StateRow],
+) -> Result<(), WordFault>
+    requires short { length method.now.code < 2 ^ 16 }
+    requires count { length states.now < 2 ^ 16 }
+    ensures accepted { OnOk result (Carries (R.rules rules.now) method.now (map stated states.now)) }
+    ensures refused { IfErr result (λ fault. IfRefused fault (IsFirstFault (R.rules rules.now) method.now (map stated states.now))) }
+{
+    if method.code().is_empty() {
+        return Err(WordFault::Refused {
+            pc: 0,
+            reason: Reason::FallsOff,
+        });
+    }
+    let mut marks = no_marks(alloc, method.code().len())?;
+    let mut state = State::entry(alloc, method.arguments, method.max_locals, method.max_stack)?;
+    check_method(alloc, rules, method, &mut marks, &mut state, states)
+}

@@ -1,0 +1,105 @@
+//! What code is checked by.
+
+ghost use Rattle.std.specs.Option.{option_copied};
+ghost use Rattle.std.specs.Prelude.{◌≡◌, ◌≤◌, length};
+ghost use Rattle.jc_code.specs.Listing.{ListingLaws};
+ghost use Rattle.jc_types.specs.Changes.{Became};
+ghost use Rattle.jc_check.specs.Rules.{Rules, word_rules};
+
+use jc_base::Reason;
+use jc_cert::SpelledClass;
+use jc_classes::ClassName;
+use jc_code::{CodeFault, Instr, Operation, decode_words, listing_laws};
+use jc_step::transfer_word;
+use jc_types::{Classes, NoClasses, State, Ty};
+
+/// What code is checked by: how it decodes, what its instructions do to types, how its classes are ordered, and which
+/// classes the names in a certificate stand for.
+pub(crate) trait CheckRules {
+    /// What orders the classes.
+    type Order: Classes;
+
+    ghost rules: { Self → Rules };
+
+    /// The instruction that begins at a pc.
+    fn decode<'a>(&self, code: &'a [u8], pc: usize) -> Result<Instr<'a>, CodeFault>
+        ensures { result ≡ (rules self.now).decoder code.now pc };
+
+    /// Puts the types after an operation in place of those before it, in a method of at most `max_stack` operands that
+    /// returns a value of the type `returned`, or none. The state isn't to be used after a reason.
+    fn transfer(
+        &self,
+        operation: &Operation,
+        state: &mut State,
+        max_stack: u8,
+        returned: Option<&Ty>,
+    ) -> Result<(), Reason>
+        requires { max_stack ≤ state.old.room }
+        ensures became { Became result state.new.types ((rules self.now).effect max_stack (option_copied returned.entry) operation.now state.old.types) }
+        ensures room { state.new.room ≡ state.old.room }
+        ensures locals { length state.new.types.locals ≡ length state.old.types.locals };
+
+    /// The order of its classes.
+    fn order(&self) -> &Self::Order
+        ensures { Self.Order.lies_below result.now ≡ (rules self.now).below };
+
+    /// The class that a name in a certificate stands for.
+    fn class_of(&self, name: SpelledClass) -> Option<ClassName>
+        ensures { result ≡ (rules self.now).class_of name };
+
+    /// The laws of code as a list of instructions. It does nothing.
+    fn listing_laws(&self)
+        ensures { ListingLaws (rules self.now).decoder };
+}
+
+/// Code alone: it has the instructions on words, and names no class.
+#[derive(Clone, Copy)]
+pub(crate) struct WordRules {
+    classes: NoClasses,
+}
+
+impl WordRules {
+    pub(crate) fn new() -> WordRules {
+        WordRules { classes: NoClasses }
+    }
+}
+
+impl CheckRules for WordRules {
+    type Order = NoClasses;
+
+    ghost rules = { λ r. word_rules };
+
+    #[inline(always)]
+    fn decode<'a>(&self, code: &'a [u8], pc: usize) -> Result<Instr<'a>, CodeFault> {
+        decode_words(code, pc)
+    }
+
+    #[inline(always)]
+    fn transfer(
+        &self,
+        operation: &Operation,
+        state: &mut State,
+        max_stack: u8,
+        returned: Option<&Ty>,
+    ) -> Result<(), Reason> {
+        match operation {
+            Operation::Word(operation) => {
+                transfer_word(operation, state, max_stack, returned, &self.classes)
+            }
+            Operation::Object(_) => Err(Reason::BadOpcode),
+        }
+    }
+
+    fn order(&self) -> &NoClasses {
+        &self.classes
+    }
+
+    fn class_of(&self, _name: SpelledClass) -> Option<ClassName> {
+        None
+    }
+
+    #[inline(always)]
+    fn listing_laws(&self) {
+        listing_laws();
+    }
+}

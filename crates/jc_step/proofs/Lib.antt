@@ -1,0 +1,6 @@
+mod Points
+mod Spelled
+mod Results
+mod Order
+mod Lower
+mod Monotone

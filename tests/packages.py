@@ -1,5 +1,5 @@
-"""Writes images of packages from what they say: classes, members and references by name. The layout is
-docs/profile/files.md; tests/link and bench/link use it."""
+"""Writes images of packages from what they say: classes, members and references by name, and certificates for them. The
+layouts are docs/profile/files.md and docs/profile/certificate.md; tests/link, tests/check and bench/link use it."""
 from dataclasses import dataclass, field
 from struct import pack
 
@@ -12,6 +12,7 @@ ARRAYS = {BOOLEANS: 2, BYTES: 3, SHORTS: 4}
 ABOVE = 0xFFFF  # in a table, where another package declares the method
 NO_TYPE = 0xFFFF
 INSTALL = ((BYTES, SHORT, BYTE), VOID)
+TOP, WORD, NULL = 'top', 'word', 'null'  # in certificates only
 
 
 @dataclass(frozen=True)
@@ -28,9 +29,33 @@ class Imported:
     token: int
 
 
+@dataclass(frozen=True)
+class Api:
+    """A class of the API in a certificate, by its number."""
+    number: int
+
+
+@dataclass(frozen=True)
+class Foreign:
+    """A class in a certificate, by the AID of its package and the offset of its record."""
+    aid: bytes
+    offset: int
+
+
+@dataclass(frozen=True)
+class Handler:
+    """It covers so many bytes of its method's code from a pc on, goes on at a pc, and catches the class of an entry of the
+    pool, or all where that is 0."""
+    start: int
+    length: int
+    at: int
+    catches: int = 0
+
+
 @dataclass
 class Method:
-    """A method of a class, or of an interface where there is no code. nargs is counted where it isn't said."""
+    """A method of a class, or of an interface where there is no code. nargs is counted where it isn't said. Its header has
+    two bytes where the flag 8 isn't set; locals doesn't count arguments."""
     name: str
     takes: tuple = ()
     gives: object = VOID
@@ -39,6 +64,10 @@ class Method:
     abstract: bool = False
     code: bytes = bytes([0x7A])
     nargs: int = None
+    stack: int = 4
+    locals: int = 2
+    flags: int = 8
+    handlers: tuple = ()
 
 
 @dataclass
@@ -98,6 +127,7 @@ class Package:
     classes: list = field(default_factory=list)
     pool: list = field(default_factory=list)
     statics: Statics = field(default_factory=Statics)
+    placed: list = None  # names of methods in the order of their headers, where that isn't the order of their rows
 
 
 def u1(number):
@@ -119,7 +149,7 @@ class Image:
 
     def __init__(self, package):
         self.package = package
-        self.classes, self.methods, self.types = {}, {}, {}
+        self.classes, self.methods, self.handlers, self.types = {}, {}, {}, {}
         self.place_classes()
         self.place_methods()
         self.spelled = b''
@@ -133,16 +163,29 @@ class Image:
             at += len(self.record(c, sizes=True))
 
     def place_methods(self):
-        self.method_info = u1(0)
-        for c in self.package.classes:
-            for m in c.methods:
-                if not c.interface:
-                    self.methods[m.name] = len(self.method_info)
-                    self.method_info += self.header(m) + (b'' if m.abstract else m.code)
+        placed = [m for c in self.package.classes for m in c.methods if not c.interface]
+        if self.package.placed:
+            placed.sort(key=lambda m: self.package.placed.index(m.name))
+        handlers = [(m, h) for m in placed for h in m.handlers]
+        for number, (m, _) in reversed(list(enumerate(handlers))):
+            self.handlers[m.name] = number
+        at, bodies = 1 + 8 * len(handlers), []
+        for m in placed:
+            self.methods[m.name] = at
+            bodies.append(self.header(m) + (b'' if m.abstract else m.code))
+            at += len(bodies[-1])
+        rows = b''.join(self.handler(self.methods[m.name] + len(self.header(m)), h) for m, h in handlers)
+        self.method_info = u1(len(handlers)) + rows + b''.join(bodies)
+
+    def handler(self, code, h):
+        return u2(code + h.start) + u2(h.length) + u2(code + h.at) + u2(h.catches)
 
     def header(self, method):
         nargs = len(method.takes) + (0 if method.static else 1) if method.nargs is None else method.nargs
-        return bytes([0xC0 if method.abstract else 0x80, 4, nargs, 2])
+        flags = method.flags | (4 if method.abstract else 0)
+        if flags & 8:
+            return bytes([16 * flags, method.stack, nargs, method.locals])
+        return bytes([16 * flags + method.stack, 16 * nargs + method.locals])
 
     # References and types
 
@@ -199,7 +242,8 @@ class Image:
     def method_row(self, c, m):
         count = 0 if m.abstract or c.interface else len(m.code)
         flags = u1(8 if m.static else 0)
-        return u1(m.token) + flags + u2(self.methods.get(m.name, 0)) + u2(self.type_at(m.takes, m.gives)) + u2(count) + bytes(4)
+        handlers = u2(len(m.handlers)) + u2(self.handlers.get(m.name, 0))
+        return u1(m.token) + flags + u2(self.methods.get(m.name, 0)) + u2(self.type_at(m.takes, m.gives)) + u2(count) + handlers
 
     def class_row(self, c):
         flags = (0x80 if c.abstract else 0) | (0x40 if c.interface else 0)
@@ -261,11 +305,41 @@ class Image:
             infos[10] = u1(len(p.exports)) + b''.join(map(self.export, p.exports))
         return infos
 
+    def whole(self):
+        """The bytes of the package in format 2.1, components by ascending tags."""
+        infos = self.infos()
+        return b''.join(u1(tag) + u2(len(infos[tag])) + infos[tag] for tag in sorted(infos))
+
+    # Certificates
+
+    def class_name(self, to):
+        if isinstance(to, Api):
+            return bytes([1, 0]) + u2(to.number)
+        if isinstance(to, Foreign):
+            return u1(len(to.aid)) + to.aid + u2(to.offset)
+        return u1(0) + u2(self.classes[to] if isinstance(to, str) else to)
+
+    def stated(self, kind):
+        """A type in a certificate, or bytes in its place."""
+        if isinstance(kind, bytes):
+            return kind
+        if isinstance(kind, Reference):
+            return u1(7 if kind.is_array else 3) + self.class_name(kind.to)
+        return u1([TOP, WORD, NULL, None, BOOLEANS, BYTES, SHORTS].index(kind))
+
+    def state(self, pc, locals, operands):
+        types = [b''.join(map(self.stated, kinds)) for kinds in (locals, operands)]
+        return u2(pc) + u2(len(locals)) + types[0] + u1(len(operands)) + types[1]
+
+    def certificate(self, *methods):
+        """Rows as they are handed in: a method's name or offset, and its states, each a pc, locals and operands."""
+        rows = [(self.methods[m] if isinstance(m, str) else m, states) for m, states in methods]
+        return u2(len(rows)) + b''.join(u2(m) + u2(len(states)) + b''.join(self.state(*s) for s in states) for m, states in rows)
+
 
 def image(package):
-    """The bytes of a package in format 2.1, components by ascending tags."""
-    infos = Image(package).infos()
-    return b''.join(u1(tag) + u2(len(infos[tag])) + infos[tag] for tag in sorted(infos))
+    """The bytes of a package."""
+    return Image(package).whole()
 
 
 # The API, and packages over it
@@ -281,6 +355,37 @@ CLASS_TOKENS = [*range(12), *range(10)]
 MEMBER_TOKENS = [
     *[0] * 13, *range(3), 0, 1, 0, 1, 0, 1, *range(3), *range(1, 8), *range(8), *range(8), *range(7),
 ]
+
+# A whole package, an applet: its install method is at 1, and its process method, which returns, at 10.
+SMALL = bytes.fromhex("""
+    01000FDECAFFED01020400010 5F001020304 03000A0106F001020304010001 0400090100 0105F04A430102
+    05000A00020100000003000001 0600100080 0700FF00050300 00000AFFFFFFFF 07000D000130 8F00008B00017A00207A
+    08000A00000000000000000000 0B003101FF0100000000000002FF090001000600070000000005010 00A00090001000000000002FFFF000D04B4 3106680061 0110
+""".replace(' ', '').replace('\n', ''))
+
+
+# Its parts that format 2.2 spells otherwise, and how.
+IN_2_2 = [
+    ('01000FDECAFFED0102040001 05F001020304', '010010DECAFFED0202040001 05F00102030400'),
+    ('05000A00020100000003000001', '05000A00020100020003000201'),
+    ('060010 00800700FF00050300 00000AFFFFFFFF', '060012 0000 00800700FF0005030000000AFFFFFFFF'),
+    ('0B003101FF010000', '0B003101FF010002'),
+]
+
+
+def in_format_2_2(applet):
+    """The package, or one with other code, in format 2.2, with what that has besides."""
+    for old, new in IN_2_2:
+        applet = applet.replace(bytes.fromhex(old), bytes.fromhex(new))
+    return applet
+
+
+def changed(*pairs):
+    """SMALL with bytes changed: places, and what stands there."""
+    bytes_of = bytearray(SMALL)
+    for place, byte in pairs:
+        bytes_of[place] = byte
+    return bytes(bytes_of)
 
 
 def aid(number):

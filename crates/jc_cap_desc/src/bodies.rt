@@ -1,6 +1,6 @@
 //! The methods with code.
 
-ghost use Rattle.std.specs.Prelude.{◌≡◌, ◌∷◌, [], IfSome, IfNone, if◌then◌else◌};
+ghost use Rattle.std.specs.Prelude.{◌≡◌, ◌<◌, ◌^◌, ◌∷◌, [], length, IfSome, IfNone, if◌then◌else◌};
 ghost use Rattle.std.specs.List.{filter_map};
 ghost use Rattle.jc_cap_desc.specs.Across.{class_methods, is_interface_row};
 ghost use Rattle.jc_cap_desc.specs.Shape.{body_of_method};
@@ -24,11 +24,14 @@ pub struct MethodBody<'a> {
 }
 
 impl<'a> Model for MethodBody<'a> {
+    ghost use Rattle.std.specs.Prelude.{◌<◌, ◌^◌, length};
     ghost use Rattle.jc_cap_desc.specs.Shape.{MethodBody as Body};
 
     ghost Value = { Body };
 
     ghost view = { λ b. record { offset = b.offset; code_offset = b.code_offset; code = b.code.now; handlers = b.handlers } };
+
+    ghost invariant = { λ b. length b.code.now < 2 ^ 16 };
 }
 
 impl<'a> MethodBody<'a> {
@@ -46,9 +49,10 @@ impl<'a> MethodBody<'a> {
         self.code_offset
     }
 
-    /// Its code.
+    /// Its code, at most 65,535 bytes.
     pub fn code(&self) -> &'a [u8]
-        ensures { result.now ≡ self.now.code }
+        ensures code { result.now ≡ self.now.code }
+        ensures short { length self.now.code < 2 ^ 16 }
     {
         self.code
     }

@@ -11,3 +11,5 @@ mod Complete
 mod NoClasses
 mod Typed
 mod Verdicts
+mod Rows
+mod Least

@@ -5,4 +5,7 @@ pub mod Claim
 pub mod Typing
 pub mod Carried
 pub mod FirstFault
+pub mod Package
+pub mod Checked
+pub mod PrivateFirst
 pub mod PrivateMarks

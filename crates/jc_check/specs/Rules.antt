@@ -22,7 +22,7 @@ pub record Rules : Type 0 where
   pub effect : ℕ → Option Ty → Operation → Types → Result Types Reason
   -- how its classes are ordered
   pub below : ClassName → ClassName → Bool
-  -- the class that a certificate's name stands for; an interface is none
+  -- the class that a certificate's name stands for, if it stands for one
   pub class_of : SpelledClass → Option ClassName
 
 -- the effect of an instruction of code alone; no listing of it has one on references

@@ -14,6 +14,13 @@ pub struct Fault {
     pub reason: Reason,
 }
 
+/// The first fault of a method of a package, and the offset of its header in the Method component.
+#[derive(Clone, Copy)]
+pub(crate) struct MethodFault {
+    pub(crate) method: u16,
+    pub(crate) fault: Fault,
+}
+
 /// Why code isn't accepted with a certificate.
 #[derive(Clone, Copy, Debug, PartialEq, Eq, Drop, Error)]
 pub enum WordFault {

@@ -1,19 +1,25 @@
-//! The check that a certificate carries a method.
+//! The check that a certificate carries a package, or code alone.
 #![tactic(auto)]
 
-mod check;
 mod claim;
+mod class_names;
 mod fault;
 mod handler;
 mod law;
 mod mark;
 mod method;
+mod method_check;
+mod package;
+mod package_method;
+mod package_rules;
 mod pass;
 mod rules;
+mod states;
 mod table;
 mod words;
 
 pub use fault::{Fault, WordFault};
 pub use law::first_fault_laws;
 pub use method::{WORD_LOCALS, WORD_MAX_STACK};
+pub use package::{Checked, check};
 pub use words::{CheckedWords, check_words};

@@ -8,10 +8,10 @@ ghost use Rattle.jc_check.specs.Typing.{IsWellTyped};
 ghost use Rattle.jc_check.specs.Carried.{CertCarriesCode};
 ghost use Rattle.jc_check.specs.FirstFault.{IsFirstFaultOf};
 
-use crate::check::check;
 use crate::fault::WordFault;
 use crate::law::first_fault_laws;
 use crate::method::Method;
+use crate::method_check::check_method;
 use crate::rules::WordRules;
 use jc_base::Reason;
 use jc_cert::{Cert, StateRow};
@@ -88,6 +88,6 @@ pub fn check_words<'a>(
             reason: Reason::CertMismatch,
         });
     };
-    check(alloc, &WordRules::new(), &Method::of_words(code), states)?;
+    check_method(alloc, &WordRules::new(), &Method::of_words(code), states)?;
     Ok(CheckedWords { code })
 }

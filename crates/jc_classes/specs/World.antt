@@ -1,9 +1,9 @@
 -- A world: the shapes of the API's two packages, and of the loaded packages in the order in which they were loaded. Where
 -- classes stand in it, and what references to classes lead to (Java Card Virtual Machine Specification, CAP file format:
 -- class_ref; Linking).
-use Rattle.std.specs.Prelude.{ℕ, zero, suc, ◌-◌, ◌==◌, Bool, ◌&&◌, List, [], map, take, Option, Some, None, is_some, slice_get, nat_lt, nat_le, bytes_eq, if◌then◌else◌}
+use Rattle.std.specs.Prelude.{ℕ, zero, suc, ◌+◌, ◌-◌, ◌==◌, Bool, ◌&&◌, List, [], map, take, drop, Option, Some, None, is_some, slice_get, nat_lt, nat_le, bytes_eq, if◌then◌else◌}
 use Rattle.std.specs.List.{find, filter_map, position}
-use Rattle.std.specs.Option.{option_and_then, option_map_or}
+use Rattle.std.specs.Option.{option_and_then, option_map, option_map_or}
 use Rattle.jc_base.specs.declared.class_ref.ClassRef.{ClassRef}
 use Rattle.jc_base.specs.declared.class_ref.ClassRef.TheVariants.{Internal, External}
 use Rattle.jc_base.specs.declared.package_info.PackageInfo.{PackageInfo}
@@ -63,6 +63,10 @@ abbrev pub import_of : List Shape → ℕ → ℕ → Option ℕ
 import_of world home token =
     option_and_then (λ wanted. position (meets wanted) (take home world))
     (option_and_then (λ shape. slice_get shape.imports token) (slice_get world home))
+
+-- where the loaded package with an AID stands, of those before a place; the API's two aren't loaded
+abbrev pub loaded_with : List Shape → ℕ → List ℕ → Option ℕ
+loaded_with world home aid = option_map (λ n. 2 + n) (position (λ shape. bytes_eq aid shape.«package».aid) (drop 2 (take home world)))
 
 -- the class that a package exports under a token
 abbrev pub exported_class : List Shape → ℕ → ℕ → Option ClassName

@@ -1,16 +1,16 @@
 //! The table of a world's classes.
 
-ghost use Rattle.std.specs.Prelude.{◌≡◌, ◌<◌, ◌≤◌, length, slice_get, IfSome};
+ghost use Rattle.std.specs.Prelude.{◌≡◌, ◌<◌, ◌≤◌, length, bytes_eq, slice_get, IfSome};
 ghost use Rattle.std.specs.List.{position};
 ghost use Rattle.std.specs.Option.{option_map};
-ghost use Rattle.jc_classes.specs.World.{home_of, class_in, package_at, class_at, meets, import_of, exported_class, class_spelled, if_there, class_named, superclass_ref, superclass_of};
+ghost use Rattle.jc_classes.specs.World.{home_of, class_in, package_at, class_at, meets, import_of, loaded_with, exported_class, class_spelled, if_there, class_named, superclass_ref, superclass_of};
 ghost use Rattle.jc_classes.specs.PrivateShape.{record_of};
 ghost use Rattle.jc_classes.specs.Limits.{IsSmall, most_packages, most_classes_of_one};
 
 use crate::name::{ClassName, name_in};
 use crate::shape::{Body, Class, PackageShape};
 use crate::tables::PackageTables;
-use jc_base::{ClassRef, PackageInfo};
+use jc_base::{Aid, ClassRef, PackageInfo};
 use std::marker::Model;
 
 /// The classes of a world: of the API's two packages, and of the loaded packages in the order in which they were put in.
@@ -72,6 +72,14 @@ fn first_that_meets(packages: &[PackageShape], wanted: &PackageInfo) -> Option<u
     packages.iter().position(|p| p.meets(wanted))
 }
 
+/// Where the first of these packages stands that has an AID.
+fn first_with(packages: &[PackageShape], aid: &Aid) -> Option<usize>
+    ensures found { result ≡ position (λ shape. bytes_eq aid.now shape.«package».aid) packages.now }
+    ensures within { IfSome result (λ there. there < length packages.now) }
+{
+    packages.iter().position(|p| *aid == p.package.aid)
+}
+
 impl ClassTable {
     /// How many packages there are, those of the API among them.
     pub fn len(&self) -> usize
@@ -119,6 +127,17 @@ impl ClassTable {
         let shape = self.packages.get(home)?;
         let wanted = shape.imports.get(usize::from(token))?;
         first_that_meets(&self.packages[..home], wanted)
+    }
+
+    /// Where the loaded package with an AID stands, of those before a place.
+    pub fn loaded_with(&self, home: usize, aid: &Aid) -> Option<usize>
+        requires { home ≤ length self.now }
+        ensures found { result ≡ loaded_with self.now home aid.now }
+        ensures before { IfSome result (λ there. there < home) }
+    {
+        let loaded = self.packages[..home].get(2..)?;
+        let number = first_with(loaded, aid)?;
+        Some(2 + number)
     }
 
     /// The class that a package exports under a token.

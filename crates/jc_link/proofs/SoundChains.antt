@@ -346,9 +346,26 @@ module _ (world : List Shape) (fit : AreFit world) where
       by_class None there m = absurd m
       by_class (Some k) there m = among_interfaces (home_of c) (listed_refs k.body) i (fit c k there).interfaces m
 
+-- where Object had a superclass, the chain of no class that leads to Object would come to an end
+never_ends : (world : List Shape) (d : ClassName) → superclass_of world (Api Object) ≡ Some d → IsHeir world d (Api Object) → (n : ℕ) (c : ClassName) → IsHeir world c (Api Object)
+    → comes_to_end world n c ≡ false
+never_ends world d e h zero c g = refl
+never_ends world d e h (suc n) _ (itself _) = ap (λ (o : Option ClassName). option_map_or (comes_to_end world n) o true) e ∙ never_ends world d e h n d h
+never_ends world d e h (suc n) _ (behind c s _ up g) = ap (λ (o : Option ClassName). option_map_or (comes_to_end world n) o true) up ∙ never_ends world d e h n s g
+
+object_alone : (world : List Shape) → ((c : ClassName) → comes_to_end world most_classes c ≡ true)
+    → ((c d : ClassName) → superclass_of world c ≡ Some d → is_class_at world d ≡ true) → ((c : ClassName) → is_class_at world c ≡ true → IsHeir world c (Api Object))
+    → superclass_of world (Api Object) ≡ None
+object_alone world ends classes object = by_super (superclass_of world (Api Object)) refl
+  where
+    by_super : (o : Option ClassName) → superclass_of world (Api Object) ≡ o → o ≡ None
+    by_super None e = refl
+    by_super (Some d) e = true_false (sym (ends (Api Object)) ∙ never_ends world d e (object d (classes (Api Object) d e)) most_classes (Api Object) (itself (Api Object)))
+
 pub superclasses_hold : (world : List Shape) → IsSmall world → AreFit world → HaveSuperclasses world
 superclasses_hold world small fit = record {
   orderly = record { ends = ends world small fit; interfaces = listed_are_interfaces world fit };
   classes = superclasses_are_classes world fit;
   object = λ c class. up_to_object world fit most_classes c (ends world small fit c) class;
+  top = object_alone world (ends world small fit) (superclasses_are_classes world fit) (λ c class. up_to_object world fit most_classes c (ends world small fit c) class);
 }

@@ -1,6 +1,6 @@
 -- What a machine relies on in the world of a card (Java Card Virtual Machine Specification, Binary Compatibility; getfield,
 -- invokevirtual, invokespecial, invokestatic, invokeinterface).
-use Rattle.std.specs.Prelude.{◌≡◌, ℕ, ◌+◌, ◌<◌, Bool, true, false, List, length, Some, IsSome, is_some, slice_get}
+use Rattle.std.specs.Prelude.{◌≡◌, ℕ, ◌+◌, ◌<◌, Bool, true, false, List, length, Some, None, IsSome, is_some, slice_get}
 use Rattle.std.specs.List.{list_all}
 use Rattle.jc_cap_class.specs.Component.{is_class}
 use Rattle.jc_cap_desc.specs.Shape.{ClassShape, FieldShape, MethodShape, Shape}
@@ -26,11 +26,12 @@ pub data IsHeir (world : List Shape) : ClassName → ClassName → Type 0 where
   itself : (c : ClassName) → IsHeir world c c
   behind : (c d e : ClassName) → superclass_of world c ≡ Some d → IsHeir world d e → IsHeir world c e
 
--- superclasses are classes, and come to an end in Object
+-- superclasses are classes, and come to an end in Object, which has none
 pub record HaveSuperclasses (world : List Shape) : Type 0 where
   pub orderly : IsOrderly world
   pub classes : (c d : ClassName) → superclass_of world c ≡ Some d → is_class_at world d ≡ true
   pub object : (c : ClassName) → is_class_at world c ≡ true → IsHeir world c (Api Object)
+  pub top : superclass_of world (Api Object) ≡ None
 
 -- a field of objects has a type, and a cell among those of its class, which stand behind those of the superclass; a static field
 -- has a type

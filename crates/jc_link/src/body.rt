@@ -73,17 +73,21 @@ pub struct MethodCode {
     pub offset: u16,
     /// Where its code begins.
     pub code_offset: usize,
+    /// Its code, at most 65,535 bytes.
     pub code: Vec<u8>,
     /// Its handlers, in the order of the table.
     pub handlers: Vec<Handler>,
 }
 
 impl Model for MethodCode {
+    ghost use Rattle.std.specs.Prelude.{◌<◌, ◌^◌, length};
     ghost use Rattle.jc_cap_desc.specs.Shape.{MethodBody};
 
     ghost Value = { MethodBody };
 
     ghost view = { λ m. record { offset = m.offset; code_offset = m.code_offset; code = m.code.items; handlers = m.handlers.items } };
+
+    ghost invariant = { λ m. length m.code.items < 2 ^ 16 };
 }
 
 /// What is kept of a package's body: all but its name, and the types that entries of its pool state.

@@ -21,6 +21,6 @@ pub use body::{ArrayKind, InitialArray, MethodCode, PackageBody, Statics};
 pub use growth::{adding_keeps_linking, an_applet_is_well_formed, built_worlds_are_sound};
 pub use linking::link;
 pub use named::{Named, StaticPlace};
-pub use target::{MemberType, PoolTarget};
+pub use target::{MemberType, PoolTarget, member_type};
 pub use types::{counted, is_known_method, return_found, type_found};
 pub use world::{Linked, LinkedBody, World};

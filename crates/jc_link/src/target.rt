@@ -94,7 +94,7 @@ fn types_found(
 }
 
 /// The type of a method that is spelled in the package that stands there.
-fn member_type(
+pub fn member_type(
     alloc: Global,
     table: &ClassTable,
     home: usize,

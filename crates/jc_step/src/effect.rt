@@ -5,8 +5,7 @@ ghost use Rattle.jc_types.specs.Changes.{Became};
 ghost use Rattle.jc_step.specs.Effect.{effect_of};
 ghost use Rattle.jc_step.specs.Method.{own_method, returned_type, result_of, setting_of, has_own_method, max_stack_of};
 
-use crate::applying::apply;
-use crate::objects::object_row;
+use crate::objects::transfer_object;
 use crate::setting::Setting;
 use crate::words::transfer_word;
 use jc_base::{Reason, ReturnType};
@@ -19,7 +18,7 @@ use std::marker::Model;
 /// Puts the types behind an operation in place of those before it, in a method of at most `max_stack` operands, read against its
 /// setting. Of several reasons against it the first is told, in the order of `applied`. The
 /// state isn't to be used after a reason.
-#[tactic(auto, unfolding(crate::specs::Effect::effect_of, crate::specs::Row::applied))]
+#[tactic(auto, unfolding(crate::specs::Effect::effect_of))]
 pub fn transfer_in(
     operation: &Operation,
     state: &mut State,
@@ -31,15 +30,17 @@ pub fn transfer_in(
     ensures room { state.new.room ≡ state.old.room }
     ensures locals { length state.new.types.locals ≡ length state.old.types.locals }
 {
-    let table = setting.table();
     match operation {
         Operation::Word(operation) => {
-            transfer_word(operation, state, max_stack, setting.returned(), table)
+            transfer_word(
+                operation,
+                state,
+                max_stack,
+                setting.returned(),
+                setting.table(),
+            )
         }
-        Operation::Object(operation) => match object_row(setting, operation) {
-            Some(row) => apply(row, state, max_stack, table),
-            None => Err(Reason::BadOperand),
-        },
+        Operation::Object(operation) => transfer_object(operation, state, max_stack, setting),
     }
 }
 
@@ -55,7 +56,7 @@ fn returned_type(returned: ReturnType<ClassName>) -> Option<Ty>
 
 /// The type of a method's result, if it gives one.
 #[tactic(auto, using(crate::proofs::Results::known_result, crate::proofs::Results::unknown_result))]
-fn result_of(table: &ClassTable, declared: &DeclaredMethod) -> Option<Ty>
+pub fn result_of(table: &ClassTable, declared: &DeclaredMethod) -> Option<Ty>
     ensures { result ≡ result_of table.now declared.now }
 {
     let home = declared.class.home();
@@ -66,7 +67,7 @@ fn result_of(table: &ClassTable, declared: &DeclaredMethod) -> Option<Ty>
 }
 
 /// The method of a linked package that stands at an offset.
-fn own_method(linked: &Linked, offset: u16) -> Option<DeclaredMethod<'_>>
+pub fn own_method(linked: &Linked, offset: u16) -> Option<DeclaredMethod<'_>>
     ensures { result ≡ own_method linked.now offset }
 {
     let table = linked.table();

@@ -14,7 +14,7 @@ mod words;
 
 pub use applying::{Row, apply};
 pub use demands::Wanted;
-pub use effect::{transfer, transfer_in};
+pub use effect::{own_method, result_of, transfer, transfer_in};
 pub use jc_base::Reason;
 pub use laws::effects_are_monotone;
 pub use row::{Demand, Given, Place};

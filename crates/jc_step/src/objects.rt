@@ -1,12 +1,16 @@
-//! The rows of the instructions on references: None where what an instruction names of the constant pool isn't what it needs.
+//! The effect of the instructions on references. Where what an instruction names of the constant pool isn't what it needs it
+//! has no row.
 
-ghost use Rattle.std.specs.Prelude.{◌≡◌, ◌∷◌, [], not, is_some};
+ghost use Rattle.std.specs.Prelude.{◌≡◌, ◌≤◌, ◌∷◌, [], not, is_some, length, slice_get, if◌then◌else◌};
 ghost use Rattle.std.specs.Option.{option_and_then, option_map};
+ghost use Rattle.jc_classes.specs.Subtype.{is_class_below};
+ghost use Rattle.jc_types.specs.Changes.{Became};
 ghost use Rattle.jc_step.specs.Coded.{demands_of, row_said};
 ghost use Rattle.jc_step.specs.Objects as objects;
+ghost use Rattle.jc_step.specs.Row.{applied};
 ghost use Rattle.jc_step.specs.Words as words;
 
-use crate::applying::Row;
+use crate::applying::{Row, apply};
 use crate::calls::invocation_row;
 use crate::demands::{Wanted, is_reference};
 use crate::fields::field_row;
@@ -14,18 +18,22 @@ use crate::row::{Demand, Given};
 use crate::setting::Setting;
 use crate::words::{WORD, reads, takes, writes};
 use jc_api::ApiClass;
+use jc_base::Reason;
 use jc_classes::{ClassName, ClassTable};
-use jc_code::{Creation, Form, ObjectOperation, ReferenceCondition, TestedType, WordKind};
+use jc_code::{
+    Creation, FieldAccess, Form, ObjectOperation, ReferenceCondition, TestedType, WordKind,
+};
 use jc_link::{PoolTarget, counted};
-use jc_types::Ty;
+use jc_types::{State, Ty};
 
 /// What is above all classes and interfaces.
 const OBJECT: ClassName = ClassName::Api(ApiClass::Object);
 
 /// What is thrown.
-const THROWABLE: ClassName = ClassName::Api(ApiClass::Throwable);
+const THROWN: Demand = Demand::Below(Ty::Class(ClassName::Api(ApiClass::Throwable)));
 
 /// The array that holds components of a form.
+#[inline(always)]
 fn array_of(form: Form) -> Demand
     ensures { result ≡ objects.array_of form }
 {
@@ -37,6 +45,7 @@ fn array_of(form: Form) -> Demand
 }
 
 /// What is loaded from it.
+#[inline(always)]
 fn component_loaded(form: Form) -> Given
     ensures { result ≡ objects.component_loaded form }
 {
@@ -47,6 +56,7 @@ fn component_loaded(form: Form) -> Given
 }
 
 /// What may be stored in it.
+#[inline(always)]
 fn component_stored(form: Form) -> Demand
     ensures { result ≡ objects.component_stored form }
 {
@@ -57,6 +67,7 @@ fn component_stored(form: Form) -> Demand
 }
 
 /// The references that a branch compares.
+#[inline(always)]
 fn references_compared<'a>(when: ReferenceCondition) -> Wanted<'a>
     ensures { demands_of result ≡ objects.references_compared when }
 {
@@ -68,7 +79,40 @@ fn references_compared<'a>(when: ReferenceCondition) -> Wanted<'a>
     }
 }
 
+/// The row of one that puts null.
+#[inline(always)]
+fn null_row<'a>() -> Row<'a>
+    ensures { row_said result ≡ words.takes [] (Given.Exactly Ty.Null) }
+{
+    takes(Wanted::Nothing, Given::Exactly(Ty::Null))
+}
+
+/// The row of one that loads a reference from a local.
+#[inline(always)]
+fn load_row<'a>(local: u8) -> Row<'a>
+    ensures { row_said result ≡ words.reads local Demand.Reference [] Given.OfLocal }
+{
+    reads(local, Demand::Reference, Wanted::Nothing, Given::OfLocal)
+}
+
+/// The row of arraylength.
+#[inline(always)]
+fn array_length_row<'a>() -> Row<'a>
+    ensures { row_said result ≡ words.takes (Demand.Array ∷ []) (Given.Exactly Ty.Word) }
+{
+    takes(Wanted::One(Demand::Array), Given::Exactly(Ty::Word))
+}
+
+/// The row of a branch on references.
+#[inline(always)]
+fn branch_row<'a>(when: ReferenceCondition) -> Row<'a>
+    ensures { row_said result ≡ words.takes (objects.references_compared when) Given.Nothing }
+{
+    takes(references_compared(when), Given::Nothing)
+}
+
 /// The row of an instruction that loads a component.
+#[inline(always)]
 fn component_load_row<'a>(form: Form) -> Row<'a>
     ensures { row_said result ≡ words.takes (objects.array_of form ∷ words.word ∷ []) (objects.component_loaded form) }
 {
@@ -76,6 +120,7 @@ fn component_load_row<'a>(form: Form) -> Row<'a>
 }
 
 /// The row of one that stores a component.
+#[inline(always)]
 fn component_store_row<'a>(form: Form) -> Row<'a>
     ensures { row_said result ≡ words.takes (objects.array_of form ∷ words.word ∷ objects.component_stored form ∷ []) Given.Nothing }
 {
@@ -205,39 +250,104 @@ fn return_void_row<'a>(returned: Option<Ty>) -> Row<'a>
     }
 }
 
-/// The row of an operation, if what it names of the constant pool is what it needs.
-#[tactic(auto, unfolding(crate::specs::Objects::object_row))]
-pub(crate) fn object_row<'l>(setting: &Setting<'l>, operation: &ObjectOperation) -> Option<Row<'l>>
-    ensures { option_map row_said result ≡ objects.object_row setting.now operation.now }
+/// The row of a cast, or of a test of an object's type, that puts this of the type.
+fn tested_row<'l>(setting: &Setting<'l>, tested: TestedType, is_cast: bool) -> Option<Row<'l>>
+    ensures { option_map row_said result ≡ option_map (λ t. words.takes (Demand.Reference ∷ []) (if is_cast then Given.Exactly t else Given.Exactly Ty.Word)) (objects.tested_type setting.now tested) }
 {
-    let nothing = Given::Nothing;
+    let ty = tested_type(setting, tested)?;
+    Some(test_row(Given::Exactly(if is_cast { ty } else { Ty::Word })))
+}
+
+/// The row of an operation on the field that the entry with an index is.
+fn field_row_at<'l>(setting: &Setting<'l>, access: FieldAccess, index: u16) -> Option<Row<'l>>
+    ensures { option_map row_said result ≡ option_and_then (objects.field_row access) (slice_get setting.now.targets index) }
+{
+    field_row(access, setting.target(index)?)
+}
+
+/// A row applied to a state, if there is one. It stands once: what names an entry of the constant pool is no quick operation.
+#[inline(never)]
+#[tactic(auto, unfolding(crate::specs::Row::applied))]
+fn apply_found(
+    row: Option<Row<'_>>,
+    state: &mut State,
+    max_stack: u8,
+    table: &ClassTable,
+) -> Result<(), Reason>
+    requires { max_stack ≤ state.old.room }
+    ensures became { Became result state.new.types (applied (is_class_below table.now) max_stack (option_map row_said row.entry) state.old.types) }
+    ensures room { state.new.room ≡ state.old.room }
+    ensures locals { length state.new.types.locals ≡ length state.old.types.locals }
+{
+    match row {
+        Some(row) => apply(row, state, max_stack, table),
+        None => Err(Reason::BadOperand),
+    }
+}
+
+/// Puts the types after an operation on references in place of those before it, in a method of at most `max_stack` operands, read
+/// against its setting. Of several reasons against it the first is told, in the order of `applied`. The state isn't to be used
+/// after a reason.
+#[tactic(auto, unfolding(crate::specs::Objects::object_row))]
+pub(crate) fn transfer_object(
+    operation: &ObjectOperation,
+    state: &mut State,
+    max_stack: u8,
+    setting: &Setting,
+) -> Result<(), Reason>
+    requires { max_stack ≤ state.old.room }
+    ensures became { Became result state.new.types (applied (is_class_below setting.now.world) max_stack (objects.object_row setting.now operation.now) state.old.types) }
+    ensures room { state.new.room ≡ state.old.room }
+    ensures locals { length state.new.types.locals ≡ length state.old.types.locals }
+{
+    let (most, table) = (max_stack, setting.table());
     match *operation {
-        ObjectOperation::PushNull => Some(takes(Wanted::Nothing, Given::Exactly(Ty::Null))),
-        ObjectOperation::Load(local) => {
-            Some(reads(local, Demand::Reference, Wanted::Nothing, Given::OfLocal))
+        ObjectOperation::PushNull => apply(null_row(), state, most, table),
+        ObjectOperation::Load(local) => apply(load_row(local), state, most, table),
+        ObjectOperation::Store(local) => {
+            apply(writes(local, Demand::Reference), state, most, table)
         }
-        ObjectOperation::Store(local) => Some(writes(local, Demand::Reference)),
-        ObjectOperation::LoadComponent(form) => Some(component_load_row(form)),
-        ObjectOperation::StoreComponent(form) => Some(component_store_row(form)),
-        ObjectOperation::ArrayLength => {
-            Some(takes(Wanted::One(Demand::Array), Given::Exactly(Ty::Word)))
+        ObjectOperation::LoadComponent(form) => {
+            apply(component_load_row(form), state, most, table)
         }
-        ObjectOperation::Branch { when, .. } => Some(takes(references_compared(when), nothing)),
-        ObjectOperation::Field { access, index } => field_row(access, setting.target(index)?),
-        ObjectOperation::Invoke(invocation) => invocation_row(setting, invocation),
-        ObjectOperation::Create(creation) => creation_row(setting, creation),
+        ObjectOperation::StoreComponent(form) => {
+            apply(component_store_row(form), state, most, table)
+        }
+        ObjectOperation::ArrayLength => apply(array_length_row(), state, most, table),
+        ObjectOperation::Branch { when, .. } => apply(branch_row(when), state, most, table),
+        ObjectOperation::Field { access, index } => {
+            apply_found(field_row_at(setting, access, index), state, most, table)
+        }
+        ObjectOperation::Invoke(invocation) => {
+            apply_found(invocation_row(setting, invocation), state, most, table)
+        }
+        ObjectOperation::Create(creation) => {
+            apply_found(creation_row(setting, creation), state, most, table)
+        }
         ObjectOperation::CheckCast(tested) => {
-            let ty = tested_type(setting, tested)?;
-            Some(test_row(Given::Exactly(ty)))
+            apply_found(tested_row(setting, tested, true), state, most, table)
         }
         ObjectOperation::InstanceOf(tested) => {
-            let _ty = tested_type(setting, tested)?;
-            Some(test_row(Given::Exactly(Ty::Word)))
+            apply_found(tested_row(setting, tested, false), state, most, table)
         }
         ObjectOperation::Throw => {
-            Some(takes(Wanted::One(Demand::Below(Ty::Class(THROWABLE))), nothing))
-        },
-        ObjectOperation::ReturnReference => Some(return_row(setting.returned().copied())),
-        ObjectOperation::ReturnVoid => Some(return_void_row(setting.returned().copied())),
+            apply(
+                takes(Wanted::One(THROWN), Given::Nothing),
+                state,
+                most,
+                table,
+            )
+        }
+        ObjectOperation::ReturnReference => {
+            apply(return_row(setting.returned().copied()), state, most, table)
+        }
+        ObjectOperation::ReturnVoid => {
+            apply(
+                return_void_row(setting.returned().copied()),
+                state,
+                most,
+                table,
+            )
+        }
     }
 }

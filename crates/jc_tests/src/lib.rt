@@ -25,4 +25,6 @@ mod link;
 #[cfg(test)]
 mod method;
 #[cfg(test)]
+mod package;
+#[cfg(test)]
 mod pool;

@@ -274,16 +274,7 @@ module _ (below : ClassName → ClassName → Bool) (most : ℕ) where
   left returned (LookupSwitch default cases) s t e = room_left _ s t e
   left returned ReturnWord s t e = room_left _ s t e
 
-  leaves_few : (count : Option ℕ) (s : Types) → length s.operands ≤ most → LeavesFew count s
-  leaves_few None s h = tt
-  leaves_few (Some count) s h = le-ltb most (length s.operands - count + 0) (omega arith)
-
-  -- both forms are the same on states with no more operands than the method may have
-  pub effect_parts : (returned : Option Ty) (operation : WordOperation) (s : Types) → length s.operands ≤ most
-      → word_effect below most returned operation s ≡ parts_of below most returned operation s
-  effect_parts returned operation s h = parts_where returned operation s (leaves_few (only_taken operation) s h)
-
-  -- and wherever the operation has an effect
+  -- both forms are the same wherever the operation has an effect
   pub effect_has_parts : (returned : Option Ty) (operation : WordOperation) (s t : Types)
       → word_effect below most returned operation s ≡ Ok t → parts_of below most returned operation s ≡ Ok t
   effect_has_parts returned operation s t e = sym (parts_where returned operation s (left returned operation s t e)) ∙ e

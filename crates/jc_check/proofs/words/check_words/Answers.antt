@@ -7,12 +7,12 @@ use Rattle.jc_check.proofs.words.check_words.Goals as goal
 
 pub invariant_of-result : goal.invariant_of-result
 invariant_of-result c =
-    let carries = rw c.of_words.ensures at c.in_ok-check.ensures.accepted in (
+    let carries = rw c.of_words.ensures at c.in_ok-check_method.ensures.accepted in (
       record { rows = c.args.cert.now; carried = record { states = map stated c.in-Some.states.now; are = sym c.in-Some.ensures.states; carried = carries }; short = c.requires },
       well_typed (c.order_laws.ensures.reflexive (is_class_below []) (ordered c.order_laws.ensures.tables)) c.args.code.now (map stated c.in-Some.states.now) carries,
     )
 
 pub returns-clause-typed : goal.returns-clause-typed
 returns-clause-typed c =
-    let carries = rw c.of_words.ensures at c.in_ok-check.ensures.accepted in
+    let carries = rw c.of_words.ensures at c.in_ok-check_method.ensures.accepted in
     well_typed (c.order_laws.ensures.reflexive (is_class_below []) (ordered c.order_laws.ensures.tables)) c.args.code.now (map stated c.in-Some.states.now) carries

@@ -38,7 +38,7 @@ fn check_flow<R: CheckRules>(input: &PassInput<R>, state: &mut State) -> Result<
 }
 
 // A method with some code whose marks are blank, and the state at its entry.
-fn check_method<R: CheckRules>(
+fn check_code<R: CheckRules>(
     alloc: Global,
     rules: &R,
     method: &Method,
@@ -71,7 +71,7 @@ fn check_method<R: CheckRules>(
 
 /// Checks a method with the certificate's states for it. All that is allocated for the check is allocated here, and where
 /// the certificate's states are looked at.
-pub(crate) fn check<R: CheckRules>(
+pub(crate) fn check_method<R: CheckRules>(
     alloc: Global,
     rules: &R,
     method: &Method,
@@ -90,5 +90,5 @@ pub(crate) fn check<R: CheckRules>(
     }
     let mut marks = no_marks(alloc, method.code().len())?;
     let mut state = State::entry(alloc, method.arguments, method.max_locals, method.max_stack)?;
-    check_method(alloc, rules, method, &mut marks, &mut state, states)
+    check_code(alloc, rules, method, &mut marks, &mut state, states)
 }

@@ -2,7 +2,7 @@ use Rattle.std.proofs.Common.{map}
 use Rattle.std.proofs.lemmas.Result.{err_from_is_err_and}
 use Rattle.jc_cert.specs.Cert.{stated}
 use Rattle.jc_check.proofs.Verdicts.{accepted, refused, refused_handlers, refused_or_memory, stopped}
-use Rattle.jc_check.proofs.check.check_method.Goals as goal
+use Rattle.jc_check.proofs.method_check.check_code.Goals as goal
 
 pub returns-in_err-mark_starts-clause-refused : goal.returns-in_err-mark_starts-clause-refused
 returns-in_err-mark_starts-clause-refused g c =

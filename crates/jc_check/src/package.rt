@@ -1,0 +1,191 @@
+//! The check of a package with its certificate.
+
+ghost use Rattle.std.specs.Prelude.{⊤, ◌≡◌, ◌+◌, ℕ, Some, slice_get, true, nat_lt, length, List, IfOk, IfErr, IfSome, IfNone, OnOk, MatchResult};
+ghost use Rattle.std.specs.Option.{option_map_or};
+ghost use Rattle.jc_cert.specs.Cert.{IsCert, Row, rows};
+ghost use Rattle.jc_check.specs.Checked.{CarriesPackage, IsMethodCarried, IsPackageCarried, IsPackageTyped, IsRefusal};
+ghost use Rattle.jc_check.specs.PrivateFirst.{IsUncarried, LeastOf};
+
+use crate::fault::{Fault, MethodFault, WordFault};
+use crate::law::first_fault_laws;
+use crate::package_method::check_body;
+use crate::states::{states_for, stray_offset};
+use jc_base::{LoadFault, Reason};
+use jc_cert::{Cert, MethodRow};
+use jc_code::listing_laws;
+use jc_link::{Linked, MethodCode, built_worlds_are_sound};
+use jc_types::order_laws;
+use std::alloc::Global;
+use std::marker::Model;
+
+/// A linked package that its certificate carries. Only `check` makes one.
+#[derive(Drop)]
+pub struct Checked {
+    linked: Linked,
+}
+
+impl Model for Checked {
+    ghost use Rattle.jc_link.specs.Linked.{Linked as LinkedPackage};
+    ghost use Rattle.jc_check.specs.Checked.{IsPackageCarried, IsPackageTyped};
+
+    ghost Value = { LinkedPackage };
+
+    ghost view = { λ c. c.linked };
+
+    ghost invariant = { λ c. IsPackageCarried c.linked × IsPackageTyped c.linked };
+}
+
+impl Checked {
+    /// The package: some certificate carries it, and each of its methods with code is well typed.
+    pub fn linked(&self) -> &Linked
+        ensures linked { result.now ≡ self.now }
+        ensures carried { IsPackageCarried self.now }
+        ensures typed { IsPackageTyped self.now }
+    {
+        &self.linked
+    }
+
+    /// The same, to be put into a world.
+    pub fn into_linked(self) -> Linked
+        ensures linked { result ≡ self }
+        ensures carried { IsPackageCarried self }
+        ensures typed { IsPackageTyped self }
+    {
+        self.linked
+    }
+}
+
+/// The methods with code of a linked package.
+fn methods_of(linked: &Linked) -> &[MethodCode]
+    ensures { result.now ≡ linked.now.body.kept.methods }
+{
+    &linked.body().kept().methods
+}
+
+/// What is told of a method that isn't carried by a certificate's rows.
+fn uncarried(
+    alloc: Global,
+    linked: &Linked,
+    of: &[MethodRow],
+    body: &MethodCode,
+) -> Result<Option<MethodFault>, LoadFault>
+    requires { IsCert (rows of.now) }
+    ensures carried { IfOk result (λ told. IfNone told (IsMethodCarried linked.now (rows of.now) body.now)) }
+    ensures told { IfOk result (λ told. IfSome told (IsUncarried linked.now (rows of.now) body.now)) }
+    ensures memory { IfErr result (λ fault. fault ≡ LoadFault.Memory) }
+{
+    match check_body(alloc, linked, body, states_for(of, body.offset)) {
+        Ok(()) => Ok(None),
+        Err(WordFault::Refused { pc, reason }) => Ok(Some(MethodFault {
+            method: body.offset,
+            fault: Fault { pc, reason },
+        })),
+        Err(WordFault::Memory) => Err(LoadFault::Memory),
+    }
+}
+
+/// Whether a method stands before the one of which a fault is told, if one is.
+fn stands_before(body: &MethodCode, told: Option<MethodFault>) -> bool
+    ensures { result ≡ option_map_or (λ f. nat_lt body.now.offset f.method) told true }
+{
+    match told {
+        Some(fault) => body.offset < fault.method,
+        None => true,
+    }
+}
+
+/// What is told of the method with the least offset that isn't carried, with one method more.
+fn told_with(
+    alloc: Global,
+    linked: &Linked,
+    of: &[MethodRow],
+    body: &MethodCode,
+    told: Option<MethodFault>,
+) -> Result<Option<MethodFault>, LoadFault>
+    requires { IsCert (rows of.now) }
+    ensures least { IfOk result (λ now. (n : ℕ) → slice_get linked.now.body.kept.methods n ≡ Some body.now → LeastOf linked.now (rows of.now) n told → LeastOf linked.now (rows of.now) (n + 1) now) }
+    ensures memory { IfErr result (λ fault. fault ≡ LoadFault.Memory) }
+{
+    if !stands_before(body, told) {
+        return Ok(told);
+    }
+    match uncarried(alloc, linked, of, body)? {
+        None => Ok(told),
+        Some(fault) => Ok(Some(fault)),
+    }
+}
+
+/// What is told of the method with the least offset that isn't carried, if there is one.
+fn first_uncarried(
+    alloc: Global,
+    linked: &Linked,
+    of: &[MethodRow],
+) -> Result<Option<MethodFault>, LoadFault>
+    requires { IsCert (rows of.now) }
+    ensures least { IfOk result (LeastOf linked.now (rows of.now) (length linked.now.body.kept.methods)) }
+    ensures memory { IfErr result (λ fault. fault ≡ LoadFault.Memory) }
+{
+    let methods = methods_of(linked);
+    let mut told = None;
+    for index in 0..methods.len() {
+        told = told_with(alloc, linked, of, &methods[index], told)?;
+    }
+    Ok(told)
+}
+
+/// The first refusal of a package with a certificate, if there is one.
+fn package_refusal(alloc: Global, linked: &Linked, cert: &Cert) -> Result<(), LoadFault>
+    ensures accepted { OnOk result (CarriesPackage linked.now cert.now) }
+    ensures refused { IfErr result (IsRefusal linked.now cert.now) }
+{
+    match stray_offset(cert.rows(), methods_of(linked)) {
+        Some(method) => Err(LoadFault::MethodRefused {
+            method,
+            pc: 0,
+            reason: Reason::CertMismatch,
+        }),
+        None => match first_uncarried(alloc, linked, cert.rows())? {
+            Some(MethodFault { method, fault }) => Err(LoadFault::MethodRefused {
+                method,
+                pc: fault.pc,
+                reason: fault.reason,
+            }),
+            None => Ok(()),
+        },
+    }
+}
+
+/// The same, with what becomes of a certificate that carries the package.
+#[tactic(auto, using(crate::proofs::Least::memory_alone))]
+fn first_refusal(alloc: Global, linked: &Linked, cert: &Cert) -> Result<(), LoadFault>
+    ensures accepted { OnOk result (CarriesPackage linked.now cert.now) }
+    ensures refused { IfErr result (IsRefusal linked.now cert.now) }
+    ensures carried { CarriesPackage linked.now cert.now → MatchResult result (λ u. ⊤) (λ fault. fault ≡ LoadFault.Memory) }
+{
+    first_fault_laws();
+    listing_laws();
+    package_refusal(alloc, linked, cert)
+}
+
+/// Each method with code of a linked package that is carried is well typed. It does nothing.
+fn carried_is_typed(linked: &Linked)
+    ensures { (of : List Row) → CarriesPackage linked.now of → IsPackageTyped linked.now }
+{
+    let _count = linked.table().len();
+    built_worlds_are_sound();
+    order_laws();
+}
+
+/// Checks that a certificate carries a linked package. The first refusal is told: of rows of the certificate for offsets at
+/// which no method with code stands the first, at pc 0; else of the methods that aren't carried the one with the least offset,
+/// with its first fault, in the order of the tests. Want of memory may be told in place of an answer.
+pub fn check(alloc: Global, linked: Linked, cert: &Cert) -> Result<Checked, LoadFault>
+    ensures accepted { IfOk result (λ checked. (checked ≡ linked) × CarriesPackage linked cert.now) }
+    ensures typed { IfOk result IsPackageTyped }
+    ensures carried { CarriesPackage linked cert.now → MatchResult result (λ checked. ⊤) (λ fault. fault ≡ LoadFault.Memory) }
+    ensures refused { IfErr result (IsRefusal linked cert.now) }
+{
+    carried_is_typed(&linked);
+    first_refusal(alloc, &linked, cert)?;
+    Ok(Checked { linked })
+}

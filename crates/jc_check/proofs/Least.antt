@@ -2,7 +2,6 @@
 use Rattle.std.proofs.Common.{◌≡◌, ℕ, ◌+◌, ◌<◌, ◌≤◌, inl, inr, Bool, true, false, List, length, Option, Some, None, refl, sym, ap, subst, ◌∙◌, arith, nat_lt, slice_get}
 use Rattle.std.proofs.lemmas.Bool.{ltb-true, ltb-false}
 use Rattle.std.proofs.lemmas.Option.{none-some, same_Some, slice_get_within}
-use Rattle.std.specs.Option.{option_map_or}
 use Rattle.jc_base.specs.declared.fault.LoadFault.{LoadFault}
 use Rattle.jc_base.specs.declared.fault.LoadFault.TheVariants.{Memory, MethodRefused}
 use Rattle.jc_cap_desc.specs.Shape.{MethodBody}
@@ -26,13 +25,6 @@ use Rattle.jc_check.proofs.Typed.{typed}
 module _ (l : Linked) (rows : List Row) where
   abbrev methods : List MethodBody
   methods = l.body.kept.methods
-
-  pub none_first : LeastOf l rows 0 None
-  none_first k c h e = absurd (omega (arith, h))
-
-  -- whether a method stands before the one that is told of, if one is
-  abbrev pub stands_before : MethodBody → Option MethodFault → Bool
-  stands_before b told = option_map_or (λ f. nat_lt b.offset f.method) told true
 
   -- ---- one method more
 

@@ -56,9 +56,9 @@ package_rules l = record {
   class_of = class_of_name l.world;
 }
 
--- ---- its methods. A linked package has a row for each of them, whose types are found
+-- ---- its methods. Where a row, or the types in it, aren't found nothing stands in their place
 
--- a class whose objects may be thrown
+-- what may be thrown is an object of this class, or of one below it
 abbrev pub throwable : ClassName
 throwable = names.Api Throwable
 

@@ -26,7 +26,7 @@ fn class_with_record(table: &ClassTable, home: usize, offset: u16) -> Option<Cla
 
 /// The class that a name in the certificate of a world's last package stands for.
 #[tactic(auto, unfolding(crate::specs::Package::class_of_name))]
-pub(crate) fn class_of_name(table: &ClassTable, name: SpelledClass) -> Option<ClassName>
+pub fn class_of_name(table: &ClassTable, name: SpelledClass) -> Option<ClassName>
     ensures { result ≡ class_of_name table.now name }
 {
     let home = table.len().saturating_sub(1);

@@ -9,11 +9,11 @@ use std::marker::Model;
 /// A handler: the first pc that it covers and how many it covers, the pc at which it goes on, and the class that it
 /// catches, if its entry of the constant pool names one that may be thrown.
 #[derive(Drop)]
-pub(crate) struct Handler {
-    pub(crate) start: u16,
-    pub(crate) length: u16,
-    pub(crate) goes_on: u16,
-    pub(crate) caught: Option<ClassName>,
+pub struct Handler {
+    pub start: u16,
+    pub length: u16,
+    pub goes_on: u16,
+    pub caught: Option<ClassName>,
 }
 
 impl Model for Handler {
@@ -24,10 +24,11 @@ impl Model for Handler {
     ghost view = { λ h. record { start = h.start; length = h.length; goes_on = h.goes_on; caught = h.caught } };
 }
 
-/// Whether a handler covers a pc.
-pub(crate) fn covers(handler: &Handler, pc: u16) -> bool
-    ensures { result ≡ covers handler.now pc }
-{
-    handler.start <= pc
-        && usize::from(pc) < usize::from(handler.start) + usize::from(handler.length)
+impl Handler {
+    /// Whether it covers a pc.
+    pub fn covers(&self, pc: u16) -> bool
+        ensures { result ≡ covers self.now pc }
+    {
+        self.start <= pc && usize::from(pc) < usize::from(self.start) + usize::from(self.length)
+    }
 }

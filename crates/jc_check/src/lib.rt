@@ -18,8 +18,11 @@ mod states;
 mod table;
 mod words;
 
+pub use class_names::class_of_name;
 pub use fault::{Fault, WordFault};
+pub use handler::Handler;
 pub use law::first_fault_laws;
-pub use method::{WORD_LOCALS, WORD_MAX_STACK};
+pub use method::{Method, WORD_LOCALS, WORD_MAX_STACK};
 pub use package::{Checked, check};
+pub use package_method::method_of;
 pub use words::{CheckedWords, check_words};

@@ -5,6 +5,7 @@ ghost use Rattle.jc_check.specs.Method.{word_method};
 
 use crate::handler::Handler;
 use jc_types::Ty;
+use std::alloc::Global;
 use std::marker::Model;
 
 /// How many locals code alone has.
@@ -16,13 +17,13 @@ pub const WORD_MAX_STACK: usize = 8;
 /// A method: its code, the types of its arguments, how many locals it has beside them, how many operands it may have,
 /// the type of its result, if it isn't void, and its handlers.
 #[derive(Drop)]
-pub(crate) struct Method<'a> {
-    pub(crate) code: &'a [u8],
-    pub(crate) arguments: &'a [Ty],
-    pub(crate) max_locals: u8,
-    pub(crate) max_stack: u8,
-    pub(crate) returned: Option<Ty>,
-    pub(crate) handlers: &'a [Handler],
+pub struct Method<'a> {
+    pub code: &'a [u8],
+    pub arguments: Vec<Ty>,
+    pub max_locals: u8,
+    pub max_stack: u8,
+    pub returned: Option<Ty>,
+    pub handlers: Vec<Handler>,
 }
 
 impl<'a> Model for Method<'a> {
@@ -30,35 +31,35 @@ impl<'a> Model for Method<'a> {
 
     ghost Value = { Method };
 
-    ghost view = { λ m. record { code = m.code.now; arguments = m.arguments.now; max_locals = m.max_locals; max_stack = m.max_stack; returned = m.returned; handlers = m.handlers.now } };
+    ghost view = { λ m. record { code = m.code.now; arguments = m.arguments.items; max_locals = m.max_locals; max_stack = m.max_stack; returned = m.returned; handlers = m.handlers.items } };
 }
 
 impl<'a> Method<'a> {
-    /// Code alone: a static method without arguments and handlers that returns a short.
-    pub(crate) fn of_words(code: &'a [u8]) -> Method<'a>
+    /// Code alone: a static method without arguments and handlers that returns a short. It takes no memory.
+    pub(crate) fn of_words(alloc: Global, code: &'a [u8]) -> Method<'a>
         ensures { result ≡ word_method code.now }
     {
         Method {
             code,
-            arguments: &[],
+            arguments: Vec::new(alloc),
             max_locals: WORD_LOCALS as u8,
             max_stack: WORD_MAX_STACK as u8,
             returned: Some(Ty::Word),
-            handlers: &[],
+            handlers: Vec::new(alloc),
         }
     }
 
     /// Its code.
-    pub(crate) fn code(&self) -> &'a [u8]
+    pub fn code(&self) -> &'a [u8]
         ensures { result.now ≡ self.now.code }
     {
         self.code
     }
 
     /// Its handlers.
-    pub(crate) fn handlers(&self) -> &'a [Handler]
+    pub fn handlers(&self) -> &[Handler]
         ensures { result.now ≡ self.now.handlers }
     {
-        self.handlers
+        &self.handlers
     }
 }

@@ -89,6 +89,11 @@ pub(crate) fn check_method<R: CheckRules>(
         });
     }
     let mut marks = no_marks(alloc, method.code().len())?;
-    let mut state = State::entry(alloc, method.arguments, method.max_locals, method.max_stack)?;
+    let mut state = State::entry(
+        alloc,
+        &method.arguments,
+        method.max_locals,
+        method.max_stack,
+    )?;
     check_code(alloc, rules, method, &mut marks, &mut state, states)
 }

@@ -178,6 +178,27 @@ fn frame_types_of(alloc: Global, linked: &Linked, offset: u16) -> Result<FrameTy
     })
 }
 
+/// A method with code of a linked package as it is checked.
+pub fn method_of<'m>(
+    alloc: Global,
+    linked: &Linked,
+    body: &'m MethodCode,
+) -> Result<Method<'m>, AllocError>
+    ensures method { IfOk result (λ method. method ≡ method_of linked.now body.now) }
+    ensures short { IfOk result (λ method. length method.code < 2 ^ 16) }
+{
+    let types = frame_types_of(alloc, linked, body.offset)?;
+    let handlers = handlers_of(alloc, linked, body.code_offset, &body.handlers)?;
+    Ok(Method {
+        code: &body.code,
+        arguments: types.arguments,
+        max_locals: types.max_locals,
+        max_stack: types.max_stack,
+        returned: types.returned,
+        handlers,
+    })
+}
+
 /// Checks a method with code with the certificate's states for it.
 pub(crate) fn check_body(
     alloc: Global,
@@ -189,15 +210,6 @@ pub(crate) fn check_body(
     ensures accepted { OnOk result (Carries (package_rules linked.now) (method_of linked.now body.now) (map stated states.now)) }
     ensures refused { IfErr result (λ fault. IfRefused fault (IsFirstFault (package_rules linked.now) (method_of linked.now body.now) (map stated states.now))) }
 {
-    let types = frame_types_of(alloc, linked, body.offset)?;
-    let handlers = handlers_of(alloc, linked, body.code_offset, &body.handlers)?;
-    let method = Method {
-        code: &body.code,
-        arguments: &types.arguments,
-        max_locals: types.max_locals,
-        max_stack: types.max_stack,
-        returned: types.returned,
-        handlers: &handlers,
-    };
+    let method = method_of(alloc, linked, body)?;
     check_method(alloc, &PackageRules { linked }, &method, states)
 }

@@ -11,7 +11,7 @@ ghost use Rattle.jc_check.specs.PrivateMarks.{IsTable, AreSafe, Flowed, flowing,
 
 use crate::claim::Claim;
 use crate::fault::Fault;
-use crate::handler::{Handler, covers};
+use crate::handler::Handler;
 use crate::mark::Mark;
 use crate::method::Method;
 use crate::rules::CheckRules;
@@ -87,7 +87,7 @@ fn handle<R: CheckRules>(
     ensures { (listing : List PlacedInstr) → IsTable (R.rules input.now.rules.now) input.now.method.now listing input.now.claims.now input.now.marks.now
         → result ≡ handles (R.rules input.now.rules.now) input.now.claims.now pc state.now.types handler.now }
 {
-    if !covers(handler, pc) {
+    if !handler.covers(pc) {
         return Ok(());
     }
     match handler.caught {
@@ -213,7 +213,7 @@ fn visit_live_at<R: CheckRules>(
     ensures room { HasRoom input.now.method.now state.new }
 {
     let method = input.method;
-    handle_all(input, state, pc, method.handlers)?;
+    handle_all(input, state, pc, method.handlers())?;
     input.rules.transfer(
         &instr.operation,
         state,

@@ -88,6 +88,11 @@ pub fn check_words<'a>(
             reason: Reason::CertMismatch,
         });
     };
-    check_method(alloc, &WordRules::new(), &Method::of_words(code), states)?;
+    check_method(
+        alloc,
+        &WordRules::new(),
+        &Method::of_words(alloc, code),
+        states,
+    )?;
     Ok(CheckedWords { code })
 }

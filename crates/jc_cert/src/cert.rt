@@ -1,8 +1,9 @@
 //! What a certificate holds.
 
-ghost use Rattle.std.specs.Prelude.{◌≡◌, []};
+ghost use Rattle.std.specs.Prelude.{◌≡◌, [], IfSome, IfNone};
 ghost use Rattle.jc_cert.specs.Cert.{IsCert};
 
+use crate::in_order::is_cert;
 use crate::stated_type::StatedType;
 use std::alloc::Global;
 use std::marker::Model;
@@ -54,6 +55,19 @@ impl Cert {
         Cert {
             methods: Vec::new(alloc),
         }
+    }
+
+    /// The certificate of rows, if they are in order: rows of methods by strictly ascending offset, each with one
+    /// state or more by strictly ascending pc, none with more than 65,535 locals or 255 operands, and no more than
+    /// 65,535 rows, or states of a row. It takes no memory.
+    pub fn new(methods: Vec<MethodRow>) -> Option<Cert>
+        ensures made { IfSome result (λ c. c ≡ rows methods.items) }
+        ensures none { IfNone result (IsCert (rows methods.items) → ⊥) }
+    {
+        if !is_cert(&methods) {
+            return None;
+        }
+        Some(Cert::from_rows(methods))
     }
 
     /// The certificate of these rows.

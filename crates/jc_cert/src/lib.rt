@@ -3,6 +3,7 @@
 #![tactic(auto)]
 
 mod cert;
+mod in_order;
 mod law;
 mod reading;
 mod refusal;

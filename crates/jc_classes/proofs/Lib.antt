@@ -11,4 +11,5 @@ mod Below
 mod Rounds
 mod Least
 mod Superclasses
+mod Meeting
 mod Implemented

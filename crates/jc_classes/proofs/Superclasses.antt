@@ -31,14 +31,14 @@ module _ (world : List Shape) (d c : ClassName) (n : ℕ) where
   one_more : (b : Bool) (o : Option ClassName) → is_same_name c d ≡ b → superclass_of world c ≡ o → is_at_or_above world (suc n) d c ≡ (b || option_map_or (is_at_or_above world n d) o false)
   one_more b o e f = ap (λ x. x || option_map_or (is_at_or_above world n d) (superclass_of world c) false) e ∙ ap (λ x. b || option_map_or (is_at_or_above world n d) x false) f
 
-  met : is_same_name c d ≡ true → is_at_or_above world (suc n) d c ≡ true
+  pub met : is_same_name c d ≡ true → is_at_or_above world (suc n) d c ≡ true
   met e = one_more true (superclass_of world c) e refl
 
-  above_it : (s : ClassName) → superclass_of world c ≡ Some s → is_at_or_above world n d s ≡ true → is_at_or_above world (suc n) d c ≡ true
+  pub above_it : (s : ClassName) → superclass_of world c ≡ Some s → is_at_or_above world n d s ≡ true → is_at_or_above world (suc n) d c ≡ true
   above_it s f e = or_true (is_same_name c d) _ (ap (λ o. option_map_or (is_at_or_above world n d) o false) f ∙ e)
 
   -- where a walk that finds comes from
-  found_by : is_at_or_above world (suc n) d c ≡ true → (c ≡ d) ⊎ ((s : ClassName) × (superclass_of world c ≡ Some s) × (is_at_or_above world n d s ≡ true))
+  pub found_by : is_at_or_above world (suc n) d c ≡ true → (c ≡ d) ⊎ ((s : ClassName) × (superclass_of world c ≡ Some s) × (is_at_or_above world n d s ≡ true))
   found_by e = by_name (either (is_same_name c d) _ e)
     where
       by_super : (o : Option ClassName) → superclass_of world c ≡ o → option_map_or (is_at_or_above world n d) o false ≡ true → (s : ClassName) × (superclass_of world c ≡ Some s) × (is_at_or_above world n d s ≡ true)
@@ -50,7 +50,7 @@ module _ (world : List Shape) (d c : ClassName) (n : ℕ) where
       by_name (inr h) = inr (by_super (superclass_of world c) refl h)
 
 -- more steps find what fewer do
-above_more : (world : List Shape) (n m : ℕ) (d c : ClassName) → n ≤ m → is_at_or_above world n d c ≡ true → is_at_or_above world m d c ≡ true
+pub above_more : (world : List Shape) (n m : ℕ) (d c : ClassName) → n ≤ m → is_at_or_above world n d c ≡ true → is_at_or_above world m d c ≡ true
 above_more world zero m d c l e = absurd (true_false (sym e))
 above_more world (suc n) zero d c l e = absurd (omega arith)
 above_more world (suc n) (suc m) d c l e = by_way (found_by world d c n e) (λ s. above_more world n m d s (omega arith))
@@ -98,7 +98,7 @@ beyond world (suc n) m e d c h k = by_way (found_by world d c n h) (λ s r. beyo
     by_way (inl is) rest = above_more world m (suc n + m) e c (omega arith) (ap (is_at_or_above world m e) is ∙ k)
     by_way (inr r) rest = let one : suc n + m ≡ suc (n + m) = omega arith in ap (λ i. is_at_or_above world i e c) one ∙ above_it world e c (n + m) r.0 r.1 (rest r.0 r.2)
 
-ends_above : (world : List Shape) (n : ℕ) (c s : ClassName) → comes_to_end world (suc n) c ≡ true → superclass_of world c ≡ Some s → comes_to_end world n s ≡ true
+pub ends_above : (world : List Shape) (n : ℕ) (c s : ClassName) → comes_to_end world (suc n) c ≡ true → superclass_of world c ≡ Some s → comes_to_end world n s ≡ true
 ends_above world n c s e f = sym (ap (λ o. option_map_or (comes_to_end world n) o true) f) ∙ e
 
 -- as many steps as there are superclasses find what more do
@@ -141,17 +141,17 @@ above_object world (suc n) c top h = by_way (found_by world c (Api Object) n h)
 
 module _ (world : List Shape) where
   -- how a class is below another one
-  way_up : (c d : ClassName) → is_class_below world c d ≡ true → (Api Object ≡ d) ⊎ (is_at_or_above world most_classes d c ≡ true)
+  pub way_up : (c d : ClassName) → is_class_below world c d ≡ true → (Api Object ≡ d) ⊎ (is_at_or_above world most_classes d c ≡ true)
   way_up c d h = by_name (either (is_same_name (Api Object) d) _ h)
     where
       by_name : (is_same_name (Api Object) d ≡ true) ⊎ (is_at_or_above world most_classes d c ≡ true) → (Api Object ≡ d) ⊎ (is_at_or_above world most_classes d c ≡ true)
       by_name (inl e) = inl (name_is (Api Object) d e)
       by_name (inr e) = inr e
 
-  below_object : (c d : ClassName) → Api Object ≡ d → is_class_below world c d ≡ true
+  pub below_object : (c d : ClassName) → Api Object ≡ d → is_class_below world c d ≡ true
   below_object c d is = ap (is_class_below world c) (sym is)
 
-  walked_up : (c d : ClassName) → is_at_or_above world most_classes d c ≡ true → is_class_below world c d ≡ true
+  pub walked_up : (c d : ClassName) → is_at_or_above world most_classes d c ≡ true → is_class_below world c d ≡ true
   walked_up c d h = or_true (is_same_name (Api Object) d) _ h
 
   module _ (o : IsOrderly world) (top : superclass_of world (Api Object) ≡ None) where
@@ -162,7 +162,7 @@ module _ (world : List Shape) where
         by_way (inl is) = is
         by_way (inr e) = above_object world most_classes c top e
 
-    itself : (c : ClassName) → is_class_below world c c ≡ true
+    pub itself : (c : ClassName) → is_class_below world c c ≡ true
     itself c = walked_up c c (above_more world 1 most_classes c c (omega (arith, most_is)) (met world c c 0 (name_itself c)))
 
     both_ways : (c d : ClassName) → is_class_below world c d ≡ true → is_class_below world d c ≡ true → c ≡ d
@@ -173,7 +173,7 @@ module _ (world : List Shape) where
         by_ways (inr p) (inl is) = sym is ∙ only_object d (ap (λ x. is_class_below world x d) is ∙ h)
         by_ways (inr p) (inr q) = one_of_both world o most_classes most_classes c d p q
 
-    on_through : (c d e : ClassName) → is_class_below world c d ≡ true → is_class_below world d e ≡ true → is_class_below world c e ≡ true
+    pub on_through : (c d e : ClassName) → is_class_below world c d ≡ true → is_class_below world d e ≡ true → is_class_below world c e ≡ true
     on_through c d e h k = by_ways (way_up c d h) (way_up d e k)
       where
         by_ways : (Api Object ≡ d) ⊎ (is_at_or_above world most_classes d c ≡ true) → (Api Object ≡ e) ⊎ (is_at_or_above world most_classes e d ≡ true) → is_class_below world c e ≡ true

@@ -1,6 +1,6 @@
 -- Which class is below which (Java Card Virtual Machine Specification, Verification types; Java Language Specification,
 -- Subtyping).
-use Rattle.std.specs.Prelude.{◌≡◌, ◌⊎◌, ℕ, zero, suc, Bool, true, false, not, ◌||◌, Some, List, [], ◌∷◌}
+use Rattle.std.specs.Prelude.{◌≡◌, ◌≢◌, ◌⊎◌, ℕ, zero, suc, ◌<◌, ◌≤◌, Bool, true, false, not, ◌||◌, Some, List, [], ◌∷◌, if◌then◌else◌}
 use Rattle.std.specs.Option.{option_map_or}
 use Rattle.jc_cap_class.specs.Component.{is_class}
 use Rattle.jc_cap_desc.specs.Shape.{Shape}
@@ -72,3 +72,34 @@ pub record IsOrder (below : ClassName → ClassName → Bool) : Type 0 where
   pub reflexive : (c : ClassName) → below c c ≡ true
   pub antisymmetric : (c d : ClassName) → below c d ≡ true → below d c ≡ true → c ≡ d
   pub transitive : (c d e : ClassName) → below c d ≡ true → below d e ≡ true → below c e ≡ true
+
+-- the first of a class and its superclasses, within so many, that another class is below too; Object where there is none
+abbrev pub common_within : List Shape → ℕ → ClassName → ClassName → ClassName
+common_within world zero c d = Api Object
+common_within world (suc n) c d =
+    if is_class_below world d c then c else option_map_or (λ e. common_within world n e d) (superclass_of world c) (Api Object)
+
+-- the nearest class above both of two
+abbrev pub common_class : List Shape → ClassName → ClassName → ClassName
+common_class world c d = common_within world most_classes c d
+
+-- how many classes are above a class, along its superclasses up to Object, within so many
+abbrev pub above_within : List Shape → ℕ → ClassName → ℕ
+above_within world zero c = 0
+above_within world (suc n) c =
+    if is_same_name (Api Object) c then 0 else option_map_or (λ e. suc (above_within world n e)) (superclass_of world c) 1
+
+-- how many classes are above a class
+abbrev pub classes_above : List Shape → ClassName → ℕ
+classes_above world c = above_within world most_classes c
+
+-- an order of classes with Object above all, in which each two have a least class above both, and in which a number falls with
+-- each step upward, which is at most this one
+pub record IsClassLattice (below : ClassName → ClassName → Bool) (common : ClassName → ClassName → ClassName) (above : ClassName → ℕ) (most : ℕ) : Type 0 where
+  pub order : IsOrder below
+  pub object : (c : ClassName) → below c (Api Object) ≡ true
+  pub first : (c d : ClassName) → below c (common c d) ≡ true
+  pub second : (c d : ClassName) → below d (common c d) ≡ true
+  pub least : (c d e : ClassName) → below c e ≡ true → below d e ≡ true → below (common c d) e ≡ true
+  pub falls : (c d : ClassName) → below c d ≡ true → c ≢ d → above d < above c
+  pub bounded : (c : ClassName) → above c ≤ most

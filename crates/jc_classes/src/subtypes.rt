@@ -2,7 +2,7 @@
 
 ghost use Rattle.std.specs.Prelude.{◌≡◌, ◌↔◌, true, IsTrue, List};
 ghost use Rattle.jc_cap_desc.specs.Shape.{Shape};
-ghost use Rattle.jc_classes.specs.Subtype.{IsSubtype, IsOrderly, IsLeastAbove, IsOrder, is_at_or_above, is_class_at, is_class_below};
+ghost use Rattle.jc_classes.specs.Subtype.{IsSubtype, IsOrderly, IsLeastAbove, IsOrder, IsClassLattice, is_at_or_above, is_class_at, is_class_below, common_class, classes_above};
 ghost use Rattle.jc_classes.specs.Walk.{most_classes};
 ghost use Rattle.jc_classes.specs.World.{superclass_of};
 
@@ -101,11 +101,48 @@ impl ClassTable {
         }
         OBJECT
     }
+
+    /// The nearest class above both of two, along superclasses: the first on the way up from the one that the other is
+    /// below too, or Object.
+    pub fn common_class(&self, one: ClassName, other: ClassName) -> ClassName
+        ensures { result ≡ common_class self.now one other }
+    {
+        let mut at = one;
+        for _ in 0..MOST_CLASSES {
+            if self.is_class_below(other, at) {
+                return at;
+            }
+            match self.superclass_of(at) {
+                Some(above) => at = above,
+                None => return OBJECT,
+            }
+        }
+        OBJECT
+    }
+
+    /// How many classes are above a class, along its superclasses up to Object.
+    pub fn classes_above(&self, class: ClassName) -> u16
+        ensures { result ≡ classes_above self.now class }
+    {
+        let mut at = class;
+        for counted in 0..MOST_CLASSES {
+            if OBJECT.is(at) {
+                return counted;
+            }
+            match self.superclass_of(at) {
+                Some(above) => at = above,
+                None => return counted + 1,
+            }
+        }
+        MOST_CLASSES
+    }
 }
 
 /// Where classes are in order and Object has no superclass, `is_class_below` is an order, and a class is above another
-/// one by it exactly where that one is its subtype.
+/// one by it exactly where that one is its subtype; each two classes have a least one above both, and the number of
+/// classes above falls with each step upward.
 pub fn superclass_laws()
     ensures subtypes { (world : List Shape) → IsOrderly world → superclass_of world (ClassName.Api ApiClass.Object) ≡ None → (c d : ClassName) → is_class_at world d ≡ true → (is_class_below world c d ≡ true ↔ IsSubtype world c d) }
     ensures order { (world : List Shape) → IsOrderly world → superclass_of world (ClassName.Api ApiClass.Object) ≡ None → IsOrder (is_class_below world) }
+    ensures lattice { (world : List Shape) → IsOrderly world → superclass_of world (ClassName.Api ApiClass.Object) ≡ None → IsClassLattice (is_class_below world) (common_class world) (classes_above world) most_classes }
 {}

@@ -1,6 +1,7 @@
 mod NoWorld
-mod PointsOrder
+mod Bounded
 mod Tops
 mod Points
 mod Operands
 mod Turned
+mod Joining

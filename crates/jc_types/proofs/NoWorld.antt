@@ -10,7 +10,7 @@ use Rattle.jc_classes.specs.World.{superclass_of}
 use Rattle.jc_classes.specs.declared.name.ClassName.{ClassName}
 use Rattle.jc_classes.specs.declared.name.ClassName.TheVariants.{Api, Loaded}
 
-most_is : most_classes ≡ suc 17_084
+pub most_is : most_classes ≡ suc 17_084
 unfolding most_classes
 most_is = refl
 

@@ -10,7 +10,7 @@ use Rattle.jc_types.specs.Ty.{class_of_objects, class_of_components, is_word, is
 
 -- ---- what the small tests say
 
-either : (a b : Bool) → (a || b) ≡ true → (a ≡ true) ⊎ (b ≡ true)
+pub either : (a b : Bool) → (a || b) ≡ true → (a ≡ true) ⊎ (b ≡ true)
 either true b e = inl refl
 either false b e = inr e
 
@@ -22,7 +22,7 @@ right : (a b : Bool) → b ≡ true → (a || b) ≡ true
 right true b e = refl
 right false b e = e
 
-word_is : (t : Ty) → is_word t ≡ true → t ≡ Word
+pub word_is : (t : Ty) → is_word t ≡ true → t ≡ Word
 word_is Top e = absurd cc
 word_is Word e = refl
 word_is Null e = absurd cc
@@ -32,7 +32,7 @@ word_is ByteArray e = absurd cc
 word_is ShortArray e = absurd cc
 word_is (ReferenceArray c) e = absurd cc
 
-null_is : (t : Ty) → is_null t ≡ true → t ≡ Null
+pub null_is : (t : Ty) → is_null t ≡ true → t ≡ Null
 null_is Top e = absurd cc
 null_is Word e = absurd cc
 null_is Null e = refl
@@ -42,7 +42,7 @@ null_is ByteArray e = absurd cc
 null_is ShortArray e = absurd cc
 null_is (ReferenceArray c) e = absurd cc
 
-boolean_array_is : (t : Ty) → is_boolean_array t ≡ true → t ≡ BooleanArray
+pub boolean_array_is : (t : Ty) → is_boolean_array t ≡ true → t ≡ BooleanArray
 boolean_array_is Top e = absurd cc
 boolean_array_is Word e = absurd cc
 boolean_array_is Null e = absurd cc
@@ -52,7 +52,7 @@ boolean_array_is ByteArray e = absurd cc
 boolean_array_is ShortArray e = absurd cc
 boolean_array_is (ReferenceArray c) e = absurd cc
 
-byte_array_is : (t : Ty) → is_byte_array t ≡ true → t ≡ ByteArray
+pub byte_array_is : (t : Ty) → is_byte_array t ≡ true → t ≡ ByteArray
 byte_array_is Top e = absurd cc
 byte_array_is Word e = absurd cc
 byte_array_is Null e = absurd cc
@@ -62,7 +62,7 @@ byte_array_is ByteArray e = refl
 byte_array_is ShortArray e = absurd cc
 byte_array_is (ReferenceArray c) e = absurd cc
 
-short_array_is : (t : Ty) → is_short_array t ≡ true → t ≡ ShortArray
+pub short_array_is : (t : Ty) → is_short_array t ≡ true → t ≡ ShortArray
 short_array_is Top e = absurd cc
 short_array_is Word e = absurd cc
 short_array_is Null e = absurd cc

@@ -1,10 +1,11 @@
 -- States of a method (Java Card Virtual Machine Specification, verification of CAP files: the types of local variables
 -- and of the operand stack at each instruction).
-use Rattle.std.specs.Prelude.{ℕ, List, [], ◌∷◌, ◌++◌, replicate, reverse, Bool, true, false, ◌&&◌}
+use Rattle.std.specs.Prelude.{◌≡◌, ℕ, ◌+◌, ◌==◌, List, [], ◌∷◌, ◌++◌, length, replicate, reverse, Bool, true, false, ◌&&◌}
+use Rattle.std.specs.List.{sum_by}
 use Rattle.jc_classes.specs.declared.name.ClassName.{ClassName}
 use Rattle.jc_types.specs.declared.ty.Ty.{Ty}
 use Rattle.jc_types.specs.declared.ty.Ty.TheVariants.{Top}
-use Rattle.jc_types.specs.Ty.{is_below}
+use Rattle.jc_types.specs.Ty.{is_below, join_of, height_of}
 
 -- a state: the types of the locals, and of the operands, the top one first
 pub record Types : Type 0 where
@@ -34,3 +35,28 @@ stated_types locals operands = record { locals = locals; operands = reverse oper
 pub record StateWithRoom : Type 0 where
   pub types : Types
   pub room : ℕ
+
+-- two states have as many locals and as many operands each
+abbrev pub has_shape_of : Types → Types → Bool
+has_shape_of s t = length s.locals == length t.locals && length s.operands == length t.operands
+
+-- two lists joined point by point, beside the least class above two; of unlike lengths what both have
+abbrev pub joined_all : (ClassName → ClassName → ClassName) → List Ty → List Ty → List Ty
+joined_all common [] [] = []
+joined_all common (a ∷ ones) (b ∷ others) = join_of common a b ∷ joined_all common ones others
+joined_all common [] (b ∷ others) = []
+joined_all common (a ∷ ones) [] = []
+
+-- two states joined point by point
+abbrev pub joined_types : (ClassName → ClassName → ClassName) → Types → Types → Types
+joined_types common s t = record { locals = joined_all common s.locals t.locals; operands = joined_all common s.operands t.operands }
+
+-- a state is above two others, and below each other one that is
+pub record IsJoin (below : ClassName → ClassName → Bool) (one other joined : Types) : Type 0 where
+  pub first : types_below below one joined ≡ true
+  pub second : types_below below other joined ≡ true
+  pub least : (u : Types) → types_below below one u ≡ true → types_below below other u ≡ true → types_below below joined u ≡ true
+
+-- how many steps upward there are from a state at most: those of its locals and operands together
+abbrev pub height_of_types : (ClassName → ℕ) → ℕ → Types → ℕ
+height_of_types above most s = sum_by (height_of above most) s.locals + sum_by (height_of above most) s.operands

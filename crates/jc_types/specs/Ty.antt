@@ -1,6 +1,6 @@
--- Verification types and their order (Java Card Virtual Machine Specification, verification types: the types of local variables
+-- Verification types, their order, their joins and their heights (Java Card Virtual Machine Specification, verification types: the types of local variables
 -- and of the operand stack).
-use Rattle.std.specs.Prelude.{Bool, true, false, ◌||◌, Option, Some, None}
+use Rattle.std.specs.Prelude.{ℕ, ◌+◌, Bool, true, false, ◌||◌, if◌then◌else◌, Option, Some, None}
 use Rattle.std.specs.Option.{option_map_or}
 use Rattle.jc_base.specs.declared.declared_type.DeclaredType.{DeclaredType}
 use Rattle.jc_base.specs.declared.declared_type.DeclaredType.TheVariants as Declared
@@ -110,3 +110,99 @@ is_below below t BooleanArray = is_null t || is_boolean_array t
 is_below below t ByteArray = is_null t || is_byte_array t
 is_below below t ShortArray = is_null t || is_short_array t
 is_below below t (ReferenceArray d) = is_null t || option_map_or (λ c. below c d) (class_of_components t) false
+
+-- the types of references
+abbrev pub is_reference : Ty → Bool
+is_reference Top = false
+is_reference Word = false
+is_reference Null = true
+is_reference (Class c) = true
+is_reference BooleanArray = true
+is_reference ByteArray = true
+is_reference ShortArray = true
+is_reference (ReferenceArray c) = true
+
+-- the least type above Word and another one
+abbrev pub join_of_word : Ty → Ty
+join_of_word u = if is_word u then Word else Top
+
+-- the least type above Null and another one
+abbrev pub join_of_null : Ty → Ty
+join_of_null u = if is_reference u then u else Top
+
+-- the least type above a class and another type, beside the least class above two
+abbrev pub join_of_class : (ClassName → ClassName → ClassName) → ClassName → Ty → Ty
+join_of_class common c Top = Top
+join_of_class common c Word = Top
+join_of_class common c Null = Class c
+join_of_class common c (Class d) = Class (common c d)
+join_of_class common c BooleanArray = Class (Api Object)
+join_of_class common c ByteArray = Class (Api Object)
+join_of_class common c ShortArray = Class (Api Object)
+join_of_class common c (ReferenceArray d) = Class (Api Object)
+
+-- the least type above arrays of booleans and another type
+abbrev pub join_of_boolean_array : Ty → Ty
+join_of_boolean_array Top = Top
+join_of_boolean_array Word = Top
+join_of_boolean_array Null = BooleanArray
+join_of_boolean_array (Class d) = Class (Api Object)
+join_of_boolean_array BooleanArray = BooleanArray
+join_of_boolean_array ByteArray = Class (Api Object)
+join_of_boolean_array ShortArray = Class (Api Object)
+join_of_boolean_array (ReferenceArray d) = Class (Api Object)
+
+-- the least type above arrays of bytes and another type
+abbrev pub join_of_byte_array : Ty → Ty
+join_of_byte_array Top = Top
+join_of_byte_array Word = Top
+join_of_byte_array Null = ByteArray
+join_of_byte_array (Class d) = Class (Api Object)
+join_of_byte_array BooleanArray = Class (Api Object)
+join_of_byte_array ByteArray = ByteArray
+join_of_byte_array ShortArray = Class (Api Object)
+join_of_byte_array (ReferenceArray d) = Class (Api Object)
+
+-- the least type above arrays of shorts and another type
+abbrev pub join_of_short_array : Ty → Ty
+join_of_short_array Top = Top
+join_of_short_array Word = Top
+join_of_short_array Null = ShortArray
+join_of_short_array (Class d) = Class (Api Object)
+join_of_short_array BooleanArray = Class (Api Object)
+join_of_short_array ByteArray = Class (Api Object)
+join_of_short_array ShortArray = ShortArray
+join_of_short_array (ReferenceArray d) = Class (Api Object)
+
+-- the least type above arrays of references and another type, beside the least class above two
+abbrev pub join_of_reference_array : (ClassName → ClassName → ClassName) → ClassName → Ty → Ty
+join_of_reference_array common c Top = Top
+join_of_reference_array common c Word = Top
+join_of_reference_array common c Null = ReferenceArray c
+join_of_reference_array common c (Class d) = Class (Api Object)
+join_of_reference_array common c BooleanArray = Class (Api Object)
+join_of_reference_array common c ByteArray = Class (Api Object)
+join_of_reference_array common c ShortArray = Class (Api Object)
+join_of_reference_array common c (ReferenceArray d) = ReferenceArray (common c d)
+
+-- the least type above two, beside the least class above two
+abbrev pub join_of : (ClassName → ClassName → ClassName) → Ty → Ty → Ty
+join_of common Top u = Top
+join_of common Word u = join_of_word u
+join_of common Null u = join_of_null u
+join_of common (Class c) u = join_of_class common c u
+join_of common BooleanArray u = join_of_boolean_array u
+join_of common ByteArray u = join_of_byte_array u
+join_of common ShortArray u = join_of_short_array u
+join_of common (ReferenceArray c) u = join_of_reference_array common c u
+
+-- how many steps upward there are from a type at most, beside the number of classes above each one, and the most that any has
+abbrev pub height_of : (ClassName → ℕ) → ℕ → Ty → ℕ
+height_of above most Top = 0
+height_of above most Word = 1
+height_of above most Null = 3 + most
+height_of above most (Class c) = 1 + above c
+height_of above most BooleanArray = 2 + above (Api Object)
+height_of above most ByteArray = 2 + above (Api Object)
+height_of above most ShortArray = 2 + above (Api Object)
+height_of above most (ReferenceArray c) = 2 + above c

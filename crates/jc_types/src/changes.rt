@@ -1,15 +1,18 @@
 //! What code may do to a state.
 
-ghost use Rattle.std.specs.Prelude.{◌≡◌, ◌<◌, ◌≤◌, ◌&&◌, ◌==◌, ◌+◌, [], ◌∷◌, length, take, drop, reverse, slice_get, IfErr};
-ghost use Rattle.jc_types.specs.State.{Types, all_below, stated_types, types_below};
+ghost use Rattle.std.specs.Prelude.{◌≡◌, ◌<◌, ◌≤◌, ◌&&◌, ◌==◌, ◌+◌, [], ◌∷◌, length, take, drop, reverse, slice_get, true, IfErr};
+ghost use Rattle.jc_classes.specs.Subtype.{common_class};
+ghost use Rattle.jc_types.specs.State.{Types, all_below, stated_types, types_below, has_shape_of, joined_types};
 ghost use Rattle.jc_types.specs.Changes.{Became, with_operands, with_local, local_type, set_local_type, push_type, take_types, drop_types, duplicate_types, swap_types};
 
 use crate::classes::Classes;
+use crate::join::join_front;
 use crate::order::is_below;
 use crate::state::State;
 use crate::ty::Ty;
 use jc_base::Reason;
 use jc_base::stack::{duplicate_top, swap_top};
+use jc_classes::ClassTable;
 
 /// Whether lists of one length lie point by point one below the other, beside an order of classes.
 pub fn are_below<C: Classes>(lower: &[Ty], upper: &[Ty], classes: &C) -> bool
@@ -162,7 +165,8 @@ impl State {
     /// How many operands there are.
     #[inline]
     pub fn depth(&self) -> usize
-        ensures { result ≡ length self.now.types.operands }
+        ensures depth { result ≡ length self.now.types.operands }
+        ensures room { result ≤ self.now.room }
     {
         self.depth
     }
@@ -173,6 +177,39 @@ impl State {
         ensures { result ≡ slice_get self.now.types.locals index }
     {
         self.locals.get(usize::from(index)).copied()
+    }
+
+    /// The types of the locals.
+    #[inline]
+    pub fn locals(&self) -> &[Ty]
+        ensures { result.now ≡ self.now.types.locals }
+    {
+        &self.locals
+    }
+
+    /// The types of the operands, the bottom one first.
+    #[inline]
+    pub fn operands(&self) -> &[Ty]
+        ensures { result.now ≡ reverse self.now.types.operands }
+    {
+        &self.slots[..self.depth]
+    }
+
+    /// Whether it has as many locals and as many operands as another one.
+    pub(crate) fn has_shape_of(&self, other: &State) -> bool
+        ensures { result ≡ has_shape_of self.now.types other.now.types }
+    {
+        self.locals.len() == other.locals.len() && self.depth == other.depth
+    }
+
+    /// Joins it with another one of its shape.
+    pub(crate) fn join_with(&mut self, other: &State, table: &ClassTable)
+        requires { has_shape_of self.old.types other.now.types ≡ true }
+        ensures types { self.new.types ≡ joined_types (common_class table.now) self.old.types other.now.types }
+        ensures room { self.new.room ≡ self.old.room }
+    {
+        join_front(&mut self.locals, &other.locals, table);
+        join_front(&mut self.slots, &other.slots[..other.depth], table);
     }
 
     /// The types of the top operands, the last of them on top.

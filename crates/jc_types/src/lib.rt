@@ -3,6 +3,8 @@
 
 mod changes;
 mod classes;
+mod height;
+mod join;
 mod lattice;
 mod order;
 mod state;

@@ -57,4 +57,15 @@ impl State {
             depth: 0,
         })
     }
+
+    /// The same state once more, with as much room.
+    pub(crate) fn copied(&self, alloc: Global) -> Result<State, AllocError>
+        ensures { IfOk result (λ state. state ≡ self.now) }
+    {
+        Ok(State {
+            locals: Vec::from_slice(alloc, &self.locals)?,
+            slots: Vec::from_slice(alloc, &self.slots)?,
+            depth: self.depth,
+        })
+    }
 }

@@ -1,7 +1,7 @@
 //! Verification types.
 
 ghost use Rattle.std.specs.Prelude.{◌≡◌};
-ghost use Rattle.jc_types.specs.Ty.{type_of_declared, class_of_objects, class_of_components, is_word, is_null, is_boolean_array, is_byte_array, is_short_array};
+ghost use Rattle.jc_types.specs.Ty.{type_of_declared, class_of_objects, class_of_components, is_word, is_null, is_reference, is_boolean_array, is_byte_array, is_short_array};
 
 use jc_api::ApiClass;
 use jc_base::DeclaredType;
@@ -88,6 +88,17 @@ impl Ty {
             Ty::Null => true,
             Ty::Top | Ty::Word | Ty::Class(_) | Ty::ReferenceArray(_) => false,
             Ty::BooleanArray | Ty::ByteArray | Ty::ShortArray => false,
+        }
+    }
+
+    /// Whether it is one of references.
+    pub(crate) fn is_reference(self) -> bool
+        ensures { result ≡ is_reference self }
+    {
+        match self {
+            Ty::Top | Ty::Word => false,
+            Ty::Null | Ty::Class(_) | Ty::ReferenceArray(_) => true,
+            Ty::BooleanArray | Ty::ByteArray | Ty::ShortArray => true,
         }
     }
 

@@ -2,7 +2,10 @@
 #![tactic(auto)]
 
 mod fault;
+mod flow;
 mod package;
+mod place;
+mod stop;
 
 pub use fault::VerifyFault;
 pub use package::infer;

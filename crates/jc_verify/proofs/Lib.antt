@@ -1,0 +1,5 @@
+mod Lists
+mod Stepping
+mod Growing
+mod Visiting
+mod Arriving

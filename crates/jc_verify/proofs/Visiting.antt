@@ -1,0 +1,24 @@
+-- What is closed once an instruction has been visited.
+use Rattle.std.proofs.Common.{◌≡◌, ℕ, Bool, true, false, List, Option, Ok, Err, Result}
+use Rattle.std.specs.Prelude.{IfOk}
+use Rattle.jc_code.specs.Listing.{PlacedInstr}
+use Rattle.jc_check.specs.Method.{Method}
+use Rattle.jc_check.specs.Rules.{Rules}
+use Rattle.jc_check.specs.Typing.{Typing}
+use Rattle.jc_types.specs.State.{Types}
+use Rattle.jc_verify.specs.PrivateFlow.{ClosedIf, FallsIf, IsClosed, IsVisited, meets, goes_on}
+
+-- what holds of what is there, from something else that does
+pub if_ok : {A E : Type 0} (r : Result A E) (P Q : A → Type 0) → IfOk r P → ((x : A) → P x → Q x) → IfOk r Q
+if_ok (Ok x) P Q h on = on x h
+if_ok (Err e) P Q h on = tt
+
+pub if_ok_both : {A E : Type 0} (r : Result A E) (P Q R : A → Type 0) → IfOk r P → IfOk r Q → ((x : A) → P x → Q x → R x) → IfOk r R
+if_ok_both (Ok x) P Q R h k on = on x h k
+if_ok_both (Err e) P Q R h k on = tt
+
+-- an instruction whose handlers and branches lead on, and behind which there is no place, or one that holds what goes on
+pub closed_by : (rules : Rules) (m : Method) (numbers : List (Option ℕ)) (typing : Typing) (on : Bool) (x : PlacedInstr) (s after : Types) → rules.decoder m.code x.pc ≡ Ok x.instr
+    → IsVisited rules m typing x s after → FallsIf on rules m numbers typing x.instr.next_pc after → ClosedIf on rules m numbers typing x.instr.next_pc after → IsClosed rules m numbers typing x.pc s
+closed_by rules m numbers typing true x s after decoded visited falls closed = goes_on x s after decoded visited falls.0 falls.1 closed
+closed_by rules m numbers typing false x s after decoded visited falls closed = meets x s after decoded visited falls

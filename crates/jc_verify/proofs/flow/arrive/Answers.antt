@@ -1,0 +1,27 @@
+use Rattle.std.proofs.Common.{arith}
+use Rattle.std.proofs.lemmas.Option.{slice_get-get_or}
+use Rattle.jc_verify.proofs.Arriving.{arrived, leads_in, in_room, low_enough}
+use Rattle.jc_verify.proofs.Visiting.{if_ok_both}
+use Rattle.jc_verify.proofs.flow.arrive.Goals as goal
+
+pub returns-clause-grown : goal.returns-clause-grown
+returns-clause-grown c =
+    let l = c.args.flow.now.linked.now in
+    let m = c.args.flow.now.method.now in
+    let at = slice_get-get_or c.args.places.now c.args.number c.index-places-number.result c.requires.there in
+    let shape = in_room m c.args.state.now c.requires.room (omega (arith, c.depth-depth.ensures.depth, c.depth-depth.ensures.room)) in
+    let step = rw c.table.ensures.table at c.take_in.ensures.step in
+    let holds = rw c.table.ensures.table at c.take_in.ensures.holds in
+    if_ok_both c.take_in.result _ _ _ step holds (λ u step holds.
+    arrived l c.requires.laws m c.args.flow.now.numbers.now c.args.places.now c.args.number _ c.take_in.new.place c.args.state.now at (step _ (low_enough l c.requires.laws m c.args.state.now.types shape)) holds shape)
+
+pub returns-clause-met : goal.returns-clause-met
+returns-clause-met c =
+    let l = c.args.flow.now.linked.now in
+    let m = c.args.flow.now.method.now in
+    let at = slice_get-get_or c.args.places.now c.args.number c.index-places-number.result c.requires.there in
+    let shape = in_room m c.args.state.now c.requires.room (omega (arith, c.depth-depth.ensures.depth, c.depth-depth.ensures.room)) in
+    let step = rw c.table.ensures.table at c.take_in.ensures.step in
+    let holds = rw c.table.ensures.table at c.take_in.ensures.holds in
+    if_ok_both c.take_in.result _ _ _ step holds (λ u step holds.
+    leads_in l c.requires.laws m c.args.flow.now.numbers.now c.args.places.now c.args.number _ c.take_in.new.place c.args.state.now at (step _ (low_enough l c.requires.laws m c.args.state.now.types shape)) holds shape)

@@ -1,0 +1,46 @@
+use Rattle.std.proofs.Common.{Bool, sym, subst}
+use Rattle.jc_check.specs.Package.{package_rules}
+use Rattle.jc_verify.proofs.Growing.{grown_self, grown_through, risen_through}
+use Rattle.jc_verify.specs.PrivateFlow.{ClosedIf, held_at}
+use Rattle.jc_verify.proofs.flow.follow.Goals as goal
+
+pub loop-instr-init : goal.loop-instr-init
+loop-instr-init c = record {
+  grown = grown_self c.args.flow.now.linked.now c.requires.laws c.args.flow.now.method.now c.args.flow.now.numbers.now c.args.places.now;
+  numbered = c.requires.numbered;
+  caught = c.requires.caught;
+  room = c.requires.room;
+  within = c.requires.within;
+  rest = λ final g h. h;
+}
+
+pub loop-instr-preserved : goal.loop-instr-preserved
+loop-instr-preserved c =
+    let l = c.args.flow.now.linked.now in
+    let m = c.args.flow.now.method.now in
+    let numbers = c.args.flow.now.numbers.now in
+    let visited = c.in-Ok-true.ensures in
+    record {
+      grown = grown_through l c.requires.laws m numbers c.args.places.now c.loop-instr.places c.visit.new.places c.loop-instr.invariant.grown visited.grown;
+      numbered = visited.grown.risen.numbered c.loop-instr.invariant.numbered;
+      caught = visited.caught;
+      room = visited.room;
+      within = visited.within c.in-Ok-true.field-0-test;
+      rest = λ final g h.
+          let If : Bool → Type 0 = λ on. ClosedIf on (package_rules l) m numbers (held_at numbers final) c.in-Some.instr.next_pc c.visit.new.state.types in
+          c.loop-instr.invariant.rest final (risen_through l c.requires.laws m numbers c.loop-instr.places c.visit.new.places final visited.grown.risen g) (visited.closed final g (subst If (sym c.in-Ok-true.field-0-test) h));
+    }
+
+pub returns-in-Ok-false-clause-grown : goal.returns-in-Ok-false-clause-grown
+returns-in-Ok-false-clause-grown c =
+    grown_through c.args.flow.now.linked.now c.requires.laws c.args.flow.now.method.now c.args.flow.now.numbers.now c.args.places.now c.loop-instr.places c.visit.new.places c.loop-instr.invariant.grown
+    c.in-Ok-false.ensures.grown
+
+pub returns-in-Ok-false-clause-closed : goal.returns-in-Ok-false-clause-closed
+returns-in-Ok-false-clause-closed c final g =
+    let l = c.args.flow.now.linked.now in
+    let m = c.args.flow.now.method.now in
+    let numbers = c.args.flow.now.numbers.now in
+    let visited = c.in-Ok-false.ensures in
+    let If : Bool → Type 0 = λ on. ClosedIf on (package_rules l) m numbers (held_at numbers final) c.in-Some.instr.next_pc c.visit.new.state.types in
+    c.loop-instr.invariant.rest final (risen_through l c.requires.laws m numbers c.loop-instr.places c.visit.new.places final visited.grown.risen g) (visited.closed final g (subst If (sym c.in-Ok-false.field-0-test) tt))

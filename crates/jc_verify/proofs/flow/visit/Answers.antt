@@ -1,0 +1,41 @@
+use Rattle.std.proofs.Common.{sym, ◌∙◌}
+use Rattle.jc_check.specs.Package.{package_rules}
+use Rattle.jc_verify.proofs.Growing.{grown_through, risen_through}
+use Rattle.jc_verify.proofs.Visiting.{if_ok, if_ok_both, closed_by}
+use Rattle.jc_verify.specs.PrivateFlow.{ends, held_at, placed}
+use Rattle.jc_verify.proofs.flow.visit.Goals as goal
+
+pub returns-then-falls_through-clause-grown : goal.returns-then-falls_through-clause-grown
+returns-then-falls_through-clause-grown c =
+    let through = grown_through c.args.flow.now.linked.now c.requires.laws c.args.flow.now.method.now c.args.flow.now.numbers.now in
+    if_ok c.fall_to.result _ _ c.fall_to.ensures.grown (λ on g.
+    through c.args.places.now c.handle_all.new.places c.fall_to.new.places c.in_ok-handle_all.ensures.grown
+    (through c.handle_all.new.places c.branch_all.new.places c.fall_to.new.places c.in_ok-branch_all.ensures.grown g))
+
+pub returns-else-falls_through-clause-grown : goal.returns-else-falls_through-clause-grown
+returns-else-falls_through-clause-grown c =
+    grown_through c.args.flow.now.linked.now c.requires.laws c.args.flow.now.method.now c.args.flow.now.numbers.now c.args.places.now c.handle_all.new.places c.branch_all.new.places c.in_ok-handle_all.ensures.grown
+    c.in_ok-branch_all.ensures.grown
+
+pub returns-else-falls_through-clause-closed : goal.returns-else-falls_through-clause-closed
+returns-else-falls_through-clause-closed c final g none =
+    let through = risen_through c.args.flow.now.linked.now c.requires.laws c.args.flow.now.method.now c.args.flow.now.numbers.now in
+    ends (placed c.args.pc c.args.instr.now) c.args.state.now.types c.take_effect.new.state.types c.requires.decoded (record {
+      handled = c.in_ok-handle_all.ensures.met final (through c.handle_all.new.places c.branch_all.new.places final c.in_ok-branch_all.ensures.grown.risen g);
+      effect = c.in_ok-take_effect.ensures.became;
+      branches = c.in_ok-branch_all.ensures.met final g;
+    }) (sym c.falls_through.ensures ∙ c.if-falls_through.false)
+
+pub returns-then-falls_through-clause-closed : goal.returns-then-falls_through-clause-closed
+returns-then-falls_through-clause-closed c =
+    let l = c.args.flow.now.linked.now in
+    let m = c.args.flow.now.method.now in
+    let numbers = c.args.flow.now.numbers.now in
+    let through = risen_through l c.requires.laws m numbers in
+    if_ok_both c.fall_to.result _ _ _ c.fall_to.ensures.met c.fall_to.ensures.grown (λ on met grown final g closed.
+    let later = through c.branch_all.new.places c.fall_to.new.places final grown.risen g in
+    closed_by (package_rules l) m numbers (held_at numbers final) on (placed c.args.pc c.args.instr.now) c.args.state.now.types c.take_effect.new.state.types c.requires.decoded (record {
+      handled = c.in_ok-handle_all.ensures.met final (through c.handle_all.new.places c.branch_all.new.places final c.in_ok-branch_all.ensures.grown.risen later);
+      effect = c.in_ok-take_effect.ensures.became;
+      branches = c.in_ok-branch_all.ensures.met final later;
+    }) (met final g) closed)

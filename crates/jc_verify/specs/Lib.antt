@@ -1,0 +1,3 @@
+pub mod PrivatePlaces
+pub mod PrivateFlow
+pub mod PrivateStop

@@ -1,0 +1,131 @@
+-- Private. What the verifier knows while it follows control flow through a method: what is held at places, and what is closed, so
+-- that all that flows from there is held where it comes to.
+use Rattle.std.specs.Prelude.{◌≡◌, ℕ, ◌+◌, ◌*◌, ◌<◌, ◌≤◌, Bool, true, false, List, length, drop, Option, Some, None, Ok, ⊤, slice_get, slice_index_or}
+use Rattle.std.specs.List.{AllByRecursion}
+use Rattle.std.specs.Option.{option_and_then, option_map}
+use Rattle.jc_cap_desc.specs.Shape.{Shape}
+use Rattle.jc_classes.specs.Subtype.{IsClassLattice, classes_above, common_class, is_class_below}
+use Rattle.jc_classes.specs.Walk.{most_classes}
+use Rattle.jc_code.specs.Listing.{ListingLaws, PlacedInstr}
+use Rattle.jc_code.specs.Targets.{targets_of, falls_of}
+use Rattle.jc_code.specs.declared.instr.Instr.{Instr}
+use Rattle.jc_link.specs.Linked.{Linked}
+use Rattle.jc_types.specs.State.{StateWithRoom, Types, height_of_types, types_below}
+use Rattle.jc_check.specs.Method.{Method}
+use Rattle.jc_check.specs.Package.{package_rules}
+use Rattle.jc_check.specs.Rules.{Rules}
+use Rattle.jc_check.specs.Typing.{BranchLeads, HandlerLeads, Leads, Typing}
+use Rattle.jc_verify.specs.PrivatePlaces.{AreSteps, all_left}
+use Rattle.jc_verify.specs.declared.place.Place.{Place}
+
+abbrev pub Places : Type 0
+Places = List (Place StateWithRoom)
+
+-- the number of the place at a pc, by a table; past its end there is none
+abbrev pub number_at : List (Option ℕ) → ℕ → Option ℕ
+number_at numbers pc = slice_index_or numbers pc None
+
+-- the types that a place holds
+abbrev pub types_held : Place StateWithRoom → Option Types
+types_held p = option_map (λ s. s.types) p.held
+
+-- what is held at a pc
+abbrev pub held_at : List (Option ℕ) → Places → Typing
+held_at numbers places pc = option_and_then types_held (option_and_then (slice_get places) (number_at numbers pc))
+
+-- the table numbers the places
+pub record IsNumbered (numbers : List (Option ℕ)) (places : Places) : Type 0 where
+  pub within : (pc n : ℕ) → number_at numbers pc ≡ Some n → n < length places
+  pub known : (n : ℕ) (p : Place StateWithRoom) → slice_get places n ≡ Some p → number_at numbers p.pc ≡ Some n
+
+-- types in the shape of a method
+pub record HasShape (m : Method) (t : Types) : Type 0 where
+  pub locals : length t.locals ≡ length m.arguments + m.max_locals
+  pub operands : length t.operands ≤ m.max_stack
+
+-- what is held is in the shape of a method
+abbrev pub AreShaped : Method → Places → Type 0
+AreShaped m places = (n : ℕ) (p : Place StateWithRoom) (s : StateWithRoom) → slice_get places n ≡ Some p → p.held ≡ Some s → HasShape m s.types
+
+-- a state to work on has the method's number of locals, and room for the operands that the method may have
+pub record HasRoom (m : Method) (s : StateWithRoom) : Type 0 where
+  pub locals : length s.types.locals ≡ length m.arguments + m.max_locals
+  pub room : s.room ≡ m.max_stack
+
+-- what holds of types and of code beside a linked package
+pub record HasLaws (l : Linked) : Type 0 where
+  pub itself : (s : Types) → types_below (is_class_below l.world) s s ≡ true
+  pub through : (s t u : Types) → types_below (is_class_below l.world) s t ≡ true → types_below (is_class_below l.world) t u ≡ true → types_below (is_class_below l.world) s u ≡ true
+  pub listing : ListingLaws (package_rules l).decoder
+  pub classes : IsClassLattice (is_class_below l.world) (common_class l.world) (classes_above l.world) most_classes
+  pub bound : (s : Types) → height_of_types (classes_above l.world) most_classes s ≤ (length s.locals + length s.operands) * (3 + most_classes)
+
+-- places changed: what was held lies below what is held
+pub record Risen (l : Linked) (m : Method) (numbers : List (Option ℕ)) (before after : Places) : Type 0 where
+  pub rises : (pc : ℕ) (s : Types) → held_at numbers before pc ≡ Some s → Leads (package_rules l) (held_at numbers after) s pc
+  pub numbered : IsNumbered numbers before → IsNumbered numbers after
+  pub shaped : AreShaped m before → AreShaped m after
+
+-- the order of states, and how high a state is, beside a world
+abbrev pub below_in : List Shape → StateWithRoom → StateWithRoom → Bool
+below_in world s t = types_below (is_class_below world) s.types t.types
+
+abbrev pub height_in : List Shape → StateWithRoom → ℕ
+height_in world s = height_of_types (classes_above world) most_classes s.types
+
+-- no state in the shape of a method is higher
+abbrev pub most_height : Method → ℕ
+most_height m = (length m.arguments + m.max_locals + m.max_stack) * (3 + most_classes)
+
+-- each place is as it was, or was raised
+abbrev pub AreRaised : Linked → Method → Places → Places → Type 0
+AreRaised l m before after = AreSteps (below_in l.world) (height_in l.world) (most_height m) before after
+
+-- places took in what flowed there
+pub record Grown (l : Linked) (m : Method) (numbers : List (Option ℕ)) (before after : Places) : Type 0 where
+  pub risen : Risen l m numbers before after
+  pub steps : AreRaised l m before after
+
+-- how far all places may still rise
+abbrev pub left_in : Linked → Method → Places → ℕ
+left_in l m places = all_left (height_in l.world) (most_height m) places
+
+-- the first of these were passed: whatever is held in the end, they hold if those behind them do
+pub record ArePassed (l : Linked) (m : Method) (numbers : List (Option ℕ)) {A : Type 0} (holds : Typing → A → Type 0) (xs : List A) (k : ℕ) (start now : Places) : Type 0 where
+  pub grown : Grown l m numbers start now
+  pub numbered : IsNumbered numbers now
+  pub rest : (final : Places) → Risen l m numbers now final → AllByRecursion (holds (held_at numbers final)) (drop k xs) → AllByRecursion (holds (held_at numbers final)) xs
+
+-- the handlers that cover an instruction catch, it has an effect, and its branches lead on
+pub record IsVisited (rules : Rules) (m : Method) (typing : Typing) (x : PlacedInstr) (s after : Types) : Type 0 where
+  pub handled : AllByRecursion (HandlerLeads rules typing x.pc s) m.handlers
+  pub effect : rules.effect m.max_stack m.returned x.instr.operation s ≡ Ok after
+  pub branches : AllByRecursion (BranchLeads rules typing after) (targets_of x.pc x.instr.operation)
+
+-- from a pc with these types control flow was followed up to places, which hold what comes there
+pub data IsClosed (rules : Rules) (m : Method) (numbers : List (Option ℕ)) (typing : Typing) : ℕ → Types → Type 0 where
+  ends : (x : PlacedInstr) (s after : Types) → rules.decoder m.code x.pc ≡ Ok x.instr → IsVisited rules m typing x s after → falls_of x.instr.operation ≡ false
+      → IsClosed rules m numbers typing x.pc s
+  meets : (x : PlacedInstr) (s after : Types) → rules.decoder m.code x.pc ≡ Ok x.instr → IsVisited rules m typing x s after → Leads rules typing after x.instr.next_pc
+      → IsClosed rules m numbers typing x.pc s
+  goes_on : (x : PlacedInstr) (s after : Types) → rules.decoder m.code x.pc ≡ Ok x.instr → IsVisited rules m typing x s after → x.instr.next_pc < length m.code
+      → number_at numbers x.instr.next_pc ≡ None → IsClosed rules m numbers typing x.instr.next_pc after → IsClosed rules m numbers typing x.pc s
+
+-- what is owed of the next pc where control flow goes on to it
+abbrev pub ClosedIf : Bool → Rules → Method → List (Option ℕ) → Typing → ℕ → Types → Type 0
+ClosedIf true rules m numbers typing pc t = IsClosed rules m numbers typing pc t
+ClosedIf false rules m numbers typing pc t = ⊤
+
+-- what is known of types that go on to a pc: there is no place, or one that holds them
+abbrev pub FallsIf : Bool → Rules → Method → List (Option ℕ) → Typing → ℕ → Types → Type 0
+FallsIf true rules m numbers typing pc t = (pc < length m.code) × (number_at numbers pc ≡ None)
+FallsIf false rules m numbers typing pc t = Leads rules typing t pc
+
+abbrev pub placed : ℕ → Instr → PlacedInstr
+placed pc instr = record { pc = pc; instr = instr }
+
+-- from each place that hasn't changed since, control flow was followed
+abbrev pub IsSettled : Linked → Method → List (Option ℕ) → Places → Type 0
+IsSettled l m numbers places =
+    (n : ℕ) (p : Place StateWithRoom) (t : Types) → slice_get places n ≡ Some p → p.changed ≡ false → types_held p ≡ Some t
+    → IsClosed (package_rules l) m numbers (held_at numbers places) p.pc t

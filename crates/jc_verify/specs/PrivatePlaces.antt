@@ -1,0 +1,46 @@
+-- Private. The places of a method that control flow enters by a branch or a handler, and what they hold while a certificate is
+-- worked out.
+use Rattle.std.specs.Prelude.{◌≡◌, ◌⊎◌, ◌<◌, ℕ, suc, ◌+◌, Bool, true, false, List, [], ◌∷◌, length, Some, slice_get}
+use Rattle.std.specs.Option.{option_map_or}
+use Rattle.jc_verify.specs.declared.place.Place.{Place}
+
+-- how far a place may still rise: an empty one further than any value
+abbrev pub left_of : {L : Type 0} → (L → ℕ) → ℕ → Place L → ℕ
+left_of height most p = option_map_or height p.held (suc most)
+
+-- a place holds a value that lies above one
+pub record HoldsAbove {L : Type 0} (below : L → L → Bool) (p : Place L) (x : L) : Type 0 where
+  pub value : L
+  pub held : p.held ≡ Some value
+  pub above : below x value ≡ true
+
+-- what a place holds lies below a value
+abbrev pub IsHeldBelow : {L : Type 0} → (L → L → Bool) → Place L → L → Type 0
+IsHeldBelow {L} below p z = (x : L) → p.held ≡ Some x → below x z ≡ true
+
+-- a place holds a value that isn't of one shape with another
+pub record IsUnlike {L : Type 0} (fits : L → L → Bool) (p : Place L) (x : L) : Type 0 where
+  pub value : L
+  pub held : p.held ≡ Some value
+  pub unlike : fits value x ≡ false
+
+-- a place was raised: it has changed, what it held lies below what it holds, and it may rise less far
+pub record IsRaised {L : Type 0} (below : L → L → Bool) (height : L → ℕ) (most : ℕ) (before after : Place L) : Type 0 where
+  pub same : after.pc ≡ before.pc
+  pub changed : after.changed ≡ true
+  pub above : (x : L) → before.held ≡ Some x → HoldsAbove below after x
+  pub less : left_of height most after < left_of height most before
+
+-- a place is as it was, or was raised
+abbrev pub IsStep : {L : Type 0} → (L → L → Bool) → (L → ℕ) → ℕ → Place L → Place L → Type 0
+IsStep below height most before after = (after ≡ before) ⊎ IsRaised below height most before after
+
+-- each place is as it was, or was raised
+pub record AreSteps {L : Type 0} (below : L → L → Bool) (height : L → ℕ) (most : ℕ) (before after : List (Place L)) : Type 0 where
+  pub len : length after ≡ length before
+  pub each : (n : ℕ) (p q : Place L) → slice_get before n ≡ Some p → slice_get after n ≡ Some q → IsStep below height most p q
+
+-- how far all places may still rise
+abbrev pub all_left : {L : Type 0} → (L → ℕ) → ℕ → List (Place L) → ℕ
+all_left height most [] = 0
+all_left height most (p ∷ ps) = left_of height most p + all_left height most ps

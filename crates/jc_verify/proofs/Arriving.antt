@@ -21,22 +21,28 @@ use Rattle.jc_verify.proofs.Growing.{leads_on}
 
 -- ---- lists with one element in place of another
 
-set_same : {A : Type 0} (xs : List A) (n : ℕ) (x : A) → n < length xs → slice_get (slice_set xs n x) n ≡ Some x
+pub set_same : {A : Type 0} (xs : List A) (n : ℕ) (x : A) → n < length xs → slice_get (slice_set xs n x) n ≡ Some x
 set_same [] n x h = absurd (omega (arith, h))
 set_same (y ∷ ys) zero x h = refl
 set_same (y ∷ ys) (suc n) x h = set_same ys n x (omega (arith, h))
 
-set_other : {A : Type 0} (xs : List A) (n k : ℕ) (x : A) → (k ≡ n → ⊥) → slice_get (slice_set xs n x) k ≡ slice_get xs k
+pub set_other : {A : Type 0} (xs : List A) (n k : ℕ) (x : A) → (k ≡ n → ⊥) → slice_get (slice_set xs n x) k ≡ slice_get xs k
 set_other [] n k x other = refl
 set_other (y ∷ ys) zero zero x other = absurd (other refl)
 set_other (y ∷ ys) zero (suc k) x other = refl
 set_other (y ∷ ys) (suc n) zero x other = refl
 set_other (y ∷ ys) (suc n) (suc k) x other = set_other ys n k x (λ e. other (ap suc e))
 
-set_length : {A : Type 0} (xs : List A) (n : ℕ) (x : A) → length (slice_set xs n x) ≡ length xs
+pub set_length : {A : Type 0} (xs : List A) (n : ℕ) (x : A) → length (slice_set xs n x) ≡ length xs
 set_length [] n x = refl
 set_length (y ∷ ys) zero x = refl
 set_length (y ∷ ys) (suc n) x = ap suc (set_length ys n x)
+
+-- a pc that has a number is within the table
+pub number_within : (numbers : List (Option ℕ)) (pc n : ℕ) → number_at numbers pc ≡ Some n → pc < length numbers
+number_within [] pc n e = absurd (none-some n e)
+number_within (x ∷ numbers) zero n e = omega arith
+number_within (x ∷ numbers) (suc pc) n e = let k = number_within numbers pc n e in omega (arith, k)
 
 -- ---- shapes
 
@@ -174,6 +180,15 @@ module _ (l : Linked) (laws : HasLaws l) (m : Method) (numbers : List (Option �
             ap (λ (x : Place StateWithRoom). number_at numbers x.pc) (sym to_r) ∙ ap (number_at numbers) same_pc ∙ h.known number p at ∙ ap Some (sym is)
         by_number (inr other) = h.known n r (sym (set_other places number n q other) ∙ f)
 
+    found : IsNumbered numbers places → (pc n : ℕ) (r : Place StateWithRoom) → number_at numbers pc ≡ Some n → slice_get new n ≡ Some r → r.pc ≡ pc
+    found h pc n r e f = by_number (cases_eq n number)
+      where
+        by_number : (n ≡ number) ⊎ (n ≡ number → ⊥) → r.pc ≡ pc
+        by_number (inl is) =
+            let to_r : q ≡ r = same_Some q r (sym here ∙ ap (slice_get new) (sym is) ∙ f) in
+            ap (λ (x : Place StateWithRoom). x.pc) (sym to_r) ∙ same_pc ∙ h.found pc number p (e ∙ ap Some is) at
+        by_number (inr other) = h.found pc n r e (sym (set_other places number n q other) ∙ f)
+
     shaped : AreShaped m places → AreShaped m new
     shaped h n r s f e = by_number (cases_eq n number)
       where
@@ -188,7 +203,7 @@ module _ (l : Linked) (laws : HasLaws l) (m : Method) (numbers : List (Option �
     arrived = record {
       risen = record {
         rises = rises;
-        numbered = λ h. record { within = λ pc n e. let k = h.within pc n e in omega (arith, k, set_length places number q); known = known h };
+        numbered = λ h. record { within = λ pc n e. let k = h.within pc n e in omega (arith, k, set_length places number q); known = known h; found = found h };
         shaped = shaped;
       };
       steps = record { len = set_length places number q; each = each_step };

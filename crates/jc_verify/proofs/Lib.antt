@@ -3,3 +3,13 @@ mod Stepping
 mod Growing
 mod Visiting
 mod Arriving
+mod Settling
+mod Counting
+mod Stating
+mod Carrying
+mod Numbers
+mod Starting
+mod Following
+mod Passing
+mod Entering
+mod Refusing

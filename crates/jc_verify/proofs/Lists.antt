@@ -1,7 +1,7 @@
 -- Lists, from a place on.
-use Rattle.std.proofs.Common.{◌≡◌, ℕ, zero, suc, ◌+◌, ◌≤◌, List, [], ◌∷◌, length, drop, Some, ap, subst, sym, arith, slice_get}
+use Rattle.std.proofs.Common.{◌≡◌, ◌⊎◌, inl, inr, ℕ, zero, suc, ◌+◌, ◌≤◌, List, [], ◌∷◌, ◌++◌, length, drop, take, Some, refl, ap, subst, sym, arith, slice_get}
 use Rattle.std.specs.List.{AllByRecursion}
-use Rattle.std.proofs.lemmas.Option.{same_Some}
+use Rattle.std.proofs.lemmas.Option.{none-some, same_Some}
 
 drop_get : {A : Type 0} (xs : List A) (k : ℕ) (x : A) → slice_get xs k ≡ Some x → drop k xs ≡ x ∷ drop (k + 1) xs
 drop_get [] k x e = absurd cc
@@ -17,3 +17,24 @@ all_past P [] zero le = tt
 all_past P [] (suc k) le = tt
 all_past P (x ∷ xs) zero le = absurd (omega arith)
 all_past P (x ∷ xs) (suc k) le = all_past P xs k (omega arith)
+
+-- ---- one more at the end
+
+pub length_more : {A : Type 0} (xs : List A) (x : A) → length (xs ++ x ∷ []) ≡ length xs + 1
+length_more [] x = refl
+length_more (y ∷ xs) x = let k = length_more xs x in omega (arith, k)
+
+pub get_either : {A : Type 0} (xs : List A) (x y : A) (k : ℕ) → slice_get (xs ++ x ∷ []) k ≡ Some y → (slice_get xs k ≡ Some y) ⊎ ((k ≡ length xs) × (x ≡ y))
+get_either [] x y zero e = inr (refl, same_Some x y e)
+get_either [] x y (suc k) e = absurd (none-some y e)
+get_either (z ∷ xs) x y zero e = inl e
+get_either (z ∷ xs) x y (suc k) e = by_rest (get_either xs x y k e)
+  where
+    by_rest : (slice_get xs k ≡ Some y) ⊎ ((k ≡ length xs) × (x ≡ y)) → (slice_get (z ∷ xs) (suc k) ≡ Some y) ⊎ ((suc k ≡ suc (length xs)) × (x ≡ y))
+    by_rest (inl h) = inl h
+    by_rest (inr (h, i)) = inr (ap suc h, i)
+
+pub take_more : {A : Type 0} (xs : List A) (k : ℕ) (x : A) → slice_get xs k ≡ Some x → take (k + 1) xs ≡ take k xs ++ x ∷ []
+take_more [] k x e = absurd (none-some x e)
+take_more (y ∷ xs) zero x e = ap (λ z. z ∷ []) (same_Some y x e)
+take_more (y ∷ xs) (suc k) x e = let h : suc k + 1 ≡ suc (k + 1) = omega arith in rw h (ap (λ ys. y ∷ ys) (take_more xs k x e))

@@ -9,7 +9,7 @@ module _ {L : Type 0} (below : L → L → Bool) (height : L → ℕ) (most : �
   steps_none places = record { len = refl; each = λ n p q e f. inl (same_Some q p (sym f ∙ e)) }
 
   -- what stands at a place of a list that is as long
-  stands : (xs ys : List (Place L)) → length ys ≡ length xs → (n : ℕ) (x : Place L) → slice_get xs n ≡ Some x → (y : Place L) × (slice_get ys n ≡ Some y)
+  pub stands : (xs ys : List (Place L)) → length ys ≡ length xs → (n : ℕ) (x : Place L) → slice_get xs n ≡ Some x → (y : Place L) × (slice_get ys n ≡ Some y)
   stands [] ys e n x h = absurd cc
   stands (a ∷ xs) [] e n x h = absurd (omega (arith, e))
   stands (a ∷ xs) (b ∷ ys) e zero x h = (b, refl)

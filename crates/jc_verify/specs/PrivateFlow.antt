@@ -37,6 +37,7 @@ held_at numbers places pc = option_and_then types_held (option_and_then (slice_g
 pub record IsNumbered (numbers : List (Option ℕ)) (places : Places) : Type 0 where
   pub within : (pc n : ℕ) → number_at numbers pc ≡ Some n → n < length places
   pub known : (n : ℕ) (p : Place StateWithRoom) → slice_get places n ≡ Some p → number_at numbers p.pc ≡ Some n
+  pub found : (pc n : ℕ) (p : Place StateWithRoom) → number_at numbers pc ≡ Some n → slice_get places n ≡ Some p → p.pc ≡ pc
 
 -- types in the shape of a method
 pub record HasShape (m : Method) (t : Types) : Type 0 where
@@ -123,9 +124,3 @@ FallsIf false rules m numbers typing pc t = Leads rules typing t pc
 
 abbrev pub placed : ℕ → Instr → PlacedInstr
 placed pc instr = record { pc = pc; instr = instr }
-
--- from each place that hasn't changed since, control flow was followed
-abbrev pub IsSettled : Linked → Method → List (Option ℕ) → Places → Type 0
-IsSettled l m numbers places =
-    (n : ℕ) (p : Place StateWithRoom) (t : Types) → slice_get places n ≡ Some p → p.changed ≡ false → types_held p ≡ Some t
-    → IsClosed (package_rules l) m numbers (held_at numbers places) p.pc t

@@ -22,7 +22,7 @@ use jc_types::{State, Ty};
 use std::alloc::Global;
 
 /// What is told of an instruction.
-fn told_at(pc: u16, stop: Stop) -> WordFault
+pub(crate) fn told_at(pc: u16, stop: Stop) -> WordFault
     ensures { result ≡ fault_at pc stop }
 {
     match stop {
@@ -229,7 +229,12 @@ fn branch_all(
 
 /// What goes on behind an instruction: it meets the place there, or there is none and the answer is yes.
 #[tactic(auto, using(crate::proofs::Growing::grown_self))]
-fn fall_to(flow: &Flow, places: &mut [Place<State>], state: &State, pc: usize) -> Result<bool, Stop>
+pub(crate) fn fall_to(
+    flow: &Flow,
+    places: &mut [Place<State>],
+    state: &State,
+    pc: usize,
+) -> Result<bool, Stop>
     requires laws { HasLaws flow.now.linked.now }
     requires numbered { IsNumbered flow.now.numbers.now places.old }
     requires room { HasRoom flow.now.method.now state.now }
@@ -304,7 +309,7 @@ fn instr_at<'m>(flow: &Flow<'_, 'm>, pc: usize) -> Option<Instr<'m>>
 }
 
 /// Follows control flow from a pc until it comes to places or ends.
-fn follow(
+pub(crate) fn follow(
     flow: &Flow,
     places: &mut [Place<State>],
     caught: &mut State,

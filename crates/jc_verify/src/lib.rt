@@ -1,10 +1,15 @@
 //! The verifier: it works out the certificate of a linked package.
 #![tactic(auto)]
 
+mod entries;
 mod fault;
 mod flow;
+mod method;
+mod numbering;
 mod package;
 mod place;
+mod settle;
+mod spelling;
 mod stop;
 
 pub use fault::VerifyFault;

@@ -1,0 +1,114 @@
+-- Numbering the places at the pcs of a set.
+use Rattle.std.proofs.Common.{◌≡◌, ◌⊎◌, inl, inr, ℕ, zero, suc, ◌+◌, ◌<◌, ◌≤◌, true, false, List, [], ◌∷◌, ◌++◌, length, Option, Some, None, slice_get, refl, sym, ap, ◌∙◌, arith}
+use Rattle.std.proofs.lemmas.Option.{none-some, same_Some, slice_get_within}
+use Rattle.jc_base.specs.NumberSet.{has_number}
+use Rattle.jc_types.specs.State.{StateWithRoom}
+use Rattle.jc_verify.specs.PrivateFlow.{Places, number_at}
+use Rattle.jc_verify.specs.PrivateSettled.{AreNumbered}
+use Rattle.jc_verify.specs.declared.place.Place.{Place}
+use Rattle.jc_verify.proofs.Arriving.{number_within}
+use Rattle.jc_verify.proofs.Lists.{get_either, length_more}
+
+-- ---- one more at the end
+
+number_past : (ns : List (Option ℕ)) (pc : ℕ) → length ns ≤ pc → number_at ns pc ≡ None
+number_past [] zero h = refl
+number_past [] (suc pc) h = refl
+number_past (n ∷ ns) zero h = absurd (omega (arith, h))
+number_past (n ∷ ns) (suc pc) h = number_past ns pc (omega (arith, h))
+
+number_before : (ns : List (Option ℕ)) (x : Option ℕ) (pc : ℕ) → pc < length ns → number_at (ns ++ x ∷ []) pc ≡ number_at ns pc
+number_before [] x pc h = absurd (omega (arith, h))
+number_before (n ∷ ns) x zero h = refl
+number_before (n ∷ ns) x (suc pc) h = number_before ns x pc (omega (arith, h))
+
+number_last : (ns : List (Option ℕ)) (x : Option ℕ) → number_at (ns ++ x ∷ []) (length ns) ≡ x
+number_last [] x = refl
+number_last (n ∷ ns) x = number_last ns x
+
+-- a number at a pc is one of those before, or the last
+number_either : (ns : List (Option ℕ)) (x : Option ℕ) (pc n : ℕ) → number_at (ns ++ x ∷ []) pc ≡ Some n → (number_at ns pc ≡ Some n) ⊎ ((pc ≡ length ns) × (x ≡ Some n))
+number_either [] x zero n e = inr (refl, e)
+number_either [] x (suc pc) n e = absurd (none-some n e)
+number_either (y ∷ ns) x zero n e = inl e
+number_either (y ∷ ns) x (suc pc) n e = by_rest (number_either ns x pc n e)
+  where
+    by_rest : (number_at ns pc ≡ Some n) ⊎ ((pc ≡ length ns) × (x ≡ Some n)) → (number_at (y ∷ ns) (suc pc) ≡ Some n) ⊎ ((suc pc ≡ suc (length ns)) × (x ≡ Some n))
+    by_rest (inl h) = inl h
+    by_rest (inr (h, k)) = inr (ap suc h, k)
+
+module _ (entries : List ℕ) (pc : ℕ) (numbers : List (Option ℕ)) (places : Places) (so_far : AreNumbered entries pc numbers places) where
+  -- no place is at this pc
+  pub without : AreNumbered entries (pc + 1) (numbers ++ None ∷ []) places
+  without = record {
+    sized = let k = length_more numbers None in omega (arith, k, so_far.sized);
+    few = omega (arith, so_far.few);
+    numbered = record {
+      within = λ at n e. within at n (number_either numbers None at n e);
+      known = λ n p e.
+          let k = so_far.numbered.known n p e in
+          number_before numbers None p.pc (number_within numbers p.pc n k) ∙ k;
+      found = λ at n p e f. found at n p f (number_either numbers None at n e);
+    };
+    empty = so_far.empty;
+    entered = so_far.entered;
+  }
+    where
+      within : (at n : ℕ) → (number_at numbers at ≡ Some n) ⊎ ((at ≡ length numbers) × (None ≡ Some n)) → n < length places
+      within at n (inl e) = so_far.numbered.within at n e
+      within at n (inr (h, e)) = absurd (none-some n e)
+
+      found : (at n : ℕ) (p : Place StateWithRoom) → slice_get places n ≡ Some p → (number_at numbers at ≡ Some n) ⊎ ((at ≡ length numbers) × (None ≡ Some n)) → p.pc ≡ at
+      found at n p f (inl e) = so_far.numbered.found at n p e f
+      found at n p f (inr (h, e)) = absurd (none-some n e)
+
+  -- a place without anything
+  abbrev pub blank : Place StateWithRoom
+  blank = record { pc = pc; held = None; changed = false }
+
+  pub with_one : has_number entries pc ≡ true
+      → AreNumbered entries (pc + 1) (numbers ++ Some (length places) ∷ []) (places ++ blank ∷ [])
+  with_one is = record {
+    sized = let k = length_more numbers (Some (length places)) in omega (arith, k, so_far.sized);
+    few = let k = length_more places blank in omega (arith, k, so_far.few);
+    numbered = record {
+      within = λ at n e. within at n (number_either numbers (Some (length places)) at n e);
+      known = λ n p e. known n p (get_either places blank p n e);
+      found = λ at n p e f. found at n p (number_either numbers (Some (length places)) at n e) (get_either places blank p n f);
+    };
+    empty = λ k p e. empty k p (get_either places blank p k e);
+    entered = λ k p e. entered k p (get_either places blank p k e);
+  }
+    where
+      within : (at n : ℕ) → (number_at numbers at ≡ Some n) ⊎ ((at ≡ length numbers) × (Some (length places) ≡ Some n)) → n < length (places ++ blank ∷ [])
+      within at n (inl e) = let k = so_far.numbered.within at n e in omega (arith, k, length_more places blank)
+      within at n (inr (h, e)) = let k = same_Some (length places) n e in omega (arith, k, length_more places blank)
+
+      known : (n : ℕ) (p : Place StateWithRoom) → (slice_get places n ≡ Some p) ⊎ ((n ≡ length places) × (blank ≡ p)) → number_at (numbers ++ Some (length places) ∷ []) p.pc ≡ Some n
+      known n p (inl e) = let k = so_far.numbered.known n p e in number_before numbers (Some (length places)) p.pc (number_within numbers p.pc n k) ∙ k
+      known n p (inr (h, e)) =
+          ap (λ (x : Place StateWithRoom). number_at (numbers ++ Some (length places) ∷ []) x.pc) (sym e) ∙ ap (number_at (numbers ++ Some (length places) ∷ [])) (sym so_far.sized)
+          ∙ number_last numbers (Some (length places)) ∙ ap Some (sym h)
+
+      found : (at n : ℕ) (p : Place StateWithRoom) → (number_at numbers at ≡ Some n) ⊎ ((at ≡ length numbers) × (Some (length places) ≡ Some n)) → (slice_get places n ≡ Some p) ⊎ ((n ≡ length places) × (blank ≡ p)) → p.pc ≡ at
+      found at n p (inl e) (inl f) = so_far.numbered.found at n p e f
+      found at n p (inl e) (inr (h, f)) = let k = so_far.numbered.within at n e in absurd (omega (arith, k, h))
+      found at n p (inr (h, e)) (inl f) = let k = slice_get_within places n p f in let i = same_Some (length places) n e in absurd (omega (arith, k, i))
+      found at n p (inr (h, e)) (inr (i, f)) = ap (λ (x : Place StateWithRoom). x.pc) (sym f) ∙ sym so_far.sized ∙ sym h
+
+      empty : (k : ℕ) (p : Place StateWithRoom) → (slice_get places k ≡ Some p) ⊎ ((k ≡ length places) × (blank ≡ p)) → p.held ≡ None
+      empty k p (inl e) = so_far.empty k p e
+      empty k p (inr (h, e)) = ap (λ (x : Place StateWithRoom). x.held) (sym e)
+
+      entered : (k : ℕ) (p : Place StateWithRoom) → (slice_get places k ≡ Some p) ⊎ ((k ≡ length places) × (blank ≡ p)) → has_number entries p.pc ≡ true
+      entered k p (inl e) = so_far.entered k p e
+      entered k p (inr (h, e)) = ap (λ (x : Place StateWithRoom). has_number entries x.pc) (sym e) ∙ is
+
+pub none_numbered : (entries : List ℕ) → AreNumbered entries 0 [] []
+none_numbered entries = record {
+  sized = refl;
+  few = omega arith;
+  numbered = record { within = λ pc n e. absurd (none-some n (sym (number_past [] pc (omega arith)) ∙ e)); known = λ n p e. absurd (none-some p e); found = λ pc n p e f. absurd (none-some p f) };
+  empty = λ k p e. absurd (none-some p e);
+  entered = λ k p e. absurd (none-some p e);
+}

@@ -1,0 +1,256 @@
+-- Control flow that is followed from pc to pc.
+use Rattle.std.proofs.Common.{◌≡◌, ◌⊎◌, inl, inr, ℕ, ◌+◌, ◌<◌, ◌==◌, ◌||◌, true, false, List, [], ◌∷◌, ◌++◌, length, length-append, Option, Some, None, pos, refl, sym, ap, subst, ◌∙◌, arith}
+use Rattle.std.specs.List.{Contains}
+use Rattle.std.proofs.lemmas.List.Elements.{Contains-append_left, Contains-push, Contains-push_cases}
+use Rattle.std.proofs.lemmas.Option.{none-some, same_Some}
+use Rattle.jc_base.specs.NumberSet.{has_number}
+use Rattle.jc_code.specs.Listing.{PlacedInstr, begins, placed_at}
+use Rattle.jc_check.specs.Method.{Method}
+use Rattle.jc_verify.specs.Live.{IsEntered, IsLive, first, behind, by_branch, by_handler, branched, caught}
+use Rattle.jc_verify.specs.PrivateLive.{AreEntries, Grown, IsAwaited, IsDone, IsFollowed, IsFound, IsHeld, IsReached, all_numbers, left_of, left_out}
+use Rattle.jc_verify.specs.declared.entries.Followed.{Followed}
+use Rattle.jc_verify.proofs.Numbers.{has_cases, has_itself, has_kept, one_less}
+
+pub grown_self : (f : Followed) → Grown f f
+grown_self f = record { live = λ pc h. h; entered = λ pc h. h; left = refl }
+
+pub grown_through : (f g h : Followed) → Grown f g → Grown g h → Grown f h
+grown_through f g h a b = record { live = λ pc e. b.live pc (a.live pc e); entered = λ pc e. b.entered pc (a.entered pc e); left = b.left ∙ a.left }
+
+pub held_on : (f g : Followed) → Grown f g → (pc : ℕ) → IsHeld f pc → IsHeld g pc
+held_on f g grown pc h = record { live = grown.live pc h.live; entered = grown.entered pc h.entered }
+
+-- what was done stays so while the sets keep their pcs
+done_on : (f g : Followed) → ((pc : ℕ) → has_number f.live pc ≡ true → has_number g.live pc ≡ true) → ((pc : ℕ) → has_number f.entered pc ≡ true → has_number g.entered pc ≡ true)
+    → (m : Method) (x : PlacedInstr) → IsDone m f x → IsDone m g x
+done_on f g live entered m x d = record {
+  handlers = λ h among covered. let k = d.handlers h among covered in record { live = live h.goes_on k.live; entered = entered h.goes_on k.entered };
+  branches = λ place among pc is. let k = d.branches place among pc is in record { live = live pc k.live; entered = entered pc k.entered };
+  behind = λ falls. live x.instr.next_pc (d.behind falls);
+}
+
+-- what is entered is reached
+pub reached_of : (m : Method) (listing : List PlacedInstr) (pc : ℕ) → IsFound m listing pc → IsReached m listing pc
+reached_of m listing pc h = record { live = by h.entered; begin = h.begin }
+  where
+    by : {q : ℕ} → IsEntered m listing q → IsLive m listing q
+    by (branched x q at live among) = by_branch x q at live among
+    by (caught x h at live among covered) = by_handler x h at live among covered
+
+-- ---- a pc more that is reached
+
+module _ (before after : Followed) (pc : ℕ) (live : (n : ℕ) → has_number after.live n ≡ (n == pc || has_number before.live n)) (entered : after.entered ≡ before.entered)
+    (stack : after.stack.items ≡ before.stack.items ++ pc ∷ []) where
+  live_on : (n : ℕ) → has_number before.live n ≡ true → has_number after.live n ≡ true
+  live_on = has_kept before.live after.live pc live
+
+  entered_on : (n : ℕ) → has_number before.entered n ≡ true → has_number after.entered n ≡ true
+  entered_on n e = ap (λ (s : List ℕ). has_number s n) entered ∙ e
+
+  pub reached_grown : has_number before.live pc ≡ false → pc < 65_536 → Grown before after
+  reached_grown fresh small = record {
+    live = live_on;
+    entered = entered_on;
+    left =
+        let less = one_less before.live after.live pc live fresh small in
+        let more = ap (λ (s : List ℕ). length s) stack ∙ length-append before.stack.items (pc ∷ []) in
+        omega (arith, less, more);
+  }
+
+  pub reached_followed : (m : Method) (listing : List PlacedInstr) (now : Option ℕ) → IsReached m listing pc → IsFollowed m listing now before → IsFollowed m listing now after
+  reached_followed m listing now reached h = record {
+    first = live_on 0 h.first;
+    live = λ n e. of_live n (has_cases before.live after.live pc live n e);
+    entered = λ n e. h.entered n (ap (λ (s : List ℕ). has_number s n) (sym entered) ∙ e);
+    awaited = λ n a. of_awaited n a;
+    done = λ x at e. of_done x at (has_cases before.live after.live pc live x.pc e);
+  }
+    where
+      of_live : (n : ℕ) → (n ≡ pc) ⊎ (has_number before.live n ≡ true) → IsReached m listing n
+      of_live n (inl is) = subst (IsReached m listing) (sym is) reached
+      of_live n (inr e) = h.live n e
+
+      of_stack : (n : ℕ) → Contains before.stack.items n ⊎ (pc ≡ n) → has_number after.live n ≡ true
+      of_stack n (inl c) = live_on n (h.awaited n (inr c))
+      of_stack n (inr is) = ap (has_number after.live) (sym is) ∙ has_itself before.live after.live pc live
+
+      of_awaited : (n : ℕ) → IsAwaited now after n → has_number after.live n ≡ true
+      of_awaited n (inl e) = live_on n (h.awaited n (inl e))
+      of_awaited n (inr c) = of_stack n (Contains-push_cases before.stack.items pc n (subst (λ (s : List ℕ). Contains s n) stack c))
+
+      await_on : (n : ℕ) → IsAwaited now before n → IsAwaited now after n
+      await_on n (inl e) = inl e
+      await_on n (inr c) = inr (subst (λ (s : List ℕ). Contains s n) (sym stack) (Contains-append_left before.stack.items (pc ∷ []) n c))
+
+      of_before : (x : PlacedInstr) → IsAwaited now before x.pc ⊎ IsDone m before x → IsAwaited now after x.pc ⊎ IsDone m after x
+      of_before x (inl a) = inl (await_on x.pc a)
+      of_before x (inr d) = inr (done_on before after live_on entered_on m x d)
+
+      of_done : (x : PlacedInstr) → placed_at listing x.pc ≡ Some x → (x.pc ≡ pc) ⊎ (has_number before.live x.pc ≡ true) → IsAwaited now after x.pc ⊎ IsDone m after x
+      of_done x at (inl is) = inl (inr (subst (λ (n : ℕ). Contains after.stack.items n) (sym is) (subst (λ (s : List ℕ). Contains s pc) (sym stack) (Contains-push before.stack.items pc))))
+      of_done x at (inr e) = of_before x (h.done x at e)
+
+-- ---- a pc more that is entered
+
+module _ (before after : Followed) (pc : ℕ) (live : after.live ≡ before.live) (entered : (n : ℕ) → has_number after.entered n ≡ (n == pc || has_number before.entered n))
+    (stack : after.stack.items ≡ before.stack.items) where
+  same_live : (n : ℕ) → has_number before.live n ≡ true → has_number after.live n ≡ true
+  same_live n e = ap (λ (s : List ℕ). has_number s n) live ∙ e
+
+  more_entered : (n : ℕ) → has_number before.entered n ≡ true → has_number after.entered n ≡ true
+  more_entered = has_kept before.entered after.entered pc entered
+
+  pub entered_grown : Grown before after
+  entered_grown = record {
+    live = same_live;
+    entered = more_entered;
+    left = ap (λ (s : List ℕ). left_out s all_numbers + length after.stack.items) live ∙ ap (λ (s : List ℕ). left_out before.live all_numbers + length s) stack;
+  }
+
+  pub entered_followed : (m : Method) (listing : List PlacedInstr) (now : Option ℕ) → IsFound m listing pc → IsFollowed m listing now before → IsFollowed m listing now after
+  entered_followed m listing now found h = record {
+    first = same_live 0 h.first;
+    live = λ n e. h.live n (was_live n e);
+    entered = λ n e. of_entered n (has_cases before.entered after.entered pc entered n e);
+    awaited = λ n a. same_live n (h.awaited n (of_awaited n a));
+    done = λ x at e. of_before x (h.done x at (was_live x.pc e));
+  }
+    where
+      was_live : (n : ℕ) → has_number after.live n ≡ true → has_number before.live n ≡ true
+      was_live n e = ap (λ (s : List ℕ). has_number s n) (sym live) ∙ e
+
+      of_entered : (n : ℕ) → (n ≡ pc) ⊎ (has_number before.entered n ≡ true) → IsFound m listing n
+      of_entered n (inl is) = subst (IsFound m listing) (sym is) found
+      of_entered n (inr e) = h.entered n e
+
+      of_awaited : (n : ℕ) → IsAwaited now after n → IsAwaited now before n
+      of_awaited n (inl e) = inl e
+      of_awaited n (inr c) = inr (subst (λ (s : List ℕ). Contains s n) stack c)
+
+      await_on : (n : ℕ) → IsAwaited now before n → IsAwaited now after n
+      await_on n (inl e) = inl e
+      await_on n (inr c) = inr (subst (λ (s : List ℕ). Contains s n) (sym stack) c)
+
+      of_before : (x : PlacedInstr) → IsAwaited now before x.pc ⊎ IsDone m before x → IsAwaited now after x.pc ⊎ IsDone m after x
+      of_before x (inl a) = inl (await_on x.pc a)
+      of_before x (inr d) = inr (done_on before after same_live more_entered m x d)
+
+-- ---- one pc after the other
+
+-- control flow was followed from the pc that it was followed from
+pub is_done : (m : Method) (listing : List PlacedInstr) (pc : ℕ) (f : Followed) → ((x : PlacedInstr) → placed_at listing x.pc ≡ Some x → x.pc ≡ pc → IsDone m f x)
+    → IsFollowed m listing (Some pc) f → IsFollowed m listing None f
+is_done m listing pc f done h = record {
+  first = h.first;
+  live = h.live;
+  entered = h.entered;
+  awaited = λ n a. h.awaited n (of_awaited n a);
+  done = λ x at e. of_done x at (h.done x at e);
+}
+  where
+    of_awaited : (n : ℕ) → IsAwaited None f n → IsAwaited (Some pc) f n
+    of_awaited n (inl e) = absurd (none-some n e)
+    of_awaited n (inr c) = inr c
+
+    of_done : (x : PlacedInstr) → placed_at listing x.pc ≡ Some x → IsAwaited (Some pc) f x.pc ⊎ IsDone m f x → IsAwaited None f x.pc ⊎ IsDone m f x
+    of_done x at (inl (inl e)) = inr (done x at (sym (same_Some pc x.pc e)))
+    of_done x at (inl (inr c)) = inl (inr c)
+    of_done x at (inr d) = inr d
+
+-- control flow is followed from the pc that was put on the stack last
+module _ (before after : Followed) (pc : ℕ) (live : after.live ≡ before.live) (entered : after.entered ≡ before.entered) (stack : before.stack.items ≡ after.stack.items ++ pc ∷ []) where
+  pub taken_left : left_of after + 1 ≡ left_of before
+  taken_left =
+      let same = ap (λ (s : List ℕ). left_out s all_numbers) live in
+      let more = ap (λ (s : List ℕ). length s) stack ∙ length-append after.stack.items (pc ∷ []) in
+      omega (arith, same, more)
+
+  pub taken : (m : Method) (listing : List PlacedInstr) → IsFollowed m listing None before → IsFollowed m listing (Some pc) after
+  taken m listing h = record {
+    first = live_on 0 h.first;
+    live = λ n e. h.live n (was_live n e);
+    entered = λ n e. h.entered n (ap (λ (s : List ℕ). has_number s n) (sym entered) ∙ e);
+    awaited = λ n a. live_on n (h.awaited n (inr (of_awaited n a)));
+    done = λ x at e. of_before x (h.done x at (was_live x.pc e));
+  }
+    where
+      live_on : (n : ℕ) → has_number before.live n ≡ true → has_number after.live n ≡ true
+      live_on n e = ap (λ (s : List ℕ). has_number s n) live ∙ e
+
+      was_live : (n : ℕ) → has_number after.live n ≡ true → has_number before.live n ≡ true
+      was_live n e = ap (λ (s : List ℕ). has_number s n) (sym live) ∙ e
+
+      entered_on : (n : ℕ) → has_number before.entered n ≡ true → has_number after.entered n ≡ true
+      entered_on n e = ap (λ (s : List ℕ). has_number s n) entered ∙ e
+
+      of_awaited : (n : ℕ) → IsAwaited (Some pc) after n → Contains before.stack.items n
+      of_awaited n (inl e) = subst (λ (k : ℕ). Contains before.stack.items k) (same_Some pc n e) (subst (λ (s : List ℕ). Contains s pc) (sym stack) (Contains-push after.stack.items pc))
+      of_awaited n (inr c) = subst (λ (s : List ℕ). Contains s n) (sym stack) (Contains-append_left after.stack.items (pc ∷ []) n c)
+
+      on_stack : (n : ℕ) → Contains after.stack.items n ⊎ (pc ≡ n) → IsAwaited (Some pc) after n
+      on_stack n (inl c) = inr c
+      on_stack n (inr is) = inl (ap Some is)
+
+      await_on : (n : ℕ) → IsAwaited None before n → IsAwaited (Some pc) after n
+      await_on n (inl e) = absurd (none-some n e)
+      await_on n (inr c) = on_stack n (Contains-push_cases after.stack.items pc n (subst (λ (s : List ℕ). Contains s n) stack c))
+
+      of_before : (x : PlacedInstr) → IsAwaited None before x.pc ⊎ IsDone m before x → IsAwaited (Some pc) after x.pc ⊎ IsDone m after x
+      of_before x (inl a) = inl (await_on x.pc a)
+      of_before x (inr d) = inr (done_on before after live_on entered_on m x d)
+
+-- pc 0 is reached, and nothing else yet
+pub followed_first : (m : Method) (listing : List PlacedInstr) (none : List ℕ) (f : Followed) → ((n : ℕ) → has_number none n ≡ false) → ((n : ℕ) → has_number f.live n ≡ (n == 0 || has_number none n))
+    → ((n : ℕ) → has_number f.entered n ≡ false) → f.stack.items ≡ 0 ∷ [] → begins listing 0 ≡ true → IsFollowed m listing None f
+followed_first m listing none f empty puts nothing stack begin = record {
+  first = has_itself none f.live 0 puts;
+  live = λ n e. of_live n (only n e);
+  entered = λ n e. absurd (false_true (sym (nothing n) ∙ e));
+  awaited = λ n a. of_awaited n a;
+  done = λ x at e. inl (inr (subst (λ (n : ℕ). Contains f.stack.items n) (sym (only x.pc e)) (subst (λ (s : List ℕ). Contains s 0) (sym stack) (Contains-push [] 0))));
+}
+  where
+    false_true : false ≡ true → ⊥
+    false_true e = absurd cc
+
+    only : (n : ℕ) → has_number f.live n ≡ true → n ≡ 0
+    only n e = by (has_cases none f.live 0 puts n e)
+      where
+        by : (n ≡ 0) ⊎ (has_number none n ≡ true) → n ≡ 0
+        by (inl is) = is
+        by (inr h) = absurd (false_true (sym (empty n) ∙ h))
+
+    of_live : (n : ℕ) → n ≡ 0 → IsReached m listing n
+    of_live n is = subst (IsReached m listing) (sym is) (record { live = first; begin = begin })
+
+    on_stack : (n : ℕ) → Contains [] n ⊎ (0 ≡ n) → has_number f.live n ≡ true
+    on_stack n (inl c) = absurd (omega (arith, c.1))
+    on_stack n (inr is) = ap (has_number f.live) (sym is) ∙ has_itself none f.live 0 puts
+
+    of_awaited : (n : ℕ) → IsAwaited None f n → has_number f.live n ≡ true
+    of_awaited n (inl e) = absurd (none-some n e)
+    of_awaited n (inr c) = on_stack n (Contains-push_cases [] 0 n (subst (λ (s : List ℕ). Contains s n) stack c))
+
+-- ---- at the end
+
+module _ (m : Method) (listing : List PlacedInstr) (f : Followed) (h : IsFollowed m listing None f) (stack : f.stack.items ≡ []) where
+  all_done : (x : PlacedInstr) → placed_at listing x.pc ≡ Some x → has_number f.live x.pc ≡ true → IsDone m f x
+  all_done x at e = by (h.done x at e)
+    where
+      by : IsAwaited None f x.pc ⊎ IsDone m f x → IsDone m f x
+      by (inl (inl e)) = absurd (none-some x.pc e)
+      by (inl (inr c)) = let k = subst (λ (s : List ℕ). Contains s x.pc) stack c in absurd (omega (arith, k.1))
+      by (inr d) = d
+
+  all_live : {pc : ℕ} → IsLive m listing pc → has_number f.live pc ≡ true
+  all_live first = h.first
+  all_live (behind x at live falls) = (all_done x at (all_live live)).behind falls
+  all_live (by_branch x pc at live among) = ((all_done x at (all_live live)).branches (pos pc) among pc refl).live
+  all_live (by_handler x h at live among covered) = ((all_done x at (all_live live)).handlers h among covered).live
+
+  all_entered : {pc : ℕ} → IsEntered m listing pc → has_number f.entered pc ≡ true
+  all_entered (branched x pc at live among) = ((all_done x at (all_live live)).branches (pos pc) among pc refl).entered
+  all_entered (caught x h at live among covered) = ((all_done x at (all_live live)).handlers h among covered).entered
+
+  pub entries_found : AreEntries m listing f.entered
+  entries_found = record { entered = h.entered; all = λ pc e. all_entered e }

@@ -1,0 +1,66 @@
+-- Handlers and branches that are gone through, one after the other.
+use Rattle.std.proofs.Common.{◌≡◌, ◌⊎◌, inl, inr, ℕ, ◌+◌, ◌<◌, ◌≤◌, ℤ, pos, false, List, [], ◌∷◌, length, zero, suc, Some, sym, subst, ◌∙◌, ap, arith, slice_get}
+use Rattle.std.specs.List.{AllByRecursion, Contains}
+use Rattle.std.proofs.lemmas.Bool.{cases_eq}
+use Rattle.std.proofs.lemmas.Option.{none-some, same_Some, slice_get-get_or, slice_get_within, get_or_from_slice_get}
+use Rattle.jc_code.specs.Listing.{PlacedInstr, begins}
+use Rattle.jc_check.specs.Method.{Handler}
+use Rattle.jc_check.specs.declared.fault.WordFault.{WordFault}
+use Rattle.jc_check.specs.declared.fault.WordFault.TheVariants.{Refused, Memory}
+use Rattle.jc_verify.specs.PrivateLive.{Grown, IfRefusal, IsBranchIn, IsCaughtIn}
+use Rattle.jc_verify.specs.declared.entries.Followed.{Followed}
+use Rattle.jc_verify.proofs.Following.{grown_self, grown_through, held_on}
+
+pub contains_at : {A : Type 0} (xs : List A) (n : ℕ) (x : A) → slice_get xs n ≡ Some x → Contains xs x
+contains_at xs n x at = (n, slice_get_within xs n x at, get_or_from_slice_get xs n x x at)
+
+pub all_at : {A : Type 0} (P : A → Type 0) (xs : List A) (n : ℕ) (x : A) → slice_get xs n ≡ Some x → AllByRecursion P xs → P x
+all_at P [] n x at h = absurd (none-some x at)
+all_at P (y ∷ ys) zero x at h = subst P (same_Some y x at) h.0
+all_at P (y ∷ ys) (suc n) x at h = all_at P ys n x at h.1
+
+pub all_contained : {A : Type 0} (P : A → Type 0) (xs : List A) (x : A) → Contains xs x → AllByRecursion P xs → P x
+all_contained P xs x c h = all_at P xs c.0 x (slice_get-get_or xs c.0 x c.1 ∙ ap Some c.2) h
+
+pub if_refusal : (fault : WordFault) (P Q : Type 0) → IfRefusal fault P → (P → Q) → IfRefusal fault Q
+if_refusal (Refused pc reason) P Q h on = on h
+if_refusal Memory P Q h on = tt
+
+pub no_refusal : (fault : WordFault) (P : Type 0) → fault ≡ Memory → IfRefusal fault P
+no_refusal fault P e = subst (λ (f : WordFault). IfRefusal f P) (sym e) tt
+
+-- of these places the one with a number is no pc at which an instruction begins
+pub off_one : (places : List ℤ) (k : ℕ) → k < length places → (listing : List PlacedInstr) → ((p : ℕ) → slice_get places k ≡ Some (pos p) → begins listing p ≡ false)
+    → (place : ℤ) × Contains places place × ((p : ℕ) → place ≡ pos p → begins listing p ≡ false)
+off_one places k within listing none =
+    let at = slice_get-get_or places k (pos 0) within in
+    (_, contains_at places k _ at, λ p is. none p (at ∙ ap Some is))
+
+-- the first of these are met
+pub record ArePassed {A : Type 0} (holds : Followed → A → Type 0) (xs : List A) (k : ℕ) (start now : Followed) : Type 0 where
+  pub grown : Grown start now
+  pub met : (n : ℕ) (x : A) → n < k → slice_get xs n ≡ Some x → holds now x
+
+module _ {A : Type 0} (holds : Followed → A → Type 0) (xs : List A) where
+  pub passed_none : (f : Followed) → ArePassed holds xs 0 f f
+  passed_none f = record { grown = grown_self f; met = λ n x h. absurd (omega (arith, h)) }
+
+  pub passed_one : ((f g : Followed) → Grown f g → (x : A) → holds f x → holds g x) → (k : ℕ) (x : A) (start now next : Followed) → slice_get xs k ≡ Some x → ArePassed holds xs k start now → Grown now next
+      → holds next x → ArePassed holds xs (k + 1) start next
+  passed_one on k x start now next at passed grown met = record {
+    grown = grown_through start now next passed.grown grown;
+    met = λ n y h e. by n y h e (cases_eq n k);
+  }
+    where
+      by : (n : ℕ) (y : A) → n < k + 1 → slice_get xs n ≡ Some y → (n ≡ k) ⊎ (n ≡ k → ⊥) → holds next y
+      by n y h e (inl is) = subst (holds next) (same_Some x y (sym at ∙ ap (slice_get xs) (sym is) ∙ e)) met
+      by n y h e (inr apart) = on now next grown y (passed.met n y (omega (arith, h, apart)) e)
+
+  pub passed_all : (k : ℕ) (start now : Followed) → length xs ≤ k → ArePassed holds xs k start now → (x : A) → Contains xs x → holds now x
+  passed_all k start now past passed x c = passed.met c.0 x (omega (arith, past, c.1)) (slice_get-get_or xs c.0 x c.1 ∙ ap Some c.2)
+
+pub caught_on : (pc : ℕ) (f g : Followed) → Grown f g → (h : Handler) → IsCaughtIn f pc h → IsCaughtIn g pc h
+caught_on pc f g grown h held covered = held_on f g grown h.goes_on (held covered)
+
+pub branch_on : (f g : Followed) → Grown f g → (place : ℤ) → IsBranchIn f place → IsBranchIn g place
+branch_on f g grown place held pc is = held_on f g grown pc (held pc is)

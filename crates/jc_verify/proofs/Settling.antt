@@ -1,0 +1,246 @@
+-- What stays closed while places are raised, and what is left of them.
+use Rattle.std.proofs.Common.{◌≡◌, ◌≢◌, ◌⊎◌, inl, inr, ℕ, ℤ, zero, suc, ◌+◌, ◌<◌, ◌≤◌, true, false, List, [], ◌∷◌, length, Option, Some, None, slice_get, slice_set, refl, sym, ap, subst, ◌∙◌, arith}
+use Rattle.std.specs.List.{AllByRecursion}
+use Rattle.std.proofs.lemmas.Bool.{cases_eq}
+use Rattle.std.proofs.lemmas.Option.{none-some, same_Some, slice_get_within}
+use Rattle.jc_code.specs.Listing.{PlacedInstr}
+use Rattle.jc_code.specs.Targets.{targets_of}
+use Rattle.jc_check.specs.Method.{Handler, Method}
+use Rattle.jc_check.specs.Package.{package_rules}
+use Rattle.jc_check.specs.Typing.{BranchLeads, HandlerLeads, Leads}
+use Rattle.jc_link.specs.Linked.{Linked}
+use Rattle.jc_types.specs.State.{StateWithRoom, Types}
+use Rattle.jc_verify.specs.PrivateFlow.{AreShaped, Grown, HasLaws, HasShape, IsClosed, IsNumbered, IsVisited, Places, Risen, held_at, height_in, left_in, most_height, number_at, types_held, below_in, ends, meets, goes_on}
+use Rattle.jc_verify.specs.PrivatePlaces.{IsStep, left_of}
+use Rattle.jc_verify.specs.PrivateSettled.{IsFollowed, IsSettled, IsSwept, settled_place}
+use Rattle.jc_verify.specs.declared.place.Place.{Place}
+use Rattle.jc_verify.proofs.Arriving.{IsHeldBy, at_number, held_by, number_within, set_length, set_other, set_same}
+use Rattle.jc_verify.proofs.Growing.{grown_self, leads_on, risen_self, risen_through}
+use Rattle.jc_verify.proofs.Stepping.{left_falls, raised_falls, stands}
+
+all_on : {A : Type 0} (P Q : A → Type 0) → ((x : A) → P x → Q x) → (xs : List A) → AllByRecursion P xs → AllByRecursion Q xs
+all_on P Q on [] h = tt
+all_on P Q on (x ∷ xs) h = (on x h.0, all_on P Q on xs h.1)
+
+module _ (l : Linked) (laws : HasLaws l) (m : Method) (numbers : List (Option ℕ)) where
+  -- ---- what is closed stays closed
+
+  module _ (before after : Places) (g : Risen l m numbers before after) where
+    branch_on : (t : Types) (place : ℤ) → BranchLeads (package_rules l) (held_at numbers before) t place → BranchLeads (package_rules l) (held_at numbers after) t place
+    branch_on t place h = record { pc = h.pc; is = h.is; leads = leads_on l laws m numbers before after g t h.pc h.leads }
+
+    handler_on : (pc : ℕ) (t : Types) (h : Handler) → HandlerLeads (package_rules l) (held_at numbers before) pc t h → HandlerLeads (package_rules l) (held_at numbers after) pc t h
+    handler_on pc t h leads covers = let k = leads covers in record { class = k.class; catches = k.catches; leads = leads_on l laws m numbers before after g _ h.goes_on k.leads }
+
+    visited_on : (x : PlacedInstr) (s after_types : Types) → IsVisited (package_rules l) m (held_at numbers before) x s after_types → IsVisited (package_rules l) m (held_at numbers after) x s after_types
+    visited_on x s t v = record {
+      handled = all_on (HandlerLeads (package_rules l) (held_at numbers before) x.pc s) (HandlerLeads (package_rules l) (held_at numbers after) x.pc s) (handler_on x.pc s) m.handlers v.handled;
+      effect = v.effect;
+      branches = all_on (BranchLeads (package_rules l) (held_at numbers before) t) (BranchLeads (package_rules l) (held_at numbers after) t) (branch_on t) (targets_of x.pc x.instr.operation) v.branches;
+    }
+
+    pub closed_on : (pc : ℕ) (t : Types) → IsClosed (package_rules l) m numbers (held_at numbers before) pc t → IsClosed (package_rules l) m numbers (held_at numbers after) pc t
+    closed_on pc t (ends x s u decoded visited stops) = ends x s u decoded (visited_on x s u visited) stops
+    closed_on pc t (meets x s u decoded visited leads) = meets x s u decoded (visited_on x s u visited) (leads_on l laws m numbers before after g u x.instr.next_pc leads)
+    closed_on pc t (goes_on x s u decoded visited within none closed) = goes_on x s u decoded (visited_on x s u visited) within none (closed_on x.instr.next_pc u closed)
+
+  -- ---- a place is taken up
+
+  abbrev pub cleared : Places → ℕ → Place StateWithRoom → Places
+  cleared places number p = slice_set places number (settled_place p)
+
+  module _ (places : Places) (number : ℕ) (p : Place StateWithRoom) (at : slice_get places number ≡ Some p) where
+    here : slice_get (cleared places number p) number ≡ Some (settled_place p)
+    here = set_same places number (settled_place p) (slice_get_within places number p at)
+
+    -- what holds of a place by its pc and by what it holds
+    same_held : (P : ℕ → Option StateWithRoom → Type 0) (n : ℕ) (q : Place StateWithRoom) → slice_get (cleared places number p) n ≡ Some q
+        → ((r : Place StateWithRoom) → slice_get places n ≡ Some r → P r.pc r.held) → P q.pc q.held
+    same_held P n q e on = by_number (cases_eq n number)
+      where
+        by_number : (n ≡ number) ⊎ (n ≡ number → ⊥) → P q.pc q.held
+        by_number (inl is) =
+            let to_q : settled_place p ≡ q = same_Some (settled_place p) q (sym here ∙ ap (slice_get (cleared places number p)) (sym is) ∙ e) in
+            subst (λ (x : Place StateWithRoom). P x.pc x.held) to_q (on p (ap (slice_get places) is ∙ at))
+        by_number (inr other) = on q (sym (set_other places number n (settled_place p) other) ∙ e)
+
+    cleared_rises : (pc : ℕ) (t : Types) → held_at numbers places pc ≡ Some t → Leads (package_rules l) (held_at numbers (cleared places number p)) t pc
+    cleared_rises pc t e = by_number (cases_eq by.number number)
+      where
+        by : IsHeldBy l laws m numbers places pc t
+        by = held_by l laws m numbers places pc t e
+
+        of_place : (q : Place StateWithRoom) → slice_get (cleared places number p) by.number ≡ Some q → q.held ≡ by.place.held → Leads (package_rules l) (held_at numbers (cleared places number p)) t pc
+        of_place q f same = record {
+          state = t;
+          typed = at_number l laws m numbers (cleared places number p) pc by.number q by.numbered f ∙ ap (λ (o : Option StateWithRoom). types_held (record { pc = 0; held = o; changed = false })) (same ∙ by.held) ∙ ap Some by.types;
+          below = laws.itself t;
+        }
+
+        by_number : (by.number ≡ number) ⊎ (by.number ≡ number → ⊥) → Leads (package_rules l) (held_at numbers (cleared places number p)) t pc
+        by_number (inl is) =
+            let to_p : p ≡ by.place = same_Some p by.place (sym at ∙ ap (slice_get places) (sym is) ∙ by.stands) in
+            of_place (settled_place p) (ap (slice_get (cleared places number p)) is ∙ here) (ap (λ (x : Place StateWithRoom). x.held) to_p)
+        by_number (inr other) = of_place by.place (set_other places number by.number (settled_place p) other ∙ by.stands) refl
+
+    pub cleared_risen : Risen l m numbers places (cleared places number p)
+    cleared_risen = record {
+      rises = cleared_rises;
+      numbered = λ h. record {
+        within = λ pc n e. let k = h.within pc n e in omega (arith, k, set_length places number (settled_place p));
+        known = λ n q e. same_held (λ pc o. number_at numbers pc ≡ Some n) n q e (λ r f. h.known n r f);
+        found = λ pc n q e f. same_held (λ at o. at ≡ pc) n q f (λ r g. h.found pc n r e g);
+      };
+      shaped = λ h n q s e f. same_held (λ pc o. o ≡ Some s → HasShape m s.types) n q e (λ r g k. h n r s g k) f;
+    }
+
+    cleared_settled : IsSettled l m numbers places → (n : ℕ) (q : Place StateWithRoom) (t : Types) → (n ≡ number → ⊥) → slice_get (cleared places number p) n ≡ Some q → q.changed ≡ false → types_held q ≡ Some t
+        → IsClosed (package_rules l) m numbers (held_at numbers (cleared places number p)) q.pc t
+    cleared_settled h n q t other e unchanged held =
+        closed_on places (cleared places number p) cleared_risen q.pc t (h n q t (sym (set_other places number n (settled_place p) other) ∙ e) unchanged held)
+
+    same_left : (ps : Places) (n : ℕ) → slice_get ps n ≡ Some p → left_in l m (slice_set ps n (settled_place p)) ≡ left_in l m ps
+    same_left [] n e = refl
+    same_left (x ∷ ps) zero e = ap (λ (y : Place StateWithRoom). left_of (height_in l.world) (most_height m) y + left_in l m ps) (sym (same_Some x p e))
+    same_left (x ∷ ps) (suc n) e = ap (λ k. left_of (height_in l.world) (most_height m) x + k) (same_left ps n e)
+
+    -- ---- and followed
+
+    -- nothing was followed, as the place hadn't changed
+    pub not_followed : p.changed ≡ false → IsFollowed l m numbers number places places
+    not_followed unchanged = record {
+      risen = risen_self l laws m numbers places;
+      settled = λ h. h;
+      left = omega arith;
+      flags = λ n q e changed. inr (λ is. absurd (flag n q e changed is), q, e, changed);
+    }
+      where
+        flag : (n : ℕ) (q : Place StateWithRoom) → slice_get places n ≡ Some q → q.changed ≡ true → n ≡ number → ⊥
+        flag n q e changed is =
+            let to_q : p ≡ q = same_Some p q (sym at ∙ ap (slice_get places) (sym is) ∙ e) in
+            let t : true ≡ false = sym changed ∙ sym (ap (λ (x : Place StateWithRoom). x.changed) to_q) ∙ unchanged in
+            absurd cc
+
+    module _ (after : Places) (g : Grown l m numbers (cleared places number p) after)
+        (closed : (t : Types) → types_held p ≡ Some t → IsClosed (package_rules l) m numbers (held_at numbers after) p.pc t) where
+      -- a place that hasn't changed since is as it was
+      unchanged_since : (n : ℕ) (q : Place StateWithRoom) → slice_get after n ≡ Some q → q.changed ≡ false → slice_get (cleared places number p) n ≡ Some q
+      unchanged_since n q e unchanged = by_step (g.steps.each n before.0 q before.1 e)
+        where
+          before : (x : Place StateWithRoom) × (slice_get (cleared places number p) n ≡ Some x)
+          before = stands (below_in l.world) (height_in l.world) (most_height m) after (cleared places number p) (sym g.steps.len) n q e
+
+          by_step : IsStep (below_in l.world) (height_in l.world) (most_height m) before.0 q → slice_get (cleared places number p) n ≡ Some q
+          by_step (inl same) = before.1 ∙ ap Some (sym same)
+          by_step (inr raised) = let t : true ≡ false = sym raised.changed ∙ unchanged in absurd cc
+
+      followed_settled : IsSettled l m numbers places → IsSettled l m numbers after
+      followed_settled h n q t e unchanged held = by_number (cases_eq n number)
+        where
+          was : slice_get (cleared places number p) n ≡ Some q
+          was = unchanged_since n q e unchanged
+
+          by_number : (n ≡ number) ⊎ (n ≡ number → ⊥) → IsClosed (package_rules l) m numbers (held_at numbers after) q.pc t
+          by_number (inl is) =
+              let to_q : settled_place p ≡ q = same_Some (settled_place p) q (sym here ∙ ap (slice_get (cleared places number p)) (sym is) ∙ was) in
+              subst (λ (x : Place StateWithRoom). IsClosed (package_rules l) m numbers (held_at numbers after) x.pc t) to_q (closed t (ap types_held to_q ∙ held))
+          by_number (inr other) = closed_on (cleared places number p) after g.risen q.pc t (cleared_settled h n q t other was unchanged held)
+
+      left_after : left_in l m after ≤ left_in l m places
+      left_after =
+          let falls = left_falls (below_in l.world) (height_in l.world) (most_height m) (cleared places number p) after g.steps in
+          omega (arith, falls, same_left places number at)
+
+      followed_flags : (n : ℕ) (q : Place StateWithRoom) → slice_get after n ≡ Some q → q.changed ≡ true
+          → (left_in l m after < left_in l m places) ⊎ ((n ≢ number) × (r : Place StateWithRoom) × (slice_get places n ≡ Some r) × (r.changed ≡ true))
+      followed_flags n q e changed = by_step (g.steps.each n before.0 q before.1 e)
+        where
+          before : (x : Place StateWithRoom) × (slice_get (cleared places number p) n ≡ Some x)
+          before = stands (below_in l.world) (height_in l.world) (most_height m) after (cleared places number p) (sym g.steps.len) n q e
+
+          by_number : (q ≡ before.0) → (n ≡ number) ⊎ (n ≡ number → ⊥) → (left_in l m after < left_in l m places) ⊎ ((n ≢ number) × (r : Place StateWithRoom) × (slice_get places n ≡ Some r) × (r.changed ≡ true))
+          by_number same (inl is) =
+              let to_x : settled_place p ≡ before.0 = same_Some (settled_place p) before.0 (sym here ∙ ap (slice_get (cleared places number p)) (sym is) ∙ before.1) in
+              let t : true ≡ false = sym changed ∙ ap (λ (x : Place StateWithRoom). x.changed) (same ∙ sym to_x) in
+              absurd cc
+          by_number same (inr other) = inr (other, before.0, sym (set_other places number n (settled_place p) other) ∙ before.1, ap (λ (x : Place StateWithRoom). x.changed) (sym same) ∙ changed)
+
+          by_step : IsStep (below_in l.world) (height_in l.world) (most_height m) before.0 q → (left_in l m after < left_in l m places) ⊎ ((n ≢ number) × (r : Place StateWithRoom) × (slice_get places n ≡ Some r) × (r.changed ≡ true))
+          by_step (inl same) = by_number same (cases_eq n number)
+          by_step (inr raised) =
+              let falls = raised_falls (below_in l.world) (height_in l.world) (most_height m) (cleared places number p) after g.steps n before.0 q before.1 e raised in
+              inl (omega (arith, falls, same_left places number at))
+
+      pub followed : IsFollowed l m numbers number places after
+      followed = record {
+        risen = risen_through l laws m numbers places (cleared places number p) after cleared_risen g.risen;
+        settled = followed_settled;
+        left = left_after;
+        flags = followed_flags;
+      }
+
+  -- ---- one place after the other
+
+  pub swept_none : (places : Places) → IsSwept l m numbers 0 places places
+  swept_none places = record { risen = risen_self l laws m numbers places; settled = λ h. h; left = omega arith; flags = λ n p lt. absurd (omega (arith, lt)) }
+
+  pub swept_one : (k : ℕ) (start now next : Places) → IsSwept l m numbers k start now → IsFollowed l m numbers k now next → IsSwept l m numbers (k + 1) start next
+  swept_one k start now next s f = record {
+    risen = risen_through l laws m numbers start now next s.risen f.risen;
+    settled = λ h. f.settled (s.settled h);
+    left = omega (arith, s.left, f.left);
+    flags = λ n p lt e changed. by_flag n lt (f.flags n p e changed);
+  }
+    where
+      by_flag : (n : ℕ) → n < k + 1 → (left_in l m next < left_in l m now) ⊎ ((n ≢ k) × (q : Place StateWithRoom) × (slice_get now n ≡ Some q) × (q.changed ≡ true)) → left_in l m next < left_in l m start
+      by_flag n lt (inl falls) = omega (arith, falls, s.left)
+      by_flag n lt (inr (other, q, e, changed)) = let lower = s.flags n q (by_case (cases_eq n k)) e changed in omega (arith, lower, f.left)
+        where
+          by_case : (n ≡ k) ⊎ (n ≡ k → ⊥) → n < k
+          by_case (inl is) = absurd (other is)
+          by_case (inr apart) = omega (arith, lt, apart)
+
+  -- ---- what taking up a place leaves
+
+  module _ (places : Places) (number : ℕ) (p q : Place StateWithRoom) (at : slice_get places number ≡ Some p) where
+    -- nothing was put there
+    put_back : (ps : Places) (n : ℕ) → slice_get ps n ≡ Some p → slice_set ps n p ≡ ps
+    put_back [] n e = refl
+    put_back (x ∷ ps) zero e = ap (λ y. y ∷ ps) (sym (same_Some x p e))
+    put_back (x ∷ ps) (suc n) e = ap (λ ys. x ∷ ys) (put_back ps n e)
+
+    pub none_taken : (q ≡ p × (p.changed ≡ false)) ⊎ (q ≡ settled_place p × (types_held p ≡ None)) → IsFollowed l m numbers number places (slice_set places number q)
+    none_taken (inl (same, unchanged)) =
+        subst (λ ps. IsFollowed l m numbers number places ps) (sym (ap (slice_set places number) same ∙ put_back places number at)) (not_followed places number p at unchanged)
+    none_taken (inr (same, none)) =
+        subst (λ x. IsFollowed l m numbers number places (slice_set places number x)) (sym same)
+        (followed places number p at (cleared places number p) (grown_self l laws m numbers (cleared places number p)) (λ t e. absurd (none-some t (sym none ∙ e))))
+
+    pub one_taken : (start : ℕ) (s : Types) (after : Places) → p.pc ≡ start → q ≡ settled_place p → types_held p ≡ Some s → Grown l m numbers (slice_set places number q) after
+        → ((final : Places) → Risen l m numbers after final → IsClosed (package_rules l) m numbers (held_at numbers final) start s) → IsFollowed l m numbers number places after
+    one_taken start s after pc same held g closed =
+        followed places number p at after (subst (λ x. Grown l m numbers (slice_set places number x) after) same g)
+        (λ t e. subst (λ u. IsClosed (package_rules l) m numbers (held_at numbers after) p.pc u) (same_Some s t (sym held ∙ e))
+        (subst (λ n. IsClosed (package_rules l) m numbers (held_at numbers after) n s) (sym pc) (closed after (risen_self l laws m numbers after))))
+
+  -- a place stands within the code
+  pub within_code : (places : Places) (number : ℕ) (p : Place StateWithRoom) → IsNumbered numbers places → length numbers ≡ length m.code → slice_get places number ≡ Some p → p.pc < length m.code
+  within_code places number p h sized at = let k = number_within numbers p.pc number (h.known number p at) in omega (arith, k, sized)
+
+  -- ---- where nothing was held before
+
+  module _ (before after : Places) (empty : (n : ℕ) (p : Place StateWithRoom) → slice_get before n ≡ Some p → p.held ≡ None) where
+    pub settled_first : Grown l m numbers before after → IsSettled l m numbers after
+    settled_first g n q t e unchanged held = by_step (g.steps.each n was.0 q was.1 e)
+      where
+        was : (x : Place StateWithRoom) × (slice_get before n ≡ Some x)
+        was = stands (below_in l.world) (height_in l.world) (most_height m) after before (sym g.steps.len) n q e
+
+        by_step : IsStep (below_in l.world) (height_in l.world) (most_height m) was.0 q → IsClosed (package_rules l) m numbers (held_at numbers after) q.pc t
+        by_step (inl same) =
+            let none : q.held ≡ None = ap (λ (x : Place StateWithRoom). x.held) same ∙ empty n was.0 was.1 in
+            absurd (none-some t (sym (ap (λ (o : Option StateWithRoom). types_held (record { pc = 0; held = o; changed = false })) none) ∙ held))
+        by_step (inr raised) = let u : true ≡ false = sym raised.changed ∙ unchanged in absurd cc
+
+    pub shaped_first : AreShaped m before
+    shaped_first n p s e held = absurd (none-some s (sym (empty n p e) ∙ held))

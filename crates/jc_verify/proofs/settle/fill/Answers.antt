@@ -1,0 +1,25 @@
+use Rattle.jc_verify.proofs.Growing.{risen_through}
+use Rattle.jc_verify.proofs.Settling.{settled_first, shaped_first}
+use Rattle.jc_verify.proofs.Visiting.{if_ok_both}
+use Rattle.jc_verify.proofs.settle.fill.Goals as goal
+
+pub settle-requires-clause-settled : goal.settle-requires-clause-settled
+settle-requires-clause-settled c = settled_first c.args.flow.now.linked.now c.requires.laws c.args.flow.now.method.now c.args.flow.now.numbers.now c.args.places.now c.enter.new.places c.requires.empty c.in_ok-enter.ensures.grown
+
+pub returns : goal.returns
+returns c =
+    let l = c.args.flow.now.linked.now in
+    let m = c.args.flow.now.method.now in
+    let numbers = c.args.flow.now.numbers.now in
+    let through = risen_through l c.requires.laws m numbers c.args.places.now c.enter.new.places c.settle.new.places c.in_ok-enter.ensures.grown.risen in
+    let blank = shaped_first l c.requires.laws m numbers c.args.places.now c.enter.new.places c.requires.empty in
+    record {
+      filled =
+          if_ok_both c.settle.result _ _ _ c.settle.ensures.risen c.settle.ensures.closed (λ u risen closed. record {
+            risen = through risen;
+            numbered = (through risen).numbered c.requires.numbered;
+            shaped = (through risen).shaped blank;
+            entry = c.in_ok-enter.ensures.entered c.settle.new.places risen;
+            closed = closed;
+          });
+    }

@@ -1,0 +1,29 @@
+use Rattle.std.proofs.lemmas.Option.{slice_get_within}
+use Rattle.jc_verify.proofs.Growing.{risen_self, risen_through}
+use Rattle.jc_verify.proofs.settle.settle.Goals as goal
+
+pub loop-places-init : goal.loop-places-init
+loop-places-init c = record {
+  risen = risen_self c.args.flow.now.linked.now c.requires.laws c.args.flow.now.method.now c.args.flow.now.numbers.now c.args.places.now;
+  settled = c.requires.settled;
+  caught = c.requires.caught;
+  room = c.requires.room;
+}
+
+pub returns-then-not-has_changed-clause-risen : goal.returns-then-not-has_changed-clause-risen
+returns-then-not-has_changed-clause-risen c =
+    risen_through c.args.flow.now.linked.now c.requires.laws c.args.flow.now.method.now c.args.flow.now.numbers.now c.args.places.now c.loop-places.places c.sweep.new.places c.loop-places.invariant.risen c.in_ok-sweep.ensures.swept.risen
+
+pub loop-places-smaller : goal.loop-places-smaller
+loop-places-smaller c =
+    let changed = c.has_changed.ensures.some c.if-not-has_changed.false in
+    c.in_ok-sweep.ensures.swept.flags changed.0 changed.1 (slice_get_within c.sweep.new.places changed.0 changed.1 changed.2) changed.2 changed.3
+
+pub loop-places-preserved : goal.loop-places-preserved
+loop-places-preserved c = record {
+  risen =
+      risen_through c.args.flow.now.linked.now c.requires.laws c.args.flow.now.method.now c.args.flow.now.numbers.now c.args.places.now c.loop-places.places c.sweep.new.places c.loop-places.invariant.risen c.in_ok-sweep.ensures.swept.risen;
+  settled = c.in_ok-sweep.ensures.swept.settled c.loop-places.invariant.settled;
+  caught = c.in_ok-sweep.ensures.caught;
+  room = c.in_ok-sweep.ensures.room;
+}

@@ -1,0 +1,14 @@
+use Rattle.jc_verify.specs.PrivateFlow.{HasRoom, Risen, left_in}
+use Rattle.jc_verify.specs.PrivateSettled.{IsSettled}
+use Rattle.jc_verify.proofs.settle.settle.Given as goal
+
+abbrev pub invariant-loop-places : goal.invariant-loop-places
+invariant-loop-places l = record {
+  risen : Risen l.flow.linked.now l.flow.method.now l.flow.numbers.now l.fn.places l.places;
+  settled : IsSettled l.flow.linked.now l.flow.method.now l.flow.numbers.now l.places;
+  caught : HasRoom l.flow.method.now l.caught;
+  room : HasRoom l.flow.method.now l.state;
+}
+
+abbrev pub decreases-loop-places : goal.decreases-loop-places
+decreases-loop-places l = left_in l.flow.linked.now l.flow.method.now l.places

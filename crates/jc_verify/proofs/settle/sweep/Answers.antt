@@ -1,0 +1,16 @@
+use Rattle.jc_verify.proofs.Settling.{swept_none, swept_one}
+use Rattle.jc_verify.proofs.settle.sweep.Goals as goal
+
+pub loop-number-init : goal.loop-number-init
+loop-number-init c = record {
+  swept = swept_none c.args.flow.now.linked.now c.requires.laws c.args.flow.now.method.now c.args.flow.now.numbers.now c.args.places.now;
+  caught = c.requires.caught;
+  room = c.requires.room;
+}
+
+pub loop-number-preserved : goal.loop-number-preserved
+loop-number-preserved c = record {
+  swept = swept_one c.args.flow.now.linked.now c.requires.laws c.args.flow.now.method.now c.args.flow.now.numbers.now c.loop-number.number c.args.places.now c.loop-number.places c.follow_place.new.places c.loop-number.invariant.swept c.in_ok-follow_place.ensures.followed;
+  caught = c.in_ok-follow_place.ensures.caught;
+  room = c.in_ok-follow_place.ensures.room;
+}

@@ -1,0 +1,10 @@
+use Rattle.std.proofs.Common.{◌≡◌, Some, length, take}
+use Rattle.jc_check.specs.Claim.{types_claimed}
+use Rattle.jc_check.specs.Package.{class_of_name}
+use Rattle.jc_verify.proofs.spelling.stated_types.Given as goal
+
+abbrev pub invariant-loop-index : goal.invariant-loop-index
+invariant-loop-index l = record {
+  claimed : types_claimed (class_of_name l.table) l.stated.items ≡ Some (take l.index l.types);
+  len : length l.stated.items ≡ l.index;
+}

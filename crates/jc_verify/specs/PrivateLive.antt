@@ -1,0 +1,101 @@
+-- Private. What is known while control flow is followed through a method, to find where it enters.
+use Rattle.std.specs.Prelude.{◌≡◌, ◌⊎◌, ⊤, ℕ, ℤ, zero, suc, ◌+◌, ◌<◌, ◌≤◌, ◌^◌, true, false, pos, List, length, Option, Some, Contains, if◌then◌else◌}
+use Rattle.std.specs.List.{AllByRecursion}
+use Rattle.jc_base.specs.NumberSet.{has_number}
+use Rattle.jc_code.specs.Instructions.{instr_at}
+use Rattle.jc_code.specs.Listing.{IsListing, ListingLaws, PlacedInstr, begins, placed_at}
+use Rattle.jc_code.specs.Targets.{targets_of, falls_of}
+use Rattle.jc_check.specs.Carried.{HandlerStands}
+use Rattle.jc_check.specs.Method.{Handler, Method, covers}
+use Rattle.jc_check.specs.declared.fault.WordFault.{WordFault}
+use Rattle.jc_check.specs.declared.fault.WordFault.TheVariants.{Refused, Memory}
+use Rattle.jc_verify.specs.Live.{IsEntered, IsLive}
+use Rattle.jc_verify.specs.declared.entries.Followed.{Followed}
+
+-- code that decodes, with the set of the pcs at which its instructions begin
+pub record IsDecoded (code : List ℕ) (listing : List PlacedInstr) (starts : List ℕ) : Type 0 where
+  pub whole : IsListing instr_at code listing
+  pub each : (pc : ℕ) → has_number starts pc ≡ begins listing pc
+
+-- a method whose code decodes, and whose handlers stand
+pub record IsGround (m : Method) (listing : List PlacedInstr) (starts : List ℕ) : Type 0 where
+  pub laws : ListingLaws instr_at
+  pub short : length m.code < 2 ^ 16
+  pub decoded : IsDecoded m.code listing starts
+  pub handlers : AllByRecursion (HandlerStands listing) m.handlers
+
+-- how many numbers below this one aren't in a set
+abbrev pub left_out : List ℕ → ℕ → ℕ
+left_out numbers zero = 0
+left_out numbers (suc n) = (if has_number numbers n then 0 else 1) + left_out numbers n
+
+-- how many numbers a set may have
+unfoldable pub all_numbers : ℕ
+all_numbers = 65_536
+
+-- how many pcs may still be followed from
+abbrev pub left_of : Followed → ℕ
+left_of f = left_out f.live all_numbers + length f.stack.items
+
+-- a pc is entered, and so it is reached
+pub record IsHeld (f : Followed) (pc : ℕ) : Type 0 where
+  pub live : has_number f.live pc ≡ true
+  pub entered : has_number f.entered pc ≡ true
+
+-- each pc stays in its sets, and as many are left
+pub record Grown (before after : Followed) : Type 0 where
+  pub live : (pc : ℕ) → has_number before.live pc ≡ true → has_number after.live pc ≡ true
+  pub entered : (pc : ℕ) → has_number before.entered pc ≡ true → has_number after.entered pc ≡ true
+  pub left : left_of after ≡ left_of before
+
+-- a handler that covers a pc goes on where control flow enters
+abbrev pub IsCaughtIn : Followed → ℕ → Handler → Type 0
+IsCaughtIn f pc h = covers h pc ≡ true → IsHeld f h.goes_on
+
+-- a place that is a pc is entered
+abbrev pub IsBranchIn : Followed → ℤ → Type 0
+IsBranchIn f place = (pc : ℕ) → place ≡ pos pc → IsHeld f pc
+
+-- control flow was followed from an instruction
+pub record IsDone (m : Method) (f : Followed) (x : PlacedInstr) : Type 0 where
+  pub handlers : (h : Handler) → Contains m.handlers h → IsCaughtIn f x.pc h
+  pub branches : (place : ℤ) → Contains (targets_of x.pc x.instr.operation) place → IsBranchIn f place
+  pub behind : falls_of x.instr.operation ≡ true → has_number f.live x.instr.next_pc ≡ true
+
+-- control flow is followed from a pc now, or has to be later
+abbrev pub IsAwaited : Option ℕ → Followed → ℕ → Type 0
+IsAwaited now f pc = (now ≡ Some pc) ⊎ Contains f.stack.items pc
+
+-- an instruction begins at a pc that is reached
+pub record IsReached (m : Method) (listing : List PlacedInstr) (pc : ℕ) : Type 0 where
+  pub live : IsLive m listing pc
+  pub begin : begins listing pc ≡ true
+
+-- an instruction begins at a pc that is entered
+pub record IsFound (m : Method) (listing : List PlacedInstr) (pc : ℕ) : Type 0 where
+  pub entered : IsEntered m listing pc
+  pub begin : begins listing pc ≡ true
+
+-- control flow was followed from pc 0: what is in the sets is reached and entered, and from each pc that is reached it was followed, or has to be yet
+pub record IsFollowed (m : Method) (listing : List PlacedInstr) (now : Option ℕ) (f : Followed) : Type 0 where
+  pub first : has_number f.live 0 ≡ true
+  pub live : (pc : ℕ) → has_number f.live pc ≡ true → IsReached m listing pc
+  pub entered : (pc : ℕ) → has_number f.entered pc ≡ true → IsFound m listing pc
+  pub awaited : (pc : ℕ) → IsAwaited now f pc → has_number f.live pc ≡ true
+  pub done : (x : PlacedInstr) → placed_at listing x.pc ≡ Some x → has_number f.live x.pc ≡ true → IsAwaited now f x.pc ⊎ IsDone m f x
+
+-- these are the pcs that control flow enters, and instructions begin there
+pub record AreEntries (m : Method) (listing : List PlacedInstr) (entries : List ℕ) : Type 0 where
+  pub entered : (pc : ℕ) → has_number entries pc ≡ true → IsFound m listing pc
+  pub all : (pc : ℕ) → IsEntered m listing pc → has_number entries pc ≡ true
+
+-- an instruction that is reached leads where none begins
+pub data IsAstray (m : Method) (listing : List PlacedInstr) : Type 0 where
+  branches_off : (x : PlacedInstr) (place : ℤ) → placed_at listing x.pc ≡ Some x → IsLive m listing x.pc → Contains (targets_of x.pc x.instr.operation) place
+      → ((pc : ℕ) → place ≡ pos pc → begins listing pc ≡ false) → IsAstray m listing
+  falls_off : (x : PlacedInstr) → placed_at listing x.pc ≡ Some x → IsLive m listing x.pc → falls_of x.instr.operation ≡ true → length m.code ≤ x.instr.next_pc → IsAstray m listing
+
+-- it holds where something is refused
+abbrev pub IfRefusal : WordFault → Type 0 → Type 0
+IfRefusal (Refused pc reason) holds = holds
+IfRefusal Memory holds = ⊤

@@ -1,0 +1,61 @@
+-- Private. What is known of the places of a method while control flow is followed from those that have changed.
+use Rattle.jc_base.specs.NumberSet.{has_number}
+use Rattle.std.specs.Prelude.{◌≡◌, ◌≢◌, ◌⊎◌, ℕ, ◌<◌, ◌≤◌, Bool, true, false, List, length, Option, Some, None, slice_get}
+use Rattle.jc_link.specs.Linked.{Linked}
+use Rattle.jc_types.specs.State.{StateWithRoom, Types}
+use Rattle.jc_check.specs.Method.{Method, entry_of}
+use Rattle.jc_check.specs.Package.{package_rules}
+use Rattle.jc_verify.specs.PrivateFlow.{AreShaped, ClosedIf, FallsIf, IsClosed, IsNumbered, Places, Risen, held_at, left_in, types_held}
+use Rattle.jc_verify.specs.declared.place.Place.{Place}
+
+-- from each place that hasn't changed since, control flow was followed
+abbrev pub IsSettled : Linked → Method → List (Option ℕ) → Places → Type 0
+IsSettled l m numbers places =
+    (n : ℕ) (p : Place StateWithRoom) (t : Types) → slice_get places n ≡ Some p → p.changed ≡ false → types_held p ≡ Some t
+    → IsClosed (package_rules l) m numbers (held_at numbers places) p.pc t
+
+-- from each place that holds types control flow was followed
+abbrev pub AreAllClosed : Linked → Method → List (Option ℕ) → Places → Type 0
+AreAllClosed l m numbers places =
+    (n : ℕ) (p : Place StateWithRoom) (t : Types) → slice_get places n ≡ Some p → types_held p ≡ Some t → IsClosed (package_rules l) m numbers (held_at numbers places) p.pc t
+
+-- the entry state met the place at pc 0, or control flow was followed from there
+pub record IsEntryMet (l : Linked) (m : Method) (numbers : List (Option ℕ)) (places : Places) : Type 0 where
+  pub on : Bool
+  pub falls : FallsIf on (package_rules l) m numbers (held_at numbers places) 0 (entry_of m)
+  pub closed : ClosedIf on (package_rules l) m numbers (held_at numbers places) 0 (entry_of m)
+
+-- a place that counts as unchanged
+abbrev pub settled_place : Place StateWithRoom → Place StateWithRoom
+settled_place p = record { pc = p.pc; held = p.held; changed = false }
+
+-- control flow was followed from the place of a number: what has changed is another place that had before, or it lets what is left fall
+pub record IsFollowed (l : Linked) (m : Method) (numbers : List (Option ℕ)) (number : ℕ) (before after : Places) : Type 0 where
+  pub risen : Risen l m numbers before after
+  pub settled : IsSettled l m numbers before → IsSettled l m numbers after
+  pub left : left_in l m after ≤ left_in l m before
+  pub flags : (n : ℕ) (p : Place StateWithRoom) → slice_get after n ≡ Some p → p.changed ≡ true
+      → (left_in l m after < left_in l m before) ⊎ ((n ≢ number) × (q : Place StateWithRoom) × (slice_get before n ≡ Some q) × (q.changed ≡ true))
+
+-- control flow was followed from the first places that had changed
+pub record IsSwept (l : Linked) (m : Method) (numbers : List (Option ℕ)) (count : ℕ) (before after : Places) : Type 0 where
+  pub risen : Risen l m numbers before after
+  pub settled : IsSettled l m numbers before → IsSettled l m numbers after
+  pub left : left_in l m after ≤ left_in l m before
+  pub flags : (n : ℕ) (p : Place StateWithRoom) → n < count → slice_get after n ≡ Some p → p.changed ≡ true → left_in l m after < left_in l m before
+
+-- the places at the pcs of a set below this one are numbered
+pub record AreNumbered (entries : List ℕ) (pc : ℕ) (numbers : List (Option ℕ)) (places : Places) : Type 0 where
+  pub sized : length numbers ≡ pc
+  pub few : length places ≤ pc
+  pub numbered : IsNumbered numbers places
+  pub empty : (k : ℕ) (p : Place StateWithRoom) → slice_get places k ≡ Some p → p.held ≡ None
+  pub entered : (k : ℕ) (p : Place StateWithRoom) → slice_get places k ≡ Some p → has_number entries p.pc ≡ true
+
+-- control flow was followed from the entry, and from each place that holds types
+pub record IsFilled (l : Linked) (m : Method) (numbers : List (Option ℕ)) (before after : Places) : Type 0 where
+  pub risen : Risen l m numbers before after
+  pub numbered : IsNumbered numbers after
+  pub shaped : AreShaped m after
+  pub entry : IsEntryMet l m numbers after
+  pub closed : AreAllClosed l m numbers after

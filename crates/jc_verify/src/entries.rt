@@ -1,0 +1,331 @@
+//! Where control flow enters a method, by branches and by handlers.
+
+ghost use Rattle.std.specs.Prelude.{◌≡◌, ◌≢◌, ◌<◌, ◌≤◌, ◌^◌, [], ℕ, ℤ, pos, List, Ok, Some, None, true, false, Contains, length, slice_get, IfOk, IfErr};
+ghost use Rattle.std.specs.List.{AllByRecursion};
+ghost use Rattle.jc_base.specs.NumberSet.{has_number};
+ghost use Rattle.jc_base.specs.declared.reason.Reason.{Reason};
+ghost use Rattle.jc_cert.specs.Cert.{Stated};
+ghost use Rattle.jc_code.specs.Instructions.{instr_at};
+ghost use Rattle.jc_code.specs.Listing.{IsListing, PlacedInstr, StopsAt, begins, placed_at};
+ghost use Rattle.jc_code.specs.Targets.{falls_of, targets_of};
+ghost use Rattle.jc_code.specs.declared.fault.CodeFault.{CodeFault};
+ghost use Rattle.jc_check.specs.Rules.{Rules};
+ghost use Rattle.jc_check.specs.Carried.{Carries, HandlerStands};
+ghost use Rattle.jc_check.specs.FirstFault.{reason_of};
+ghost use Rattle.jc_check.specs.Method.{covers};
+ghost use Rattle.jc_check.specs.Method as methods;
+ghost use Rattle.jc_check.specs.declared.fault.WordFault.TheVariants.{Memory, Refused};
+ghost use Rattle.jc_verify.specs.Live.{IsEntered};
+ghost use Rattle.jc_verify.specs.PrivateFlow.{placed};
+ghost use Rattle.jc_verify.specs.PrivateLive.{AreEntries, Grown, IfRefusal, IsAstray, IsBranchIn, IsCaughtIn, IsDecoded, IsFollowed, IsFound, IsGround, IsHeld, IsReached, left_of};
+
+use jc_base::{NumberSet, Reason};
+use jc_check::{Fault, Handler, Method, WordFault};
+use jc_code::{CodeFault, Instr, Targets, decode, listing_laws};
+use std::alloc::Global;
+
+fn reason_for(fault: CodeFault) -> Reason
+    ensures { result ≡ reason_of fault }
+{
+    match fault {
+        CodeFault::BadOpcode => Reason::BadOpcode,
+        CodeFault::BadOperand => Reason::BadOperand,
+        CodeFault::CutShort => Reason::CutShort,
+    }
+}
+
+/// Decodes code from its first byte on, for the pcs at which instructions begin.
+fn starts_of(code: &[u8]) -> Result<NumberSet, Fault>
+    requires short { length code.now < 2 ^ 16 }
+    ensures ok { IfOk result (λ starts. (listing : List PlacedInstr) × IsDecoded code.now listing starts) }
+    ensures err { IfErr result (λ fault. (why : CodeFault) × StopsAt instr_at code.now fault.pc why × (fault.reason ≡ reason_of why)) }
+{
+    listing_laws();
+    let mut starts = NumberSet::empty();
+    let mut pc = 0;
+    while pc < code.len() {
+        match decode(code, pc) {
+            Ok(instr) => {
+                starts.insert(pc as u16);
+                pc = instr.next_pc;
+            }
+            Err(fault) => {
+                return Err(Fault {
+                    pc: pc as u16,
+                    reason: reason_for(fault),
+                });
+            }
+        }
+    }
+    Ok(starts)
+}
+
+/// A handler goes on where an instruction begins, and catches a class.
+fn stand_handler(starts: &NumberSet, handler: &Handler) -> Result<(), Fault>
+    ensures ok { IfOk result (λ u. (code : List ℕ) (listing : List PlacedInstr) → IsDecoded code listing starts.now → HandlerStands listing handler.now) }
+    ensures err { IfErr result (λ fault. (code : List ℕ) (listing : List PlacedInstr) → IsDecoded code listing starts.now → HandlerStands listing handler.now → ⊥) }
+{
+    if !starts.contains(handler.goes_on) {
+        return Err(Fault {
+            pc: handler.goes_on,
+            reason: Reason::NoTarget,
+        });
+    }
+    match handler.caught {
+        Some(_) => Ok(()),
+        None => Err(Fault {
+            pc: handler.goes_on,
+            reason: Reason::WrongType,
+        }),
+    }
+}
+
+/// Each handler in turn.
+fn stand_handlers(starts: &NumberSet, handlers: &[Handler]) -> Result<(), Fault>
+    ensures ok { IfOk result (λ u. (code : List ℕ) (listing : List PlacedInstr) → IsDecoded code listing starts.now → AllByRecursion (HandlerStands listing) handlers.now) }
+    ensures err { IfErr result (λ fault. (code : List ℕ) (listing : List PlacedInstr) → IsDecoded code listing starts.now → AllByRecursion (HandlerStands listing) handlers.now → ⊥) }
+{
+    for index in 0..handlers.len() {
+        stand_handler(starts, &handlers[index])?;
+    }
+    Ok(())
+}
+
+/// What is known while control flow is followed: the pcs that it reaches, those that it enters, and those that it has still to be
+/// followed from.
+#[derive(Drop)]
+pub(crate) struct Followed {
+    pub(crate) live: NumberSet,
+    pub(crate) entered: NumberSet,
+    pub(crate) stack: Vec<u16>,
+}
+
+/// A pc is reached: control flow has to be followed from there, unless it was reached before.
+fn reach(followed: &mut Followed, pc: u16) -> Result<(), WordFault>
+    ensures live { IfOk result (λ u. has_number followed.new.live pc ≡ true) }
+    ensures same { IfOk result (λ u. followed.new.entered ≡ followed.old.entered) }
+    ensures grown { IfOk result (λ u. Grown followed.old followed.new) }
+    ensures followed { IfOk result (λ u. (m : methods.Method) (listing : List PlacedInstr) (now : ℕ) → IsReached m listing pc
+        → IsFollowed m listing (Some now) followed.old → IsFollowed m listing (Some now) followed.new) }
+    ensures memory { IfErr result (λ fault. fault ≡ Memory) }
+{
+    if followed.live.contains(pc) {
+        return Ok(());
+    }
+    followed.live.insert(pc);
+    followed.stack.push(pc)?;
+    Ok(())
+}
+
+/// A pc is entered.
+fn enter(followed: &mut Followed, pc: u16) -> Result<(), WordFault>
+    ensures held { IfOk result (λ u. IsHeld followed.new pc) }
+    ensures grown { IfOk result (λ u. Grown followed.old followed.new) }
+    ensures followed { IfOk result (λ u. (m : methods.Method) (listing : List PlacedInstr) (now : ℕ) → IsFound m listing pc
+        → IsFollowed m listing (Some now) followed.old → IsFollowed m listing (Some now) followed.new) }
+    ensures memory { IfErr result (λ fault. fault ≡ Memory) }
+{
+    followed.entered.insert(pc);
+    reach(followed, pc)
+}
+
+/// A handler at an instruction: where it covers it, the pc at which it goes on is entered.
+#[tactic(auto, using(crate::proofs::Following::grown_self))]
+fn handle(followed: &mut Followed, pc: u16, handler: &Handler) -> Result<(), WordFault>
+    ensures met { IfOk result (λ u. IsCaughtIn followed.new pc handler.now) }
+    ensures grown { IfOk result (λ u. Grown followed.old followed.new) }
+    ensures followed { IfOk result (λ u. (m : methods.Method) (listing : List PlacedInstr) (now : ℕ) → (covers handler.now pc ≡ true → IsFound m listing handler.now.goes_on)
+        → IsFollowed m listing (Some now) followed.old → IsFollowed m listing (Some now) followed.new) }
+    ensures memory { IfErr result (λ fault. fault ≡ Memory) }
+{
+    if !handler.covers(pc) {
+        return Ok(());
+    }
+    enter(followed, handler.goes_on)
+}
+
+/// Each handler in turn.
+fn handle_all(followed: &mut Followed, handlers: &[Handler], pc: u16) -> Result<(), WordFault>
+    ensures met { IfOk result (λ u. (h : methods.Handler) → Contains handlers.now h → IsCaughtIn followed.new pc h) }
+    ensures grown { IfOk result (λ u. Grown followed.old followed.new) }
+    ensures followed { IfOk result (λ u. (m : methods.Method) (listing : List PlacedInstr) (now : ℕ) → ((h : methods.Handler) → Contains handlers.now h → covers h pc ≡ true → IsFound m listing h.goes_on)
+        → IsFollowed m listing (Some now) followed.old → IsFollowed m listing (Some now) followed.new) }
+    ensures memory { IfErr result (λ fault. fault ≡ Memory) }
+{
+    for index in 0..handlers.len() {
+        handle(followed, pc, &handlers[index])?;
+    }
+    Ok(())
+}
+
+/// Whether an instruction begins at a pc.
+fn begins_at(starts: &NumberSet, pc: usize) -> bool
+    ensures within { result ≡ true → pc < 2 ^ 16 }
+    ensures begins { (m : methods.Method) (listing : List PlacedInstr) → IsGround m listing starts.now → result ≡ begins listing pc }
+{
+    pc <= usize::from(u16::MAX) && starts.contains(pc as u16)
+}
+
+/// The branch of an index to its place.
+fn branch_to(
+    followed: &mut Followed,
+    starts: &NumberSet,
+    targets: &Targets,
+    pc: u16,
+    index: usize,
+) -> Result<(), WordFault>
+    requires index { index < length targets.now }
+    ensures met { IfOk result (λ u. (place : ℤ) → slice_get targets.now index ≡ Some place → IsBranchIn followed.new place) }
+    ensures grown { IfOk result (λ u. Grown followed.old followed.new) }
+    ensures followed { IfOk result (λ u. (m : methods.Method) (listing : List PlacedInstr) (now : ℕ) → IsGround m listing starts.now
+        → ((p : ℕ) → slice_get targets.now index ≡ Some (pos p) → IsEntered m listing p) → IsFollowed m listing (Some now) followed.old → IsFollowed m listing (Some now) followed.new) }
+    ensures refused { IfErr result (λ fault. IfRefusal fault ((m : methods.Method) (listing : List PlacedInstr) → IsGround m listing starts.now
+        → (p : ℕ) → slice_get targets.now index ≡ Some (pos p) → begins listing p ≡ false)) }
+{
+    let target = targets.get(index).unwrap();
+    if target < 0 {
+        return Err(refusal(pc, Reason::NoTarget));
+    }
+    let place = target.unsigned_abs() as usize;
+    if begins_at(starts, place) {
+        enter(followed, place as u16)
+    } else {
+        Err(refusal(pc, Reason::NoTarget))
+    }
+}
+
+fn refusal(pc: u16, reason: Reason) -> WordFault
+    ensures { result ≡ Refused pc reason }
+{
+    WordFault::Refused { pc, reason }
+}
+
+/// Each branch of an instruction in turn.
+fn branch_all(
+    followed: &mut Followed,
+    starts: &NumberSet,
+    pc: u16,
+    instr: &Instr,
+) -> Result<(), WordFault>
+    ensures met { IfOk result (λ u. (place : ℤ) → Contains (targets_of pc instr.now.operation) place → IsBranchIn followed.new place) }
+    ensures grown { IfOk result (λ u. Grown followed.old followed.new) }
+    ensures followed { IfOk result (λ u. (m : methods.Method) (listing : List PlacedInstr) (now : ℕ) → IsGround m listing starts.now
+        → ((p : ℕ) → Contains (targets_of pc instr.now.operation) (pos p) → IsEntered m listing p) → IsFollowed m listing (Some now) followed.old → IsFollowed m listing (Some now) followed.new) }
+    ensures refused { IfErr result (λ fault. IfRefusal fault ((m : methods.Method) (listing : List PlacedInstr) → IsGround m listing starts.now
+        → (place : ℤ) × Contains (targets_of pc instr.now.operation) place × ((p : ℕ) → place ≡ pos p → begins listing p ≡ false))) }
+{
+    let targets = instr.targets(pc);
+    for index in 0..targets.len() {
+        branch_to(followed, starts, &targets, pc, index)?;
+    }
+    Ok(())
+}
+
+/// What goes on behind an instruction.
+#[tactic(auto, using(crate::proofs::Following::grown_self))]
+fn fall(followed: &mut Followed, method: &Method, pc: u16, instr: &Instr) -> Result<(), WordFault>
+    requires short { length method.now.code < 2 ^ 16 }
+    ensures met { IfOk result (λ u. falls_of instr.now.operation ≡ true → has_number followed.new.live instr.now.next_pc ≡ true) }
+    ensures grown { IfOk result (λ u. Grown followed.old followed.new) }
+    ensures followed { IfOk result (λ u. (listing : List PlacedInstr) (now : ℕ) → (falls_of instr.now.operation ≡ true → instr.now.next_pc < length method.now.code → IsReached method.now listing instr.now.next_pc)
+        → IsFollowed method.now listing (Some now) followed.old → IsFollowed method.now listing (Some now) followed.new) }
+    ensures refused { IfErr result (λ fault. IfRefusal fault ((falls_of instr.now.operation ≡ true) × (length method.now.code ≤ instr.now.next_pc))) }
+{
+    if !instr.falls_through() {
+        return Ok(());
+    }
+    if instr.next_pc >= method.code().len() {
+        return Err(refusal(pc, Reason::FallsOff));
+    }
+    reach(followed, instr.next_pc as u16)
+}
+
+/// An instruction: the handlers that cover it, its branches, and what goes on behind it.
+fn visit(
+    followed: &mut Followed,
+    method: &Method,
+    starts: &NumberSet,
+    pc: u16,
+    instr: &Instr,
+) -> Result<(), WordFault>
+    requires short { length method.now.code < 2 ^ 16 }
+    ensures left { IfOk result (λ u. left_of followed.new ≡ left_of followed.old) }
+    ensures followed { IfOk result (λ u. (listing : List PlacedInstr) → IsGround method.now listing starts.now → placed_at listing pc ≡ Some (placed pc instr.now)
+        → IsFollowed method.now listing (Some pc) followed.old → IsFollowed method.now listing None followed.new) }
+    ensures refused { IfErr result (λ fault. IfRefusal fault ((listing : List PlacedInstr) → IsGround method.now listing starts.now → placed_at listing pc ≡ Some (placed pc instr.now)
+        → IsFollowed method.now listing (Some pc) followed.old → IsAstray method.now listing)) }
+{
+    handle_all(followed, method.handlers(), pc)?;
+    branch_all(followed, starts, pc, instr)?;
+    fall(followed, method, pc, instr)
+}
+
+/// The instruction at a pc, and what it leads to.
+fn visit_at(
+    followed: &mut Followed,
+    method: &Method,
+    starts: &NumberSet,
+    pc: u16,
+) -> Result<(), WordFault>
+    requires short { length method.now.code < 2 ^ 16 }
+    ensures left { IfOk result (λ u. left_of followed.new ≡ left_of followed.old) }
+    ensures followed { IfOk result (λ u. (listing : List PlacedInstr) → IsGround method.now listing starts.now
+        → IsFollowed method.now listing (Some pc) followed.old → IsFollowed method.now listing None followed.new) }
+    ensures refused { IfErr result (λ fault. IfRefusal fault ((listing : List PlacedInstr) → IsGround method.now listing starts.now
+        → IsFollowed method.now listing (Some pc) followed.old → IsAstray method.now listing)) }
+{
+    match decode(method.code(), usize::from(pc)) {
+        Ok(instr) => visit(followed, method, starts, pc, &instr),
+        Err(_) => Err(refusal(pc, Reason::NoTarget)),
+    }
+}
+
+/// Pc 0 is reached, and control flow hasn't been followed from there.
+fn at_first(alloc: Global) -> Result<Followed, WordFault>
+    ensures followed { IfOk result (λ f. (m : methods.Method) (listing : List PlacedInstr) → begins listing 0 ≡ true → IsFollowed m listing None f) }
+    ensures memory { IfErr result (λ fault. fault ≡ Memory) }
+{
+    let mut followed = Followed {
+        live: NumberSet::empty(),
+        entered: NumberSet::empty(),
+        stack: Vec::new(alloc),
+    };
+    followed.live.insert(0);
+    followed.stack.push(0)?;
+    Ok(followed)
+}
+
+/// Follows control flow from pc 0.
+fn follow_all(alloc: Global, method: &Method, starts: &NumberSet) -> Result<NumberSet, WordFault>
+    requires short { length method.now.code < 2 ^ 16 }
+    requires some { method.now.code ≢ [] }
+    ensures found { IfOk result (λ entries. (listing : List PlacedInstr) → IsGround method.now listing starts.now → AreEntries method.now listing entries) }
+    ensures refused { IfErr result (λ fault. IfRefusal fault ((listing : List PlacedInstr) → IsGround method.now listing starts.now → IsAstray method.now listing)) }
+{
+    let mut followed = at_first(alloc)?;
+    while let Some(pc) = followed.stack.pop() {
+        visit_at(&mut followed, method, starts, pc)?;
+    }
+    Ok(followed.entered)
+}
+
+/// The pcs that control flow enters by a branch or by a handler, of a method whose code decodes and whose handlers stand.
+pub(crate) fn entries_of(alloc: Global, method: &Method) -> Result<NumberSet, WordFault>
+    requires short { length method.now.code < 2 ^ 16 }
+    ensures listed { IfOk result (λ entries. (listing : List PlacedInstr) × IsListing instr_at method.now.code listing) }
+    ensures starts { IfOk result (λ entries. (listing : List PlacedInstr) → IsListing instr_at method.now.code listing → (pc : ℕ) → has_number entries pc ≡ true → begins listing pc ≡ true) }
+    ensures entered { IfOk result (λ entries. (listing : List PlacedInstr) → IsListing instr_at method.now.code listing → (pc : ℕ) → has_number entries pc ≡ true → IsEntered method.now listing pc) }
+    ensures all { IfOk result (λ entries. (listing : List PlacedInstr) → IsListing instr_at method.now.code listing → (pc : ℕ) → IsEntered method.now listing pc → has_number entries pc ≡ true) }
+    ensures handlers { IfOk result (λ entries. (listing : List PlacedInstr) → IsListing instr_at method.now.code listing → AllByRecursion (HandlerStands listing) method.now.handlers) }
+    ensures some { IfOk result (λ entries. method.now.code ≢ []) }
+    ensures refused { IfErr result (λ fault. (pc : ℕ) (reason : Reason) → fault ≡ Refused pc reason → (rules : Rules) → rules.decoder ≡ instr_at → (states : List Stated) → Carries rules method.now states → ⊥) }
+{
+    listing_laws();
+    let code = method.code();
+    if code.is_empty() {
+        return Err(refusal(0, Reason::FallsOff));
+    }
+    let starts = starts_of(code)?;
+    stand_handlers(&starts, method.handlers())?;
+    follow_all(alloc, method, &starts)
+}

@@ -1,0 +1,60 @@
+//! The states of a method's certificate.
+
+ghost use Rattle.std.specs.Prelude.{◌≡◌, ◌<◌, ◌^◌, ℕ, Some, None, length, map, slice_get, IfOk};
+ghost use Rattle.jc_cert.specs.Cert.{stated};
+ghost use Rattle.jc_types.specs.State.{StateWithRoom};
+ghost use Rattle.jc_verify.specs.declared.place.Place.{Place as PlaceOf};
+ghost use Rattle.jc_check.specs.Carried.{Carries};
+ghost use Rattle.jc_check.specs.Package.{class_of_name, package_rules};
+ghost use Rattle.jc_verify.specs.PrivateFlow.{HasLaws, IsNumbered, Places};
+ghost use Rattle.jc_verify.specs.PrivateSettled.{IsFilled};
+ghost use Rattle.jc_verify.specs.PrivateStated.{AreStateRows};
+
+use crate::entries::entries_of;
+use crate::flow::Flow;
+use crate::numbering::number_places;
+use crate::place::Place;
+use crate::settle::fill;
+use crate::spelling::stated_rows;
+use jc_cert::StateRow;
+use jc_check::{Method, WordFault, first_fault_laws};
+use jc_link::Linked;
+use jc_types::State;
+use std::alloc::Global;
+
+/// What places hold once they are filled, as rows of a certificate. None holds anything before.
+fn rows_in(flow: &Flow, places: &mut [Place<State>]) -> Result<Vec<StateRow>, WordFault>
+    requires laws { HasLaws flow.now.linked.now }
+    requires numbered { IsNumbered flow.now.numbers.now places.old }
+    requires sized { length flow.now.numbers.now ≡ length flow.now.method.now.code }
+    requires empty { (n : ℕ) (p : PlaceOf StateWithRoom) → slice_get places.old n ≡ Some p → p.held ≡ None }
+    requires short { length flow.now.method.now.code < 2 ^ 16 }
+    ensures { IfOk result (λ rows. (final : Places) × IsFilled flow.now.linked.now flow.now.method.now flow.now.numbers.now places.old final
+        × AreStateRows (class_of_name flow.now.linked.now.world) final (map stated rows.items)) }
+{
+    fill(flow, places)?;
+    let linked = flow.linked;
+    stated_rows(flow.alloc, linked.table(), places)
+}
+
+/// The states that carry a method.
+pub(crate) fn states_of(
+    alloc: Global,
+    linked: &Linked,
+    method: &Method,
+) -> Result<Vec<StateRow>, WordFault>
+    requires laws { HasLaws linked.now }
+    requires short { length method.now.code < 2 ^ 16 }
+    ensures carried { IfOk result (λ rows. Carries (package_rules linked.now) method.now (map stated rows.items)) }
+{
+    first_fault_laws();
+    let entries = entries_of(alloc, method)?;
+    let mut numbered = number_places(alloc, method.code().len(), &entries)?;
+    let flow = Flow {
+        alloc,
+        linked,
+        method,
+        numbers: &numbered.numbers,
+    };
+    rows_in(&flow, &mut numbered.places)
+}

@@ -1,0 +1,86 @@
+//! The places of a method, by ascending pc, and their numbers.
+
+ghost use Rattle.std.specs.Prelude.{◌≡◌, ◌<◌, ◌+◌, ◌^◌, ℕ, List, true, None, Some, length, slice_get, IfOk};
+ghost use Rattle.jc_base.specs.NumberSet.{has_number};
+ghost use Rattle.jc_types.specs.State.{StateWithRoom};
+ghost use Rattle.jc_verify.specs.PrivateFlow.{IsNumbered, Places};
+ghost use Rattle.jc_verify.specs.PrivateSettled.{AreNumbered};
+ghost use Rattle.jc_verify.specs.declared.place.Place.{Place as PlaceOf};
+
+use crate::place::Place;
+use jc_base::NumberSet;
+use jc_types::State;
+use std::alloc::{AllocError, Global};
+
+/// The places that control flow enters, and their numbers by their pcs.
+#[derive(Drop)]
+pub(crate) struct Numbered {
+    pub(crate) numbers: Vec<Option<u16>>,
+    pub(crate) places: Vec<Place<State>>,
+}
+
+/// Puts the place at a pc behind the others, and its number into the table.
+#[tactic(auto, using(crate::proofs::Counting::with_one))]
+fn put_place(
+    numbers: &mut Vec<Option<u16>>,
+    places: &mut Vec<Place<State>>,
+    pc: u16,
+) -> Result<(), AllocError>
+    requires few { length places.old.items < 2 ^ 16 }
+    ensures { IfOk result (λ u. (entries : List ℕ) → has_number entries pc ≡ true → AreNumbered entries pc numbers.old.items places.old.items → AreNumbered entries (pc + 1) numbers.new.items places.new.items) }
+{
+    numbers.push(Some(places.len() as u16))?;
+    places.push(Place {
+        pc,
+        held: None,
+        changed: false,
+    })?;
+    Ok(())
+}
+
+/// Says in the table that there is no place at a pc.
+fn put_none(numbers: &mut Vec<Option<u16>>) -> Result<(), AllocError>
+    ensures { IfOk result (λ u. (entries : List ℕ) (pc : ℕ) (places : Places) → AreNumbered entries pc numbers.old.items places → AreNumbered entries (pc + 1) numbers.new.items places) }
+{
+    numbers.push(None)?;
+    Ok(())
+}
+
+/// Puts the place at a pc behind the others, if it is one.
+fn put_if(
+    numbers: &mut Vec<Option<u16>>,
+    places: &mut Vec<Place<State>>,
+    pc: u16,
+    is_place: bool,
+) -> Result<(), AllocError>
+    requires few { length places.old.items < 2 ^ 16 }
+    ensures { IfOk result (λ u. (entries : List ℕ) → has_number entries pc ≡ is_place → AreNumbered entries pc numbers.old.items places.old.items → AreNumbered entries (pc + 1) numbers.new.items places.new.items) }
+{
+    if is_place {
+        put_place(numbers, places, pc)
+    } else {
+        put_none(numbers)
+    }
+}
+
+/// Numbers the places at the pcs of a set, below so many. None holds anything.
+#[tactic(auto, using(crate::proofs::Counting::none_numbered))]
+pub(crate) fn number_places(
+    alloc: Global,
+    count: usize,
+    entries: &NumberSet,
+) -> Result<Numbered, AllocError>
+    requires { count < 2 ^ 16 }
+    ensures sized { IfOk result (λ n. length n.numbers.items ≡ count) }
+    ensures numbered { IfOk result (λ n. IsNumbered n.numbers.items n.places.items) }
+    ensures empty { IfOk result (λ n. (k : ℕ) (p : PlaceOf StateWithRoom) → slice_get n.places.items k ≡ Some p → p.held ≡ None) }
+    ensures entered { IfOk result (λ n. (k : ℕ) (p : PlaceOf StateWithRoom) → slice_get n.places.items k ≡ Some p → has_number entries.now p.pc ≡ true) }
+{
+    let mut numbers = Vec::with_capacity(alloc, count)?;
+    let mut places = Vec::new(alloc);
+    for pc in 0..count {
+        let is_place = entries.contains(pc as u16);
+        put_if(&mut numbers, &mut places, pc as u16, is_place)?;
+    }
+    Ok(Numbered { numbers, places })
+}

@@ -1,0 +1,144 @@
+//! The states of a certificate, with the names of their classes.
+
+ghost use Rattle.std.specs.Prelude.{◌≡◌, ◌++◌, [], ◌∷◌, Some, length, map, IfOk, IfSome};
+ghost use Rattle.jc_cert.specs.Cert.{stated};
+ghost use Rattle.jc_check.specs.Claim.{type_claimed, types_claimed};
+ghost use Rattle.jc_check.specs.Package.{class_of_name};
+ghost use Rattle.jc_verify.specs.PrivateFlow.{Places};
+ghost use Rattle.jc_verify.specs.PrivateStated.{AreStateRows, IsStateRow};
+
+use crate::place::Place;
+use jc_base::Reason;
+use jc_cert::{SpelledClass, StateRow, StatedType};
+use jc_check::{WordFault, class_of_name};
+use jc_classes::{ClassName, ClassTable};
+use jc_types::{State, Ty};
+use std::alloc::{AllocError, Global};
+
+/// How a certificate of a world's last package may name a class, if the package is there.
+fn name_of(table: &ClassTable, class: ClassName) -> Option<SpelledClass> {
+    match class {
+        ClassName::Api(class) => Some(SpelledClass::Api(class)),
+        ClassName::Loaded { offset, .. } => {
+            let home = class.home();
+            if home + 1 == table.len() {
+                return Some(SpelledClass::Own { offset });
+            }
+            let package = table.shape(home)?.package();
+            Some(SpelledClass::Other {
+                package: package.aid,
+                offset,
+            })
+        }
+    }
+}
+
+/// A name that stands for a class, if a certificate of a world's last package has one.
+fn spelled_class(table: &ClassTable, class: ClassName) -> Option<SpelledClass>
+    ensures { IfSome result (λ name. class_of_name table.now name ≡ Some class) }
+{
+    let name = name_of(table, class)?;
+    if class_of_name(table, name)? == class {
+        Some(name)
+    } else {
+        None
+    }
+}
+
+/// A type as a certificate states it, if its class has a name.
+fn stated_type(table: &ClassTable, ty: Ty) -> Option<StatedType>
+    ensures { IfSome result (λ stated. type_claimed (class_of_name table.now) stated ≡ Some ty) }
+{
+    match ty {
+        Ty::Top => Some(StatedType::Top),
+        Ty::Word => Some(StatedType::Word),
+        Ty::Null => Some(StatedType::Null),
+        Ty::Class(class) => Some(StatedType::Class(spelled_class(table, class)?)),
+        Ty::BooleanArray => Some(StatedType::BooleanArray),
+        Ty::ByteArray => Some(StatedType::ByteArray),
+        Ty::ShortArray => Some(StatedType::ShortArray),
+        Ty::ReferenceArray(class) => {
+            Some(StatedType::ReferenceArray(spelled_class(table, class)?))
+        }
+    }
+}
+
+/// Types as a certificate states them, if the classes of all of them have names.
+fn stated_types(
+    alloc: Global,
+    table: &ClassTable,
+    types: &[Ty],
+) -> Result<Option<Vec<StatedType>>, AllocError>
+    ensures claimed { IfOk result (λ o. IfSome o (λ stated. types_claimed (class_of_name table.now) stated.items ≡ Some types.now)) }
+    ensures len { IfOk result (λ o. IfSome o (λ stated. length stated.items ≡ length types.now)) }
+{
+    let mut stated = Vec::with_capacity(alloc, types.len())?;
+    for index in 0..types.len() {
+        let Some(ty) = stated_type(table, types[index]) else {
+            return Ok(None);
+        };
+        stated.extend_from_slice(&[ty])?;
+    }
+    Ok(Some(stated))
+}
+
+/// What a place holds as a certificate states it, if its classes have names.
+fn stated_row(
+    alloc: Global,
+    table: &ClassTable,
+    pc: u16,
+    held: &State,
+) -> Result<Option<StateRow>, AllocError>
+    ensures { IfOk result (λ o. IfSome o (λ row. IsStateRow (class_of_name table.now) pc held.now.types (stated row))) }
+{
+    let Some(locals) = stated_types(alloc, table, held.locals())? else {
+        return Ok(None);
+    };
+    let Some(operands) = stated_types(alloc, table, held.operands())? else {
+        return Ok(None);
+    };
+    Ok(Some(StateRow {
+        pc,
+        locals,
+        operands,
+    }))
+}
+
+/// What places hold as a certificate states it, or the pc of the first of which a class has no name.
+pub(crate) fn stated_rows(
+    alloc: Global,
+    table: &ClassTable,
+    places: &[Place<State>],
+) -> Result<Vec<StateRow>, WordFault>
+    ensures { IfOk result (λ rows. AreStateRows (class_of_name table.now) places.now (map stated rows.items)) }
+{
+    let mut rows = Vec::new(alloc);
+    for index in 0..places.len() {
+        put_row(alloc, table, &places[index], &mut rows)?;
+    }
+    Ok(rows)
+}
+
+/// Puts what a place holds behind others, if it holds something.
+fn put_row(
+    alloc: Global,
+    table: &ClassTable,
+    place: &Place<State>,
+    rows: &mut Vec<StateRow>,
+) -> Result<(), WordFault>
+    ensures { IfOk result (λ u. (places : Places) → AreStateRows (class_of_name table.now) places (map stated rows.old.items) → AreStateRows (class_of_name table.now) (places ++ place.now ∷ []) (map stated rows.new.items)) }
+{
+    match &place.held {
+        None => Ok(()),
+        Some(held) => match stated_row(alloc, table, place.pc, held)? {
+            Some(row) => {
+                rows.push(row)?;
+                Ok(())
+            }
+            None => Err(WordFault::Refused {
+                pc: place.pc,
+                reason: Reason::CertMismatch,
+            }),
+        },
+    }
+}

@@ -8,6 +8,8 @@ use Rattle.std.proofs.lemmas.List.{reverse-reverse}
 use Rattle.std.proofs.lemmas.Option.{none-some, same_Some, slice_get-get_or}
 use Rattle.jc_base.specs.declared.reason.Reason.{Reason}
 use Rattle.jc_cert.specs.Cert.{Stated}
+use Rattle.jc_cert.specs.declared.stated_type.SpelledClass.{SpelledClass}
+use Rattle.jc_classes.specs.declared.name.ClassName.{ClassName}
 use Rattle.jc_code.specs.Listing.{IsListing, PlacedInstr, StandBetween, begins}
 use Rattle.jc_code.specs.Targets.{falls_of, targets_of}
 use Rattle.jc_check.specs.Carried.{Carries, HandlerStands, has_shape, state_at, types_of}
@@ -287,9 +289,19 @@ carried l laws m listing cs whole some fine (inr (fault, h)) = absurd (no_fault 
         ok_err tt f (sym fine ∙ ap (λ xs. findings_of (package_rules l) m xs cs) (sym same) ∙ e)
 
 -- places that are numbered alike stand at the same pcs
-pub starts_kept : (numbers : List (Option ℕ)) (before after : Places) (listing : List PlacedInstr) → IsNumbered numbers before → IsNumbered numbers after
-    → ((n : ℕ) (p : Place StateWithRoom) → slice_get before n ≡ Some p → begins listing p.pc ≡ true) → (n : ℕ) (p : Place StateWithRoom) → slice_get after n ≡ Some p → begins listing p.pc ≡ true
-starts_kept numbers before after listing was now starts n p e =
+pub held_kept : (P : ℕ → Type 0) (numbers : List (Option ℕ)) (before after : Places) → IsNumbered numbers before → IsNumbered numbers after
+    → ((n : ℕ) (p : Place StateWithRoom) → slice_get before n ≡ Some p → P p.pc) → (n : ℕ) (p : Place StateWithRoom) → slice_get after n ≡ Some p → P p.pc
+held_kept P numbers before after was now holds n p e =
     let number = now.known n p e in
     let there = slice_get-get_or before n p (was.within p.pc n number) in
-    ap (begins listing) (sym (was.found p.pc n (get_or before n p) number there)) ∙ starts n (get_or before n p) there
+    subst P (was.found p.pc n (get_or before n p) number there) (holds n (get_or before n p) there)
+
+-- rows stand where their places do
+pub rows_where : (class_of : SpelledClass → Option ClassName) (P : ℕ → Type 0) (places : Places) (cs : List Stated) → AreStateRows class_of places cs → ((n : ℕ) (p : Place StateWithRoom) → slice_get places n ≡ Some p → P p.pc)
+    → AllByRecursion (λ (c : Stated). P c.pc) cs
+rows_where class_of P [] cs are holds = subst (AllByRecursion (λ (c : Stated). P c.pc)) (sym are) tt
+rows_where class_of P (p ∷ places) cs are holds = by_held p.held (λ ds h. rows_where class_of P places ds h (λ n q e. holds (suc n) q e)) are
+  where
+    by_held : (o : Option StateWithRoom) → ((ds : List Stated) → AreStateRows class_of places ds → AllByRecursion (λ (c : Stated). P c.pc) ds) → RowIf class_of p.pc o (AreStateRows class_of places) cs → AllByRecursion (λ (c : Stated). P c.pc) cs
+    by_held None rest are = rest cs are
+    by_held (Some s) rest are = subst (AllByRecursion (λ (c : Stated). P c.pc)) (sym are.are) (subst P (sym are.states.at) (holds 0 p refl), rest are.rest are.behind)

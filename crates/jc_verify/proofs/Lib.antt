@@ -7,9 +7,11 @@ mod Settling
 mod Counting
 mod Stating
 mod Carrying
+mod Rows
 mod Numbers
 mod Starting
 mod Following
 mod Passing
 mod Entering
 mod Refusing
+mod Certified

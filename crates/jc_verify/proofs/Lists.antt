@@ -38,3 +38,12 @@ pub take_more : {A : Type 0} (xs : List A) (k : ℕ) (x : A) → slice_get xs k 
 take_more [] k x e = absurd (none-some x e)
 take_more (y ∷ xs) zero x e = ap (λ z. z ∷ []) (same_Some y x e)
 take_more (y ∷ xs) (suc k) x e = let h : suc k + 1 ≡ suc (k + 1) = omega arith in rw h (ap (λ ys. y ∷ ys) (take_more xs k x e))
+
+pub get_kept : {A : Type 0} (xs : List A) (x y : A) (k : ℕ) → slice_get xs k ≡ Some y → slice_get (xs ++ x ∷ []) k ≡ Some y
+get_kept [] x y k e = absurd (none-some y e)
+get_kept (z ∷ xs) x y zero e = e
+get_kept (z ∷ xs) x y (suc k) e = get_kept xs x y k e
+
+pub get_last : {A : Type 0} (xs : List A) (x : A) → slice_get (xs ++ x ∷ []) (length xs) ≡ Some x
+get_last [] x = refl
+get_last (z ∷ xs) x = get_last xs x

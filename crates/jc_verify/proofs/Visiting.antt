@@ -1,6 +1,6 @@
 -- What is closed once an instruction has been visited.
-use Rattle.std.proofs.Common.{◌≡◌, ℕ, Bool, true, false, List, Option, Ok, Err, Result}
-use Rattle.std.specs.Prelude.{IfOk}
+use Rattle.std.proofs.Common.{◌≡◌, ℕ, Bool, true, false, List, Option, Some, None, Ok, Err, Result}
+use Rattle.std.specs.Prelude.{IfOk, IfSome}
 use Rattle.jc_code.specs.Listing.{PlacedInstr}
 use Rattle.jc_check.specs.Method.{Method}
 use Rattle.jc_check.specs.Rules.{Rules}
@@ -22,3 +22,7 @@ pub closed_by : (rules : Rules) (m : Method) (numbers : List (Option ℕ)) (typi
     → IsVisited rules m typing x s after → FallsIf on rules m numbers typing x.instr.next_pc after → ClosedIf on rules m numbers typing x.instr.next_pc after → IsClosed rules m numbers typing x.pc s
 closed_by rules m numbers typing true x s after decoded visited falls closed = goes_on x s after decoded visited falls.0 falls.1 closed
 closed_by rules m numbers typing false x s after decoded visited falls closed = meets x s after decoded visited falls
+
+pub if_some : {A : Type 0} (o : Option A) (P Q : A → Type 0) → IfSome o P → ((x : A) → P x → Q x) → IfSome o Q
+if_some None P Q h on = tt
+if_some (Some x) P Q h on = on x h

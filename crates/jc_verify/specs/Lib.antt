@@ -1,7 +1,9 @@
 pub mod Live
+pub mod Inferred
 pub mod PrivatePlaces
 pub mod PrivateFlow
 pub mod PrivateStop
 pub mod PrivateSettled
 pub mod PrivateStated
 pub mod PrivateLive
+pub mod PrivateGathered

@@ -4,6 +4,7 @@
 mod entries;
 mod fault;
 mod flow;
+mod gathering;
 mod method;
 mod numbering;
 mod package;

@@ -4,9 +4,9 @@ ghost use Rattle.std.specs.Prelude.{◌≡◌, ◌<◌, ◌^◌, ℕ, Some, None
 ghost use Rattle.jc_cert.specs.Cert.{stated};
 ghost use Rattle.jc_types.specs.State.{StateWithRoom};
 ghost use Rattle.jc_verify.specs.declared.place.Place.{Place as PlaceOf};
-ghost use Rattle.jc_check.specs.Carried.{Carries};
-ghost use Rattle.jc_check.specs.Package.{class_of_name, package_rules};
+ghost use Rattle.jc_check.specs.Package.{class_of_name};
 ghost use Rattle.jc_verify.specs.PrivateFlow.{HasLaws, IsNumbered, Places};
+ghost use Rattle.jc_verify.specs.PrivateGathered.{IsInferred};
 ghost use Rattle.jc_verify.specs.PrivateSettled.{IsFilled};
 ghost use Rattle.jc_verify.specs.PrivateStated.{AreStateRows};
 
@@ -45,7 +45,7 @@ pub(crate) fn states_of(
 ) -> Result<Vec<StateRow>, WordFault>
     requires laws { HasLaws linked.now }
     requires short { length method.now.code < 2 ^ 16 }
-    ensures carried { IfOk result (λ rows. Carries (package_rules linked.now) method.now (map stated rows.items)) }
+    ensures { IfOk result (λ rows. IsInferred linked.now method.now (map stated rows.items)) }
 {
     first_fault_laws();
     let entries = entries_of(alloc, method)?;

@@ -1,17 +1,90 @@
 //! The certificate of a package.
 
-ghost use Rattle.std.specs.Prelude.{IfOk};
+ghost use Rattle.std.specs.Prelude.{◌≡◌, ℕ, List, length, IfOk, IfSome};
+ghost use Rattle.jc_cert.specs.Cert.{rows};
 ghost use Rattle.jc_check.specs.Checked.{CarriesPackage};
+ghost use Rattle.jc_verify.specs.Inferred.{HasStatesWhereEntered};
+ghost use Rattle.jc_verify.specs.PrivateFlow.{HasLaws};
+ghost use Rattle.jc_verify.specs.PrivateGathered.{AreGathered, IsSoFar};
 
 use crate::fault::VerifyFault;
-use jc_cert::Cert;
-use jc_link::Linked;
+use crate::gathering::{Gathered, gather};
+use jc_base::{NumberSet, Reason};
+use jc_cert::{Cert, MethodRow};
+use jc_check::Fault;
+use jc_code::listing_laws;
+use jc_link::{Linked, MethodCode, built_worlds_are_sound};
+use jc_types::order_laws;
 use std::alloc::Global;
 
-/// Works out a certificate that carries a linked package.
-pub fn infer(_alloc: Global, linked: &Linked) -> Result<Cert, VerifyFault>
-    ensures carried { IfOk result (λ cert. CarriesPackage linked.now cert) }
+/// What holds of types and of code beside a linked package. It does nothing.
+fn flow_laws(linked: &Linked)
+    ensures { HasLaws linked.now }
 {
     let _count = linked.table().len();
-    Err(VerifyFault::Memory)
+    built_worlds_are_sound();
+    order_laws();
+    listing_laws();
+}
+
+/// The methods with code of a linked package.
+fn methods_of(linked: &Linked) -> &[MethodCode]
+    ensures { result.now ≡ linked.now.body.kept.methods }
+{
+    &linked.body().kept().methods
+}
+
+/// What is known of all methods of a package.
+fn gather_all(alloc: Global, linked: &Linked) -> Result<Gathered, VerifyFault>
+    requires { HasLaws linked.now }
+    ensures { IfOk result (IsSoFar linked.now (length linked.now.body.kept.methods)) }
+{
+    let mut gathered = Gathered {
+        rows: Vec::new(alloc),
+        seen: NumberSet::empty(),
+        told: None,
+    };
+    let methods = methods_of(linked);
+    for index in 0..methods.len() {
+        gather(alloc, linked, &methods[index], &mut gathered)?;
+    }
+    Ok(gathered)
+}
+
+/// The certificate of rows that carry a package's methods, in whatever order.
+fn certificate_of(linked: &Linked, methods: Vec<MethodRow>) -> Option<Cert>
+    requires { (seen : List ℕ) × AreGathered linked.now (length linked.now.body.kept.methods) (rows methods.items) seen }
+    ensures carried { IfSome result (λ cert. CarriesPackage linked.now cert) }
+    ensures entered { IfSome result (λ cert. HasStatesWhereEntered linked.now cert) }
+{
+    let _laws = linked.table().len();
+    let mut methods = methods;
+    methods.sort_unstable_by_key(|row| row.offset);
+    Cert::new(methods)
+}
+
+/// Works out a certificate that carries a linked package, with states only where control flow enters a method by a branch or a
+/// handler of an instruction that it reaches. Where a method can't be carried the one with the least offset is told.
+pub fn infer(alloc: Global, linked: &Linked) -> Result<Cert, VerifyFault>
+    ensures carried { IfOk result (λ cert. CarriesPackage linked.now cert) }
+    ensures entered { IfOk result (λ cert. HasStatesWhereEntered linked.now cert) }
+{
+    flow_laws(linked);
+    let gathered = gather_all(alloc, linked)?;
+    if let Some(told) = gathered.told {
+        return Err(VerifyFault::NoCertificate {
+            method: told.method,
+            fault: told.fault,
+        });
+    }
+    match certificate_of(linked, gathered.rows) {
+        Some(cert) => Ok(cert),
+        None => Err(VerifyFault::NoCertificate {
+            method: 0,
+            fault: Fault {
+                pc: 0,
+                reason: Reason::CertMismatch,
+            },
+        }),
+    }
 }

@@ -10,3 +10,4 @@ mod Cases
 mod Running
 mod Evaluating
 mod Lines
+mod Verifying

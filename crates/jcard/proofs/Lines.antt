@@ -1,6 +1,7 @@
 -- What clap reads of a command line, as the job that it says.
 use Rattle.std.proofs.Common.{◌≡◌, ◌∙◌, ap₂, false, ◌||◌, sym, subst, refl, ℕ, ◌<◌, ◌^◌, List, [], ◌∷◌, Result, Ok, Err, arith, codes, inl, inr}
-use Rattle.std.specs.Prelude.{Option, Some, None, IfErr}
+use Rattle.std.specs.Prelude.{Option, Some, None, IfErr, option_map}
+use Rattle.std.specs.Borrow.{Bor}
 use Rattle.std.specs.Result.{IsErr, IsErrAnd}
 use Rattle.std.specs.Str.Parse.{ParsesUnsigned}
 use Rattle.std.proofs.lemmas.Option.{none-some}
@@ -12,9 +13,9 @@ use Rattle.clap.specs.declared.error.kind.ErrorKind.TheVariants.{MissingSubcomma
 use Rattle.clap.specs.declared.builder.arg.Arg.{Arg}
 use Rattle.clap.specs.declared.builder.command.Command.{Command}
 use Rattle.clap.specs.declared.builder.command.Command.TheViews.{out-Command}
-use Rattle.jcard.specs.Line.{AreSteps, IsJobAmong, IsJobOf, IsSteps, IsFaultFrom, IsJobFor, IsLineFault, card_app}
+use Rattle.jcard.specs.Line.{AreSteps, Finds, IsJobAmong, IsEvalOf, IsEvalAmong, IsSteps, IsFaultFrom, IsJobFor, IsLineFault, IsVerifyAmong, IsVerifyOf, card_app}
 use Rattle.jcard.specs.declared.job.Job.{Job}
-use Rattle.jcard.specs.declared.job.Job.TheVariants.{Eval}
+use Rattle.jcard.specs.declared.job.Job.TheVariants.{Eval, Verify}
 use Rattle.jcard.specs.declared.line.LineFault.{LineFault}
 
 -- the number of steps that a text says, if there is one
@@ -44,14 +45,36 @@ zero_said {gives = gives} o read n value parses e zero steps said =
     omega (arith, zero, parsed.1, said.2.value, said.2.least)
 
 -- entries that lack one of the three say no job
-pub no_code : (rows : List Row) → first_of (codes "CODE") rows ≡ None → (job : Job) → IsJobOf rows job → ⊥
+pub no_code : (rows : List Row) → first_of (codes "CODE") rows ≡ None → (job : Job) → IsEvalOf rows job → ⊥
 no_code rows none (Eval code cert steps) said = none-some code.now (sym none ∙ said.0)
+no_code rows none (Verify v) said = said
 
-pub no_cert : (rows : List Row) → first_of (codes "CERT") rows ≡ None → (job : Job) → IsJobOf rows job → ⊥
+pub no_cert : (rows : List Row) → first_of (codes "CERT") rows ≡ None → (job : Job) → IsEvalOf rows job → ⊥
 no_cert rows none (Eval code cert steps) said = none-some cert.now (sym none ∙ said.1)
+no_cert rows none (Verify v) said = said
 
-pub no_steps : (rows : List Row) → ((steps : ℕ) → AreSteps rows steps → ⊥) → (job : Job) → IsJobOf rows job → ⊥
+pub no_steps : (rows : List Row) → ((steps : ℕ) → AreSteps rows steps → ⊥) → (job : Job) → IsEvalOf rows job → ⊥
 no_steps rows none (Eval code cert steps) said = none steps said.2
+no_steps rows none (Verify v) said = said
+
+-- nor do entries that lack a folder or a file
+pub no_folder : (rows : List Row) → first_of (codes "FOLDER") rows ≡ None → (job : Job) → IsVerifyOf rows job → ⊥
+no_folder rows none (Eval code cert steps) said = said
+no_folder rows none (Verify v) said = none-some v.folder.now (sym none ∙ said.0)
+
+pub no_file : (rows : List Row) → first_of (codes "CERT") rows ≡ None → (job : Job) → IsVerifyOf rows job → ⊥
+no_file rows none (Eval code cert steps) said = said
+no_file rows none (Verify v) said = none-some v.cert.now (sym none ∙ said.1)
+
+-- what isn't there has no text
+pub not_some : (o : Option (Bor Text)) (t : Option Text) → option_map (λ s. s.now) o ≡ t → ((x : Bor Text) → o ≡ Some x → ⊥) → t ≡ None
+not_some None t e none = sym e
+not_some (Some x) t e none = absurd (none x refl)
+
+-- the job that is said where `eval` isn't met is that of `verify`, if one is
+pub neither : (met : Option (Text × List Row)) → ((job : Job) → IsEvalAmong met job → ⊥) → (found : Option Job) → Finds found (IsVerifyAmong met) → Finds found (IsJobAmong met)
+neither met no_eval (Some job) said = inr said
+neither met no_eval None none = λ job. elim [ inl said ↦ no_eval job said | inr said ↦ none job said ]
 
 -- one of some kinds is one of these or else others
 among_first : (k : ErrorKind) (kinds others : Kinds) → IsAmong k kinds → IsAmong k (or_else kinds others)

@@ -3,7 +3,12 @@ pub mod Eval
 pub mod PrivateEval
 pub mod Texts
 pub mod Line
+pub mod Verify
+pub mod PrivateVerify
+pub mod Files
+pub mod Source
 pub mod Saying
+pub mod PrivateSaying
 pub mod Shorts
 pub mod Tagged
 pub mod PrivateWords

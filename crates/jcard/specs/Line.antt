@@ -1,15 +1,18 @@
 -- What a command line asks for, over what clap makes of its words.
-use Rattle.std.specs.Prelude.{⊤, ◌≡◌, ◌≢◌, ◌⊎◌, ◌<◌, ◌^◌, ℕ, List, [], ◌∷◌, Some, None, pos, true, false, Option, codes}
+use Rattle.std.specs.Prelude.{⊤, ◌≡◌, ◌≢◌, ◌⊎◌, ◌<◌, ◌^◌, ℕ, List, [], ◌∷◌, Some, None, pos, true, false, Option, option_map, unwrap_or, codes}
+use Rattle.std.specs.Borrow.{Bor}
 use Rattle.std.specs.Str.Parse.{IsNumeral, digits_value, without_leading_plus}
 use Rattle.clap.specs.Kinds.{IsAmong, or_else}
-use Rattle.clap.specs.Words.{App, Row, Rule, Text, app_of, fault_of, first_of, kind_of, new_app, new_rule, one_of, subcommand_of, with_rule, with_subcommand}
+use Rattle.clap.specs.Words.{App, Row, Rule, Text, all_of, app_of, fault_of, first_of, kind_of, new_app, new_rule, one_of, subcommand_of, with_rule, with_subcommand}
+use Rattle.clap.specs.Walk.{texts}
+use Rattle.clap.specs.declared.builder.action.ArgAction.TheVariants.{Append}
 use Rattle.clap.specs.declared.builder.command.Command.{Command}
 use Rattle.clap.specs.declared.builder.command.Command.TheViews.{out-Command}
 use Rattle.clap.specs.declared.builder.value_parser.ValueParser.TheVariants.{Signed}
 use Rattle.clap.specs.declared.error.Error.{Error}
 use Rattle.clap.specs.declared.error.kind.ErrorKind.TheVariants.{MissingSubcommand, OutOfMemory}
 use Rattle.jcard.specs.declared.job.Job.{Job}
-use Rattle.jcard.specs.declared.job.Job.TheVariants.{Eval}
+use Rattle.jcard.specs.declared.job.Job.TheVariants.{Eval, Verify}
 use Rattle.jcard.specs.declared.line.LineFault.{LineFault}
 use Rattle.jcard.specs.declared.line.LineFault.TheVariants.{Line, Memory}
 
@@ -39,11 +42,36 @@ pub record IsEvalCommand (c : Command) : Type 0 where
   pub app : app_of c ≡ eval_app
   pub globals : (out-Command c).has_globals ≡ false
 
+-- FOLDER is required
+abbrev pub folder_rule : Rule
+folder_rule = record (new_rule (codes "FOLDER")) { required = true }
+
+-- CERT is required here: it is a file
+abbrev pub file_rule : Rule
+file_rule = record (new_rule (codes "CERT")) { required = true }
+
+-- EARLIER may stand any number of times
+abbrev pub earlier_rule : Rule
+earlier_rule = record (new_rule (codes "EARLIER")) { action = Some Append }
+
+-- --binding FILE may be left out
+abbrev pub binding_rule : Rule
+binding_rule = record (new_rule (codes "binding")) { long = Some (codes "binding"); value_names = 1 }
+
+-- `verify FOLDER CERT [EARLIER..] [--binding FILE]`
+abbrev pub verify_app : App
+verify_app = with_rule (with_rule (with_rule (with_rule (new_app (codes "verify")) folder_rule) file_rule) earlier_rule) binding_rule
+
+-- this command as clap has it, with no argument that goes for its subcommands too
+pub record IsVerifyCommand (c : Command) : Type 0 where
+  pub app : app_of c ≡ verify_app
+  pub globals : (out-Command c).has_globals ≡ false
+
 -- the program, of which a subcommand has to be named
 abbrev pub card_app : App
 card_app =
     let bare = new_app (codes "jcard") in
-    with_subcommand (record bare { top = record bare.top { subcommand_required = true } }) eval_app.top
+    with_subcommand (with_subcommand (record bare { top = record bare.top { subcommand_required = true } }) eval_app.top) verify_app.top
 
 -- a number of steps that a text says in decimal, from 1 to 4,294,967,295; a plus may stand first
 pub record IsSteps (text : Text) (steps : ℕ) : Type 0 where
@@ -57,17 +85,43 @@ abbrev pub AreSteps : List Row → ℕ → Type 0
 AreSteps rows steps = (text : Text) × (one_of (codes "steps") rows ≡ Some text) × IsSteps text steps
 
 -- the job that the entries of `eval` say
-abbrev pub IsJobOf : List Row → Job → Type 0
-IsJobOf rows (Eval code cert steps) =
+abbrev pub IsEvalOf : List Row → Job → Type 0
+IsEvalOf rows (Eval code cert steps) =
     (first_of (codes "CODE") rows ≡ Some code.now)
     × (first_of (codes "CERT") rows ≡ Some cert.now)
     × AreSteps rows steps
+IsEvalOf rows (Verify job) = ⊥
+
+-- the earlier folders that the entries of `verify` say, in their order
+abbrev pub AreEarlier : List Row → List (Bor Text) → Type 0
+AreEarlier rows earlier = texts earlier ≡ unwrap_or (all_of (codes "EARLIER") rows) []
+
+-- the job that the entries of `verify` say
+abbrev pub IsVerifyOf : List Row → Job → Type 0
+IsVerifyOf rows (Eval code cert steps) = ⊥
+IsVerifyOf rows (Verify job) =
+    (first_of (codes "FOLDER") rows ≡ Some job.folder.now)
+    × (first_of (codes "CERT") rows ≡ Some job.cert.now)
+    × AreEarlier rows job.earlier.items
+    × (first_of (codes "binding") rows ≡ option_map (λ name. name.now) job.binding)
+
+-- a command was met, and the job is what its entries say
+pub record IsSaidUnder (command : Text) (says : List Row → Job → Type 0) (met : Option (Text × List Row)) (job : Job) : Type 0 where
+  pub rows : List Row
+  pub entries : met ≡ Some (command, rows)
+  pub said : says rows job
+
+-- `eval` was met, with this job
+abbrev pub IsEvalAmong : Option (Text × List Row) → Job → Type 0
+IsEvalAmong = IsSaidUnder (codes "eval") IsEvalOf
+
+-- `verify` was met, with this job
+abbrev pub IsVerifyAmong : Option (Text × List Row) → Job → Type 0
+IsVerifyAmong = IsSaidUnder (codes "verify") IsVerifyOf
 
 -- the job that the entries of the subcommand say that was met
-pub record IsJobAmong (met : Option (Text × List Row)) (job : Job) : Type 0 where
-  pub rows : List Row
-  pub entries : met ≡ Some (codes "eval", rows)
-  pub said : IsJobOf rows job
+abbrev pub IsJobAmong : Option (Text × List Row) → Job → Type 0
+IsJobAmong met job = IsEvalAmong met job ⊎ IsVerifyAmong met job
 
 -- the job that the words of a command line say, if clap's definition of a parse finds no fault with them
 pub record IsJobFor (words : List Text) (job : Job) : Type 0 where

@@ -1,24 +1,36 @@
 -- What the program says to a command line: a message, the stream that it is written to, and the exit status.
-use Rattle.std.specs.Prelude.{⊤, ◌≡◌, ◌⊎◌, ◌++◌, ℕ, List, Option, Some, None, option_map, codes}
+use Rattle.std.specs.Prelude.{⊤, ◌≡◌, ◌⊎◌, ◌++◌, ℕ, List, length, Option, Some, None, is_some, option_map, codes}
 use Rattle.std.specs.declared.io.ErrorKind.{ErrorKind}
 use Rattle.std.specs.declared.io.ErrorKind.TheVariants as io
+use Rattle.std.specs.Fmt.{decimal}
 use Rattle.clap.specs.Words.{Text, kind_of}
 use Rattle.clap.specs.declared.error.Error.{Error}
 use Rattle.clap.specs.declared.error.kind.ErrorKind.TheVariants.{DisplayHelp, DisplayVersion}
-use Rattle.jcard.specs.Answer.{line_of}
+use Rattle.jc_base.specs.Reason.{name_of}
+use Rattle.jcard.specs.Answer.{line_of, verify_line_of}
+use Rattle.jcard.specs.Files.{file_line}
 use Rattle.jcard.specs.Line.{IsJobFor, IsLineError}
 use Rattle.jcard.specs.Texts.{AnswersTexts, IsTextFault, fault_line_of}
 use Rattle.jcard.specs.declared.answer.EvalAnswer.{EvalAnswer}
+use Rattle.jcard.specs.Verify.{AnswersPackages}
 use Rattle.jcard.specs.declared.job.Job.{Job}
-use Rattle.jcard.specs.declared.job.Job.TheVariants.{Eval}
+use Rattle.jcard.specs.declared.job.Job.TheVariants.{Eval, Verify}
+use Rattle.jcard.specs.declared.job.VerifyJob.{VerifyJob}
 use Rattle.jcard.specs.declared.saying.Message.{Message}
-use Rattle.jcard.specs.declared.saying.Message.TheVariants.{Answer, Fault, Line, NotText}
+use Rattle.jcard.specs.declared.saying.Message.TheVariants.{Answer, Fault, File, Line, NotText, Verified}
 use Rattle.jcard.specs.declared.saying.Said.{Said}
+use Rattle.jcard.specs.declared.saying.Remark.{Remark}
+use Rattle.jcard.specs.declared.saying.Reply.{Reply}
+use Rattle.jcard.specs.declared.saying.Reply.TheVariants as replies
 use Rattle.jcard.specs.declared.saying.Status.{Status}
 use Rattle.jcard.specs.declared.saying.Status.TheVariants.{Success, Failure, Misuse}
 use Rattle.jcard.specs.declared.saying.Stream.TheVariants.{Output, Errors}
+use Rattle.jcard.specs.declared.files.ReadFault.{ReadFault}
+use Rattle.jcard.specs.declared.files.ReadFault.TheVariants as reading
 use Rattle.jcard.specs.declared.texts.TextFault.{TextFault}
 use Rattle.jcard.specs.declared.texts.TextFault.TheVariants.{BadCode, LongCode, BadCert, Memory}
+use Rattle.jcard.specs.declared.verify_answer.VerifyAnswer.{VerifyAnswer}
+use Rattle.jcard.specs.declared.verify_answer.VerifyAnswer.TheVariants as answers
 
 -- the exit status as a number
 abbrev pub status_number : Status → ℕ
@@ -30,10 +42,12 @@ status_number Misuse = 2
 abbrev pub line_feed : List ℕ
 line_feed = codes "\n"
 
--- the bytes that are written, but for the words of clap and of the reader of hexadecimal
+-- the bytes that are written, but for the words of clap, of the system, and of the readers of hexadecimal and of bindings
 abbrev pub text_of : Message → Option (List ℕ)
 text_of (Answer answer) = Some (line_of answer ++ line_feed)
 text_of (Fault fault) = option_map (λ line. (codes "error: " ++ line) ++ line_feed) (fault_line_of fault)
+text_of (Verified answer) = Some (verify_line_of answer ++ line_feed)
+text_of (File fault) = option_map (λ line. (codes "error: " ++ line) ++ line_feed) (file_line fault)
 text_of (Line error) = None
 text_of NotText = Some (codes "error: an argument isn't UTF-8" ++ line_feed)
 
@@ -49,13 +63,15 @@ IsFailure said = (said.stream ≡ Errors) × (said.status ≡ Failure)
 abbrev pub IsMisuse : Said → Type 0
 IsMisuse said = (said.stream ≡ Errors) × (said.status ≡ Misuse)
 
--- an answer to a job, which is never want of memory
+-- an answer of `eval` to a job, which is never want of memory
 abbrev pub AnswersJob : Job → EvalAnswer → Type 0
 AnswersJob (Eval code cert steps) answer = AnswersTexts code.now cert.now steps answer
+AnswersJob (Verify job) answer = ⊥
 
--- what is wrong with a job's texts
+-- what is wrong with the texts of a job of `eval`
 abbrev pub IsJobFault : Job → TextFault → Type 0
 IsJobFault (Eval code cert steps) fault = IsTextFault code.now cert.now fault
+IsJobFault (Verify job) fault = ⊥
 
 -- the words say a job, and this is its answer
 pub record AnswersLine (words : List Text) (answer : EvalAnswer) : Type 0 where
@@ -89,12 +105,56 @@ pub record IsSaidOfLine (error : Error) (said : Said) : Type 0 where
 abbrev pub IsSaidAs : List Text → Said → Message → Type 0
 IsSaidAs words said (Answer answer) = AnswersLine words answer × IsSuccess said
 IsSaidAs words said (Fault fault) = IsFaultOfLine words fault × IsFailure said
+IsSaidAs words said (Verified answer) = ⊥
+IsSaidAs words said (File fault) = ⊥
 IsSaidAs words said (Line error) = IsLineError words error × IsSaidOfLine error said
 IsSaidAs words said NotText = ⊥
 
 -- what is said to the words of a command line
 abbrev pub IsSaid : List Text → Said → Type 0
 IsSaid words said = IsSaidAs words said said.message
+
+-- the reply to the words of a command line: what is said, or the package to be verified that they say
+abbrev pub IsReply : List Text → Reply → Type 0
+IsReply words (replies.Said said) = IsSaid words said
+IsReply words (replies.Verify job) = IsJobFor words (Verify job)
+
+-- what is said of the answer to a package: its line, or that memory was wanting
+abbrev pub IsSaidOfVerified : VerifyAnswer → Said → Type 0
+IsSaidOfVerified (answers.Certificate bytes) said = (said.message ≡ Verified (answers.Certificate bytes)) × IsSuccess said
+IsSaidOfVerified (answers.NoCertificate method fault) said = (said.message ≡ Verified (answers.NoCertificate method fault)) × IsSuccess said
+IsSaidOfVerified (answers.Refused fault) said = (said.message ≡ Verified (answers.Refused fault)) × IsSuccess said
+IsSaidOfVerified answers.Memory said = (said.message ≡ Fault Memory) × IsFailure said
+
+-- what is said where files can't be read or written
+abbrev pub IsSaidOfFiles : ReadFault → Said → Type 0
+IsSaidOfFiles (reading.File fault) said = (said.message ≡ File fault) × IsFailure said
+IsSaidOfFiles reading.Memory said = (said.message ≡ Fault Memory) × IsFailure said
+
+-- what is said of a package in a folder behind others: the answer to what they hold, or that files can't be read or written
+pub data IsSaidOfJob (job : VerifyJob) (said : Said) : Type 0 where
+  verified : (answer : VerifyAnswer) → AnswersPackages (length job.earlier.items) (is_some job.binding) answer → IsSaidOfVerified answer said → IsSaidOfJob job said
+  unread : (fault : ReadFault) → IsSaidOfFiles fault said → IsSaidOfJob job said
+
+-- why there is no certificate, which is said beside the line of an answer
+abbrev pub verify_remark : VerifyAnswer → Option Remark
+verify_remark (answers.Certificate bytes) = None
+verify_remark (answers.NoCertificate method fault) = Some (record { method = method; fault = fault })
+verify_remark (answers.Refused fault) = None
+verify_remark answers.Memory = None
+
+-- what is said beside a message, on standard error
+abbrev pub remark_of : Message → Option Remark
+remark_of (Answer answer) = None
+remark_of (Fault fault) = None
+remark_of (Verified answer) = verify_remark answer
+remark_of (File fault) = None
+remark_of (Line error) = None
+remark_of NotText = None
+
+-- its line: the method, the pc at which its inference ends, and the reason
+abbrev pub remark_line : Remark → List ℕ
+remark_line r = ((((codes "no certificate: method " ++ decimal r.method) ++ codes ", pc ") ++ decimal r.fault.pc) ++ codes ": ") ++ name_of r.fault.reason
 
 -- what is said where there are no words: memory was wanting, or else one of them isn't UTF-8
 pub record IsSaidWithoutWords (kind : ErrorKind) (said : Said) : Type 0 where

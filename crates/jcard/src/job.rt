@@ -1,7 +1,7 @@
 //! What the program is asked for.
 
-/// What a command line asks for. Hexadecimal is text here, as it was written.
-#[derive(Clone, Copy, Debug, PartialEq, Eq)]
+/// What a command line asks for. Hexadecimal is text here, as it was written, and so are the names of files.
+#[derive(Debug, Drop)]
 pub enum Job<'a> {
     /// Code with its certificate, to be run for at most so many steps.
     Eval {
@@ -9,4 +9,19 @@ pub enum Job<'a> {
         cert: &'a str,
         steps: u32,
     },
+    /// A package, whose certificate is worked out.
+    Verify(VerifyJob<'a>),
+}
+
+/// A package to be verified, by the names of folders and files.
+#[derive(Debug, Drop)]
+pub struct VerifyJob<'a> {
+    /// The folder of the package.
+    pub folder: &'a str,
+    /// The file that the certificate is written to.
+    pub cert: &'a str,
+    /// The folders of the packages before it, in the order in which they are linked.
+    pub earlier: Vec<&'a str>,
+    /// The file of the binding, where it isn't the default one.
+    pub binding: Option<&'a str>,
 }

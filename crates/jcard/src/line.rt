@@ -1,15 +1,19 @@
-//! The command line: `jcard eval CODE [CERT] [--steps N]`.
+//! The command line: `jcard eval CODE [CERT] [--steps N]`, `jcard verify FOLDER CERT [EARLIER..] [--binding FILE]`.
 
 ghost use Rattle.std.specs.Prelude.{◌≡◌, map, IfErr, IfOk};
 ghost use Rattle.clap.specs.Words.{app_of, found_of, rows_of, subcommand_rows_of};
 ghost use Rattle.jcard.specs.declared.line.LineFault.TheVariants.{Memory};
-ghost use Rattle.jcard.specs.Line.{AreSteps, Finds, IsEvalCommand, IsFaultFrom, IsJobAmong, IsJobFor, IsJobOf, IsLineFault, card_app};
+ghost use Rattle.jcard.specs.Line.{AreEarlier, AreSteps, Finds, IsEvalAmong, IsEvalCommand, IsEvalOf, IsFaultFrom, IsJobAmong, IsJobFor, IsLineFault, IsVerifyAmong, IsVerifyCommand, IsVerifyOf, card_app};
 
-use crate::job::Job;
+use crate::job::{Job, VerifyJob};
 use clap::error::ErrorKind;
-use clap::{Arg, ArgMatches, Command, Error, value_parser};
+use clap::{Arg, ArgAction, ArgMatches, Command, Error, value_parser};
 use std::alloc::{AllocError, Global};
 use std::convert::AsStr;
+
+// What the help of `verify` says of folders.
+const FOLDER_HELP: &str =
+    "A folder holds the component files of a package: Header.cap, Applet.cap, Import.cap, ConstantPool.cap,\nClass.cap, Method.cap, StaticField.cap, Export.cap, Descriptor.cap. One that isn't there is left out; other\nfiles are ignored.";
 
 /// Why there is no job.
 #[derive(Debug, Drop)]
@@ -47,7 +51,8 @@ pub fn job<'a, S: AsStr>(alloc: Global, words: &'a [S]) -> Result<Job<'a>, LineF
 {
     let mut program = card_command(alloc)?;
     let matches = program.try_get_matches_from_mut(words)?;
-    match named_job(&matches) {
+    let named = named_job(alloc, &matches)?;
+    match named {
         Some(job) => Ok(job),
         None => Err(LineFault::from(program.error(
             ErrorKind::MissingSubcommand,
@@ -63,7 +68,8 @@ fn card_command<'a>(alloc: Global) -> Result<Command<'a>, AllocError>
     Command::new(alloc, "jcard")
         .about("Checks and runs the code of a Java Card")
         .subcommand_required(true)
-        .subcommand(eval_command(alloc)?)
+        .subcommand(eval_command(alloc)?)?
+        .subcommand(verify_command(alloc)?)
 }
 
 // `eval CODE [CERT] [--steps N]`.
@@ -89,21 +95,99 @@ fn eval_command<'a>(alloc: Global) -> Result<Command<'a>, AllocError>
         .arg(steps)
 }
 
+// `verify FOLDER CERT [EARLIER..] [--binding FILE]`.
+fn verify_command<'a>(alloc: Global) -> Result<Command<'a>, AllocError>
+    ensures { IfOk result IsVerifyCommand }
+{
+    let folder = Arg::new(alloc, "FOLDER")
+        .required(true)
+        .help("The folder of the package");
+    let cert = Arg::new(alloc, "CERT")
+        .required(true)
+        .help("The file that the certificate is written to");
+    let earlier = Arg::new(alloc, "EARLIER").action(ArgAction::Append).help(
+        "The folders of the packages before it, in the order in which they are linked",
+    );
+    let binding = Arg::new(alloc, "binding")
+        .long("binding")
+        .value_name("FILE")
+        .help(
+            "The names of the API's packages, classes and members, where they aren't the default ones",
+        );
+    Command::new(alloc, "verify")
+        .about("Works out the certificate of a package")
+        .after_help(FOLDER_HELP)
+        .arg(folder)?
+        .arg(cert)?
+        .arg(earlier)?
+        .arg(binding)
+}
+
 // The job that the program's matches say.
-fn named_job<'a>(matches: &ArgMatches<'a>) -> Option<Job<'a>>
-    ensures { Finds result (IsJobAmong (subcommand_rows_of matches.now)) }
+fn named_job<'a>(alloc: Global, matches: &ArgMatches<'a>) -> Result<Option<Job<'a>>, AllocError>
+    ensures { IfOk result (λ found. Finds found (IsJobAmong (subcommand_rows_of matches.now))) }
+{
+    match named_eval(matches) {
+        Some(job) => Ok(Some(job)),
+        None => named_verify(alloc, matches),
+    }
+}
+
+// The job that they say where `eval` was named.
+fn named_eval<'a>(matches: &ArgMatches<'a>) -> Option<Job<'a>>
+    ensures { Finds result (IsEvalAmong (subcommand_rows_of matches.now)) }
 {
     eval_job(matches.subcommand_matches("eval")?)
 }
 
+// The job that they say where `verify` was named.
+fn named_verify<'a>(alloc: Global, matches: &ArgMatches<'a>) -> Result<Option<Job<'a>>, AllocError>
+    ensures { IfOk result (λ found. Finds found (IsVerifyAmong (subcommand_rows_of matches.now))) }
+{
+    match matches.subcommand_matches("verify") {
+        Some(found) => verify_job(alloc, found),
+        None => Ok(None),
+    }
+}
+
 // The job that the matches of `eval` say.
 fn eval_job<'a>(found: &ArgMatches<'a>) -> Option<Job<'a>>
-    ensures { Finds result (IsJobOf (rows_of (found_of found.now))) }
+    ensures { Finds result (IsEvalOf (rows_of (found_of found.now))) }
 {
     let code = found.get_str("CODE")?;
     let cert = found.get_str("CERT")?;
     let steps = steps_in(found)?;
     Some(Job::Eval { code, cert, steps })
+}
+
+// The job that the matches of `verify` say.
+fn verify_job<'a>(alloc: Global, found: &ArgMatches<'a>) -> Result<Option<Job<'a>>, AllocError>
+    ensures { IfOk result (λ job. Finds job (IsVerifyOf (rows_of (found_of found.now)))) }
+{
+    let Some(folder) = found.get_str("FOLDER") else {
+        return Ok(None);
+    };
+    let Some(cert) = found.get_str("CERT") else {
+        return Ok(None);
+    };
+    let earlier = earlier_in(alloc, found)?;
+    let binding = found.get_str("binding");
+    Ok(Some(Job::Verify(VerifyJob {
+        folder,
+        cert,
+        earlier,
+        binding,
+    })))
+}
+
+// The folders of the packages before it.
+fn earlier_in<'a>(alloc: Global, found: &ArgMatches<'a>) -> Result<Vec<&'a str>, AllocError>
+    ensures { IfOk result (λ names. AreEarlier (rows_of (found_of found.now)) names.items) }
+{
+    match found.get_strs("EARLIER") {
+        Some(names) => names.to_vec(alloc),
+        None => Ok(Vec::new(alloc)),
+    }
 }
 
 // The number of steps that the matches of `eval` say.

@@ -4,6 +4,8 @@
 mod answer;
 mod eval;
 mod exception;
+mod files;
+mod folders;
 mod frame;
 mod job;
 mod line;
@@ -12,20 +14,33 @@ mod perform;
 mod run;
 mod saying;
 mod shorts;
+mod source;
 mod texts;
+mod verify;
+mod verify_answer;
+mod verify_folders;
 
-use saying::{Said, Status, Stream, said_to, said_without_words};
+use saying::{Reply, Said, Status, Stream, remark_of, said_to, said_without_words};
 use std::process::ExitCode;
 use std::{env, io};
+use verify_folders::said_of_job;
 
 fn main(rt: HostRuntime) -> ExitCode {
     let said = match words_of(&rt) {
-        Ok(words) => said_to(rt.alloc(), &words),
+        Ok(words) => said_of(&rt, &words),
         Err(error) => said_without_words(&error),
     };
     match write(&rt, &said) {
-        Ok(()) => ExitCode::from(said.status.number()),
+        Ok(()) => ended(&rt, &said),
         Err(error) => unwritten(&rt, &error),
+    }
+}
+
+// What is said to the words of a command line, once it is done what they ask for.
+fn said_of(rt: &HostRuntime, words: &[String]) -> Said {
+    match said_to(rt.alloc(), words) {
+        Reply::Said(said) => said,
+        Reply::Verify(job) => said_of_job(rt, &job),
     }
 }
 
@@ -39,6 +54,14 @@ fn write(rt: &HostRuntime, said: &Said) -> io::Result<()> {
         Stream::Output => print!(rt; "{}", said.message),
         Stream::Errors => eprint!(rt; "{}", said.message),
     }
+}
+
+// The message is written. What is said beside it is told, if it can be.
+fn ended(rt: &HostRuntime, said: &Said) -> ExitCode {
+    if let Some(remark) = remark_of(&said.message) {
+        let _told = eprint!(rt; "{remark}");
+    }
+    ExitCode::from(said.status.number())
 }
 
 // What was to be said can't be written. That is told, if it can be.

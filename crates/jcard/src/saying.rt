@@ -1,15 +1,18 @@
 //! What the program says to a command line.
 
-ghost use Rattle.std.specs.Prelude.{◌≡◌, map, IfOk, IfErr};
+ghost use Rattle.std.specs.Prelude.{◌≡◌, map};
 ghost use Rattle.std.specs.IoError.{error_kind};
-ghost use Rattle.jcard.specs.Line.{IsJobFor, IsLineError};
-ghost use Rattle.jcard.specs.Saying.{AnswersJob, IsFailure, IsJobFault, IsMisuse, IsSaid, IsSaidOfLine, IsSaidWithoutWords, IsSuccess, status_number};
+ghost use Rattle.jcard.specs.PrivateSaying.{IsSaidOfCode};
+ghost use Rattle.jcard.specs.Saying.{IsFailure, IsMisuse, IsReply, IsSaidOfFiles, IsSaidOfLine, IsSaidOfVerified, IsSaidWithoutWords, IsSuccess, remark_of, status_number};
 
 use crate::answer::EvalAnswer;
-use crate::job::Job;
+use crate::files::{FileFault, ReadFault};
+use crate::job::{Job, VerifyJob};
 use crate::line::{LineFault, job};
 use crate::texts::{TextFault, answer_of};
+use crate::verify_answer::VerifyAnswer;
 use clap::Error;
+use jc_check::Fault;
 use std::alloc::Global;
 use std::convert::AsStr;
 use std::{fmt, io};
@@ -54,6 +57,10 @@ pub enum Message {
     Answer(EvalAnswer),
     /// Why there is no answer.
     Fault(TextFault),
+    /// The line of an answer to a package.
+    Verified(VerifyAnswer),
+    /// A file can't be read or written.
+    File(FileFault),
     /// Clap's words on a line that says no job, or that asks for help.
     Line(Error),
     /// One of the words isn't UTF-8.
@@ -69,6 +76,8 @@ impl fmt::Display for Message {
         match self {
             Message::Answer(answer) => write!(f, "{answer}\n"),
             Message::Fault(fault) => write!(f, "error: {fault}\n"),
+            Message::Verified(answer) => write!(f, "{answer}\n"),
+            Message::File(fault) => write!(f, "error: {fault}\n"),
             Message::Line(error) => write!(f, "{error}"),
             Message::NotText => write!(f, "error: an argument isn't UTF-8\n"),
         }
@@ -83,17 +92,58 @@ pub struct Said {
     pub status: Status,
 }
 
-/// What is said to the words of a command line, of which the first is the program's name.
-pub fn said_to<S: AsStr>(alloc: Global, words: &[S]) -> Said
-    ensures { IsSaid (map S.text words.now) result }
+/// The reply to a command line.
+#[derive(Debug, Drop)]
+pub enum Reply<'a> {
+    /// This is said.
+    Said(Said),
+    /// A package is to be verified, and then it is said what comes of it.
+    Verify(VerifyJob<'a>),
+}
+
+/// What is said beside a message, on standard error: for which method there is no certificate, and where its inference ends. Its
+/// `Display` is a whole line.
+#[derive(Clone, Copy, Debug, PartialEq, Eq)]
+pub struct Remark {
+    pub method: u16,
+    pub fault: Fault,
+}
+
+impl fmt::Display for Remark {
+    ghost use Rattle.std.specs.Prelude.{◌++◌, Some};
+    ghost use Rattle.jcard.specs.Saying.{line_feed, remark_line};
+
+    ghost output = { λ remark. Some (remark_line remark ++ line_feed) };
+
+    fn fmt<W: fmt::Write>(&self, f: &mut fmt::Formatter<W>) -> fmt::Result {
+        let Remark { method, fault } = *self;
+        let Fault { pc, reason } = fault;
+        write!(f, "no certificate: method {method}, pc {pc}: {reason}\n")
+    }
+}
+
+/// What is said beside a message.
+pub fn remark_of(message: &Message) -> Option<Remark>
+    ensures { result ≡ remark_of message.now }
+{
+    match message {
+        Message::Verified(VerifyAnswer::NoCertificate { method, fault }) => Some(Remark {
+            method: *method,
+            fault: *fault,
+        }),
+        _ => None,
+    }
+}
+
+/// What comes of the words of a command line, of which the first is the program's name.
+pub fn said_to<'a, S: AsStr>(alloc: Global, words: &'a [S]) -> Reply<'a>
+    ensures { IsReply (map S.text words.entry.now) result }
 {
     match job(alloc, words) {
-        Ok(job) => match answer_to(alloc, job) {
-            Ok(answer) => answered(answer),
-            Err(fault) => failed(fault),
-        },
-        Err(LineFault::Line(error)) => said_of_line(error),
-        Err(LineFault::Memory) => failed(TextFault::Memory),
+        Ok(Job::Eval { code, cert, steps }) => Reply::Said(said_of_code(alloc, code, cert, steps)),
+        Ok(Job::Verify(job)) => Reply::Verify(job),
+        Err(LineFault::Line(error)) => Reply::Said(said_of_line(error)),
+        Err(LineFault::Memory) => Reply::Said(failed(TextFault::Memory)),
     }
 }
 
@@ -108,12 +158,41 @@ pub fn said_without_words(error: &io::Error) -> Said
     }
 }
 
-fn answer_to(alloc: Global, job: Job) -> Result<EvalAnswer, TextFault>
-    ensures answered { IfOk result (AnswersJob job.entry) }
-    ensures faults { IfErr result (IsJobFault job.entry) }
+/// What is said of the answer to a package.
+pub fn said_of_verified(answer: VerifyAnswer) -> Said
+    ensures { IsSaidOfVerified answer result }
 {
-    match job {
-        Job::Eval { code, cert, steps } => answer_of(alloc, code, cert, steps),
+    match answer {
+        VerifyAnswer::Memory => failed(TextFault::Memory),
+        answer => Said {
+            stream: Stream::Output,
+            message: Message::Verified(answer),
+            status: Status::Success,
+        },
+    }
+}
+
+/// What is said where files can't be read or written.
+pub fn said_of_files(fault: ReadFault) -> Said
+    ensures { IsSaidOfFiles fault result }
+{
+    match fault {
+        ReadFault::File(fault) => Said {
+            stream: Stream::Errors,
+            message: Message::File(fault),
+            status: Status::Failure,
+        },
+        ReadFault::Memory => failed(TextFault::Memory),
+    }
+}
+
+// What is said to code and a certificate.
+fn said_of_code(alloc: Global, code: &str, cert: &str, steps: u32) -> Said
+    ensures { IsSaidOfCode code.now cert.now steps result }
+{
+    match answer_of(alloc, code, cert, steps) {
+        Ok(answer) => answered(answer),
+        Err(fault) => failed(fault),
     }
 }
 

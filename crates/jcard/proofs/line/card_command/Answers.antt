@@ -8,4 +8,6 @@ returns c =
     let bare : App = new_app (codes "jcard") in
     let empty_is : app_of c.subcommand_required.result ≡ record bare { top = record bare.top { subcommand_required = true } } = search rules in
     let e = c.in_ok-eval_command.ensures in
-    IfOk-weaker c.subcommand.result _ _ (λ r added. added.shape e.globals ∙ ap₂ with_subcommand empty_is (ap (λ (a : App). a.top) e.app)) c.subcommand.ensures
+    let v = c.in_ok-verify_command.ensures in
+    let one = c.in_ok-subcommand.ensures.shape e.globals ∙ ap₂ with_subcommand empty_is (ap (λ (a : App). a.top) e.app) in
+    IfOk-weaker c.subcommand-2.result _ _ (λ r added. added.shape v.globals ∙ ap₂ with_subcommand one (ap (λ (a : App). a.top) v.app)) c.subcommand-2.ensures

@@ -19,7 +19,7 @@ returns-in-Some g c =
     let words : List Text = map g.S.AsStr.text c.args.words.now in
     let none = subst (λ (app : App). is_simple_and_free app ≡ true → fault_of app words ≡ []) same c.in_ok-matches.ensures.kinds refl in
     let met = (c.in_ok-matches.ensures.ok.2 (ap is_simple same)).1 in
-    record { said = record { faultless = none; met = subst (λ sub. IsJobAmong sub c.in-Some.job) (met ∙ ap (λ app. subcommand_of app words) same) c.in-Some.ensures }; refused = tt }
+    record { said = record { faultless = none; met = subst (λ sub. IsJobAmong sub c.in-Some.job) (met ∙ ap (λ app. subcommand_of app words) same) (rw c.in-Some.is at c.in_ok-named.ensures) }; refused = tt }
 
 pub returns-clause-refused : goal.returns-clause-refused
 returns-clause-refused g c =
@@ -27,5 +27,5 @@ returns-clause-refused g c =
     let words : List Text = map g.S.AsStr.text c.args.words.now in
     let faultless = subst (λ (app : App). is_simple_and_free app ≡ true → fault_of app words ≡ []) same c.in_ok-matches.ensures.kinds refl in
     let met = (c.in_ok-matches.ensures.ok.2 (ap is_simple same)).1 in
-    let none = subst (λ sub. (job : Job) → IsJobAmong sub job → ⊥) (met ∙ ap (λ app. subcommand_of app words) same) c.in-None.ensures in
+    let none = subst (λ sub. (job : Job) → IsJobAmong sub job → ⊥) (met ∙ ap (λ app. subcommand_of app words) same) (rw c.in-None.is at c.in_ok-named.ensures) in
     refused_for_no_job _ c.from.result words faultless c.in_ok-error-in-None.ensures.kind none c.from.ensures

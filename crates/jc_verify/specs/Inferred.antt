@@ -1,0 +1,21 @@
+-- Where a certificate that was worked out has states (Java Card Virtual Machine Specification, verification of CAP files: data-flow
+-- analysis).
+use Rattle.std.specs.Prelude.{◌≡◌, ℕ, List, Some, slice_get}
+use Rattle.std.specs.List.{AllByRecursion}
+use Rattle.jc_cap_desc.specs.Shape.{MethodBody}
+use Rattle.jc_cert.specs.Cert.{Row, Stated}
+use Rattle.jc_code.specs.Instructions.{instr_at}
+use Rattle.jc_code.specs.Listing.{IsListing, PlacedInstr}
+use Rattle.jc_link.specs.Linked.{Linked}
+use Rattle.jc_check.specs.Checked.{stated_for}
+use Rattle.jc_check.specs.Method.{Method}
+use Rattle.jc_check.specs.Package.{method_of}
+use Rattle.jc_verify.specs.Live.{IsEntered}
+
+-- each state stands where control flow enters the method by a branch or a handler of an instruction that it reaches
+abbrev pub AreWhereEntered : Method → List Stated → Type 0
+AreWhereEntered m states = (listing : List PlacedInstr) → IsListing instr_at m.code listing → AllByRecursion (λ c. IsEntered m listing c.pc) states
+
+-- so it is for each method with code of a package
+pub record HasStatesWhereEntered (l : Linked) (rows : List Row) : Type 0 where
+  pub each : (n : ℕ) (b : MethodBody) → slice_get l.body.kept.methods n ≡ Some b → AreWhereEntered (method_of l b) (stated_for rows b.offset)

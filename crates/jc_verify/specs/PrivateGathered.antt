@@ -1,0 +1,52 @@
+-- Private. What is known of a package's rows, one method after the other.
+use Rattle.std.specs.Prelude.{◌≡◌, ◌⊎◌, ℕ, ◌<◌, true, List, [], ◌∷◌, ◌++◌, Some, None, slice_get}
+use Rattle.jc_base.specs.NumberSet.{has_number}
+use Rattle.jc_cap_desc.specs.Shape.{MethodBody}
+use Rattle.jc_cert.specs.Cert.{Row, Stated, rows}
+use Rattle.jc_link.specs.Linked.{Linked}
+use Rattle.jc_check.specs.Carried.{Carries}
+use Rattle.jc_check.specs.Method.{Method}
+use Rattle.jc_check.specs.Package.{method_of, package_rules}
+use Rattle.jc_verify.specs.Inferred.{AreWhereEntered}
+use Rattle.jc_verify.specs.declared.gathering.Gathered.{Gathered}
+
+-- a method with code stands at a place among the first of a package
+pub record Stands (l : Linked) (n k : ℕ) (b : MethodBody) : Type 0 where
+  pub first : k < n
+  pub is : slice_get l.body.kept.methods k ≡ Some b
+
+-- states carry a method, and stand where control flow enters it
+pub record IsInferred (l : Linked) (m : Method) (states : List Stated) : Type 0 where
+  pub carried : Carries (package_rules l) m states
+  pub entered : AreWhereEntered m states
+
+-- a row is for one of the first methods
+pub record IsRowOf (l : Linked) (n : ℕ) (r : Row) : Type 0 where
+  pub place : ℕ
+  pub method : MethodBody
+  pub stands : Stands l n place method
+  pub offset : r.offset ≡ method.offset
+  pub inferred : IsInferred l (method_of l method) r.states
+
+-- among rows one is for an offset
+pub record HasRow (of : List Row) (offset : ℕ) : Type 0 where
+  pub place : ℕ
+  pub row : Row
+  pub is : slice_get of place ≡ Some row
+  pub for : row.offset ≡ offset
+
+-- the first methods have their rows, those that states carry at places; others are carried without a state
+pub record AreGathered (l : Linked) (n : ℕ) (of : List Row) (seen : List ℕ) : Type 0 where
+  pub each : (k : ℕ) (b : MethodBody) → Stands l n k b → IsInferred l (method_of l b) [] ⊎ HasRow of b.offset
+  pub come : (k : ℕ) (r : Row) → slice_get of k ≡ Some r → IsRowOf l n r
+  pub known : (k : ℕ) (b : MethodBody) → Stands l n k b → has_number seen b.offset ≡ true
+  pub apart : (j k : ℕ) (a b : MethodBody) → Stands l n j a → Stands l n k b → a.offset ≡ b.offset → a ≡ b
+
+-- so it is where nothing is told
+abbrev pub IsSoFar : Linked → ℕ → Gathered → Type 0
+IsSoFar l n g = g.told ≡ None → AreGathered l n (rows g.rows.items) g.seen
+
+-- a row was put behind others, if it has states
+abbrev pub IsPut : ℕ → List Stated → List Row → List Row → Type 0
+IsPut offset states before after =
+    ((states ≡ []) × (after ≡ before)) ⊎ (after ≡ before ++ record { offset = offset; states = states } ∷ [])

@@ -1,0 +1,107 @@
+//! The rows of a package's certificate, one method after the other.
+
+ghost use Rattle.std.specs.Prelude.{◌≡◌, ◌+◌, ℕ, Some, map, length, slice_get, nat_le, false, IfOk, IfErr};
+ghost use Rattle.std.specs.Option.{option_map_or};
+ghost use Rattle.jc_cert.specs.Cert.{rows, stated};
+ghost use Rattle.jc_check.specs.Package.{method_of};
+ghost use Rattle.jc_verify.specs.PrivateFlow.{HasLaws};
+ghost use Rattle.jc_verify.specs.PrivateGathered.{IsInferred, IsPut, IsSoFar};
+
+use crate::fault::VerifyFault;
+use crate::method::states_of;
+use jc_base::{NumberSet, Reason};
+use jc_cert::{MethodRow, StateRow};
+use jc_check::{Fault, WordFault, method_of};
+use jc_link::{Linked, MethodCode};
+use std::alloc::Global;
+
+/// A method that no states were found for, and where its inference ends.
+#[derive(Clone, Copy)]
+pub(crate) struct Told {
+    pub(crate) method: u16,
+    pub(crate) fault: Fault,
+}
+
+/// What is known of the first methods of a package: the rows of those that have states, the offsets at which they stand, and of
+/// those without a certificate the one with the least offset.
+#[derive(Drop)]
+pub(crate) struct Gathered {
+    pub(crate) rows: Vec<MethodRow>,
+    pub(crate) seen: NumberSet,
+    pub(crate) told: Option<Told>,
+}
+
+/// The states that carry a method with code.
+fn states_for(alloc: Global, linked: &Linked, body: &MethodCode) -> Result<Vec<StateRow>, WordFault>
+    requires { HasLaws linked.now }
+    ensures { IfOk result (λ states. IsInferred linked.now (method_of linked.now body.now) (map stated states.items)) }
+{
+    let method = method_of(alloc, linked, body)?;
+    states_of(alloc, linked, &method)
+}
+
+/// Whether a method is told of that stands before another one, or where it stands.
+fn is_passed_over(told: Option<Told>, offset: u16) -> bool
+    ensures { result ≡ option_map_or (λ t. nat_le t.method offset) told false }
+{
+    match told {
+        Some(told) => told.method <= offset,
+        None => false,
+    }
+}
+
+/// Puts the row of a method behind others, if it has states.
+fn put_states(
+    gathered: &mut Gathered,
+    offset: u16,
+    states: Vec<StateRow>,
+) -> Result<(), VerifyFault>
+    ensures put { IfOk result (λ u. IsPut offset (map stated states.items) (rows gathered.old.rows.items) (rows gathered.new.rows.items)) }
+    ensures seen { gathered.new.seen ≡ gathered.old.seen }
+    ensures told { gathered.new.told ≡ gathered.old.told }
+    ensures memory { IfErr result (λ fault. fault ≡ VerifyFault.Memory) }
+{
+    if states.is_empty() {
+        return Ok(());
+    }
+    gathered.rows.push(MethodRow { offset, states })?;
+    Ok(())
+}
+
+/// One method more. One that stands behind a method without a certificate is passed over; of two at one offset, which readers refuse,
+/// the second has none.
+pub(crate) fn gather(
+    alloc: Global,
+    linked: &Linked,
+    body: &MethodCode,
+    gathered: &mut Gathered,
+) -> Result<(), VerifyFault>
+    requires { HasLaws linked.now }
+    ensures gathered { IfOk result (λ u. (n : ℕ) → slice_get linked.now.body.kept.methods n ≡ Some body.now → IsSoFar linked.now n gathered.old → IsSoFar linked.now (n + 1) gathered.new) }
+    ensures memory { IfErr result (λ fault. fault ≡ VerifyFault.Memory) }
+{
+    let offset = body.offset;
+    if is_passed_over(gathered.told, offset) {
+        return Ok(());
+    }
+    if gathered.seen.contains(offset) {
+        gathered.told = Some(told_at(offset, 0, Reason::CertMismatch));
+        return Ok(());
+    }
+    gathered.seen.insert(offset);
+    match states_for(alloc, linked, body) {
+        Ok(states) => put_states(gathered, offset, states),
+        Err(WordFault::Refused { pc, reason }) => {
+            gathered.told = Some(told_at(offset, pc, reason));
+            Ok(())
+        }
+        Err(WordFault::Memory) => Err(VerifyFault::Memory),
+    }
+}
+
+fn told_at(method: u16, pc: u16, reason: Reason) -> Told {
+    Told {
+        method,
+        fault: Fault { pc, reason },
+    }
+}

@@ -1,0 +1,21 @@
+use Rattle.std.proofs.Common.{arith}
+use Rattle.std.proofs.lemmas.Result.{err_from_is_err_and}
+use Rattle.jc_classes.specs.Api.{api_world}
+use Rattle.jcard.specs.PrivateVerify.{AreUnloaded}
+use Rattle.jcard.proofs.Verifying.{at_last, ended, further, images_of}
+use Rattle.jcard.proofs.verify.load_all.Goals as goal
+
+pub returns-in_err-load-clause-refused : goal.returns-in_err-load-clause-refused
+returns-in_err-load-clause-refused c =
+    let unloaded : AreUnloaded (api_world c.args.binding.now) (images_of c.args.earlier.now) c.in_err-load.field-0.0 =
+    ended _ _ _ _ _ _ c.loop-image-test.true c.image-item.is c.deref.ensures.value c.loop-image.invariant _ c.in_err-load.ensures.refused in
+    let told = err_from_is_err_and c.from_residual-in_err-load.result c.from_residual-in_err-load.ensures.1 in
+    rw (told.1, told.2) unloaded
+
+pub loop-image-preserved : goal.loop-image-preserved
+loop-image-preserved c =
+    further _ _ _ _ _ _ c.loop-image-test.true c.image-item.is c.deref.ensures.value c.loop-image.invariant _ c.in_ok-load.ensures.loaded
+
+pub returns-clause-loaded : goal.returns-clause-loaded
+returns-clause-loaded c =
+    at_last _ _ _ c.loop-image.image-index (omega (arith, c.loop-image-test.false)) c.loop-image.invariant

@@ -1,5 +1,5 @@
 """Writes images of packages from what they say: classes, members and references by name, and certificates for them. The
-layouts are docs/profile/files.md and docs/profile/certificate.md; tests/link, tests/check and bench/link use it."""
+layouts are docs/profile/files.md and docs/profile/certificate.md; tests/link, tests/check, tests/verify and benchmarks use it."""
 from dataclasses import dataclass, field
 from struct import pack
 
@@ -342,6 +342,39 @@ def image(package):
     return Image(package).whole()
 
 
+# Component files, as a folder of a package has them
+
+FILES = {
+    1: 'Header.cap', 3: 'Applet.cap', 4: 'Import.cap', 5: 'ConstantPool.cap', 6: 'Class.cap', 7: 'Method.cap', 8: 'StaticField.cap',
+    10: 'Export.cap', 11: 'Descriptor.cap',
+}
+
+
+def components(image):
+    """The tags and infos of an image's components one behind the other, or None where it can't be cut so."""
+    found, at = [], 0
+    while at < len(image):
+        size = int.from_bytes(image[at + 1:at + 3], 'big')
+        if at + 3 + size > len(image):
+            return None
+        found.append((image[at], image[at + 3:at + 3 + size]))
+        at += 3 + size
+    return found
+
+
+def component(tag, info):
+    return u1(tag) + u2(len(info)) + info
+
+
+def component_files(image):
+    """The files of an image, by their names: one for each component, or one alone where components have no files or not this order."""
+    parts = components(image)
+    tags = [tag for tag, _ in parts or []]
+    if parts is None or any(tag not in FILES for tag in tags) or tags != sorted(set(tags)):
+        return {'Header.cap': image}
+    return {FILES[tag]: component(tag, info) for tag, info in parts}
+
+
 # The API, and packages over it
 
 LANG = (bytes.fromhex('F04A430101'), (1, 0))
@@ -412,3 +445,35 @@ def bound(*lines):
     text.update({('member', str(i + 1)): 'member %d %d' % (i + 1, t) for i, t in enumerate(MEMBER_TOKENS)})
     text.update({tuple(line.split()[:2]): line for line in lines})
     return '\n'.join(text.values()) + '\n'
+
+
+def api_packages(superclasses, members, tokens=CLASS_TOKENS):
+    """The API's packages, as others are described: classes in the order of their numbers with the one above each, members one behind the other
+    by six words each (a class, a name, its form, its token, what it takes and what it gives), and the tokens of classes."""
+    home = {name: int(number > 12) for number, name in enumerate(superclasses, 1)}
+    token = dict(zip(superclasses, tokens))
+    classes, statics = {}, {name: [] for name in superclasses}
+
+    def class_ref(name, at):
+        return name if home[name] == at else Imported(home[name], token[name])
+
+    def kind(word, at):
+        name = word.removesuffix('[]')
+        return Reference(class_ref(name, at), name != word) if name in home else word
+
+    for name, above in superclasses.items():
+        above = None if above == '-' else class_ref(above, home[name])
+        classes[name] = Class(name, above, interface=name == 'Shareable', abstract=name == 'Applet')
+    for of, name, form, place, takes, gives in zip(*[iter(members)] * 6):
+        at, c = home[of], classes[of]
+        takes = tuple(kind(t, at) for t in takes.split(',') if t != '-')
+        c.methods.append(Method('%s.%s' % (of, name), takes, kind(gives, at), static=form == 'static'))
+        if form == 'virtual':
+            c.public.base = c.public.base if c.public.entries else int(place)
+            c.public.entries.append(c.methods[-1].name)
+        else:
+            statics[of].append(c.methods[-1].name)
+    for at, (aid_of, version) in enumerate(API):
+        own = [classes[name] for name in superclasses if home[name] == at]
+        exports = [(c.name, [], statics[c.name]) for c in sorted(own, key=lambda c: token[c.name])]
+        yield Package(aid_of, version, imports=API[:at], exports=exports, classes=own)

@@ -3,6 +3,7 @@ on, and at no other, and each the least. Tests and their order are those of docs
 tests/effects.table says. It is written from these, and shares nothing with the program. It asks for packages that can be linked.
 """
 import re
+from collections import Counter
 
 from assembler import ENDS, FORMS
 from lookups import *
@@ -214,13 +215,14 @@ class Flow:
             to_see |= {at for at in entered | falls if at in self.code and at not in live}
 
     def arrive(self, source, pc, locals, stack):
-        """A state goes on from a pc, the entry's from None, to a place: the one there becomes the least above both."""
-        self.depths.setdefault(pc, {})[source] = len(stack)
-        held = self.states.setdefault(pc, (locals, stack))
-        if len(held[1]) == len(stack):
-            self.states[pc] = tuple([self.world.joined(t, u) for t, u in zip(a, b)] for a, b in zip(held, (locals, stack)))
-        if held != self.states[pc] or pc not in self.seen:
-            self.waiting.add(pc)
+        """A state goes on from a pc, the entry's from None, to a place: the one there becomes the least above both. Where ways of unlike depths
+        meet each goes on by itself, as it isn't said which is told."""
+        at, came = (pc, len(stack)), (locals, stack)
+        self.sources.setdefault(at, set()).add(source)
+        held = self.states.get(at, came)
+        self.states[at] = tuple([self.world.joined(t, u) for t, u in zip(a, b)] for a, b in zip(held, came))
+        if held != self.states[at] or at not in self.seen:
+            self.waiting.add(at)
 
     def visit(self, pc, locals, stack):
         """What goes on behind an instruction where no place is, once its state has gone on to places."""
@@ -247,18 +249,18 @@ class Flow:
 
     def settle(self):
         """States at places rise until none is to be looked at again."""
-        self.states, self.depths, self.waiting, self.seen = {}, {}, set(), set()
+        self.states, self.sources, self.waiting, self.seen = {}, {}, set(), set()
         if 0 in self.places:
             self.arrive(None, 0, *self.entry)
         else:
             self.follow(0, *self.entry)
         while self.waiting:
-            pc = self.waiting.pop()
-            self.seen.add(pc)
-            self.follow(pc, *self.states[pc])
-        for sources in self.depths.values():
-            if len(set(sources.values())) > 1:
-                self.faults |= {(pc, 'CertMismatch') for pc in sources if pc is not None}
+            at = self.waiting.pop()
+            self.seen.add(at)
+            self.follow(at[0], *self.states[at])
+        depths = Counter(pc for pc, _ in self.states)
+        for (pc, _), sources in self.sources.items():
+            self.faults |= {(source, 'CertMismatch') for source in sources - {None} if depths[pc] > 1}
 
     def least(self):
         """The least states by their pcs, and the faults that may be told, none where there are states."""
@@ -268,7 +270,7 @@ class Flow:
             self.settle()
         except Fault as fault:
             self.faults.add(fault.args)
-        return ({} if self.faults else self.states), self.faults
+        return {} if self.faults else {pc: held for (pc, _), held in self.states.items()}, self.faults
 
 
 def spelled(packages, t):

@@ -18,15 +18,6 @@ const POOLED: [u8; 22] = [
     1, 0, 0, 5, 0, 0, 7, 0, 0, 8, 0, 0, 11, 0, 0, 6, 0, 4, 0, 1, 9, 0x80,
 ];
 
-/// The first image with one byte changed, which is refused then.
-const CHANGED: [(usize, u8); 5] = [
-    (18, 0xA0), // a remote interface
-    (22, 0x21), // a remote class
-    (31, 2), // a method too many
-    (38, 1), // an interface behind the class
-    (38, 3), // an index that isn't there
-];
-
 #[test]
 fn records(rt: HostRuntime) -> Result<(), Fail> {
     let parts = cut(&IMAGE).ok().ok_or("it has its components")?;
@@ -79,21 +70,5 @@ fn a_pool_of_signatures(rt: HostRuntime) -> Result<(), Fail> {
     assert!(rt; records.at(3).is_some());
     let told = read_class(&parts, Format::TwoOne).err();
     assert_eq!(rt; told, Some(LoadFault::Malformed(6)));
-    Ok(())
-}
-
-#[test]
-fn refusals(rt: HostRuntime) -> Result<(), Fail> {
-    for (place, byte) in CHANGED {
-        let mut image = IMAGE;
-        if place < 41 {
-            image[place] = byte;
-        }
-        let parts = cut(&image).ok().ok_or("it has its components")?;
-        let told = read_class(&parts, Format::TwoOne).err();
-        assert_eq!(rt; told, Some(LoadFault::Malformed(6)), "{byte} at {place}");
-        let fits = class_layout(&parts, Format::TwoOne).is_ok();
-        assert_eq!(rt; fits, place < 31, "{byte} at {place}");
-    }
     Ok(())
 }

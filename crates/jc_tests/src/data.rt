@@ -1,4 +1,4 @@
-use jc_base::{Aid, LoadFault, PackageInfo, cut};
+use jc_base::{Aid, PackageInfo, cut};
 use jc_cap_data::*;
 use std::test::*;
 
@@ -66,38 +66,4 @@ fn exports(rt: HostRuntime) -> Result<(), Fail> {
     assert_eq!(rt; class.fields.get(0), Some(10));
     assert_eq!(rt; class.methods.get(1), Some(258));
     Ok(())
-}
-
-/// The image with one byte changed, and what is told of it.
-const CHANGED: [(usize, u8, LoadFault); 6] = [
-    (18, 3, LoadFault::Malformed(3)),
-    (19, 4, LoadFault::BadAid),
-    (38, 0, LoadFault::Malformed(4)),
-    (51, 12, LoadFault::Malformed(8)),
-    (56, 5, LoadFault::Malformed(8)),
-    (86, 1, LoadFault::Malformed(10)),
-];
-
-/// The first refusal of the four components.
-fn fault_of(image: &[u8]) -> Option<LoadFault> {
-    let parts = cut(image).ok()?;
-    let applets = read_applets(&parts).err();
-    let imports = read_imports(&parts).err();
-    let fields = read_static_fields(&parts).err();
-    applets
-        .or(imports)
-        .or(fields)
-        .or(read_exports(&parts).err())
-}
-
-#[test]
-fn refusals(rt: HostRuntime) {
-    assert_eq!(rt; fault_of(&IMAGE), None);
-    for (place, byte, fault) in CHANGED {
-        let mut image = IMAGE;
-        if place < 93 {
-            image[place] = byte;
-        }
-        assert_eq!(rt; fault_of(&image), Some(fault), "{byte} at {place}");
-    }
 }

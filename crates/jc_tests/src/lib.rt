@@ -21,8 +21,6 @@ mod faults;
 #[cfg(test)]
 mod head;
 #[cfg(test)]
-mod link;
-#[cfg(test)]
 mod method;
 #[cfg(test)]
 mod package;

@@ -56,6 +56,14 @@ all_below_length below (a ∷ xs) (b ∷ ys) h = ap suc (all_below_length below 
     second true q e = e
     second false q e = absurd cc
 
+-- types below others are as many
+pub below_lengths : (below : ClassName → ClassName → Bool) (s t : Types) → types_below below s t ≡ true → (length s.locals ≡ length t.locals) × (length s.operands ≡ length t.operands)
+below_lengths below s t h = let parts = both (all_below below s.locals t.locals) (all_below below s.operands t.operands) h in (all_below_length below s.locals t.locals parts.0, all_below_length below s.operands t.operands parts.1)
+  where
+    both : (p q : Bool) → p && q ≡ true → (p ≡ true) × (q ≡ true)
+    both true q e = (refl, e)
+    both false q e = absurd cc
+
 pub shape_above : (below : ClassName → ClassName → Bool) (m : Method) (s t : Types) → types_below below s t ≡ true → HasShape m s → HasShape m t
 shape_above below m s t h shape =
     let parts = both (all_below below s.locals t.locals) (all_below below s.operands t.operands) h in

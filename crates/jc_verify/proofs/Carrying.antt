@@ -19,12 +19,13 @@ use Rattle.jc_check.specs.Method.{Handler, Method, caught_types, covers, entry_o
 use Rattle.jc_check.specs.Package.{class_of_name, package_rules}
 use Rattle.jc_check.specs.declared.fault.Fault.{Fault}
 use Rattle.jc_check.specs.Rules.{Rules}
-use Rattle.jc_check.specs.Typing.{BranchLeads, HandlerLeads, Leads}
+use Rattle.jc_check.specs.Typing.{BranchLeads, HandlerLeads, IsFine, IsTyping, Leads, Typing}
+use Rattle.jc_verify.specs.Inferred.{LiesBelow}
 use Rattle.jc_link.specs.Linked.{Linked}
 use Rattle.jc_types.specs.State.{StateWithRoom, Types}
 use Rattle.jc_types.specs.declared.ty.Ty.{Ty}
 use Rattle.jc_verify.specs.PrivateFlow as flow
-use Rattle.jc_verify.specs.PrivateFlow.{AreShaped, HasLaws, HasShape, IsClosed, IsNumbered, IsVisited, Places, held_at, number_at, types_held, ends, goes_on}
+use Rattle.jc_verify.specs.PrivateFlow.{AreShaped, HasLaws, HasShape, IsClosed, IsNumbered, IsUnder, IsUpper, IsVisited, Places, held_at, number_at, types_held, ends, goes_on}
 use Rattle.jc_verify.specs.PrivateSettled.{AreAllClosed, IsEntryMet}
 use Rattle.jc_verify.specs.PrivateStated.{AreStateRows, IsStateRow, RowIf}
 use Rattle.jc_verify.specs.declared.place.Place.{Place}
@@ -296,12 +297,36 @@ held_kept P numbers before after was now holds n p e =
     let there = slice_get-get_or before n p (was.within p.pc n number) in
     subst P (was.found p.pc n (get_or before n p) number there) (holds n (get_or before n p) there)
 
--- rows stand where their places do
-pub rows_where : (class_of : SpelledClass → Option ClassName) (P : ℕ → Type 0) (places : Places) (cs : List Stated) → AreStateRows class_of places cs → ((n : ℕ) (p : Place StateWithRoom) → slice_get places n ≡ Some p → P p.pc)
-    → AllByRecursion (λ (c : Stated). P c.pc) cs
-rows_where class_of P [] cs are holds = subst (AllByRecursion (λ (c : Stated). P c.pc)) (sym are) tt
-rows_where class_of P (p ∷ places) cs are holds = by_held p.held (λ ds h. rows_where class_of P places ds h (λ n q e. holds (suc n) q e)) are
+-- what holds of the row of each place that holds something holds of all rows
+pub rows_each : (class_of : SpelledClass → Option ClassName) (Q : Stated → Type 0) (places : Places) (cs : List Stated) → AreStateRows class_of places cs
+    → ((n : ℕ) (p : Place StateWithRoom) (s : StateWithRoom) (c : Stated) → slice_get places n ≡ Some p → p.held ≡ Some s → IsStateRow class_of p.pc s.types c → Q c) → AllByRecursion Q cs
+rows_each class_of Q [] cs are holds = subst (AllByRecursion Q) (sym are) tt
+rows_each class_of Q (p ∷ places) cs are holds = by_held p.held refl (λ ds h. rows_each class_of Q places ds h (λ n q s c e. holds (suc n) q s c e)) are
   where
-    by_held : (o : Option StateWithRoom) → ((ds : List Stated) → AreStateRows class_of places ds → AllByRecursion (λ (c : Stated). P c.pc) ds) → RowIf class_of p.pc o (AreStateRows class_of places) cs → AllByRecursion (λ (c : Stated). P c.pc) cs
-    by_held None rest are = rest cs are
-    by_held (Some s) rest are = subst (AllByRecursion (λ (c : Stated). P c.pc)) (sym are.are) (subst P (sym are.states.at) (holds 0 p refl), rest are.rest are.behind)
+    by_held : (o : Option StateWithRoom) → p.held ≡ o → ((ds : List Stated) → AreStateRows class_of places ds → AllByRecursion Q ds) → RowIf class_of p.pc o (AreStateRows class_of places) cs → AllByRecursion Q cs
+    by_held None e rest are = rest cs are
+    by_held (Some s) e rest are = subst (AllByRecursion Q) (sym are.are) (holds 0 p s are.row refl e are.states, rest are.rest are.behind)
+
+-- a typing, by what code decodes to
+pub upper_of : (l : Linked) → HasLaws l → (m : Method) (typing : Typing) → IsTyping (package_rules l) m typing → IsUpper l m typing
+upper_of l laws m typing typed = record {
+  entry = typed.entry;
+  each = λ pc t instr e decoded.
+      let at = typed.each pc t e in
+      let has = laws.listing.has m.code typed.listing pc at.instr typed.whole at.stands in
+      let same : at.instr ≡ flow.placed pc instr = ap (λ k. flow.placed k at.instr.instr) has.0 ∙ ap (flow.placed pc) (the_ok at.instr.instr instr (sym has.1 ∙ decoded)) in
+      subst (λ x. IsFine (package_rules l) m typing x t) same at.fine;
+}
+
+-- rows of places that lie below a typing lie below it
+pub rows_least : (l : Linked) (laws : HasLaws l) (m : Method) (numbers : List (Option ℕ)) (places : Places) (cs : List Stated) → IsNumbered numbers places → AreStateRows (class_of_name l.world) places cs
+    → (typing : Typing) → IsUnder l numbers places typing → AllByRecursion (LiesBelow l typing) cs
+rows_least l laws m numbers places cs numbered are typing under =
+    rows_each (class_of_name l.world) (LiesBelow l typing) places cs are (λ n p s c at held row. record {
+      claim = claim_at p.pc s.types;
+      found = row_claimed l m [] p.pc s.types c row;
+      leads =
+          let there : Leads (package_rules l) typing s.types p.pc = under p.pc s.types (at_number l laws m numbers places p.pc n p (numbered.known n p at) at ∙ ap (option_map (λ (x : StateWithRoom). x.types)) held) in
+          subst (λ pc. Leads (package_rules l) typing (types_of (claim_at p.pc s.types)) pc) (sym row.at)
+          (subst (λ (ops : List Ty). Leads (package_rules l) typing (types_with s.types.locals ops) p.pc) (sym (reverse-reverse s.types.operands)) there);
+    })

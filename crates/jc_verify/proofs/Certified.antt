@@ -13,7 +13,7 @@ use Rattle.jc_link.specs.Linked.{Linked}
 use Rattle.jc_check.specs.Checked.{CarriesPackage, has_code_at, stated_for, stray_offset}
 use Rattle.jc_check.specs.Package.{method_of}
 use Rattle.jc_verify.specs.PrivateGathered.{AreGathered, HasRow, IsInferred, IsRowOf, Stands}
-use Rattle.jc_verify.specs.Inferred.{HasStatesWhereEntered}
+use Rattle.jc_verify.specs.Inferred.{HasLeastStates, HasStatesWhereEntered}
 use Rattle.jc_verify.proofs.Passing.{contains_at}
 
 -- ---- what is found
@@ -101,3 +101,6 @@ module _ (l : Linked) (of seen_rows : List Row) (seen : List ℕ) (p : IsPermuta
 
   pub where_entered : HasStatesWhereEntered l seen_rows
   where_entered = record { each = λ n b at. (each n b at).entered }
+
+  pub least_states : HasLeastStates l seen_rows
+  least_states = record { each = λ n b at. (each n b at).least }

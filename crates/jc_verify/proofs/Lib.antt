@@ -3,6 +3,7 @@ mod Stepping
 mod Growing
 mod Visiting
 mod Arriving
+mod Lying
 mod Settling
 mod Counting
 mod Stating

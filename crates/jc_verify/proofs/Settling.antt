@@ -7,10 +7,10 @@ use Rattle.jc_code.specs.Listing.{PlacedInstr}
 use Rattle.jc_code.specs.Targets.{targets_of}
 use Rattle.jc_check.specs.Method.{Handler, Method}
 use Rattle.jc_check.specs.Package.{package_rules}
-use Rattle.jc_check.specs.Typing.{BranchLeads, HandlerLeads, Leads}
+use Rattle.jc_check.specs.Typing.{BranchLeads, HandlerLeads, Leads, Typing}
 use Rattle.jc_link.specs.Linked.{Linked}
 use Rattle.jc_types.specs.State.{StateWithRoom, Types}
-use Rattle.jc_verify.specs.PrivateFlow.{AreShaped, Grown, HasLaws, HasShape, IsClosed, IsNumbered, IsVisited, Places, Risen, held_at, height_in, left_in, most_height, number_at, types_held, below_in, ends, meets, goes_on}
+use Rattle.jc_verify.specs.PrivateFlow.{AreShaped, Grown, HasLaws, HasShape, IsClosed, IsNumbered, IsUnder, IsUpper, IsVisited, Places, Risen, held_at, height_in, left_in, most_height, number_at, types_held, below_in, ends, meets, goes_on}
 use Rattle.jc_verify.specs.PrivatePlaces.{IsStep, left_of}
 use Rattle.jc_verify.specs.PrivateSettled.{IsFollowed, IsSettled, IsSwept, settled_place}
 use Rattle.jc_verify.specs.declared.place.Place.{Place}
@@ -94,6 +94,15 @@ module _ (l : Linked) (laws : HasLaws l) (m : Method) (numbers : List (Option �
       shaped = λ h n q s e f. same_held (λ pc o. o ≡ Some s → HasShape m s.types) n q e (λ r g k. h n r s g k) f;
     }
 
+    -- what is held is the same
+    pub cleared_under : (typing : Typing) → IsUnder l numbers places typing → IsUnder l numbers (cleared places number p) typing
+    cleared_under typing under pc t e =
+        same_held (λ at o. o ≡ Some by.state → Leads (package_rules l) typing t pc) by.number by.place by.stands
+        (λ r f held. under pc t (at_number l laws m numbers places pc by.number r by.numbered f ∙ ap (λ (o : Option StateWithRoom). types_held (record { pc = 0; held = o; changed = false })) held ∙ ap Some by.types)) by.held
+      where
+        by : IsHeldBy l laws m numbers (cleared places number p) pc t
+        by = held_by l laws m numbers (cleared places number p) pc t e
+
     cleared_settled : IsSettled l m numbers places → (n : ℕ) (q : Place StateWithRoom) (t : Types) → (n ≡ number → ⊥) → slice_get (cleared places number p) n ≡ Some q → q.changed ≡ false → types_held q ≡ Some t
         → IsClosed (package_rules l) m numbers (held_at numbers (cleared places number p)) q.pc t
     cleared_settled h n q t other e unchanged held =
@@ -110,6 +119,7 @@ module _ (l : Linked) (laws : HasLaws l) (m : Method) (numbers : List (Option �
     pub not_followed : p.changed ≡ false → IsFollowed l m numbers number places places
     not_followed unchanged = record {
       risen = risen_self l laws m numbers places;
+      under = λ typing upper under. under;
       settled = λ h. h;
       left = omega arith;
       flags = λ n q e changed. inr (λ is. absurd (flag n q e changed is), q, e, changed);
@@ -122,7 +132,8 @@ module _ (l : Linked) (laws : HasLaws l) (m : Method) (numbers : List (Option �
             absurd cc
 
     module _ (after : Places) (g : Grown l m numbers (cleared places number p) after)
-        (closed : (t : Types) → types_held p ≡ Some t → IsClosed (package_rules l) m numbers (held_at numbers after) p.pc t) where
+        (closed : (t : Types) → types_held p ≡ Some t → IsClosed (package_rules l) m numbers (held_at numbers after) p.pc t)
+        (least : (typing : Typing) → IsUpper l m typing → IsUnder l numbers places typing → IsUnder l numbers after typing) where
       -- a place that hasn't changed since is as it was
       unchanged_since : (n : ℕ) (q : Place StateWithRoom) → slice_get after n ≡ Some q → q.changed ≡ false → slice_get (cleared places number p) n ≡ Some q
       unchanged_since n q e unchanged = by_step (g.steps.each n before.0 q before.1 e)
@@ -174,6 +185,7 @@ module _ (l : Linked) (laws : HasLaws l) (m : Method) (numbers : List (Option �
       pub followed : IsFollowed l m numbers number places after
       followed = record {
         risen = risen_through l laws m numbers places (cleared places number p) after cleared_risen g.risen;
+        under = least;
         settled = followed_settled;
         left = left_after;
         flags = followed_flags;
@@ -182,11 +194,12 @@ module _ (l : Linked) (laws : HasLaws l) (m : Method) (numbers : List (Option �
   -- ---- one place after the other
 
   pub swept_none : (places : Places) → IsSwept l m numbers 0 places places
-  swept_none places = record { risen = risen_self l laws m numbers places; settled = λ h. h; left = omega arith; flags = λ n p lt. absurd (omega (arith, lt)) }
+  swept_none places = record { risen = risen_self l laws m numbers places; under = λ typing upper under. under; settled = λ h. h; left = omega arith; flags = λ n p lt. absurd (omega (arith, lt)) }
 
   pub swept_one : (k : ℕ) (start now next : Places) → IsSwept l m numbers k start now → IsFollowed l m numbers k now next → IsSwept l m numbers (k + 1) start next
   swept_one k start now next s f = record {
     risen = risen_through l laws m numbers start now next s.risen f.risen;
+    under = λ typing upper under. f.under typing upper (s.under typing upper under);
     settled = λ h. f.settled (s.settled h);
     left = omega (arith, s.left, f.left);
     flags = λ n p lt e changed. by_flag n lt (f.flags n p e changed);
@@ -214,14 +227,19 @@ module _ (l : Linked) (laws : HasLaws l) (m : Method) (numbers : List (Option �
         subst (λ ps. IsFollowed l m numbers number places ps) (sym (ap (slice_set places number) same ∙ put_back places number at)) (not_followed places number p at unchanged)
     none_taken (inr (same, none)) =
         subst (λ x. IsFollowed l m numbers number places (slice_set places number x)) (sym same)
-        (followed places number p at (cleared places number p) (grown_self l laws m numbers (cleared places number p)) (λ t e. absurd (none-some t (sym none ∙ e))))
+        (followed places number p at (cleared places number p) (grown_self l laws m numbers (cleared places number p)) (λ t e. absurd (none-some t (sym none ∙ e)))
+        (λ typing upper under. cleared_under places number p at typing under))
 
-    pub one_taken : (start : ℕ) (s : Types) (after : Places) → p.pc ≡ start → q ≡ settled_place p → types_held p ≡ Some s → Grown l m numbers (slice_set places number q) after
-        → ((final : Places) → Risen l m numbers after final → IsClosed (package_rules l) m numbers (held_at numbers final) start s) → IsFollowed l m numbers number places after
-    one_taken start s after pc same held g closed =
+    pub one_taken : (start : ℕ) (s : Types) (after : Places) → IsNumbered numbers places → p.pc ≡ start → q ≡ settled_place p → types_held p ≡ Some s → Grown l m numbers (slice_set places number q) after
+        → ((final : Places) → Risen l m numbers after final → IsClosed (package_rules l) m numbers (held_at numbers final) start s)
+        → ((typing : Typing) → IsUpper l m typing → IsUnder l numbers (slice_set places number q) typing → Leads (package_rules l) typing s start → IsUnder l numbers after typing) → IsFollowed l m numbers number places after
+    one_taken start s after numbered pc same held g closed least =
         followed places number p at after (subst (λ x. Grown l m numbers (slice_set places number x) after) same g)
         (λ t e. subst (λ u. IsClosed (package_rules l) m numbers (held_at numbers after) p.pc u) (same_Some s t (sym held ∙ e))
         (subst (λ n. IsClosed (package_rules l) m numbers (held_at numbers after) n s) (sym pc) (closed after (risen_self l laws m numbers after))))
+        (λ typing upper under.
+        least typing upper (subst (λ x. IsUnder l numbers (slice_set places number x) typing) (sym same) (cleared_under places number p at typing under))
+        (subst (Leads (package_rules l) typing s) pc (under p.pc s (at_number l laws m numbers places p.pc number p (numbered.known number p at) at ∙ held))))
 
   -- a place stands within the code
   pub within_code : (places : Places) (number : ℕ) (p : Place StateWithRoom) → IsNumbered numbers places → length numbers ≡ length m.code → slice_get places number ≡ Some p → p.pc < length m.code
@@ -241,6 +259,9 @@ module _ (l : Linked) (laws : HasLaws l) (m : Method) (numbers : List (Option �
             let none : q.held ≡ None = ap (λ (x : Place StateWithRoom). x.held) same ∙ empty n was.0 was.1 in
             absurd (none-some t (sym (ap (λ (o : Option StateWithRoom). types_held (record { pc = 0; held = o; changed = false })) none) ∙ held))
         by_step (inr raised) = let u : true ≡ false = sym raised.changed ∙ unchanged in absurd cc
+
+    pub under_first : (typing : Typing) → IsUnder l numbers before typing
+    under_first typing pc t e = let by : IsHeldBy l laws m numbers before pc t = held_by l laws m numbers before pc t e in absurd (none-some by.state (sym (empty by.number by.place by.stands) ∙ by.held))
 
     pub shaped_first : AreShaped m before
     shaped_first n p s e held = absurd (none-some s (sym (empty n p e) ∙ held))

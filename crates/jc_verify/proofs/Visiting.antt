@@ -1,6 +1,6 @@
 -- What is closed once an instruction has been visited.
 use Rattle.std.proofs.Common.{◌≡◌, ℕ, Bool, true, false, List, Option, Some, None, Ok, Err, Result}
-use Rattle.std.specs.Prelude.{IfOk, IfSome}
+use Rattle.std.specs.Prelude.{IfErr, IfOk, IfSome}
 use Rattle.jc_code.specs.Listing.{PlacedInstr}
 use Rattle.jc_check.specs.Method.{Method}
 use Rattle.jc_check.specs.Rules.{Rules}
@@ -17,6 +17,10 @@ pub if_ok_both : {A E : Type 0} (r : Result A E) (P Q R : A → Type 0) → IfOk
 if_ok_both (Ok x) P Q R h k on = on x h k
 if_ok_both (Err e) P Q R h k on = tt
 
+pub if_ok_three : {A E : Type 0} (r : Result A E) (P Q S R : A → Type 0) → IfOk r P → IfOk r Q → IfOk r S → ((x : A) → P x → Q x → S x → R x) → IfOk r R
+if_ok_three (Ok x) P Q S R h k i on = on x h k i
+if_ok_three (Err e) P Q S R h k i on = tt
+
 -- an instruction whose handlers and branches lead on, and behind which there is no place, or one that holds what goes on
 pub closed_by : (rules : Rules) (m : Method) (numbers : List (Option ℕ)) (typing : Typing) (on : Bool) (x : PlacedInstr) (s after : Types) → rules.decoder m.code x.pc ≡ Ok x.instr
     → IsVisited rules m typing x s after → FallsIf on rules m numbers typing x.instr.next_pc after → ClosedIf on rules m numbers typing x.instr.next_pc after → IsClosed rules m numbers typing x.pc s
@@ -26,3 +30,7 @@ closed_by rules m numbers typing false x s after decoded visited falls closed = 
 pub if_some : {A : Type 0} (o : Option A) (P Q : A → Type 0) → IfSome o P → ((x : A) → P x → Q x) → IfSome o Q
 if_some None P Q h on = tt
 if_some (Some x) P Q h on = on x h
+
+pub if_err : {A E : Type 0} (r : Result A E) (P Q : E → Type 0) → IfErr r P → ((e : E) → P e → Q e) → IfErr r Q
+if_err (Ok x) P Q h on = tt
+if_err (Err e) P Q h on = on e h

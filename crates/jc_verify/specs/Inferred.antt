@@ -1,5 +1,5 @@
--- Where a certificate that was worked out has states (Java Card Virtual Machine Specification, verification of CAP files: data-flow
--- analysis).
+-- Where a certificate that was worked out has states, and that they are the least (Java Card Virtual Machine Specification,
+-- verification of CAP files: data-flow analysis).
 use Rattle.std.specs.Prelude.{◌≡◌, ℕ, List, Some, slice_get}
 use Rattle.std.specs.List.{AllByRecursion}
 use Rattle.jc_cap_desc.specs.Shape.{MethodBody}
@@ -7,9 +7,12 @@ use Rattle.jc_cert.specs.Cert.{Row, Stated}
 use Rattle.jc_code.specs.Instructions.{instr_at}
 use Rattle.jc_code.specs.Listing.{IsListing, PlacedInstr}
 use Rattle.jc_link.specs.Linked.{Linked}
+use Rattle.jc_check.specs.Carried.{types_of}
 use Rattle.jc_check.specs.Checked.{stated_for}
+use Rattle.jc_check.specs.Claim.{Claim, claim_of}
 use Rattle.jc_check.specs.Method.{Method}
-use Rattle.jc_check.specs.Package.{method_of}
+use Rattle.jc_check.specs.Package.{method_of, package_rules}
+use Rattle.jc_check.specs.Typing.{IsTyping, Leads, Typing}
 use Rattle.jc_verify.specs.Live.{IsEntered}
 
 -- each state stands where control flow enters the method by a branch or a handler of an instruction that it reaches
@@ -19,3 +22,17 @@ AreWhereEntered m states = (listing : List PlacedInstr) → IsListing instr_at m
 -- so it is for each method with code of a package
 pub record HasStatesWhereEntered (l : Linked) (rows : List Row) : Type 0 where
   pub each : (n : ℕ) (b : MethodBody) → slice_get l.body.kept.methods n ≡ Some b → AreWhereEntered (method_of l b) (stated_for rows b.offset)
+
+-- a state's classes are found, and it lies below the state that a typing has there
+pub record LiesBelow (l : Linked) (typing : Typing) (c : Stated) : Type 0 where
+  pub claim : Claim
+  pub found : claim_of (package_rules l) c ≡ Some claim
+  pub leads : Leads (package_rules l) typing (types_of claim) c.pc
+
+-- each state lies below what any typing of the method has there; so it lies below what any certificate that carries the method has
+abbrev pub AreLeast : Linked → Method → List Stated → Type 0
+AreLeast l m states = (typing : Typing) → IsTyping (package_rules l) m typing → AllByRecursion (LiesBelow l typing) states
+
+-- so it is for each method with code of a package
+pub record HasLeastStates (l : Linked) (rows : List Row) : Type 0 where
+  pub each : (n : ℕ) (b : MethodBody) → slice_get l.body.kept.methods n ≡ Some b → AreLeast l (method_of l b) (stated_for rows b.offset)

@@ -9,12 +9,14 @@ use Rattle.jc_classes.specs.Walk.{most_classes}
 use Rattle.jc_code.specs.Listing.{ListingLaws, PlacedInstr}
 use Rattle.jc_code.specs.Targets.{targets_of, falls_of}
 use Rattle.jc_code.specs.declared.instr.Instr.{Instr}
+use Rattle.jc_code.specs.declared.instr.Operation.{Operation}
+use Rattle.jc_step.specs.Laws.{IsMonotone}
 use Rattle.jc_link.specs.Linked.{Linked}
 use Rattle.jc_types.specs.State.{StateWithRoom, Types, height_of_types, types_below}
-use Rattle.jc_check.specs.Method.{Method}
+use Rattle.jc_check.specs.Method.{Method, entry_of}
 use Rattle.jc_check.specs.Package.{package_rules}
 use Rattle.jc_check.specs.Rules.{Rules}
-use Rattle.jc_check.specs.Typing.{BranchLeads, HandlerLeads, Leads, Typing}
+use Rattle.jc_check.specs.Typing.{BranchLeads, HandlerLeads, IsFine, Leads, Typing}
 use Rattle.jc_verify.specs.PrivatePlaces.{AreSteps, all_left}
 use Rattle.jc_verify.specs.declared.place.Place.{Place}
 
@@ -59,6 +61,7 @@ pub record HasLaws (l : Linked) : Type 0 where
   pub through : (s t u : Types) → types_below (is_class_below l.world) s t ≡ true → types_below (is_class_below l.world) t u ≡ true → types_below (is_class_below l.world) s u ≡ true
   pub listing : ListingLaws (package_rules l).decoder
   pub classes : IsClassLattice (is_class_below l.world) (common_class l.world) (classes_above l.world) most_classes
+  pub monotone : (m : Method) (operation : Operation) → IsMonotone (is_class_below l.world) ((package_rules l).effect m.max_stack m.returned operation)
   pub bound : (s : Types) → height_of_types (classes_above l.world) most_classes s ≤ (length s.locals + length s.operands) * (3 + most_classes)
 
 -- places changed: what was held lies below what is held
@@ -91,11 +94,26 @@ pub record Grown (l : Linked) (m : Method) (numbers : List (Option ℕ)) (before
 abbrev pub left_in : Linked → Method → Places → ℕ
 left_in l m places = all_left (height_in l.world) (most_height m) places
 
+-- an instruction at a pc
+abbrev pub placed : ℕ → Instr → PlacedInstr
+placed pc instr = record { pc = pc; instr = instr }
+
+-- what places hold lies below the states of a typing
+abbrev pub IsUnder : Linked → List (Option ℕ) → Places → Typing → Type 0
+IsUnder l numbers places typing = (pc : ℕ) (s : Types) → held_at numbers places pc ≡ Some s → Leads (package_rules l) typing s pc
+
+-- a typing of a method by what its code decodes to: the entry state lies below its state at pc 0, and where it has a state an instruction is
+-- fine on it
+pub record IsUpper (l : Linked) (m : Method) (typing : Typing) : Type 0 where
+  pub entry : Leads (package_rules l) typing (entry_of m) 0
+  pub each : (pc : ℕ) (t : Types) (instr : Instr) → typing pc ≡ Some t → (package_rules l).decoder m.code pc ≡ Ok instr → IsFine (package_rules l) m typing (placed pc instr) t
+
 -- the first of these were passed: whatever is held in the end, they hold if those behind them do
 pub record ArePassed (l : Linked) (m : Method) (numbers : List (Option ℕ)) {A : Type 0} (holds : Typing → A → Type 0) (xs : List A) (k : ℕ) (start now : Places) : Type 0 where
   pub grown : Grown l m numbers start now
   pub numbered : IsNumbered numbers now
   pub rest : (final : Places) → Risen l m numbers now final → AllByRecursion (holds (held_at numbers final)) (drop k xs) → AllByRecursion (holds (held_at numbers final)) xs
+  pub under : (typing : Typing) → IsUnder l numbers start typing → AllByRecursion (holds typing) xs → IsUnder l numbers now typing
 
 -- the handlers that cover an instruction catch, it has an effect, and its branches lead on
 pub record IsVisited (rules : Rules) (m : Method) (typing : Typing) (x : PlacedInstr) (s after : Types) : Type 0 where
@@ -121,6 +139,3 @@ ClosedIf false rules m numbers typing pc t = ⊤
 abbrev pub FallsIf : Bool → Rules → Method → List (Option ℕ) → Typing → ℕ → Types → Type 0
 FallsIf true rules m numbers typing pc t = (pc < length m.code) × (number_at numbers pc ≡ None)
 FallsIf false rules m numbers typing pc t = Leads rules typing t pc
-
-abbrev pub placed : ℕ → Instr → PlacedInstr
-placed pc instr = record { pc = pc; instr = instr }

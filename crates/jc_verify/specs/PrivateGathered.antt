@@ -7,7 +7,7 @@ use Rattle.jc_link.specs.Linked.{Linked}
 use Rattle.jc_check.specs.Carried.{Carries}
 use Rattle.jc_check.specs.Method.{Method}
 use Rattle.jc_check.specs.Package.{method_of, package_rules}
-use Rattle.jc_verify.specs.Inferred.{AreWhereEntered}
+use Rattle.jc_verify.specs.Inferred.{AreLeast, AreWhereEntered}
 use Rattle.jc_verify.specs.declared.gathering.Gathered.{Gathered}
 
 -- a method with code stands at a place among the first of a package
@@ -15,10 +15,11 @@ pub record Stands (l : Linked) (n k : ℕ) (b : MethodBody) : Type 0 where
   pub first : k < n
   pub is : slice_get l.body.kept.methods k ≡ Some b
 
--- states carry a method, and stand where control flow enters it
+-- states carry a method, stand where control flow enters it, and are the least
 pub record IsInferred (l : Linked) (m : Method) (states : List Stated) : Type 0 where
   pub carried : Carries (package_rules l) m states
   pub entered : AreWhereEntered m states
+  pub least : AreLeast l m states
 
 -- a row is for one of the first methods
 pub record IsRowOf (l : Linked) (n : ℕ) (r : Row) : Type 0 where

@@ -5,7 +5,8 @@ use Rattle.jc_link.specs.Linked.{Linked}
 use Rattle.jc_types.specs.State.{StateWithRoom, Types}
 use Rattle.jc_check.specs.Method.{Method, entry_of}
 use Rattle.jc_check.specs.Package.{package_rules}
-use Rattle.jc_verify.specs.PrivateFlow.{AreShaped, ClosedIf, FallsIf, IsClosed, IsNumbered, Places, Risen, held_at, left_in, types_held}
+use Rattle.jc_check.specs.Typing.{Typing}
+use Rattle.jc_verify.specs.PrivateFlow.{AreShaped, ClosedIf, FallsIf, IsClosed, IsNumbered, IsUnder, IsUpper, Places, Risen, held_at, left_in, types_held}
 use Rattle.jc_verify.specs.declared.place.Place.{Place}
 
 -- from each place that hasn't changed since, control flow was followed
@@ -32,6 +33,7 @@ settled_place p = record { pc = p.pc; held = p.held; changed = false }
 -- control flow was followed from the place of a number: what has changed is another place that had before, or it lets what is left fall
 pub record IsFollowed (l : Linked) (m : Method) (numbers : List (Option ℕ)) (number : ℕ) (before after : Places) : Type 0 where
   pub risen : Risen l m numbers before after
+  pub under : (typing : Typing) → IsUpper l m typing → IsUnder l numbers before typing → IsUnder l numbers after typing
   pub settled : IsSettled l m numbers before → IsSettled l m numbers after
   pub left : left_in l m after ≤ left_in l m before
   pub flags : (n : ℕ) (p : Place StateWithRoom) → slice_get after n ≡ Some p → p.changed ≡ true
@@ -40,6 +42,7 @@ pub record IsFollowed (l : Linked) (m : Method) (numbers : List (Option ℕ)) (n
 -- control flow was followed from the first places that had changed
 pub record IsSwept (l : Linked) (m : Method) (numbers : List (Option ℕ)) (count : ℕ) (before after : Places) : Type 0 where
   pub risen : Risen l m numbers before after
+  pub under : (typing : Typing) → IsUpper l m typing → IsUnder l numbers before typing → IsUnder l numbers after typing
   pub settled : IsSettled l m numbers before → IsSettled l m numbers after
   pub left : left_in l m after ≤ left_in l m before
   pub flags : (n : ℕ) (p : Place StateWithRoom) → n < count → slice_get after n ≡ Some p → p.changed ≡ true → left_in l m after < left_in l m before
@@ -55,6 +58,7 @@ pub record AreNumbered (entries : List ℕ) (pc : ℕ) (numbers : List (Option �
 -- control flow was followed from the entry, and from each place that holds types
 pub record IsFilled (l : Linked) (m : Method) (numbers : List (Option ℕ)) (before after : Places) : Type 0 where
   pub risen : Risen l m numbers before after
+  pub under : (typing : Typing) → IsUpper l m typing → IsUnder l numbers after typing
   pub numbered : IsNumbered numbers after
   pub shaped : AreShaped m after
   pub entry : IsEntryMet l m numbers after

@@ -6,9 +6,10 @@ ghost use Rattle.jc_code.specs.Targets.{targets_of};
 ghost use Rattle.jc_types.specs.Changes.{Became};
 ghost use Rattle.jc_check.specs.Method.{caught_types};
 ghost use Rattle.jc_check.specs.Package.{package_rules};
-ghost use Rattle.jc_check.specs.Typing.{BranchLeads, HandlerLeads, Leads};
+ghost use Rattle.jc_check.specs.Typing.{BranchLeads, HandlerLeads, Leads, Typing};
 ghost use Rattle.jc_verify.specs.PrivateStop.{fault_at};
-ghost use Rattle.jc_verify.specs.PrivateFlow.{ClosedIf, FallsIf, Grown, HasLaws, HasRoom, IsClosed, IsNumbered, Places, Risen, held_at, number_at, placed};
+ghost use Rattle.jc_verify.specs.declared.place.NotTaken.TheVariants.{Unlike};
+ghost use Rattle.jc_verify.specs.PrivateFlow.{ClosedIf, FallsIf, Grown, HasLaws, HasRoom, IsClosed, IsNumbered, IsUnder, IsUpper, Places, Risen, held_at, number_at, placed};
 
 use crate::place::{NotTaken, Place, take_in};
 use crate::stop::Stop;
@@ -65,6 +66,10 @@ fn arrive(
     ensures grown { IfOk result (λ u. Grown flow.now.linked.now flow.now.method.now flow.now.numbers.now places.old places.new) }
     ensures met { IfOk result (λ u. (final : Places) → Risen flow.now.linked.now flow.now.method.now flow.now.numbers.now places.new final
         → (pc : ℕ) → number_at flow.now.numbers.now pc ≡ Some number → Leads (package_rules flow.now.linked.now) (held_at flow.now.numbers.now final) state.now.types pc) }
+    ensures least { IfOk result (λ u. (typing : Typing) (pc : ℕ) → number_at flow.now.numbers.now pc ≡ Some number → IsUnder flow.now.linked.now flow.now.numbers.now places.old typing
+        → Leads (package_rules flow.now.linked.now) typing state.now.types pc → IsUnder flow.now.linked.now flow.now.numbers.now places.new typing) }
+    ensures unlike { IfErr result (λ why. why ≡ Unlike → (typing : Typing) (pc : ℕ) → number_at flow.now.numbers.now pc ≡ Some number → IsUnder flow.now.linked.now flow.now.numbers.now places.old typing
+        → Leads (package_rules flow.now.linked.now) typing state.now.types pc → ⊥) }
 {
     let _depth = state.depth();
     let linked = flow.linked;
@@ -86,6 +91,8 @@ fn arrive_at(
     ensures met { IfOk result (λ is. is ≡ true → (final : Places) → Risen flow.now.linked.now flow.now.method.now flow.now.numbers.now places.new final
         → Leads (package_rules flow.now.linked.now) (held_at flow.now.numbers.now final) state.now.types pc) }
     ensures none { IfOk result (λ is. is ≡ false → number_at flow.now.numbers.now pc ≡ None) }
+    ensures least { IfOk result (λ is. (typing : Typing) → IsUnder flow.now.linked.now flow.now.numbers.now places.old typing
+        → Leads (package_rules flow.now.linked.now) typing state.now.types pc → IsUnder flow.now.linked.now flow.now.numbers.now places.new typing) }
 {
     match number_at(flow.numbers, pc) {
         Some(number) => {
@@ -113,6 +120,8 @@ fn catch_at(
     ensures met { IfOk result (λ u. (final : Places) → Risen flow.now.linked.now flow.now.method.now flow.now.numbers.now places.new final
         → Leads (package_rules flow.now.linked.now) (held_at flow.now.numbers.now final) (caught_types class state.now.types) goes_on) }
     ensures caught { HasRoom flow.now.method.now caught.new }
+    ensures least { IfOk result (λ u. (typing : Typing) → IsUnder flow.now.linked.now flow.now.numbers.now places.old typing
+        → Leads (package_rules flow.now.linked.now) typing (caught_types class state.now.types) goes_on → IsUnder flow.now.linked.now flow.now.numbers.now places.new typing) }
 {
     let method = flow.method;
     if method.max_stack == 0 {
@@ -126,7 +135,8 @@ fn catch_at(
     }
 }
 
-/// A handler at an instruction: where it covers it, the state before it is caught.
+/// A handler at an instruction: where it covers it, the state before it flows in where the handler goes on, with the class that it
+/// catches.
 #[tactic(auto, using(crate::proofs::Growing::grown_self))]
 fn handle(
     flow: &Flow,
@@ -144,6 +154,8 @@ fn handle(
     ensures met { IfOk result (λ u. (final : Places) → Risen flow.now.linked.now flow.now.method.now flow.now.numbers.now places.new final
         → HandlerLeads (package_rules flow.now.linked.now) (held_at flow.now.numbers.now final) pc state.now.types handler.now) }
     ensures caught { HasRoom flow.now.method.now caught.new }
+    ensures least { IfOk result (λ u. (typing : Typing) → IsUnder flow.now.linked.now flow.now.numbers.now places.old typing
+        → HandlerLeads (package_rules flow.now.linked.now) typing pc state.now.types handler.now → IsUnder flow.now.linked.now flow.now.numbers.now places.new typing) }
 {
     if !handler.covers(pc) {
         return Ok(());
@@ -170,6 +182,8 @@ fn handle_all(
     ensures met { IfOk result (λ u. (final : Places) → Risen flow.now.linked.now flow.now.method.now flow.now.numbers.now places.new final
         → AllByRecursion (HandlerLeads (package_rules flow.now.linked.now) (held_at flow.now.numbers.now final) pc state.now.types) flow.now.method.now.handlers) }
     ensures caught { HasRoom flow.now.method.now caught.new }
+    ensures least { IfOk result (λ u. (typing : Typing) → IsUnder flow.now.linked.now flow.now.numbers.now places.old typing
+        → AllByRecursion (HandlerLeads (package_rules flow.now.linked.now) typing pc state.now.types) flow.now.method.now.handlers → IsUnder flow.now.linked.now flow.now.numbers.now places.new typing) }
 {
     let handlers = flow.method.handlers();
     for index in 0..handlers.len() {
@@ -193,6 +207,8 @@ fn branch_to(
     ensures grown { IfOk result (λ u. Grown flow.now.linked.now flow.now.method.now flow.now.numbers.now places.old places.new) }
     ensures met { IfOk result (λ u. (final : Places) → Risen flow.now.linked.now flow.now.method.now flow.now.numbers.now places.new final
         → (place : ℤ) → slice_get targets.now index ≡ Some place → BranchLeads (package_rules flow.now.linked.now) (held_at flow.now.numbers.now final) state.now.types place) }
+    ensures least { IfOk result (λ u. (typing : Typing) → IsUnder flow.now.linked.now flow.now.numbers.now places.old typing
+        → ((place : ℤ) → slice_get targets.now index ≡ Some place → BranchLeads (package_rules flow.now.linked.now) typing state.now.types place) → IsUnder flow.now.linked.now flow.now.numbers.now places.new typing) }
 {
     let target = targets.get(index).unwrap();
     if target < 0 {
@@ -219,6 +235,8 @@ fn branch_all(
     ensures grown { IfOk result (λ u. Grown flow.now.linked.now flow.now.method.now flow.now.numbers.now places.old places.new) }
     ensures met { IfOk result (λ u. (final : Places) → Risen flow.now.linked.now flow.now.method.now flow.now.numbers.now places.new final
         → AllByRecursion (BranchLeads (package_rules flow.now.linked.now) (held_at flow.now.numbers.now final) state.now.types) (targets_of pc instr.now.operation)) }
+    ensures least { IfOk result (λ u. (typing : Typing) → IsUnder flow.now.linked.now flow.now.numbers.now places.old typing
+        → AllByRecursion (BranchLeads (package_rules flow.now.linked.now) typing state.now.types) (targets_of pc instr.now.operation) → IsUnder flow.now.linked.now flow.now.numbers.now places.new typing) }
 {
     let targets = instr.targets(pc);
     for index in 0..targets.len() {
@@ -242,6 +260,8 @@ pub(crate) fn fall_to(
     ensures met { IfOk result (λ on. (final : Places) → Risen flow.now.linked.now flow.now.method.now flow.now.numbers.now places.new final
         → FallsIf on (package_rules flow.now.linked.now) flow.now.method.now flow.now.numbers.now (held_at flow.now.numbers.now final) pc state.now.types) }
     ensures within { IfOk result (λ on. pc < length flow.now.method.now.code) }
+    ensures least { IfOk result (λ on. (typing : Typing) → IsUnder flow.now.linked.now flow.now.numbers.now places.old typing
+        → Leads (package_rules flow.now.linked.now) typing state.now.types pc → IsUnder flow.now.linked.now flow.now.numbers.now places.new typing) }
 {
     if pc >= flow.method.code().len() {
         return Err(Stop::Refused(Reason::FallsOff));
@@ -286,6 +306,8 @@ fn visit(
     ensures within { IfOk result (λ on. on ≡ true → instr.now.next_pc < length flow.now.method.now.code) }
     ensures caught { IfOk result (λ on. HasRoom flow.now.method.now caught.new) }
     ensures room { IfOk result (λ on. HasRoom flow.now.method.now state.new) }
+    ensures least { IfOk result (λ on. (typing : Typing) → IsUpper flow.now.linked.now flow.now.method.now typing → IsUnder flow.now.linked.now flow.now.numbers.now places.old typing
+        → Leads (package_rules flow.now.linked.now) typing state.old.types pc → IsUnder flow.now.linked.now flow.now.numbers.now places.new typing × (on ≡ true → Leads (package_rules flow.now.linked.now) typing state.new.types instr.now.next_pc)) }
 {
     handle_all(flow, places, caught, state, pc)?;
     take_effect(flow, state, instr)?;
@@ -327,6 +349,8 @@ pub(crate) fn follow(
         → IsClosed (package_rules flow.now.linked.now) flow.now.method.now flow.now.numbers.now (held_at flow.now.numbers.now final) start state.old.types) }
     ensures caught { IfOk result (λ u. HasRoom flow.now.method.now caught.new) }
     ensures room { IfOk result (λ u. HasRoom flow.now.method.now state.new) }
+    ensures least { IfOk result (λ u. (typing : Typing) → IsUpper flow.now.linked.now flow.now.method.now typing → IsUnder flow.now.linked.now flow.now.numbers.now places.old typing
+        → Leads (package_rules flow.now.linked.now) typing state.old.types start → IsUnder flow.now.linked.now flow.now.numbers.now places.new typing) }
 {
     listing_laws();
     let mut pc = start;

@@ -22,8 +22,8 @@ pub(crate) struct Told {
     pub(crate) fault: Fault,
 }
 
-/// What is known of the first methods of a package: the rows of those that have states, the offsets at which they stand, and of
-/// those without a certificate the one with the least offset.
+/// What is known of the first methods of a package: the rows of those that have states, the offsets of all that were looked at, and
+/// of those without a certificate the one with the least offset.
 #[derive(Drop)]
 pub(crate) struct Gathered {
     pub(crate) rows: Vec<MethodRow>,

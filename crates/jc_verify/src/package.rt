@@ -3,7 +3,7 @@
 ghost use Rattle.std.specs.Prelude.{◌≡◌, ℕ, List, length, IfOk, IfSome};
 ghost use Rattle.jc_cert.specs.Cert.{rows};
 ghost use Rattle.jc_check.specs.Checked.{CarriesPackage};
-ghost use Rattle.jc_verify.specs.Inferred.{HasStatesWhereEntered};
+ghost use Rattle.jc_verify.specs.Inferred.{HasLeastStates, HasStatesWhereEntered};
 ghost use Rattle.jc_verify.specs.PrivateFlow.{HasLaws};
 ghost use Rattle.jc_verify.specs.PrivateGathered.{AreGathered, IsSoFar};
 
@@ -14,6 +14,7 @@ use jc_cert::{Cert, MethodRow};
 use jc_check::Fault;
 use jc_code::listing_laws;
 use jc_link::{Linked, MethodCode, built_worlds_are_sound};
+use jc_step::effects_are_monotone;
 use jc_types::order_laws;
 use std::alloc::Global;
 
@@ -25,6 +26,7 @@ fn flow_laws(linked: &Linked)
     built_worlds_are_sound();
     order_laws();
     listing_laws();
+    effects_are_monotone();
 }
 
 /// The methods with code of a linked package.
@@ -56,6 +58,7 @@ fn certificate_of(linked: &Linked, methods: Vec<MethodRow>) -> Option<Cert>
     requires { (seen : List ℕ) × AreGathered linked.now (length linked.now.body.kept.methods) (rows methods.items) seen }
     ensures carried { IfSome result (λ cert. CarriesPackage linked.now cert) }
     ensures entered { IfSome result (λ cert. HasStatesWhereEntered linked.now cert) }
+    ensures least { IfSome result (λ cert. HasLeastStates linked.now cert) }
 {
     let _laws = linked.table().len();
     let mut methods = methods;
@@ -64,10 +67,11 @@ fn certificate_of(linked: &Linked, methods: Vec<MethodRow>) -> Option<Cert>
 }
 
 /// Works out a certificate that carries a linked package, with states only where control flow enters a method by a branch or a
-/// handler of an instruction that it reaches. Where a method can't be carried the one with the least offset is told.
+/// handler of an instruction that it reaches, each the least that is possible there. Where a method can't be carried the one with the least offset is told.
 pub fn infer(alloc: Global, linked: &Linked) -> Result<Cert, VerifyFault>
     ensures carried { IfOk result (λ cert. CarriesPackage linked.now cert) }
     ensures entered { IfOk result (λ cert. HasStatesWhereEntered linked.now cert) }
+    ensures least { IfOk result (λ cert. HasLeastStates linked.now cert) }
 {
     flow_laws(linked);
     let gathered = gather_all(alloc, linked)?;

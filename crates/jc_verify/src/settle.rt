@@ -2,8 +2,9 @@
 
 ghost use Rattle.std.specs.Prelude.{◌≡◌, ◌⊎◌, ◌<◌, ◌≤◌, ◌^◌, ℕ, true, false, Some, None, length, slice_get, IfNone, IfOk, IfSome};
 ghost use Rattle.jc_check.specs.Method.{entry_of};
+ghost use Rattle.jc_check.specs.Typing.{Typing};
 ghost use Rattle.jc_types.specs.State.{StateWithRoom};
-ghost use Rattle.jc_verify.specs.PrivateFlow.{AreShaped, Grown, HasLaws, HasRoom, HasShape, IsNumbered, Places, Risen, types_held};
+ghost use Rattle.jc_verify.specs.PrivateFlow.{AreShaped, Grown, HasLaws, HasRoom, HasShape, IsNumbered, IsUnder, IsUpper, Places, Risen, types_held};
 ghost use Rattle.jc_verify.specs.declared.place.Place.{Place as PlaceOf};
 ghost use Rattle.jc_verify.specs.PrivateSettled.{AreAllClosed, IsEntryMet, IsFilled, IsFollowed, IsSettled, IsSwept, settled_place};
 
@@ -128,6 +129,8 @@ fn settle(
     requires short { length flow.now.method.now.code < 2 ^ 16 }
     ensures risen { IfOk result (λ u. Risen flow.now.linked.now flow.now.method.now flow.now.numbers.now places.old places.new) }
     ensures closed { IfOk result (λ u. AreAllClosed flow.now.linked.now flow.now.method.now flow.now.numbers.now places.new) }
+    ensures under { IfOk result (λ u. (typing : Typing) → IsUpper flow.now.linked.now flow.now.method.now typing → IsUnder flow.now.linked.now flow.now.numbers.now places.old typing
+        → IsUnder flow.now.linked.now flow.now.numbers.now places.new typing) }
 {
     loop {
         sweep(flow, places, caught, state)?;
@@ -154,6 +157,8 @@ fn enter(
     ensures entered { IfOk result (λ u. (final : Places) → Risen flow.now.linked.now flow.now.method.now flow.now.numbers.now places.new final → IsEntryMet flow.now.linked.now flow.now.method.now flow.now.numbers.now final) }
     ensures caught { IfOk result (λ u. HasRoom flow.now.method.now caught.new) }
     ensures room { IfOk result (λ u. HasRoom flow.now.method.now state.new) }
+    ensures under { IfOk result (λ u. (typing : Typing) → IsUpper flow.now.linked.now flow.now.method.now typing → IsUnder flow.now.linked.now flow.now.numbers.now places.old typing
+        → IsUnder flow.now.linked.now flow.now.numbers.now places.new typing) }
 {
     match fall_to(flow, places, state, 0) {
         Ok(true) => follow(flow, places, caught, state, 0),

@@ -11,6 +11,7 @@ loop-instr-init c = record {
   caught = c.requires.caught;
   room = c.requires.room;
   within = c.requires.within;
+  under = λ typing upper under leads. (under, leads);
   rest = λ final g h. h;
 }
 
@@ -26,6 +27,10 @@ loop-instr-preserved c =
       caught = visited.caught;
       room = visited.room;
       within = visited.within c.in-Ok-true.field-0-test;
+      under = λ typing upper under leads.
+          let now = c.loop-instr.invariant.under typing upper under leads in
+          let next = visited.least typing upper now.0 now.1 in
+          (next.0, next.1 c.in-Ok-true.field-0-test);
       rest = λ final g h.
           let If : Bool → Type 0 = λ on. ClosedIf on (package_rules l) m numbers (held_at numbers final) c.in-Some.instr.next_pc c.visit.new.state.types in
           c.loop-instr.invariant.rest final (risen_through l c.requires.laws m numbers c.loop-instr.places c.visit.new.places final visited.grown.risen g) (visited.closed final g (subst If (sym c.in-Ok-true.field-0-test) h));
@@ -44,3 +49,6 @@ returns-in-Ok-false-clause-closed c final g =
     let visited = c.in-Ok-false.ensures in
     let If : Bool → Type 0 = λ on. ClosedIf on (package_rules l) m numbers (held_at numbers final) c.in-Some.instr.next_pc c.visit.new.state.types in
     c.loop-instr.invariant.rest final (risen_through l c.requires.laws m numbers c.loop-instr.places c.visit.new.places final visited.grown.risen g) (visited.closed final g (subst If (sym c.in-Ok-false.field-0-test) tt))
+
+pub returns-in-Ok-false-clause-least : goal.returns-in-Ok-false-clause-least
+returns-in-Ok-false-clause-least c typing upper under leads = let now = c.loop-instr.invariant.under typing upper under leads in (c.in-Ok-false.ensures.least typing upper now.0 now.1).0

@@ -15,6 +15,6 @@ loop-index-preserved c =
     let at = slice_get_read handlers (length handlers) c.loop-index.index c.index-handlers-index.result refl c.loop-index-test.true c.index-handlers-index.is in record {
       passed =
           passed_one c.args.flow.now.linked.now c.requires.laws c.args.flow.now.method.now c.args.flow.now.numbers.now _ _ c.loop-index.index c.index-handlers-index.result c.args.places.now c.loop-index.places c.handle.new.places
-          c.loop-index.invariant.passed at c.in_ok-handle.ensures.grown (λ final g. c.in_ok-handle.ensures.met final g);
+          c.loop-index.invariant.passed at c.in_ok-handle.ensures.grown (λ final g. c.in_ok-handle.ensures.met final g) (λ typing under leads. c.in_ok-handle.ensures.least typing under leads);
       room = c.handle.ensures.caught;
     }

@@ -1,6 +1,7 @@
 use Rattle.std.proofs.Common.{sym, ◌∙◌}
 use Rattle.jc_check.specs.Package.{package_rules}
 use Rattle.jc_verify.proofs.Growing.{grown_through, risen_through}
+use Rattle.jc_verify.proofs.Lying.{fine_down}
 use Rattle.jc_verify.proofs.Visiting.{if_ok, if_ok_both, closed_by}
 use Rattle.jc_verify.specs.PrivateFlow.{ends, held_at, placed}
 use Rattle.jc_verify.proofs.flow.visit.Goals as goal
@@ -39,3 +40,19 @@ returns-then-falls_through-clause-closed c =
       effect = c.in_ok-take_effect.ensures.became;
       branches = c.in_ok-branch_all.ensures.met final later;
     }) (met final g) closed)
+
+pub returns-then-falls_through-clause-least : goal.returns-then-falls_through-clause-least
+returns-then-falls_through-clause-least c =
+    let l = c.args.flow.now.linked.now in
+    let m = c.args.flow.now.method.now in
+    if_ok c.fall_to.result _ _ c.fall_to.ensures.least (λ on least typing upper under leads.
+    let fine = fine_down l c.requires.laws m typing upper c.args.pc c.args.instr.now c.args.state.now.types c.take_effect.new.state.types leads c.requires.decoded c.in_ok-take_effect.ensures.became in
+    let next = fine.falls (sym c.falls_through.ensures ∙ c.if-falls_through.true) in
+    (least typing (c.in_ok-branch_all.ensures.least typing (c.in_ok-handle_all.ensures.least typing under fine.handled) fine.branches) next, λ is. next))
+
+pub returns-else-falls_through-clause-least : goal.returns-else-falls_through-clause-least
+returns-else-falls_through-clause-least c typing upper under leads =
+    let l = c.args.flow.now.linked.now in
+    let m = c.args.flow.now.method.now in
+    let fine = fine_down l c.requires.laws m typing upper c.args.pc c.args.instr.now c.args.state.now.types c.take_effect.new.state.types leads c.requires.decoded c.in_ok-take_effect.ensures.became in
+    (c.in_ok-branch_all.ensures.least typing (c.in_ok-handle_all.ensures.least typing under fine.handled) fine.branches, λ is. absurd cc)

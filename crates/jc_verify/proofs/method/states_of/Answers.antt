@@ -1,9 +1,9 @@
-use Rattle.std.proofs.Common.{◌≡◌, true, map}
+use Rattle.std.proofs.Common.{◌≡◌, true, map, subst, sym}
 use Rattle.jc_code.specs.Listing.{begins}
 use Rattle.jc_verify.specs.Live.{IsEntered}
-use Rattle.jc_cert.specs.Cert.{stated}
+use Rattle.jc_cert.specs.Cert.{Stated, stated}
 use Rattle.jc_check.specs.Package.{package_rules}
-use Rattle.jc_verify.proofs.Carrying.{carried, found_fine, held_kept, rows_where}
+use Rattle.jc_verify.proofs.Carrying.{carried, found_fine, held_kept, rows_each, rows_least, upper_of}
 use Rattle.jc_verify.proofs.Visiting.{if_ok}
 use Rattle.jc_verify.proofs.method.states_of.Goals as goal
 
@@ -24,6 +24,8 @@ returns c =
           (c.in_ok-entries.ensures.handlers listed.0 listed.1) are)
           (c.first_fault_laws.ensures.either (package_rules l) c.requires.laws.listing m (map stated found.items));
       entered = λ listing whole.
-          rows_where _ (IsEntered m listing) final (map stated found.items) are
-          (held_kept (IsEntered m listing) numbers _ final numbered.numbered filled.numbered (λ n p e. c.in_ok-entries.ensures.entered listing whole p.pc (numbered.entered n p e)));
+          rows_each _ (λ (r : Stated). IsEntered m listing r.pc) final (map stated found.items) are (λ n p s r at held row.
+          subst (IsEntered m listing) (sym row.at)
+          (held_kept (IsEntered m listing) numbers _ final numbered.numbered filled.numbered (λ n p e. c.in_ok-entries.ensures.entered listing whole p.pc (numbered.entered n p e)) n p at));
+      least = λ typing typed. rows_least l c.requires.laws m numbers final (map stated found.items) filled.numbered are typing (filled.under typing (upper_of l c.requires.laws m typing typed));
     })

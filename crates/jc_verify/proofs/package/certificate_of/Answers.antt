@@ -2,8 +2,8 @@ use Rattle.std.proofs.Common.{subst, sym}
 use Rattle.std.proofs.lemmas.List.Sorted.{IsPermutation-map}
 use Rattle.jc_cert.specs.Cert.{row, rows}
 use Rattle.jc_check.specs.Checked.{CarriesPackage}
-use Rattle.jc_verify.specs.Inferred.{HasStatesWhereEntered}
-use Rattle.jc_verify.proofs.Certified.{certified, where_entered}
+use Rattle.jc_verify.specs.Inferred.{HasLeastStates, HasStatesWhereEntered}
+use Rattle.jc_verify.proofs.Certified.{certified, least_states, where_entered}
 use Rattle.jc_verify.proofs.Visiting.{if_some}
 use Rattle.jc_verify.proofs.package.certificate_of.Goals as goal
 
@@ -18,3 +18,9 @@ returns-clause-entered c =
     let order = IsPermutation-map row c.args.methods.items c.sort_unstable_by_key.new.self.items c.sort_unstable_by_key.ensures.permutation in
     if_some c.new.result _ _ c.new.ensures.made (λ cert is.
     subst (HasStatesWhereEntered c.args.linked.now) (sym is) (where_entered c.args.linked.now (rows c.args.methods.items) (rows c.sort_unstable_by_key.new.self.items) c.requires.0 order c.requires.1))
+
+pub returns-clause-least : goal.returns-clause-least
+returns-clause-least c =
+    let order = IsPermutation-map row c.args.methods.items c.sort_unstable_by_key.new.self.items c.sort_unstable_by_key.ensures.permutation in
+    if_some c.new.result _ _ c.new.ensures.made (λ cert is.
+    subst (HasLeastStates c.args.linked.now) (sym is) (least_states c.args.linked.now (rows c.args.methods.items) (rows c.sort_unstable_by_key.new.self.items) c.requires.0 order c.requires.1))

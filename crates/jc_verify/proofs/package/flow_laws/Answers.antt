@@ -11,5 +11,6 @@ returns c =
       through = c.order_laws.ensures.transitive _ order;
       listing = c.listing_laws.ensures.all;
       classes = classes;
+      monotone = λ m operation. c.effects_are_monotone.ensures.effects (record { world = world; targets = c.args.linked.now.body.targets; returned = m.returned }) order m.max_stack operation;
       bound = c.order_laws.ensures.bound _ _ _ _ classes;
     }

@@ -1,3 +1,6 @@
+use Rattle.std.proofs.Common.{subst, sym}
+use Rattle.jc_check.specs.Package.{package_rules}
+use Rattle.jc_check.specs.Typing.{Leads}
 use Rattle.jc_verify.proofs.Growing.{grown_through}
 use Rattle.jc_verify.proofs.Visiting.{if_ok}
 use Rattle.jc_verify.proofs.settle.enter.Goals as goal
@@ -6,3 +9,13 @@ pub returns-in-Ok-true-clause-grown : goal.returns-in-Ok-true-clause-grown
 returns-in-Ok-true-clause-grown c =
     if_ok c.follow.result _ _ c.follow.ensures.grown (λ u g.
     grown_through c.args.flow.now.linked.now c.requires.laws c.args.flow.now.method.now c.args.flow.now.numbers.now c.args.places.now c.fall_to.new.places c.follow.new.places c.in-Ok-true.ensures.grown g)
+
+pub returns-in-Ok-true-clause-under : goal.returns-in-Ok-true-clause-under
+returns-in-Ok-true-clause-under c =
+    if_ok c.follow.result _ _ c.follow.ensures.least (λ u least typing upper under.
+    let entry = subst (λ t. Leads (package_rules c.args.flow.now.linked.now) typing t 0) (sym c.requires.entry) upper.entry in
+    least typing upper (c.in-Ok-true.ensures.least typing under entry) entry)
+
+pub returns-in-Ok-false-clause-under : goal.returns-in-Ok-false-clause-under
+returns-in-Ok-false-clause-under c typing upper under =
+    c.in-Ok-false.ensures.least typing under (subst (λ t. Leads (package_rules c.args.flow.now.linked.now) typing t 0) (sym c.requires.entry) upper.entry)

@@ -1,6 +1,6 @@
 use Rattle.jc_verify.proofs.Growing.{risen_through}
-use Rattle.jc_verify.proofs.Settling.{settled_first, shaped_first}
-use Rattle.jc_verify.proofs.Visiting.{if_ok_both}
+use Rattle.jc_verify.proofs.Settling.{settled_first, shaped_first, under_first}
+use Rattle.jc_verify.proofs.Visiting.{if_ok_three}
 use Rattle.jc_verify.proofs.settle.fill.Goals as goal
 
 pub settle-requires-clause-settled : goal.settle-requires-clause-settled
@@ -12,11 +12,13 @@ returns c =
     let m = c.args.flow.now.method.now in
     let numbers = c.args.flow.now.numbers.now in
     let through = risen_through l c.requires.laws m numbers c.args.places.now c.enter.new.places c.settle.new.places c.in_ok-enter.ensures.grown.risen in
+    let first = under_first l c.requires.laws m numbers c.args.places.now c.enter.new.places c.requires.empty in
     let blank = shaped_first l c.requires.laws m numbers c.args.places.now c.enter.new.places c.requires.empty in
     record {
       filled =
-          if_ok_both c.settle.result _ _ _ c.settle.ensures.risen c.settle.ensures.closed (λ u risen closed. record {
+          if_ok_three c.settle.result _ _ _ _ c.settle.ensures.risen c.settle.ensures.closed c.settle.ensures.under (λ u risen closed under. record {
             risen = through risen;
+            under = λ typing upper. under typing upper (c.in_ok-enter.ensures.under typing upper (first typing));
             numbered = (through risen).numbered c.requires.numbered;
             shaped = (through risen).shaped blank;
             entry = c.in_ok-enter.ensures.entered c.settle.new.places risen;

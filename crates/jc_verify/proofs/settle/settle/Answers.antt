@@ -5,6 +5,7 @@ use Rattle.jc_verify.proofs.settle.settle.Goals as goal
 pub loop-places-init : goal.loop-places-init
 loop-places-init c = record {
   risen = risen_self c.args.flow.now.linked.now c.requires.laws c.args.flow.now.method.now c.args.flow.now.numbers.now c.args.places.now;
+  under = λ typing upper under. under;
   settled = c.requires.settled;
   caught = c.requires.caught;
   room = c.requires.room;
@@ -23,7 +24,11 @@ pub loop-places-preserved : goal.loop-places-preserved
 loop-places-preserved c = record {
   risen =
       risen_through c.args.flow.now.linked.now c.requires.laws c.args.flow.now.method.now c.args.flow.now.numbers.now c.args.places.now c.loop-places.places c.sweep.new.places c.loop-places.invariant.risen c.in_ok-sweep.ensures.swept.risen;
+  under = λ typing upper under. c.in_ok-sweep.ensures.swept.under typing upper (c.loop-places.invariant.under typing upper under);
   settled = c.in_ok-sweep.ensures.swept.settled c.loop-places.invariant.settled;
   caught = c.in_ok-sweep.ensures.caught;
   room = c.in_ok-sweep.ensures.room;
 }
+
+pub returns-then-not-has_changed-clause-under : goal.returns-then-not-has_changed-clause-under
+returns-then-not-has_changed-clause-under c typing upper under = c.in_ok-sweep.ensures.swept.under typing upper (c.loop-places.invariant.under typing upper under)

@@ -36,11 +36,11 @@ use Rattle.jc_cap_desc.specs.declared.class_row.ClassRow.{ClassRow}
 use Rattle.jc_cap_desc.specs.declared.component.DescriptorInfo.{DescriptorInfo}
 use Rattle.jc_cap_desc.specs.declared.package.Components.{Components}
 
-is_equal : (a b : ℕ) → a == b ≡ true → a ≡ b
+pub is_equal : (a b : ℕ) → a == b ≡ true → a ≡ b
 is_equal a b e = eqb-true a b e
 
 -- offsets from one on, each above the one before it
-abbrev Ascend : {A : Type 0} → ℕ → List (Placed A) → Type 0
+abbrev pub Ascend : {A : Type 0} → ℕ → List (Placed A) → Type 0
 Ascend least [] = Unit {0}
 Ascend least (p ∷ rows) = (least ≤ p.offset) × Ascend (suc p.offset) rows
 
@@ -123,7 +123,7 @@ few_records least records rows up match =
     omega arith
 
 -- the records that are read ascend
-records_ascend : (format : Format) (info : List ℕ) (records : List (Placed Record)) → Class.layout_of format info ≡ Ok records → Ascend 0 records
+pub records_ascend : (format : Format) (info : List ℕ) (records : List (Placed Record)) → Class.layout_of format info ≡ Ok records → Ascend 0 records
 unfolding Class.layout_of
 records_ascend format info records e =
     let a = bind_ok (Class.first_record format info) _ records e in
@@ -132,25 +132,25 @@ records_ascend format info records e =
     let P : List (Placed Record) → Type 0 = λ w. Ascend 0 w in
     subst P (the_ok _ _ c.1) (placed_ascend next_record record_shrinks (length info) 0 (drop a.0 info) b.0 (omega (arith, length-drop a.0 info)) ((read_placed next_record record_shrinks a.0 info b.0).0 b.1))
 
-layout_is : (format : Format) (info : List ℕ) (records : List (Placed Record)) → Class.classes_of format info ≡ Ok records → Class.layout_of format info ≡ Ok records
+pub layout_is : (format : Format) (info : List ℕ) (records : List (Placed Record)) → Class.classes_of format info ≡ Ok records → Class.layout_of format info ≡ Ok records
 layout_is format info records e =
     let a = bind_ok (Class.layout_of format info) _ records e in
     let b = guard_ok _ _ _ records a.2 in
     a.1 ∙ b.1
 
-descriptor_is : (info : List ℕ) (found : DescriptorInfo) → descriptor_of info ≡ Ok found → Descriptor.layout_of info ≡ Ok found
+pub descriptor_is : (info : List ℕ) (found : DescriptorInfo) → descriptor_of info ≡ Ok found → Descriptor.layout_of info ≡ Ok found
 descriptor_is info found e =
     let a = bind_ok (Descriptor.layout_of info) _ found e in
     let b = guard_ok _ _ _ found a.2 in
     a.1 ∙ b.1
 
 -- nothing is told, so there is nothing
-none_told : (a b : Option LoadFault) → told a b ≡ None → (a ≡ None) × (b ≡ None)
+pub none_told : (a b : Option LoadFault) → told a b ≡ None → (a ≡ None) × (b ≡ None)
 none_told None b e = (refl, e)
 none_told (Some x) None e = absurd cc
 none_told (Some x) (Some y) e = absurd cc
 
-is_fine : (fine : Bool) (tag : ℕ) → unless fine tag ≡ None → fine ≡ true
+pub is_fine : (fine : Bool) (tag : ℕ) → unless fine tag ≡ None → fine ≡ true
 is_fine true tag e = refl
 is_fine false tag e = absurd cc
 

@@ -4,3 +4,6 @@ pub mod Indexing
 pub mod Installing
 mod FreshNumbers
 mod Joined
+mod Reading
+pub mod Differing
+pub mod Headed

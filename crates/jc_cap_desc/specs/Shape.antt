@@ -1,6 +1,6 @@
 -- The record of a package, in two halves: its shape, which look-ups, subtypes and types of members are about, and its
 -- body, which is what its methods are made of.
-use Rattle.std.specs.Prelude.{ℕ, ◌==◌, Bool, List, map, take, Option, None, if◌then◌else◌}
+use Rattle.std.specs.Prelude.{◌≡◌, ℕ, ◌==◌, Bool, true, List, map, take, Option, Some, None, is_some, slice_get, if◌then◌else◌}
 use Rattle.std.specs.List.{filter_map, find}
 use Rattle.std.specs.Option.{option_map, option_and_then}
 use Rattle.jc_base.specs.PlacedRows.{row_at}
@@ -58,12 +58,21 @@ pub record Shape : Type 0 where
   pub exports : List ExportedClass
   pub classes : List ClassShape
 
+-- each method of a class has its header
+abbrev pub HaveHeaders : Shape → Type 0
+HaveHeaders shape = (n i : ℕ) (k : ClassShape) (m : MethodShape) → slice_get shape.classes n ≡ Some k → is_class k.body ≡ true
+    → slice_get k.methods i ≡ Some m → is_some m.header ≡ true
+
 -- a method with code: the method's offset, the offset of its first byte of code, its code, and its handlers
 pub record MethodBody : Type 0 where
   pub offset : ℕ
   pub code_offset : ℕ
   pub code : List ℕ
   pub handlers : List Handler
+
+-- of the methods with code no two stand at one offset
+abbrev pub DifferByOffset : List MethodBody → Type 0
+DifferByOffset methods = (n k : ℕ) (b c : MethodBody) → slice_get methods n ≡ Some b → slice_get methods k ≡ Some c → b.offset ≡ c.offset → n ≡ k
 
 -- the body of a package: its name, its applets, or none where it is a library; its constant pool, with the types that
 -- entries have; its static fields; and its methods with code

@@ -1,8 +1,9 @@
 //! A whole package.
 
-ghost use Rattle.std.specs.Prelude.{◌≡◌, ◌≤◌, length, slice_get};
+ghost use Rattle.std.specs.Prelude.{◌≡◌, ◌≤◌, IfOk, length, slice_get};
 ghost use Rattle.std.specs.Option.{option_and_then};
 ghost use Rattle.jc_cap_desc.specs.Package.{layout_in, package_fault, package_of};
+ghost use Rattle.jc_cap_desc.specs.Shape.{DifferByOffset, HaveHeaders};
 ghost use Rattle.jc_cap_desc.specs.PrivatePackage.{records_in, components_in, class_fault_in, component_fault_in, HasFewRows, HasFewRecords, HasFewImports, joined};
 
 use crate::bodies::MethodBodies;
@@ -258,10 +259,9 @@ fn joined<'a>(found: Components<'a>) -> Result<Package<'a>, LoadFault>
     })
 }
 
-/// Reads a whole package of an image: all components, and then what they say of one another. Of several refusals the
-/// one with the smallest number is told, and of `Malformed` the one with the least tag.
+/// The package that an image has, or its refusal.
 #[tactic(auto, using(crate::proofs::Joined::joined_is, crate::proofs::Few::few_in))]
-pub fn read_package<'a>(parts: &Parts<'a>) -> Result<Package<'a>, LoadFault>
+fn package_in<'a>(parts: &Parts<'a>) -> Result<Package<'a>, LoadFault>
     ensures { result ≡ package_of parts.now }
 {
     let found = read_components(parts);
@@ -269,4 +269,15 @@ pub fn read_package<'a>(parts: &Parts<'a>) -> Result<Package<'a>, LoadFault>
         Some(fault) => Err(fault),
         None => joined(found),
     }
+}
+
+/// Reads a whole package of an image: all components, and then what they say of one another. Of several refusals the
+/// one with the smallest number is told, and of `Malformed` the one with the least tag.
+#[tactic(auto, using(crate::proofs::Differing::differ_in, crate::proofs::Headed::headed_in))]
+pub fn read_package<'a>(parts: &Parts<'a>) -> Result<Package<'a>, LoadFault>
+    ensures package { result ≡ package_of parts.now }
+    ensures differ { IfOk result (λ p. DifferByOffset p.body.methods) }
+    ensures headers { IfOk result (λ p. HaveHeaders p.shape) }
+{
+    package_in(parts)
 }

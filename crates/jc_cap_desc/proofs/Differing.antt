@@ -1,0 +1,117 @@
+-- Of the methods with code of a package that was read no two stand at one offset.
+use Rattle.std.proofs.Common.{◌≡◌, ℕ, zero, suc, ◌==◌, ◌&&◌, ◌||◌, Bool, true, false, cond, not, List, [], ◌∷◌, map, Option, Some, None, Result, Ok, Err, IfOk, refl, sym, ap, subst, ◌∙◌, take, slice_get}
+use Rattle.std.proofs.lemmas.Bool.{eq-eqb}
+use Rattle.std.specs.List.{cons_option, filter_map, list_all}
+use Rattle.std.specs.Option.{option_and_then, option_map}
+use Rattle.std.specs.Result.{result_ok}
+use Rattle.jc_base.specs.Parts.{Infos}
+use Rattle.jc_base.specs.Rows.{part}
+use Rattle.jc_base.specs.Tag.{descriptor_tag}
+use Rattle.jc_base.specs.declared.fault.LoadFault.{LoadFault}
+use Rattle.jc_base.specs.declared.placed_rows.Placed.{Placed}
+use Rattle.jc_base.proofs.Binding.{bind_ok, the_ok, the_some, none_some, both_true}
+use Rattle.jc_cap_class.specs.Component as Class
+use Rattle.jc_cap_class.specs.declared.record.Record.{Record}
+use Rattle.jc_cap_data.specs.Applets.{applets_of}
+use Rattle.jc_cap_data.specs.Exports.{exports_of}
+use Rattle.jc_cap_data.specs.Imports.{imports_of}
+use Rattle.jc_cap_data.specs.Statics.{static_fields_of}
+use Rattle.jc_cap_data.specs.declared.applets.Applet.{Applet}
+use Rattle.jc_cap_head.specs.Header.{Heading, header_of}
+use Rattle.jc_cap_method.specs.Component.{Method, Methods, method_at, methods_of}
+use Rattle.jc_cap_method.specs.declared.handler.Handler.{Handler}
+use Rattle.jc_cap_pool.specs.Pool.{pool_of}
+use Rattle.jc_cap_pool.specs.declared.entry.PoolEntry.{PoolEntry}
+use Rattle.jc_cap_desc.proofs.Few.{is_fine, none_told}
+use Rattle.jc_cap_desc.proofs.Reading.{read_of}
+use Rattle.jc_cap_desc.specs.Across.{are_distinct, class_methods, has_code, is_among, is_interface_row, methods_differ, rows_match}
+use Rattle.jc_cap_desc.specs.Component as Descriptor
+use Rattle.jc_cap_desc.specs.Package.{told, unless, pool_fault, methods_fault, applets_fault, classes_fault, across_fault, layout_in, component_fault, package_fault, components_of, package_of, refused}
+use Rattle.jc_cap_desc.specs.Shape.{DifferByOffset, MethodBody, Package, body_of_method}
+use Rattle.jc_cap_desc.specs.Types.{descriptor_of}
+use Rattle.jc_cap_desc.specs.declared.class_row.ClassRow.{ClassRow}
+use Rattle.jc_cap_desc.specs.declared.class_row.MethodRow.{MethodRow}
+use Rattle.jc_cap_desc.specs.declared.component.DescriptorInfo.{DescriptorInfo}
+
+or_left : (a b : Bool) → a ≡ true → (a || b) ≡ true
+or_left true b e = refl
+or_left false b e = absurd cc
+
+or_right : (a b : Bool) → b ≡ true → (a || b) ≡ true
+or_right true b e = refl
+or_right false b e = e
+
+is_not : (a b : Bool) → (not a && b) ≡ true → (a ≡ false) × (b ≡ true)
+is_not true b e = absurd cc
+is_not false b e = (refl, e)
+
+clash : (a : Bool) → a ≡ true → a ≡ false → ⊥
+clash true e f = absurd cc
+clash false e f = absurd cc
+
+-- what is made of some elements has their numbers, where these are distinct
+module _ {A B : Type 0} (f : A → Option B) (number : A → ℕ) (its : B → ℕ) (keeps : (a : A) (b : B) → f a ≡ Some b → its b ≡ number a) where
+  among_all : (xs : List A) (k : ℕ) (c : B) → slice_get (filter_map f xs) k ≡ Some c → is_among (its c) (map number xs) ≡ true
+  among_all [] k c e = absurd (none_some c e)
+  among_all (x ∷ xs) k c e = by_first (f x) refl (λ m. among_all xs m c) k e
+    where
+      by_first : (o : Option B) → f x ≡ o → ((m : ℕ) → slice_get (filter_map f xs) m ≡ Some c → is_among (its c) (map number xs) ≡ true)
+          → (k : ℕ) → slice_get (cons_option o (filter_map f xs)) k ≡ Some c → (its c == number x || is_among (its c) (map number xs)) ≡ true
+      by_first None is rest k e = or_right (its c == number x) (is_among (its c) (map number xs)) (rest k e)
+      by_first (Some b) is rest zero e =
+          or_left (its c == number x) (is_among (its c) (map number xs)) (eq-eqb (its c) (number x) (sym (ap its (the_some b c e)) ∙ keeps x b is))
+      by_first (Some b) is rest (suc k) e = or_right (its c == number x) (is_among (its c) (map number xs)) (rest k e)
+
+  pub differ_where_distinct : (xs : List A) → are_distinct (map number xs) ≡ true → (n k : ℕ) (b c : B) → slice_get (filter_map f xs) n ≡ Some b
+      → slice_get (filter_map f xs) k ≡ Some c → its b ≡ its c → n ≡ k
+  differ_where_distinct [] distinct n k b c at there same = absurd (none_some b at)
+  differ_where_distinct (x ∷ xs) distinct n k b c at there same =
+      let parts = is_not (is_among (number x) (map number xs)) (are_distinct (map number xs)) distinct in
+      by_first (f x) refl parts.0 (λ n k. differ_where_distinct xs parts.1 n k b c) n k at there
+    where
+      by_first : (o : Option B) → f x ≡ o → is_among (number x) (map number xs) ≡ false
+          → ((n k : ℕ) → slice_get (filter_map f xs) n ≡ Some b → slice_get (filter_map f xs) k ≡ Some c → its b ≡ its c → n ≡ k)
+          → (n k : ℕ) → slice_get (cons_option o (filter_map f xs)) n ≡ Some b → slice_get (cons_option o (filter_map f xs)) k ≡ Some c → n ≡ k
+      by_first None is apart rest n k at there = rest n k at there same
+      by_first (Some a) is apart rest zero zero at there = refl
+      by_first (Some a) is apart rest zero (suc k) at there =
+          let number_c : its c ≡ number x = sym same ∙ sym (ap its (the_some a b at)) ∙ keeps x a is in
+          absurd (clash _ (ap (λ i. is_among i (map number xs)) (sym number_c) ∙ among_all xs k c there) apart)
+      by_first (Some a) is apart rest (suc n) zero at there =
+          let number_b : its b ≡ number x = same ∙ sym (ap its (the_some a c there)) ∙ keeps x a is in
+          absurd (clash _ (ap (λ i. is_among i (map number xs)) (sym number_b) ∙ among_all xs n b at) apart)
+      by_first (Some a) is apart rest (suc n) (suc k) at there = ap suc (rest n k at there same)
+
+-- a method with code has the offset of its row
+abbrev made : MethodRow → Method → List Handler → MethodBody
+made m found handlers = record { offset = m.offset; code_offset = found.code_offset; code = take m.bytecode_count found.code; handlers = handlers }
+
+body_offset : (methods : Methods) (m : MethodRow) (b : MethodBody) → body_of_method methods m ≡ Some b → b.offset ≡ m.offset
+body_offset methods m b e = by_parts (has_code m) (method_at m.offset methods) (part m.handler_index m.handler_count methods.handlers) e
+  where
+    by_parts : (coded : Bool) (o : Option Method) (p : Option (List Handler)) → cond coded (option_and_then (λ found. option_map (made m found) p) o) None ≡ Some b → b.offset ≡ m.offset
+    by_parts true (Some found) (Some handlers) e = sym (ap (λ (b : MethodBody). b.offset) (the_some (made m found handlers) b e))
+    by_parts true (Some found) None e = absurd (none_some b e)
+    by_parts true None p e = absurd (none_some b e)
+    by_parts false o p e = absurd (none_some b e)
+
+-- no two methods of classes have one offset, where nothing is told
+across_differ : (info : DescriptorInfo) (records : List (Placed Record)) (pool : Option (List PoolEntry)) (applets : Option (Option (List Applet))) (methods : Option Methods)
+    → across_fault (Some info) (Some records) pool applets methods ≡ None → methods_differ records info.classes ≡ true
+across_differ info records pool applets methods e =
+    let last = unless (rows_match records info.classes && methods_differ records info.classes) descriptor_tag in
+    let classes = (none_told (pool_fault pool info) (classes_fault (Some records) info applets methods) e).1 in
+    let methods_fine = (none_told (applets_fault records info applets) (told (methods_fault records info methods) last) classes).1 in
+    let behind = (none_told (methods_fault records info methods) last methods_fine).1 in
+    (both_true (rows_match records info.classes) (methods_differ records info.classes) (is_fine (rows_match records info.classes && methods_differ records info.classes) descriptor_tag behind)).1
+
+-- of a package that was read
+pub differ_in : (infos : Infos) (r : Result Package LoadFault) → r ≡ package_of infos → IfOk r (λ p. DifferByOffset p.body.methods)
+differ_in infos (Err fault) e = tt
+differ_in infos (Ok p) e =
+    let read = read_of infos p e in
+    let r = read.0 in
+    let apart = across_differ r.info r.records (result_ok (pool_of infos.constant_pool)) (result_ok (applets_of infos.applet)) (Some r.methods) read.1 in
+    let distinct = (both_true (are_distinct (map (λ m. m.offset) (class_methods r.records r.info.classes))) _ apart).0 in
+    subst DifferByOffset r.bodies
+    (differ_where_distinct (body_of_method r.methods) (λ m. m.offset) (λ b. b.offset) (body_offset r.methods) (class_methods r.records r.info.classes) distinct)

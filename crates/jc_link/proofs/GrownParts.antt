@@ -25,6 +25,10 @@ pub chosen_of : {A : Type 0} (b : Bool) (o : Option A) (a : A) → cond b o None
 chosen_of true o a e = e
 chosen_of false o a e = absurd (none_some a e)
 
+pub chosen_true : {A : Type 0} (b : Bool) (o : Option A) (a : A) → cond b o None ≡ Some a → b ≡ true
+chosen_true true o a e = refl
+chosen_true false o a e = absurd (none_some a e)
+
 pub position_below : {A : Type 0} (p : A → Bool) (xs : List A) (i : ℕ) → position p xs ≡ Some i → i < length xs
 position_below p xs i e = by_place (nat_lt (position_or_len p xs) (length xs)) (ltb-true (position_or_len p xs) (length xs)) e
   where

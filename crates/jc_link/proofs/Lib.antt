@@ -31,3 +31,4 @@ pub mod ApiTables
 pub mod ApiFit
 pub mod Soundness
 pub mod Applet
+pub mod Naming

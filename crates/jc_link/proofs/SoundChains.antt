@@ -79,7 +79,7 @@ cells_follow world have c d e =
 
 -- ---- where a class has a superclass
 
-named_there : (world : List Shape) (home : ℕ) (ref : ClassRef) (c : ClassName) → class_named world home ref ≡ Some c → (k : ClassShape) × (class_at world c ≡ Some k)
+pub named_there : (world : List Shape) (home : ℕ) (ref : ClassRef) (c : ClassName) → class_named world home ref ≡ Some c → (k : ClassShape) × (class_at world c ≡ Some k)
 named_there world home ref c e =
     let a = some_of (if_there world) (class_spelled world home ref) c e in
     by_class a.0 (class_at world a.0) refl a.2

@@ -17,7 +17,7 @@ use Rattle.jc_classes.specs.Walk.{most_classes}
 use Rattle.jc_classes.specs.World.{class_at, home_of, superclass_of}
 use Rattle.jc_classes.specs.declared.name.ClassName.{ClassName}
 use Rattle.jc_classes.specs.declared.name.MethodName.{MethodName}
-use Rattle.jc_link.proofs.GrownParts.{some_of, the_some, none_some, chosen_of}
+use Rattle.jc_link.proofs.GrownParts.{some_of, the_some, none_some, chosen_of, chosen_true}
 use Rattle.jc_link.proofs.GrownWithin.{class_home}
 use Rattle.jc_link.proofs.Nones.{true_false, left_false, right_false, not_false, some_there, none_at, found_at, found_passes}
 use Rattle.jc_link.specs.Classes.{instance_token, words_of}
@@ -134,6 +134,7 @@ module _ (world : List Shape) (fit : AreFit world) (all : AreAllFit world) where
     pub its : IsFit world d.class body
     pub place : ℕ
     pub row : slice_get body.methods place ≡ Some d.method
+    pub class : is_class body.body ≡ true
 
   -- the method of a class that was made a declared one
   of_class : (home offset : ℕ) (k : ClassShape) (c : ClassName) (o : Option MethodShape) (d : DeclaredMethod) → method_of_class offset k ≡ o
@@ -141,7 +142,7 @@ module _ (world : List Shape) (fit : AreFit world) (all : AreAllFit world) where
   of_class home offset k c None d at e = absurd (none_some d e)
   of_class home offset k c (Some m) d at e = let same = the_some _ _ e in (ap (λ (d : DeclaredMethod). d.class) same, ap (λ (d : DeclaredMethod). Some d.method) same)
 
-  row_of : (m : MethodName) (d : DeclaredMethod) → method_at world m ≡ Some d → IsRow d
+  pub row_of : (m : MethodName) (d : DeclaredMethod) → method_at world m ≡ Some d → IsRow d
   row_of m d e =
       let home = some_of (λ home. option_and_then (declared_in home (method_offset m)) (slice_get world home)) (method_home m) d e in
       let shape = some_of (declared_in home.0 (method_offset m)) (slice_get world home.0) d home.2 in
@@ -152,7 +153,7 @@ module _ (world : List Shape) (fit : AreFit world) (all : AreAllFit world) where
       let there = all home.0 place.0 shape.0 k.0 shape.1 place.1 in
       let same : there.class ≡ d.class = the_some _ _ (sym there.named ∙ name.1) ∙ is.0 in
       let row = found_at (λ m'. m'.offset == method_offset m) (k.0).methods d.method (chosen_of (is_class (k.0).body) (find (λ m'. m'.offset == method_offset m) (k.0).methods) d.method is.1) in
-      record { body = k.0; its = subst (λ c. IsFit world c k.0) same there.fit; place = row.0; row = row.1 }
+      record { body = k.0; its = subst (λ c. IsFit world c k.0) same there.fit; place = row.0; row = row.1; class = chosen_true (is_class (k.0).body) (find (λ m'. m'.offset == method_offset m) (k.0).methods) d.method is.1 }
 
   pub methods_hold : HaveMethods world
   methods_hold = record {

@@ -20,3 +20,4 @@ pub mod Linked
 pub mod Sound
 pub mod Applet
 pub mod PrivateFit
+pub mod KnownTypes

@@ -1,9 +1,11 @@
 -- Packages that are bound to those before them, and the world of those (Java Card Virtual Machine Specification, Linking).
-use Rattle.std.specs.Prelude.{◌≡◌, ◌⊎◌, ℕ, ◌+◌, ◌-◌, List, [], ◌∷◌, ◌++◌, map, length, Option, Some, Result, Ok, Err, slice_get}
+use Rattle.std.specs.Prelude.{◌≡◌, ◌⊎◌, ℕ, ◌+◌, ◌-◌, List, [], ◌∷◌, ◌++◌, map, length, true, Option, Some, Result, Ok, Err, is_some, slice_get}
 use Rattle.jc_base.specs.declared.fault.LoadFault.{LoadFault}
 use Rattle.jc_base.specs.declared.fault.LoadFault.TheVariants.{Memory}
-use Rattle.jc_cap_desc.specs.Shape.{Package, Shape}
+use Rattle.jc_cap_desc.specs.Shape.{DifferByOffset, Package, Shape}
 use Rattle.jc_classes.specs.Growth.{grown}
+use Rattle.jc_classes.specs.Members.{DeclaredMethod, method_at}
+use Rattle.jc_classes.specs.Methods.{method_name}
 use Rattle.jc_link.specs.Built.{IsBuilt}
 use Rattle.jc_link.specs.Kept.{Kept, kept_of}
 use Rattle.jc_link.specs.Target.{pool_targets}
@@ -29,10 +31,17 @@ pub record World : Type 0 where
 abbrev pub IsResolved : List Shape → ℕ → LinkedBody → Type 0
 IsResolved world home body = map Some body.targets ≡ pool_targets world home body.kept.pool
 
--- what each linked package is: its world is built of well-formed packages, the last of which it is, and its pool is resolved there
+-- each method of a class of the package that stands there has its header
+abbrev pub AreHeaded : List Shape → ℕ → Type 0
+AreHeaded world home = (offset : ℕ) (d : DeclaredMethod) → method_at world (method_name home offset) ≡ Some d → is_some d.method.header ≡ true
+
+-- what each linked package is: its world is built of well-formed packages, the last of which it is, its pool is resolved there, no
+-- two of its methods with code stand at one offset, and its classes' methods have headers
 pub record IsLast (l : Linked) : Type 0 where
   pub built : IsBuilt l.world
   pub resolved : IsResolved l.world (length l.world - 1) l.body
+  pub differ : DifferByOffset l.body.kept.methods
+  pub headed : AreHeaded l.world (length l.world - 1)
 
 -- what each world is: it is built of well-formed packages, and the pool of each of the loaded ones, which stand behind the API's
 -- two, is resolved there

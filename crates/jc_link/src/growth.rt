@@ -8,6 +8,7 @@ ghost use Rattle.jc_classes.specs.Limits.{IsSmall};
 ghost use Rattle.jc_link.specs.Applet.{applet};
 ghost use Rattle.jc_link.specs.Built.{IsBuilt};
 ghost use Rattle.jc_link.specs.Growth.{KeepsLinking};
+ghost use Rattle.jc_link.specs.KnownTypes.{NameClasses};
 ghost use Rattle.jc_link.specs.Sound.{IsSound};
 ghost use Rattle.jc_link.specs.WellFormed.{IsWellFormed};
 
@@ -27,6 +28,14 @@ pub fn built_worlds_are_sound()
     ensures { (world : List Shape) → IsSmall world → IsBuilt world → IsSound world }
 {
     adding_keeps_lookups();
+}
+
+/// In such a world what types name are classes that are there, whatever is looked up, and an interface counts as Object.
+pub fn built_worlds_name_classes()
+    ensures { (world : List Shape) → IsSmall world → IsBuilt world → NameClasses world }
+{
+    adding_keeps_lookups();
+    built_worlds_are_sound();
 }
 
 /// A package with an applet is well-formed behind the API's packages.

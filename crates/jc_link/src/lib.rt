@@ -18,7 +18,10 @@ mod well_formed;
 mod world;
 
 pub use body::{ArrayKind, InitialArray, MethodCode, PackageBody, Statics};
-pub use growth::{adding_keeps_linking, an_applet_is_well_formed, built_worlds_are_sound};
+pub use growth::{
+    adding_keeps_linking, an_applet_is_well_formed, built_worlds_are_sound,
+    built_worlds_name_classes,
+};
 pub use linking::link;
 pub use named::{Named, StaticPlace};
 pub use target::{MemberType, PoolTarget, member_type};

@@ -2,10 +2,11 @@
 
 ghost use Rattle.std.specs.Prelude.{◌≡◌, ◌<◌, ◌≤◌, map, length, Some, Ok, IfOk, IfErr};
 ghost use Rattle.jc_cap_desc.specs.Package.{package_of};
-ghost use Rattle.jc_cap_desc.specs.Shape.{Package as PackageRecord};
+ghost use Rattle.jc_cap_desc.specs.Shape.{DifferByOffset, HaveHeaders, Package as PackageRecord};
 ghost use Rattle.jc_classes.specs.Growth.{grown};
 ghost use Rattle.jc_classes.specs.Limits.{most_packages};
 ghost use Rattle.jc_link.specs.Built.{IsBuilt};
+ghost use Rattle.jc_link.specs.Growth.{HasApi};
 ghost use Rattle.jc_link.specs.Kept.{kept_of};
 ghost use Rattle.jc_link.specs.Target.{pool_targets};
 ghost use Rattle.jc_link.specs.Sound.{LeadSomewhere};
@@ -123,6 +124,7 @@ fn leads(world: &World, table: &ClassTable, linked: &Package)
     requires fine { IsWellFormed world.now.shapes linked.now }
     ensures built { IsBuilt table.now }
     ensures lead { LeadSomewhere table.now (length world.now.shapes) linked.now.body.pool }
+    ensures api { HasApi world.now.shapes }
 {
     let _before = world.table();
     let _count = table.len();
@@ -139,6 +141,8 @@ fn bound(
 ) -> Result<Linked, AllocError>
     requires table { table ≡ grown world.now.shapes linked.now.shape }
     requires fine { IsWellFormed world.now.shapes linked.now }
+    requires differ { DifferByOffset linked.now.body.methods }
+    requires headers { HaveHeaders linked.now.shape }
     ensures { IfOk result (λ l. IsLinked world.now.shapes linked.now l) }
 {
     leads(world, &table, linked);

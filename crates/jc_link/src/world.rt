@@ -1,10 +1,11 @@
 //! The world of the packages on a card.
 
 ghost use Rattle.std.specs.Prelude.{◌≡◌, ◌+◌, ◌-◌, ◌<◌, ◌≤◌, [], length, IfOk, IfErr};
+ghost use Rattle.jc_cap_desc.specs.Shape.{DifferByOffset};
 ghost use Rattle.jc_classes.specs.Limits.{most_packages};
 ghost use Rattle.jc_classes.specs.Api.{api_world};
 ghost use Rattle.jc_link.specs.Built.{IsBuilt};
-ghost use Rattle.jc_link.specs.Linked.{IsBoundTo, IsResolved, IsWorld, with_linked};
+ghost use Rattle.jc_link.specs.Linked.{AreHeaded, IsBoundTo, IsResolved, IsWorld, with_linked};
 
 use crate::body::PackageBody;
 use crate::growth::adding_keeps_linking;
@@ -68,6 +69,7 @@ impl Linked {
     pub fn table(&self) -> &ClassTable
         ensures table { result.now ≡ self.now.world }
         ensures built { IsBuilt self.now.world }
+        ensures headed { AreHeaded self.now.world (length self.now.world - 1) }
     {
         &self.table
     }
@@ -76,6 +78,7 @@ impl Linked {
     pub fn body(&self) -> &LinkedBody
         ensures body { result.now ≡ self.now.body }
         ensures resolved { IsResolved self.now.world (length self.now.world - 1) self.now.body }
+        ensures differ { DifferByOffset self.now.body.kept.methods }
     {
         &self.body
     }

@@ -4,3 +4,4 @@ mod Results
 mod Order
 mod Lower
 mod Monotone
+pub mod Knowing

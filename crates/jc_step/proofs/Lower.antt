@@ -10,7 +10,7 @@ use Rattle.jc_step.specs.declared.row.Demand.{Demand}
 use Rattle.jc_step.specs.Row.{meets, all_meet}
 use Rattle.jc_step.proofs.Order.{IsTransitive, and_true, both, meets_down}
 
-reverse-cons : (x : Ty) (xs : List Ty) → reverse (x ∷ xs) ≡ reverse xs ++ x ∷ []
+pub reverse-cons : (x : Ty) (xs : List Ty) → reverse (x ∷ xs) ≡ reverse xs ++ x ∷ []
 reverse-cons x xs = reverse-append (x ∷ []) xs
 
 module _ (below : ClassName → ClassName → Bool) where

@@ -28,7 +28,7 @@ use Rattle.jc_step.proofs.Lower.{same_length, take_down, drop_down, reverse_down
 
 -- ---- steps of tests
 
-four : (a b c d : Bool) (x t : Types)
+pub four : (a b c d : Bool) (x t : Types)
     → (if a then Err BadLocal else if b then Err StackUnder else if c then Err WrongType else if d then Err StackOver else Ok x) ≡ Ok t
     → (a ≡ false) × (b ≡ false) × (c ≡ false) × (d ≡ false) × (x ≡ t)
 four false false false false x t h = (refl, refl, refl, refl, cc)
@@ -37,17 +37,17 @@ four false false true d x t h = absurd cc
 four false true c d x t h = absurd cc
 four true b c d x t h = absurd cc
 
-two : (a b : Bool) (x t : Types) → (if a then Err StackUnder else if b then Err StackOver else Ok x) ≡ Ok t
+pub two : (a b : Bool) (x t : Types) → (if a then Err StackUnder else if b then Err StackOver else Ok x) ≡ Ok t
     → (a ≡ false) × (b ≡ false) × (x ≡ t)
 two false false x t h = (refl, refl, cc)
 two false true x t h = absurd cc
 two true b x t h = absurd cc
 
-one : (a : Bool) (x t : Types) → (if a then Err StackUnder else Ok x) ≡ Ok t → (a ≡ false) × (x ≡ t)
+pub one : (a : Bool) (x t : Types) → (if a then Err StackUnder else Ok x) ≡ Ok t → (a ≡ false) × (x ≡ t)
 one false x t h = (refl, cc)
 one true x t h = absurd cc
 
-three : (a b c : Bool) → not (a && b && c) ≡ false → (a ≡ true) × (b ≡ true) × (c ≡ true)
+pub three : (a b c : Bool) → not (a && b && c) ≡ false → (a ≡ true) × (b ≡ true) × (c ≡ true)
 three true true true h = (refl, refl, refl)
 three true true false h = absurd cc
 three true false c h = absurd cc

@@ -1,11 +1,20 @@
--- What holds of all effects: what a state allows each state below it allows, with a result below.
-use Rattle.std.specs.Prelude.{◌≡◌, Bool, true, Result, Ok}
+-- What holds of all effects: what a state allows each state below it allows, with a result below; and what they leave names classes
+-- of the world.
+use Rattle.std.specs.Prelude.{◌≡◌, ℕ, Bool, true, Some, Result, Ok, slice_get}
 use Rattle.jc_base.specs.declared.reason.Reason.{Reason}
 use Rattle.jc_classes.specs.declared.name.ClassName.{ClassName}
+use Rattle.jc_link.specs.KnownTypes.{NameClasses, is_known_target}
+use Rattle.jc_link.specs.declared.target.PoolTarget.{PoolTarget}
 use Rattle.jc_types.specs.State.{Types, types_below}
+use Rattle.jc_step.specs.Objects.{Setting}
 
 -- a step from types to types that goes the same way from lower types
 abbrev pub IsMonotone : (ClassName → ClassName → Bool) → (Types → Result Types Reason) → Type 0
 IsMonotone below step =
     (s t after_t : Types) → types_below below s t ≡ true → step t ≡ Ok after_t
     → (after_s : Types) × (step s ≡ Ok after_s) × (types_below below after_s after_t ≡ true)
+
+-- types name classes in the world of a setting, and so do those that its package's pool leads to
+pub record NamesKnown (set : Setting) : Type 0 where
+  pub world : NameClasses set.world
+  pub targets : (n : ℕ) (target : PoolTarget) → slice_get set.targets n ≡ Some target → is_known_target set.world target ≡ true

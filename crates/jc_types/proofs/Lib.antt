@@ -5,3 +5,4 @@ mod Points
 mod Operands
 mod Turned
 mod Joining
+pub mod Knowing

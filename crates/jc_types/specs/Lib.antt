@@ -1,6 +1,7 @@
 pub mod Ty
 pub mod State
 pub mod Changes
+pub mod Known
 pub mod PrivateOrder
 pub mod PrivateJoin
 pub mod PrivateLeast

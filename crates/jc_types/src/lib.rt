@@ -5,6 +5,7 @@ mod changes;
 mod classes;
 mod height;
 mod join;
+mod known;
 mod lattice;
 mod order;
 mod state;
@@ -12,6 +13,7 @@ mod ty;
 
 pub use changes::are_below;
 pub use classes::{Classes, NoClasses};
+pub use known::known_laws;
 pub use lattice::{Lattice, order_laws};
 pub use order::is_below;
 pub use state::State;

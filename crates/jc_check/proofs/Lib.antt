@@ -13,3 +13,5 @@ mod Typed
 mod Verdicts
 mod Rows
 mod Least
+pub mod Names
+pub mod Knowing

@@ -9,3 +9,5 @@ pub mod Package
 pub mod Checked
 pub mod PrivateFirst
 pub mod PrivateMarks
+pub mod PrivateNames
+pub mod PrivateKnown

@@ -1,7 +1,10 @@
-//! The classes that names in a package's certificate stand for.
+//! The classes that names in a package's certificate stand for, and the names of classes.
 
-ghost use Rattle.std.specs.Prelude.{◌≡◌, ◌≤◌};
+ghost use Rattle.std.specs.Prelude.{◌≡◌, ◌≤◌, false, None, Some, IfSome};
+ghost use Rattle.jc_classes.specs.Subtype.{is_class_at};
+ghost use Rattle.jc_link.specs.Built.{IsBuilt};
 ghost use Rattle.jc_check.specs.Package.{class_of_name, class_with_record, if_class, own_home};
+ghost use Rattle.jc_check.specs.PrivateNames.{spelled_name};
 
 use jc_base::ClassRef;
 use jc_cert::SpelledClass;
@@ -37,5 +40,40 @@ pub fn class_of_name(table: &ClassTable, name: SpelledClass) -> Option<ClassName
             let there = table.loaded_with(home, &package)?;
             class_with_record(table, there, offset)
         }
+    }
+}
+
+/// How a certificate of a world's last package may name a class, if the class's package is there.
+fn spelled_name(table: &ClassTable, class: ClassName) -> Option<SpelledClass>
+    ensures { result ≡ spelled_name table.now class }
+{
+    match class {
+        ClassName::Api(class) => Some(SpelledClass::Api(class)),
+        ClassName::Loaded { offset, .. } => {
+            let home = class.home();
+            if home + 1 == table.len() {
+                return Some(SpelledClass::Own { offset });
+            }
+            let package = table.shape(home)?.package();
+            Some(SpelledClass::Other {
+                package: package.aid,
+                offset,
+            })
+        }
+    }
+}
+
+/// The name by which a certificate of a world's last package names a class; an interface has none.
+#[tactic(auto, using(crate::proofs::Names::unnamed, crate::proofs::Names::not_found, crate::proofs::Names::another))]
+pub fn name_of_class(table: &ClassTable, class: ClassName) -> Option<SpelledClass>
+    requires { IsBuilt table.now }
+    ensures some { IfSome result (λ name. class_of_name table.now name ≡ Some class) }
+    ensures none { result ≡ None → is_class_at table.now class ≡ false }
+{
+    let name = spelled_name(table, class)?;
+    if class_of_name(table, name)? == class {
+        Some(name)
+    } else {
+        None
     }
 }

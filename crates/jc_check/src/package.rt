@@ -56,7 +56,7 @@ impl Checked {
 }
 
 /// The methods with code of a linked package.
-fn methods_of(linked: &Linked) -> &[MethodCode]
+pub(crate) fn methods_of(linked: &Linked) -> &[MethodCode]
     ensures { result.now ≡ linked.now.body.kept.methods }
 {
     &linked.body().kept().methods

@@ -126,7 +126,7 @@ fn arguments_of(
 }
 
 /// How many locals a method has beside its arguments.
-fn max_locals_of(declared: &DeclaredMethod) -> u8
+pub(crate) fn max_locals_of(declared: &DeclaredMethod) -> u8
     ensures { result ≡ max_locals_of declared.now }
 {
     match declared.method.header() {
@@ -136,7 +136,7 @@ fn max_locals_of(declared: &DeclaredMethod) -> u8
 }
 
 /// How many operands a method may have.
-fn max_stack_of(declared: &DeclaredMethod) -> u8
+pub(crate) fn max_stack_of(declared: &DeclaredMethod) -> u8
     ensures { result ≡ option_map_or (λ h. h.max_stack) declared.now.method.header 0 }
 {
     match declared.method.header() {

@@ -1,0 +1,105 @@
+//! What the types of a linked package's methods name, and how many there are.
+
+ghost use Rattle.std.specs.Prelude.{◌≡◌, ◌+◌, ◌-◌, ◌<◌, ◌^◌, ℕ, true, Some, Ok, Contains, length, slice_get};
+ghost use Rattle.std.specs.Option.{option_map_or};
+ghost use Rattle.jc_cap_desc.specs.Shape.{MethodBody};
+ghost use Rattle.jc_classes.specs.Subtype.{common_class, is_class_at};
+ghost use Rattle.jc_classes.specs.declared.name.ClassName.{ClassName};
+ghost use Rattle.jc_code.specs.declared.instr.Operation.{Operation};
+ghost use Rattle.jc_link.specs.KnownTypes.{NameClasses};
+ghost use Rattle.jc_link.specs.Linked.{AreHeaded, IsResolved};
+ghost use Rattle.jc_link.specs.Sound.{HaveMethods};
+ghost use Rattle.jc_types.specs.Known.{AreKnown};
+ghost use Rattle.jc_types.specs.State.{Types, joined_types};
+ghost use Rattle.jc_check.specs.Method.{Handler, entry_of};
+ghost use Rattle.jc_check.specs.Package.{method_of, package_rules};
+ghost use Rattle.jc_check.specs.PrivateKnown.{AreSmallFrames, IsSmallFrame, IsSmallHeader};
+
+use crate::package::methods_of;
+use crate::package_method::{max_locals_of, max_stack_of};
+use jc_classes::DeclaredMethod;
+use jc_link::{Linked, MethodCode, built_worlds_are_sound, built_worlds_name_classes};
+use jc_step::{effects_name_classes, own_method};
+use jc_types::known_laws;
+
+/// How many words of arguments a method takes, by its header.
+fn nargs_of(declared: &DeclaredMethod) -> u8
+    ensures { result ≡ option_map_or (λ h. h.nargs) declared.now.method.header 0 }
+{
+    match declared.method.header() {
+        Some(header) => header.nargs,
+        None => 0,
+    }
+}
+
+/// A method's header counts with bytes. It does nothing but look at it.
+fn header_is_small(declared: &DeclaredMethod)
+    ensures { IsSmallHeader declared.now }
+{
+    let _arguments = nargs_of(declared);
+    let _locals = max_locals_of(declared);
+    let _operands = max_stack_of(declared);
+}
+
+/// What holds of the world of a linked package: types name classes of it, and methods have the headers that they have to. It does
+/// nothing.
+fn world_laws(linked: &Linked)
+    ensures names { NameClasses linked.now.world }
+    ensures methods { HaveMethods linked.now.world }
+    ensures headed { AreHeaded linked.now.world (length linked.now.world - 1) }
+    ensures resolved { IsResolved linked.now.world (length linked.now.world - 1) linked.now.body }
+{
+    let _count = linked.table().len();
+    let _body = linked.body();
+    built_worlds_are_sound();
+    built_worlds_name_classes();
+}
+
+/// The frame of a method with code is small: the method's header counts with bytes. It does nothing but look at it.
+#[tactic(auto, using(crate::proofs::Knowing::few_locals, crate::proofs::Knowing::no_locals, crate::proofs::Knowing::few_operands, crate::proofs::Knowing::no_operands))]
+fn frame_is_small(linked: &Linked, body: &MethodCode)
+    ensures { IsSmallFrame linked.now body.now }
+{
+    world_laws(linked);
+    match own_method(linked, body.offset) {
+        Some(declared) => header_is_small(&declared),
+        None => {}
+    }
+}
+
+/// The frames of the methods before one are small, and this one's is. It does nothing but look at it.
+#[tactic(auto, using(crate::proofs::Knowing::small_step))]
+fn one_frame_more(linked: &Linked, body: &MethodCode)
+    ensures { (n : ℕ) → slice_get linked.now.body.kept.methods n ≡ Some body.now → AreSmallFrames linked.now n → AreSmallFrames linked.now (n + 1) }
+{
+    frame_is_small(linked, body);
+}
+
+/// The frames of all methods with code are small. It does nothing but look at their headers.
+#[tactic(auto, using(crate::proofs::Knowing::none_small))]
+fn frames_are_small(linked: &Linked)
+    ensures { AreSmallFrames linked.now (length linked.now.body.kept.methods) }
+{
+    let methods = methods_of(linked);
+    for index in 0..methods.len() {
+        one_frame_more(linked, &methods[index]);
+    }
+}
+
+/// The types that a linked package's methods begin with, catch and come to name classes of its world, and their counts are small. It
+/// does nothing but look at the methods' headers.
+pub fn types_name_classes(linked: &Linked)
+    ensures entry { (n : ℕ) (b : MethodBody) → slice_get linked.now.body.kept.methods n ≡ Some b → AreKnown (is_class_at linked.now.world) (entry_of (method_of linked.now b)) }
+    ensures caught { (n : ℕ) (b : MethodBody) (h : Handler) (c : ClassName) → slice_get linked.now.body.kept.methods n ≡ Some b → Contains (method_of linked.now b).handlers h → h.caught ≡ Some c → is_class_at linked.now.world c ≡ true }
+    ensures effects { (n : ℕ) (b : MethodBody) → slice_get linked.now.body.kept.methods n ≡ Some b → (operation : Operation) (s t : Types)
+        → (package_rules linked.now).effect (method_of linked.now b).max_stack (method_of linked.now b).returned operation s ≡ Ok t
+        → AreKnown (is_class_at linked.now.world) s → AreKnown (is_class_at linked.now.world) t }
+    ensures joins { (s t u : Types) → joined_types (common_class linked.now.world) s t ≡ u → AreKnown (is_class_at linked.now.world) s → AreKnown (is_class_at linked.now.world) t → AreKnown (is_class_at linked.now.world) u }
+    ensures locals { (n : ℕ) (b : MethodBody) → slice_get linked.now.body.kept.methods n ≡ Some b → length (method_of linked.now b).arguments + (method_of linked.now b).max_locals < 2 ^ 16 }
+    ensures stack { (n : ℕ) (b : MethodBody) → slice_get linked.now.body.kept.methods n ≡ Some b → (method_of linked.now b).max_stack < 2 ^ 8 }
+{
+    world_laws(linked);
+    effects_name_classes();
+    known_laws();
+    frames_are_small(linked);
+}

@@ -1,7 +1,7 @@
 -- Of the methods with code of a package that was read no two stand at one offset.
 use Rattle.std.proofs.Common.{◌≡◌, ℕ, zero, suc, ◌==◌, ◌&&◌, ◌||◌, Bool, true, false, cond, not, List, [], ◌∷◌, map, Option, Some, None, Result, Ok, Err, IfOk, refl, sym, ap, subst, ◌∙◌, take, slice_get}
 use Rattle.std.proofs.lemmas.Bool.{eq-eqb}
-use Rattle.std.specs.List.{cons_option, filter_map, list_all}
+use Rattle.std.specs.List.{cons_option, filter_map}
 use Rattle.std.specs.Option.{option_and_then, option_map}
 use Rattle.std.specs.Result.{result_ok}
 use Rattle.jc_base.specs.Parts.{Infos}
@@ -9,27 +9,19 @@ use Rattle.jc_base.specs.Rows.{part}
 use Rattle.jc_base.specs.Tag.{descriptor_tag}
 use Rattle.jc_base.specs.declared.fault.LoadFault.{LoadFault}
 use Rattle.jc_base.specs.declared.placed_rows.Placed.{Placed}
-use Rattle.jc_base.proofs.Binding.{bind_ok, the_ok, the_some, none_some, both_true}
-use Rattle.jc_cap_class.specs.Component as Class
+use Rattle.jc_base.proofs.Binding.{the_some, none_some, both_true}
 use Rattle.jc_cap_class.specs.declared.record.Record.{Record}
 use Rattle.jc_cap_data.specs.Applets.{applets_of}
-use Rattle.jc_cap_data.specs.Exports.{exports_of}
-use Rattle.jc_cap_data.specs.Imports.{imports_of}
-use Rattle.jc_cap_data.specs.Statics.{static_fields_of}
 use Rattle.jc_cap_data.specs.declared.applets.Applet.{Applet}
-use Rattle.jc_cap_head.specs.Header.{Heading, header_of}
-use Rattle.jc_cap_method.specs.Component.{Method, Methods, method_at, methods_of}
+use Rattle.jc_cap_method.specs.Component.{Method, Methods, method_at}
 use Rattle.jc_cap_method.specs.declared.handler.Handler.{Handler}
 use Rattle.jc_cap_pool.specs.Pool.{pool_of}
 use Rattle.jc_cap_pool.specs.declared.entry.PoolEntry.{PoolEntry}
 use Rattle.jc_cap_desc.proofs.Few.{is_fine, none_told}
 use Rattle.jc_cap_desc.proofs.Reading.{read_of}
-use Rattle.jc_cap_desc.specs.Across.{are_distinct, class_methods, has_code, is_among, is_interface_row, methods_differ, rows_match}
-use Rattle.jc_cap_desc.specs.Component as Descriptor
-use Rattle.jc_cap_desc.specs.Package.{told, unless, pool_fault, methods_fault, applets_fault, classes_fault, across_fault, layout_in, component_fault, package_fault, components_of, package_of, refused}
+use Rattle.jc_cap_desc.specs.Across.{are_distinct, class_methods, has_code, is_among, methods_differ, rows_match}
+use Rattle.jc_cap_desc.specs.Package.{told, unless, pool_fault, methods_fault, applets_fault, classes_fault, across_fault, package_of}
 use Rattle.jc_cap_desc.specs.Shape.{DifferByOffset, MethodBody, Package, body_of_method}
-use Rattle.jc_cap_desc.specs.Types.{descriptor_of}
-use Rattle.jc_cap_desc.specs.declared.class_row.ClassRow.{ClassRow}
 use Rattle.jc_cap_desc.specs.declared.class_row.MethodRow.{MethodRow}
 use Rattle.jc_cap_desc.specs.declared.component.DescriptorInfo.{DescriptorInfo}
 

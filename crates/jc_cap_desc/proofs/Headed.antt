@@ -1,39 +1,30 @@
 -- Of a package that was read each method of a class has its header.
-use Rattle.std.proofs.Common.{◌≡◌, ℕ, zero, suc, ◌+◌, ◌<◌, ◌≤◌, ◌==◌, ◌&&◌, Bool, true, false, cond, not, List, [], ◌∷◌, ◌++◌, map, Option, Some, None, Result, Ok, Err, IfOk, refl, sym, ap, subst, ◌∙◌, arith, is_some, length, nat_le, slice_get}
+use Rattle.std.proofs.Common.{◌≡◌, ℕ, zero, suc, ◌≤◌, ◌==◌, ◌&&◌, Bool, true, false, cond, not, List, [], ◌∷◌, Option, Some, None, Result, Ok, Err, IfOk, refl, sym, ap, ◌∙◌, arith, is_some, length, nat_le, slice_get}
 use Rattle.std.proofs.lemmas.Bool.{eq-eqb}
 use Rattle.std.proofs.lemmas.List.Folds.{list_all-append}
 use Rattle.std.specs.List.{cons_option, filter_map, find, flat_map, list_all}
-use Rattle.std.specs.Option.{option_and_then, option_map, option_map_or}
+use Rattle.std.specs.Option.{option_map, option_map_or}
 use Rattle.std.specs.Result.{result_ok}
 use Rattle.jc_base.specs.Parts.{Infos}
 use Rattle.jc_base.specs.PlacedRows.{row_at}
-use Rattle.jc_base.specs.Signature.{Signature}
 use Rattle.jc_base.specs.Tag.{descriptor_tag, method_tag}
 use Rattle.jc_base.specs.declared.class_ref.ClassRef.{ClassRef}
 use Rattle.jc_base.specs.declared.class_ref.ClassRef.TheVariants.{Internal, External}
 use Rattle.jc_base.specs.declared.fault.LoadFault.{LoadFault}
 use Rattle.jc_base.specs.declared.placed_rows.Placed.{Placed}
-use Rattle.jc_base.proofs.Binding.{bind_ok, the_ok, the_some, none_some, both_true}
-use Rattle.jc_cap_class.specs.Component as Class
+use Rattle.jc_base.proofs.Binding.{the_some, none_some, both_true}
 use Rattle.jc_cap_class.specs.Component.{is_class}
 use Rattle.jc_cap_class.specs.declared.record.Record.{Record}
 use Rattle.jc_cap_data.specs.Applets.{applets_of}
-use Rattle.jc_cap_data.specs.Exports.{exports_of}
-use Rattle.jc_cap_data.specs.Imports.{imports_of}
-use Rattle.jc_cap_data.specs.Statics.{static_fields_of}
 use Rattle.jc_cap_data.specs.declared.applets.Applet.{Applet}
-use Rattle.jc_cap_head.specs.Header.{Heading, header_of}
-use Rattle.jc_cap_method.specs.Component.{Method, Methods, header_at, method_at, methods_of}
-use Rattle.jc_cap_method.specs.declared.header.MethodHeader.{MethodHeader}
+use Rattle.jc_cap_method.specs.Component.{Method, Methods, header_at, method_at}
 use Rattle.jc_cap_pool.specs.Pool.{pool_of}
 use Rattle.jc_cap_pool.specs.declared.entry.PoolEntry.{PoolEntry}
 use Rattle.jc_cap_desc.proofs.Few.{Ascend, is_equal, is_fine, none_told, records_ascend}
 use Rattle.jc_cap_desc.proofs.Reading.{read_of}
 use Rattle.jc_cap_desc.specs.Across.{class_methods, handlers_stay_inside, is_described, is_interface_row, is_row_of, methods_differ, record_of, rows_match, stands_inside}
-use Rattle.jc_cap_desc.specs.Component as Descriptor
-use Rattle.jc_cap_desc.specs.Package.{told, unless, pool_fault, methods_fault, applets_fault, classes_fault, across_fault, layout_in, component_fault, package_fault, components_of, package_of, refused}
+use Rattle.jc_cap_desc.specs.Package.{told, unless, pool_fault, methods_fault, applets_fault, classes_fault, across_fault, package_of}
 use Rattle.jc_cap_desc.specs.Shape.{ClassShape, HaveHeaders, MethodShape, Package, class_shape, headers_of, joined, method_shape}
-use Rattle.jc_cap_desc.specs.Types.{descriptor_of}
 use Rattle.jc_cap_desc.specs.declared.class_row.ClassRow.{ClassRow}
 use Rattle.jc_cap_desc.specs.declared.class_row.MethodRow.{MethodRow}
 use Rattle.jc_cap_desc.specs.declared.component.DescriptorInfo.{DescriptorInfo}

@@ -1,5 +1,5 @@
 -- What a package that was read is put together from.
-use Rattle.std.proofs.Common.{◌≡◌, ℕ, List, Option, Some, None, Result, Ok, Err, IfOk, refl, sym, ap}
+use Rattle.std.proofs.Common.{◌≡◌, List, Option, Some, None, Ok, refl, sym, ap}
 use Rattle.std.specs.List.{filter_map}
 use Rattle.std.specs.Result.{result_ok}
 use Rattle.jc_base.specs.Parts.{Infos}

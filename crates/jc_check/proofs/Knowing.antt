@@ -1,22 +1,18 @@
 -- The types of a linked package's methods name classes of its world.
-use Rattle.std.proofs.Common.{◌≡◌, ℕ, zero, suc, ◌+◌, ◌-◌, ◌<◌, ◌≤◌, ◌^◌, ◌==◌, ◌&&◌, ◌||◌, Bool, true, false, cond, List, [], ◌∷◌, ◌++◌, length, map, Option, Some, None, Ok, refl, sym, ap, subst, ◌∙◌, arith, is_some, nat_lt, unwrap_or, slice_get, slice_index_or}
+use Rattle.std.proofs.Common.{◌≡◌, ℕ, zero, suc, ◌+◌, ◌-◌, ◌<◌, ◌≤◌, ◌^◌, ◌==◌, ◌&&◌, ◌||◌, Bool, true, false, cond, List, [], ◌∷◌, ◌++◌, length, map, Option, Some, None, refl, sym, ap, subst, ◌∙◌, arith, is_some, nat_lt, unwrap_or, slice_get, slice_index_or}
 use Rattle.std.proofs.lemmas.Bool.{ltb-true, ltb-false}
 use Rattle.std.proofs.lemmas.List.Folds.{list_all-append}
 use Rattle.std.proofs.lemmas.Option.{slice_get-map}
 use Rattle.std.specs.List.{Contains, list_all}
 use Rattle.std.specs.Option.{option_and_then, option_map, option_map_or}
 use Rattle.jc_base.specs.Signature.{Signature}
-use Rattle.jc_base.specs.declared.class_ref.ClassRef.{ClassRef}
 use Rattle.jc_base.specs.declared.declared_type.DeclaredType.{DeclaredType}
-use Rattle.jc_base.specs.declared.declared_type.ReturnType.{ReturnType}
 use Rattle.jc_api.specs.Class.{number_of}
 use Rattle.jc_api.specs.declared.class.ApiClass.{ApiClass}
 use Rattle.jc_api.specs.declared.class.ApiClass.TheVariants.{Object, Throwable, Exception, RuntimeException, ArithmeticException, ArrayStoreException, ClassCastException, IndexOutOfBoundsException, ArrayIndexOutOfBoundsException, NegativeArraySizeException, NullPointerException, SecurityException, Shareable, CardRuntimeException, IsoException, SystemException, ApduException, Aid, Apdu, Applet, JcSystem, Util}
 use Rattle.jc_cap_desc.specs.Shape.{MethodBody, Shape}
-use Rattle.jc_cap_method.specs.declared.handler.Handler as rows
 use Rattle.jc_cap_method.specs.declared.header.MethodHeader.{MethodHeader}
-use Rattle.jc_cap_pool.specs.declared.entry.PoolEntry.{PoolEntry}
-use Rattle.jc_classes.specs.Members.{DeclaredMethod, method_at}
+use Rattle.jc_classes.specs.Members.{DeclaredMethod}
 use Rattle.jc_classes.specs.Methods.{method_name}
 use Rattle.jc_classes.specs.Names.{is_same_name}
 use Rattle.jc_classes.specs.Subtype.{is_at_or_above, is_class_at, is_class_below}
@@ -25,8 +21,8 @@ use Rattle.jc_classes.specs.World.{home_of, superclass_of}
 use Rattle.jc_classes.specs.declared.name.ClassName.{ClassName}
 use Rattle.jc_classes.specs.declared.name.ClassName.TheVariants.{Api, Loaded}
 use Rattle.jc_link.specs.Classes.{words_of}
-use Rattle.jc_link.specs.Found.{return_found, signature_found, type_found, types_found}
-use Rattle.jc_link.specs.KnownTypes.{NameClasses, is_known_return, is_known_signature, is_known_target, is_known_type}
+use Rattle.jc_link.specs.Found.{return_found, type_found, types_found}
+use Rattle.jc_link.specs.KnownTypes.{NameClasses, is_known_return, is_known_target, is_known_type}
 use Rattle.jc_link.specs.Linked.{AreHeaded, IsResolved, Linked}
 use Rattle.jc_link.specs.MemberType.{declared_type_of, type_class}
 use Rattle.jc_link.specs.Sound.{HaveMethods}
@@ -35,7 +31,6 @@ use Rattle.jc_link.specs.declared.target.PoolTarget.{PoolTarget}
 use Rattle.jc_link.specs.declared.target.PoolTarget.TheVariants as To
 use Rattle.jc_step.specs.Laws.{NamesKnown}
 use Rattle.jc_step.specs.Method.{own_method}
-use Rattle.jc_step.specs.Objects.{Setting}
 use Rattle.jc_types.specs.Known.{AreKnown, is_known}
 use Rattle.jc_types.specs.State.{entry_types}
 use Rattle.jc_types.specs.Ty.{type_of_declared}
@@ -138,7 +133,7 @@ module _ (world : List Shape) (names : NameClasses world)
   arguments_known d h =
       list_all-append (is_known (is_class_at world)) (receiver_of d) (option_map_or (λ signature. map type_of_declared signature.parameters) (declared_type_of world d) [])
       ∙ both (all_known (receiver_of d)) (all_known (option_map_or (λ signature. map type_of_declared signature.parameters) (declared_type_of world d) []))
-          (receiver_known d h) (by_type (declared_type_of world d) refl)
+      (receiver_known d h) (by_type (declared_type_of world d) refl)
     where
       by_type : (o : Option (Signature ClassName)) → declared_type_of world d ≡ o → all_known (option_map_or (λ signature. map type_of_declared signature.parameters) o []) ≡ true
       by_type None e = refl

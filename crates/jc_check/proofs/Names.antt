@@ -1,14 +1,12 @@
 -- Each class of a built world has a name that stands for it: of the loaded packages no two have one AID.
-use Rattle.std.proofs.Common.{rules, ◌≡◌, ℕ, zero, suc, ◌+◌, ◌-◌, ◌<◌, ◌≤◌, ◌==◌, ◌||◌, Bool, true, false, cond, List, [], ◌∷◌, ◌++◌, length, take, drop, Option, Some, None, refl, sym, ap, subst, ◌∙◌, arith, nat_lt, is_some, slice_get, bytes_eq}
+use Rattle.std.proofs.Common.{rules, ◌≡◌, ℕ, zero, suc, ◌+◌, ◌-◌, ◌<◌, ◌≤◌, ◌==◌, ◌||◌, Bool, true, false, cond, List, [], ◌∷◌, ◌++◌, length, take, drop, Option, Some, None, refl, sym, ap, ◌∙◌, arith, nat_lt, is_some, slice_get, bytes_eq}
 use Rattle.std.proofs.lemmas.Bool.{eqb-true, eqb-false, le-ltb, ltb-true, ltb-false}
 use Rattle.std.proofs.lemmas.Iterator.Adapters.{position_from-zero}
 use Rattle.std.proofs.lemmas.Slice.Eq.{bytes_eq-Decides}
 use Rattle.std.specs.List.{list_any, position, position_from}
 use Rattle.std.specs.Option.{option_and_then, option_map, option_map_or, option_or}
 use Rattle.jc_base.specs.declared.class_ref.ClassRef.TheVariants.{Internal}
-use Rattle.jc_base.specs.declared.fault.LoadFault.{LoadFault}
 use Rattle.jc_base.specs.declared.fault.LoadFault.TheVariants.{MissingImport, Unresolved, TypeMismatch, BadClass, BadStatic, DuplicatePackage}
-use Rattle.jc_api.specs.Bound.{Bound}
 use Rattle.jc_cap_class.specs.Component.{is_class}
 use Rattle.jc_cap_desc.specs.Shape.{ClassShape, Package, Shape}
 use Rattle.jc_cert.specs.declared.stated_type.SpelledClass.{SpelledClass}
@@ -23,7 +21,7 @@ use Rattle.jc_link.specs.Imports.{first_unmet, is_there_already}
 use Rattle.jc_link.specs.Pool.{first_mistyped, first_unresolved}
 use Rattle.jc_link.specs.Statics.{first_bad_static}
 use Rattle.jc_link.specs.WellFormed.{IsWellFormed, duplicate, first_bad_class}
-use Rattle.jc_check.specs.Package.{class_of_name, class_with_record, if_class, own_home}
+use Rattle.jc_check.specs.Package.{class_of_name, class_with_record, if_class}
 use Rattle.jc_check.specs.PrivateNames.{spelled_name}
 
 -- ---- options and lists
@@ -63,12 +61,6 @@ get_taken xs zero n h = absurd (omega arith)
 get_taken [] (suc m) n h = refl
 get_taken (x ∷ xs) (suc m) zero h = refl
 get_taken (x ∷ xs) (suc m) (suc n) h = get_taken xs m n (omega arith)
-
-taken_get : {A : Type 0} (xs : List A) (m n : ℕ) (x : A) → slice_get (take m xs) n ≡ Some x → n < m
-taken_get xs zero n x e = none_some x e
-taken_get [] (suc m) n x e = none_some x e
-taken_get (x ∷ xs) (suc m) zero y e = omega arith
-taken_get (x ∷ xs) (suc m) (suc n) y e = let h = taken_get xs m n y e in omega (arith, h)
 
 get_dropped : {A : Type 0} (xs : List A) (n : ℕ) → slice_get (drop 2 xs) n ≡ slice_get xs (suc (suc n))
 get_dropped [] n = refl

@@ -1,5 +1,5 @@
 -- What types name in a built world are classes that are there.
-use Rattle.std.proofs.Common.{◌≡◌, ℕ, zero, suc, ◌+◌, ◌<◌, ◌≤◌, ◌&&◌, Bool, true, false, cond, not, ◌⊎◌, inl, inr, List, [], ◌∷◌, length, Option, Some, None, refl, sym, ap, subst, ◌∙◌, arith}
+use Rattle.std.proofs.Common.{◌≡◌, ℕ, zero, suc, ◌&&◌, Bool, true, false, cond, not, ◌⊎◌, inl, inr, List, [], ◌∷◌, Option, Some, None, refl, sym, ap, subst, ◌∙◌, arith}
 use Rattle.std.specs.List.{list_all}
 use Rattle.std.specs.Option.{option_and_then, option_map, option_map_or}
 use Rattle.jc_base.specs.Signature.{Signature}
@@ -9,29 +9,25 @@ use Rattle.jc_base.specs.declared.declared_type.DeclaredType.TheVariants.{Boolea
 use Rattle.jc_base.specs.declared.declared_type.ReturnType.{ReturnType}
 use Rattle.jc_base.specs.declared.declared_type.ReturnType.TheVariants.{Void, Value}
 use Rattle.jc_cap_class.specs.Component.{is_class}
-use Rattle.jc_cap_desc.specs.Shape.{ClassShape, Package, Shape}
+use Rattle.jc_cap_desc.specs.Shape.{ClassShape, Shape}
 use Rattle.jc_cap_pool.specs.declared.entry.PoolEntry.{PoolEntry}
 use Rattle.jc_cap_pool.specs.declared.entry.PoolEntry.TheVariants.{Classref, InstanceFieldref, VirtualMethodref, SuperMethodref, StaticFieldref, StaticMethodref}
-use Rattle.jc_api.specs.Bound.{Bound}
 use Rattle.jc_api.specs.Class.{is_interface, package_of}
-use Rattle.jc_api.specs.NoClash.{HasNoClash}
 use Rattle.jc_api.specs.declared.class.ApiClass.{ApiClass}
 use Rattle.jc_api.specs.declared.class.ApiClass.TheVariants.{Object, Throwable}
-use Rattle.jc_classes.specs.Api.{api_world}
-use Rattle.jc_classes.specs.Growth.{grown, KeepsLookups}
-use Rattle.jc_classes.specs.Limits.{IsSmall}
+use Rattle.jc_classes.specs.Growth.{KeepsLookups}
 use Rattle.jc_classes.specs.Members.{DeclaredMethod, method_at}
 use Rattle.jc_classes.specs.Methods.{method_name, virtual_method_of}
 use Rattle.jc_classes.specs.Subtype.{common_within, is_class_at, is_class_below, is_interface_at}
 use Rattle.jc_classes.specs.Walk.{most_classes}
-use Rattle.jc_classes.specs.World.{api_home, class_at, class_named, home_of, superclass_of}
+use Rattle.jc_classes.specs.World.{class_at, class_named, home_of, superclass_of}
 use Rattle.jc_classes.specs.declared.name.ClassName.{ClassName}
 use Rattle.jc_classes.specs.declared.name.ClassName.TheVariants.{Api}
 use Rattle.jc_classes.specs.declared.name.MethodName.{MethodName}
 use Rattle.jc_link.proofs.ApiClasses.{class_there}
 use Rattle.jc_link.proofs.ApiFit.{api_fit}
 use Rattle.jc_link.proofs.ApiMembers.{class_body}
-use Rattle.jc_link.proofs.GrownParts.{some_of, mapped, chosen_of, the_some, none_some}
+use Rattle.jc_link.proofs.GrownParts.{some_of, mapped, chosen_of, the_some}
 use Rattle.jc_link.proofs.Nones.{true_false, then_false, not_false}
 use Rattle.jc_link.proofs.SoundChains.{api_low, has_superclass, named_there}
 use Rattle.jc_link.proofs.SoundGrown.{built_fit, fit_at}
@@ -42,7 +38,7 @@ use Rattle.jc_link.specs.Found.{return_found, signature_found, type_found, types
 use Rattle.jc_link.specs.KnownTypes.{NameClasses, is_known_return, is_known_signature, is_known_target, is_known_type}
 use Rattle.jc_link.specs.MemberType.{counted, declared_type_of, field_type_of, member_type_of, method_type_of, type_class}
 use Rattle.jc_link.specs.Named.{if_passes, instance_field_at, is_concrete, method_above, named_above, named_by, named_field, named_static_field, named_static_method, named_virtual, static_field_at, static_place}
-use Rattle.jc_link.specs.PrivateFit.{AreAllFit, IsFit, IsRoot}
+use Rattle.jc_link.specs.PrivateFit.{IsFit, IsRoot}
 use Rattle.jc_link.specs.Sound.{IsSound}
 use Rattle.jc_link.specs.Target.{cell_of, instance_type_of, pool_target_of, static_type_of, target_of, target_of_declared}
 use Rattle.jc_link.specs.declared.named.Named.{Named}
@@ -87,9 +83,6 @@ module _ (known : ClassName → Bool) (find : ClassRef → Option ClassName) (go
       (both (list_all (is_known_type known) a.0) (is_known_return known b.0) (types_known s.parameters a.0 a.1) (return_known s.result b.0 b.1))
 
 -- ---- classes of the API
-
-class_stays : (c : ApiClass) (o q : Option ClassShape) → o ≡ q → option_map_or (λ (k : ClassShape). is_class k.body) q false ≡ true → option_map_or (λ (k : ClassShape). is_class k.body) o false ≡ true
-class_stays c o q e h = ap (λ (o : Option ClassShape). option_map_or (λ k. is_class k.body) o false) e ∙ h
 
 module _ (keeps : (world : List Shape) (more : Shape) → KeepsLookups world more) where
   api_class : (world : List Shape) → IsBuilt world → (c : ApiClass) → is_interface c ≡ false → is_class_at world (Api c) ≡ true

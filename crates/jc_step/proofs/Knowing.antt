@@ -1,6 +1,5 @@
 -- What effects leave names known classes, where what was before does and what entries of the pool lead to does.
-use Rattle.std.proofs.Common.{◌≡◌, ℕ, zero, suc, ◌+◌, ◌-◌, ◌==◌, ◌&&◌, max, List, [], ◌∷◌, ◌++◌, Bool, true, false, cond, not, refl, sym, ap, ◌∙◌, subst, length, take, drop, reverse, slice_get, slice_set, Option, Some, None, Ok, nat_lt, unwrap_or}
-use Rattle.std.proofs.lemmas.List.{reverse-append}
+use Rattle.std.proofs.Common.{◌≡◌, ℕ, zero, suc, ◌+◌, ◌-◌, ◌==◌, ◌&&◌, max, List, [], ◌∷◌, ◌++◌, Bool, true, false, cond, not, refl, ap, ◌∙◌, subst, length, take, drop, reverse, slice_get, slice_set, Option, Some, None, Ok, nat_lt, unwrap_or}
 use Rattle.std.proofs.lemmas.List.Folds.{list_all-append}
 use Rattle.std.specs.List.{find, list_all}
 use Rattle.std.specs.Option.{option_and_then, option_map, option_map_or}
@@ -53,7 +52,7 @@ use Rattle.jc_step.proofs.Monotone.{four, one, three, two}
 use Rattle.jc_step.specs.Effect.{effect_of}
 use Rattle.jc_step.specs.Laws.{NamesKnown}
 use Rattle.jc_step.specs.Objects.{Setting, call, class_of_entry, class_target, component_loaded, creation_row, field_row, has_objects, if_form, interface_method_type, interface_row, interface_target_row, invocation_row, is_form_of, object_holder_row, object_row, return_row, special_row, static_call_row, static_holder_row, tested_type, virtual_row, word_array}
-use Rattle.jc_step.specs.Row.{Row, after, all_meet, applied, component_of, count_of, given_type, has_local, is_met, local_meets, local_of, put_in, put_on, taken_by}
+use Rattle.jc_step.specs.Row.{Row, after, all_meet, applied, component_of, count_of, given_type, has_local, is_met, local_meets, local_of, put_in, taken_by}
 use Rattle.jc_step.specs.Words.{shuffle_effect, takes, word, word_effect}
 use Rattle.jc_step.specs.declared.row.Demand.{Demand}
 use Rattle.jc_step.specs.declared.row.Demand.TheVariants.{Below, Reference}

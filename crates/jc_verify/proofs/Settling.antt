@@ -1,5 +1,5 @@
 -- What stays closed while places are raised, and what is left of them.
-use Rattle.std.proofs.Common.{◌≡◌, ◌≢◌, ◌⊎◌, inl, inr, ℕ, ℤ, zero, suc, ◌+◌, ◌<◌, ◌≤◌, true, false, List, [], ◌∷◌, length, Option, Some, None, slice_get, slice_set, refl, sym, ap, subst, ◌∙◌, arith}
+use Rattle.std.proofs.Common.{◌≡◌, ◌≢◌, ◌⊎◌, inl, inr, ℕ, ℤ, zero, suc, ◌+◌, ◌-◌, ◌<◌, ◌≤◌, true, false, List, [], ◌∷◌, length, Option, Some, None, slice_get, slice_set, refl, sym, ap, subst, ◌∙◌, arith}
 use Rattle.std.specs.List.{AllByRecursion}
 use Rattle.std.proofs.lemmas.Bool.{cases_eq}
 use Rattle.std.proofs.lemmas.Option.{none-some, same_Some, slice_get_within}
@@ -193,25 +193,33 @@ module _ (l : Linked) (laws : HasLaws l) (m : Method) (numbers : List (Option �
 
   -- ---- one place after the other
 
-  pub swept_none : (places : Places) → IsSwept l m numbers 0 places places
-  swept_none places = record { risen = risen_self l laws m numbers places; under = λ typing upper under. under; settled = λ h. h; left = omega arith; flags = λ n p lt. absurd (omega (arith, lt)) }
+  pub swept_none : (first : ℕ) (places : Places) → IsSwept l m numbers first first places places
+  swept_none first places = record { risen = risen_self l laws m numbers places; under = λ typing upper under. under; settled = λ h. h; left = omega arith; flags = λ n p le lt. absurd (omega (arith, le, lt)) }
 
-  pub swept_one : (k : ℕ) (start now next : Places) → IsSwept l m numbers k start now → IsFollowed l m numbers k now next → IsSwept l m numbers (k + 1) start next
-  swept_one k start now next s f = record {
-    risen = risen_through l laws m numbers start now next s.risen f.risen;
-    under = λ typing upper under. f.under typing upper (s.under typing upper under);
-    settled = λ h. f.settled (s.settled h);
-    left = omega (arith, s.left, f.left);
-    flags = λ n p lt e changed. by_flag n lt (f.flags n p e changed);
-  }
-    where
-      by_flag : (n : ℕ) → n < k + 1 → (left_in l m next < left_in l m now) ⊎ ((n ≢ k) × (q : Place StateWithRoom) × (slice_get now n ≡ Some q) × (q.changed ≡ true)) → left_in l m next < left_in l m start
-      by_flag n lt (inl falls) = omega (arith, falls, s.left)
-      by_flag n lt (inr (other, q, e, changed)) = let lower = s.flags n q (by_case (cases_eq n k)) e changed in omega (arith, lower, f.left)
-        where
-          by_case : (n ≡ k) ⊎ (n ≡ k → ⊥) → n < k
-          by_case (inl is) = absurd (other is)
-          by_case (inr apart) = omega (arith, lt, apart)
+  -- one place more behind those that were swept, or before them
+  module _ (first end k from to : ℕ) (start now next : Places) (s : IsSwept l m numbers first end start now) (f : IsFollowed l m numbers k now next)
+      (outside : (n : ℕ) → from ≤ n → n < to → (n ≡ k → ⊥) → (first ≤ n) × (n < end)) where
+    pub swept_more : IsSwept l m numbers from to start next
+    swept_more = record {
+      risen = risen_through l laws m numbers start now next s.risen f.risen;
+      under = λ typing upper under. f.under typing upper (s.under typing upper under);
+      settled = λ h. f.settled (s.settled h);
+      left = omega (arith, s.left, f.left);
+      flags = λ n p le lt e changed. by_flag n le lt (f.flags n p e changed);
+    }
+      where
+        by_flag : (n : ℕ) → from ≤ n → n < to → (left_in l m next < left_in l m now) ⊎ ((n ≢ k) × (q : Place StateWithRoom) × (slice_get now n ≡ Some q) × (q.changed ≡ true)) → left_in l m next < left_in l m start
+        by_flag n le lt (inl falls) = omega (arith, falls, s.left)
+        by_flag n le lt (inr (other, q, e, changed)) =
+            let within : (first ≤ n) × (n < end) = outside n le lt other in
+            let lower = s.flags n q within.0 within.1 e changed in
+            omega (arith, lower, f.left)
+
+  pub swept_one : (k : ℕ) (start now next : Places) → IsSwept l m numbers 0 k start now → IsFollowed l m numbers k now next → IsSwept l m numbers 0 (k + 1) start next
+  swept_one k start now next s f = swept_more 0 k k 0 (k + 1) start now next s f (λ n le lt other. (omega arith, omega (arith, lt, other)))
+
+  pub swept_before : (number end : ℕ) (start now next : Places) → 0 < number → IsSwept l m numbers number end start now → IsFollowed l m numbers (number - 1) now next → IsSwept l m numbers (number - 1) end start next
+  swept_before number end start now next some s f = swept_more number end (number - 1) (number - 1) end start now next s f (λ n le lt other. (omega (arith, some, le, other), lt))
 
   -- ---- what taking up a place leaves
 

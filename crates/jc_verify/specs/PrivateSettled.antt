@@ -39,13 +39,13 @@ pub record IsFollowed (l : Linked) (m : Method) (numbers : List (Option ℕ)) (n
   pub flags : (n : ℕ) (p : Place StateWithRoom) → slice_get after n ≡ Some p → p.changed ≡ true
       → (left_in l m after < left_in l m before) ⊎ ((n ≢ number) × (q : Place StateWithRoom) × (slice_get before n ≡ Some q) × (q.changed ≡ true))
 
--- control flow was followed from the first places that had changed
-pub record IsSwept (l : Linked) (m : Method) (numbers : List (Option ℕ)) (count : ℕ) (before after : Places) : Type 0 where
+-- control flow was followed from those that had changed of the places with these numbers, from the first one up to the end
+pub record IsSwept (l : Linked) (m : Method) (numbers : List (Option ℕ)) (first end : ℕ) (before after : Places) : Type 0 where
   pub risen : Risen l m numbers before after
   pub under : (typing : Typing) → IsUpper l m typing → IsUnder l numbers before typing → IsUnder l numbers after typing
   pub settled : IsSettled l m numbers before → IsSettled l m numbers after
   pub left : left_in l m after ≤ left_in l m before
-  pub flags : (n : ℕ) (p : Place StateWithRoom) → n < count → slice_get after n ≡ Some p → p.changed ≡ true → left_in l m after < left_in l m before
+  pub flags : (n : ℕ) (p : Place StateWithRoom) → first ≤ n → n < end → slice_get after n ≡ Some p → p.changed ≡ true → left_in l m after < left_in l m before
 
 -- the places at the pcs of a set below this one are numbered
 pub record AreNumbered (entries : List ℕ) (pc : ℕ) (numbers : List (Option ℕ)) (places : Places) : Type 0 where

@@ -76,7 +76,7 @@ fn follow_place(
 }
 
 /// Follows control flow from each place that has changed, by ascending pc.
-fn sweep(
+fn sweep_forwards(
     flow: &Flow,
     places: &mut [Place<State>],
     caught: &mut State,
@@ -89,7 +89,7 @@ fn sweep(
     requires caught { HasRoom flow.now.method.now caught.old }
     requires room { HasRoom flow.now.method.now state.old }
     requires short { length flow.now.method.now.code < 2 ^ 16 }
-    ensures swept { IfOk result (λ u. IsSwept flow.now.linked.now flow.now.method.now flow.now.numbers.now (length places.new) places.old places.new) }
+    ensures swept { IfOk result (λ u. IsSwept flow.now.linked.now flow.now.method.now flow.now.numbers.now 0 (length places.new) places.old places.new) }
     ensures caught { IfOk result (λ u. HasRoom flow.now.method.now caught.new) }
     ensures room { IfOk result (λ u. HasRoom flow.now.method.now state.new) }
 {
@@ -97,6 +97,58 @@ fn sweep(
         follow_place(flow, places, caught, state, number)?;
     }
     Ok(())
+}
+
+/// Follows control flow from each place that has changed, by descending pc.
+fn sweep_backwards(
+    flow: &Flow,
+    places: &mut [Place<State>],
+    caught: &mut State,
+    state: &mut State,
+) -> Result<(), WordFault>
+    requires laws { HasLaws flow.now.linked.now }
+    requires numbered { IsNumbered flow.now.numbers.now places.old }
+    requires sized { length flow.now.numbers.now ≡ length flow.now.method.now.code }
+    requires shaped { AreShaped flow.now.method.now places.old }
+    requires caught { HasRoom flow.now.method.now caught.old }
+    requires room { HasRoom flow.now.method.now state.old }
+    requires short { length flow.now.method.now.code < 2 ^ 16 }
+    ensures swept { IfOk result (λ u. IsSwept flow.now.linked.now flow.now.method.now flow.now.numbers.now 0 (length places.new) places.old places.new) }
+    ensures caught { IfOk result (λ u. HasRoom flow.now.method.now caught.new) }
+    ensures room { IfOk result (λ u. HasRoom flow.now.method.now state.new) }
+{
+    let mut number = places.len();
+    while number > 0 {
+        number -= 1;
+        follow_place(flow, places, caught, state, number)?;
+    }
+    Ok(())
+}
+
+/// Follows control flow from each place that has changed, one way or the other.
+fn sweep(
+    flow: &Flow,
+    places: &mut [Place<State>],
+    caught: &mut State,
+    state: &mut State,
+    forwards: bool,
+) -> Result<(), WordFault>
+    requires laws { HasLaws flow.now.linked.now }
+    requires numbered { IsNumbered flow.now.numbers.now places.old }
+    requires sized { length flow.now.numbers.now ≡ length flow.now.method.now.code }
+    requires shaped { AreShaped flow.now.method.now places.old }
+    requires caught { HasRoom flow.now.method.now caught.old }
+    requires room { HasRoom flow.now.method.now state.old }
+    requires short { length flow.now.method.now.code < 2 ^ 16 }
+    ensures swept { IfOk result (λ u. IsSwept flow.now.linked.now flow.now.method.now flow.now.numbers.now 0 (length places.new) places.old places.new) }
+    ensures caught { IfOk result (λ u. HasRoom flow.now.method.now caught.new) }
+    ensures room { IfOk result (λ u. HasRoom flow.now.method.now state.new) }
+{
+    if forwards {
+        sweep_forwards(flow, places, caught, state)
+    } else {
+        sweep_backwards(flow, places, caught, state)
+    }
 }
 
 /// Whether a place has changed.
@@ -112,7 +164,7 @@ fn has_changed(places: &[Place<State>]) -> bool
     false
 }
 
-/// Follows control flow from the places that have changed until none has.
+/// Follows control flow from the places that have changed until none has: forwards, then backwards, in turn.
 fn settle(
     flow: &Flow,
     places: &mut [Place<State>],
@@ -132,11 +184,13 @@ fn settle(
     ensures under { IfOk result (λ u. (typing : Typing) → IsUpper flow.now.linked.now flow.now.method.now typing → IsUnder flow.now.linked.now flow.now.numbers.now places.old typing
         → IsUnder flow.now.linked.now flow.now.numbers.now places.new typing) }
 {
+    let mut forwards = true;
     loop {
-        sweep(flow, places, caught, state)?;
+        sweep(flow, places, caught, state, forwards)?;
         if !has_changed(places) {
             return Ok(());
         }
+        forwards = !forwards;
     }
 }
 

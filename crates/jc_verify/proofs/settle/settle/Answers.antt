@@ -1,3 +1,4 @@
+use Rattle.std.proofs.Common.{arith}
 use Rattle.std.proofs.lemmas.Option.{slice_get_within}
 use Rattle.jc_verify.proofs.Growing.{risen_self, risen_through}
 use Rattle.jc_verify.proofs.settle.settle.Goals as goal
@@ -18,7 +19,7 @@ returns-then-not-has_changed-clause-risen c =
 pub loop-places-smaller : goal.loop-places-smaller
 loop-places-smaller c =
     let changed = c.has_changed.ensures.some c.if-not-has_changed.false in
-    c.in_ok-sweep.ensures.swept.flags changed.0 changed.1 (slice_get_within c.sweep.new.places changed.0 changed.1 changed.2) changed.2 changed.3
+    c.in_ok-sweep.ensures.swept.flags changed.0 changed.1 (omega arith) (slice_get_within c.sweep.new.places changed.0 changed.1 changed.2) changed.2 changed.3
 
 pub loop-places-preserved : goal.loop-places-preserved
 loop-places-preserved c = record {

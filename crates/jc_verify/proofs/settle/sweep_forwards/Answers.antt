@@ -1,9 +1,9 @@
 use Rattle.jc_verify.proofs.Settling.{swept_none, swept_one}
-use Rattle.jc_verify.proofs.settle.sweep.Goals as goal
+use Rattle.jc_verify.proofs.settle.sweep_forwards.Goals as goal
 
 pub loop-number-init : goal.loop-number-init
 loop-number-init c = record {
-  swept = swept_none c.args.flow.now.linked.now c.requires.laws c.args.flow.now.method.now c.args.flow.now.numbers.now c.args.places.now;
+  swept = swept_none c.args.flow.now.linked.now c.requires.laws c.args.flow.now.method.now c.args.flow.now.numbers.now 0 c.args.places.now;
   caught = c.requires.caught;
   room = c.requires.room;
 }

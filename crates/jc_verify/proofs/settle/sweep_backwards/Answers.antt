@@ -1,0 +1,19 @@
+use Rattle.std.proofs.Common.{rules}
+use Rattle.jc_verify.proofs.Settling.{swept_none, swept_before}
+use Rattle.jc_verify.proofs.settle.sweep_backwards.Goals as goal
+
+pub loop-number-init : goal.loop-number-init
+loop-number-init c = record {
+  swept = swept_none c.args.flow.now.linked.now c.requires.laws c.args.flow.now.method.now c.args.flow.now.numbers.now _ c.args.places.now;
+  within = search rules;
+  caught = c.requires.caught;
+  room = c.requires.room;
+}
+
+pub loop-number-preserved : goal.loop-number-preserved
+loop-number-preserved c = record {
+  swept = swept_before c.args.flow.now.linked.now c.requires.laws c.args.flow.now.method.now c.args.flow.now.numbers.now c.loop-number.number _ c.args.places.now c.loop-number.places c.follow_place.new.places c.loop-number-test.true c.loop-number.invariant.swept c.in_ok-follow_place.ensures.followed;
+  within = search rules;
+  caught = c.in_ok-follow_place.ensures.caught;
+  room = c.in_ok-follow_place.ensures.room;
+}

@@ -1,8 +1,10 @@
 -- Numbering the places at the pcs of a set.
 use Rattle.std.proofs.Common.{◌≡◌, ◌⊎◌, inl, inr, ℕ, zero, suc, ◌+◌, ◌<◌, ◌≤◌, true, false, List, [], ◌∷◌, ◌++◌, length, Option, Some, None, slice_get, refl, sym, ap, ◌∙◌, arith}
+use Rattle.std.proofs.lemmas.Bool.{cases_eq}
 use Rattle.std.proofs.lemmas.Option.{none-some, same_Some, slice_get_within}
 use Rattle.jc_base.specs.NumberSet.{has_number}
 use Rattle.jc_types.specs.State.{StateWithRoom}
+use Rattle.jc_verify.specs.PrivateCarrier.{HasPlace}
 use Rattle.jc_verify.specs.PrivateFlow.{Places, number_at}
 use Rattle.jc_verify.specs.PrivateSettled.{AreNumbered}
 use Rattle.jc_verify.specs.declared.place.Place.{Place}
@@ -38,9 +40,13 @@ number_either (y ∷ ns) x (suc pc) n e = by_rest (number_either ns x pc n e)
     by_rest (inr (h, k)) = inr (ap suc h, k)
 
 module _ (entries : List ℕ) (pc : ℕ) (numbers : List (Option ℕ)) (places : Places) (so_far : AreNumbered entries pc numbers places) where
+  -- a number stays where it is
+  kept : (x : Option ℕ) (at : ℕ) → HasPlace numbers at → HasPlace (numbers ++ x ∷ []) at
+  kept x at h = record { number = h.number; is = number_before numbers x at (number_within numbers at h.number h.is) ∙ h.is }
+
   -- no place is at this pc
-  pub without : AreNumbered entries (pc + 1) (numbers ++ None ∷ []) places
-  without = record {
+  pub without : has_number entries pc ≡ false → AreNumbered entries (pc + 1) (numbers ++ None ∷ []) places
+  without none = record {
     sized = let k = length_more numbers None in omega (arith, k, so_far.sized);
     few = omega (arith, so_far.few);
     numbered = record {
@@ -52,8 +58,13 @@ module _ (entries : List ℕ) (pc : ℕ) (numbers : List (Option ℕ)) (places :
     };
     empty = so_far.empty;
     entered = so_far.entered;
+    all = λ at lt is. all at lt is (cases_eq at pc);
   }
     where
+      all : (at : ℕ) → at < pc + 1 → has_number entries at ≡ true → (at ≡ pc) ⊎ (at ≡ pc → ⊥) → HasPlace (numbers ++ None ∷ []) at
+      all at lt is (inl same) = let t : true ≡ false = sym is ∙ ap (has_number entries) same ∙ none in absurd cc
+      all at lt is (inr apart) = kept None at (so_far.all at (omega (arith, lt, apart)) is)
+
       within : (at n : ℕ) → (number_at numbers at ≡ Some n) ⊎ ((at ≡ length numbers) × (None ≡ Some n)) → n < length places
       within at n (inl e) = so_far.numbered.within at n e
       within at n (inr (h, e)) = absurd (none-some n e)
@@ -78,8 +89,13 @@ module _ (entries : List ℕ) (pc : ℕ) (numbers : List (Option ℕ)) (places :
     };
     empty = λ k p e. empty k p (get_either places blank p k e);
     entered = λ k p e. entered k p (get_either places blank p k e);
+    all = λ at lt e. all at lt e (cases_eq at pc);
   }
     where
+      all : (at : ℕ) → at < pc + 1 → has_number entries at ≡ true → (at ≡ pc) ⊎ (at ≡ pc → ⊥) → HasPlace (numbers ++ Some (length places) ∷ []) at
+      all at lt e (inl same) = record { number = length places; is = ap (number_at (numbers ++ Some (length places) ∷ [])) (same ∙ sym so_far.sized) ∙ number_last numbers (Some (length places)) }
+      all at lt e (inr apart) = kept (Some (length places)) at (so_far.all at (omega (arith, lt, apart)) e)
+
       within : (at n : ℕ) → (number_at numbers at ≡ Some n) ⊎ ((at ≡ length numbers) × (Some (length places) ≡ Some n)) → n < length (places ++ blank ∷ [])
       within at n (inl e) = let k = so_far.numbered.within at n e in omega (arith, k, length_more places blank)
       within at n (inr (h, e)) = let k = same_Some (length places) n e in omega (arith, k, length_more places blank)
@@ -111,4 +127,5 @@ none_numbered entries = record {
   numbered = record { within = λ pc n e. absurd (none-some n (sym (number_past [] pc (omega arith)) ∙ e)); known = λ n p e. absurd (none-some p e); found = λ pc n p e f. absurd (none-some p f) };
   empty = λ k p e. absurd (none-some p e);
   entered = λ k p e. absurd (none-some p e);
+  all = λ at lt is. absurd (omega (arith, lt));
 }

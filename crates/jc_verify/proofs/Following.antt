@@ -7,7 +7,7 @@ use Rattle.jc_base.specs.NumberSet.{has_number}
 use Rattle.jc_code.specs.Listing.{PlacedInstr, begins, placed_at}
 use Rattle.jc_check.specs.Method.{Method}
 use Rattle.jc_verify.specs.Live.{IsEntered, IsLive, first, behind, by_branch, by_handler, branched, caught}
-use Rattle.jc_verify.specs.PrivateLive.{AreEntries, Grown, IsAwaited, IsDone, IsFollowed, IsFound, IsHeld, IsReached, all_numbers, left_of, left_out}
+use Rattle.jc_verify.specs.PrivateLive.{AreEntries, AreLive, Grown, IsAwaited, IsDone, IsFollowed, IsFound, IsHeld, IsReached, all_numbers, left_of, left_out}
 use Rattle.jc_verify.specs.declared.entries.Followed.{Followed}
 use Rattle.jc_verify.proofs.Numbers.{has_cases, has_itself, has_kept, one_less}
 
@@ -254,3 +254,6 @@ module _ (m : Method) (listing : List PlacedInstr) (f : Followed) (h : IsFollowe
 
   pub entries_found : AreEntries m listing f.entered
   entries_found = record { entered = h.entered; all = λ pc e. all_entered e }
+
+  pub live_found : AreLive m listing f.live
+  live_found = record { reached = λ pc e. (h.live pc e).live; all = λ pc e. all_live e }

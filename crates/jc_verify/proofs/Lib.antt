@@ -9,10 +9,13 @@ mod Counting
 mod Stating
 mod Carrying
 mod Rows
+mod Telling
 mod Numbers
 mod Starting
 mod Following
 mod Passing
 mod Entering
 mod Refusing
+mod Bearing
+mod Denying
 mod Certified

@@ -10,7 +10,7 @@ use Rattle.jc_code.specs.Targets.{falls_of, targets_of}
 use Rattle.jc_code.specs.declared.instr.Instr.{Instr}
 use Rattle.jc_check.specs.Method.{Handler, Method, caught_types}
 use Rattle.jc_check.specs.Package.{package_rules}
-use Rattle.jc_check.specs.Typing.{BranchLeads, HandlerLeads, IsFine, Leads, Typing}
+use Rattle.jc_check.specs.Typing.{BranchLeads, CatchLeads, HandlerLeads, IsFine, Leads, Typing}
 use Rattle.jc_classes.specs.Subtype.{is_class_below}
 use Rattle.jc_classes.specs.declared.name.ClassName.{ClassName}
 use Rattle.jc_link.specs.Linked.{Linked}
@@ -73,6 +73,14 @@ number_of (negsuc n) = 0
 pub branch_here : (l : Linked) (typing : Typing) (t : Types) (pc : ℕ) → BranchLeads (package_rules l) typing t (pos pc) → Leads (package_rules l) typing t pc
 unfolding number_of
 branch_here l typing t pc h = subst (Leads (package_rules l) typing t) (sym (ap number_of h.is)) h.leads
+
+-- a handler catches the class that it names, and goes on where it says
+pub catch_here : (l : Linked) (typing : Typing) (t : Types) (h view : Handler) → view ≡ h → (class : ClassName) → view.caught ≡ Some class → CatchLeads (package_rules l) typing t h
+    → Leads (package_rules l) typing (caught_types class t) view.goes_on
+catch_here l typing t h view same class is k =
+    let e : class ≡ k.class = same_Some class k.class (sym is ∙ ap (λ (x : Handler). x.caught) same ∙ k.catches) in
+    subst (Leads (package_rules l) typing (caught_types class t)) (sym (ap (λ (x : Handler). x.goes_on) same))
+    (subst (λ (c : ClassName). Leads (package_rules l) typing (caught_types c t) h.goes_on) (sym e) k.leads)
 
 module _ (l : Linked) (laws : HasLaws l) (typing : Typing) (s t : Types) (lower : types_below (is_class_below l.world) s t ≡ true) where
   pub leads_down : (pc : ℕ) → Leads (package_rules l) typing t pc → Leads (package_rules l) typing s pc

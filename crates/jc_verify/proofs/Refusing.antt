@@ -20,7 +20,7 @@ by_refusal : (fault : WordFault) (P : Type 0) → IfRefusal fault P → (pc : �
 by_refusal fault P h pc reason e = subst (λ (f : WordFault). IfRefusal f P) e h
 
 module _ (rules : Rules) (m : Method) (states : List Stated) (k : Carries rules m states) where
-  abbrev IsTyped : ℕ → Type 0
+  abbrev pub IsTyped : ℕ → Type 0
   IsTyped pc = (s : Types) × (k.typing pc ≡ Some s)
 
   -- where types go on there is a state
@@ -28,15 +28,15 @@ module _ (rules : Rules) (m : Method) (states : List Stated) (k : Carries rules 
   goes_typed pc t None e h = (t, h)
   goes_typed pc t (Some c) e h = (c, k.stated pc c e)
 
-  goes_on : (falls : Bool) (t : Types) (pc : ℕ) → falls ≡ true → GoesOnIf rules m k.claims k.typing falls t pc → (pc < length m.code) × GoesOn rules (state_at k.claims pc) (k.typing pc) t
+  pub goes_on : (falls : Bool) (t : Types) (pc : ℕ) → falls ≡ true → GoesOnIf rules m k.claims k.typing falls t pc → (pc < length m.code) × GoesOn rules (state_at k.claims pc) (k.typing pc) t
   goes_on true t pc e h = h
   goes_on false t pc e h = absurd cc
 
-  carried_at : (x : PlacedInstr) → placed_at k.listing x.pc ≡ Some x → (t : IsTyped x.pc) → IsCarriedAt rules m k.listing k.claims k.typing x t.0
+  pub carried_at : (x : PlacedInstr) → placed_at k.listing x.pc ≡ Some x → (t : IsTyped x.pc) → IsCarriedAt rules m k.listing k.claims k.typing x t.0
   carried_at x at t = k.live x.pc x t.0 at t.1
 
   -- what control flow reaches has a state
-  live_typed : {pc : ℕ} → IsLive m k.listing pc → IsTyped pc
+  pub live_typed : {pc : ℕ} → IsLive m k.listing pc → IsTyped pc
   live_typed first = goes_typed 0 (entry_of m) (state_at k.claims 0) refl k.entry.1
   live_typed (behind x at live falls) =
       let c = carried_at x at (live_typed live) in

@@ -1,6 +1,6 @@
 -- Where a certificate that was worked out has states, and that they are the least (Java Card Virtual Machine Specification,
 -- verification of CAP files: data-flow analysis).
-use Rattle.std.specs.Prelude.{◌≡◌, ℕ, List, Some, slice_get}
+use Rattle.std.specs.Prelude.{◌≡◌, ℕ, List, Some, Contains, slice_get}
 use Rattle.std.specs.List.{AllByRecursion}
 use Rattle.jc_cap_desc.specs.Shape.{MethodBody}
 use Rattle.jc_cert.specs.Cert.{Row, Stated}
@@ -36,3 +36,17 @@ AreLeast l m states = (typing : Typing) → IsTyping (package_rules l) m typing 
 -- so it is for each method with code of a package
 pub record HasLeastStates (l : Linked) (rows : List Row) : Type 0 where
   pub each : (n : ℕ) (b : MethodBody) → slice_get l.body.kept.methods n ≡ Some b → AreLeast l (method_of l b) (stated_for rows b.offset)
+
+-- a state stands at a pc
+pub record HasStateAt (states : List Stated) (pc : ℕ) : Type 0 where
+  pub state : Stated
+  pub among : Contains states state
+  pub at : state.pc ≡ pc
+
+-- each pc where control flow enters the method by a branch or a handler of an instruction that it reaches has a state
+abbrev pub HasStateAtEach : Method → List Stated → Type 0
+HasStateAtEach m states = (listing : List PlacedInstr) → IsListing instr_at m.code listing → (pc : ℕ) → IsEntered m listing pc → HasStateAt states pc
+
+-- so it is for each method with code of a package
+pub record HasAllStates (l : Linked) (rows : List Row) : Type 0 where
+  pub each : (n : ℕ) (b : MethodBody) → slice_get l.body.kept.methods n ≡ Some b → HasStateAtEach (method_of l b) (stated_for rows b.offset)

@@ -1,9 +1,12 @@
 pub mod Live
 pub mod Inferred
+pub mod Refusal
 pub mod PrivatePlaces
 pub mod PrivateFlow
+pub mod PrivateCarrier
 pub mod PrivateStop
 pub mod PrivateSettled
 pub mod PrivateStated
+pub mod PrivateNames
 pub mod PrivateLive
 pub mod PrivateGathered

@@ -1,5 +1,5 @@
 -- Private. What is known of a package's rows, one method after the other.
-use Rattle.std.specs.Prelude.{◌≡◌, ◌⊎◌, ℕ, ◌<◌, true, List, [], ◌∷◌, ◌++◌, Some, None, slice_get}
+use Rattle.std.specs.Prelude.{◌≡◌, ◌⊎◌, ℕ, ◌<◌, true, List, [], ◌∷◌, ◌++◌, Option, Some, None, slice_get}
 use Rattle.jc_base.specs.NumberSet.{has_number}
 use Rattle.jc_cap_desc.specs.Shape.{MethodBody}
 use Rattle.jc_cert.specs.Cert.{Row, Stated, rows}
@@ -8,7 +8,12 @@ use Rattle.jc_check.specs.Carried.{Carries}
 use Rattle.jc_check.specs.Method.{Method}
 use Rattle.jc_check.specs.Package.{method_of, package_rules}
 use Rattle.jc_verify.specs.Inferred.{AreLeast, AreWhereEntered}
+use Rattle.jc_verify.specs.PrivateFlow.{Places}
+use Rattle.jc_verify.specs.PrivateNames.{HasUnnamed}
+use Rattle.jc_verify.specs.PrivateSettled.{IsFilled}
+use Rattle.jc_verify.specs.Refusal.{CanBeCarried}
 use Rattle.jc_verify.specs.declared.gathering.Gathered.{Gathered}
+use Rattle.jc_verify.specs.declared.gathering.Told.{Told}
 
 -- a method with code stands at a place among the first of a package
 pub record Stands (l : Linked) (n k : ℕ) (b : MethodBody) : Type 0 where
@@ -43,9 +48,48 @@ pub record AreGathered (l : Linked) (n : ℕ) (of : List Row) (seen : List ℕ) 
   pub known : (k : ℕ) (b : MethodBody) → Stands l n k b → has_number seen b.offset ≡ true
   pub apart : (j k : ℕ) (a b : MethodBody) → Stands l n j a → Stands l n k b → a.offset ≡ b.offset → a ≡ b
 
--- so it is where nothing is told
-abbrev pub IsSoFar : Linked → ℕ → Gathered → Type 0
-IsSoFar l n g = g.told ≡ None → AreGathered l n (rows g.rows.items) g.seen
+-- two methods with code stand at one offset, the one of them before the other
+pub record AreTwo (l : Linked) (offset : ℕ) : Type 0 where
+  pub first : ℕ
+  pub second : ℕ
+  pub apart : first < second
+  pub one : MethodBody
+  pub other : MethodBody
+  pub is_one : slice_get l.body.kept.methods first ≡ Some one
+  pub is_other : slice_get l.body.kept.methods second ≡ Some other
+  pub at_one : one.offset ≡ offset
+  pub at_other : other.offset ≡ offset
+
+-- places that are filled hold types of which not all classes have names
+pub record IsUnnamed (l : Linked) (m : Method) : Type 0 where
+  pub numbers : List (Option ℕ)
+  pub before : Places
+  pub places : Places
+  pub filled : IsFilled l m numbers before places
+  pub unnamed : HasUnnamed l.world places
+
+-- no states carry a method, or it holds what has no name
+abbrev pub IsDenied : Linked → Method → Type 0
+IsDenied l m = (CanBeCarried l m → ⊥) ⊎ IsUnnamed l m
+
+-- why a method with code at this offset is told of
+pub data IsTold (l : Linked) (offset : ℕ) : Type 0 where
+  denied : (place : ℕ) (b : MethodBody) → slice_get l.body.kept.methods place ≡ Some b → b.offset ≡ offset → IsDenied l (method_of l b) → IsTold l offset
+  twice : AreTwo l offset → IsTold l offset
+
+-- one of the first methods stands at an offset
+pub record HasMethodAt (l : Linked) (n offset : ℕ) : Type 0 where
+  pub place : ℕ
+  pub method : MethodBody
+  pub stands : Stands l n place method
+  pub at : method.offset ≡ offset
+
+-- so it is where nothing is told. Where a method is told of there is a reason, and those that stand before it can be carried
+pub record IsSoFar (l : Linked) (n : ℕ) (g : Gathered) : Type 0 where
+  pub gathered : g.told ≡ None → AreGathered l n (rows g.rows.items) g.seen
+  pub seen : (offset : ℕ) → has_number g.seen offset ≡ true → HasMethodAt l n offset
+  pub told : (t : Told) → g.told ≡ Some t → IsTold l t.method
+  pub carried : (k : ℕ) (b : MethodBody) → Stands l n k b → ((t : Told) → g.told ≡ Some t → b.offset < t.method) → CanBeCarried l (method_of l b)
 
 -- a row was put behind others, if it has states
 abbrev pub IsPut : ℕ → List Stated → List Row → List Row → Type 0

@@ -89,6 +89,11 @@ pub record AreEntries (m : Method) (listing : List PlacedInstr) (entries : List 
   pub entered : (pc : ℕ) → has_number entries pc ≡ true → IsFound m listing pc
   pub all : (pc : ℕ) → IsEntered m listing pc → has_number entries pc ≡ true
 
+-- these are the pcs that control flow reaches
+pub record AreLive (m : Method) (listing : List PlacedInstr) (live : List ℕ) : Type 0 where
+  pub reached : (pc : ℕ) → has_number live pc ≡ true → IsLive m listing pc
+  pub all : (pc : ℕ) → IsLive m listing pc → has_number live pc ≡ true
+
 -- an instruction that is reached leads where none begins
 pub data IsAstray (m : Method) (listing : List PlacedInstr) : Type 0 where
   branches_off : (x : PlacedInstr) (place : ℤ) → placed_at listing x.pc ≡ Some x → IsLive m listing x.pc → Contains (targets_of x.pc x.instr.operation) place

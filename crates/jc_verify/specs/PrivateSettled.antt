@@ -6,6 +6,7 @@ use Rattle.jc_types.specs.State.{StateWithRoom, Types}
 use Rattle.jc_check.specs.Method.{Method, entry_of}
 use Rattle.jc_check.specs.Package.{package_rules}
 use Rattle.jc_check.specs.Typing.{Typing}
+use Rattle.jc_verify.specs.PrivateCarrier.{HasPlace, IsCarrier}
 use Rattle.jc_verify.specs.PrivateFlow.{AreShaped, ClosedIf, FallsIf, IsClosed, IsNumbered, IsUnder, IsUpper, Places, Risen, held_at, left_in, types_held}
 use Rattle.jc_verify.specs.declared.place.Place.{Place}
 
@@ -54,6 +55,7 @@ pub record AreNumbered (entries : List ℕ) (pc : ℕ) (numbers : List (Option �
   pub numbered : IsNumbered numbers places
   pub empty : (k : ℕ) (p : Place StateWithRoom) → slice_get places k ≡ Some p → p.held ≡ None
   pub entered : (k : ℕ) (p : Place StateWithRoom) → slice_get places k ≡ Some p → has_number entries p.pc ≡ true
+  pub all : (at : ℕ) → at < pc → has_number entries at ≡ true → HasPlace numbers at
 
 -- control flow was followed from the entry, and from each place that holds types
 pub record IsFilled (l : Linked) (m : Method) (numbers : List (Option ℕ)) (before after : Places) : Type 0 where

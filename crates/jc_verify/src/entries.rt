@@ -17,7 +17,7 @@ ghost use Rattle.jc_check.specs.Method as methods;
 ghost use Rattle.jc_check.specs.declared.fault.WordFault.TheVariants.{Memory, Refused};
 ghost use Rattle.jc_verify.specs.Live.{IsEntered};
 ghost use Rattle.jc_verify.specs.PrivateFlow.{placed};
-ghost use Rattle.jc_verify.specs.PrivateLive.{AreEntries, Grown, IfRefusal, IsAstray, IsBranchIn, IsCaughtIn, IsDecoded, IsFollowed, IsFound, IsGround, IsHeld, IsReached, left_of};
+ghost use Rattle.jc_verify.specs.PrivateLive.{AreEntries, AreLive, Grown, IfRefusal, IsAstray, IsBranchIn, IsCaughtIn, IsDecoded, IsFollowed, IsFound, IsGround, IsHeld, IsReached, left_of};
 
 use jc_base::{NumberSet, Reason};
 use jc_check::{Fault, Handler, Method, WordFault};
@@ -300,6 +300,7 @@ fn follow_all(alloc: Global, method: &Method, starts: &NumberSet) -> Result<Numb
     requires short { length method.now.code < 2 ^ 16 }
     requires some { method.now.code ≢ [] }
     ensures found { IfOk result (λ entries. (listing : List PlacedInstr) → IsGround method.now listing starts.now → AreEntries method.now listing entries) }
+    ensures live { IfOk result (λ entries. (live : List ℕ) × ((listing : List PlacedInstr) → IsGround method.now listing starts.now → AreLive method.now listing live)) }
     ensures refused { IfErr result (λ fault. IfRefusal fault ((listing : List PlacedInstr) → IsGround method.now listing starts.now → IsAstray method.now listing)) }
 {
     let mut followed = at_first(alloc)?;
@@ -316,6 +317,7 @@ pub(crate) fn entries_of(alloc: Global, method: &Method) -> Result<NumberSet, Wo
     ensures starts { IfOk result (λ entries. (listing : List PlacedInstr) → IsListing instr_at method.now.code listing → (pc : ℕ) → has_number entries pc ≡ true → begins listing pc ≡ true) }
     ensures entered { IfOk result (λ entries. (listing : List PlacedInstr) → IsListing instr_at method.now.code listing → (pc : ℕ) → has_number entries pc ≡ true → IsEntered method.now listing pc) }
     ensures all { IfOk result (λ entries. (listing : List PlacedInstr) → IsListing instr_at method.now.code listing → (pc : ℕ) → IsEntered method.now listing pc → has_number entries pc ≡ true) }
+    ensures live { IfOk result (λ entries. (live : List ℕ) × ((listing : List PlacedInstr) → IsListing instr_at method.now.code listing → AreLive method.now listing live)) }
     ensures handlers { IfOk result (λ entries. (listing : List PlacedInstr) → IsListing instr_at method.now.code listing → AllByRecursion (HandlerStands listing) method.now.handlers) }
     ensures some { IfOk result (λ entries. method.now.code ≢ []) }
     ensures refused { IfErr result (λ fault. (pc : ℕ) (reason : Reason) → fault ≡ Refused pc reason → (rules : Rules) → rules.decoder ≡ instr_at → (states : List Stated) → Carries rules method.now states → ⊥) }

@@ -1,6 +1,6 @@
 //! Following control flow through a method.
 
-ghost use Rattle.std.specs.Prelude.{◌≡◌, ◌<◌, ◌≤◌, ◌^◌, ℤ, true, false, Some, None, Ok, Option, List, ℕ, length, pos, slice_get, IfOk, IfErr, IfSome};
+ghost use Rattle.std.specs.Prelude.{◌≡◌, ◌<◌, ◌≤◌, ◌^◌, ℤ, true, false, Some, None, Ok, Option, List, ℕ, length, pos, slice_get, IfOk, IfErr, IfNone, IfSome};
 ghost use Rattle.std.specs.List.{AllByRecursion};
 ghost use Rattle.jc_code.specs.Targets.{targets_of};
 ghost use Rattle.jc_types.specs.Changes.{Became};
@@ -8,7 +8,11 @@ ghost use Rattle.jc_check.specs.Method.{caught_types};
 ghost use Rattle.jc_check.specs.Package.{package_rules};
 ghost use Rattle.jc_check.specs.Typing.{BranchLeads, HandlerLeads, Leads, Typing};
 ghost use Rattle.jc_verify.specs.PrivateStop.{fault_at};
+ghost use Rattle.jc_verify.specs.PrivateCarrier.{BranchHasPlace, HandlerHasPlace, HasPlace, IsCarrier, IsDecodedAt};
 ghost use Rattle.jc_verify.specs.declared.place.NotTaken.TheVariants.{Unlike};
+ghost use Rattle.jc_verify.specs.declared.stop.Stop.TheVariants.{Refused};
+ghost use Rattle.jc_check.specs.declared.fault.WordFault.TheVariants as faults;
+ghost use Rattle.jc_base.specs.declared.reason.Reason.{Reason};
 ghost use Rattle.jc_verify.specs.PrivateFlow.{ClosedIf, FallsIf, Grown, HasLaws, HasRoom, IsClosed, IsNumbered, IsUnder, IsUpper, Places, Risen, held_at, number_at, placed};
 
 use crate::place::{NotTaken, Place, take_in};
@@ -83,7 +87,7 @@ fn arrive_at(
     places: &mut [Place<State>],
     pc: usize,
     state: &State,
-) -> Result<bool, NotTaken>
+) -> Result<bool, Stop>
     requires laws { HasLaws flow.now.linked.now }
     requires numbered { IsNumbered flow.now.numbers.now places.old }
     requires room { HasRoom flow.now.method.now state.now }
@@ -93,6 +97,8 @@ fn arrive_at(
     ensures none { IfOk result (λ is. is ≡ false → number_at flow.now.numbers.now pc ≡ None) }
     ensures least { IfOk result (λ is. (typing : Typing) → IsUnder flow.now.linked.now flow.now.numbers.now places.old typing
         → Leads (package_rules flow.now.linked.now) typing state.now.types pc → IsUnder flow.now.linked.now flow.now.numbers.now places.new typing) }
+    ensures refused { IfErr result (λ stop. (reason : Reason) → stop ≡ Refused reason → (typing : Typing) → IsUnder flow.now.linked.now flow.now.numbers.now places.old typing
+        → Leads (package_rules flow.now.linked.now) typing state.now.types pc → ⊥) }
 {
     match number_at(flow.numbers, pc) {
         Some(number) => {
@@ -122,6 +128,8 @@ fn catch_at(
     ensures caught { HasRoom flow.now.method.now caught.new }
     ensures least { IfOk result (λ u. (typing : Typing) → IsUnder flow.now.linked.now flow.now.numbers.now places.old typing
         → Leads (package_rules flow.now.linked.now) typing (caught_types class state.now.types) goes_on → IsUnder flow.now.linked.now flow.now.numbers.now places.new typing) }
+    ensures refused { IfErr result (λ stop. (reason : Reason) → stop ≡ Refused reason → (typing : Typing) → IsCarrier flow.now.linked.now flow.now.method.now flow.now.numbers.now typing → IsUnder flow.now.linked.now flow.now.numbers.now places.old typing
+        → Leads (package_rules flow.now.linked.now) typing (caught_types class state.now.types) goes_on → HasPlace flow.now.numbers.now goes_on → ⊥) }
 {
     let method = flow.method;
     if method.max_stack == 0 {
@@ -156,6 +164,8 @@ fn handle(
     ensures caught { HasRoom flow.now.method.now caught.new }
     ensures least { IfOk result (λ u. (typing : Typing) → IsUnder flow.now.linked.now flow.now.numbers.now places.old typing
         → HandlerLeads (package_rules flow.now.linked.now) typing pc state.now.types handler.now → IsUnder flow.now.linked.now flow.now.numbers.now places.new typing) }
+    ensures refused { IfErr result (λ stop. (reason : Reason) → stop ≡ Refused reason → (typing : Typing) → IsCarrier flow.now.linked.now flow.now.method.now flow.now.numbers.now typing → IsUnder flow.now.linked.now flow.now.numbers.now places.old typing
+        → HandlerLeads (package_rules flow.now.linked.now) typing pc state.now.types handler.now → HandlerHasPlace flow.now.numbers.now pc handler.now → ⊥) }
 {
     if !handler.covers(pc) {
         return Ok(());
@@ -184,6 +194,8 @@ fn handle_all(
     ensures caught { HasRoom flow.now.method.now caught.new }
     ensures least { IfOk result (λ u. (typing : Typing) → IsUnder flow.now.linked.now flow.now.numbers.now places.old typing
         → AllByRecursion (HandlerLeads (package_rules flow.now.linked.now) typing pc state.now.types) flow.now.method.now.handlers → IsUnder flow.now.linked.now flow.now.numbers.now places.new typing) }
+    ensures refused { IfErr result (λ stop. (reason : Reason) → stop ≡ Refused reason → (typing : Typing) → IsCarrier flow.now.linked.now flow.now.method.now flow.now.numbers.now typing → IsUnder flow.now.linked.now flow.now.numbers.now places.old typing
+        → AllByRecursion (HandlerLeads (package_rules flow.now.linked.now) typing pc state.now.types) flow.now.method.now.handlers → AllByRecursion (HandlerHasPlace flow.now.numbers.now pc) flow.now.method.now.handlers → ⊥) }
 {
     let handlers = flow.method.handlers();
     for index in 0..handlers.len() {
@@ -209,6 +221,8 @@ fn branch_to(
         → (place : ℤ) → slice_get targets.now index ≡ Some place → BranchLeads (package_rules flow.now.linked.now) (held_at flow.now.numbers.now final) state.now.types place) }
     ensures least { IfOk result (λ u. (typing : Typing) → IsUnder flow.now.linked.now flow.now.numbers.now places.old typing
         → ((place : ℤ) → slice_get targets.now index ≡ Some place → BranchLeads (package_rules flow.now.linked.now) typing state.now.types place) → IsUnder flow.now.linked.now flow.now.numbers.now places.new typing) }
+    ensures refused { IfErr result (λ stop. (reason : Reason) → stop ≡ Refused reason → (typing : Typing) → IsUnder flow.now.linked.now flow.now.numbers.now places.old typing
+        → ((place : ℤ) → slice_get targets.now index ≡ Some place → BranchLeads (package_rules flow.now.linked.now) typing state.now.types place) → ((place : ℤ) → slice_get targets.now index ≡ Some place → BranchHasPlace flow.now.numbers.now place) → ⊥) }
 {
     let target = targets.get(index).unwrap();
     if target < 0 {
@@ -237,6 +251,8 @@ fn branch_all(
         → AllByRecursion (BranchLeads (package_rules flow.now.linked.now) (held_at flow.now.numbers.now final) state.now.types) (targets_of pc instr.now.operation)) }
     ensures least { IfOk result (λ u. (typing : Typing) → IsUnder flow.now.linked.now flow.now.numbers.now places.old typing
         → AllByRecursion (BranchLeads (package_rules flow.now.linked.now) typing state.now.types) (targets_of pc instr.now.operation) → IsUnder flow.now.linked.now flow.now.numbers.now places.new typing) }
+    ensures refused { IfErr result (λ stop. (reason : Reason) → stop ≡ Refused reason → (typing : Typing) → IsUnder flow.now.linked.now flow.now.numbers.now places.old typing
+        → AllByRecursion (BranchLeads (package_rules flow.now.linked.now) typing state.now.types) (targets_of pc instr.now.operation) → AllByRecursion (BranchHasPlace flow.now.numbers.now) (targets_of pc instr.now.operation) → ⊥) }
 {
     let targets = instr.targets(pc);
     for index in 0..targets.len() {
@@ -262,6 +278,8 @@ pub(crate) fn fall_to(
     ensures within { IfOk result (λ on. pc < length flow.now.method.now.code) }
     ensures least { IfOk result (λ on. (typing : Typing) → IsUnder flow.now.linked.now flow.now.numbers.now places.old typing
         → Leads (package_rules flow.now.linked.now) typing state.now.types pc → IsUnder flow.now.linked.now flow.now.numbers.now places.new typing) }
+    ensures refused { IfErr result (λ stop. (reason : Reason) → stop ≡ Refused reason → (typing : Typing) → IsUnder flow.now.linked.now flow.now.numbers.now places.old typing
+        → Leads (package_rules flow.now.linked.now) typing state.now.types pc → pc < length flow.now.method.now.code → ⊥) }
 {
     if pc >= flow.method.code().len() {
         return Err(Stop::Refused(Reason::FallsOff));
@@ -308,6 +326,8 @@ fn visit(
     ensures room { IfOk result (λ on. HasRoom flow.now.method.now state.new) }
     ensures least { IfOk result (λ on. (typing : Typing) → IsUpper flow.now.linked.now flow.now.method.now typing → IsUnder flow.now.linked.now flow.now.numbers.now places.old typing
         → Leads (package_rules flow.now.linked.now) typing state.old.types pc → IsUnder flow.now.linked.now flow.now.numbers.now places.new typing × (on ≡ true → Leads (package_rules flow.now.linked.now) typing state.new.types instr.now.next_pc)) }
+    ensures refused { IfErr result (λ stop. (reason : Reason) → stop ≡ Refused reason → (typing : Typing) → IsCarrier flow.now.linked.now flow.now.method.now flow.now.numbers.now typing → IsUnder flow.now.linked.now flow.now.numbers.now places.old typing
+        → Leads (package_rules flow.now.linked.now) typing state.old.types pc → ⊥) }
 {
     handle_all(flow, places, caught, state, pc)?;
     take_effect(flow, state, instr)?;
@@ -321,7 +341,8 @@ fn visit(
 
 /// The instruction at a pc, where one begins.
 fn instr_at<'m>(flow: &Flow<'_, 'm>, pc: usize) -> Option<Instr<'m>>
-    ensures { IfSome result (λ instr. (package_rules flow.now.linked.now).decoder flow.now.method.now.code pc ≡ Ok instr) }
+    ensures some { IfSome result (λ instr. (package_rules flow.now.linked.now).decoder flow.now.method.now.code pc ≡ Ok instr) }
+    ensures none { IfNone result (IsDecodedAt flow.now.linked.now flow.now.method.now pc → ⊥) }
 {
     let method = flow.method;
     match decode(method.code(), pc) {
@@ -351,6 +372,8 @@ pub(crate) fn follow(
     ensures room { IfOk result (λ u. HasRoom flow.now.method.now state.new) }
     ensures least { IfOk result (λ u. (typing : Typing) → IsUpper flow.now.linked.now flow.now.method.now typing → IsUnder flow.now.linked.now flow.now.numbers.now places.old typing
         → Leads (package_rules flow.now.linked.now) typing state.old.types start → IsUnder flow.now.linked.now flow.now.numbers.now places.new typing) }
+    ensures refused { IfErr result (λ fault. (pc : ℕ) (reason : Reason) → fault ≡ faults.Refused pc reason → (typing : Typing) → IsCarrier flow.now.linked.now flow.now.method.now flow.now.numbers.now typing → IsUnder flow.now.linked.now flow.now.numbers.now places.old typing
+        → Leads (package_rules flow.now.linked.now) typing state.old.types start → ⊥) }
 {
     listing_laws();
     let mut pc = start;

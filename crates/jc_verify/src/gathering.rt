@@ -3,9 +3,11 @@
 ghost use Rattle.std.specs.Prelude.{◌≡◌, ◌+◌, ℕ, Some, map, length, slice_get, nat_le, false, IfOk, IfErr};
 ghost use Rattle.std.specs.Option.{option_map_or};
 ghost use Rattle.jc_cert.specs.Cert.{rows, stated};
+ghost use Rattle.jc_base.specs.declared.reason.Reason.{Reason};
 ghost use Rattle.jc_check.specs.Package.{method_of};
+ghost use Rattle.jc_check.specs.declared.fault.WordFault.TheVariants.{Refused};
 ghost use Rattle.jc_verify.specs.PrivateFlow.{HasLaws};
-ghost use Rattle.jc_verify.specs.PrivateGathered.{IsInferred, IsPut, IsSoFar};
+ghost use Rattle.jc_verify.specs.PrivateGathered.{IsDenied, IsInferred, IsPut, IsSoFar};
 
 use crate::fault::VerifyFault;
 use crate::method::states_of;
@@ -34,7 +36,8 @@ pub(crate) struct Gathered {
 /// The states that carry a method with code.
 fn states_for(alloc: Global, linked: &Linked, body: &MethodCode) -> Result<Vec<StateRow>, WordFault>
     requires { HasLaws linked.now }
-    ensures { IfOk result (λ states. IsInferred linked.now (method_of linked.now body.now) (map stated states.items)) }
+    ensures inferred { IfOk result (λ states. IsInferred linked.now (method_of linked.now body.now) (map stated states.items)) }
+    ensures refused { IfErr result (λ fault. (pc : ℕ) (reason : Reason) → fault ≡ Refused pc reason → IsDenied linked.now (method_of linked.now body.now)) }
 {
     let method = method_of(alloc, linked, body)?;
     states_of(alloc, linked, &method)
@@ -99,7 +102,9 @@ pub(crate) fn gather(
     }
 }
 
-fn told_at(method: u16, pc: u16, reason: Reason) -> Told {
+fn told_at(method: u16, pc: u16, reason: Reason) -> Told
+    ensures { result.method ≡ method }
+{
     Told {
         method,
         fault: Fault { pc, reason },

@@ -1,12 +1,16 @@
 //! The states of a method's certificate.
 
-ghost use Rattle.std.specs.Prelude.{◌≡◌, ◌<◌, ◌^◌, ℕ, Some, None, length, map, slice_get, IfOk};
+ghost use Rattle.std.specs.Prelude.{◌≡◌, ◌⊎◌, ◌<◌, ◌^◌, ℕ, Some, None, length, map, slice_get, IfErr, IfOk};
+ghost use Rattle.jc_base.specs.declared.reason.Reason.{Reason};
 ghost use Rattle.jc_cert.specs.Cert.{stated};
+ghost use Rattle.jc_check.specs.Typing.{Typing};
+ghost use Rattle.jc_check.specs.declared.fault.WordFault.TheVariants.{Refused};
+ghost use Rattle.jc_verify.specs.PrivateCarrier.{IsCarrier};
 ghost use Rattle.jc_types.specs.State.{StateWithRoom};
 ghost use Rattle.jc_verify.specs.declared.place.Place.{Place as PlaceOf};
 ghost use Rattle.jc_check.specs.Package.{class_of_name};
 ghost use Rattle.jc_verify.specs.PrivateFlow.{HasLaws, IsNumbered, Places};
-ghost use Rattle.jc_verify.specs.PrivateGathered.{IsInferred};
+ghost use Rattle.jc_verify.specs.PrivateGathered.{IsDenied, IsInferred, IsUnnamed};
 ghost use Rattle.jc_verify.specs.PrivateSettled.{IsFilled};
 ghost use Rattle.jc_verify.specs.PrivateStated.{AreStateRows};
 
@@ -29,8 +33,10 @@ fn rows_in(flow: &Flow, places: &mut [Place<State>]) -> Result<Vec<StateRow>, Wo
     requires sized { length flow.now.numbers.now ≡ length flow.now.method.now.code }
     requires empty { (n : ℕ) (p : PlaceOf StateWithRoom) → slice_get places.old n ≡ Some p → p.held ≡ None }
     requires short { length flow.now.method.now.code < 2 ^ 16 }
-    ensures { IfOk result (λ rows. (final : Places) × IsFilled flow.now.linked.now flow.now.method.now flow.now.numbers.now places.old final
+    ensures rows { IfOk result (λ rows. (final : Places) × IsFilled flow.now.linked.now flow.now.method.now flow.now.numbers.now places.old final
         × AreStateRows (class_of_name flow.now.linked.now.world) final (map stated rows.items)) }
+    ensures refused { IfErr result (λ fault. (pc : ℕ) (reason : Reason) → fault ≡ Refused pc reason
+        → ((typing : Typing) → IsCarrier flow.now.linked.now flow.now.method.now flow.now.numbers.now typing → ⊥) ⊎ IsUnnamed flow.now.linked.now flow.now.method.now) }
 {
     fill(flow, places)?;
     let linked = flow.linked;
@@ -45,7 +51,8 @@ pub(crate) fn states_of(
 ) -> Result<Vec<StateRow>, WordFault>
     requires laws { HasLaws linked.now }
     requires short { length method.now.code < 2 ^ 16 }
-    ensures { IfOk result (λ rows. IsInferred linked.now method.now (map stated rows.items)) }
+    ensures inferred { IfOk result (λ rows. IsInferred linked.now method.now (map stated rows.items)) }
+    ensures refused { IfErr result (λ fault. (pc : ℕ) (reason : Reason) → fault ≡ Refused pc reason → IsDenied linked.now method.now) }
 {
     first_fault_laws();
     let entries = entries_of(alloc, method)?;

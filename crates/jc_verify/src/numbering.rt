@@ -1,8 +1,9 @@
 //! The places of a method, by ascending pc, and their numbers.
 
-ghost use Rattle.std.specs.Prelude.{◌≡◌, ◌<◌, ◌+◌, ◌^◌, ℕ, List, true, None, Some, length, slice_get, IfOk};
+ghost use Rattle.std.specs.Prelude.{◌≡◌, ◌<◌, ◌+◌, ◌^◌, ℕ, List, true, false, None, Some, length, slice_get, IfOk};
 ghost use Rattle.jc_base.specs.NumberSet.{has_number};
 ghost use Rattle.jc_types.specs.State.{StateWithRoom};
+ghost use Rattle.jc_verify.specs.PrivateCarrier.{HasPlace};
 ghost use Rattle.jc_verify.specs.PrivateFlow.{IsNumbered, Places};
 ghost use Rattle.jc_verify.specs.PrivateSettled.{AreNumbered};
 ghost use Rattle.jc_verify.specs.declared.place.Place.{Place as PlaceOf};
@@ -40,7 +41,7 @@ fn put_place(
 
 /// Says in the table that there is no place at a pc.
 fn put_none(numbers: &mut Vec<Option<u16>>) -> Result<(), AllocError>
-    ensures { IfOk result (λ u. (entries : List ℕ) (pc : ℕ) (places : Places) → AreNumbered entries pc numbers.old.items places → AreNumbered entries (pc + 1) numbers.new.items places) }
+    ensures { IfOk result (λ u. (entries : List ℕ) (pc : ℕ) (places : Places) → has_number entries pc ≡ false → AreNumbered entries pc numbers.old.items places → AreNumbered entries (pc + 1) numbers.new.items places) }
 {
     numbers.push(None)?;
     Ok(())
@@ -75,6 +76,7 @@ pub(crate) fn number_places(
     ensures numbered { IfOk result (λ n. IsNumbered n.numbers.items n.places.items) }
     ensures empty { IfOk result (λ n. (k : ℕ) (p : PlaceOf StateWithRoom) → slice_get n.places.items k ≡ Some p → p.held ≡ None) }
     ensures entered { IfOk result (λ n. (k : ℕ) (p : PlaceOf StateWithRoom) → slice_get n.places.items k ≡ Some p → has_number entries.now p.pc ≡ true) }
+    ensures all { IfOk result (λ n. (pc : ℕ) → pc < count → has_number entries.now pc ≡ true → HasPlace n.numbers.items pc) }
 {
     let mut numbers = Vec::with_capacity(alloc, count)?;
     let mut places = Vec::new(alloc);

@@ -3,7 +3,7 @@
 ghost use Rattle.std.specs.Prelude.{◌≡◌, ℕ, List, length, IfOk, IfSome};
 ghost use Rattle.jc_cert.specs.Cert.{rows};
 ghost use Rattle.jc_check.specs.Checked.{CarriesPackage};
-ghost use Rattle.jc_verify.specs.Inferred.{HasLeastStates, HasStatesWhereEntered};
+ghost use Rattle.jc_verify.specs.Inferred.{HasAllStates, HasLeastStates, HasStatesWhereEntered};
 ghost use Rattle.jc_verify.specs.PrivateFlow.{HasLaws};
 ghost use Rattle.jc_verify.specs.PrivateGathered.{AreGathered, IsSoFar};
 
@@ -71,6 +71,7 @@ fn certificate_of(linked: &Linked, methods: Vec<MethodRow>) -> Option<Cert>
 pub fn infer(alloc: Global, linked: &Linked) -> Result<Cert, VerifyFault>
     ensures carried { IfOk result (λ cert. CarriesPackage linked.now cert) }
     ensures entered { IfOk result (λ cert. HasStatesWhereEntered linked.now cert) }
+    ensures all { IfOk result (λ cert. HasAllStates linked.now cert) }
     ensures least { IfOk result (λ cert. HasLeastStates linked.now cert) }
 {
     flow_laws(linked);

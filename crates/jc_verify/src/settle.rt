@@ -1,9 +1,12 @@
 //! Following control flow from the places that have changed, until none has.
 
-ghost use Rattle.std.specs.Prelude.{◌≡◌, ◌⊎◌, ◌<◌, ◌≤◌, ◌^◌, ℕ, true, false, Some, None, length, slice_get, IfNone, IfOk, IfSome};
+ghost use Rattle.std.specs.Prelude.{◌≡◌, ◌⊎◌, ◌<◌, ◌≤◌, ◌^◌, ℕ, true, false, Some, None, length, slice_get, IfErr, IfNone, IfOk, IfSome};
+ghost use Rattle.jc_base.specs.declared.reason.Reason.{Reason};
 ghost use Rattle.jc_check.specs.Method.{entry_of};
 ghost use Rattle.jc_check.specs.Typing.{Typing};
+ghost use Rattle.jc_check.specs.declared.fault.WordFault.TheVariants.{Refused};
 ghost use Rattle.jc_types.specs.State.{StateWithRoom};
+ghost use Rattle.jc_verify.specs.PrivateCarrier.{IsCarrier};
 ghost use Rattle.jc_verify.specs.PrivateFlow.{AreShaped, Grown, HasLaws, HasRoom, HasShape, IsNumbered, IsUnder, IsUpper, Places, Risen, types_held};
 ghost use Rattle.jc_verify.specs.declared.place.Place.{Place as PlaceOf};
 ghost use Rattle.jc_verify.specs.PrivateSettled.{AreAllClosed, IsEntryMet, IsFilled, IsFollowed, IsSettled, IsSwept, settled_place};
@@ -68,6 +71,7 @@ fn follow_place(
     ensures followed { IfOk result (λ u. IsFollowed flow.now.linked.now flow.now.method.now flow.now.numbers.now number places.old places.new) }
     ensures caught { IfOk result (λ u. HasRoom flow.now.method.now caught.new) }
     ensures room { IfOk result (λ u. HasRoom flow.now.method.now state.new) }
+    ensures refused { IfErr result (λ fault. (pc : ℕ) (reason : Reason) → fault ≡ Refused pc reason → (typing : Typing) → IsCarrier flow.now.linked.now flow.now.method.now flow.now.numbers.now typing → IsUnder flow.now.linked.now flow.now.numbers.now places.old typing → ⊥) }
 {
     match take_up(&mut places[number], state) {
         Some(start) => follow(flow, places, caught, state, start),
@@ -92,6 +96,7 @@ fn sweep_forwards(
     ensures swept { IfOk result (λ u. IsSwept flow.now.linked.now flow.now.method.now flow.now.numbers.now 0 (length places.new) places.old places.new) }
     ensures caught { IfOk result (λ u. HasRoom flow.now.method.now caught.new) }
     ensures room { IfOk result (λ u. HasRoom flow.now.method.now state.new) }
+    ensures refused { IfErr result (λ fault. (pc : ℕ) (reason : Reason) → fault ≡ Refused pc reason → (typing : Typing) → IsCarrier flow.now.linked.now flow.now.method.now flow.now.numbers.now typing → IsUnder flow.now.linked.now flow.now.numbers.now places.old typing → ⊥) }
 {
     for number in 0..places.len() {
         follow_place(flow, places, caught, state, number)?;
@@ -116,6 +121,7 @@ fn sweep_backwards(
     ensures swept { IfOk result (λ u. IsSwept flow.now.linked.now flow.now.method.now flow.now.numbers.now 0 (length places.new) places.old places.new) }
     ensures caught { IfOk result (λ u. HasRoom flow.now.method.now caught.new) }
     ensures room { IfOk result (λ u. HasRoom flow.now.method.now state.new) }
+    ensures refused { IfErr result (λ fault. (pc : ℕ) (reason : Reason) → fault ≡ Refused pc reason → (typing : Typing) → IsCarrier flow.now.linked.now flow.now.method.now flow.now.numbers.now typing → IsUnder flow.now.linked.now flow.now.numbers.now places.old typing → ⊥) }
 {
     let mut number = places.len();
     while number > 0 {
@@ -143,6 +149,7 @@ fn sweep(
     ensures swept { IfOk result (λ u. IsSwept flow.now.linked.now flow.now.method.now flow.now.numbers.now 0 (length places.new) places.old places.new) }
     ensures caught { IfOk result (λ u. HasRoom flow.now.method.now caught.new) }
     ensures room { IfOk result (λ u. HasRoom flow.now.method.now state.new) }
+    ensures refused { IfErr result (λ fault. (pc : ℕ) (reason : Reason) → fault ≡ Refused pc reason → (typing : Typing) → IsCarrier flow.now.linked.now flow.now.method.now flow.now.numbers.now typing → IsUnder flow.now.linked.now flow.now.numbers.now places.old typing → ⊥) }
 {
     if forwards {
         sweep_forwards(flow, places, caught, state)
@@ -183,6 +190,7 @@ fn settle(
     ensures closed { IfOk result (λ u. AreAllClosed flow.now.linked.now flow.now.method.now flow.now.numbers.now places.new) }
     ensures under { IfOk result (λ u. (typing : Typing) → IsUpper flow.now.linked.now flow.now.method.now typing → IsUnder flow.now.linked.now flow.now.numbers.now places.old typing
         → IsUnder flow.now.linked.now flow.now.numbers.now places.new typing) }
+    ensures refused { IfErr result (λ fault. (pc : ℕ) (reason : Reason) → fault ≡ Refused pc reason → (typing : Typing) → IsCarrier flow.now.linked.now flow.now.method.now flow.now.numbers.now typing → IsUnder flow.now.linked.now flow.now.numbers.now places.old typing → ⊥) }
 {
     let mut forwards = true;
     loop {
@@ -213,6 +221,7 @@ fn enter(
     ensures room { IfOk result (λ u. HasRoom flow.now.method.now state.new) }
     ensures under { IfOk result (λ u. (typing : Typing) → IsUpper flow.now.linked.now flow.now.method.now typing → IsUnder flow.now.linked.now flow.now.numbers.now places.old typing
         → IsUnder flow.now.linked.now flow.now.numbers.now places.new typing) }
+    ensures refused { IfErr result (λ fault. (pc : ℕ) (reason : Reason) → fault ≡ Refused pc reason → (typing : Typing) → IsCarrier flow.now.linked.now flow.now.method.now flow.now.numbers.now typing → IsUnder flow.now.linked.now flow.now.numbers.now places.old typing → ⊥) }
 {
     match fall_to(flow, places, state, 0) {
         Ok(true) => follow(flow, places, caught, state, 0),
@@ -230,6 +239,7 @@ pub(crate) fn fill(flow: &Flow, places: &mut [Place<State>]) -> Result<(), WordF
     requires empty { (n : ℕ) (p : PlaceOf StateWithRoom) → slice_get places.old n ≡ Some p → p.held ≡ None }
     requires short { length flow.now.method.now.code < 2 ^ 16 }
     ensures filled { IfOk result (λ u. IsFilled flow.now.linked.now flow.now.method.now flow.now.numbers.now places.old places.new) }
+    ensures refused { IfErr result (λ fault. (pc : ℕ) (reason : Reason) → fault ≡ Refused pc reason → (typing : Typing) → IsCarrier flow.now.linked.now flow.now.method.now flow.now.numbers.now typing → ⊥) }
 {
     let method = flow.method;
     let mut state = State::entry(

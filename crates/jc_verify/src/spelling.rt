@@ -1,10 +1,14 @@
 //! The states of a certificate, with the names of their classes.
 
-ghost use Rattle.std.specs.Prelude.{◌≡◌, ◌++◌, [], ◌∷◌, Some, length, map, IfOk, IfSome};
+ghost use Rattle.std.specs.Prelude.{◌≡◌, ◌++◌, [], ◌∷◌, ℕ, Some, length, map, IfErr, IfNone, IfOk, IfSome};
+ghost use Rattle.std.specs.List.{AllByRecursion};
+ghost use Rattle.jc_base.specs.declared.reason.Reason.{Reason};
 ghost use Rattle.jc_cert.specs.Cert.{stated};
 ghost use Rattle.jc_check.specs.Claim.{type_claimed, types_claimed};
 ghost use Rattle.jc_check.specs.Package.{class_of_name};
+ghost use Rattle.jc_check.specs.declared.fault.WordFault.TheVariants.{Refused};
 ghost use Rattle.jc_verify.specs.PrivateFlow.{Places};
+ghost use Rattle.jc_verify.specs.PrivateNames.{HasName, HasNames, HasUnnamed, IsUnnamedPlace, TypeHasName, name_for};
 ghost use Rattle.jc_verify.specs.PrivateStated.{AreStateRows, IsStateRow};
 
 use crate::place::Place;
@@ -16,7 +20,9 @@ use jc_types::{State, Ty};
 use std::alloc::{AllocError, Global};
 
 /// How a certificate of a world's last package may name a class, if the package is there.
-fn name_of(table: &ClassTable, class: ClassName) -> Option<SpelledClass> {
+fn name_of(table: &ClassTable, class: ClassName) -> Option<SpelledClass>
+    ensures { result ≡ name_for table.now class }
+{
     match class {
         ClassName::Api(class) => Some(SpelledClass::Api(class)),
         ClassName::Loaded { offset, .. } => {
@@ -35,7 +41,8 @@ fn name_of(table: &ClassTable, class: ClassName) -> Option<SpelledClass> {
 
 /// A name that stands for a class, if a certificate of a world's last package has one.
 fn spelled_class(table: &ClassTable, class: ClassName) -> Option<SpelledClass>
-    ensures { IfSome result (λ name. class_of_name table.now name ≡ Some class) }
+    ensures named { IfSome result (λ name. class_of_name table.now name ≡ Some class) }
+    ensures none { IfNone result (HasName table.now class → ⊥) }
 {
     let name = name_of(table, class)?;
     if class_of_name(table, name)? == class {
@@ -47,7 +54,8 @@ fn spelled_class(table: &ClassTable, class: ClassName) -> Option<SpelledClass>
 
 /// A type as a certificate states it, if its class has a name.
 fn stated_type(table: &ClassTable, ty: Ty) -> Option<StatedType>
-    ensures { IfSome result (λ stated. type_claimed (class_of_name table.now) stated ≡ Some ty) }
+    ensures stated { IfSome result (λ stated. type_claimed (class_of_name table.now) stated ≡ Some ty) }
+    ensures none { IfNone result (TypeHasName table.now ty → ⊥) }
 {
     match ty {
         Ty::Top => Some(StatedType::Top),
@@ -71,6 +79,7 @@ fn stated_types(
 ) -> Result<Option<Vec<StatedType>>, AllocError>
     ensures claimed { IfOk result (λ o. IfSome o (λ stated. types_claimed (class_of_name table.now) stated.items ≡ Some types.now)) }
     ensures len { IfOk result (λ o. IfSome o (λ stated. length stated.items ≡ length types.now)) }
+    ensures none { IfOk result (λ o. IfNone o (AllByRecursion (TypeHasName table.now) types.now → ⊥)) }
 {
     let mut stated = Vec::with_capacity(alloc, types.len())?;
     for index in 0..types.len() {
@@ -89,7 +98,8 @@ fn stated_row(
     pc: u16,
     held: &State,
 ) -> Result<Option<StateRow>, AllocError>
-    ensures { IfOk result (λ o. IfSome o (λ row. IsStateRow (class_of_name table.now) pc held.now.types (stated row))) }
+    ensures row { IfOk result (λ o. IfSome o (λ row. IsStateRow (class_of_name table.now) pc held.now.types (stated row))) }
+    ensures none { IfOk result (λ o. IfNone o (HasNames table.now held.now.types → ⊥)) }
 {
     let Some(locals) = stated_types(alloc, table, held.locals())? else {
         return Ok(None);
@@ -110,7 +120,8 @@ pub(crate) fn stated_rows(
     table: &ClassTable,
     places: &[Place<State>],
 ) -> Result<Vec<StateRow>, WordFault>
-    ensures { IfOk result (λ rows. AreStateRows (class_of_name table.now) places.now (map stated rows.items)) }
+    ensures rows { IfOk result (λ rows. AreStateRows (class_of_name table.now) places.now (map stated rows.items)) }
+    ensures refused { IfErr result (λ fault. (pc : ℕ) (reason : Reason) → fault ≡ Refused pc reason → HasUnnamed table.now places.now) }
 {
     let mut rows = Vec::new(alloc);
     for index in 0..places.len() {
@@ -126,7 +137,8 @@ fn put_row(
     place: &Place<State>,
     rows: &mut Vec<StateRow>,
 ) -> Result<(), WordFault>
-    ensures { IfOk result (λ u. (places : Places) → AreStateRows (class_of_name table.now) places (map stated rows.old.items) → AreStateRows (class_of_name table.now) (places ++ place.now ∷ []) (map stated rows.new.items)) }
+    ensures rows { IfOk result (λ u. (places : Places) → AreStateRows (class_of_name table.now) places (map stated rows.old.items) → AreStateRows (class_of_name table.now) (places ++ place.now ∷ []) (map stated rows.new.items)) }
+    ensures refused { IfErr result (λ fault. (pc : ℕ) (reason : Reason) → fault ≡ Refused pc reason → IsUnnamedPlace table.now place.now) }
 {
     match &place.held {
         None => Ok(()),

@@ -1,5 +1,7 @@
+use Rattle.std.proofs.Common.{rules}
 use Rattle.std.proofs.lemmas.Result.{IfErr-weaker, err_from_is_err_and}
 use Rattle.jc_verify.proofs.Refusing.{never_refused, never_stopped}
+use Rattle.jc_verify.proofs.Visiting.{if_ok}
 use Rattle.jc_verify.proofs.entries.entries_of.Goals as goal
 
 pub returns-in_err-starts-clause-refused : goal.returns-in_err-starts-clause-refused
@@ -14,3 +16,7 @@ returns-clause-refused c =
     let found = rw c.code-code.ensures at c.in_ok-starts.ensures.ok in
     IfErr-weaker c.follow_all.result _ _ (λ fault off pc reason is rules decodes states k.
     never_refused rules m states k c.listing_laws.ensures.all decodes found.0 c.in_ok-starts.starts c.requires.short found.1 fault off pc reason is) c.follow_all.ensures.refused
+
+pub returns-clause-live : goal.returns-clause-live
+returns-clause-live c =
+    if_ok c.follow_all.result _ _ c.follow_all.ensures.live (λ entries live. (live.0, λ listing whole. live.1 listing (search rules)))

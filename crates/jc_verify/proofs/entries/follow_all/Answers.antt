@@ -1,6 +1,6 @@
 use Rattle.std.proofs.Common.{refl, rules}
 use Rattle.std.proofs.lemmas.Result.{err_from_is_err_and}
-use Rattle.jc_verify.proofs.Following.{entries_found, taken}
+use Rattle.jc_verify.proofs.Following.{entries_found, live_found, taken}
 use Rattle.jc_verify.proofs.Passing.{if_refusal}
 use Rattle.jc_verify.proofs.Starting.{first_begins}
 use Rattle.jc_verify.proofs.entries.follow_all.Goals as goal
@@ -23,3 +23,6 @@ returns-in_err-visit_at-clause-refused c =
 
 pub returns-clause-found : goal.returns-clause-found
 returns-clause-found c listing ground = entries_found c.args.method.now listing c.loop-pc.followed (c.loop-pc.invariant listing ground) (search rules)
+
+pub returns-clause-live : goal.returns-clause-live
+returns-clause-live c = (c.loop-pc.followed.live, λ listing ground. live_found c.args.method.now listing c.loop-pc.followed (c.loop-pc.invariant listing ground) (search rules))

@@ -2,8 +2,12 @@ use Rattle.std.proofs.Common.{arith, subst, sym, ◌∙◌}
 use Rattle.jc_check.specs.Package.{package_rules}
 use Rattle.jc_check.specs.Typing.{BranchLeads}
 use Rattle.std.specs.Prelude.{pos}
+use Rattle.std.specs.List.{AllByRecursion}
+use Rattle.jc_verify.specs.PrivateCarrier.{BranchHasPlace}
 use Rattle.std.proofs.lemmas.Option.{same_Some, slice_get-get_or}
+use Rattle.std.proofs.lemmas.Result.{err_from_is_err_and}
 use Rattle.jc_verify.proofs.Growing.{passed_none, passed_one}
+use Rattle.jc_verify.proofs.Passing.{all_at}
 use Rattle.jc_verify.proofs.flow.branch_all.Goals as goal
 
 pub loop-index-init : goal.loop-index-init
@@ -15,3 +19,12 @@ loop-index-preserved c =
     passed_one c.args.flow.now.linked.now c.requires.laws c.args.flow.now.method.now c.args.flow.now.numbers.now _ _ c.loop-index.index _ c.args.places.now c.loop-index.places c.branch_to.new.places c.loop-index.invariant at
     c.in_ok-branch_to.ensures.grown (λ final g. c.in_ok-branch_to.ensures.met final g _ at)
     (λ typing under leads. c.in_ok-branch_to.ensures.least typing under (λ place e. subst (BranchLeads (package_rules c.args.flow.now.linked.now) typing c.args.state.now.types) (same_Some _ place (sym at ∙ e)) leads))
+
+pub returns-in_err-branch_to-clause-refused : goal.returns-in_err-branch_to-clause-refused
+returns-in_err-branch_to-clause-refused c =
+    let p = err_from_is_err_and c.from_residual.result c.from_residual.ensures.1 in
+    let targets = c.targets-targets.result in
+    rw (p.1, p.2) (λ reason is typing under leads places.
+    let lead : AllByRecursion (BranchLeads (package_rules c.args.flow.now.linked.now) typing c.args.state.now.types) targets = rw c.targets-targets.ensures leads in
+    let have : AllByRecursion (BranchHasPlace c.args.flow.now.numbers.now) targets = rw c.targets-targets.ensures places in
+    c.in_err-branch_to.ensures.refused reason is typing (c.loop-index.invariant.under typing under lead) (λ place e. all_at _ targets c.loop-index.index place e lead) (λ place e. all_at _ targets c.loop-index.index place e have))

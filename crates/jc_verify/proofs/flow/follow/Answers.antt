@@ -1,5 +1,6 @@
-use Rattle.std.proofs.Common.{Bool, sym, subst}
+use Rattle.std.proofs.Common.{Bool, sym, subst, ◌∙◌}
 use Rattle.jc_check.specs.Package.{package_rules}
+use Rattle.jc_verify.proofs.Denying.{stop_told}
 use Rattle.jc_verify.proofs.Growing.{grown_self, grown_through, risen_through}
 use Rattle.jc_verify.specs.PrivateFlow.{ClosedIf, held_at}
 use Rattle.jc_verify.proofs.flow.follow.Goals as goal
@@ -52,3 +53,13 @@ returns-in-Ok-false-clause-closed c final g =
 
 pub returns-in-Ok-false-clause-least : goal.returns-in-Ok-false-clause-least
 returns-in-Ok-false-clause-least c typing upper under leads = let now = c.loop-instr.invariant.under typing upper under leads in (c.in-Ok-false.ensures.least typing upper now.0 now.1).0
+
+pub returns-in-None-clause-refused : goal.returns-in-None-clause-refused
+returns-in-None-clause-refused c at reason is typing carrier under leads =
+    let now = c.loop-instr.invariant.under typing carrier.upper under leads in
+    (rw c.from.ensures at c.in-None.ensures.none) (carrier.decoded c.loop-instr.pc now.1.state now.1.typed)
+
+pub returns-in-Err-clause-refused : goal.returns-in-Err-clause-refused
+returns-in-Err-clause-refused c at reason is typing carrier under leads =
+    let now = c.loop-instr.invariant.under typing carrier.upper under leads in
+    c.in-Err.ensures.refused reason (stop_told c.loop-instr.pc at c.in-Err.stop reason (sym c.told_at-in-Err.ensures ∙ is)) typing carrier now.0 now.1

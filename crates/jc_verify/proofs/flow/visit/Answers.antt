@@ -1,8 +1,10 @@
 use Rattle.std.proofs.Common.{sym, ◌∙◌}
 use Rattle.jc_check.specs.Package.{package_rules}
 use Rattle.jc_verify.proofs.Growing.{grown_through, risen_through}
+use Rattle.std.proofs.lemmas.Result.{err_from_is_err_and}
+use Rattle.jc_verify.proofs.Denying.{handled_there, has_effect, ways_there}
 use Rattle.jc_verify.proofs.Lying.{fine_down}
-use Rattle.jc_verify.proofs.Visiting.{if_ok, if_ok_both, closed_by}
+use Rattle.jc_verify.proofs.Visiting.{if_err, if_ok, if_ok_both, closed_by}
 use Rattle.jc_verify.specs.PrivateFlow.{ends, held_at, placed}
 use Rattle.jc_verify.proofs.flow.visit.Goals as goal
 
@@ -56,3 +58,40 @@ returns-else-falls_through-clause-least c typing upper under leads =
     let m = c.args.flow.now.method.now in
     let fine = fine_down l c.requires.laws m typing upper c.args.pc c.args.instr.now c.args.state.now.types c.take_effect.new.state.types leads c.requires.decoded c.in_ok-take_effect.ensures.became in
     (c.in_ok-branch_all.ensures.least typing (c.in_ok-handle_all.ensures.least typing under fine.handled) fine.branches, λ is. absurd cc)
+
+pub returns-in_err-handle_all-clause-refused : goal.returns-in_err-handle_all-clause-refused
+returns-in_err-handle_all-clause-refused c =
+    let p = err_from_is_err_and c.from_residual.result c.from_residual.ensures.1 in
+    let l = c.args.flow.now.linked.now in
+    let m = c.args.flow.now.method.now in
+    let numbers = c.args.flow.now.numbers.now in
+    rw (p.1, p.2) (λ reason is typing carrier under leads.
+    c.in_err-handle_all.ensures.refused reason is typing carrier under (handled_there l c.requires.laws m numbers typing carrier c.args.pc c.args.instr.now c.args.state.now.types leads c.requires.decoded)
+    (ways_there l c.requires.laws m numbers typing carrier c.args.pc c.args.instr.now c.args.state.now.types leads c.requires.decoded).handlers)
+
+pub returns-in_err-take_effect-clause-refused : goal.returns-in_err-take_effect-clause-refused
+returns-in_err-take_effect-clause-refused c =
+    let p = err_from_is_err_and c.from_residual-in_err-take_effect.result c.from_residual-in_err-take_effect.ensures.1 in
+    rw (p.1, p.2) (λ reason is typing carrier under leads.
+    has_effect c.args.flow.now.linked.now c.requires.laws c.args.flow.now.method.now c.args.flow.now.numbers.now typing carrier c.args.pc c.args.instr.now c.args.state.now.types leads c.requires.decoded c.in_err-take_effect.field-0.0
+    c.in_err-take_effect.ensures.became)
+
+pub returns-in_err-branch_all-clause-refused : goal.returns-in_err-branch_all-clause-refused
+returns-in_err-branch_all-clause-refused c =
+    let p = err_from_is_err_and c.from_residual-in_err-branch_all.result c.from_residual-in_err-branch_all.ensures.1 in
+    let l = c.args.flow.now.linked.now in
+    let m = c.args.flow.now.method.now in
+    rw (p.1, p.2) (λ reason is typing carrier under leads.
+    let fine = fine_down l c.requires.laws m typing carrier.upper c.args.pc c.args.instr.now c.args.state.now.types c.take_effect.new.state.types leads c.requires.decoded c.in_ok-take_effect.ensures.became in
+    c.in_err-branch_all.ensures.refused reason is typing (c.in_ok-handle_all.ensures.least typing under fine.handled) fine.branches
+    (ways_there l c.requires.laws m c.args.flow.now.numbers.now typing carrier c.args.pc c.args.instr.now c.args.state.now.types leads c.requires.decoded).branches)
+
+pub returns-then-falls_through-clause-refused : goal.returns-then-falls_through-clause-refused
+returns-then-falls_through-clause-refused c =
+    let l = c.args.flow.now.linked.now in
+    let m = c.args.flow.now.method.now in
+    let falls = sym c.falls_through.ensures ∙ c.if-falls_through.true in
+    if_err c.fall_to.result _ _ c.fall_to.ensures.refused (λ stop refused reason is typing carrier under leads.
+    let fine = fine_down l c.requires.laws m typing carrier.upper c.args.pc c.args.instr.now c.args.state.now.types c.take_effect.new.state.types leads c.requires.decoded c.in_ok-take_effect.ensures.became in
+    refused reason is typing (c.in_ok-branch_all.ensures.least typing (c.in_ok-handle_all.ensures.least typing under fine.handled) fine.branches) (fine.falls falls)
+    ((ways_there l c.requires.laws m c.args.flow.now.numbers.now typing carrier c.args.pc c.args.instr.now c.args.state.now.types leads c.requires.decoded).within falls))

@@ -1,8 +1,9 @@
-use Rattle.std.proofs.Common.{subst, sym}
+use Rattle.std.proofs.Common.{subst, sym, ◌∙◌}
 use Rattle.jc_check.specs.Package.{package_rules}
 use Rattle.jc_check.specs.Typing.{Leads}
+use Rattle.jc_verify.proofs.Denying.{stop_told}
 use Rattle.jc_verify.proofs.Growing.{grown_through}
-use Rattle.jc_verify.proofs.Visiting.{if_ok}
+use Rattle.jc_verify.proofs.Visiting.{if_err, if_ok}
 use Rattle.jc_verify.proofs.settle.enter.Goals as goal
 
 pub returns-in-Ok-true-clause-grown : goal.returns-in-Ok-true-clause-grown
@@ -19,3 +20,14 @@ returns-in-Ok-true-clause-under c =
 pub returns-in-Ok-false-clause-under : goal.returns-in-Ok-false-clause-under
 returns-in-Ok-false-clause-under c typing upper under =
     c.in-Ok-false.ensures.least typing under (subst (λ t. Leads (package_rules c.args.flow.now.linked.now) typing t 0) (sym c.requires.entry) upper.entry)
+
+pub returns-in-Ok-true-clause-refused : goal.returns-in-Ok-true-clause-refused
+returns-in-Ok-true-clause-refused c =
+    if_err c.follow.result _ _ c.follow.ensures.refused (λ fault refused pc reason is typing carrier under.
+    let entry = subst (λ t. Leads (package_rules c.args.flow.now.linked.now) typing t 0) (sym c.requires.entry) carrier.upper.entry in
+    refused pc reason is typing carrier (c.in-Ok-true.ensures.least typing under entry) entry)
+
+pub returns-in-Err-clause-refused : goal.returns-in-Err-clause-refused
+returns-in-Err-clause-refused c pc reason is typing carrier under =
+    let entry = subst (λ t. Leads (package_rules c.args.flow.now.linked.now) typing t 0) (sym c.requires.entry) carrier.upper.entry in
+    c.in-Err.ensures.refused reason (stop_told 0 pc c.in-Err.stop reason (sym c.told_at.ensures ∙ is)) typing under entry carrier.some

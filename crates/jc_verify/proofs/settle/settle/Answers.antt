@@ -1,5 +1,6 @@
 use Rattle.std.proofs.Common.{arith}
 use Rattle.std.proofs.lemmas.Option.{slice_get_within}
+use Rattle.std.proofs.lemmas.Result.{err_from_is_err_and}
 use Rattle.jc_verify.proofs.Growing.{risen_self, risen_through}
 use Rattle.jc_verify.proofs.settle.settle.Goals as goal
 
@@ -33,3 +34,8 @@ loop-places-preserved c = record {
 
 pub returns-then-not-has_changed-clause-under : goal.returns-then-not-has_changed-clause-under
 returns-then-not-has_changed-clause-under c typing upper under = c.in_ok-sweep.ensures.swept.under typing upper (c.loop-places.invariant.under typing upper under)
+
+pub returns-in_err-sweep-clause-refused : goal.returns-in_err-sweep-clause-refused
+returns-in_err-sweep-clause-refused c =
+    let p = err_from_is_err_and c.from_residual.result c.from_residual.ensures.1 in
+    rw (p.1, p.2) (λ pc reason is typing carrier under. c.in_err-sweep.ensures.refused pc reason is typing carrier (c.loop-places.invariant.under typing carrier.upper under))

@@ -1,4 +1,5 @@
 use Rattle.std.proofs.Common.{rules}
+use Rattle.std.proofs.lemmas.Result.{err_from_is_err_and}
 use Rattle.jc_verify.proofs.Settling.{swept_none, swept_before}
 use Rattle.jc_verify.proofs.settle.sweep_backwards.Goals as goal
 
@@ -17,3 +18,8 @@ loop-number-preserved c = record {
   caught = c.in_ok-follow_place.ensures.caught;
   room = c.in_ok-follow_place.ensures.room;
 }
+
+pub returns-in_err-follow_place-clause-refused : goal.returns-in_err-follow_place-clause-refused
+returns-in_err-follow_place-clause-refused c =
+    let p = err_from_is_err_and c.from_residual.result c.from_residual.ensures.1 in
+    rw (p.1, p.2) (λ pc reason is typing carrier under. c.in_err-follow_place.ensures.refused pc reason is typing carrier (c.loop-number.invariant.swept.under typing carrier.upper under))

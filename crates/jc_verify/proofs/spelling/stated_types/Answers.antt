@@ -13,7 +13,7 @@ loop-index-preserved c =
     record {
       claimed =
           ap (types_claimed (class_of_name c.args.table.now)) items
-          ∙ claimed_more (class_of_name c.args.table.now) c.loop-index.stated.items (take c.loop-index.index c.args.types.now) c.in-Some.ty _ c.loop-index.invariant.claimed c.in-Some.ensures
+          ∙ claimed_more (class_of_name c.args.table.now) c.loop-index.stated.items (take c.loop-index.index c.args.types.now) c.in-Some.ty _ c.loop-index.invariant.claimed c.in-Some.ensures.stated
           ∙ ap Some (sym (take_more c.args.types.now c.loop-index.index _ at));
       len = let k = length_more c.loop-index.stated.items c.in-Some.ty in let more = ap length items in omega (arith, more, k, c.loop-index.invariant.len);
     }

@@ -1,0 +1,53 @@
+-- Private. How a certificate names classes, and whether its names are found to stand for them.
+use Rattle.std.specs.Prelude.{◌≡◌, ⊤, ℕ, suc, ◌+◌, ◌==◌, List, length, reverse, Option, Some, slice_get, if◌then◌else◌}
+use Rattle.std.specs.List.{AllByRecursion}
+use Rattle.std.specs.Option.{option_and_then, option_map}
+use Rattle.jc_cap_desc.specs.Shape.{Shape}
+use Rattle.jc_cert.specs.declared.stated_type.SpelledClass.{SpelledClass}
+use Rattle.jc_cert.specs.declared.stated_type.SpelledClass.TheVariants as spelled
+use Rattle.jc_classes.specs.declared.name.ClassName.{ClassName}
+use Rattle.jc_classes.specs.declared.name.ClassName.TheVariants.{Api, Loaded}
+use Rattle.jc_types.specs.State.{StateWithRoom, Types}
+use Rattle.jc_types.specs.declared.ty.Ty.{Ty}
+use Rattle.jc_types.specs.declared.ty.Ty.TheVariants.{Top, Word, Null, Class, BooleanArray, ByteArray, ShortArray, ReferenceArray}
+use Rattle.jc_check.specs.Package.{class_of_name}
+use Rattle.jc_verify.specs.declared.place.Place.{Place}
+
+-- how a certificate of a world's last package names a class, if the package of the class is there
+abbrev pub name_for : List Shape → ClassName → Option SpelledClass
+name_for world (Api class) = Some (spelled.Api class)
+name_for world (Loaded number offset) =
+    if suc number + 1 == length world then Some (spelled.Own offset) else option_map (λ shape. spelled.Other shape.«package».aid offset) (slice_get world (suc number))
+
+-- the name of a class is found to stand for it
+abbrev pub HasName : List Shape → ClassName → Type 0
+HasName world class = option_and_then (class_of_name world) (name_for world class) ≡ Some class
+
+-- so it is of the class of a type, if it has one
+abbrev pub TypeHasName : List Shape → Ty → Type 0
+TypeHasName world Top = ⊤
+TypeHasName world Word = ⊤
+TypeHasName world Null = ⊤
+TypeHasName world (Class class) = HasName world class
+TypeHasName world BooleanArray = ⊤
+TypeHasName world ByteArray = ⊤
+TypeHasName world ShortArray = ⊤
+TypeHasName world (ReferenceArray class) = HasName world class
+
+-- so it is of the classes of all types of a state
+pub record HasNames (world : List Shape) (t : Types) : Type 0 where
+  pub locals : AllByRecursion (TypeHasName world) t.locals
+  pub operands : AllByRecursion (TypeHasName world) (reverse t.operands)
+
+-- a place holds types, of which not all classes have names
+pub record IsUnnamedPlace (world : List Shape) (p : Place StateWithRoom) : Type 0 where
+  pub state : StateWithRoom
+  pub held : p.held ≡ Some state
+  pub unnamed : HasNames world state.types → ⊥
+
+-- such a place stands among others
+pub record HasUnnamed (world : List Shape) (places : List (Place StateWithRoom)) : Type 0 where
+  pub number : ℕ
+  pub place : Place StateWithRoom
+  pub is : slice_get places number ≡ Some place
+  pub unnamed : IsUnnamedPlace world place

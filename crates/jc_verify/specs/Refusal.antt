@@ -1,0 +1,29 @@
+-- Which packages get no certificate: those that none can carry.
+use Rattle.std.specs.Prelude.{◌≡◌, ⊤, ℕ, ◌<◌, List, Some, slice_get}
+use Rattle.jc_cap_desc.specs.Shape.{MethodBody}
+use Rattle.jc_cert.specs.Cert.{Stated}
+use Rattle.jc_link.specs.Linked.{Linked}
+use Rattle.jc_check.specs.Carried.{Carries}
+use Rattle.jc_check.specs.Method.{Method}
+use Rattle.jc_check.specs.Package.{method_of, package_rules}
+use Rattle.jc_verify.specs.declared.fault.VerifyFault.{VerifyFault}
+use Rattle.jc_verify.specs.declared.fault.VerifyFault.TheVariants.{Memory, NoCertificate}
+
+-- some states carry a method
+pub record CanBeCarried (l : Linked) (m : Method) : Type 0 where
+  pub states : List Stated
+  pub carried : Carries (package_rules l) m states
+
+-- no states carry the method with code at this offset, and each method with code before it can be carried
+pub record IsFirstWithout (l : Linked) (offset : ℕ) : Type 0 where
+  pub place : ℕ
+  pub method : MethodBody
+  pub is : slice_get l.body.kept.methods place ≡ Some method
+  pub at : method.offset ≡ offset
+  pub without : CanBeCarried l (method_of l method) → ⊥
+  pub before : (n : ℕ) (b : MethodBody) → slice_get l.body.kept.methods n ≡ Some b → b.offset < offset → CanBeCarried l (method_of l b)
+
+-- why there is no certificate: a method that no states carry, the one with the least offset; or want of memory
+abbrev pub IsRefusal : Linked → VerifyFault → Type 0
+IsRefusal l (NoCertificate method fault) = IsFirstWithout l method
+IsRefusal l Memory = ⊤

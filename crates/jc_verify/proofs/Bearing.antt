@@ -1,12 +1,10 @@
 -- A certificate that carries a method has states where control flow enters it, and a typing with what is known of one that carries it.
-use Rattle.std.proofs.Common.{◌≡◌, ◌⊎◌, inl, inr, ℕ, ℤ, zero, suc, pos, ◌+◌, ◌<◌, ◌≤◌, ◌==◌, ◌&&◌, Bool, true, false, cond, List, [], ◌∷◌, length, map, Option, Some, None, Ok, refl, sym, ap, subst, ◌∙◌, arith, get_or, slice_get}
-use Rattle.std.specs.Prelude.{reverse}
+use Rattle.std.proofs.Common.{◌≡◌, ◌⊎◌, inl, inr, ℕ, ℤ, suc, pos, ◌+◌, ◌<◌, ◌≤◌, ◌==◌, ◌&&◌, Bool, true, false, cond, List, [], ◌∷◌, length, map, Option, Some, None, Ok, refl, sym, ap, subst, ◌∙◌, arith, get_or, slice_get}
 use Rattle.std.specs.List.{AllByRecursion, Contains}
 use Rattle.std.specs.Option.{option_and_then, option_map}
-use Rattle.std.proofs.lemmas.Bool.{eqb-true, le-leb, leb-true}
+use Rattle.std.proofs.lemmas.Bool.{eqb-true, leb-true}
 use Rattle.std.proofs.lemmas.List.{length-reverse}
 use Rattle.std.proofs.lemmas.Option.{none-some, same_Some, slice_get-get_or}
-use Rattle.jc_base.proofs.Binding.{the_ok}
 use Rattle.jc_base.specs.NumberSet.{has_number}
 use Rattle.jc_cert.specs.Cert.{Row, Stated}
 use Rattle.jc_cert.specs.declared.stated_type.SpelledClass.{SpelledClass}
@@ -19,17 +17,17 @@ use Rattle.jc_code.specs.declared.instr.Instr.{Instr}
 use Rattle.jc_link.specs.Linked.{Linked}
 use Rattle.jc_types.specs.State.{StateWithRoom, Types}
 use Rattle.jc_types.specs.declared.ty.Ty.{Ty}
-use Rattle.jc_check.specs.Carried.{Arrives, Carries, GoesOn, GoesOnIf, IsCarriedAt, IsHandled, Stands, has_shape, state_at, types_of}
+use Rattle.jc_check.specs.Carried.{Arrives, Carries, GoesOn, IsCarriedAt, IsHandled, Stands, state_at, types_of}
 use Rattle.jc_check.specs.Checked.{CarriesPackage, stated_for}
 use Rattle.jc_check.specs.Claim.{Claim, claim_of, type_claimed, types_claimed}
-use Rattle.jc_check.specs.Method.{Handler, Method, covers, entry_of}
+use Rattle.jc_check.specs.Method.{Handler, Method, entry_of}
 use Rattle.jc_check.specs.Package.{method_of, package_rules}
 use Rattle.jc_check.specs.Rules.{Rules}
 use Rattle.jc_check.specs.Typing.{BranchLeads, HandlerLeads, IsFine, Leads, Typing}
 use Rattle.jc_verify.specs.Inferred.{HasAllStates}
 use Rattle.jc_verify.specs.Live.{IsEntered, IsLive, first, behind, by_branch, by_handler, branched, caught}
-use Rattle.jc_verify.specs.PrivateCarrier.{BranchHasPlace, HandlerHasPlace, HasPlace, HasWays, IsCarrier, IsDecodedAt}
-use Rattle.jc_verify.specs.PrivateFlow.{HasLaws, IsNumbered, IsUpper, Places, number_at, placed}
+use Rattle.jc_verify.specs.PrivateCarrier.{BranchHasPlace, HandlerHasPlace, HasPlace, HasWays, IsCarrier}
+use Rattle.jc_verify.specs.PrivateFlow.{HasLaws, IsNumbered, Places, placed}
 use Rattle.jc_verify.specs.PrivateGathered.{IsDenied, IsUnnamed}
 use Rattle.jc_verify.specs.PrivateLive.{AreLive}
 use Rattle.jc_verify.specs.declared.place.Place.{Place}

@@ -252,9 +252,10 @@ module _ (l : Linked) (laws : HasLaws l) (m : Method) (numbers : List (Option �
     -- what a typing says of what was taken up
     pub taken_under : (start : ℕ) (s : Types) → IsNumbered numbers places → p.pc ≡ start → q ≡ settled_place p → types_held p ≡ Some s → (typing : Typing) → IsUnder l numbers places typing
         → IsUnder l numbers (slice_set places number q) typing × Leads (package_rules l) typing s start
-    taken_under start s numbered pc same held typing under =
-        (subst (λ x. IsUnder l numbers (slice_set places number x) typing) (sym same) (cleared_under places number p at typing under),
-        subst (Leads (package_rules l) typing s) pc (under p.pc s (at_number l laws m numbers places p.pc number p (numbered.known number p at) at ∙ held)))
+    taken_under start s numbered pc same held typing under = (
+      subst (λ x. IsUnder l numbers (slice_set places number x) typing) (sym same) (cleared_under places number p at typing under),
+      subst (Leads (package_rules l) typing s) pc (under p.pc s (at_number l laws m numbers places p.pc number p (numbered.known number p at) at ∙ held)),
+    )
 
   -- a place stands within the code
   pub within_code : (places : Places) (number : ℕ) (p : Place StateWithRoom) → IsNumbered numbers places → length numbers ≡ length m.code → slice_get places number ≡ Some p → p.pc < length m.code

@@ -9,7 +9,7 @@ use Rattle.jc_cap_desc.specs.Shape.{MethodBody}
 use Rattle.jc_cert.specs.Cert.{Stated, rows}
 use Rattle.jc_link.specs.Linked.{Linked}
 use Rattle.jc_check.specs.Package.{method_of}
-use Rattle.jc_verify.specs.PrivateGathered.{AreGathered, AreTwo, HasMethodAt, IsInferred, IsSoFar, IsTold, Stands, twice}
+use Rattle.jc_verify.specs.PrivateGathered.{AreGathered, HasMethodAt, IsInferred, IsSoFar, IsTold, Stands, twice}
 use Rattle.jc_verify.specs.Refusal.{CanBeCarried}
 use Rattle.jc_verify.specs.declared.gathering.Gathered.{Gathered}
 use Rattle.jc_verify.specs.declared.gathering.Told.{Told}

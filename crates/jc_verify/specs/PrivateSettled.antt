@@ -6,7 +6,7 @@ use Rattle.jc_types.specs.State.{StateWithRoom, Types}
 use Rattle.jc_check.specs.Method.{Method, entry_of}
 use Rattle.jc_check.specs.Package.{package_rules}
 use Rattle.jc_check.specs.Typing.{Typing}
-use Rattle.jc_verify.specs.PrivateCarrier.{HasPlace, IsCarrier}
+use Rattle.jc_verify.specs.PrivateCarrier.{HasPlace}
 use Rattle.jc_verify.specs.PrivateFlow.{AreShaped, ClosedIf, FallsIf, IsClosed, IsNumbered, IsUnder, IsUpper, Places, Risen, held_at, left_in, types_held}
 use Rattle.jc_verify.specs.declared.place.Place.{Place}
 

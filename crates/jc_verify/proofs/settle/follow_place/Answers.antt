@@ -29,6 +29,6 @@ returns-in-Some-clause-refused c =
     let taken = c.in-Some.ensures.taken in
     if_err c.follow.result _ _ c.follow.ensures.refused (λ fault refused pc reason is typing carrier under.
     let now =
-        taken_under c.args.flow.now.linked.now c.requires.laws c.args.flow.now.method.now c.args.flow.now.numbers.now c.args.places.now c.args.number _ c.take_up.new.place at c.in-Some.start c.take_up.new.state.types c.requires.numbered taken.0 taken.1
-        taken.2 typing under in
+    taken_under c.args.flow.now.linked.now c.requires.laws c.args.flow.now.method.now c.args.flow.now.numbers.now c.args.places.now c.args.number _ c.take_up.new.place at c.in-Some.start c.take_up.new.state.types c.requires.numbered taken.0 taken.1
+    taken.2 typing under in
     refused pc reason is typing carrier now.0 now.1)

@@ -1,16 +1,17 @@
 -- The methods of a package, one more, while one of them is told of.
-use Rattle.std.proofs.Common.{◌≡◌, ◌⊎◌, inl, inr, ℕ, ◌+◌, ◌<◌, ◌≤◌, true, false, List, Option, Some, None, slice_get, refl, sym, ap, subst, ◌∙◌, arith}
+use Rattle.std.proofs.Common.{◌≡◌, ◌⊎◌, inl, inr, ℕ, ◌+◌, ◌<◌, ◌≤◌, true, false, List, length, Option, Some, None, slice_get, refl, sym, ap, subst, ◌∙◌, arith}
 use Rattle.std.specs.Prelude.{nat_le}
 use Rattle.std.specs.Option.{option_map_or}
 use Rattle.std.proofs.lemmas.Bool.{cases_eq, leb-false, leb-true}
-use Rattle.std.proofs.lemmas.Option.{none-some, same_Some}
+use Rattle.std.proofs.lemmas.Option.{none-some, same_Some, slice_get_within}
 use Rattle.jc_base.specs.NumberSet.{has_number}
 use Rattle.jc_cap_desc.specs.Shape.{MethodBody}
 use Rattle.jc_cert.specs.Cert.{Stated, rows}
 use Rattle.jc_link.specs.Linked.{Linked}
 use Rattle.jc_check.specs.Package.{method_of}
-use Rattle.jc_verify.specs.PrivateGathered.{AreGathered, HasMethodAt, IsInferred, IsSoFar, IsTold, Stands, twice}
-use Rattle.jc_verify.specs.Refusal.{CanBeCarried}
+use Rattle.jc_verify.specs.PrivateGathered.{AreGathered, HasMethodAt, IsInferred, IsSoFar, IsTold, Stands, denied, twice}
+use Rattle.jc_verify.specs.PrivateRefused.{IsLeftOpen, two, unnamed}
+use Rattle.jc_verify.specs.Refusal.{CanBeCarried, IsFirstWithout}
 use Rattle.jc_verify.specs.declared.gathering.Gathered.{Gathered}
 use Rattle.jc_verify.specs.declared.gathering.Told.{Told}
 
@@ -90,3 +91,16 @@ module _ (l : Linked) (n : ℕ) (b : MethodBody) (at : slice_get l.body.kept.met
       by : (k : ℕ) (c : MethodBody) → Stands l n k c ⊎ (b ≡ c) → ((t : Told) → after.told ≡ Some t → c.offset < t.method) → CanBeCarried l (method_of l c)
       by k c (inl s) lower = so_far.carried k c s (λ t e. lower t (told ∙ e))
       by k c (inr same) lower = subst (λ (x : MethodBody). CanBeCarried l (method_of l x)) same (record { states = states; carried = inferred.carried })
+
+-- what is told of all methods is a refusal
+pub is_refusal : (l : Linked) (g : Gathered) → IsSoFar l (length l.body.kept.methods) g → (t : Told) → g.told ≡ Some t → IsFirstWithout l t.method ⊎ IsLeftOpen l
+is_refusal l g so_far t told = by (so_far.told t told)
+  where
+    before : (n : ℕ) (c : MethodBody) → slice_get l.body.kept.methods n ≡ Some c → c.offset < t.method → CanBeCarried l (method_of l c)
+    before n c at lower =
+        so_far.carried n c (record { first = slice_get_within l.body.kept.methods n c at; is = at }) (λ u e. subst (λ (x : Told). c.offset < x.method) (same_Some t u (sym told ∙ e)) lower)
+
+    by : IsTold l t.method → IsFirstWithout l t.method ⊎ IsLeftOpen l
+    by (denied place b at off (inl without)) = inl (record { place = place; method = b; is = at; at = off; without = without; before = before })
+    by (denied place b at off (inr h)) = inr (unnamed place b at h)
+    by (twice h) = inr (two t.method h)

@@ -1,6 +1,6 @@
 -- What is closed once an instruction has been visited.
 use Rattle.std.proofs.Common.{◌≡◌, ℕ, Bool, true, false, List, Option, Some, None, Ok, Err, Result}
-use Rattle.std.specs.Prelude.{IfErr, IfOk, IfSome}
+use Rattle.std.specs.Prelude.{IfErr, IfNone, IfOk, IfSome}
 use Rattle.jc_code.specs.Listing.{PlacedInstr}
 use Rattle.jc_check.specs.Method.{Method}
 use Rattle.jc_check.specs.Rules.{Rules}
@@ -34,3 +34,7 @@ if_some (Some x) P Q h on = on x h
 pub if_err : {A E : Type 0} (r : Result A E) (P Q : E → Type 0) → IfErr r P → ((e : E) → P e → Q e) → IfErr r Q
 if_err (Ok x) P Q h on = tt
 if_err (Err e) P Q h on = on e h
+
+pub if_none : {A : Type 0} (o : Option A) (P Q : Type 0) → IfNone o P → (P → Q) → IfNone o Q
+if_none None P Q h on = on h
+if_none (Some x) P Q h on = tt

@@ -10,3 +10,4 @@ pub mod PrivateStated
 pub mod PrivateNames
 pub mod PrivateLive
 pub mod PrivateGathered
+pub mod PrivateRefused

@@ -1,11 +1,12 @@
 //! The certificate of a package.
 
-ghost use Rattle.std.specs.Prelude.{◌≡◌, ℕ, List, length, IfOk, IfSome};
+ghost use Rattle.std.specs.Prelude.{◌≡◌, ℕ, List, length, IfErr, IfNone, IfOk, IfSome};
 ghost use Rattle.jc_cert.specs.Cert.{rows};
 ghost use Rattle.jc_check.specs.Checked.{CarriesPackage};
 ghost use Rattle.jc_verify.specs.Inferred.{HasAllStates, HasLeastStates, HasStatesWhereEntered};
 ghost use Rattle.jc_verify.specs.PrivateFlow.{HasLaws};
 ghost use Rattle.jc_verify.specs.PrivateGathered.{AreGathered, IsSoFar};
+ghost use Rattle.jc_verify.specs.PrivateRefused.{IsRefusalSoFar, IsUncertified};
 
 use crate::fault::VerifyFault;
 use crate::gathering::{Gathered, gather};
@@ -39,7 +40,8 @@ fn methods_of(linked: &Linked) -> &[MethodCode]
 /// What is known of all methods of a package.
 fn gather_all(alloc: Global, linked: &Linked) -> Result<Gathered, VerifyFault>
     requires { HasLaws linked.now }
-    ensures { IfOk result (IsSoFar linked.now (length linked.now.body.kept.methods)) }
+    ensures so_far { IfOk result (IsSoFar linked.now (length linked.now.body.kept.methods)) }
+    ensures memory { IfErr result (λ fault. fault ≡ VerifyFault.Memory) }
 {
     let mut gathered = Gathered {
         rows: Vec::new(alloc),
@@ -59,6 +61,7 @@ fn certificate_of(linked: &Linked, methods: Vec<MethodRow>) -> Option<Cert>
     ensures carried { IfSome result (λ cert. CarriesPackage linked.now cert) }
     ensures entered { IfSome result (λ cert. HasStatesWhereEntered linked.now cert) }
     ensures least { IfSome result (λ cert. HasLeastStates linked.now cert) }
+    ensures none { IfNone result (IsUncertified linked.now) }
 {
     let _laws = linked.table().len();
     let mut methods = methods;
@@ -66,16 +69,16 @@ fn certificate_of(linked: &Linked, methods: Vec<MethodRow>) -> Option<Cert>
     Cert::new(methods)
 }
 
-/// Works out a certificate that carries a linked package, with states only where control flow enters a method by a branch or a
-/// handler of an instruction that it reaches, each the least that is possible there. Where a method can't be carried the one with the least offset is told.
-pub fn infer(alloc: Global, linked: &Linked) -> Result<Cert, VerifyFault>
+/// The certificate of what is known of all methods, unless one of them is told of.
+fn certificate_or_fault(linked: &Linked, gathered: Gathered) -> Result<Cert, VerifyFault>
+    requires laws { HasLaws linked.now }
+    requires so_far { IsSoFar linked.now (length linked.now.body.kept.methods) gathered }
     ensures carried { IfOk result (λ cert. CarriesPackage linked.now cert) }
     ensures entered { IfOk result (λ cert. HasStatesWhereEntered linked.now cert) }
     ensures all { IfOk result (λ cert. HasAllStates linked.now cert) }
     ensures least { IfOk result (λ cert. HasLeastStates linked.now cert) }
+    ensures refused { IfErr result (IsRefusalSoFar linked.now) }
 {
-    flow_laws(linked);
-    let gathered = gather_all(alloc, linked)?;
     if let Some(told) = gathered.told {
         return Err(VerifyFault::NoCertificate {
             method: told.method,
@@ -92,4 +95,17 @@ pub fn infer(alloc: Global, linked: &Linked) -> Result<Cert, VerifyFault>
             },
         }),
     }
+}
+
+/// Works out a certificate that carries a linked package, with states only where control flow enters a method by a branch or a
+/// handler of an instruction that it reaches, each the least that is possible there. Where a method can't be carried the one with the least offset is told.
+pub fn infer(alloc: Global, linked: &Linked) -> Result<Cert, VerifyFault>
+    ensures carried { IfOk result (λ cert. CarriesPackage linked.now cert) }
+    ensures entered { IfOk result (λ cert. HasStatesWhereEntered linked.now cert) }
+    ensures all { IfOk result (λ cert. HasAllStates linked.now cert) }
+    ensures least { IfOk result (λ cert. HasLeastStates linked.now cert) }
+{
+    flow_laws(linked);
+    let gathered = gather_all(alloc, linked)?;
+    certificate_or_fault(linked, gathered)
 }

@@ -59,8 +59,14 @@ module _ (entries : List ℕ) (pc : ℕ) (numbers : List (Option ℕ)) (places :
     empty = so_far.empty;
     entered = so_far.entered;
     all = λ at lt is. all at lt is (cases_eq at pc);
+    ascend = λ pc at j k e f. ascend pc at j k (number_either numbers None pc j e) (number_either numbers None at k f);
   }
     where
+      ascend : (pc at j k : ℕ) → (number_at numbers pc ≡ Some j) ⊎ ((pc ≡ length numbers) × (None ≡ Some j)) → (number_at numbers at ≡ Some k) ⊎ ((at ≡ length numbers) × (None ≡ Some k)) → j < k → pc < at
+      ascend pc at j k (inl e) (inl f) lt = so_far.ascend pc at j k e f lt
+      ascend pc at j k (inl e) (inr (h, f)) lt = absurd (none-some k f)
+      ascend pc at j k (inr (h, e)) f lt = absurd (none-some j e)
+
       all : (at : ℕ) → at < pc + 1 → has_number entries at ≡ true → (at ≡ pc) ⊎ (at ≡ pc → ⊥) → HasPlace (numbers ++ None ∷ []) at
       all at lt is (inl same) = let t : true ≡ false = sym is ∙ ap (has_number entries) same ∙ none in absurd cc
       all at lt is (inr apart) = kept None at (so_far.all at (omega (arith, lt, apart)) is)
@@ -90,8 +96,15 @@ module _ (entries : List ℕ) (pc : ℕ) (numbers : List (Option ℕ)) (places :
     empty = λ k p e. empty k p (get_either places blank p k e);
     entered = λ k p e. entered k p (get_either places blank p k e);
     all = λ at lt e. all at lt e (cases_eq at pc);
+    ascend = λ pc at j k e f. ascend pc at j k (number_either numbers (Some (length places)) pc j e) (number_either numbers (Some (length places)) at k f);
   }
     where
+      ascend : (pc at j k : ℕ) → (number_at numbers pc ≡ Some j) ⊎ ((pc ≡ length numbers) × (Some (length places) ≡ Some j)) → (number_at numbers at ≡ Some k) ⊎ ((at ≡ length numbers) × (Some (length places) ≡ Some k)) → j < k → pc < at
+      ascend pc at j k (inl e) (inl f) lt = so_far.ascend pc at j k e f lt
+      ascend pc at j k (inl e) (inr (h, f)) lt = let w = number_within numbers pc j e in omega (arith, w, h)
+      ascend pc at j k (inr (h, e)) (inl f) lt = let w = so_far.numbered.within at k f in let i = same_Some (length places) j e in absurd (omega (arith, w, i, lt))
+      ascend pc at j k (inr (h, e)) (inr (i, f)) lt = let a = same_Some (length places) j e in let b = same_Some (length places) k f in absurd (omega (arith, a, b, lt))
+
       all : (at : ℕ) → at < pc + 1 → has_number entries at ≡ true → (at ≡ pc) ⊎ (at ≡ pc → ⊥) → HasPlace (numbers ++ Some (length places) ∷ []) at
       all at lt e (inl same) = record { number = length places; is = ap (number_at (numbers ++ Some (length places) ∷ [])) (same ∙ sym so_far.sized) ∙ number_last numbers (Some (length places)) }
       all at lt e (inr apart) = kept (Some (length places)) at (so_far.all at (omega (arith, lt, apart)) e)
@@ -128,4 +141,5 @@ none_numbered entries = record {
   empty = λ k p e. absurd (none-some p e);
   entered = λ k p e. absurd (none-some p e);
   all = λ at lt is. absurd (omega (arith, lt));
+  ascend = λ pc at j k e. absurd (none-some j (sym (number_past [] pc (omega arith)) ∙ e));
 }

@@ -8,6 +8,7 @@ mod Settling
 mod Counting
 mod Stating
 mod Carrying
+mod Ordering
 mod Rows
 mod Telling
 mod Numbers

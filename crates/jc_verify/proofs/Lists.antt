@@ -47,3 +47,7 @@ get_kept (z ∷ xs) x y (suc k) e = get_kept xs x y k e
 pub get_last : {A : Type 0} (xs : List A) (x : A) → slice_get (xs ++ x ∷ []) (length xs) ≡ Some x
 get_last [] x = refl
 get_last (z ∷ xs) x = get_last xs x
+
+pub all_more : {A : Type 0} (P : A → Type 0) (xs : List A) (x : A) → AllByRecursion P xs → P x → AllByRecursion P (xs ++ x ∷ [])
+all_more P [] x h holds = (holds, tt)
+all_more P (y ∷ ys) x h holds = (h.0, all_more P ys x h.1 holds)

@@ -1,8 +1,9 @@
 -- Private. What is known of a package's rows, one method after the other.
-use Rattle.std.specs.Prelude.{◌≡◌, ◌⊎◌, ℕ, ◌<◌, true, List, [], ◌∷◌, ◌++◌, Option, Some, None, slice_get}
+use Rattle.std.specs.Prelude.{◌≡◌, ◌⊎◌, ℕ, ◌+◌, ◌^◌, ◌<◌, true, List, [], ◌∷◌, ◌++◌, Option, Some, None, length, slice_get}
+use Rattle.std.specs.List.{AllByRecursion}
 use Rattle.jc_base.specs.NumberSet.{has_number}
 use Rattle.jc_cap_desc.specs.Shape.{MethodBody}
-use Rattle.jc_cert.specs.Cert.{Row, Stated, rows}
+use Rattle.jc_cert.specs.Cert.{IsStatedType, PcsAscend, Row, Stated, rows}
 use Rattle.jc_link.specs.Linked.{Linked}
 use Rattle.jc_check.specs.Carried.{Carries}
 use Rattle.jc_check.specs.Method.{Method}
@@ -20,11 +21,26 @@ pub record Stands (l : Linked) (n k : ℕ) (b : MethodBody) : Type 0 where
   pub first : k < n
   pub is : slice_get l.body.kept.methods k ≡ Some b
 
+-- a state at a pc that goes into two bytes, in the shape of a method, with as many operands as go into one byte, and names that fit
+pub record IsInShape (m : Method) (c : Stated) : Type 0 where
+  pub pc : c.pc < 2 ^ 16
+  pub locals : length c.locals ≡ length m.arguments + m.max_locals
+  pub depth : length c.operands < 2 ^ 8
+  pub each_local : AllByRecursion IsStatedType c.locals
+  pub each_operand : AllByRecursion IsStatedType c.operands
+
+-- states by ascending pc, so few that their count goes into two bytes
+pub record AreInOrder (m : Method) (states : List Stated) : Type 0 where
+  pub few : length states < 2 ^ 16
+  pub ascend : PcsAscend 0 states
+  pub each : AllByRecursion (IsInShape m) states
+
 -- states carry a method, stand where control flow enters it, and are the least
 pub record IsInferred (l : Linked) (m : Method) (states : List Stated) : Type 0 where
   pub carried : Carries (package_rules l) m states
   pub entered : AreWhereEntered m states
   pub least : AreLeast l m states
+  pub order : AreInOrder m states
 
 -- a row is for one of the first methods
 pub record IsRowOf (l : Linked) (n : ℕ) (r : Row) : Type 0 where

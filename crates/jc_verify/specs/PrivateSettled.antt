@@ -7,7 +7,7 @@ use Rattle.jc_check.specs.Method.{Method, entry_of}
 use Rattle.jc_check.specs.Package.{package_rules}
 use Rattle.jc_check.specs.Typing.{Typing}
 use Rattle.jc_verify.specs.PrivateCarrier.{HasPlace}
-use Rattle.jc_verify.specs.PrivateFlow.{AreShaped, ClosedIf, FallsIf, IsClosed, IsNumbered, IsUnder, IsUpper, Places, Risen, held_at, left_in, types_held}
+use Rattle.jc_verify.specs.PrivateFlow.{AreShaped, ClosedIf, FallsIf, IsClosed, IsNumbered, IsUnder, IsUpper, Places, Risen, held_at, left_in, number_at, types_held}
 use Rattle.jc_verify.specs.declared.place.Place.{Place}
 
 -- from each place that hasn't changed since, control flow was followed
@@ -48,6 +48,10 @@ pub record IsSwept (l : Linked) (m : Method) (numbers : List (Option ℕ)) (firs
   pub left : left_in l m after ≤ left_in l m before
   pub flags : (n : ℕ) (p : Place StateWithRoom) → first ≤ n → n < end → slice_get after n ≡ Some p → p.changed ≡ true → left_in l m after < left_in l m before
 
+-- numbers ascend with the pcs
+abbrev pub AreAscending : List (Option ℕ) → Type 0
+AreAscending numbers = (pc at j k : ℕ) → number_at numbers pc ≡ Some j → number_at numbers at ≡ Some k → j < k → pc < at
+
 -- the places at the pcs of a set below this one are numbered
 pub record AreNumbered (entries : List ℕ) (pc : ℕ) (numbers : List (Option ℕ)) (places : Places) : Type 0 where
   pub sized : length numbers ≡ pc
@@ -56,6 +60,7 @@ pub record AreNumbered (entries : List ℕ) (pc : ℕ) (numbers : List (Option �
   pub empty : (k : ℕ) (p : Place StateWithRoom) → slice_get places k ≡ Some p → p.held ≡ None
   pub entered : (k : ℕ) (p : Place StateWithRoom) → slice_get places k ≡ Some p → has_number entries p.pc ≡ true
   pub all : (at : ℕ) → at < pc → has_number entries at ≡ true → HasPlace numbers at
+  pub ascend : AreAscending numbers
 
 -- control flow was followed from the entry, and from each place that holds types
 pub record IsFilled (l : Linked) (m : Method) (numbers : List (Option ℕ)) (before after : Places) : Type 0 where

@@ -1,6 +1,7 @@
 -- Private. What places hold, as rows of a certificate state it.
 use Rattle.std.specs.Prelude.{◌≡◌, ℕ, List, [], ◌∷◌, length, reverse, Option, Some, None}
-use Rattle.jc_cert.specs.Cert.{Stated}
+use Rattle.std.specs.List.{AllByRecursion}
+use Rattle.jc_cert.specs.Cert.{IsStatedType, Stated}
 use Rattle.jc_cert.specs.declared.stated_type.SpelledClass.{SpelledClass}
 use Rattle.jc_classes.specs.declared.name.ClassName.{ClassName}
 use Rattle.jc_types.specs.State.{StateWithRoom, Types}
@@ -14,6 +15,8 @@ pub record IsStateRow (class_of : SpelledClass → Option ClassName) (pc : ℕ) 
   pub operands : types_claimed class_of c.operands ≡ Some (reverse t.operands)
   pub local_count : length c.locals ≡ length t.locals
   pub depth : length c.operands ≡ length t.operands
+  pub each_local : AllByRecursion IsStatedType c.locals
+  pub each_operand : AllByRecursion IsStatedType c.operands
 
 -- the first of these rows states the types at a pc, and the others are these
 pub record IsFirstRow (class_of : SpelledClass → Option ClassName) (pc : ℕ) (t : Types) (others : List Stated → Type 0) (cs : List Stated) : Type 0 where

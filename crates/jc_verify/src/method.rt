@@ -55,6 +55,7 @@ pub(crate) fn states_of(
     ensures refused { IfErr result (λ fault. (pc : ℕ) (reason : Reason) → fault ≡ Refused pc reason → IsDenied linked.now method.now) }
 {
     first_fault_laws();
+    let _most = method.max_stack;
     let entries = entries_of(alloc, method)?;
     let mut numbered = number_places(alloc, method.code().len(), &entries)?;
     let flow = Flow {

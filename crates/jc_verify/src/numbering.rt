@@ -1,11 +1,11 @@
 //! The places of a method, by ascending pc, and their numbers.
 
-ghost use Rattle.std.specs.Prelude.{◌≡◌, ◌<◌, ◌+◌, ◌^◌, ℕ, List, true, false, None, Some, length, slice_get, IfOk};
+ghost use Rattle.std.specs.Prelude.{◌≡◌, ◌<◌, ◌≤◌, ◌+◌, ◌^◌, ℕ, List, true, false, None, Some, length, slice_get, IfOk};
 ghost use Rattle.jc_base.specs.NumberSet.{has_number};
 ghost use Rattle.jc_types.specs.State.{StateWithRoom};
 ghost use Rattle.jc_verify.specs.PrivateCarrier.{HasPlace};
 ghost use Rattle.jc_verify.specs.PrivateFlow.{IsNumbered, Places};
-ghost use Rattle.jc_verify.specs.PrivateSettled.{AreNumbered};
+ghost use Rattle.jc_verify.specs.PrivateSettled.{AreAscending, AreNumbered};
 ghost use Rattle.jc_verify.specs.declared.place.Place.{Place as PlaceOf};
 
 use crate::place::Place;
@@ -77,6 +77,8 @@ pub(crate) fn number_places(
     ensures empty { IfOk result (λ n. (k : ℕ) (p : PlaceOf StateWithRoom) → slice_get n.places.items k ≡ Some p → p.held ≡ None) }
     ensures entered { IfOk result (λ n. (k : ℕ) (p : PlaceOf StateWithRoom) → slice_get n.places.items k ≡ Some p → has_number entries.now p.pc ≡ true) }
     ensures all { IfOk result (λ n. (pc : ℕ) → pc < count → has_number entries.now pc ≡ true → HasPlace n.numbers.items pc) }
+    ensures few { IfOk result (λ n. length n.places.items ≤ count) }
+    ensures ascend { IfOk result (λ n. AreAscending n.numbers.items) }
 {
     let mut numbers = Vec::with_capacity(alloc, count)?;
     let mut places = Vec::new(alloc);

@@ -3,7 +3,7 @@
 ghost use Rattle.std.specs.Prelude.{◌≡◌, ◌++◌, [], ◌∷◌, ℕ, Some, length, map, IfErr, IfNone, IfOk, IfSome};
 ghost use Rattle.std.specs.List.{AllByRecursion};
 ghost use Rattle.jc_base.specs.declared.reason.Reason.{Reason};
-ghost use Rattle.jc_cert.specs.Cert.{stated};
+ghost use Rattle.jc_cert.specs.Cert.{IsSpelledClass, IsStatedType, stated};
 ghost use Rattle.jc_check.specs.Claim.{type_claimed, types_claimed};
 ghost use Rattle.jc_check.specs.Package.{class_of_name};
 ghost use Rattle.jc_check.specs.declared.fault.WordFault.TheVariants.{Refused};
@@ -39,12 +39,26 @@ fn name_of(table: &ClassTable, class: ClassName) -> Option<SpelledClass>
     }
 }
 
+/// Each name of a class has an offset and an AID that fit. It does nothing.
+fn class_fits(class: SpelledClass)
+    ensures { IsSpelledClass class }
+{
+    match class {
+        SpelledClass::Other { package, .. } => {
+            package.len();
+        }
+        SpelledClass::Own { .. } | SpelledClass::Api(_) => {}
+    }
+}
+
 /// A name that stands for a class, if a certificate of a world's last package has one.
 fn spelled_class(table: &ClassTable, class: ClassName) -> Option<SpelledClass>
     ensures named { IfSome result (λ name. class_of_name table.now name ≡ Some class) }
+    ensures fits { IfSome result IsSpelledClass }
     ensures none { IfNone result (HasName table.now class → ⊥) }
 {
     let name = name_of(table, class)?;
+    class_fits(name);
     if class_of_name(table, name)? == class {
         Some(name)
     } else {
@@ -55,6 +69,7 @@ fn spelled_class(table: &ClassTable, class: ClassName) -> Option<SpelledClass>
 /// A type as a certificate states it, if its class has a name.
 fn stated_type(table: &ClassTable, ty: Ty) -> Option<StatedType>
     ensures stated { IfSome result (λ stated. type_claimed (class_of_name table.now) stated ≡ Some ty) }
+    ensures fits { IfSome result IsStatedType }
     ensures none { IfNone result (TypeHasName table.now ty → ⊥) }
 {
     match ty {
@@ -78,6 +93,7 @@ fn stated_types(
     types: &[Ty],
 ) -> Result<Option<Vec<StatedType>>, AllocError>
     ensures claimed { IfOk result (λ o. IfSome o (λ stated. types_claimed (class_of_name table.now) stated.items ≡ Some types.now)) }
+    ensures fit { IfOk result (λ o. IfSome o (λ stated. AllByRecursion IsStatedType stated.items)) }
     ensures len { IfOk result (λ o. IfSome o (λ stated. length stated.items ≡ length types.now)) }
     ensures none { IfOk result (λ o. IfNone o (AllByRecursion (TypeHasName table.now) types.now → ⊥)) }
 {

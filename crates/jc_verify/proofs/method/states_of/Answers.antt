@@ -1,4 +1,4 @@
-use Rattle.std.proofs.Common.{◌≡◌, inl, true, map, refl, subst, sym}
+use Rattle.std.proofs.Common.{◌≡◌, inl, true, map, refl, rules, subst, sym}
 use Rattle.jc_code.specs.Listing.{begins}
 use Rattle.jc_verify.specs.Live.{IsEntered}
 use Rattle.jc_cert.specs.Cert.{Stated, stated}
@@ -6,6 +6,7 @@ use Rattle.jc_check.specs.Package.{package_rules}
 use Rattle.std.proofs.lemmas.Result.{err_from_is_err_and}
 use Rattle.jc_verify.proofs.Bearing.{denied}
 use Rattle.jc_verify.proofs.Carrying.{carried, found_fine, held_kept, rows_each, rows_least, upper_of}
+use Rattle.jc_verify.proofs.Ordering.{in_order}
 use Rattle.jc_verify.proofs.Visiting.{if_err, if_ok}
 use Rattle.jc_verify.proofs.method.states_of.Goals as goal
 
@@ -30,6 +31,7 @@ returns-clause-inferred c =
           subst (IsEntered m listing) (sym row.at)
           (held_kept (IsEntered m listing) numbers _ final numbered.numbered filled.numbered (λ n p e. c.in_ok-entries.ensures.entered listing whole p.pc (numbered.entered n p e)) n p at));
       least = λ typing typed. rows_least l c.requires.laws m numbers final (map stated found.items) filled.numbered are typing (filled.under typing (upper_of l c.requires.laws m typing typed));
+      order = in_order l m numbers final (map stated found.items) filled.numbered numbered.ascend sized c.requires.short (search rules) filled.shaped are;
     })
 
 pub returns-in_err-entries-clause-refused : goal.returns-in_err-entries-clause-refused

@@ -50,7 +50,7 @@ any_at test (y ∷ xs) (suc k) x at h = ap (λ b. test y || b) (any_at test xs k
     or_true false = refl
 
 -- what stands in one list stands in the other one in another order
-moved : {A : Type 0} (xs ys : List A) → IsPermutation xs ys → (k : ℕ) (x : A) → slice_get xs k ≡ Some x → (j : ℕ) × (slice_get ys j ≡ Some x)
+pub moved : {A : Type 0} (xs ys : List A) → IsPermutation xs ys → (k : ℕ) (x : A) → slice_get xs k ≡ Some x → (j : ℕ) × (slice_get ys j ≡ Some x)
 moved xs ys p k x at =
     let c : Contains ys x = Contains-permutation xs ys x p (contains_at xs k x at) in
     (c.0, slice_get-get_or ys c.0 x c.1 ∙ ap Some c.2)

@@ -20,3 +20,4 @@ mod Refusing
 mod Bearing
 mod Denying
 mod Certified
+mod Certifying

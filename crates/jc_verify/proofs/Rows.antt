@@ -1,5 +1,5 @@
 -- The rows of a package's methods, one more.
-use Rattle.std.proofs.Common.{◌≡◌, ◌⊎◌, inl, inr, ℕ, ◌+◌, ◌==◌, ◌||◌, Bool, true, false, List, [], ◌∷◌, ◌++◌, length, Some, slice_get, refl, sym, ap, subst, ◌∙◌, arith}
+use Rattle.std.proofs.Common.{◌≡◌, ◌⊎◌, inl, inr, ℕ, ◌+◌, ◌<◌, ◌≤◌, ◌^◌, ◌==◌, ◌||◌, Bool, true, false, List, [], ◌∷◌, ◌++◌, length, Some, slice_get, refl, sym, ap, subst, ◌∙◌, arith}
 use Rattle.std.proofs.lemmas.Bool.{cases_eq, eq-eqb}
 use Rattle.std.proofs.lemmas.Option.{none-some, same_Some}
 use Rattle.jc_base.specs.NumberSet.{has_number}
@@ -8,7 +8,7 @@ use Rattle.jc_cert.specs.Cert.{Row, Stated}
 use Rattle.jc_link.specs.Linked.{Linked}
 use Rattle.jc_check.specs.Package.{method_of}
 use Rattle.jc_verify.specs.PrivateGathered.{AreGathered, HasRow, IsInferred, IsPut, IsRowOf, Stands}
-use Rattle.jc_verify.proofs.Lists.{get_either, get_kept, get_last}
+use Rattle.jc_verify.proofs.Lists.{get_either, get_kept, get_last, length_more}
 
 pub none_gathered : (l : Linked) (seen : List ℕ) → AreGathered l 0 [] seen
 none_gathered l seen = record {
@@ -16,6 +16,8 @@ none_gathered l seen = record {
   come = λ k r e. absurd (none-some r e);
   known = λ k b s. absurd (omega (arith, s.first));
   apart = λ j k a b s t e. absurd (omega (arith, s.first));
+  distinct = λ j k r s e. absurd (none-some r e);
+  few = omega arith;
 }
 
 module _ (l : Linked) (n : ℕ) (of : List Row) (seen now : List ℕ) (so_far : AreGathered l n of seen) (b : MethodBody) (at : slice_get l.body.kept.methods n ≡ Some b) (fresh : has_number seen b.offset ≡ false)
@@ -32,7 +34,7 @@ module _ (l : Linked) (n : ℕ) (of : List Row) (seen now : List ℕ) (so_far : 
   more k c s = record { first = omega (arith, s.first); is = s.is }
 
   row_more : (r : Row) → IsRowOf l n r → IsRowOf l (n + 1) r
-  row_more r h = record { place = h.place; method = h.method; stands = more h.place h.method h.stands; offset = h.offset; inferred = h.inferred }
+  row_more r h = record { place = h.place; method = h.method; stands = more h.place h.method h.stands; offset = h.offset; small = h.small; some = h.some; inferred = h.inferred }
 
   known_before : (m : ℕ) → has_number seen m ≡ true → has_number now m ≡ true
   known_before m h = inserted m ∙ ap (λ x. m == b.offset || x) h ∙ or_true (m == b.offset)
@@ -61,6 +63,8 @@ module _ (l : Linked) (n : ℕ) (of : List Row) (seen now : List ℕ) (so_far : 
     come = λ k r e. row_more r (so_far.come k r e);
     known = λ k c s. known k c (either k c s);
     apart = λ j k c d s t e. apart j k c d (either j c s) (either k d t) e;
+    distinct = so_far.distinct;
+    few = omega (arith, so_far.few);
   }
     where
       each : (k : ℕ) (c : MethodBody) → Stands l n k c ⊎ ((k ≡ n) × (b ≡ c)) → IsInferred l (method_of l c) [] ⊎ HasRow of c.offset
@@ -71,14 +75,30 @@ module _ (l : Linked) (n : ℕ) (of : List Row) (seen now : List ℕ) (so_far : 
   abbrev own_row : List Stated → Row
   own_row states = record { offset = b.offset; states = states }
 
-  pub with_row : (states : List Stated) → IsInferred l (method_of l b) states → AreGathered l (n + 1) (of ++ own_row states ∷ []) now
-  with_row states carried = record {
+  pub with_row : (states : List Stated) → b.offset < 2 ^ 16 → 1 ≤ length states → IsInferred l (method_of l b) states → AreGathered l (n + 1) (of ++ own_row states ∷ []) now
+  with_row states small some carried = record {
     each = λ k c s. each k c (either k c s);
     come = λ k r e. come k r (get_either of (own_row states) r k e);
     known = λ k c s. known k c (either k c s);
     apart = λ j k c d s t e. apart j k c d (either j c s) (either k d t) e;
+    distinct = λ j k r s e f same. distinct j k r s same (get_either of (own_row states) r j e) (get_either of (own_row states) s k f);
+    few = let k = length_more of (own_row states) in omega (arith, k, so_far.few);
   }
     where
+      -- a row of those before isn't for its offset
+      is_fresh : (j : ℕ) (r : Row) → slice_get of j ≡ Some r → r.offset ≡ b.offset → ⊥
+      is_fresh j r e same =
+          let h = so_far.come j r e in
+          let seen_it = so_far.known h.place h.method h.stands in
+          let t : true ≡ false = sym seen_it ∙ ap (has_number seen) (sym h.offset ∙ same) ∙ fresh in
+          absurd cc
+
+      distinct : (j k : ℕ) (r s : Row) → r.offset ≡ s.offset → (slice_get of j ≡ Some r) ⊎ ((j ≡ length of) × (own_row states ≡ r)) → (slice_get of k ≡ Some s) ⊎ ((k ≡ length of) × (own_row states ≡ s)) → j ≡ k
+      distinct j k r s same (inl e) (inl f) = so_far.distinct j k r s e f same
+      distinct j k r s same (inl e) (inr (h, f)) = absurd (is_fresh j r e (same ∙ sym (ap (λ (x : Row). x.offset) f)))
+      distinct j k r s same (inr (h, e)) (inl f) = absurd (is_fresh k s f (sym same ∙ sym (ap (λ (x : Row). x.offset) e)))
+      distinct j k r s same (inr (h, e)) (inr (i, f)) = h ∙ sym i
+
       each : (k : ℕ) (c : MethodBody) → Stands l n k c ⊎ ((k ≡ n) × (b ≡ c)) → IsInferred l (method_of l c) [] ⊎ HasRow (of ++ own_row states ∷ []) c.offset
       each k c (inl s) = of_row (so_far.each k c s)
         where
@@ -89,8 +109,8 @@ module _ (l : Linked) (n : ℕ) (of : List Row) (seen now : List ℕ) (so_far : 
 
       come : (k : ℕ) (r : Row) → (slice_get of k ≡ Some r) ⊎ ((k ≡ length of) × (own_row states ≡ r)) → IsRowOf l (n + 1) r
       come k r (inl e) = row_more r (so_far.come k r e)
-      come k r (inr (is, same)) = subst (IsRowOf l (n + 1)) same (record { place = n; method = b; stands = record { first = omega arith; is = at }; offset = refl; inferred = carried })
+      come k r (inr (is, same)) = subst (IsRowOf l (n + 1)) same (record { place = n; method = b; stands = record { first = omega arith; is = at }; offset = refl; small = small; some = some; inferred = carried })
 
-  pub put : (states : List Stated) (after : List Row) → IsInferred l (method_of l b) states → IsPut b.offset states of after → AreGathered l (n + 1) after now
-  put states after carried (inl (none, same)) = subst (λ rs. AreGathered l (n + 1) rs now) (sym same) (without_row (subst (IsInferred l (method_of l b)) none carried))
-  put states after carried (inr same) = subst (λ rs. AreGathered l (n + 1) rs now) (sym same) (with_row states carried)
+  pub put : (states : List Stated) (after : List Row) → b.offset < 2 ^ 16 → IsInferred l (method_of l b) states → IsPut b.offset states of after → AreGathered l (n + 1) after now
+  put states after small carried (inl (none, same)) = subst (λ rs. AreGathered l (n + 1) rs now) (sym same) (without_row (subst (IsInferred l (method_of l b)) none carried))
+  put states after small carried (inr (some, same)) = subst (λ rs. AreGathered l (n + 1) rs now) (sym same) (with_row states small some carried)

@@ -1,5 +1,5 @@
 -- Private. What is known of a package's rows, one method after the other.
-use Rattle.std.specs.Prelude.{◌≡◌, ◌⊎◌, ℕ, ◌+◌, ◌^◌, ◌<◌, true, List, [], ◌∷◌, ◌++◌, Option, Some, None, length, slice_get}
+use Rattle.std.specs.Prelude.{◌≡◌, ◌⊎◌, ℕ, ◌+◌, ◌^◌, ◌<◌, ◌≤◌, true, List, [], ◌∷◌, ◌++◌, Option, Some, None, length, slice_get}
 use Rattle.std.specs.List.{AllByRecursion}
 use Rattle.jc_base.specs.NumberSet.{has_number}
 use Rattle.jc_cap_desc.specs.Shape.{MethodBody}
@@ -48,6 +48,8 @@ pub record IsRowOf (l : Linked) (n : ℕ) (r : Row) : Type 0 where
   pub method : MethodBody
   pub stands : Stands l n place method
   pub offset : r.offset ≡ method.offset
+  pub small : r.offset < 2 ^ 16
+  pub some : 1 ≤ length r.states
   pub inferred : IsInferred l (method_of l method) r.states
 
 -- among rows one is for an offset
@@ -63,6 +65,8 @@ pub record AreGathered (l : Linked) (n : ℕ) (of : List Row) (seen : List ℕ) 
   pub come : (k : ℕ) (r : Row) → slice_get of k ≡ Some r → IsRowOf l n r
   pub known : (k : ℕ) (b : MethodBody) → Stands l n k b → has_number seen b.offset ≡ true
   pub apart : (j k : ℕ) (a b : MethodBody) → Stands l n j a → Stands l n k b → a.offset ≡ b.offset → a ≡ b
+  pub distinct : (j k : ℕ) (r s : Row) → slice_get of j ≡ Some r → slice_get of k ≡ Some s → r.offset ≡ s.offset → j ≡ k
+  pub few : length of ≤ n
 
 -- two methods with code stand at one offset, the one of them before the other
 pub record AreTwo (l : Linked) (offset : ℕ) : Type 0 where
@@ -110,4 +114,4 @@ pub record IsSoFar (l : Linked) (n : ℕ) (g : Gathered) : Type 0 where
 -- a row was put behind others, if it has states
 abbrev pub IsPut : ℕ → List Stated → List Row → List Row → Type 0
 IsPut offset states before after =
-    ((states ≡ []) × (after ≡ before)) ⊎ (after ≡ before ++ record { offset = offset; states = states } ∷ [])
+    ((states ≡ []) × (after ≡ before)) ⊎ ((1 ≤ length states) × (after ≡ before ++ record { offset = offset; states = states } ∷ []))

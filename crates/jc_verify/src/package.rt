@@ -6,7 +6,7 @@ ghost use Rattle.jc_check.specs.Checked.{CarriesPackage};
 ghost use Rattle.jc_verify.specs.Inferred.{HasAllStates, HasLeastStates, HasStatesWhereEntered};
 ghost use Rattle.jc_verify.specs.PrivateFlow.{HasLaws};
 ghost use Rattle.jc_verify.specs.PrivateGathered.{AreGathered, IsSoFar};
-ghost use Rattle.jc_verify.specs.PrivateRefused.{IsRefusalSoFar, IsUncertified};
+ghost use Rattle.jc_verify.specs.PrivateRefused.{HasSmallCounts, IsRefusalSoFar};
 
 use crate::fault::VerifyFault;
 use crate::gathering::{Gathered, gather};
@@ -61,7 +61,7 @@ fn certificate_of(linked: &Linked, methods: Vec<MethodRow>) -> Option<Cert>
     ensures carried { IfSome result (λ cert. CarriesPackage linked.now cert) }
     ensures entered { IfSome result (λ cert. HasStatesWhereEntered linked.now cert) }
     ensures least { IfSome result (λ cert. HasLeastStates linked.now cert) }
-    ensures none { IfNone result (IsUncertified linked.now) }
+    ensures none { IfNone result (HasSmallCounts linked.now → ⊥) }
 {
     let _laws = linked.table().len();
     let mut methods = methods;

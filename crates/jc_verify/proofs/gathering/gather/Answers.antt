@@ -1,4 +1,4 @@
-use Rattle.std.proofs.Common.{ℕ, ◌==◌, ◌||◌, Some, ap, arith, inr, map, refl, subst, sym, ◌∙◌}
+use Rattle.std.proofs.Common.{ℕ, ◌<◌, ◌^◌, rules, ◌==◌, ◌||◌, Some, ap, arith, inr, map, refl, subst, sym, ◌∙◌}
 use Rattle.jc_base.specs.NumberSet.{has_number}
 use Rattle.jc_cap_desc.specs.Shape.{MethodBody}
 use Rattle.jc_cert.specs.Cert.{rows, stated}
@@ -13,11 +13,12 @@ pub returns-in-Ok-clause-gathered : goal.returns-in-Ok-clause-gathered
 returns-in-Ok-clause-gathered c =
     let seen = c.args.gathered.now.seen in
     let same = sym (ap (λ (b : MethodBody). b.offset) c.body.view_is) in
+    let small : c.args.body.now.offset < 2 ^ 16 = search rules in
     let fresh = ap (has_number seen) same ∙ sym c.contains.ensures ∙ c.if-contains.false in
     let inserted = λ (m : ℕ). ap (λ s. has_number s m) c.put_states.ensures.seen ∙ c.insert.ensures m ∙ ap (λ o. m == o || has_number seen m) (sym same) in
     if_ok c.put_states.result _ _ c.put_states.ensures.put (λ u is_put n at so_far.
     carried_now c.args.linked.now n c.args.body.now at c.args.gathered.now so_far c.put_states.new.gathered (map stated c.in-Ok.states.items) c.in-Ok.ensures.inferred c.put_states.ensures.told
-    (λ none. put c.args.linked.now n (rows c.args.gathered.now.rows.items) seen c.put_states.new.gathered.seen (so_far.gathered (sym c.put_states.ensures.told ∙ none)) c.args.body.now at fresh inserted (map stated c.in-Ok.states.items) _
+    (λ none. put c.args.linked.now n (rows c.args.gathered.now.rows.items) seen c.put_states.new.gathered.seen (so_far.gathered (sym c.put_states.ensures.told ∙ none)) c.args.body.now at fresh inserted (map stated c.in-Ok.states.items) _ small
     c.in-Ok.ensures.inferred (subst (λ o. IsPut o (map stated c.in-Ok.states.items) (rows c.args.gathered.now.rows.items) (rows c.put_states.new.gathered.rows.items)) (sym same) is_put))
     (has_cases seen c.put_states.new.gathered.seen c.args.body.now.offset inserted))
 

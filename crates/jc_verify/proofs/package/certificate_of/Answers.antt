@@ -4,6 +4,7 @@ use Rattle.jc_cert.specs.Cert.{row, rows}
 use Rattle.jc_cert.specs.declared.cert.MethodRow.{MethodRow}
 use Rattle.jc_check.specs.Checked.{CarriesPackage}
 use Rattle.jc_verify.specs.Inferred.{HasLeastStates, HasStatesWhereEntered}
+use Rattle.jc_verify.proofs.Certifying.{is_cert}
 use Rattle.jc_verify.proofs.Certified.{certified, least_states, where_entered}
 use Rattle.jc_verify.proofs.Visiting.{if_none, if_some}
 use Rattle.jc_verify.proofs.package.certificate_of.Goals as goal
@@ -29,12 +30,5 @@ returns-clause-least c =
 pub returns-clause-none : goal.returns-clause-none
 returns-clause-none c =
     let order = IsPermutation-map row c.args.methods.items c.sort_unstable_by_key.new.self.items c.sort_unstable_by_key.ensures.permutation in
-    if_none c.new.result _ _ c.new.ensures.none (λ none. record {
-      of = rows c.args.methods.items;
-      seen = c.requires.0;
-      gathered = c.requires.1;
-      sorted = c.sort_unstable_by_key.new.self.items;
-      order = order;
-      ascend = IsNonDecreasingBy-from_sort_by_key (λ (m : MethodRow). m.offset) _ c.sort_unstable_by_key.ensures.sorted (λ a r q k. search rules);
-      none = none;
-    })
+    let ascend = IsNonDecreasingBy-from_sort_by_key (λ (m : MethodRow). m.offset) _ c.sort_unstable_by_key.ensures.sorted (λ a r q k. search rules) in
+    if_none c.new.result _ _ c.new.ensures.none (λ none small. none (is_cert c.args.linked.now (rows c.args.methods.items) c.requires.0 c.sort_unstable_by_key.new.self.items c.requires.1 order ascend small))

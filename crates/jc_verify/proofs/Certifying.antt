@@ -1,0 +1,100 @@
+-- The rows of a package's methods, sorted by offset, are a certificate where counts are small.
+use Rattle.std.proofs.Common.{◌≡◌, ◌⊎◌, inl, inr, ℕ, suc, zero, ◌+◌, ◌<◌, ◌≤◌, ◌^◌, ◌==◌, true, false, List, [], ◌∷◌, length, map, Some, get_or, slice_get, refl, sym, ap, ◌∙◌, arith}
+use Rattle.std.specs.List.{AllByRecursion, IsDistinct}
+use Rattle.std.specs.List.Sorted.{IsNonDecreasingBy, IsPermutation}
+use Rattle.std.proofs.lemmas.Bool.{cases_eq, eq-eqb, ne_eqb}
+use Rattle.std.proofs.lemmas.List.Sorted.{IsPermutation-sym, length_permutation}
+use Rattle.std.proofs.lemmas.Map.Keys.{IsDistinct-IsPermutation, IsDistinct-from_apart, apart_from_distinct}
+use Rattle.std.proofs.lemmas.Option.{get_or_from_slice_get, none-some, same_Some, slice_get-get_or, slice_get_within}
+use Rattle.jc_cap_desc.specs.Shape.{MethodBody}
+use Rattle.jc_cert.specs.Cert.{IsCert, IsRow, IsStated, OffsetsAscend, Row, Stated, row, rows}
+use Rattle.jc_cert.specs.declared.cert.MethodRow.{MethodRow}
+use Rattle.jc_link.specs.Linked.{Linked}
+use Rattle.jc_check.specs.Method.{Method}
+use Rattle.jc_check.specs.Package.{method_of}
+use Rattle.jc_verify.specs.PrivateGathered.{AreGathered, IsInShape, IsRowOf}
+use Rattle.jc_verify.specs.PrivateRefused.{HasSmallCounts}
+use Rattle.jc_verify.proofs.Carrying.{all_by_place}
+use Rattle.jc_verify.proofs.Certified.{moved}
+
+-- each offset is above the one before, from a least one
+offsets_ascend : (cs : List Row) (least : ℕ) → ((n : ℕ) (r : Row) → slice_get cs n ≡ Some r → least ≤ r.offset)
+    → ((j k : ℕ) (r s : Row) → slice_get cs j ≡ Some r → slice_get cs k ≡ Some s → j < k → r.offset < s.offset) → OffsetsAscend least cs
+offsets_ascend [] least from up = tt
+offsets_ascend (c ∷ cs) least from up =
+    (from 0 c refl, offsets_ascend cs (c.offset + 1) (λ n r e. let lt = up 0 (suc n) c r refl e (omega arith) in omega (arith, lt)) (λ j k r s e f lt. up (suc j) (suc k) r s e f (omega (arith, lt))))
+
+all_stated : (m : Method) → length m.arguments + m.max_locals < 2 ^ 16 → (cs : List Stated) → AllByRecursion (IsInShape m) cs → AllByRecursion IsStated cs
+all_stated m few [] h = tt
+all_stated m few (c ∷ cs) h =
+    (record { pc = h.0.pc; locals = omega (arith, h.0.locals, few); depth = h.0.depth; each_local = h.0.each_local; each_operand = h.0.each_operand }, all_stated m few cs h.1)
+
+is_row : (l : Linked) → HasSmallCounts l → (n : ℕ) (r : Row) → IsRowOf l n r → IsRow r
+is_row l small n r h =
+    let order = h.inferred.order in
+    record {
+      offset = h.small;
+      some = h.some;
+      count = order.few;
+      each = all_stated (method_of l h.method) (small.locals h.place h.method h.stands.is) r.states order.each;
+      ascend = order.ascend;
+    }
+
+-- what stands at a place among the rows of rows
+row_of : (ms : List MethodRow) (n : ℕ) (r : Row) → slice_get (rows ms) n ≡ Some r → (x : MethodRow) × (slice_get ms n ≡ Some x) × (row x ≡ r)
+row_of [] n r e = absurd (none-some r e)
+row_of (x ∷ ms) zero r e = (x, refl, same_Some (row x) r e)
+row_of (x ∷ ms) (suc n) r e = row_of ms n r e
+
+module _ (l : Linked) (of : List Row) (seen : List ℕ) (put : List MethodRow) (gathered : AreGathered l (length l.body.kept.methods) of seen) (order : IsPermutation of (rows put))
+    (ascend : IsNonDecreasingBy (λ (m : MethodRow). m.offset) put) (small : HasSmallCounts l) where
+  distinct : IsDistinct (λ (r s : Row). r.offset == s.offset) of
+  distinct =
+      IsDistinct-from_apart (λ (r s : Row). r.offset == s.offset) of (λ i j d lt within.
+      ne_eqb _ _ (λ same.
+      let e = gathered.distinct i j (get_or of i d) (get_or of j d) (slice_get-get_or of i d (omega (arith, lt, within))) (slice_get-get_or of j d within) same in
+      absurd (omega (arith, e, lt))))
+
+  put_distinct : IsDistinct (λ (r s : Row). r.offset == s.offset) (rows put)
+  put_distinct = IsDistinct-IsPermutation (λ (r s : Row). r.offset == s.offset) (λ r s. flips r.offset s.offset) of (rows put) order distinct
+    where
+      flips : (a b : ℕ) → a == b ≡ b == a
+      flips a b = by (cases_eq a b)
+        where
+          by : (a ≡ b) ⊎ (a ≡ b → ⊥) → a == b ≡ b == a
+          by (inl is) = eq-eqb a b is ∙ sym (eq-eqb b a (sym is))
+          by (inr apart) = ne_eqb a b apart ∙ sym (ne_eqb b a (λ e. apart (sym e)))
+
+  lower : (j k : ℕ) (r s : Row) → slice_get (rows put) j ≡ Some r → slice_get (rows put) k ≡ Some s → j < k → r.offset < s.offset
+  lower j k r s e f lt =
+      let x = row_of put j r e in
+      let y = row_of put k s f in
+      let within = slice_get_within put k y.0 y.1 in
+      let le = ascend j k x.0 (omega (arith, lt)) within in
+      let one : get_or put j x.0 ≡ x.0 = get_or_from_slice_get put j x.0 x.0 x.1 in
+      let other : get_or put k x.0 ≡ y.0 = get_or_from_slice_get put k y.0 x.0 y.1 in
+      let a = ap (λ (m : MethodRow). m.offset) one in
+      let b = ap (λ (m : MethodRow). m.offset) other in
+      let c = ap (λ (m : Row). m.offset) x.2 in
+      let d = ap (λ (m : Row). m.offset) y.2 in
+      let past = slice_get_within (rows put) k s f in
+      let apart = apart_from_distinct (λ (p q : Row). p.offset == q.offset) (rows put) j k r put_distinct lt past in
+      let differ : r.offset == s.offset ≡ false = ap (λ (p : Row). p.offset == s.offset) (sym (get_or_from_slice_get (rows put) j r r e)) ∙ ap (λ (q : Row). (get_or (rows put) j r).offset == q.offset) (sym (get_or_from_slice_get (rows put) k s r f)) ∙ apart in
+      below r.offset s.offset (omega (arith, le, a, b, c, d)) differ
+    where
+      below : (a b : ℕ) → a ≤ b → a == b ≡ false → a < b
+      below a b le apart = by (cases_eq a b)
+        where
+          by : (a ≡ b) ⊎ (a ≡ b → ⊥) → a < b
+          by (inl is) = let t : true ≡ false = sym (eq-eqb a b is) ∙ apart in absurd cc
+          by (inr other) = omega (arith, le, other)
+
+  pub is_cert : IsCert (rows put)
+  is_cert = record {
+    count = let n = length_permutation of (rows put) order in omega (arith, n, gathered.few, small.methods);
+    each =
+        all_by_place IsRow (rows put) (λ n r e.
+        let j = moved (rows put) of (IsPermutation-sym of (rows put) order) n r e in
+        is_row l small (length l.body.kept.methods) r (gathered.come j.0 r j.1));
+    ascend = offsets_ascend (rows put) 0 (λ n r e. omega arith) lower;
+  }

@@ -28,7 +28,8 @@ use Rattle.jc_verify.specs.Inferred.{HasAllStates}
 use Rattle.jc_verify.specs.Live.{IsEntered, IsLive, first, behind, by_branch, by_handler, branched, caught}
 use Rattle.jc_verify.specs.PrivateCarrier.{BranchHasPlace, HandlerHasPlace, HasPlace, HasWays, IsCarrier}
 use Rattle.jc_verify.specs.PrivateFlow.{HasLaws, IsNumbered, Places, placed}
-use Rattle.jc_verify.specs.PrivateGathered.{IsDenied, IsUnnamed}
+use Rattle.jc_verify.specs.PrivateGathered.{IsDenied}
+use Rattle.jc_verify.specs.PrivateNames.{KeepsNames}
 use Rattle.jc_verify.specs.PrivateLive.{AreLive}
 use Rattle.jc_verify.specs.declared.place.Place.{Place}
 use Rattle.jc_verify.proofs.Carrying.{all_by_place}
@@ -229,7 +230,7 @@ pub denied : (l : Linked) (laws : HasLaws l) (m : Method) (numbers : List (Optio
     → ((listing : List PlacedInstr) → IsListing instr_at m.code listing → (pc : ℕ) → has_number entries pc ≡ true → IsEntered m listing pc)
     → ((listing : List PlacedInstr) → IsListing instr_at m.code listing → (pc : ℕ) → IsEntered m listing pc → has_number entries pc ≡ true)
     → ((n : ℕ) (p : Place StateWithRoom) → slice_get places n ≡ Some p → has_number entries p.pc ≡ true) → ((pc : ℕ) → pc < length m.code → has_number entries pc ≡ true → HasPlace numbers pc)
-    → ((typing : Typing) → IsCarrier l m numbers typing → ⊥) ⊎ IsUnnamed l m → IsDenied l m
+    → ((typing : Typing) → IsCarrier l m numbers typing → ⊥) ⊎ (KeepsNames l m → ⊥) → IsDenied l m
 denied l laws m numbers places entries numbered live starts entered all at_entries has_place (inr unnamed) = inr unnamed
 denied l laws m numbers places entries numbered live starts entered all at_entries has_place (inl never) = inl (λ can.
     let k : Carries (package_rules l) m can.states = can.carried in

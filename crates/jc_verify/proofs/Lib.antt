@@ -4,6 +4,7 @@ mod Growing
 mod Visiting
 mod Arriving
 mod Lying
+mod Naming
 mod Settling
 mod Counting
 mod Stating

@@ -38,3 +38,7 @@ if_err (Err e) P Q h on = on e h
 pub if_none : {A : Type 0} (o : Option A) (P Q : Type 0) → IfNone o P → (P → Q) → IfNone o Q
 if_none None P Q h on = on h
 if_none (Some x) P Q h on = tt
+
+pub if_ok_four : {A E : Type 0} (r : Result A E) (P Q S T R : A → Type 0) → IfOk r P → IfOk r Q → IfOk r S → IfOk r T → ((x : A) → P x → Q x → S x → T x → R x) → IfOk r R
+if_ok_four (Ok x) P Q S T R h k i j on = on x h k i j
+if_ok_four (Err e) P Q S T R h k i j on = tt

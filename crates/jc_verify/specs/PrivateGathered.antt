@@ -9,9 +9,7 @@ use Rattle.jc_check.specs.Carried.{Carries}
 use Rattle.jc_check.specs.Method.{Method}
 use Rattle.jc_check.specs.Package.{method_of, package_rules}
 use Rattle.jc_verify.specs.Inferred.{AreLeast, AreWhereEntered}
-use Rattle.jc_verify.specs.PrivateFlow.{Places}
-use Rattle.jc_verify.specs.PrivateNames.{HasUnnamed}
-use Rattle.jc_verify.specs.PrivateSettled.{IsFilled}
+use Rattle.jc_verify.specs.PrivateNames.{KeepsNames}
 use Rattle.jc_verify.specs.Refusal.{CanBeCarried}
 use Rattle.jc_verify.specs.declared.gathering.Gathered.{Gathered}
 use Rattle.jc_verify.specs.declared.gathering.Told.{Told}
@@ -80,17 +78,9 @@ pub record AreTwo (l : Linked) (offset : ℕ) : Type 0 where
   pub at_one : one.offset ≡ offset
   pub at_other : other.offset ≡ offset
 
--- places that are filled hold types of which not all classes have names
-pub record IsUnnamed (l : Linked) (m : Method) : Type 0 where
-  pub numbers : List (Option ℕ)
-  pub before : Places
-  pub places : Places
-  pub filled : IsFilled l m numbers before places
-  pub unnamed : HasUnnamed l.world places
-
--- no states carry a method, or it holds what has no name
+-- no states carry a method, or some class in it has no name
 abbrev pub IsDenied : Linked → Method → Type 0
-IsDenied l m = (CanBeCarried l m → ⊥) ⊎ IsUnnamed l m
+IsDenied l m = (CanBeCarried l m → ⊥) ⊎ (KeepsNames l m → ⊥)
 
 -- why a method with code at this offset is told of
 pub data IsTold (l : Linked) (offset : ℕ) : Type 0 where

@@ -1,5 +1,5 @@
 -- Private. How a certificate names classes, and whether its names are found to stand for them.
-use Rattle.std.specs.Prelude.{◌≡◌, ⊤, ℕ, suc, ◌+◌, ◌==◌, List, length, reverse, Option, Some, slice_get, if◌then◌else◌}
+use Rattle.std.specs.Prelude.{◌≡◌, ⊤, ℕ, suc, ◌+◌, ◌==◌, List, length, reverse, Option, Some, Ok, Contains, slice_get, if◌then◌else◌}
 use Rattle.std.specs.List.{AllByRecursion}
 use Rattle.std.specs.Option.{option_and_then, option_map}
 use Rattle.jc_cap_desc.specs.Shape.{Shape}
@@ -7,10 +7,14 @@ use Rattle.jc_cert.specs.declared.stated_type.SpelledClass.{SpelledClass}
 use Rattle.jc_cert.specs.declared.stated_type.SpelledClass.TheVariants as spelled
 use Rattle.jc_classes.specs.declared.name.ClassName.{ClassName}
 use Rattle.jc_classes.specs.declared.name.ClassName.TheVariants.{Api, Loaded}
-use Rattle.jc_types.specs.State.{StateWithRoom, Types}
+use Rattle.jc_classes.specs.Subtype.{is_class_below}
+use Rattle.jc_code.specs.declared.instr.Operation.{Operation}
+use Rattle.jc_link.specs.Linked.{Linked}
+use Rattle.jc_types.specs.State.{IsJoin, StateWithRoom, Types}
+use Rattle.jc_check.specs.Method.{Handler, Method, caught_types, entry_of}
 use Rattle.jc_types.specs.declared.ty.Ty.{Ty}
 use Rattle.jc_types.specs.declared.ty.Ty.TheVariants.{Top, Word, Null, Class, BooleanArray, ByteArray, ShortArray, ReferenceArray}
-use Rattle.jc_check.specs.Package.{class_of_name}
+use Rattle.jc_check.specs.Package.{class_of_name, package_rules}
 use Rattle.jc_verify.specs.declared.place.Place.{Place}
 
 -- how a certificate of a world's last package names a class, if the package of the class is there
@@ -38,6 +42,17 @@ TypeHasName world (ReferenceArray class) = HasName world class
 pub record HasNames (world : List Shape) (t : Types) : Type 0 where
   pub locals : AllByRecursion (TypeHasName world) t.locals
   pub operands : AllByRecursion (TypeHasName world) (reverse t.operands)
+
+-- so it is of what places hold
+abbrev pub AreNamed : List Shape → List (Place StateWithRoom) → Type 0
+AreNamed world places = (n : ℕ) (p : Place StateWithRoom) (s : StateWithRoom) → slice_get places n ≡ Some p → p.held ≡ Some s → HasNames world s.types
+
+-- whatever control flow does to types of a method leaves names to their classes
+pub record KeepsNames (l : Linked) (m : Method) : Type 0 where
+  pub entry : HasNames l.world (entry_of m)
+  pub effect : (operation : Operation) (s t : Types) → HasNames l.world s → (package_rules l).effect m.max_stack m.returned operation s ≡ Ok t → HasNames l.world t
+  pub caught : (h : Handler) (class : ClassName) (s : Types) → Contains m.handlers h → h.caught ≡ Some class → HasNames l.world s → HasNames l.world (caught_types class s)
+  pub join : (s t u : Types) → HasNames l.world s → HasNames l.world t → IsJoin (is_class_below l.world) s t u → HasNames l.world u
 
 -- a place holds types, of which not all classes have names
 pub record IsUnnamedPlace (world : List Shape) (p : Place StateWithRoom) : Type 0 where

@@ -1,6 +1,6 @@
 -- Private. The places of a method that control flow enters by a branch or a handler, and what they hold while a certificate is
 -- worked out.
-use Rattle.std.specs.Prelude.{◌≡◌, ◌⊎◌, ◌<◌, ℕ, suc, ◌+◌, Bool, true, false, List, [], ◌∷◌, length, Some, slice_get}
+use Rattle.std.specs.Prelude.{◌≡◌, ◌⊎◌, ◌<◌, ℕ, suc, ◌+◌, Bool, true, false, List, [], ◌∷◌, length, None, Some, slice_get}
 use Rattle.std.specs.Option.{option_map_or}
 use Rattle.jc_verify.specs.declared.place.Place.{Place}
 
@@ -17,6 +17,11 @@ pub record HoldsAbove {L : Type 0} (below : L → L → Bool) (p : Place L) (x :
 -- what a place holds lies below a value
 abbrev pub IsHeldBelow : {L : Type 0} → (L → L → Bool) → Place L → L → Type 0
 IsHeldBelow {L} below p z = (x : L) → p.held ≡ Some x → below x z ≡ true
+
+-- a place that held nothing holds a value now, or the least above that value and the one that it held
+pub data IsTakenIn {L : Type 0} (below : L → L → Bool) (before after : Place L) (x : L) : Type 0 where
+  put : before.held ≡ None → after.held ≡ Some x → IsTakenIn below before after x
+  joined : (y z : L) → before.held ≡ Some y → after.held ≡ Some z → below y z ≡ true → below x z ≡ true → ((u : L) → below y u ≡ true → below x u ≡ true → below z u ≡ true) → IsTakenIn below before after x
 
 -- a place holds a value that isn't of one shape with another
 pub record IsUnlike {L : Type 0} (fits : L → L → Bool) (p : Place L) (x : L) : Type 0 where

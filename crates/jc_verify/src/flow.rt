@@ -8,6 +8,8 @@ ghost use Rattle.jc_check.specs.Method.{caught_types};
 ghost use Rattle.jc_check.specs.Package.{package_rules};
 ghost use Rattle.jc_check.specs.Typing.{BranchLeads, HandlerLeads, Leads, Typing};
 ghost use Rattle.jc_verify.specs.PrivateStop.{fault_at};
+ghost use Rattle.jc_classes.specs.declared.name.ClassName.{ClassName as ClassNameOf};
+ghost use Rattle.jc_verify.specs.PrivateNames.{AreNamed, HasNames, KeepsNames};
 ghost use Rattle.jc_verify.specs.PrivateCarrier.{BranchHasPlace, HandlerHasPlace, HasPlace, IsCarrier, IsDecodedAt};
 ghost use Rattle.jc_verify.specs.declared.place.NotTaken.TheVariants.{Unlike};
 ghost use Rattle.jc_verify.specs.declared.stop.Stop.TheVariants.{Refused};
@@ -74,6 +76,7 @@ fn arrive(
         → Leads (package_rules flow.now.linked.now) typing state.now.types pc → IsUnder flow.now.linked.now flow.now.numbers.now places.new typing) }
     ensures unlike { IfErr result (λ why. why ≡ Unlike → (typing : Typing) (pc : ℕ) → number_at flow.now.numbers.now pc ≡ Some number → IsUnder flow.now.linked.now flow.now.numbers.now places.old typing
         → Leads (package_rules flow.now.linked.now) typing state.now.types pc → ⊥) }
+    ensures named { IfOk result (λ u. KeepsNames flow.now.linked.now flow.now.method.now → AreNamed flow.now.linked.now.world places.old → HasNames flow.now.linked.now.world state.now.types → AreNamed flow.now.linked.now.world places.new) }
 {
     let _depth = state.depth();
     let linked = flow.linked;
@@ -97,6 +100,7 @@ fn arrive_at(
     ensures none { IfOk result (λ is. is ≡ false → number_at flow.now.numbers.now pc ≡ None) }
     ensures least { IfOk result (λ is. (typing : Typing) → IsUnder flow.now.linked.now flow.now.numbers.now places.old typing
         → Leads (package_rules flow.now.linked.now) typing state.now.types pc → IsUnder flow.now.linked.now flow.now.numbers.now places.new typing) }
+    ensures named { IfOk result (λ is. KeepsNames flow.now.linked.now flow.now.method.now → AreNamed flow.now.linked.now.world places.old → HasNames flow.now.linked.now.world state.now.types → AreNamed flow.now.linked.now.world places.new) }
     ensures refused { IfErr result (λ stop. (reason : Reason) → stop ≡ Refused reason → (typing : Typing) → IsUnder flow.now.linked.now flow.now.numbers.now places.old typing
         → Leads (package_rules flow.now.linked.now) typing state.now.types pc → ⊥) }
 {
@@ -128,6 +132,7 @@ fn catch_at(
     ensures caught { HasRoom flow.now.method.now caught.new }
     ensures least { IfOk result (λ u. (typing : Typing) → IsUnder flow.now.linked.now flow.now.numbers.now places.old typing
         → Leads (package_rules flow.now.linked.now) typing (caught_types class state.now.types) goes_on → IsUnder flow.now.linked.now flow.now.numbers.now places.new typing) }
+    ensures named { IfOk result (λ u. KeepsNames flow.now.linked.now flow.now.method.now → AreNamed flow.now.linked.now.world places.old → HasNames flow.now.linked.now.world (caught_types class state.now.types) → AreNamed flow.now.linked.now.world places.new) }
     ensures refused { IfErr result (λ stop. (reason : Reason) → stop ≡ Refused reason → (typing : Typing) → IsCarrier flow.now.linked.now flow.now.method.now flow.now.numbers.now typing → IsUnder flow.now.linked.now flow.now.numbers.now places.old typing
         → Leads (package_rules flow.now.linked.now) typing (caught_types class state.now.types) goes_on → HasPlace flow.now.numbers.now goes_on → ⊥) }
 {
@@ -164,6 +169,7 @@ fn handle(
     ensures caught { HasRoom flow.now.method.now caught.new }
     ensures least { IfOk result (λ u. (typing : Typing) → IsUnder flow.now.linked.now flow.now.numbers.now places.old typing
         → HandlerLeads (package_rules flow.now.linked.now) typing pc state.now.types handler.now → IsUnder flow.now.linked.now flow.now.numbers.now places.new typing) }
+    ensures named { IfOk result (λ u. KeepsNames flow.now.linked.now flow.now.method.now → AreNamed flow.now.linked.now.world places.old → ((class : ClassNameOf) → handler.now.caught ≡ Some class → HasNames flow.now.linked.now.world (caught_types class state.now.types)) → AreNamed flow.now.linked.now.world places.new) }
     ensures refused { IfErr result (λ stop. (reason : Reason) → stop ≡ Refused reason → (typing : Typing) → IsCarrier flow.now.linked.now flow.now.method.now flow.now.numbers.now typing → IsUnder flow.now.linked.now flow.now.numbers.now places.old typing
         → HandlerLeads (package_rules flow.now.linked.now) typing pc state.now.types handler.now → HandlerHasPlace flow.now.numbers.now pc handler.now → ⊥) }
 {
@@ -194,6 +200,7 @@ fn handle_all(
     ensures caught { HasRoom flow.now.method.now caught.new }
     ensures least { IfOk result (λ u. (typing : Typing) → IsUnder flow.now.linked.now flow.now.numbers.now places.old typing
         → AllByRecursion (HandlerLeads (package_rules flow.now.linked.now) typing pc state.now.types) flow.now.method.now.handlers → IsUnder flow.now.linked.now flow.now.numbers.now places.new typing) }
+    ensures named { IfOk result (λ u. KeepsNames flow.now.linked.now flow.now.method.now → AreNamed flow.now.linked.now.world places.old → HasNames flow.now.linked.now.world state.now.types → AreNamed flow.now.linked.now.world places.new) }
     ensures refused { IfErr result (λ stop. (reason : Reason) → stop ≡ Refused reason → (typing : Typing) → IsCarrier flow.now.linked.now flow.now.method.now flow.now.numbers.now typing → IsUnder flow.now.linked.now flow.now.numbers.now places.old typing
         → AllByRecursion (HandlerLeads (package_rules flow.now.linked.now) typing pc state.now.types) flow.now.method.now.handlers → AllByRecursion (HandlerHasPlace flow.now.numbers.now pc) flow.now.method.now.handlers → ⊥) }
 {
@@ -221,6 +228,7 @@ fn branch_to(
         → (place : ℤ) → slice_get targets.now index ≡ Some place → BranchLeads (package_rules flow.now.linked.now) (held_at flow.now.numbers.now final) state.now.types place) }
     ensures least { IfOk result (λ u. (typing : Typing) → IsUnder flow.now.linked.now flow.now.numbers.now places.old typing
         → ((place : ℤ) → slice_get targets.now index ≡ Some place → BranchLeads (package_rules flow.now.linked.now) typing state.now.types place) → IsUnder flow.now.linked.now flow.now.numbers.now places.new typing) }
+    ensures named { IfOk result (λ u. KeepsNames flow.now.linked.now flow.now.method.now → AreNamed flow.now.linked.now.world places.old → HasNames flow.now.linked.now.world state.now.types → AreNamed flow.now.linked.now.world places.new) }
     ensures refused { IfErr result (λ stop. (reason : Reason) → stop ≡ Refused reason → (typing : Typing) → IsUnder flow.now.linked.now flow.now.numbers.now places.old typing
         → ((place : ℤ) → slice_get targets.now index ≡ Some place → BranchLeads (package_rules flow.now.linked.now) typing state.now.types place) → ((place : ℤ) → slice_get targets.now index ≡ Some place → BranchHasPlace flow.now.numbers.now place) → ⊥) }
 {
@@ -251,6 +259,7 @@ fn branch_all(
         → AllByRecursion (BranchLeads (package_rules flow.now.linked.now) (held_at flow.now.numbers.now final) state.now.types) (targets_of pc instr.now.operation)) }
     ensures least { IfOk result (λ u. (typing : Typing) → IsUnder flow.now.linked.now flow.now.numbers.now places.old typing
         → AllByRecursion (BranchLeads (package_rules flow.now.linked.now) typing state.now.types) (targets_of pc instr.now.operation) → IsUnder flow.now.linked.now flow.now.numbers.now places.new typing) }
+    ensures named { IfOk result (λ u. KeepsNames flow.now.linked.now flow.now.method.now → AreNamed flow.now.linked.now.world places.old → HasNames flow.now.linked.now.world state.now.types → AreNamed flow.now.linked.now.world places.new) }
     ensures refused { IfErr result (λ stop. (reason : Reason) → stop ≡ Refused reason → (typing : Typing) → IsUnder flow.now.linked.now flow.now.numbers.now places.old typing
         → AllByRecursion (BranchLeads (package_rules flow.now.linked.now) typing state.now.types) (targets_of pc instr.now.operation) → AllByRecursion (BranchHasPlace flow.now.numbers.now) (targets_of pc instr.now.operation) → ⊥) }
 {
@@ -278,6 +287,7 @@ pub(crate) fn fall_to(
     ensures within { IfOk result (λ on. pc < length flow.now.method.now.code) }
     ensures least { IfOk result (λ on. (typing : Typing) → IsUnder flow.now.linked.now flow.now.numbers.now places.old typing
         → Leads (package_rules flow.now.linked.now) typing state.now.types pc → IsUnder flow.now.linked.now flow.now.numbers.now places.new typing) }
+    ensures named { IfOk result (λ on. KeepsNames flow.now.linked.now flow.now.method.now → AreNamed flow.now.linked.now.world places.old → HasNames flow.now.linked.now.world state.now.types → AreNamed flow.now.linked.now.world places.new) }
     ensures refused { IfErr result (λ stop. (reason : Reason) → stop ≡ Refused reason → (typing : Typing) → IsUnder flow.now.linked.now flow.now.numbers.now places.old typing
         → Leads (package_rules flow.now.linked.now) typing state.now.types pc → pc < length flow.now.method.now.code → ⊥) }
 {
@@ -326,6 +336,7 @@ fn visit(
     ensures room { IfOk result (λ on. HasRoom flow.now.method.now state.new) }
     ensures least { IfOk result (λ on. (typing : Typing) → IsUpper flow.now.linked.now flow.now.method.now typing → IsUnder flow.now.linked.now flow.now.numbers.now places.old typing
         → Leads (package_rules flow.now.linked.now) typing state.old.types pc → IsUnder flow.now.linked.now flow.now.numbers.now places.new typing × (on ≡ true → Leads (package_rules flow.now.linked.now) typing state.new.types instr.now.next_pc)) }
+    ensures named { IfOk result (λ on. KeepsNames flow.now.linked.now flow.now.method.now → AreNamed flow.now.linked.now.world places.old → HasNames flow.now.linked.now.world state.old.types → AreNamed flow.now.linked.now.world places.new × HasNames flow.now.linked.now.world state.new.types) }
     ensures refused { IfErr result (λ stop. (reason : Reason) → stop ≡ Refused reason → (typing : Typing) → IsCarrier flow.now.linked.now flow.now.method.now flow.now.numbers.now typing → IsUnder flow.now.linked.now flow.now.numbers.now places.old typing
         → Leads (package_rules flow.now.linked.now) typing state.old.types pc → ⊥) }
 {
@@ -372,6 +383,7 @@ pub(crate) fn follow(
     ensures room { IfOk result (λ u. HasRoom flow.now.method.now state.new) }
     ensures least { IfOk result (λ u. (typing : Typing) → IsUpper flow.now.linked.now flow.now.method.now typing → IsUnder flow.now.linked.now flow.now.numbers.now places.old typing
         → Leads (package_rules flow.now.linked.now) typing state.old.types start → IsUnder flow.now.linked.now flow.now.numbers.now places.new typing) }
+    ensures named { IfOk result (λ u. KeepsNames flow.now.linked.now flow.now.method.now → AreNamed flow.now.linked.now.world places.old → HasNames flow.now.linked.now.world state.old.types → AreNamed flow.now.linked.now.world places.new) }
     ensures refused { IfErr result (λ fault. (pc : ℕ) (reason : Reason) → fault ≡ faults.Refused pc reason → (typing : Typing) → IsCarrier flow.now.linked.now flow.now.method.now flow.now.numbers.now typing → IsUnder flow.now.linked.now flow.now.numbers.now places.old typing
         → Leads (package_rules flow.now.linked.now) typing state.old.types start → ⊥) }
 {

@@ -5,12 +5,13 @@ ghost use Rattle.jc_base.specs.declared.reason.Reason.{Reason};
 ghost use Rattle.jc_cert.specs.Cert.{stated};
 ghost use Rattle.jc_check.specs.Typing.{Typing};
 ghost use Rattle.jc_check.specs.declared.fault.WordFault.TheVariants.{Refused};
+ghost use Rattle.jc_verify.specs.PrivateNames.{KeepsNames};
 ghost use Rattle.jc_verify.specs.PrivateCarrier.{IsCarrier};
 ghost use Rattle.jc_types.specs.State.{StateWithRoom};
 ghost use Rattle.jc_verify.specs.declared.place.Place.{Place as PlaceOf};
 ghost use Rattle.jc_check.specs.Package.{class_of_name};
 ghost use Rattle.jc_verify.specs.PrivateFlow.{HasLaws, IsNumbered, Places};
-ghost use Rattle.jc_verify.specs.PrivateGathered.{IsDenied, IsInferred, IsUnnamed};
+ghost use Rattle.jc_verify.specs.PrivateGathered.{IsDenied, IsInferred};
 ghost use Rattle.jc_verify.specs.PrivateSettled.{IsFilled};
 ghost use Rattle.jc_verify.specs.PrivateStated.{AreStateRows};
 
@@ -36,7 +37,7 @@ fn rows_in(flow: &Flow, places: &mut [Place<State>]) -> Result<Vec<StateRow>, Wo
     ensures rows { IfOk result (λ rows. (final : Places) × IsFilled flow.now.linked.now flow.now.method.now flow.now.numbers.now places.old final
         × AreStateRows (class_of_name flow.now.linked.now.world) final (map stated rows.items)) }
     ensures refused { IfErr result (λ fault. (pc : ℕ) (reason : Reason) → fault ≡ Refused pc reason
-        → ((typing : Typing) → IsCarrier flow.now.linked.now flow.now.method.now flow.now.numbers.now typing → ⊥) ⊎ IsUnnamed flow.now.linked.now flow.now.method.now) }
+        → ((typing : Typing) → IsCarrier flow.now.linked.now flow.now.method.now flow.now.numbers.now typing → ⊥) ⊎ (KeepsNames flow.now.linked.now flow.now.method.now → ⊥)) }
 {
     fill(flow, places)?;
     let linked = flow.linked;

@@ -1,7 +1,7 @@
 //! Places of a method that control flow enters by a branch or a handler, and what they hold.
 
 ghost use Rattle.std.specs.Prelude.{◌≡◌, ◌<◌, ◌≤◌, ℕ, true, false, Some, IfOk, IfErr};
-ghost use Rattle.jc_verify.specs.PrivatePlaces.{HoldsAbove, IsHeldBelow, IsStep, IsUnlike};
+ghost use Rattle.jc_verify.specs.PrivatePlaces.{HoldsAbove, IsHeldBelow, IsStep, IsTakenIn, IsUnlike};
 ghost use Rattle.jc_verify.specs.declared.place.NotTaken.TheVariants.{Memory, Unlike};
 
 use jc_types::Lattice;
@@ -63,6 +63,7 @@ pub(crate) fn take_in<L: Lattice + Drop>(
     ensures step { IfOk result (λ u. (most : ℕ) → L.height_of table.now value.now ≤ most → IsStep (L.lies_below table.now) (L.height_of table.now) most place.old place.new) }
     ensures holds { IfOk result (λ u. HoldsAbove (L.lies_below table.now) place.new value.now) }
     ensures least { IfOk result (λ u. (z : L) → IsHeldBelow (L.lies_below table.now) place.old z → L.lies_below table.now value.now z ≡ true → IsHeldBelow (L.lies_below table.now) place.new z) }
+    ensures taken { IfOk result (λ u. IsTakenIn (L.lies_below table.now) place.old place.new value.now) }
     ensures unlike { IfErr result (λ why. why ≡ Unlike → IsUnlike L.fits place.old value.now) }
 {
     match &mut place.held {

@@ -6,6 +6,7 @@ ghost use Rattle.jc_check.specs.Method.{entry_of};
 ghost use Rattle.jc_check.specs.Typing.{Typing};
 ghost use Rattle.jc_check.specs.declared.fault.WordFault.TheVariants.{Refused};
 ghost use Rattle.jc_types.specs.State.{StateWithRoom};
+ghost use Rattle.jc_verify.specs.PrivateNames.{AreNamed, KeepsNames};
 ghost use Rattle.jc_verify.specs.PrivateCarrier.{IsCarrier};
 ghost use Rattle.jc_verify.specs.PrivateFlow.{AreShaped, Grown, HasLaws, HasRoom, HasShape, IsNumbered, IsUnder, IsUpper, Places, Risen, types_held};
 ghost use Rattle.jc_verify.specs.declared.place.Place.{Place as PlaceOf};
@@ -190,6 +191,7 @@ fn settle(
     ensures closed { IfOk result (λ u. AreAllClosed flow.now.linked.now flow.now.method.now flow.now.numbers.now places.new) }
     ensures under { IfOk result (λ u. (typing : Typing) → IsUpper flow.now.linked.now flow.now.method.now typing → IsUnder flow.now.linked.now flow.now.numbers.now places.old typing
         → IsUnder flow.now.linked.now flow.now.numbers.now places.new typing) }
+    ensures named { IfOk result (λ u. KeepsNames flow.now.linked.now flow.now.method.now → AreNamed flow.now.linked.now.world places.old → AreNamed flow.now.linked.now.world places.new) }
     ensures refused { IfErr result (λ fault. (pc : ℕ) (reason : Reason) → fault ≡ Refused pc reason → (typing : Typing) → IsCarrier flow.now.linked.now flow.now.method.now flow.now.numbers.now typing → IsUnder flow.now.linked.now flow.now.numbers.now places.old typing → ⊥) }
 {
     let mut forwards = true;
@@ -221,6 +223,7 @@ fn enter(
     ensures room { IfOk result (λ u. HasRoom flow.now.method.now state.new) }
     ensures under { IfOk result (λ u. (typing : Typing) → IsUpper flow.now.linked.now flow.now.method.now typing → IsUnder flow.now.linked.now flow.now.numbers.now places.old typing
         → IsUnder flow.now.linked.now flow.now.numbers.now places.new typing) }
+    ensures named { IfOk result (λ u. KeepsNames flow.now.linked.now flow.now.method.now → AreNamed flow.now.linked.now.world places.old → AreNamed flow.now.linked.now.world places.new) }
     ensures refused { IfErr result (λ fault. (pc : ℕ) (reason : Reason) → fault ≡ Refused pc reason → (typing : Typing) → IsCarrier flow.now.linked.now flow.now.method.now flow.now.numbers.now typing → IsUnder flow.now.linked.now flow.now.numbers.now places.old typing → ⊥) }
 {
     match fall_to(flow, places, state, 0) {

@@ -3,6 +3,7 @@ use Rattle.std.proofs.lemmas.Option.{slice_get-get_or}
 use Rattle.jc_verify.proofs.Arriving.{arrived, leads_in, in_room, low_enough}
 use Rattle.jc_verify.proofs.Visiting.{if_err, if_ok, if_ok_both}
 use Rattle.jc_verify.proofs.Lying.{never_unlike, under_arrived}
+use Rattle.jc_verify.proofs.Naming.{named_arrived}
 use Rattle.jc_verify.proofs.flow.arrive.Goals as goal
 
 pub returns-clause-grown : goal.returns-clause-grown
@@ -39,3 +40,9 @@ returns-clause-unlike c =
     let at = slice_get-get_or c.args.places.now c.args.number c.index-places-number.result c.requires.there in
     if_err c.take_in.result _ _ c.take_in.ensures.unlike (λ why unlike is_unlike typing pc is under leads.
     never_unlike c.args.flow.now.linked.now c.requires.laws c.args.flow.now.method.now c.args.flow.now.numbers.now c.args.places.now c.requires.numbered typing under c.args.number pc _ c.args.state.now at is leads (unlike is_unlike))
+
+pub returns-clause-named : goal.returns-clause-named
+returns-clause-named c =
+    let at = slice_get-get_or c.args.places.now c.args.number c.index-places-number.result c.requires.there in
+    let taken = rw c.table.ensures.table at c.take_in.ensures.taken in
+    if_ok c.take_in.result _ _ taken (λ u taken. named_arrived c.args.flow.now.linked.now c.args.flow.now.method.now c.args.places.now c.args.number _ c.take_in.new.place at c.args.state.now taken)

@@ -11,14 +11,21 @@ use Rattle.jc_verify.proofs.Passing.{all_at}
 use Rattle.jc_verify.proofs.flow.branch_all.Goals as goal
 
 pub loop-index-init : goal.loop-index-init
-loop-index-init c = passed_none c.args.flow.now.linked.now c.requires.laws c.args.flow.now.method.now c.args.flow.now.numbers.now _ _ c.args.places.now c.requires.numbered
+loop-index-init c = record {
+  passed = passed_none c.args.flow.now.linked.now c.requires.laws c.args.flow.now.method.now c.args.flow.now.numbers.now _ _ c.args.places.now c.requires.numbered;
+  named = λ keeps h names. h;
+}
 
 pub loop-index-preserved : goal.loop-index-preserved
 loop-index-preserved c =
     let at = slice_get-get_or c.targets-targets.result c.loop-index.index (pos 0) (omega (arith, c.loop-index-test.true, c.len-index-end.ensures)) in
-    passed_one c.args.flow.now.linked.now c.requires.laws c.args.flow.now.method.now c.args.flow.now.numbers.now _ _ c.loop-index.index _ c.args.places.now c.loop-index.places c.branch_to.new.places c.loop-index.invariant at
+    record {
+      passed =
+          passed_one c.args.flow.now.linked.now c.requires.laws c.args.flow.now.method.now c.args.flow.now.numbers.now _ _ c.loop-index.index _ c.args.places.now c.loop-index.places c.branch_to.new.places c.loop-index.invariant.passed at
     c.in_ok-branch_to.ensures.grown (λ final g. c.in_ok-branch_to.ensures.met final g _ at)
-    (λ typing under leads. c.in_ok-branch_to.ensures.least typing under (λ place e. subst (BranchLeads (package_rules c.args.flow.now.linked.now) typing c.args.state.now.types) (same_Some _ place (sym at ∙ e)) leads))
+    (λ typing under leads. c.in_ok-branch_to.ensures.least typing under (λ place e. subst (BranchLeads (package_rules c.args.flow.now.linked.now) typing c.args.state.now.types) (same_Some _ place (sym at ∙ e)) leads));
+      named = λ keeps h names. c.in_ok-branch_to.ensures.named keeps (c.loop-index.invariant.named keeps h names) names;
+    }
 
 pub returns-in_err-branch_to-clause-refused : goal.returns-in_err-branch_to-clause-refused
 returns-in_err-branch_to-clause-refused c =
@@ -27,4 +34,4 @@ returns-in_err-branch_to-clause-refused c =
     rw (p.1, p.2) (λ reason is typing under leads places.
     let lead : AllByRecursion (BranchLeads (package_rules c.args.flow.now.linked.now) typing c.args.state.now.types) targets = rw c.targets-targets.ensures leads in
     let have : AllByRecursion (BranchHasPlace c.args.flow.now.numbers.now) targets = rw c.targets-targets.ensures places in
-    c.in_err-branch_to.ensures.refused reason is typing (c.loop-index.invariant.under typing under lead) (λ place e. all_at _ targets c.loop-index.index place e lead) (λ place e. all_at _ targets c.loop-index.index place e have))
+    c.in_err-branch_to.ensures.refused reason is typing (c.loop-index.invariant.passed.under typing under lead) (λ place e. all_at _ targets c.loop-index.index place e lead) (λ place e. all_at _ targets c.loop-index.index place e have))

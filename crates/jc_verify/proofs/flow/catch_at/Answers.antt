@@ -3,6 +3,7 @@ use Rattle.std.proofs.lemmas.Result.{err_from_is_err_and}
 use Rattle.jc_check.specs.Method.{Method}
 use Rattle.jc_check.specs.Package.{package_rules}
 use Rattle.jc_check.specs.Typing.{Leads}
+use Rattle.jc_verify.specs.PrivateNames.{HasNames}
 use Rattle.jc_verify.proofs.Denying.{no_room}
 use Rattle.jc_verify.proofs.flow.catch_at.Goals as goal
 
@@ -17,3 +18,8 @@ returns-in_err-arrive_at-clause-refused c =
     rw (p.1, p.2) (λ reason is typing carrier under leads place.
     let there : Leads (package_rules c.args.flow.now.linked.now) typing c.load.new.self.types c.from.result = search rules in
     c.in_err-arrive_at.ensures.refused reason is typing under there)
+
+pub returns-then-branch-clause-named : goal.returns-then-branch-clause-named
+returns-then-branch-clause-named c keeps h names =
+    let there : HasNames c.args.flow.now.linked.now.world c.load.new.self.types = search rules in
+    c.in_ok-arrive_at.ensures.named keeps h there

@@ -13,6 +13,7 @@ loop-instr-init c = record {
   room = c.requires.room;
   within = c.requires.within;
   under = λ typing upper under leads. (under, leads);
+  named = λ keeps h names. (h, names);
   rest = λ final g h. h;
 }
 
@@ -32,6 +33,7 @@ loop-instr-preserved c =
           let now = c.loop-instr.invariant.under typing upper under leads in
           let next = visited.least typing upper now.0 now.1 in
           (next.0, next.1 c.in-Ok-true.field-0-test);
+      named = λ keeps h names. let now = c.loop-instr.invariant.named keeps h names in visited.named keeps now.0 now.1;
       rest = λ final g h.
           let If : Bool → Type 0 = λ on. ClosedIf on (package_rules l) m numbers (held_at numbers final) c.in-Some.instr.next_pc c.visit.new.state.types in
           c.loop-instr.invariant.rest final (risen_through l c.requires.laws m numbers c.loop-instr.places c.visit.new.places final visited.grown.risen g) (visited.closed final g (subst If (sym c.in-Ok-true.field-0-test) h));
@@ -63,3 +65,6 @@ pub returns-in-Err-clause-refused : goal.returns-in-Err-clause-refused
 returns-in-Err-clause-refused c at reason is typing carrier under leads =
     let now = c.loop-instr.invariant.under typing carrier.upper under leads in
     c.in-Err.ensures.refused reason (stop_told c.loop-instr.pc at c.in-Err.stop reason (sym c.told_at-in-Err.ensures ∙ is)) typing carrier now.0 now.1
+
+pub returns-in-Ok-false-clause-named : goal.returns-in-Ok-false-clause-named
+returns-in-Ok-false-clause-named c keeps h names = let now = c.loop-instr.invariant.named keeps h names in (c.in-Ok-false.ensures.named keeps now.0 now.1).0

@@ -1,18 +1,20 @@
-use Rattle.std.proofs.Common.{length, refl}
-use Rattle.std.specs.List.{AllByRecursion}
+use Rattle.std.proofs.Common.{List, length, refl, subst}
+use Rattle.std.specs.List.{AllByRecursion, Contains}
+use Rattle.jc_check.specs.Method.{Handler}
 use Rattle.jc_check.specs.Package.{package_rules}
 use Rattle.jc_check.specs.Typing.{HandlerLeads}
 use Rattle.jc_verify.specs.PrivateCarrier.{HandlerHasPlace}
 use Rattle.std.proofs.lemmas.Option.{slice_get_read}
 use Rattle.std.proofs.lemmas.Result.{err_from_is_err_and}
 use Rattle.jc_verify.proofs.Growing.{passed_none, passed_one}
-use Rattle.jc_verify.proofs.Passing.{all_at}
+use Rattle.jc_verify.proofs.Passing.{all_at, contains_at}
 use Rattle.jc_verify.proofs.flow.handle_all.Goals as goal
 
 pub loop-index-init : goal.loop-index-init
 loop-index-init c = record {
   passed = passed_none c.args.flow.now.linked.now c.requires.laws c.args.flow.now.method.now c.args.flow.now.numbers.now _ _ c.args.places.now c.requires.numbered;
   room = c.requires.caught;
+  named = λ keeps h names. h;
 }
 
 pub loop-index-preserved : goal.loop-index-preserved
@@ -23,6 +25,10 @@ loop-index-preserved c =
           passed_one c.args.flow.now.linked.now c.requires.laws c.args.flow.now.method.now c.args.flow.now.numbers.now _ _ c.loop-index.index c.index-handlers-index.result c.args.places.now c.loop-index.places c.handle.new.places
           c.loop-index.invariant.passed at c.in_ok-handle.ensures.grown (λ final g. c.in_ok-handle.ensures.met final g) (λ typing under leads. c.in_ok-handle.ensures.least typing under leads);
       room = c.handle.ensures.caught;
+      named = λ keeps h names.
+          let among : Contains c.args.flow.now.method.now.handlers c.index-handlers-index.result =
+              subst (λ (hs : List Handler). Contains hs c.index-handlers-index.result) c.handlers-handlers.ensures (contains_at handlers c.loop-index.index c.index-handlers-index.result at) in
+          c.in_ok-handle.ensures.named keeps (c.loop-index.invariant.named keeps h names) (λ class is. keeps.caught c.index-handlers-index.result class c.args.state.now.types among is names);
     }
 
 pub returns-in_err-handle-clause-refused : goal.returns-in_err-handle-clause-refused

@@ -95,3 +95,14 @@ returns-then-falls_through-clause-refused c =
     let fine = fine_down l c.requires.laws m typing carrier.upper c.args.pc c.args.instr.now c.args.state.now.types c.take_effect.new.state.types leads c.requires.decoded c.in_ok-take_effect.ensures.became in
     refused reason is typing (c.in_ok-branch_all.ensures.least typing (c.in_ok-handle_all.ensures.least typing under fine.handled) fine.branches) (fine.falls falls)
     ((ways_there l c.requires.laws m c.args.flow.now.numbers.now typing carrier c.args.pc c.args.instr.now c.args.state.now.types leads c.requires.decoded).within falls))
+
+pub returns-then-falls_through-clause-named : goal.returns-then-falls_through-clause-named
+returns-then-falls_through-clause-named c =
+    if_ok c.fall_to.result _ _ c.fall_to.ensures.named (λ on named keeps h names.
+    let after = keeps.effect c.args.instr.now.operation c.args.state.now.types c.take_effect.new.state.types names c.in_ok-take_effect.ensures.became in
+    (named keeps (c.in_ok-branch_all.ensures.named keeps (c.in_ok-handle_all.ensures.named keeps h names) after) after, after))
+
+pub returns-else-falls_through-clause-named : goal.returns-else-falls_through-clause-named
+returns-else-falls_through-clause-named c keeps h names =
+    let after = keeps.effect c.args.instr.now.operation c.args.state.now.types c.take_effect.new.state.types names c.in_ok-take_effect.ensures.became in
+    (c.in_ok-branch_all.ensures.named keeps (c.in_ok-handle_all.ensures.named keeps h names) after, after)

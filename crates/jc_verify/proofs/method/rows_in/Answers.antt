@@ -1,5 +1,6 @@
 use Rattle.std.proofs.Common.{inl, inr}
 use Rattle.std.proofs.lemmas.Result.{err_from_is_err_and}
+use Rattle.jc_verify.proofs.Naming.{never_unnamed}
 use Rattle.jc_verify.proofs.Visiting.{if_err, if_ok}
 use Rattle.jc_verify.proofs.method.rows_in.Goals as goal
 
@@ -14,4 +15,4 @@ returns-clause-rows c = if_ok c.stated_rows.result _ _ (rw c.table.ensures.table
 pub returns-clause-refused : goal.returns-clause-refused
 returns-clause-refused c =
     if_err c.stated_rows.result _ _ (rw c.table.ensures.table at c.stated_rows.ensures.refused) (λ fault unnamed pc reason is.
-    inr (record { numbers = c.args.flow.now.numbers.now; before = c.args.places.now; places = c.fill.new.places; filled = c.in_ok-fill.ensures.filled; unnamed = unnamed pc reason is }))
+    inr (λ keeps. never_unnamed c.args.flow.now.linked.now c.fill.new.places (c.in_ok-fill.ensures.filled.named keeps) (unnamed pc reason is)))

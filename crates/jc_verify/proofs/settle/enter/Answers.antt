@@ -1,6 +1,7 @@
 use Rattle.std.proofs.Common.{subst, sym, ◌∙◌}
 use Rattle.jc_check.specs.Package.{package_rules}
 use Rattle.jc_check.specs.Typing.{Leads}
+use Rattle.jc_verify.specs.PrivateNames.{HasNames}
 use Rattle.jc_verify.proofs.Denying.{stop_told}
 use Rattle.jc_verify.proofs.Growing.{grown_through}
 use Rattle.jc_verify.proofs.Visiting.{if_err, if_ok}
@@ -31,3 +32,12 @@ pub returns-in-Err-clause-refused : goal.returns-in-Err-clause-refused
 returns-in-Err-clause-refused c pc reason is typing carrier under =
     let entry = subst (λ t. Leads (package_rules c.args.flow.now.linked.now) typing t 0) (sym c.requires.entry) carrier.upper.entry in
     c.in-Err.ensures.refused reason (stop_told 0 pc c.in-Err.stop reason (sym c.told_at.ensures ∙ is)) typing under entry carrier.some
+
+pub returns-in-Ok-true-clause-named : goal.returns-in-Ok-true-clause-named
+returns-in-Ok-true-clause-named c =
+    if_ok c.follow.result _ _ c.follow.ensures.named (λ u named keeps h.
+    let entry = subst (HasNames c.args.flow.now.linked.now.world) (sym c.requires.entry) keeps.entry in
+    named keeps (c.in-Ok-true.ensures.named keeps h entry) entry)
+
+pub returns-in-Ok-false-clause-named : goal.returns-in-Ok-false-clause-named
+returns-in-Ok-false-clause-named c keeps h = c.in-Ok-false.ensures.named keeps h (subst (HasNames c.args.flow.now.linked.now.world) (sym c.requires.entry) keeps.entry)

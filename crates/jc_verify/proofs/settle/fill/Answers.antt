@@ -1,7 +1,8 @@
 use Rattle.std.proofs.lemmas.Result.{err_from_is_err_and}
 use Rattle.jc_verify.proofs.Growing.{risen_through}
+use Rattle.jc_verify.proofs.Naming.{named_first}
 use Rattle.jc_verify.proofs.Settling.{settled_first, shaped_first, under_first}
-use Rattle.jc_verify.proofs.Visiting.{if_err, if_ok_three}
+use Rattle.jc_verify.proofs.Visiting.{if_err, if_ok_four}
 use Rattle.jc_verify.proofs.settle.fill.Goals as goal
 
 pub settle-requires-clause-settled : goal.settle-requires-clause-settled
@@ -15,9 +16,10 @@ returns-clause-filled c =
     let through = risen_through l c.requires.laws m numbers c.args.places.now c.enter.new.places c.settle.new.places c.in_ok-enter.ensures.grown.risen in
     let first = under_first l c.requires.laws m numbers c.args.places.now c.enter.new.places c.requires.empty in
     let blank = shaped_first l c.requires.laws m numbers c.args.places.now c.enter.new.places c.requires.empty in
-    if_ok_three c.settle.result _ _ _ _ c.settle.ensures.risen c.settle.ensures.closed c.settle.ensures.under (λ u risen closed under. record {
+    if_ok_four c.settle.result _ _ _ _ _ c.settle.ensures.risen c.settle.ensures.closed c.settle.ensures.under c.settle.ensures.named (λ u risen closed under named. record {
       risen = through risen;
       under = λ typing upper. under typing upper (c.in_ok-enter.ensures.under typing upper (first typing));
+      named = λ keeps. named keeps (c.in_ok-enter.ensures.named keeps (named_first l c.args.places.now c.requires.empty));
       numbered = (through risen).numbered c.requires.numbered;
       shaped = (through risen).shaped blank;
       entry = c.in_ok-enter.ensures.entered c.settle.new.places risen;

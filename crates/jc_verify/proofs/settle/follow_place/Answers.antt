@@ -1,7 +1,7 @@
 use Rattle.std.proofs.Common.{◌<◌, length, subst}
 use Rattle.std.proofs.lemmas.Option.{slice_get-get_or}
 use Rattle.jc_verify.proofs.Settling.{none_taken, one_taken, taken_under, within_code}
-use Rattle.jc_verify.proofs.Visiting.{if_err, if_ok_three}
+use Rattle.jc_verify.proofs.Visiting.{if_err, if_ok_four}
 use Rattle.jc_verify.proofs.settle.follow_place.Goals as goal
 
 pub follow-requires-clause-within : goal.follow-requires-clause-within
@@ -14,9 +14,9 @@ pub returns-in-Some-clause-followed : goal.returns-in-Some-clause-followed
 returns-in-Some-clause-followed c =
     let at = slice_get-get_or c.args.places.now c.args.number c.index-places-number.result c.requires.there in
     let taken = c.in-Some.ensures.taken in
-    if_ok_three c.follow.result _ _ _ _ c.follow.ensures.grown c.follow.ensures.closed c.follow.ensures.least (λ u g closed least.
+    if_ok_four c.follow.result _ _ _ _ _ c.follow.ensures.grown c.follow.ensures.closed c.follow.ensures.least c.follow.ensures.named (λ u g closed least named.
     one_taken c.args.flow.now.linked.now c.requires.laws c.args.flow.now.method.now c.args.flow.now.numbers.now c.args.places.now c.args.number _ c.take_up.new.place at c.in-Some.start c.take_up.new.state.types c.follow.new.places c.requires.numbered taken.0 taken.1
-    taken.2 g closed least)
+    taken.2 g closed least named)
 
 pub returns-in-None-clause-followed : goal.returns-in-None-clause-followed
 returns-in-None-clause-followed c =

@@ -1,5 +1,5 @@
 -- Names of classes while places take in what flows.
-use Rattle.std.proofs.Common.{◌≡◌, ◌⊎◌, inl, inr, ℕ, List, Option, Some, None, slice_get, slice_set, refl, sym, ap, subst, ◌∙◌}
+use Rattle.std.proofs.Common.{◌≡◌, ◌⊎◌, inl, inr, ℕ, Option, Some, None, slice_get, slice_set, refl, sym, ap, subst, ◌∙◌}
 use Rattle.std.specs.Option.{option_map}
 use Rattle.std.proofs.lemmas.Bool.{cases_eq}
 use Rattle.std.proofs.lemmas.Option.{none-some, same_Some, slice_get_within}
@@ -9,7 +9,6 @@ use Rattle.jc_check.specs.Method.{Method}
 use Rattle.jc_verify.specs.PrivateFlow.{Places, below_in}
 use Rattle.jc_verify.specs.PrivateNames.{AreNamed, HasNames, HasUnnamed, KeepsNames}
 use Rattle.jc_verify.specs.PrivatePlaces.{IsTakenIn, put, joined}
-use Rattle.jc_verify.specs.PrivateSettled.{settled_place}
 use Rattle.jc_verify.specs.declared.place.Place.{Place}
 use Rattle.jc_verify.proofs.Arriving.{set_other, set_same}
 

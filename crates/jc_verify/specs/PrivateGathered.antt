@@ -1,5 +1,5 @@
 -- Private. What is known of a package's rows, one method after the other.
-use Rattle.std.specs.Prelude.{◌≡◌, ◌⊎◌, ℕ, ◌+◌, ◌^◌, ◌<◌, ◌≤◌, true, List, [], ◌∷◌, ◌++◌, Option, Some, None, length, slice_get}
+use Rattle.std.specs.Prelude.{◌≡◌, ◌⊎◌, ℕ, ◌+◌, ◌^◌, ◌<◌, ◌≤◌, true, List, [], ◌∷◌, ◌++◌, Some, None, length, slice_get}
 use Rattle.std.specs.List.{AllByRecursion}
 use Rattle.jc_base.specs.NumberSet.{has_number}
 use Rattle.jc_cap_desc.specs.Shape.{MethodBody}

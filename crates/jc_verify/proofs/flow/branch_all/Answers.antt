@@ -22,8 +22,8 @@ loop-index-preserved c =
     record {
       passed =
           passed_one c.args.flow.now.linked.now c.requires.laws c.args.flow.now.method.now c.args.flow.now.numbers.now _ _ c.loop-index.index _ c.args.places.now c.loop-index.places c.branch_to.new.places c.loop-index.invariant.passed at
-    c.in_ok-branch_to.ensures.grown (λ final g. c.in_ok-branch_to.ensures.met final g _ at)
-    (λ typing under leads. c.in_ok-branch_to.ensures.least typing under (λ place e. subst (BranchLeads (package_rules c.args.flow.now.linked.now) typing c.args.state.now.types) (same_Some _ place (sym at ∙ e)) leads));
+          c.in_ok-branch_to.ensures.grown (λ final g. c.in_ok-branch_to.ensures.met final g _ at)
+          (λ typing under leads. c.in_ok-branch_to.ensures.least typing under (λ place e. subst (BranchLeads (package_rules c.args.flow.now.linked.now) typing c.args.state.now.types) (same_Some _ place (sym at ∙ e)) leads));
       named = λ keeps h names. c.in_ok-branch_to.ensures.named keeps (c.loop-index.invariant.named keeps h names) names;
     }
 

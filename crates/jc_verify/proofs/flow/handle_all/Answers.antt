@@ -27,7 +27,7 @@ loop-index-preserved c =
       room = c.handle.ensures.caught;
       named = λ keeps h names.
           let among : Contains c.args.flow.now.method.now.handlers c.index-handlers-index.result =
-              subst (λ (hs : List Handler). Contains hs c.index-handlers-index.result) c.handlers-handlers.ensures (contains_at handlers c.loop-index.index c.index-handlers-index.result at) in
+          subst (λ (hs : List Handler). Contains hs c.index-handlers-index.result) c.handlers-handlers.ensures (contains_at handlers c.loop-index.index c.index-handlers-index.result at) in
           c.in_ok-handle.ensures.named keeps (c.loop-index.invariant.named keeps h names) (λ class is. keeps.caught c.index-handlers-index.result class c.args.state.now.types among is names);
     }
 

@@ -10,4 +10,3 @@ mod Cases
 mod Running
 mod Evaluating
 mod Lines
-mod Verifying

@@ -4,9 +4,7 @@ pub mod PrivateEval
 pub mod Texts
 pub mod Line
 pub mod Verify
-pub mod PrivateVerify
 pub mod Files
-pub mod Source
 pub mod Saying
 pub mod PrivateSaying
 pub mod Shorts

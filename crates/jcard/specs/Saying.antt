@@ -7,7 +7,8 @@ use Rattle.clap.specs.Words.{Text, kind_of}
 use Rattle.clap.specs.declared.error.Error.{Error}
 use Rattle.clap.specs.declared.error.kind.ErrorKind.TheVariants.{DisplayHelp, DisplayVersion}
 use Rattle.jc_base.specs.Reason.{name_of}
-use Rattle.jcard.specs.Answer.{line_of, verify_line_of}
+use Rattle.jc_packages.specs.Answer.{verify_line_of}
+use Rattle.jcard.specs.Answer.{line_of}
 use Rattle.jcard.specs.Files.{file_line}
 use Rattle.jcard.specs.Line.{IsJobFor, IsLineError}
 use Rattle.jcard.specs.Texts.{AnswersTexts, IsTextFault, fault_line_of}
@@ -29,8 +30,8 @@ use Rattle.jcard.specs.declared.files.ReadFault.{ReadFault}
 use Rattle.jcard.specs.declared.files.ReadFault.TheVariants as reading
 use Rattle.jcard.specs.declared.texts.TextFault.{TextFault}
 use Rattle.jcard.specs.declared.texts.TextFault.TheVariants.{BadCode, LongCode, BadCert, Memory}
-use Rattle.jcard.specs.declared.verify_answer.VerifyAnswer.{VerifyAnswer}
-use Rattle.jcard.specs.declared.verify_answer.VerifyAnswer.TheVariants as answers
+use Rattle.jc_packages.specs.declared.verify_answer.VerifyAnswer.{VerifyAnswer}
+use Rattle.jc_packages.specs.declared.verify_answer.VerifyAnswer.TheVariants as answers
 
 -- the exit status as a number
 abbrev pub status_number : Status → ℕ

@@ -1,12 +1,12 @@
 //! Packages in folders of component files, and certificates in files.
 
 ghost use Rattle.std.specs.Prelude.{◌≡◌, ◌+◌, ◌<◌, ◌^◌};
-ghost use Rattle.jcard.specs.Source.{failures_in, failures_of};
+ghost use Rattle.jc_packages.specs.Source.{failures_in, failures_of};
 
 use crate::files::{
     FileCause, FileFault, MOST_COMPONENT, MOST_FILE, ReadFault, bytes_within, fault_of,
 };
-use crate::source::{PackageSource, SourceFault};
+use jc_packages::{PackageSource, SourceFault};
 use std::alloc::Global;
 use std::path::Path;
 use std::{fs, io};

@@ -14,10 +14,7 @@ mod perform;
 mod run;
 mod saying;
 mod shorts;
-mod source;
 mod texts;
-mod verify;
-mod verify_answer;
 mod verify_folders;
 
 use saying::{Reply, Said, Status, Stream, remark_of, said_to, said_without_words};

@@ -12,10 +12,8 @@ use crate::files::{FileCause, MOST_FILE, ReadFault, fault_of, write_file};
 use crate::folders::{Folders, file_within};
 use crate::job::VerifyJob;
 use crate::saying::{Said, said_of_files, said_of_verified};
-use crate::source::{PackageSource, SourceFault};
-use crate::verify::verify;
-use crate::verify_answer::VerifyAnswer;
 use jc_api::Binding;
+use jc_packages::{PackageSource, SourceFault, VerifyAnswer, verify};
 use std::alloc::Global;
 
 /// The image of a package, and those before it.

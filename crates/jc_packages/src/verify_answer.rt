@@ -19,7 +19,7 @@ pub enum VerifyAnswer {
 
 impl fmt::Display for VerifyAnswer {
     ghost use Rattle.std.specs.Prelude.{Some};
-    ghost use Rattle.jcard.specs.Answer.{verify_line_of};
+    ghost use Rattle.jc_packages.specs.Answer.{verify_line_of};
 
     ghost output = { λ answer. Some (verify_line_of answer) };
 

@@ -5,9 +5,9 @@ use Rattle.jc_base.specs.declared.fault.LoadFault.TheVariants as faults
 use Rattle.jc_cap_desc.specs.Shape.{Package, Shape}
 use Rattle.jc_classes.specs.Growth.{grown}
 use Rattle.jc_link.specs.Linked.{Linked}
-use Rattle.jcard.specs.Verify.{AreLoaded, IsFine, IsFirstRefusal, IsRefused, SpellCarrying, most_in_world}
-use Rattle.jcard.specs.declared.verify_answer.VerifyAnswer.{VerifyAnswer}
-use Rattle.jcard.specs.declared.verify_answer.VerifyAnswer.TheVariants.{Certificate, NoCertificate, Refused, Memory}
+use Rattle.jc_packages.specs.Verify.{AreLoaded, IsFine, IsFirstRefusal, IsRefused, SpellCarrying, most_in_world}
+use Rattle.jc_packages.specs.declared.verify_answer.VerifyAnswer.{VerifyAnswer}
+use Rattle.jc_packages.specs.declared.verify_answer.VerifyAnswer.TheVariants.{Certificate, NoCertificate, Refused, Memory}
 
 -- a package is put behind others
 pub record IsPut (before : List Shape) (image : List ℕ) (after : List Shape) : Type 0 where

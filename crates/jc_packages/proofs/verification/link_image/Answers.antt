@@ -1,7 +1,7 @@
 use Rattle.std.proofs.Common.{rules, inr}
-use Rattle.jcard.specs.PrivateVerify.{IsUnlinked}
-use Rattle.jcard.proofs.Verifying.{uncut}
-use Rattle.jcard.proofs.verify.link_image.Goals as goal
+use Rattle.jc_packages.specs.PrivateVerify.{IsUnlinked}
+use Rattle.jc_packages.proofs.Verifying.{uncut}
+use Rattle.jc_packages.proofs.verification.link_image.Goals as goal
 
 pub returns-in_err-cut-clause-refused : goal.returns-in_err-cut-clause-refused
 returns-in_err-cut-clause-refused c =

@@ -8,11 +8,11 @@ use Rattle.jc_base.specs.declared.fault.LoadFault.TheVariants as faults
 use Rattle.jc_cap_desc.specs.Package.{package_of}
 use Rattle.jc_cap_desc.specs.Shape.{Shape}
 use Rattle.jc_classes.specs.Growth.{grown}
-use Rattle.jcard.specs.Verify.{AreLoaded, IsFirstRefusal, IsRefused}
-use Rattle.jcard.specs.Verify.AreLoaded.{next, none}
-use Rattle.jcard.specs.Verify.IsFirstRefusal.{full, here, later}
-use Rattle.jcard.specs.PrivateVerify.{AreUnloaded, IsPastLast, IsPut, IsUnlinked, IsUnput, Leads}
-use Rattle.jcard.specs.PrivateVerify.IsUnput.{memory, refused}
+use Rattle.jc_packages.specs.Verify.{AreLoaded, IsFirstRefusal, IsRefused}
+use Rattle.jc_packages.specs.Verify.AreLoaded.{next, none}
+use Rattle.jc_packages.specs.Verify.IsFirstRefusal.{full, here, later}
+use Rattle.jc_packages.specs.PrivateVerify.{AreUnloaded, IsPastLast, IsPut, IsUnlinked, IsUnput, Leads}
+use Rattle.jc_packages.specs.PrivateVerify.IsUnput.{memory, refused}
 
 -- an image that can't be cut is refused
 pub uncut : (before : List Shape) (image : List ℕ) (fault : LoadFault)

@@ -1,7 +1,7 @@
 use Rattle.std.proofs.Common.{drop, map}
 use Rattle.jc_classes.specs.Api.{api_world}
-use Rattle.jcard.specs.PrivateVerify.{Leads}
-use Rattle.jcard.proofs.verify.load_all.Given as goal
+use Rattle.jc_packages.specs.PrivateVerify.{Leads}
+use Rattle.jc_packages.proofs.verification.load_all.Given as goal
 
 abbrev pub invariant-loop-image : goal.invariant-loop-image
 invariant-loop-image l = Leads (api_world l.binding) (map (λ image. image.items) l.earlier) l.world.shapes (map (λ image. image.items) (drop l.image-index l.earlier))

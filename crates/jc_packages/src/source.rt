@@ -1,7 +1,7 @@
 //! Where packages and certificates are read.
 
 ghost use Rattle.std.specs.Prelude.{◌≡◌, ◌+◌, ◌<◌, ◌^◌, ℕ};
-ghost use Rattle.jcard.specs.Source.{failures_in};
+ghost use Rattle.jc_packages.specs.Source.{failures_in};
 
 use std::alloc::Global;
 

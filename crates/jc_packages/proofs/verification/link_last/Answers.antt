@@ -1,6 +1,6 @@
 use Rattle.std.proofs.lemmas.Result.{IfErr-weaker}
-use Rattle.jcard.proofs.Verifying.{last_unlinked}
-use Rattle.jcard.proofs.verify.link_last.Goals as goal
+use Rattle.jc_packages.proofs.Verifying.{last_unlinked}
+use Rattle.jc_packages.proofs.verification.link_last.Goals as goal
 
 pub returns-clause-refused : goal.returns-clause-refused
 returns-clause-refused c =

@@ -1,7 +1,7 @@
 -- Where packages and certificates are read: how many readings failed.
 use Rattle.std.specs.Prelude.{ℕ, Result, Ok, Err}
-use Rattle.jcard.specs.declared.source.SourceFault.{SourceFault}
-use Rattle.jcard.specs.declared.source.SourceFault.TheVariants.{Failed, Memory}
+use Rattle.jc_packages.specs.declared.source.SourceFault.{SourceFault}
+use Rattle.jc_packages.specs.declared.source.SourceFault.TheVariants.{Failed, Memory}
 
 -- want of memory is no failure of what is read
 abbrev pub failures_of : SourceFault → ℕ

@@ -5,8 +5,8 @@ ghost use Rattle.jc_base.specs.declared.fault.LoadFault.TheVariants.{Full, Memor
 ghost use Rattle.jc_classes.specs.Api.{api_world};
 ghost use Rattle.jc_check.specs.Checked.{CarriesPackage};
 ghost use Rattle.jc_link.specs.Linked.{IsBoundTo, Linked as LinkedPackage, with_linked};
-ghost use Rattle.jcard.specs.Verify.{AreLoaded, IsFirstRefusal, IsLinkedAfter, IsLinkedBehind, IsVerified, most_in_world};
-ghost use Rattle.jcard.specs.PrivateVerify.{AreUnloaded, IsInferred, IsPut, IsUnlinked, IsUnput};
+ghost use Rattle.jc_packages.specs.Verify.{AreLoaded, IsFirstRefusal, IsLinkedAfter, IsLinkedBehind, IsVerified, most_in_world};
+ghost use Rattle.jc_packages.specs.PrivateVerify.{AreUnloaded, IsInferred, IsPut, IsUnlinked, IsUnput};
 
 use crate::verify_answer::VerifyAnswer;
 use jc_api::Binding;

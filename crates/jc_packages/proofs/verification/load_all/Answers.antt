@@ -1,9 +1,9 @@
 use Rattle.std.proofs.Common.{arith}
 use Rattle.std.proofs.lemmas.Result.{err_from_is_err_and}
 use Rattle.jc_classes.specs.Api.{api_world}
-use Rattle.jcard.specs.PrivateVerify.{AreUnloaded}
-use Rattle.jcard.proofs.Verifying.{at_last, ended, further, images_of}
-use Rattle.jcard.proofs.verify.load_all.Goals as goal
+use Rattle.jc_packages.specs.PrivateVerify.{AreUnloaded}
+use Rattle.jc_packages.proofs.Verifying.{at_last, ended, further, images_of}
+use Rattle.jc_packages.proofs.verification.load_all.Goals as goal
 
 pub returns-in_err-load-clause-refused : goal.returns-in_err-load-clause-refused
 returns-in_err-load-clause-refused c =

@@ -1,0 +1,4 @@
+pub mod Source
+pub mod Verify
+pub mod PrivateVerify
+pub mod Answer

@@ -1,1 +1,2 @@
 mod Verifying
+mod Holding

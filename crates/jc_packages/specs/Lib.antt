@@ -1,4 +1,7 @@
 pub mod Source
+pub mod Memory
 pub mod Verify
 pub mod PrivateVerify
+pub mod Named
+pub mod PrivateNamed
 pub mod Answer

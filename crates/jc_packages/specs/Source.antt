@@ -1,5 +1,5 @@
--- Where packages and certificates are read: how many readings failed.
-use Rattle.std.specs.Prelude.{ℕ, Result, Ok, Err}
+-- Where packages and certificates are read: what is held there, and how many readings failed.
+use Rattle.std.specs.Prelude.{ℕ, List, Result, Ok, Err}
 use Rattle.jc_packages.specs.declared.source.SourceFault.{SourceFault}
 use Rattle.jc_packages.specs.declared.source.SourceFault.TheVariants.{Failed, Memory}
 
@@ -12,3 +12,8 @@ failures_of Memory = 0
 abbrev pub failures_in : {A : Type 0} → Result A SourceFault → ℕ
 failures_in (Ok bytes) = 0
 failures_in (Err fault) = failures_of fault
+
+-- the same bytes are held under the same names, before and after
+pub record HoldSame (before after : List ℕ → List ℕ → Type 0) : Type 0 where
+  pub still : (name bytes : List ℕ) → before name bytes → after name bytes
+  pub already : (name bytes : List ℕ) → after name bytes → before name bytes

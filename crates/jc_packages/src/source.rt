@@ -1,7 +1,7 @@
 //! Where packages and certificates are read.
 
-ghost use Rattle.std.specs.Prelude.{◌≡◌, ◌+◌, ◌<◌, ◌^◌, ℕ};
-ghost use Rattle.jc_packages.specs.Source.{failures_in};
+ghost use Rattle.std.specs.Prelude.{◌≡◌, ◌+◌, ◌<◌, ◌^◌, ℕ, List, IfOk};
+ghost use Rattle.jc_packages.specs.Source.{HoldSame, failures_in};
 
 use std::alloc::Global;
 
@@ -14,19 +14,32 @@ pub enum SourceFault {
     Memory,
 }
 
-/// Where packages and certificates are read by their names. It counts the readings that failed, fewer than 2^31 of them.
+/// Where packages and certificates are read by their names. It counts the readings that failed, fewer than 2^31 of them. What is
+/// read is what it holds, and no reading changes that.
 pub trait PackageSource {
     ghost failed: { Self → ℕ };
+
+    // What a source holds: a package's image is these bytes, under a name.
+    ghost holds_image: { Self → List ℕ → List ℕ → Type 0 };
+
+    // A certificate is these bytes, under a name.
+    ghost holds_certificate: { Self → List ℕ → List ℕ → Type 0 };
 
     /// The image of a package.
     fn image(&mut self, alloc: Global, name: &str) -> Result<Vec<u8>, SourceFault>
         requires { failed self.now < 2 ^ 31 }
-        ensures { failed self.new ≡ failed self.old + failures_in result };
+        ensures counted { failed self.new ≡ failed self.old + failures_in result }
+        ensures held { IfOk result (λ image. holds_image self.old name.now image.items) }
+        ensures same_images { HoldSame (holds_image self.old) (holds_image self.new) }
+        ensures same_certificates { HoldSame (holds_certificate self.old) (holds_certificate self.new) };
 
     /// The bytes of a certificate.
     fn certificate(&mut self, alloc: Global, name: &str) -> Result<Vec<u8>, SourceFault>
         requires { failed self.now < 2 ^ 31 }
-        ensures { failed self.new ≡ failed self.old + failures_in result };
+        ensures counted { failed self.new ≡ failed self.old + failures_in result }
+        ensures held { IfOk result (λ certificate. holds_certificate self.old name.now certificate.items) }
+        ensures same_images { HoldSame (holds_image self.old) (holds_image self.new) }
+        ensures same_certificates { HoldSame (holds_certificate self.old) (holds_certificate self.new) };
 
     /// How many readings have failed.
     fn failures(&self) -> u32

@@ -1,6 +1,6 @@
 //! Packages in folders of component files, and certificates in files.
 
-ghost use Rattle.std.specs.Prelude.{◌≡◌, ◌+◌, ◌<◌, ◌^◌};
+ghost use Rattle.std.specs.Prelude.{⊤, ◌≡◌, ◌+◌, ◌<◌, ◌^◌};
 ghost use Rattle.jc_packages.specs.Source.{failures_in, failures_of};
 
 use crate::files::{
@@ -24,7 +24,7 @@ const COMPONENTS: [&str; 9] = [
     "Descriptor.cap",
 ];
 
-/// The folders and files of the system. It keeps the last fault of a file.
+/// The folders and files of the system. It keeps the last fault of a file. What they hold isn't known.
 #[derive(Drop)]
 pub struct Folders<'a> {
     rt: &'a HostRuntime,
@@ -81,6 +81,10 @@ impl<'a> Folders<'a> {
 
 impl<'a> PackageSource for Folders<'a> {
     ghost failed = { λ s. s.failures };
+
+    ghost holds_image = { λ s name image. ⊤ };
+
+    ghost holds_certificate = { λ s name certificate. ⊤ };
 
     fn image(&mut self, _alloc: Global, name: &str) -> Result<Vec<u8>, SourceFault> {
         let read = image_in(self.rt, name);

@@ -1,9 +1,10 @@
 //! The verification of packages in folders.
 
-ghost use Rattle.std.specs.Prelude.{◌≡◌, ◌<◌, ◌^◌, false, length, is_some, Ok, IfOk, IfErr};
+ghost use Rattle.std.specs.Prelude.{⊤, ◌≡◌, false, length, map, is_some, Ok, IfOk, IfErr};
 ghost use Rattle.std.specs.Str.{IsUtf8};
 ghost use Rattle.jc_api.specs.Binding.{binding_of};
 ghost use Rattle.jc_api.specs.Bound.{default_binding};
+ghost use Rattle.jc_packages.specs.Named.{AnswersNamed};
 ghost use Rattle.jcard.specs.Files.{IsNoBinding};
 ghost use Rattle.jcard.specs.Saying.{IsSaidOfJob};
 ghost use Rattle.jcard.specs.Verify.{AnswersPackages};
@@ -13,15 +14,7 @@ use crate::folders::{Folders, file_within};
 use crate::job::VerifyJob;
 use crate::saying::{Said, said_of_files, said_of_verified};
 use jc_api::Binding;
-use jc_packages::{PackageSource, SourceFault, VerifyAnswer, verify};
-use std::alloc::Global;
-
-/// The image of a package, and those before it.
-#[derive(Drop)]
-struct Images {
-    earlier: Vec<Vec<u8>>,
-    image: Vec<u8>,
-}
+use jc_packages::{VerifyAnswer, verify_named};
 
 /// What is said of a package. Its certificate is written first, if it gets one.
 pub fn said_of_job(rt: &HostRuntime, job: &VerifyJob) -> Said
@@ -38,8 +31,7 @@ fn answer_to(rt: &HostRuntime, job: &VerifyJob) -> Result<VerifyAnswer, ReadFaul
     ensures { IfOk result (AnswersPackages (length job.now.earlier.items) (is_some job.now.binding)) }
 {
     let binding = binding_for(rt, job.binding)?;
-    let images = images_in(rt, job)?;
-    let answer = verify(rt.alloc(), &images.image, &images.earlier, &binding);
+    let answer = answer_in_folders(rt, job, &binding)?;
     if let VerifyAnswer::Certificate(bytes) = &answer {
         write_file(rt, job.cert, bytes)?;
     }
@@ -68,35 +60,17 @@ fn binding_of(bytes: &[u8]) -> Result<Binding, FileCause>
     Binding::from_text(text).map_err(FileCause::NoBinding)
 }
 
-// The images in the folders of a job.
-fn images_in(rt: &HostRuntime, job: &VerifyJob) -> Result<Images, ReadFault>
-    ensures { IfOk result (λ images. length images.earlier.items ≡ length job.now.earlier.items) }
+// The answer to the packages in the folders of a job.
+fn answer_in_folders(
+    rt: &HostRuntime,
+    job: &VerifyJob,
+    binding: &Binding,
+) -> Result<VerifyAnswer, ReadFault>
+    ensures { IfOk result (AnswersNamed (λ name image. ⊤) binding.now (map (λ name. name.now) job.now.earlier.items) job.now.folder.now) }
 {
     let mut folders = Folders::new(rt);
-    match images_from(rt.alloc(), &mut folders, &job.earlier, job.folder) {
-        Ok(images) => Ok(images),
+    match verify_named(rt.alloc(), &mut folders, &job.earlier, job.folder, binding) {
+        Ok(answer) => Ok(answer),
         Err(fault) => Err(folders.told(fault)),
     }
-}
-
-// The images of packages, the last one by itself.
-fn images_from<S: PackageSource>(
-    alloc: Global,
-    source: &mut S,
-    earlier: &[&str],
-    last: &str,
-) -> Result<Images, SourceFault>
-    requires { S.failed source.now < 2 ^ 31 }
-    ensures { IfOk result (λ images. length images.earlier.items ≡ length earlier.now) }
-{
-    let mut images = Vec::new(alloc);
-    for name in earlier {
-        let image = source.image(alloc, name)?;
-        images.push(image).map_err(|_| SourceFault::Memory)?;
-    }
-    let image = source.image(alloc, last)?;
-    Ok(Images {
-        earlier: images,
-        image,
-    })
 }

@@ -25,4 +25,6 @@ mod method;
 #[cfg(test)]
 mod package;
 #[cfg(test)]
+mod packages;
+#[cfg(test)]
 mod pool;

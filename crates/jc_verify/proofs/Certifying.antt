@@ -12,7 +12,7 @@ use Rattle.jc_link.specs.Linked.{Linked}
 use Rattle.jc_check.specs.Method.{Method}
 use Rattle.jc_check.specs.Package.{method_of}
 use Rattle.jc_verify.specs.PrivateGathered.{AreGathered, IsInShape, IsRowOf}
-use Rattle.jc_verify.specs.PrivateRefused.{HasSmallCounts}
+use Rattle.jc_verify.specs.PrivateRefused.{HasFewMethods, HasFitMethods}
 use Rattle.jc_verify.proofs.Carrying.{all_by_place}
 use Rattle.jc_verify.proofs.Certified.{moved}
 
@@ -28,14 +28,14 @@ all_stated m few [] h = tt
 all_stated m few (c ∷ cs) h =
     (record { pc = h.0.pc; locals = omega (arith, h.0.locals, few); depth = h.0.depth; each_local = h.0.each_local; each_operand = h.0.each_operand }, all_stated m few cs h.1)
 
-is_row : (l : Linked) → HasSmallCounts l → (n : ℕ) (r : Row) → IsRowOf l n r → IsRow r
-is_row l small n r h =
+is_row : (l : Linked) → HasFitMethods l → (n : ℕ) (r : Row) → IsRowOf l n r → IsRow r
+is_row l fit n r h =
     let order = h.inferred.order in
     record {
       offset = h.small;
       some = h.some;
       count = order.few;
-      each = all_stated (method_of l h.method) (small.locals h.place h.method h.stands.is) r.states order.each;
+      each = all_stated (method_of l h.method) (fit.locals h.place h.method h.stands.is) r.states order.each;
       ascend = order.ascend;
     }
 
@@ -46,7 +46,7 @@ row_of (x ∷ ms) zero r e = (x, refl, same_Some (row x) r e)
 row_of (x ∷ ms) (suc n) r e = row_of ms n r e
 
 module _ (l : Linked) (of : List Row) (seen : List ℕ) (put : List MethodRow) (gathered : AreGathered l (length l.body.kept.methods) of seen) (order : IsPermutation of (rows put))
-    (ascend : IsNonDecreasingBy (λ (m : MethodRow). m.offset) put) (small : HasSmallCounts l) where
+    (ascend : IsNonDecreasingBy (λ (m : MethodRow). m.offset) put) (fit : HasFitMethods l) (few : HasFewMethods l) where
   distinct : IsDistinct (λ (r s : Row). r.offset == s.offset) of
   distinct =
       IsDistinct-from_apart (λ (r s : Row). r.offset == s.offset) of (λ i j d lt within.
@@ -90,10 +90,10 @@ module _ (l : Linked) (of : List Row) (seen : List ℕ) (put : List MethodRow) (
 
   pub is_cert : IsCert (rows put)
   is_cert = record {
-    count = let n = length_permutation of (rows put) order in omega (arith, n, gathered.few, small.methods);
+    count = let n = length_permutation of (rows put) order in omega (arith, n, gathered.few, few);
     each =
         all_by_place IsRow (rows put) (λ n r e.
         let j = moved (rows put) of (IsPermutation-sym of (rows put) order) n r e in
-        is_row l small (length l.body.kept.methods) r (gathered.come j.0 r j.1));
+        is_row l fit (length l.body.kept.methods) r (gathered.come j.0 r j.1));
     ascend = offsets_ascend (rows put) 0 (λ n r e. omega arith) lower;
   }

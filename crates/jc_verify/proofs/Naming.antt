@@ -1,16 +1,29 @@
 -- Names of classes while places take in what flows.
-use Rattle.std.proofs.Common.{◌≡◌, ◌⊎◌, inl, inr, ℕ, Option, Some, None, slice_get, slice_set, refl, sym, ap, subst, ◌∙◌}
+use Rattle.std.proofs.Common.{◌≡◌, ◌⊎◌, inl, inr, ℕ, ◌==◌, ◌&&◌, Bool, true, List, [], ◌∷◌, length, Ok, Option, Some, None, slice_get, slice_set, refl, sym, ap, subst, ◌∙◌}
+use Rattle.std.specs.Prelude.{reverse}
+use Rattle.std.specs.List.{AllByRecursion, Contains, list_all}
 use Rattle.std.specs.Option.{option_map}
-use Rattle.std.proofs.lemmas.Bool.{cases_eq}
+use Rattle.std.proofs.lemmas.Bool.{cases_eq, eq-eqb}
+use Rattle.std.proofs.lemmas.List.{reverse-append, reverse-reverse}
 use Rattle.std.proofs.lemmas.Option.{none-some, same_Some, slice_get_within}
+use Rattle.jc_base.proofs.Binding.{both_true}
+use Rattle.jc_cap_desc.specs.Shape.{Shape}
+use Rattle.jc_classes.specs.Subtype.{common_class, is_class_at, is_class_below}
+use Rattle.jc_classes.specs.declared.name.ClassName.{ClassName}
+use Rattle.jc_code.specs.declared.instr.Operation.{Operation}
 use Rattle.jc_link.specs.Linked.{Linked}
-use Rattle.jc_types.specs.State.{StateWithRoom, Types}
-use Rattle.jc_check.specs.Method.{Method}
+use Rattle.jc_types.specs.Known.{AreKnown, is_known}
+use Rattle.jc_types.specs.State.{IsJoin, StateWithRoom, Types, has_shape_of, joined_types, types_below}
+use Rattle.jc_types.specs.declared.ty.Ty.{Ty}
+use Rattle.jc_types.specs.declared.ty.Ty.TheVariants.{Top, Word, Null, Class, BooleanArray, ByteArray, ShortArray, ReferenceArray}
+use Rattle.jc_check.specs.Method.{Handler, Method, caught_types, entry_of}
+use Rattle.jc_check.specs.Package.{package_rules}
 use Rattle.jc_verify.specs.PrivateFlow.{Places, below_in}
-use Rattle.jc_verify.specs.PrivateNames.{AreNamed, HasNames, HasUnnamed, KeepsNames}
+use Rattle.jc_verify.specs.PrivateNames.{AreNamed, HasNames, HasUnnamed, KeepsNames, TypeHasName}
 use Rattle.jc_verify.specs.PrivatePlaces.{IsTakenIn, put, joined}
 use Rattle.jc_verify.specs.declared.place.Place.{Place}
-use Rattle.jc_verify.proofs.Arriving.{set_other, set_same}
+use Rattle.jc_verify.proofs.Arriving.{below_lengths, set_other, set_same}
+use Rattle.jc_verify.proofs.Lists.{all_more}
 
 module _ (l : Linked) (m : Method) (places : Places) (number : ℕ) (p q : Place StateWithRoom) (at : slice_get places number ≡ Some p) where
   -- another place in place of one
@@ -45,3 +58,77 @@ never_unnamed l places named h = h.unnamed.unnamed (named h.number h.place h.unn
 pub types_named : (l : Linked) (o : Option StateWithRoom) (s : Types) → option_map (λ (x : StateWithRoom). x.types) o ≡ Some s → ((x : StateWithRoom) → o ≡ Some x → HasNames l.world x.types) → HasNames l.world s
 types_named l None s e h = absurd (none-some s e)
 types_named l (Some x) s e h = subst (HasNames l.world) (same_Some x.types s e) (h x refl)
+
+-- ---- what types name is known exactly where their classes have names
+
+both : (a b : Bool) → a ≡ true → b ≡ true → (a && b) ≡ true
+both a b e f = rw (e, f) refl
+
+module _ (world : List Shape) where
+  type_known : (t : Ty) → TypeHasName world t → is_known (is_class_at world) t ≡ true
+  type_known Top h = refl
+  type_known Word h = refl
+  type_known Null h = refl
+  type_known (Class c) h = h
+  type_known BooleanArray h = refl
+  type_known ByteArray h = refl
+  type_known ShortArray h = refl
+  type_known (ReferenceArray c) h = h
+
+  type_named : (t : Ty) → is_known (is_class_at world) t ≡ true → TypeHasName world t
+  type_named Top h = tt
+  type_named Word h = tt
+  type_named Null h = tt
+  type_named (Class c) h = h
+  type_named BooleanArray h = tt
+  type_named ByteArray h = tt
+  type_named ShortArray h = tt
+  type_named (ReferenceArray c) h = h
+
+  all_known : (ts : List Ty) → AllByRecursion (TypeHasName world) ts → list_all (is_known (is_class_at world)) ts ≡ true
+  all_known [] h = refl
+  all_known (t ∷ ts) h = both (is_known (is_class_at world) t) (list_all (is_known (is_class_at world)) ts) (type_known t h.0) (all_known ts h.1)
+
+  all_named : (ts : List Ty) → list_all (is_known (is_class_at world)) ts ≡ true → AllByRecursion (TypeHasName world) ts
+  all_named [] h = tt
+  all_named (t ∷ ts) h =
+      let b = both_true (is_known (is_class_at world) t) (list_all (is_known (is_class_at world)) ts) h in
+      (type_named t b.0, all_named ts b.1)
+
+  all_turned : (ts : List Ty) → AllByRecursion (TypeHasName world) ts → AllByRecursion (TypeHasName world) (reverse ts)
+  all_turned [] h = tt
+  all_turned (t ∷ ts) h =
+      let named : List Ty → Type 0 = λ us. AllByRecursion (TypeHasName world) us in
+      subst named (sym (reverse-append (t ∷ []) ts)) (all_more (TypeHasName world) (reverse ts) t (all_turned ts h.1) h.0)
+
+  pub are_known : (s : Types) → HasNames world s → AreKnown (is_class_at world) s
+  are_known s h =
+      let named : List Ty → Type 0 = λ us. AllByRecursion (TypeHasName world) us in
+      record { locals = all_known s.locals h.locals; operands = all_known s.operands (subst named (reverse-reverse s.operands) (all_turned (reverse s.operands) h.operands)) }
+
+  pub have_names : (s : Types) → AreKnown (is_class_at world) s → HasNames world s
+  have_names s h = record { locals = all_named s.locals h.locals; operands = all_turned s.operands (all_named s.operands h.operands) }
+
+-- states below one are of one shape
+of_one_shape : (below : ClassName → ClassName → Bool) (s t u : Types) → types_below below s u ≡ true → types_below below t u ≡ true → has_shape_of s t ≡ true
+of_one_shape below s t u one other =
+    let a = below_lengths below s u one in
+    let b = below_lengths below t u other in
+    both (length s.locals == length t.locals) (length s.operands == length t.operands) (eq-eqb (length s.locals) (length t.locals) (a.0 ∙ sym b.0)) (eq-eqb (length s.operands) (length t.operands) (a.1 ∙ sym b.1))
+
+-- whatever control flow does to types of a method leaves them known, so it leaves names to their classes
+pub keeps_names : (l : Linked) (m : Method) → AreKnown (is_class_at l.world) (entry_of m)
+    → ((h : Handler) (c : ClassName) → Contains m.handlers h → h.caught ≡ Some c → is_class_at l.world c ≡ true)
+    → ((operation : Operation) (s t : Types) → (package_rules l).effect m.max_stack m.returned operation s ≡ Ok t → AreKnown (is_class_at l.world) s → AreKnown (is_class_at l.world) t)
+    → ((s t u : Types) → joined_types (common_class l.world) s t ≡ u → AreKnown (is_class_at l.world) s → AreKnown (is_class_at l.world) t → AreKnown (is_class_at l.world) u)
+    → ((s t : Types) → has_shape_of s t ≡ true → IsJoin (is_class_below l.world) s t (joined_types (common_class l.world) s t))
+    → ((s t : Types) → types_below (is_class_below l.world) s t ≡ true → types_below (is_class_below l.world) t s ≡ true → s ≡ t) → KeepsNames l m
+keeps_names l m entry caught effects joins least apart = record {
+  entry = have_names l.world (entry_of m) entry;
+  effect = λ operation s t h e. have_names l.world t (effects operation s t e (are_known l.world s h));
+  caught = λ h c s among is names. record { locals = names.locals; operands = (caught h c among is, tt) };
+  join = λ s t u one other join.
+      let j = least s t (of_one_shape (is_class_below l.world) s t u join.first join.second) in
+      let same = apart (joined_types (common_class l.world) s t) u (j.least u join.first join.second) (join.least (joined_types (common_class l.world) s t) j.first j.second) in
+      have_names l.world u (joins s t u same (are_known l.world s one) (are_known l.world t other));
+}

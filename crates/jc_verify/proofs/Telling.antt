@@ -10,7 +10,7 @@ use Rattle.jc_cert.specs.Cert.{Stated, rows}
 use Rattle.jc_link.specs.Linked.{Linked}
 use Rattle.jc_check.specs.Package.{method_of}
 use Rattle.jc_verify.specs.PrivateGathered.{AreGathered, HasMethodAt, IsInferred, IsSoFar, IsTold, Stands, denied, twice}
-use Rattle.jc_verify.specs.PrivateRefused.{IsLeftOpen, two, unnamed}
+use Rattle.jc_verify.specs.PrivateRefused.{HasFitMethods}
 use Rattle.jc_verify.specs.Refusal.{CanBeCarried, IsFirstWithout}
 use Rattle.jc_verify.specs.declared.gathering.Gathered.{Gathered}
 use Rattle.jc_verify.specs.declared.gathering.Told.{Told}
@@ -93,14 +93,14 @@ module _ (l : Linked) (n : ℕ) (b : MethodBody) (at : slice_get l.body.kept.met
       by k c (inr same) lower = subst (λ (x : MethodBody). CanBeCarried l (method_of l x)) same (record { states = states; carried = inferred.carried })
 
 -- what is told of all methods is a refusal
-pub is_refusal : (l : Linked) (g : Gathered) → IsSoFar l (length l.body.kept.methods) g → (t : Told) → g.told ≡ Some t → IsFirstWithout l t.method ⊎ IsLeftOpen l
-is_refusal l g so_far t told = by (so_far.told t told)
+pub is_refusal : (l : Linked) → HasFitMethods l → (g : Gathered) → IsSoFar l (length l.body.kept.methods) g → (t : Told) → g.told ≡ Some t → IsFirstWithout l t.method
+is_refusal l fit g so_far t told = by (so_far.told t told)
   where
     before : (n : ℕ) (c : MethodBody) → slice_get l.body.kept.methods n ≡ Some c → c.offset < t.method → CanBeCarried l (method_of l c)
     before n c at lower =
         so_far.carried n c (record { first = slice_get_within l.body.kept.methods n c at; is = at }) (λ u e. subst (λ (x : Told). c.offset < x.method) (same_Some t u (sym told ∙ e)) lower)
 
-    by : IsTold l t.method → IsFirstWithout l t.method ⊎ IsLeftOpen l
-    by (denied place b at off (inl without)) = inl (record { place = place; method = b; is = at; at = off; without = without; before = before })
-    by (denied place b at off (inr h)) = inr (unnamed place b at h)
-    by (twice h) = inr (two t.method h)
+    by : IsTold l t.method → IsFirstWithout l t.method
+    by (denied place b at off (inl without)) = record { place = place; method = b; is = at; at = off; without = without; before = before }
+    by (denied place b at off (inr h)) = absurd (h (fit.named place b at))
+    by (twice h) = let e = fit.differ h.first h.second h.one h.other h.is_one h.is_other (h.at_one ∙ sym h.at_other) in absurd (omega (arith, h.apart, e))

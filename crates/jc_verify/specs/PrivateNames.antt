@@ -1,31 +1,21 @@
--- Private. How a certificate names classes, and whether its names are found to stand for them.
-use Rattle.std.specs.Prelude.{◌≡◌, ⊤, ℕ, suc, ◌+◌, ◌==◌, List, length, reverse, Option, Some, Ok, Contains, slice_get, if◌then◌else◌}
+-- Private. Which classes a certificate has names for, and that what control flow does to types leaves names to their classes.
+use Rattle.std.specs.Prelude.{◌≡◌, ⊤, ℕ, true, List, reverse, Some, Ok, Contains, slice_get}
 use Rattle.std.specs.List.{AllByRecursion}
-use Rattle.std.specs.Option.{option_and_then, option_map}
 use Rattle.jc_cap_desc.specs.Shape.{Shape}
-use Rattle.jc_cert.specs.declared.stated_type.SpelledClass.{SpelledClass}
-use Rattle.jc_cert.specs.declared.stated_type.SpelledClass.TheVariants as spelled
 use Rattle.jc_classes.specs.declared.name.ClassName.{ClassName}
-use Rattle.jc_classes.specs.declared.name.ClassName.TheVariants.{Api, Loaded}
-use Rattle.jc_classes.specs.Subtype.{is_class_below}
+use Rattle.jc_classes.specs.Subtype.{is_class_at, is_class_below}
 use Rattle.jc_code.specs.declared.instr.Operation.{Operation}
 use Rattle.jc_link.specs.Linked.{Linked}
 use Rattle.jc_types.specs.State.{IsJoin, StateWithRoom, Types}
 use Rattle.jc_check.specs.Method.{Handler, Method, caught_types, entry_of}
 use Rattle.jc_types.specs.declared.ty.Ty.{Ty}
 use Rattle.jc_types.specs.declared.ty.Ty.TheVariants.{Top, Word, Null, Class, BooleanArray, ByteArray, ShortArray, ReferenceArray}
-use Rattle.jc_check.specs.Package.{class_of_name, package_rules}
+use Rattle.jc_check.specs.Package.{package_rules}
 use Rattle.jc_verify.specs.declared.place.Place.{Place}
 
--- how a certificate of a world's last package names a class, if the package of the class is there
-abbrev pub name_for : List Shape → ClassName → Option SpelledClass
-name_for world (Api class) = Some (spelled.Api class)
-name_for world (Loaded number offset) =
-    if suc number + 1 == length world then Some (spelled.Own offset) else option_map (λ shape. spelled.Other shape.«package».aid offset) (slice_get world (suc number))
-
--- the name of a class is found to stand for it
+-- a class has a name where it is one of a world's; an interface has none
 abbrev pub HasName : List Shape → ClassName → Type 0
-HasName world class = option_and_then (class_of_name world) (name_for world class) ≡ Some class
+HasName world class = is_class_at world class ≡ true
 
 -- so it is of the class of a type, if it has one
 abbrev pub TypeHasName : List Shape → Ty → Type 0

@@ -6,24 +6,27 @@ ghost use Rattle.jc_check.specs.Checked.{CarriesPackage};
 ghost use Rattle.jc_verify.specs.Inferred.{HasAllStates, HasLeastStates, HasStatesWhereEntered};
 ghost use Rattle.jc_verify.specs.PrivateFlow.{HasLaws};
 ghost use Rattle.jc_verify.specs.PrivateGathered.{AreGathered, IsSoFar};
-ghost use Rattle.jc_verify.specs.PrivateRefused.{HasSmallCounts, IsRefusalSoFar};
+ghost use Rattle.jc_verify.specs.PrivateRefused.{HasFewMethods, HasFitMethods, IsRefusalSoFar};
 
 use crate::fault::VerifyFault;
 use crate::gathering::{Gathered, gather};
 use jc_base::{NumberSet, Reason};
 use jc_cert::{Cert, MethodRow};
-use jc_check::Fault;
+use jc_check::{Fault, types_name_classes};
 use jc_code::listing_laws;
 use jc_link::{Linked, MethodCode, built_worlds_are_sound};
 use jc_step::effects_are_monotone;
 use jc_types::order_laws;
 use std::alloc::Global;
 
-/// What holds of types and of code beside a linked package. It does nothing.
+/// What holds of types and of code beside a linked package, and of its methods. It does nothing but look at the methods' headers.
 fn flow_laws(linked: &Linked)
-    ensures { HasLaws linked.now }
+    ensures laws { HasLaws linked.now }
+    ensures fit { HasFitMethods linked.now }
 {
     let _count = linked.table().len();
+    let _body = linked.body();
+    types_name_classes(linked);
     built_worlds_are_sound();
     order_laws();
     listing_laws();
@@ -57,11 +60,12 @@ fn gather_all(alloc: Global, linked: &Linked) -> Result<Gathered, VerifyFault>
 
 /// The certificate of rows that carry a package's methods, in whatever order.
 fn certificate_of(linked: &Linked, methods: Vec<MethodRow>) -> Option<Cert>
-    requires { (seen : List ℕ) × AreGathered linked.now (length linked.now.body.kept.methods) (rows methods.items) seen }
+    requires fit { HasFitMethods linked.now }
+    requires gathered { (seen : List ℕ) × AreGathered linked.now (length linked.now.body.kept.methods) (rows methods.items) seen }
     ensures carried { IfSome result (λ cert. CarriesPackage linked.now cert) }
     ensures entered { IfSome result (λ cert. HasStatesWhereEntered linked.now cert) }
     ensures least { IfSome result (λ cert. HasLeastStates linked.now cert) }
-    ensures none { IfNone result (HasSmallCounts linked.now → ⊥) }
+    ensures none { IfNone result (HasFewMethods linked.now → ⊥) }
 {
     let _laws = linked.table().len();
     let mut methods = methods;
@@ -72,6 +76,7 @@ fn certificate_of(linked: &Linked, methods: Vec<MethodRow>) -> Option<Cert>
 /// The certificate of what is known of all methods, unless one of them is told of.
 fn certificate_or_fault(linked: &Linked, gathered: Gathered) -> Result<Cert, VerifyFault>
     requires laws { HasLaws linked.now }
+    requires fit { HasFitMethods linked.now }
     requires so_far { IsSoFar linked.now (length linked.now.body.kept.methods) gathered }
     ensures carried { IfOk result (λ cert. CarriesPackage linked.now cert) }
     ensures entered { IfOk result (λ cert. HasStatesWhereEntered linked.now cert) }

@@ -6,68 +6,48 @@ ghost use Rattle.jc_base.specs.declared.reason.Reason.{Reason};
 ghost use Rattle.jc_cert.specs.Cert.{IsSpelledClass, IsStatedType, stated};
 ghost use Rattle.jc_check.specs.Claim.{type_claimed, types_claimed};
 ghost use Rattle.jc_check.specs.Package.{class_of_name};
+ghost use Rattle.jc_link.specs.Built.{IsBuilt};
 ghost use Rattle.jc_check.specs.declared.fault.WordFault.TheVariants.{Refused};
 ghost use Rattle.jc_verify.specs.PrivateFlow.{Places};
-ghost use Rattle.jc_verify.specs.PrivateNames.{HasName, HasNames, HasUnnamed, IsUnnamedPlace, TypeHasName, name_for};
+ghost use Rattle.jc_verify.specs.PrivateNames.{HasName, HasNames, HasUnnamed, IsUnnamedPlace, TypeHasName};
 ghost use Rattle.jc_verify.specs.PrivateStated.{AreStateRows, IsStateRow};
 
 use crate::place::Place;
 use jc_base::Reason;
 use jc_cert::{SpelledClass, StateRow, StatedType};
-use jc_check::{WordFault, class_of_name};
+use jc_check::{WordFault, name_of_class};
 use jc_classes::{ClassName, ClassTable};
 use jc_types::{State, Ty};
 use std::alloc::{AllocError, Global};
 
-/// How a certificate of a world's last package may name a class, if the package is there.
-fn name_of(table: &ClassTable, class: ClassName) -> Option<SpelledClass>
-    ensures { result ≡ name_for table.now class }
+/// A name of a class as it is: it has an offset and an AID that fit.
+fn fitting(name: SpelledClass) -> SpelledClass
+    ensures same { result ≡ name }
+    ensures fits { IsSpelledClass name }
 {
-    match class {
-        ClassName::Api(class) => Some(SpelledClass::Api(class)),
-        ClassName::Loaded { offset, .. } => {
-            let home = class.home();
-            if home + 1 == table.len() {
-                return Some(SpelledClass::Own { offset });
-            }
-            let package = table.shape(home)?.package();
-            Some(SpelledClass::Other {
-                package: package.aid,
-                offset,
-            })
-        }
-    }
-}
-
-/// Each name of a class has an offset and an AID that fit. It does nothing.
-fn class_fits(class: SpelledClass)
-    ensures { IsSpelledClass class }
-{
-    match class {
+    match name {
         SpelledClass::Other { package, .. } => {
             package.len();
         }
         SpelledClass::Own { .. } | SpelledClass::Api(_) => {}
     }
+    name
 }
 
-/// A name that stands for a class, if a certificate of a world's last package has one.
+/// The name by which a certificate of a world's last package names a class; an interface has none.
 fn spelled_class(table: &ClassTable, class: ClassName) -> Option<SpelledClass>
+    requires built { IsBuilt table.now }
     ensures named { IfSome result (λ name. class_of_name table.now name ≡ Some class) }
     ensures fits { IfSome result IsSpelledClass }
     ensures none { IfNone result (HasName table.now class → ⊥) }
 {
-    let name = name_of(table, class)?;
-    class_fits(name);
-    if class_of_name(table, name)? == class {
-        Some(name)
-    } else {
-        None
-    }
+    let name = name_of_class(table, class)?;
+    Some(fitting(name))
 }
 
 /// A type as a certificate states it, if its class has a name.
 fn stated_type(table: &ClassTable, ty: Ty) -> Option<StatedType>
+    requires built { IsBuilt table.now }
     ensures stated { IfSome result (λ stated. type_claimed (class_of_name table.now) stated ≡ Some ty) }
     ensures fits { IfSome result IsStatedType }
     ensures none { IfNone result (TypeHasName table.now ty → ⊥) }
@@ -92,6 +72,7 @@ fn stated_types(
     table: &ClassTable,
     types: &[Ty],
 ) -> Result<Option<Vec<StatedType>>, AllocError>
+    requires built { IsBuilt table.now }
     ensures claimed { IfOk result (λ o. IfSome o (λ stated. types_claimed (class_of_name table.now) stated.items ≡ Some types.now)) }
     ensures fit { IfOk result (λ o. IfSome o (λ stated. AllByRecursion IsStatedType stated.items)) }
     ensures len { IfOk result (λ o. IfSome o (λ stated. length stated.items ≡ length types.now)) }
@@ -114,6 +95,7 @@ fn stated_row(
     pc: u16,
     held: &State,
 ) -> Result<Option<StateRow>, AllocError>
+    requires built { IsBuilt table.now }
     ensures row { IfOk result (λ o. IfSome o (λ row. IsStateRow (class_of_name table.now) pc held.now.types (stated row))) }
     ensures none { IfOk result (λ o. IfNone o (HasNames table.now held.now.types → ⊥)) }
 {
@@ -136,6 +118,7 @@ pub(crate) fn stated_rows(
     table: &ClassTable,
     places: &[Place<State>],
 ) -> Result<Vec<StateRow>, WordFault>
+    requires built { IsBuilt table.now }
     ensures rows { IfOk result (λ rows. AreStateRows (class_of_name table.now) places.now (map stated rows.items)) }
     ensures refused { IfErr result (λ fault. (pc : ℕ) (reason : Reason) → fault ≡ Refused pc reason → HasUnnamed table.now places.now) }
 {
@@ -153,6 +136,7 @@ fn put_row(
     place: &Place<State>,
     rows: &mut Vec<StateRow>,
 ) -> Result<(), WordFault>
+    requires built { IsBuilt table.now }
     ensures rows { IfOk result (λ u. (places : Places) → AreStateRows (class_of_name table.now) places (map stated rows.old.items) → AreStateRows (class_of_name table.now) (places ++ place.now ∷ []) (map stated rows.new.items)) }
     ensures refused { IfErr result (λ fault. (pc : ℕ) (reason : Reason) → fault ≡ Refused pc reason → IsUnnamedPlace table.now place.now) }
 {

@@ -13,22 +13,22 @@ pub returns-clause-carried : goal.returns-clause-carried
 returns-clause-carried c =
     let order = IsPermutation-map row c.args.methods.items c.sort_unstable_by_key.new.self.items c.sort_unstable_by_key.ensures.permutation in
     if_some c.new.result _ _ c.new.ensures.made (λ cert is.
-    subst (CarriesPackage c.args.linked.now) (sym is) (certified c.args.linked.now (rows c.args.methods.items) (rows c.sort_unstable_by_key.new.self.items) c.requires.0 order c.requires.1))
+    subst (CarriesPackage c.args.linked.now) (sym is) (certified c.args.linked.now (rows c.args.methods.items) (rows c.sort_unstable_by_key.new.self.items) c.requires.gathered.0 order c.requires.gathered.1))
 
 pub returns-clause-entered : goal.returns-clause-entered
 returns-clause-entered c =
     let order = IsPermutation-map row c.args.methods.items c.sort_unstable_by_key.new.self.items c.sort_unstable_by_key.ensures.permutation in
     if_some c.new.result _ _ c.new.ensures.made (λ cert is.
-    subst (HasStatesWhereEntered c.args.linked.now) (sym is) (where_entered c.args.linked.now (rows c.args.methods.items) (rows c.sort_unstable_by_key.new.self.items) c.requires.0 order c.requires.1))
+    subst (HasStatesWhereEntered c.args.linked.now) (sym is) (where_entered c.args.linked.now (rows c.args.methods.items) (rows c.sort_unstable_by_key.new.self.items) c.requires.gathered.0 order c.requires.gathered.1))
 
 pub returns-clause-least : goal.returns-clause-least
 returns-clause-least c =
     let order = IsPermutation-map row c.args.methods.items c.sort_unstable_by_key.new.self.items c.sort_unstable_by_key.ensures.permutation in
     if_some c.new.result _ _ c.new.ensures.made (λ cert is.
-    subst (HasLeastStates c.args.linked.now) (sym is) (least_states c.args.linked.now (rows c.args.methods.items) (rows c.sort_unstable_by_key.new.self.items) c.requires.0 order c.requires.1))
+    subst (HasLeastStates c.args.linked.now) (sym is) (least_states c.args.linked.now (rows c.args.methods.items) (rows c.sort_unstable_by_key.new.self.items) c.requires.gathered.0 order c.requires.gathered.1))
 
 pub returns-clause-none : goal.returns-clause-none
 returns-clause-none c =
     let order = IsPermutation-map row c.args.methods.items c.sort_unstable_by_key.new.self.items c.sort_unstable_by_key.ensures.permutation in
     let ascend = IsNonDecreasingBy-from_sort_by_key (λ (m : MethodRow). m.offset) _ c.sort_unstable_by_key.ensures.sorted (λ a r q k. search rules) in
-    if_none c.new.result _ _ c.new.ensures.none (λ none small. none (is_cert c.args.linked.now (rows c.args.methods.items) c.requires.0 c.sort_unstable_by_key.new.self.items c.requires.1 order ascend small))
+    if_none c.new.result _ _ c.new.ensures.none (λ none few. none (is_cert c.args.linked.now (rows c.args.methods.items) c.requires.gathered.0 c.sort_unstable_by_key.new.self.items c.requires.gathered.1 order ascend c.requires.fit few))

@@ -1,7 +1,9 @@
+use Rattle.jc_verify.proofs.Naming.{keeps_names}
+use Rattle.jc_check.specs.Package.{method_of}
 use Rattle.jc_verify.proofs.package.flow_laws.Goals as goal
 
-pub returns : goal.returns
-returns c =
+pub returns-clause-laws : goal.returns-clause-laws
+returns-clause-laws c =
     let world = c.args.linked.now.world in
     let supers = (rw c.table.ensures.table at (c.built_worlds_are_sound.ensures c.table.result.now c.len-count.ensures.small (rw c.table.ensures.table c.table.ensures.built))).superclasses in
     let order = c.order_laws.ensures.tables world supers.orderly supers.top in
@@ -13,4 +15,20 @@ returns c =
       classes = classes;
       monotone = λ m operation. c.effects_are_monotone.ensures.effects (record { world = world; targets = c.args.linked.now.body.targets; returned = m.returned }) order m.max_stack operation;
       bound = c.order_laws.ensures.bound _ _ _ _ classes;
+    }
+
+pub returns-clause-fit : goal.returns-clause-fit
+returns-clause-fit c =
+    let l = c.args.linked.now in
+    let world = l.world in
+    let supers = (rw c.table.ensures.table at (c.built_worlds_are_sound.ensures c.table.result.now c.len-count.ensures.small (rw c.table.ensures.table c.table.ensures.built))).superclasses in
+    let order = c.order_laws.ensures.tables world supers.orderly supers.top in
+    let classes = c.order_laws.ensures.lattices world supers.orderly supers.top in
+    let known = c.types_name_classes.ensures in
+    record {
+      differ = c.body-body.ensures.differ;
+      named = λ n b at.
+          keeps_names l (method_of l b) (known.entry n b at) (λ h class. known.caught n b h class at) (known.effects n b at) known.joins
+          (c.order_laws.ensures.joins _ _ _ _ classes) (c.order_laws.ensures.antisymmetric _ order);
+      locals = known.locals;
     }

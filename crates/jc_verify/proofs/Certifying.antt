@@ -12,7 +12,7 @@ use Rattle.jc_link.specs.Linked.{Linked}
 use Rattle.jc_check.specs.Method.{Method}
 use Rattle.jc_check.specs.Package.{method_of}
 use Rattle.jc_verify.specs.PrivateGathered.{AreGathered, IsInShape, IsRowOf}
-use Rattle.jc_verify.specs.PrivateRefused.{HasFewMethods, HasFitMethods}
+use Rattle.jc_verify.specs.PrivateRefused.{HasFitMethods}
 use Rattle.jc_verify.proofs.Carrying.{all_by_place}
 use Rattle.jc_verify.proofs.Certified.{moved}
 
@@ -46,7 +46,7 @@ row_of (x ∷ ms) zero r e = (x, refl, same_Some (row x) r e)
 row_of (x ∷ ms) (suc n) r e = row_of ms n r e
 
 module _ (l : Linked) (of : List Row) (seen : List ℕ) (put : List MethodRow) (gathered : AreGathered l (length l.body.kept.methods) of seen) (order : IsPermutation of (rows put))
-    (ascend : IsNonDecreasingBy (λ (m : MethodRow). m.offset) put) (fit : HasFitMethods l) (few : HasFewMethods l) where
+    (ascend : IsNonDecreasingBy (λ (m : MethodRow). m.offset) put) (fit : HasFitMethods l) (few : length l.body.kept.methods < 2 ^ 16) where
   distinct : IsDistinct (λ (r s : Row). r.offset == s.offset) of
   distinct =
       IsDistinct-from_apart (λ (r s : Row). r.offset == s.offset) of (λ i j d lt within.

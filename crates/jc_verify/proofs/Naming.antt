@@ -16,7 +16,7 @@ use Rattle.jc_types.specs.Known.{AreKnown, is_known}
 use Rattle.jc_types.specs.State.{IsJoin, StateWithRoom, Types, has_shape_of, joined_types, types_below}
 use Rattle.jc_types.specs.declared.ty.Ty.{Ty}
 use Rattle.jc_types.specs.declared.ty.Ty.TheVariants.{Top, Word, Null, Class, BooleanArray, ByteArray, ShortArray, ReferenceArray}
-use Rattle.jc_check.specs.Method.{Handler, Method, caught_types, entry_of}
+use Rattle.jc_check.specs.Method.{Handler, Method, entry_of}
 use Rattle.jc_check.specs.Package.{package_rules}
 use Rattle.jc_verify.specs.PrivateFlow.{Places, below_in}
 use Rattle.jc_verify.specs.PrivateNames.{AreNamed, HasNames, HasUnnamed, KeepsNames, TypeHasName}

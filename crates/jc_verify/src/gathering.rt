@@ -71,7 +71,7 @@ fn put_states(
     Ok(())
 }
 
-/// One method more. One that stands behind a method without a certificate is passed over; of two at one offset, which readers refuse,
+/// One method more. One that stands behind a method without a certificate is passed over; of two at one offset, which no linked package has,
 /// the second has none.
 pub(crate) fn gather(
     alloc: Global,

@@ -1,12 +1,13 @@
 //! The certificate of a package.
 
-ghost use Rattle.std.specs.Prelude.{◌≡◌, ℕ, List, length, IfErr, IfNone, IfOk, IfSome};
+ghost use Rattle.std.specs.Prelude.{◌≡◌, ◌<◌, ◌^◌, ℕ, List, length, IfErr, IfNone, IfOk, IfSome};
 ghost use Rattle.jc_cert.specs.Cert.{rows};
 ghost use Rattle.jc_check.specs.Checked.{CarriesPackage};
 ghost use Rattle.jc_verify.specs.Inferred.{HasAllStates, HasLeastStates, HasStatesWhereEntered};
 ghost use Rattle.jc_verify.specs.PrivateFlow.{HasLaws};
 ghost use Rattle.jc_verify.specs.PrivateGathered.{AreGathered, IsSoFar};
-ghost use Rattle.jc_verify.specs.PrivateRefused.{HasFewMethods, HasFitMethods, IsRefusalSoFar};
+ghost use Rattle.jc_verify.specs.PrivateRefused.{HasFitMethods};
+ghost use Rattle.jc_verify.specs.Refusal.{IsRefusal};
 
 use crate::fault::VerifyFault;
 use crate::gathering::{Gathered, gather};
@@ -65,7 +66,7 @@ fn certificate_of(linked: &Linked, methods: Vec<MethodRow>) -> Option<Cert>
     ensures carried { IfSome result (λ cert. CarriesPackage linked.now cert) }
     ensures entered { IfSome result (λ cert. HasStatesWhereEntered linked.now cert) }
     ensures least { IfSome result (λ cert. HasLeastStates linked.now cert) }
-    ensures none { IfNone result (HasFewMethods linked.now → ⊥) }
+    ensures none { IfNone result (length linked.now.body.kept.methods < 2 ^ 16 → ⊥) }
 {
     let _laws = linked.table().len();
     let mut methods = methods;
@@ -82,7 +83,7 @@ fn certificate_or_fault(linked: &Linked, gathered: Gathered) -> Result<Cert, Ver
     ensures entered { IfOk result (λ cert. HasStatesWhereEntered linked.now cert) }
     ensures all { IfOk result (λ cert. HasAllStates linked.now cert) }
     ensures least { IfOk result (λ cert. HasLeastStates linked.now cert) }
-    ensures refused { IfErr result (IsRefusalSoFar linked.now) }
+    ensures refused { length linked.now.body.kept.methods < 2 ^ 16 → IfErr result (IsRefusal linked.now) }
 {
     if let Some(told) = gathered.told {
         return Err(VerifyFault::NoCertificate {
@@ -103,12 +104,14 @@ fn certificate_or_fault(linked: &Linked, gathered: Gathered) -> Result<Cert, Ver
 }
 
 /// Works out a certificate that carries a linked package, with states only where control flow enters a method by a branch or a
-/// handler of an instruction that it reaches, each the least that is possible there. Where a method can't be carried the one with the least offset is told.
+/// handler of an instruction that it reaches, each the least that is possible there. Where a method can't be carried the one with the least
+/// offset is told.
 pub fn infer(alloc: Global, linked: &Linked) -> Result<Cert, VerifyFault>
     ensures carried { IfOk result (λ cert. CarriesPackage linked.now cert) }
     ensures entered { IfOk result (λ cert. HasStatesWhereEntered linked.now cert) }
     ensures all { IfOk result (λ cert. HasAllStates linked.now cert) }
     ensures least { IfOk result (λ cert. HasLeastStates linked.now cert) }
+    ensures refused { length linked.now.body.kept.methods < 2 ^ 16 → IfErr result (IsRefusal linked.now) }
 {
     flow_laws(linked);
     let gathered = gather_all(alloc, linked)?;

@@ -1,0 +1,4 @@
+mod Words
+mod Places
+mod Lending
+mod Pushing

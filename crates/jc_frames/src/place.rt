@@ -1,0 +1,49 @@
+//! Where frames lie among the words.
+
+ghost use Rattle.std.specs.Prelude.{◌≡◌, ◌+◌, ◌-◌, ◌<◌, ◌≤◌, Some, length, slice_get, vec_len};
+ghost use Rattle.jc_frames.specs.PrivateLaid.{part, put_at};
+
+use crate::header::FrameHeader;
+
+/// A frame: where its words begin, and how many locals, and operands behind them, there is room for.
+#[derive(Clone, Copy)]
+pub(crate) struct FramePlace {
+    pub(crate) header: FrameHeader,
+    pub(crate) start: u16,
+    pub(crate) locals: u16,
+    pub(crate) operands: u8,
+}
+
+/// The place of the top frame.
+pub(crate) fn top_of(places: &[FramePlace]) -> FramePlace
+    requires some { 0 < length places.now }
+    ensures { slice_get places.now (length places.now - 1) ≡ Some result }
+{
+    places[places.len() - 1]
+}
+
+/// Puts the arguments into the words from one on.
+pub(crate) fn put_arguments(words: &mut Vec<u16>, start: usize, arguments: &[u16])
+    requires within { start + length arguments.now ≤ vec_len words.old }
+    ensures items { words.new.items ≡ put_at words.old.items start arguments.now }
+    ensures len { vec_len words.new ≡ vec_len words.old }
+{
+    put_words(words, start, arguments);
+}
+
+fn put_words(words: &mut [u16], start: usize, arguments: &[u16])
+    requires within { start + length arguments.now ≤ length words.old }
+    ensures { words.new ≡ put_at words.old start arguments.now }
+{
+    words[start..start + arguments.len()].copy_from_slice(arguments);
+}
+
+/// Copies words that stand before one to the words from there on.
+pub(crate) fn copy_arguments(words: &mut Vec<u16>, from: usize, count: usize, start: usize)
+    requires before { from + count ≤ start }
+    requires within { start + count ≤ vec_len words.old }
+    ensures items { words.new.items ≡ put_at words.old.items start (part words.old.items from count) }
+    ensures len { vec_len words.new ≡ vec_len words.old }
+{
+    words.copy_within(from..from + count, start);
+}

@@ -1,0 +1,56 @@
+use Rattle.std.proofs.Common.{refl}
+use Rattle.jc_code.specs.Decoding.{next_stable_switch, next_lookup_switch, next_wide_increment, when_of, next_wide_branch, next_control, next_branch, operator_of, next_arithmetic, next_shuffle, next_local, next_constant, next_word_operation}
+use Rattle.jc_code.specs.Instructions.{next_operation, instr_at}
+use Rattle.jc_code.specs.Objects.{word_kind_of, next_tested_type, next_creation, next_interface, next_invocation, narrow_field_of, wide_field_of, next_narrow_field, next_field, reference_condition_of, next_wide_condition, next_condition, next_array, next_reference}
+use Rattle.jc_api.specs.Token.{chain, is_at_or_above}
+use Rattle.jc_classes.specs.Api.{those_to, each_below, room_to, number_to}
+use Rattle.jc_classes.specs.Walk.{most_classes}
+use Rattle.jc_interp.specs.Examples.{run_with}
+use Rattle.jc_interp.specs.Objects.{act_object}
+use Rattle.jc_interp.specs.Step.{act_at, defensive_step, steps_of, runtime_call}
+use Rattle.jc_interp.specs.Words.{act_word}
+use Rattle.jc_interp.proofs.examples.stuck_runs.Goals as goal
+
+pub returns-clause-an_operand_too_many : goal.returns-clause-an_operand_too_many
+unfolding next_stable_switch next_lookup_switch next_wide_increment when_of next_wide_branch next_control next_branch operator_of next_arithmetic next_shuffle next_local next_constant next_word_operation next_operation instr_at word_kind_of next_tested_type next_creation next_interface next_invocation narrow_field_of wide_field_of next_narrow_field next_field reference_condition_of next_wide_condition next_condition next_array next_reference chain is_at_or_above those_to each_below room_to number_to most_classes run_with act_object act_at defensive_step steps_of runtime_call act_word
+returns-clause-an_operand_too_many c = refl
+
+pub returns-clause-an_operand_is_missing : goal.returns-clause-an_operand_is_missing
+unfolding next_stable_switch next_lookup_switch next_wide_increment when_of next_wide_branch next_control next_branch operator_of next_arithmetic next_shuffle next_local next_constant next_word_operation next_operation instr_at word_kind_of next_tested_type next_creation next_interface next_invocation narrow_field_of wide_field_of next_narrow_field next_field reference_condition_of next_wide_condition next_condition next_array next_reference chain is_at_or_above those_to each_below room_to number_to most_classes run_with act_object act_at defensive_step steps_of runtime_call act_word
+returns-clause-an_operand_is_missing c = refl
+
+pub returns-clause-a_local_was_never_written : goal.returns-clause-a_local_was_never_written
+unfolding next_stable_switch next_lookup_switch next_wide_increment when_of next_wide_branch next_control next_branch operator_of next_arithmetic next_shuffle next_local next_constant next_word_operation next_operation instr_at word_kind_of next_tested_type next_creation next_interface next_invocation narrow_field_of wide_field_of next_narrow_field next_field reference_condition_of next_wide_condition next_condition next_array next_reference chain is_at_or_above those_to each_below room_to number_to most_classes run_with act_object act_at defensive_step steps_of runtime_call act_word
+returns-clause-a_local_was_never_written c = refl
+
+pub returns-clause-no_instruction_begins : goal.returns-clause-no_instruction_begins
+unfolding next_stable_switch next_lookup_switch next_wide_increment when_of next_wide_branch next_control next_branch operator_of next_arithmetic next_shuffle next_local next_constant next_word_operation next_operation instr_at word_kind_of next_tested_type next_creation next_interface next_invocation narrow_field_of wide_field_of next_narrow_field next_field reference_condition_of next_wide_condition next_condition next_array next_reference chain is_at_or_above those_to each_below room_to number_to most_classes run_with act_object act_at defensive_step steps_of runtime_call act_word
+returns-clause-no_instruction_begins c = refl
+
+pub returns-clause-an_entry_is_missing : goal.returns-clause-an_entry_is_missing
+unfolding next_stable_switch next_lookup_switch next_wide_increment when_of next_wide_branch next_control next_branch operator_of next_arithmetic next_shuffle next_local next_constant next_word_operation next_operation instr_at word_kind_of next_tested_type next_creation next_interface next_invocation narrow_field_of wide_field_of next_narrow_field next_field reference_condition_of next_wide_condition next_condition next_array next_reference chain is_at_or_above those_to each_below room_to number_to most_classes run_with act_object act_at defensive_step steps_of runtime_call act_word
+returns-clause-an_entry_is_missing c = refl
+
+pub returns-clause-a_result_of_another_type : goal.returns-clause-a_result_of_another_type
+unfolding next_stable_switch next_lookup_switch next_wide_increment when_of next_wide_branch next_control next_branch operator_of next_arithmetic next_shuffle next_local next_constant next_word_operation next_operation instr_at word_kind_of next_tested_type next_creation next_interface next_invocation narrow_field_of wide_field_of next_narrow_field next_field reference_condition_of next_wide_condition next_condition next_array next_reference chain is_at_or_above those_to each_below room_to number_to most_classes run_with act_object act_at defensive_step steps_of runtime_call act_word
+returns-clause-a_result_of_another_type c = refl
+
+pub returns-clause-an_operand_of_another_tag : goal.returns-clause-an_operand_of_another_tag
+unfolding next_stable_switch next_lookup_switch next_wide_increment when_of next_wide_branch next_control next_branch operator_of next_arithmetic next_shuffle next_local next_constant next_word_operation next_operation instr_at word_kind_of next_tested_type next_creation next_interface next_invocation narrow_field_of wide_field_of next_narrow_field next_field reference_condition_of next_wide_condition next_condition next_array next_reference chain is_at_or_above those_to each_below room_to number_to most_classes run_with act_object act_at defensive_step steps_of runtime_call act_word
+returns-clause-an_operand_of_another_tag c = refl
+
+pub returns-clause-no_array : goal.returns-clause-no_array
+unfolding next_stable_switch next_lookup_switch next_wide_increment when_of next_wide_branch next_control next_branch operator_of next_arithmetic next_shuffle next_local next_constant next_word_operation next_operation instr_at word_kind_of next_tested_type next_creation next_interface next_invocation narrow_field_of wide_field_of next_narrow_field next_field reference_condition_of next_wide_condition next_condition next_array next_reference chain is_at_or_above those_to each_below room_to number_to most_classes run_with act_object act_at defensive_step steps_of runtime_call act_word
+returns-clause-no_array c = refl
+
+pub returns-clause-an_argument_of_another_class : goal.returns-clause-an_argument_of_another_class
+unfolding next_stable_switch next_lookup_switch next_wide_increment when_of next_wide_branch next_control next_branch operator_of next_arithmetic next_shuffle next_local next_constant next_word_operation next_operation instr_at word_kind_of next_tested_type next_creation next_interface next_invocation narrow_field_of wide_field_of next_narrow_field next_field reference_condition_of next_wide_condition next_condition next_array next_reference chain is_at_or_above those_to each_below room_to number_to most_classes run_with act_object act_at defensive_step steps_of runtime_call act_word
+returns-clause-an_argument_of_another_class c = refl
+
+pub returns-clause-an_object_of_another_class : goal.returns-clause-an_object_of_another_class
+unfolding next_stable_switch next_lookup_switch next_wide_increment when_of next_wide_branch next_control next_branch operator_of next_arithmetic next_shuffle next_local next_constant next_word_operation next_operation instr_at word_kind_of next_tested_type next_creation next_interface next_invocation narrow_field_of wide_field_of next_narrow_field next_field reference_condition_of next_wide_condition next_condition next_array next_reference chain is_at_or_above those_to each_below room_to number_to most_classes run_with act_object act_at defensive_step steps_of runtime_call act_word
+returns-clause-an_object_of_another_class c = refl
+
+pub returns-clause-an_abstract_method : goal.returns-clause-an_abstract_method
+unfolding next_stable_switch next_lookup_switch next_wide_increment when_of next_wide_branch next_control next_branch operator_of next_arithmetic next_shuffle next_local next_constant next_word_operation next_operation instr_at word_kind_of next_tested_type next_creation next_interface next_invocation narrow_field_of wide_field_of next_narrow_field next_field reference_condition_of next_wide_condition next_condition next_array next_reference chain is_at_or_above those_to each_below room_to number_to most_classes run_with act_object act_at defensive_step steps_of runtime_call act_word
+returns-clause-an_abstract_method c = refl

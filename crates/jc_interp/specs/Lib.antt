@@ -1,0 +1,15 @@
+pub mod Values
+pub mod Machine
+pub mod Lookup
+pub mod Going
+pub mod Returns
+pub mod Words
+pub mod Arrays
+pub mod Fields
+pub mod Calls
+pub mod Objects
+pub mod Step
+pub mod Agree
+pub mod Typed
+pub mod ExamplePackages
+pub mod Examples

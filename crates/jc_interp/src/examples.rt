@@ -1,0 +1,87 @@
+//! Examples of the defensive machine: what the prover computes of it.
+
+ghost use Rattle.std.specs.Prelude.{◌≡◌, [], ◌∷◌, ◌++◌, None, Some};
+ghost use Rattle.jc_classes.specs.declared.name.ClassName.TheVariants as classes;
+ghost use Rattle.jc_classes.specs.declared.name.MethodName.TheVariants.{Loaded};
+ghost use Rattle.jc_firewall.specs.declared.access.Access.TheVariants.{CheckCast, GetField, InvokeInterface, InvokeVirtual, LoadComponent, PutField, StoreComponent};
+ghost use Rattle.jc_firewall.specs.declared.access.Rule.TheVariants.{Fields};
+ghost use Rattle.jc_firewall.specs.declared.access.Verdict.TheVariants.{Allowed, AllowedSwitch, Denied};
+ghost use Rattle.jc_interp.specs.ExamplePackages.{asker, client, server};
+ghost use Rattle.jc_interp.specs.Examples.{a_value, an_object, asking, exceptions, owner, probed, probed_on, run, run_with, start_of, stuck, untouched, used_up, with_served};
+ghost use Rattle.jc_interp.specs.Values.{Null, Ref, Word};
+ghost use Rattle.jc_link.specs.Applet.{applet};
+
+/// An applet is installed: its object is made, and registers itself. It does nothing.
+pub fn install_runs()
+    ensures { run (applet ∷ []) 10 (start_of exceptions (owner 1 1) (Loaded 1 1) (Null ∷ Word 0 ∷ Word 0 ∷ []))
+        ≡ record { touches = record { active = 1; access = InvokeVirtual; object = 11; verdict = Allowed } ∷ []; end = a_value None } }
+{}
+
+/// Calls. They do nothing.
+pub fn calls_run()
+    ensures an_override_answers { run (server ∷ client ∷ []) 10 (start_of (with_served 30) (owner 1 1) (Loaded 1 80) (Ref 11 ∷ []))
+        ≡ record { touches = record { active = 1; access = InvokeVirtual; object = 11; verdict = Allowed } ∷ []; end = a_value (Some (Word 2)) } }
+    ensures an_inherited_method_answers { run (server ∷ client ∷ []) 10 (start_of (with_served 10) (owner 1 1) (Loaded 1 80) (Ref 11 ∷ []))
+        ≡ record { touches = record { active = 1; access = InvokeVirtual; object = 11; verdict = Allowed } ∷ []; end = a_value (Some (Word 1)) } }
+    ensures an_interface_is_called_across_contexts { run (server ∷ client ∷ []) 10 (start_of (with_served 30) (owner 2 1) (Loaded 2 1) (Ref 11 ∷ []))
+        ≡ record { touches = record { active = 2; access = InvokeInterface; object = 11; verdict = AllowedSwitch (owner 1 1) } ∷ []; end = a_value (Some (Word 2)) } }
+    ensures a_field_is_read { run (server ∷ client ∷ []) 10 (start_of (with_served 30) (owner 1 1) (Loaded 1 100) (Ref 11 ∷ []))
+        ≡ record { touches = record { active = 1; access = GetField; object = 11; verdict = Allowed } ∷ []; end = a_value (Some (Word 7)) } }
+    ensures a_field_is_denied_across_contexts { run (server ∷ client ∷ []) 10 (start_of (with_served 30) (owner 2 1) (Loaded 2 40) (Ref 11 ∷ []))
+        ≡ record { touches = record { active = 2; access = GetField; object = 11; verdict = Denied Fields } ∷ []; end = an_object 7 } }
+    ensures an_exception_passes_two_frames_and_a_switch { run (server ∷ client ∷ []) 20 (start_of (with_served 50) (owner 2 1) (Loaded 2 20) (Ref 11 ∷ []))
+        ≡ record { touches = record { active = 2; access = InvokeInterface; object = 11; verdict = AllowedSwitch (owner 1 1) } ∷ []; end = a_value (Some (Word 5)) } }
+    ensures a_service_is_run_by_its_owner { run (server ∷ client ∷ []) 10 (start_of (with_served 90) (owner 2 1) (Loaded 2 1) (Ref 11 ∷ []))
+        ≡ record {
+          touches = record { active = 2; access = InvokeInterface; object = 11; verdict = AllowedSwitch (owner 1 1) } ∷ record { active = 1; access = GetField; object = 11; verdict = Allowed } ∷ [];
+          end = a_value (Some (Word 7));
+        } }
+    ensures what_catches_is_run_by_its_owner { run (server ∷ client ∷ []) 20 (start_of (with_served 50) (owner 2 1) (Loaded 2 60) (Ref 11 ∷ []))
+        ≡ record {
+          touches = record { active = 2; access = InvokeInterface; object = 11; verdict = AllowedSwitch (owner 1 1) } ∷ record { active = 2; access = GetField; object = 11; verdict = Denied Fields } ∷ [];
+          end = an_object 7;
+        } }
+    ensures an_uncaught_exception_ends_a_call { run (server ∷ client ∷ []) 20 (start_of (with_served 50) (owner 2 1) (Loaded 2 1) (Ref 11 ∷ []))
+        ≡ record { touches = record { active = 2; access = InvokeInterface; object = 11; verdict = AllowedSwitch (owner 1 1) } ∷ []; end = an_object 1 } }
+    ensures null_has_no_method { run (server ∷ client ∷ []) 10 (start_of (with_served 30) (owner 1 1) (Loaded 1 80) (Null ∷ []))
+        ≡ record { touches = []; end = an_object 6 } }
+    ensures steps_are_used_up_inside_a_call { run (server ∷ client ∷ []) 3 (start_of (with_served 30) (owner 1 1) (Loaded 1 80) (Ref 11 ∷ []))
+        ≡ record { touches = record { active = 1; access = InvokeVirtual; object = 11; verdict = Allowed } ∷ []; end = used_up } }
+    ensures frames_are_used_up { run (server ∷ client ∷ []) 90 (start_of (with_served 30) (owner 1 1) (Loaded 1 120) [])
+        ≡ record { touches = []; end = used_up } }
+{}
+
+/// A native member has a method called, with the owner of the object active. It does nothing.
+pub fn callback_runs()
+    ensures { run_with asking (applet ∷ server ∷ asker ∷ []) 20 (start_of (with_served 0) (owner 3 1) (Loaded 3 1) [])
+        ≡ record { touches = record { active = 1; access = InvokeVirtual; object = 11; verdict = Allowed } ∷ []; end = a_value (Some (Word 1)) } }
+{}
+
+/// What would leave the machine stuck does so. They do nothing.
+pub fn stuck_runs()
+    ensures an_operand_too_many { probed 1 ≡ untouched stuck }
+    ensures an_operand_is_missing { probed 10 ≡ untouched stuck }
+    ensures a_local_was_never_written { probed 20 ≡ untouched stuck }
+    ensures no_instruction_begins { probed 30 ≡ untouched stuck }
+    ensures an_entry_is_missing { probed 40 ≡ untouched stuck }
+    ensures a_result_of_another_type { probed 50 ≡ untouched stuck }
+    ensures an_operand_of_another_tag { probed_on 0 200 ≡ untouched stuck }
+    ensures no_array { probed_on 0 210 ≡ untouched stuck }
+    ensures an_argument_of_another_class { probed_on 30 220 ≡ untouched stuck }
+    ensures an_object_of_another_class { probed_on 0 240 ≡ untouched stuck }
+    ensures an_abstract_method { probed_on 30 240 ≡ record { touches = record { active = 1; access = InvokeVirtual; object = 11; verdict = Allowed } ∷ []; end = stuck } }
+{}
+
+/// Throws. They do nothing.
+pub fn throws_run()
+    ensures a_negative_length { probed 60 ≡ untouched (an_object 5) }
+    ensures an_index_past_the_end { probed 70 ≡ record { touches = record { active = 1; access = LoadComponent; object = 11; verdict = Allowed } ∷ []; end = an_object 4 } }
+    ensures no_room { probed 80 ≡ record { touches = record { active = 0; access = PutField; object = 9; verdict = Allowed } ∷ []; end = an_object 9 } }
+    ensures a_byte_with_its_sign { probed 100 ≡ record {
+      touches = record { active = 1; access = StoreComponent; object = 11; verdict = Allowed } ∷ record { active = 1; access = LoadComponent; object = 11; verdict = Allowed } ∷ [];
+      end = a_value (Some (Word 0xFFFF));
+    } }
+    ensures a_shift_of_sixteen_bits { probed 120 ≡ untouched (a_value (Some (Word 0xFFFF))) }
+    ensures a_cast_passes { probed_on 0 250 ≡ record { touches = record { active = 1; access = CheckCast; object = 11; verdict = Allowed } ∷ []; end = a_value (Some (Word 1)) } }
+    ensures a_cast_fails { probed_on 30 250 ≡ record { touches = record { active = 1; access = CheckCast; object = 11; verdict = Allowed } ∷ []; end = an_object 3 } }
+{}

@@ -1,0 +1,4 @@
+mod Laid
+mod Making
+mod Held
+mod Blanking

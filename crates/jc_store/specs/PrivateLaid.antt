@@ -1,0 +1,74 @@
+-- Private. Objects laid one behind the other over one array of cells.
+use Rattle.std.specs.Prelude.{◌≡◌, ℕ, zero, suc, ◌+◌, ◌-◌, ◌<◌, ◌≤◌, ◌^◌, List, Option, if◌then◌else◌, [], ◌∷◌, ◌++◌, length, map, take, drop, replicate, slice_range}
+use Rattle.jc_store.specs.Heap.{Heap, Object, blanked, cells_in, is_cleared_by}
+use Rattle.jc_store.specs.Store.{Store}
+use Rattle.jc_store.specs.declared.header.Header.{Header}
+use Rattle.jc_store.specs.declared.kind.ClearingEvent.{ClearingEvent}
+
+-- the object that a header is of
+abbrev pub object_in : List ℕ → Header → Object ℕ
+object_in cells h = record { kind = h.kind; owner = h.owner; cells = slice_range cells h.start (h.start + h.len) }
+
+-- the objects of headers
+abbrev pub objects_in : List ℕ → List Header → Heap ℕ
+objects_in cells headers = map (object_in cells) headers
+
+-- from a cell on, the components of each object begin where those of the one before end, and the last end at a cell
+abbrev pub AreLaid : ℕ → List Header → ℕ → Type 0
+AreLaid start [] end = end ≡ start
+AreLaid start (h ∷ headers) end = (h.start ≡ start) × AreLaid (start + h.len) headers end
+
+-- how much of a store is used: the lengths of its arrays, and how many headers there is room for; the cell behind the last component; and
+-- the most objects and cells
+pub record Sizes : Type 0 where
+  pub headers : ℕ
+  pub room : ℕ
+  pub cells : ℕ
+  pub used : ℕ
+  pub most_objects : ℕ
+  pub most_cells : ℕ
+
+-- the objects lie within the cells, with one cell left for each of them, and the cells behind them are 0
+pub record IsLaid (headers : List Header) (cells : List ℕ) (s : Sizes) : Type 0 where
+  pub laid : AreLaid 0 headers s.used
+  pub header_count : s.headers ≡ length headers
+  pub cell_count : s.cells ≡ length cells
+  pub sized : length cells ≡ s.most_cells
+  pub within : s.used + length headers ≤ s.most_cells
+  pub blank : drop s.used cells ≡ replicate (s.most_cells - s.used) 0
+  pub objects : length headers ≤ s.most_objects
+  pub reserved : s.most_objects ≤ s.room
+  pub few_objects : s.most_objects < 2 ^ 16
+  pub few_cells : s.most_cells < 2 ^ 16
+
+-- so many cells hold all of them
+pub record AreWithin (headers : List Header) (count : ℕ) : Type 0 where
+  pub end : ℕ
+  pub laid : AreLaid 0 headers end
+  pub within : end ≤ count
+
+-- the cells with 0 in so many of them, from one on
+abbrev pub zeroed : List ℕ → ℕ → ℕ → List ℕ
+zeroed cells start len = take start cells ++ replicate len 0 ++ drop (start + len) cells
+
+-- there is room for one object more with so many components
+pub record HasRoom (s : Store) (len : ℕ) : Type 0 where
+  pub objects : length s.objects < s.most_objects
+  pub cells : cells_in s.objects + 1 + len ≤ s.most_cells
+
+-- ---- clearing, one object after the other
+
+abbrev pub if_cleared : ClearingEvent → Option ℕ → Object ℕ → Object ℕ
+if_cleared event context object = if is_cleared_by event context object then blanked (λ kind. 0) object else object
+
+-- the first of these objects are cleared
+abbrev pub first_cleared : ClearingEvent → Option ℕ → ℕ → Heap ℕ → Heap ℕ
+first_cleared event context zero heap = heap
+first_cleared event context (suc n) [] = []
+first_cleared event context (suc n) (object ∷ heap) = if_cleared event context object ∷ first_cleared event context n heap
+
+-- the objects of the first headers were cleared, and nothing was changed behind the last
+pub record AreCleared (headers : List Header) (event : ClearingEvent) (context : Option ℕ) (n : ℕ) (before after : List ℕ) : Type 0 where
+  pub objects : objects_in after headers ≡ first_cleared event context n (objects_in before headers)
+  pub len : length after ≡ length before
+  pub behind : (end : ℕ) → AreLaid 0 headers end → drop end after ≡ drop end before

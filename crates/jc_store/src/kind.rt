@@ -1,0 +1,50 @@
+//! Kinds of objects.
+
+use jc_classes::ClassName;
+
+/// What an object is an instance of.
+#[derive(Clone, Copy, Debug, PartialEq, Eq)]
+pub enum ObjectType {
+    /// An instance of a class.
+    Instance(ClassName),
+    /// An array of booleans.
+    BooleanArray,
+    /// An array of bytes.
+    ByteArray,
+    /// An array of shorts.
+    ShortArray,
+    /// An array of references to objects of a class or an interface.
+    ReferenceArray(ClassName),
+}
+
+/// How an object is marked for the firewall (Java Card Runtime Environment Specification, Applet Isolation and Object Sharing: JCRE
+/// entry point objects, global arrays).
+#[derive(Clone, Copy, Debug, PartialEq, Eq)]
+pub enum Mark {
+    /// An object like any other.
+    Plain,
+    /// A permanent entry point of the runtime: references to it may be stored.
+    PermanentEntryPoint,
+    /// A temporary entry point of the runtime: no reference to it may be stored.
+    TemporaryEntryPoint,
+    /// A global array: no reference to it may be stored.
+    GlobalArray,
+}
+
+/// When a transient array is cleared (Java Card Runtime Environment Specification, Transient Objects).
+#[derive(Clone, Copy, Debug, PartialEq, Eq)]
+pub enum ClearingEvent {
+    /// CLEAR_ON_RESET: when the card is reset.
+    Reset,
+    /// CLEAR_ON_DESELECT: when an applet of its context is deselected, and when the card is reset.
+    Deselect,
+}
+
+/// What an object is, and stays.
+#[derive(Clone, Copy, Debug, PartialEq, Eq)]
+pub struct Kind {
+    pub object: ObjectType,
+    pub mark: Mark,
+    /// The event that clears its cells, if it is transient.
+    pub clears: Option<ClearingEvent>,
+}

@@ -1,0 +1,12 @@
+//! The objects on a card: who owns them, what they are, and their cells.
+#![tactic(auto)]
+
+mod clearing;
+mod header;
+mod kind;
+mod owner;
+mod store;
+
+pub use kind::{ClearingEvent, Kind, Mark, ObjectType};
+pub use owner::Owner;
+pub use store::Store;

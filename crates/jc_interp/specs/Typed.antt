@@ -23,7 +23,7 @@ use Rattle.jc_store.specs.declared.kind.ObjectType.TheVariants.{Instance, Boolea
 use Rattle.jc_types.specs.Ty.{type_of_declared}
 use Rattle.jc_types.specs.declared.ty.Ty.{Ty}
 use Rattle.jc_types.specs.declared.ty.Ty.TheVariants as types
-use Rattle.jc_interp.specs.Agree.{Agree, Pointwise, Reads, WordMachine}
+use Rattle.jc_interp.specs.Agree.{Agree, AgreeBeside, Pointwise, Reads, WordMachine}
 use Rattle.jc_interp.specs.Lookup.{body_at, code_at, component_class, is_boolean_array, is_byte_array, is_instance, is_of_class, is_of_type, is_short_array, is_word, leads_to}
 use Rattle.jc_interp.specs.Machine.{Ends, Frame, Machine, Next, Outcome, StaticValue, Stuck, Surroundings, Throws, UsedUp}
 use Rattle.jc_interp.specs.Objects.{is_null}
@@ -148,10 +148,15 @@ pub data WaitTyped {C : Type 0} (s : Surroundings C) (heap : Heap TaggedValue) :
 
 -- ---- machines
 
-pub record IsTyped {C : Type 0} (s : Surroundings C) (m : Machine C) : Type 0 where
+-- what it keeps beside its frames
+pub record IsTypedBeside {C : Type 0} (s : Surroundings C) (m : Machine C) : Type 0 where
   pub heap : HeapTyped s.world.shapes m.heap
   pub statics : StaticsTyped s.world.shapes m.heap m.statics
   pub exceptions : HasExceptions m.heap
+
+-- and its frames
+pub record IsTyped {C : Type 0} (s : Surroundings C) (m : Machine C) : Type 0 where
+  pub beside : IsTypedBeside s m
   pub top : RunsTyped s.world m.heap m.top
   pub waiting : WaitTyped s m.heap (given_by s.world m.heap m.top top.placed) m.waiting
 
@@ -170,21 +175,25 @@ ReadsResult (Some w) (Some v) = Reads w v
 ReadsResult None (Some v) = ⊥
 ReadsResult (Some w) None = ⊥
 
+-- where a call is over its frames count no more, but what was kept beside them stays
+abbrev pub Leaves : {C : Type 0} → Surroundings C → WordMachine C → Machine C → Type 0
+Leaves s u m = AgreeBeside s u m × IsTypedBeside s m
+
 -- it comes to what the defensive machine comes to, which isn't stuck
-abbrev pub Follows : {C : Type 0} → Surroundings C → WordMachine → WordEnd → Outcome C → Type 0
+abbrev pub Follows : {C : Type 0} → Surroundings C → WordMachine C → WordEnd → Outcome C → Type 0
 Follows s u GoesOn (Next m) = Agree s u m × IsTyped s m
 Follows s u GoesOn (Throws m object) = ⊥
 Follows s u GoesOn (Ends m value) = ⊥
 Follows s u GoesOn (UsedUp m) = ⊥
-Follows s u (ThrowsObject number) (Throws m object) = number ≡ object
+Follows s u (ThrowsObject number) (Throws m object) = Leaves s u m × (number ≡ object)
 Follows s u (ThrowsObject number) (Next m) = ⊥
 Follows s u (ThrowsObject number) (Ends m value) = ⊥
 Follows s u (ThrowsObject number) (UsedUp m) = ⊥
-Follows s u (EndsWith word) (Ends m value) = ReadsResult word value
+Follows s u (EndsWith word) (Ends m value) = Leaves s u m × ReadsResult word value
 Follows s u (EndsWith word) (Next m) = ⊥
 Follows s u (EndsWith word) (Throws m object) = ⊥
 Follows s u (EndsWith word) (UsedUp m) = ⊥
-Follows s u HasNoRoom (UsedUp m) = ⊤
+Follows s u HasNoRoom (UsedUp m) = Leaves s u m
 Follows s u HasNoRoom (Next m) = ⊥
 Follows s u HasNoRoom (Throws m object) = ⊥
 Follows s u HasNoRoom (Ends m value) = ⊥
@@ -194,5 +203,5 @@ Follows s u (EndsWith word) Stuck = ⊥
 Follows s u HasNoRoom Stuck = ⊥
 
 -- a step on words, for each defensive machine with which it agrees and which is well typed
-abbrev pub IsStep : {C : Type 0} → Surroundings C → WordMachine → WordMachine → WordEnd → Type 0
+abbrev pub IsStep : {C : Type 0} → Surroundings C → WordMachine C → WordMachine C → WordEnd → Type 0
 IsStep {C} s before after end = (m : Machine C) → Agree s before m → IsTyped s m → Follows s after end (defensive_step s m).outcome

@@ -52,6 +52,7 @@ impl Frames {
     }
 
     /// How many frames there are.
+    #[inline]
     pub fn count(&self) -> u8
         ensures { result ≡ length self.now.frames }
     {
@@ -59,6 +60,7 @@ impl Frames {
     }
 
     /// What is known of the top frame.
+    #[inline]
     pub fn header(&self) -> FrameHeader
         requires there { HasTop self.now }
         ensures { (top : Frame) (below : List Frame) → self.now.frames ≡ top ∷ below → result ≡ top.header }
@@ -67,6 +69,7 @@ impl Frames {
     }
 
     /// Puts another header into the top frame.
+    #[inline]
     pub fn set_header(&mut self, header: FrameHeader)
         requires there { HasTop self.old }
         ensures { (top : Frame) (below : List Frame) → self.old.frames ≡ top ∷ below
@@ -83,6 +86,7 @@ impl Frames {
     }
 
     /// The locals of the top frame, for writing.
+    #[inline]
     pub fn locals(&mut self) -> &mut [u16]
         requires there { HasTop self.old }
         ensures* given_back { sem 𝓛 (LendsLocals self.entry result) }
@@ -95,6 +99,7 @@ impl Frames {
     }
 
     /// The operands of the top frame, for writing.
+    #[inline]
     pub fn operands(&mut self) -> &mut [u16]
         requires there { HasTop self.old }
         ensures* given_back { sem 𝓛 (LendsOperands self.entry result) }
@@ -107,6 +112,7 @@ impl Frames {
     }
 
     // Whether there is room for one frame more of a size.
+    #[inline]
     fn has_room(&self, size: FrameSize) -> bool
         ensures room { result ≡ true → HasRoom self.now size }
         ensures full { result ≡ false → IsFull self.now size }
@@ -117,6 +123,7 @@ impl Frames {
     }
 
     /// Puts a frame on top, if there is room for it: the arguments are its first locals, and its other words hold anything.
+    #[inline]
     pub fn push_frame(&mut self, header: FrameHeader, size: FrameSize, arguments: &[u16]) -> bool
         requires fit { length arguments.now ≤ size.locals }
         ensures pushed { result ≡ true → IsPushed self.old header size arguments.now self.new }
@@ -141,6 +148,7 @@ impl Frames {
 
     /// Puts a frame on top, if there is room for it: so many operands of the frame that was on top, from the first one on, are its
     /// first locals, and its other words hold anything.
+    #[inline]
     pub fn push_call(&mut self, header: FrameHeader, size: FrameSize, first: u8, count: u8) -> bool
         requires there { HasOperands self.old first count }
         requires fit { count ≤ size.locals }
@@ -173,6 +181,7 @@ impl Frames {
     }
 
     /// Takes the top frame away.
+    #[inline]
     pub fn pop_frame(&mut self)
         requires there { HasTop self.old }
         ensures { (top : Frame) (below : List Frame) → self.old.frames ≡ top ∷ below → self.new ≡ with_frames self.old below }

@@ -15,6 +15,7 @@ pub(crate) struct FramePlace {
 }
 
 /// The place of the top frame.
+#[inline]
 pub(crate) fn top_of(places: &[FramePlace]) -> FramePlace
     requires some { 0 < length places.now }
     ensures { slice_get places.now (length places.now - 1) ≡ Some result }

@@ -15,6 +15,7 @@ pub(crate) struct Header {
 }
 
 /// The header of the object with a number.
+#[inline]
 pub(crate) fn header_at(headers: &[Header], number: u16) -> Header
     requires some { 0 < number }
     requires there { number ≤ length headers.now }
@@ -24,6 +25,7 @@ pub(crate) fn header_at(headers: &[Header], number: u16) -> Header
 }
 
 /// What the component of an object at an index holds.
+#[inline]
 pub(crate) fn cell_at(cells: &[u16], header: Header, index: u16) -> u16
     requires within { header.start + index < length cells.now }
     ensures { slice_get cells.now (header.start + index) ≡ Some result }

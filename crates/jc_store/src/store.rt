@@ -53,6 +53,7 @@ impl Store {
     }
 
     /// Makes an object whose components are 0, if there is room for it. The answer is its number.
+    #[inline]
     pub fn make(&mut self, kind: Kind, owner: Owner, len: usize) -> Option<u16>
         ensures number { IfSome result (λ number. number ≡ next_number self.old.objects) }
         ensures made { IfSome result (λ number. self.new ≡ with_objects self.old (with_new self.old.objects (fresh kind owner len))) }
@@ -77,6 +78,7 @@ impl Store {
     }
 
     // Whether there is room for one object more with so many components.
+    #[inline]
     fn has_room(&self, len: usize) -> bool
         ensures room { result ≡ true → HasRoom self.now len }
         ensures full { result ≡ false → IsFull self.now len }
@@ -87,6 +89,7 @@ impl Store {
     }
 
     /// What an object is.
+    #[inline]
     pub fn class_of(&self, number: u16) -> Kind
         requires there { IsThere self.now number }
         ensures { (object : Object ℕ) → object_at self.now.objects number ≡ Some object → result ≡ object.kind }
@@ -95,6 +98,7 @@ impl Store {
     }
 
     /// Whose an object is.
+    #[inline]
     pub fn owner_of(&self, number: u16) -> Owner
         requires there { IsThere self.now number }
         ensures { (object : Object ℕ) → object_at self.now.objects number ≡ Some object → result ≡ object.owner }
@@ -103,6 +107,7 @@ impl Store {
     }
 
     /// How many components an object has.
+    #[inline]
     pub fn len(&self, number: u16) -> u16
         requires there { IsThere self.now number }
         ensures { (object : Object ℕ) → object_at self.now.objects number ≡ Some object → result ≡ length object.cells }
@@ -111,6 +116,7 @@ impl Store {
     }
 
     /// What the component of an object at an index holds.
+    #[inline]
     pub fn get(&self, number: u16, index: u16) -> u16
         requires there { HasCell self.now number index }
         ensures { (object : Object ℕ) → object_at self.now.objects number ≡ Some object → slice_get object.cells index ≡ Some result }
@@ -120,6 +126,7 @@ impl Store {
     }
 
     /// Puts a word into the component of an object at an index.
+    #[inline]
     pub fn set(&mut self, number: u16, index: u16, word: u16)
         requires there { HasCell self.old number index }
         ensures { (object : Object ℕ) → object_at self.old.objects number ≡ Some object
@@ -130,6 +137,7 @@ impl Store {
     }
 
     /// How many objects there are.
+    #[inline]
     pub fn objects_used(&self) -> u16
         ensures { result ≡ length self.now.objects }
     {
@@ -137,6 +145,7 @@ impl Store {
     }
 
     /// How many cells they take: one each, and one for each of their components.
+    #[inline]
     pub fn cells_used(&self) -> u16
         ensures { result ≡ cells_in self.now.objects }
     {

@@ -1,5 +1,5 @@
 -- What keeping one more component changes.
-use Rattle.std.proofs.Common.{◌≡◌, ℕ, ◌<◌, ◌≤◌, Bool, true, false, ltb, List, [], ◌∷◌, ◌++◌, length, get_or, set, Option, Some, None, refl, sym, ap, ◌∙◌, subst, arith, inl, inr}
+use Rattle.std.proofs.Common.{◌≡◌, ℕ, zero, suc, ◌<◌, ◌≤◌, Bool, true, false, ltb, List, [], ◌∷◌, ◌++◌, length, get_or, set, IfSome, Option, Some, None, refl, sym, ap, ◌∙◌, subst, arith, inl, inr}
 use Rattle.std.specs.Option.{option_map, is_none}
 use Rattle.std.proofs.lemmas.Bool.{cases_eq, lt-ltb}
 use Rattle.std.proofs.lemmas.List.{get_or-set_same, get_or-set_other}
@@ -73,3 +73,12 @@ pub was_some : {X : Type 0} (f : X → List ℕ) (infos : List (Option X)) (ps :
 was_some f infos ps tag lt are some =
     let x = some_is (get_or infos tag None) some in
     (f x.0, sym (are tag lt) ∙ ap (λ o. option_map f o) x.1)
+
+-- what holds of each that is there, and of one more
+pub holds_set : {X : Type 0} (P : X → Type 0) (xs : List (Option X)) (place : ℕ) (x : X) → P x → ((n : ℕ) → IfSome (get_or xs n None) P)
+    → (n : ℕ) → IfSome (get_or (set xs place (Some x)) n None) P
+holds_set P [] place x holds are n = are n
+holds_set P (y ∷ xs) zero x holds are zero = holds
+holds_set P (y ∷ xs) zero x holds are (suc n) = are (suc n)
+holds_set P (y ∷ xs) (suc place) x holds are zero = are zero
+holds_set P (y ∷ xs) (suc place) x holds are (suc n) = holds_set P xs place x holds (λ k. are (suc k)) n

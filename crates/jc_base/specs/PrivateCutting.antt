@@ -1,5 +1,5 @@
 -- Private. The component in front of a list of bytes, and what is kept of components while they are read.
-use Rattle.std.specs.Prelude.{◌≡◌, ℕ, ◌+◌, ◌*◌, ◌<◌, false, List, [], ◌∷◌, length, take, drop, Some, None, Result, Ok, Err, Option, nat_lt, slice_index_or, if◌then◌else◌}
+use Rattle.std.specs.Prelude.{◌≡◌, ℕ, ◌+◌, ◌*◌, ◌^◌, ◌<◌, false, List, [], ◌∷◌, length, take, drop, Some, None, Result, Ok, Err, Option, nat_lt, slice_index_or, IfSome, if◌then◌else◌}
 use Rattle.std.specs.Option.{option_copied}
 use Rattle.std.specs.List.{find}
 use Rattle.jc_base.specs.Cutting.{Piece, info_of, count_of, known}
@@ -42,3 +42,7 @@ pub record Holds (slots : Slots) (pieces : List Piece) : Type 0 where
   pub infos : (tag : ℕ) → tag < 13 → info_in slots tag ≡ info_of tag pieces
   pub repeats_len : length slots.repeats ≡ 13
   pub repeats : (tag : ℕ) → tag < 13 → slice_index_or slots.repeats tag false ≡ nat_lt 1 (count_of tag pieces)
+
+-- each info that is kept is as short as the two bytes of a size say
+abbrev pub AreShort : Slots → Type 0
+AreShort slots = (tag : ℕ) → IfSome (slice_index_or slots.infos tag None) (λ info. length info.now < 2 ^ 16)

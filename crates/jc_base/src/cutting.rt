@@ -1,10 +1,10 @@
 //! Cutting an image into its components.
 
-ghost use Rattle.std.specs.Prelude.{◌≡◌, ◌<◌, ◌∷◌, [], ◌++◌, List, ℕ, Option, IfOk, IfErr, Err, false, slice_index_or};
+ghost use Rattle.std.specs.Prelude.{◌≡◌, ◌<◌, ◌^◌, ◌∷◌, [], ◌++◌, List, ℕ, Option, IfOk, IfErr, IfSome, Err, false, length, slice_index_or};
 ghost use Rattle.std.specs.List.{find};
 ghost use Rattle.std.specs.Option.{option_copied};
 ghost use Rattle.jc_base.specs.Cutting.{Piece, Splits, answer, infos_by, known};
-ghost use Rattle.jc_base.specs.PrivateCutting.{Holds, info_in, twice_in};
+ghost use Rattle.jc_base.specs.PrivateCutting.{AreShort, Holds, info_in, twice_in};
 ghost use Rattle.jc_base.specs.PrivateCutting.{next_of, next_is};
 
 use crate::cursor::Cursor;
@@ -23,7 +23,8 @@ struct Component<'a> {
 
 /// The next component, or `None` where no byte is left.
 fn next_component<'a>(cursor: &mut Cursor<'a>) -> Result<Option<Component<'a>>, LoadFault>
-    ensures { next_of cursor.old ≡ next_is result cursor.new }
+    ensures next { next_of cursor.old ≡ next_is result cursor.new }
+    ensures short { IfOk result (λ found. IfSome found (λ component. length component.info.now < 2 ^ 16)) }
 {
     let Some(tag) = cursor.u1() else {
         return Ok(None);
@@ -44,7 +45,8 @@ struct Slots<'a> {
 
 impl<'a> Slots<'a> {
     fn new() -> Self
-        ensures { Holds result [] }
+        ensures holds { Holds result [] }
+        ensures short { AreShort result }
     {
         Slots {
             infos: [None; 13],
@@ -54,7 +56,8 @@ impl<'a> Slots<'a> {
 
     /// Keeps one more component. A tag from 13 on is passed over.
     fn put(&mut self, component: Component<'a>)
-        ensures { (pieces : List Piece) (p : Piece) → component.entry.tag ≡ p.tag → component.entry.info.now ≡ p.info → Holds self.old pieces → Holds self.new (pieces ++ p ∷ []) }
+        ensures holds { (pieces : List Piece) (p : Piece) → component.entry.tag ≡ p.tag → component.entry.info.now ≡ p.info → Holds self.old pieces → Holds self.new (pieces ++ p ∷ []) }
+        ensures short { length component.entry.info.now < 2 ^ 16 → AreShort self.old → AreShort self.new }
     {
         let place = usize::from(component.tag);
         if place < 13 {
@@ -69,7 +72,8 @@ impl<'a> Slots<'a> {
     /// The info that is kept for a tag.
     fn info(&self, tag: u8) -> Option<&'a [u8]>
         requires { tag < 13 }
-        ensures { option_copied result ≡ info_in self.now tag }
+        ensures info { option_copied result ≡ info_in self.now tag }
+        ensures short { AreShort self.now → IfSome result (λ info. length info.now < 2 ^ 16) }
     {
         self.infos[usize::from(tag)]
     }
@@ -87,6 +91,7 @@ impl<'a> Slots<'a> {
 fn components<'a>(image: &'a [u8]) -> Result<Slots<'a>, LoadFault>
     ensures ok { IfOk result (λ slots. (pieces : List Piece) × Splits image.now pieces [] × Holds slots pieces) }
     ensures err { IfErr result (λ fault. (pieces : List Piece) × (rest : List ℕ) × Splits image.now pieces rest × (answer pieces rest ≡ Err fault)) }
+    ensures short { IfOk result AreShort }
 {
     let mut slots = Slots::new();
     let mut cursor = Cursor::new(image);
@@ -99,6 +104,7 @@ fn components<'a>(image: &'a [u8]) -> Result<Slots<'a>, LoadFault>
 /// The parts of what is kept, or the tag that is missing or came twice.
 #[tactic(auto, unfolding(crate::specs::Cutting::infos_by))]
 fn parts_in<'a>(slots: &Slots<'a>) -> Result<Parts<'a>, LoadFault>
+    requires short { AreShort slots.now }
     ensures { result ≡ infos_by (λ tag. info_in slots.now tag) (twice_in slots.now) }
 {
     let header = slots

@@ -1,6 +1,6 @@
 //! The components of an image.
 
-ghost use Rattle.std.specs.Prelude.{◌≡◌};
+ghost use Rattle.std.specs.Prelude.{◌≡◌, ◌<◌, ◌^◌, length};
 ghost use Rattle.std.specs.Option.{option_copied};
 
 use std::marker::Model;
@@ -20,6 +20,7 @@ pub struct Parts<'a> {
 }
 
 impl<'a> Model for Parts<'a> {
+    ghost use Rattle.std.specs.Prelude.{◌<◌, ◌^◌, length};
     ghost use Rattle.std.specs.Option.{option_copied};
     ghost use Rattle.jc_base.specs.Parts.{Infos};
 
@@ -36,6 +37,8 @@ impl<'a> Model for Parts<'a> {
       export = option_copied p.export;
       descriptor = p.descriptor.now;
     } };
+
+    ghost invariant = { λ p. length p.method.now < 2 ^ 16 };
 }
 
 impl<'a> Parts<'a> {
@@ -74,9 +77,10 @@ impl<'a> Parts<'a> {
         self.class
     }
 
-    /// The info of the Method component.
+    /// The info of the Method component, at most 65,535 bytes.
     pub fn method(&self) -> &'a [u8]
-        ensures { result.now ≡ self.now.method }
+        ensures info { result.now ≡ self.now.method }
+        ensures short { length self.now.method < 2 ^ 16 }
     {
         self.method
     }

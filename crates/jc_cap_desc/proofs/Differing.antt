@@ -1,19 +1,24 @@
--- Of the methods with code of a package that was read no two stand at one offset.
-use Rattle.std.proofs.Common.{◌≡◌, ℕ, zero, suc, ◌==◌, ◌&&◌, ◌||◌, Bool, true, false, cond, not, List, [], ◌∷◌, map, Option, Some, None, Result, Ok, Err, IfOk, refl, sym, ap, subst, ◌∙◌, take, slice_get}
+-- Of the methods with code of a package that was read no two stand at one offset, and each stands within its component.
+use Rattle.std.proofs.Common.{◌≡◌, ℕ, zero, suc, ◌-◌, ◌^◌, ◌<◌, arith, length, drop, ◌==◌, ◌&&◌, ◌||◌, Bool, true, false, cond, not, List, [], ◌∷◌, map, Option, Some, None, Result, Ok, Err, IfOk, refl, sym, ap, subst, ◌∙◌, take, slice_get}
 use Rattle.std.proofs.lemmas.Bool.{eq-eqb}
+use Rattle.std.proofs.lemmas.List.{length-drop}
 use Rattle.std.specs.List.{cons_option, filter_map}
 use Rattle.std.specs.Option.{option_and_then, option_map}
 use Rattle.std.specs.Result.{result_ok}
 use Rattle.jc_base.specs.Parts.{Infos}
-use Rattle.jc_base.specs.Rows.{part}
-use Rattle.jc_base.specs.Tag.{descriptor_tag}
+use Rattle.jc_base.specs.Cursor.{Read, field, next_u1}
+use Rattle.jc_base.specs.Rows.{part, repeat}
+use Rattle.jc_base.specs.Tag.{descriptor_tag, method_tag}
 use Rattle.jc_base.specs.declared.fault.LoadFault.{LoadFault}
 use Rattle.jc_base.specs.declared.placed_rows.Placed.{Placed}
-use Rattle.jc_base.proofs.Binding.{the_some, none_some, both_true}
+use Rattle.jc_base.proofs.Binding.{bind_ok, the_ok, the_some, none_some, both_true}
 use Rattle.jc_cap_class.specs.declared.record.Record.{Record}
 use Rattle.jc_cap_data.specs.Applets.{applets_of}
 use Rattle.jc_cap_data.specs.declared.applets.Applet.{Applet}
-use Rattle.jc_cap_method.specs.Component.{Method, Methods, method_at}
+use Rattle.jc_cap_method.specs.Component.{Method, Methods, method_at, methods_of}
+use Rattle.jc_cap_method.specs.Handler.{next_handler}
+use Rattle.jc_cap_method.specs.Header.{next_header}
+use Rattle.jc_cap_method.specs.declared.header.MethodHeader.{MethodHeader}
 use Rattle.jc_cap_method.specs.declared.handler.Handler.{Handler}
 use Rattle.jc_cap_pool.specs.Pool.{pool_of}
 use Rattle.jc_cap_pool.specs.declared.entry.PoolEntry.{PoolEntry}
@@ -21,7 +26,7 @@ use Rattle.jc_cap_desc.proofs.Few.{is_fine, none_told}
 use Rattle.jc_cap_desc.proofs.Reading.{read_of}
 use Rattle.jc_cap_desc.specs.Across.{are_distinct, class_methods, has_code, is_among, methods_differ, rows_match}
 use Rattle.jc_cap_desc.specs.Package.{told, unless, pool_fault, methods_fault, applets_fault, classes_fault, across_fault, package_of}
-use Rattle.jc_cap_desc.specs.Shape.{DifferByOffset, MethodBody, Package, body_of_method}
+use Rattle.jc_cap_desc.specs.Shape.{StandApart, MethodBody, Package, body_of_method}
 use Rattle.jc_cap_desc.specs.declared.class_row.MethodRow.{MethodRow}
 use Rattle.jc_cap_desc.specs.declared.component.DescriptorInfo.{DescriptorInfo}
 
@@ -97,13 +102,68 @@ across_differ info records pool applets methods e =
     let behind = (none_told (methods_fault records info methods) last methods_fine).1 in
     (both_true (rows_match records info.classes) (methods_differ records info.classes) (is_fine (rows_match records info.classes && methods_differ records info.classes) descriptor_tag behind)).1
 
+-- what is made of some elements has what each that is made has
+all_made : {A B : Type 0} (f : A → Option B) (P : B → Type 0) → ((a : A) (b : B) → f a ≡ Some b → P b)
+    → (xs : List A) (n : ℕ) (b : B) → slice_get (filter_map f xs) n ≡ Some b → P b
+all_made {B = B} f P each [] n b e = absurd (none_some b e)
+all_made {B = B} f P each (x ∷ xs) n b e = by_first (f x) refl (λ m. all_made f P each xs m b) n e
+  where
+    by_first : (o : Option B) → f x ≡ o → ((m : ℕ) → slice_get (filter_map f xs) m ≡ Some b → P b)
+        → (n : ℕ) → slice_get (cons_option o (filter_map f xs)) n ≡ Some b → P b
+    by_first None is rest n e = rest n e
+    by_first (Some c) is rest zero e = each x b (is ∙ e)
+    by_first (Some c) is rest (suc n) e = rest n e
+
+-- a header that was read begins before the end of the info
+abbrev placed : Methods → Read MethodHeader → Method
+placed methods header = record { header = header.value; code_offset = length methods.info - length header.rest; code = header.rest }
+
+no_header : (f : Read MethodHeader → Method) (found : Method) → option_map f (result_ok (next_header [])) ≡ Some found → ⊥
+unfolding next_header
+no_header f found e = none_some found e
+
+within_info : (offset : ℕ) (methods : Methods) (found : Method) → method_at offset methods ≡ Some found → offset < length methods.info
+within_info offset methods found e = by_rest (drop offset methods.info) refl e
+  where
+    by_rest : (rest : List ℕ) → drop offset methods.info ≡ rest → option_map (placed methods) (result_ok (next_header rest)) ≡ Some found
+        → offset < length methods.info
+    by_rest [] is e = absurd (no_header (placed methods) found e)
+    by_rest (byte ∷ rest) is e =
+        let left : length (drop offset methods.info) ≡ suc (length rest) = ap length is in
+        omega (arith, left, length-drop offset methods.info)
+
+-- the info is kept
+info_kept : (info : List ℕ) (methods : Methods) → methods_of info ≡ Ok methods → info ≡ methods.info
+unfolding methods_of
+info_kept info methods e =
+    let count = bind_ok (field method_tag (next_u1 info)) _ methods e in
+    let table = bind_ok (repeat next_handler (count.0).value (count.0).rest) _ methods count.2 in
+    ap (λ (m : Methods). m.info) (the_ok _ methods table.2)
+
+-- a method with code has a header, so its offset is before the end of the info
+body_within : (methods : Methods) (m : MethodRow) (b : MethodBody) → body_of_method methods m ≡ Some b → b.offset < length methods.info
+body_within methods m b e = by_parts (has_code m) (method_at m.offset methods) refl (part m.handler_index m.handler_count methods.handlers) e
+  where
+    by_parts : (coded : Bool) (o : Option Method) → method_at m.offset methods ≡ o → (p : Option (List Handler))
+        → cond coded (option_and_then (λ found. option_map (made m found) p) o) None ≡ Some b → b.offset < length methods.info
+    by_parts true (Some found) at (Some handlers) e =
+        subst (λ n. n < length methods.info) (ap (λ (b : MethodBody). b.offset) (the_some (made m found handlers) b e)) (within_info m.offset methods found at)
+    by_parts true (Some found) at None e = absurd (none_some b e)
+    by_parts true None at p e = absurd (none_some b e)
+    by_parts false o at p e = absurd (none_some b e)
+
 -- of a package that was read
-pub differ_in : (infos : Infos) (r : Result Package LoadFault) → r ≡ package_of infos → IfOk r (λ p. DifferByOffset p.body.methods)
-differ_in infos (Err fault) e = tt
-differ_in infos (Ok p) e =
+pub stand_apart_in : (infos : Infos) (r : Result Package LoadFault) → r ≡ package_of infos → length infos.method < 2 ^ 16 → IfOk r (λ p. StandApart p.body.methods)
+stand_apart_in infos (Err fault) e short = tt
+stand_apart_in infos (Ok p) e short =
     let read = read_of infos p e in
     let r = read.0 in
     let apart = across_differ r.info r.records (result_ok (pool_of infos.constant_pool)) (result_ok (applets_of infos.applet)) (Some r.methods) read.1 in
     let distinct = (both_true (are_distinct (map (λ m. m.offset) (class_methods r.records r.info.classes))) _ apart).0 in
-    subst DifferByOffset r.bodies
-    (differ_where_distinct (body_of_method r.methods) (λ m. m.offset) (λ b. b.offset) (body_offset r.methods) (class_methods r.records r.info.classes) distinct)
+    let rows = class_methods r.records r.info.classes in
+    let short_info : length r.methods.info < 2 ^ 16 = subst (λ info. length info < 2 ^ 16) (info_kept infos.method r.methods r.are_methods) short in
+    let within : (m : MethodRow) (b : MethodBody) → body_of_method r.methods m ≡ Some b → suc b.offset < 2 ^ 16 = λ m b made. omega (arith, body_within r.methods m b made, short_info) in
+    subst StandApart r.bodies (record {
+      differ = differ_where_distinct (body_of_method r.methods) (λ m. m.offset) (λ b. b.offset) (body_offset r.methods) rows distinct;
+      within = all_made (body_of_method r.methods) (λ b. suc b.offset < 2 ^ 16) within rows;
+    })

@@ -1,6 +1,6 @@
 -- The record of a package, in two halves: its shape, which look-ups, subtypes and types of members are about, and its
 -- body, which is what its methods are made of.
-use Rattle.std.specs.Prelude.{◌≡◌, ℕ, ◌==◌, Bool, true, List, map, take, Option, Some, None, is_some, slice_get, if◌then◌else◌}
+use Rattle.std.specs.Prelude.{◌≡◌, ℕ, suc, ◌^◌, ◌<◌, ◌==◌, Bool, true, List, map, take, Option, Some, None, is_some, slice_get, if◌then◌else◌}
 use Rattle.std.specs.List.{filter_map, find}
 use Rattle.std.specs.Option.{option_map, option_and_then}
 use Rattle.jc_base.specs.PlacedRows.{row_at}
@@ -70,9 +70,10 @@ pub record MethodBody : Type 0 where
   pub code : List ℕ
   pub handlers : List Handler
 
--- of the methods with code no two stand at one offset
-abbrev pub DifferByOffset : List MethodBody → Type 0
-DifferByOffset methods = (n k : ℕ) (b c : MethodBody) → slice_get methods n ≡ Some b → slice_get methods k ≡ Some c → b.offset ≡ c.offset → n ≡ k
+-- of the methods with code no two stand at one offset, and each stands within the 65,535 bytes that a component may have
+pub record StandApart (methods : List MethodBody) : Type 0 where
+  pub differ : (n k : ℕ) (b c : MethodBody) → slice_get methods n ≡ Some b → slice_get methods k ≡ Some c → b.offset ≡ c.offset → n ≡ k
+  pub within : (n : ℕ) (b : MethodBody) → slice_get methods n ≡ Some b → suc b.offset < 2 ^ 16
 
 -- the body of a package: its name, its applets, or none where it is a library; its constant pool, with the types that
 -- entries have; its static fields; and its methods with code

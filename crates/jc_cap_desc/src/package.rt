@@ -1,9 +1,9 @@
 //! A whole package.
 
-ghost use Rattle.std.specs.Prelude.{◌≡◌, ◌≤◌, IfOk, length, slice_get};
+ghost use Rattle.std.specs.Prelude.{◌≡◌, ◌<◌, ◌≤◌, ◌^◌, IfOk, length, slice_get};
 ghost use Rattle.std.specs.Option.{option_and_then};
 ghost use Rattle.jc_cap_desc.specs.Package.{layout_in, package_fault, package_of};
-ghost use Rattle.jc_cap_desc.specs.Shape.{DifferByOffset, HaveHeaders};
+ghost use Rattle.jc_cap_desc.specs.Shape.{StandApart, HaveHeaders};
 ghost use Rattle.jc_cap_desc.specs.PrivatePackage.{records_in, components_in, class_fault_in, component_fault_in, HasFewRows, HasFewRecords, HasFewImports, joined};
 
 use crate::bodies::MethodBodies;
@@ -172,6 +172,7 @@ fn read_components<'a>(parts: &Parts<'a>) -> Components<'a>
     ensures read { result ≡ components_in parts.now }
     ensures few { HasFewRows result }
     ensures imports { HasFewImports result }
+    ensures short { length parts.now.method < 2 ^ 16 }
 {
     let header = read_header(parts);
     let records = read_records(parts, &header);
@@ -262,7 +263,8 @@ fn joined<'a>(found: Components<'a>) -> Result<Package<'a>, LoadFault>
 /// The package that an image has, or its refusal.
 #[tactic(auto, using(crate::proofs::Joined::joined_is, crate::proofs::Few::few_in))]
 fn package_in<'a>(parts: &Parts<'a>) -> Result<Package<'a>, LoadFault>
-    ensures { result ≡ package_of parts.now }
+    ensures package { result ≡ package_of parts.now }
+    ensures short { length parts.now.method < 2 ^ 16 }
 {
     let found = read_components(parts);
     match package_fault(parts, &found) {
@@ -273,10 +275,10 @@ fn package_in<'a>(parts: &Parts<'a>) -> Result<Package<'a>, LoadFault>
 
 /// Reads a whole package of an image: all components, and then what they say of one another. Of several refusals the
 /// one with the smallest number is told, and of `Malformed` the one with the least tag.
-#[tactic(auto, using(crate::proofs::Differing::differ_in, crate::proofs::Headed::headed_in))]
+#[tactic(auto, using(crate::proofs::Differing::stand_apart_in, crate::proofs::Headed::headed_in))]
 pub fn read_package<'a>(parts: &Parts<'a>) -> Result<Package<'a>, LoadFault>
     ensures package { result ≡ package_of parts.now }
-    ensures differ { IfOk result (λ p. DifferByOffset p.body.methods) }
+    ensures apart { IfOk result (λ p. StandApart p.body.methods) }
     ensures headers { IfOk result (λ p. HaveHeaders p.shape) }
 {
     package_in(parts)

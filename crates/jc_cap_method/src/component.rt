@@ -1,6 +1,6 @@
 //! The component as a whole.
 
-ghost use Rattle.std.specs.Prelude.{◌≡◌, length};
+ghost use Rattle.std.specs.Prelude.{◌≡◌, ◌<◌, ◌^◌, length};
 ghost use Rattle.std.specs.Option.{option_copied};
 ghost use Rattle.jc_base.specs.Rows.{part};
 ghost use Rattle.jc_cap_method.specs.Component.{methods_of, method_at, header_at, code_at};
@@ -125,9 +125,10 @@ fn methods_in<'a>(info: &'a [u8]) -> Result<MethodInfo<'a>, LoadFault>
 }
 
 /// Reads the Method component. `Malformed(7)` where the handler table runs past the info; what follows
-/// the table may be anything.
+/// the table may be anything. The info is at most 65,535 bytes.
 pub fn read_method<'a>(parts: &Parts<'a>) -> Result<MethodInfo<'a>, LoadFault>
-    ensures { result ≡ methods_of parts.now.method }
+    ensures methods { result ≡ methods_of parts.now.method }
+    ensures short { length parts.now.method < 2 ^ 16 }
 {
     methods_in(parts.method())
 }

@@ -5,7 +5,7 @@ use Rattle.std.proofs.lemmas.Bool.{le-ltb, ltb-true, ltb-false}
 use Rattle.std.specs.List.{find}
 use Rattle.std.specs.Option.{option_and_then, option_map}
 use Rattle.jc_cap_class.specs.Component.{is_class}
-use Rattle.jc_cap_desc.specs.Shape.{ClassShape, DifferByOffset, HaveHeaders, MethodShape, Package, Shape}
+use Rattle.jc_cap_desc.specs.Shape.{ClassShape, StandApart, HaveHeaders, MethodShape, Package, Shape}
 use Rattle.jc_classes.specs.Growth.{grown}
 use Rattle.jc_classes.specs.Members.{DeclaredMethod, declared_in, method_at, name_of}
 use Rattle.jc_classes.specs.Methods.{method_name, method_of_class}
@@ -56,9 +56,9 @@ headed before shape api have offset d e =
 
 -- a package that is bound is the last of its world
 pub is_last : (before world : List Shape) (p : Package) (b : LinkedBody) → IsBuilt world → world ≡ grown before p.shape → b.kept ≡ kept_of p.body
-    → map Some b.targets ≡ pool_targets world (length before) p.body.pool → DifferByOffset p.body.methods → HasApi before → HaveHeaders p.shape
+    → map Some b.targets ≡ pool_targets world (length before) p.body.pool → StandApart p.body.methods → HasApi before → HaveHeaders p.shape
     → IsLast (record { world = world; body = b })
-is_last before world p b built is kept targets differ api have =
+is_last before world p b built is kept targets apart api have =
     let more = ap (λ w. length w) is ∙ length_more before p.shape in
     let home : length before ≡ length world - 1 = omega (arith, more) in
     record {
@@ -66,7 +66,7 @@ is_last before world p b built is kept targets differ api have =
       resolved =
           targets ∙ ap (λ h. pool_targets world h p.body.pool) home
           ∙ ap (λ pool. pool_targets world (length world - 1) pool) (sym (ap (λ k. k.pool) kept));
-      differ = subst DifferByOffset (sym (ap (λ k. k.methods) kept)) differ;
+      apart = subst StandApart (sym (ap (λ k. k.methods) kept)) apart;
       headed = subst (λ h. AreHeaded world h) home (subst (λ w. AreHeaded w (length before)) (sym is) (headed before p.shape api have));
     }
 

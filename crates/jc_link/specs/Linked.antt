@@ -2,7 +2,7 @@
 use Rattle.std.specs.Prelude.{◌≡◌, ◌⊎◌, ℕ, ◌+◌, ◌-◌, List, [], ◌∷◌, ◌++◌, map, length, true, Option, Some, Result, Ok, Err, is_some, slice_get}
 use Rattle.jc_base.specs.declared.fault.LoadFault.{LoadFault}
 use Rattle.jc_base.specs.declared.fault.LoadFault.TheVariants.{Memory}
-use Rattle.jc_cap_desc.specs.Shape.{DifferByOffset, Package, Shape}
+use Rattle.jc_cap_desc.specs.Shape.{StandApart, Package, Shape}
 use Rattle.jc_classes.specs.Growth.{grown}
 use Rattle.jc_classes.specs.Members.{DeclaredMethod, method_at}
 use Rattle.jc_classes.specs.Methods.{method_name}
@@ -40,7 +40,7 @@ AreHeaded world home = (offset : ℕ) (d : DeclaredMethod) → method_at world (
 pub record IsLast (l : Linked) : Type 0 where
   pub built : IsBuilt l.world
   pub resolved : IsResolved l.world (length l.world - 1) l.body
-  pub differ : DifferByOffset l.body.kept.methods
+  pub apart : StandApart l.body.kept.methods
   pub headed : AreHeaded l.world (length l.world - 1)
 
 -- what each world is: it is built of well-formed packages, and the pool of each of the loaded ones, which stand behind the API's

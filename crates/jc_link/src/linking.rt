@@ -2,7 +2,7 @@
 
 ghost use Rattle.std.specs.Prelude.{◌≡◌, ◌<◌, ◌≤◌, map, length, Some, Ok, IfOk, IfErr};
 ghost use Rattle.jc_cap_desc.specs.Package.{package_of};
-ghost use Rattle.jc_cap_desc.specs.Shape.{DifferByOffset, HaveHeaders, Package as PackageRecord};
+ghost use Rattle.jc_cap_desc.specs.Shape.{StandApart, HaveHeaders, Package as PackageRecord};
 ghost use Rattle.jc_classes.specs.Growth.{grown};
 ghost use Rattle.jc_classes.specs.Limits.{most_packages};
 ghost use Rattle.jc_link.specs.Built.{IsBuilt};
@@ -141,7 +141,7 @@ fn bound(
 ) -> Result<Linked, AllocError>
     requires table { table ≡ grown world.now.shapes linked.now.shape }
     requires fine { IsWellFormed world.now.shapes linked.now }
-    requires differ { DifferByOffset linked.now.body.methods }
+    requires apart { StandApart linked.now.body.methods }
     requires headers { HaveHeaders linked.now.shape }
     ensures { IfOk result (λ l. IsLinked world.now.shapes linked.now l) }
 {

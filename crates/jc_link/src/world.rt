@@ -1,7 +1,7 @@
 //! The world of the packages on a card.
 
 ghost use Rattle.std.specs.Prelude.{◌≡◌, ◌+◌, ◌-◌, ◌<◌, ◌≤◌, [], length, IfOk, IfErr};
-ghost use Rattle.jc_cap_desc.specs.Shape.{DifferByOffset};
+ghost use Rattle.jc_cap_desc.specs.Shape.{StandApart};
 ghost use Rattle.jc_classes.specs.Limits.{most_packages};
 ghost use Rattle.jc_classes.specs.Api.{api_world};
 ghost use Rattle.jc_link.specs.Built.{IsBuilt};
@@ -78,7 +78,7 @@ impl Linked {
     pub fn body(&self) -> &LinkedBody
         ensures body { result.now ≡ self.now.body }
         ensures resolved { IsResolved self.now.world (length self.now.world - 1) self.now.body }
-        ensures differ { DifferByOffset self.now.body.kept.methods }
+        ensures apart { StandApart self.now.body.kept.methods }
     {
         &self.body
     }

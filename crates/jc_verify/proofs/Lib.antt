@@ -14,6 +14,7 @@ mod Rows
 mod Telling
 mod Numbers
 mod Starting
+mod Fewer
 mod Following
 mod Passing
 mod Entering

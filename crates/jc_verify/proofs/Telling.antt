@@ -103,4 +103,4 @@ is_refusal l fit g so_far t told = by (so_far.told t told)
     by : IsTold l t.method → IsFirstWithout l t.method
     by (denied place b at off (inl without)) = record { place = place; method = b; is = at; at = off; without = without; before = before }
     by (denied place b at off (inr h)) = absurd (h (fit.named place b at))
-    by (twice h) = let e = fit.differ h.first h.second h.one h.other h.is_one h.is_other (h.at_one ∙ sym h.at_other) in absurd (omega (arith, h.apart, e))
+    by (twice h) = let e = fit.apart.differ h.first h.second h.one h.other h.is_one h.is_other (h.at_one ∙ sym h.at_other) in absurd (omega (arith, h.apart, e))

@@ -1,6 +1,6 @@
 //! The certificate of a package.
 
-ghost use Rattle.std.specs.Prelude.{◌≡◌, ◌<◌, ◌^◌, ℕ, List, length, IfErr, IfNone, IfOk, IfSome};
+ghost use Rattle.std.specs.Prelude.{◌≡◌, ℕ, List, length, IfErr, IfNone, IfOk, IfSome};
 ghost use Rattle.jc_cert.specs.Cert.{rows};
 ghost use Rattle.jc_check.specs.Checked.{CarriesPackage};
 ghost use Rattle.jc_verify.specs.Inferred.{HasAllStates, HasLeastStates, HasStatesWhereEntered};
@@ -66,7 +66,7 @@ fn certificate_of(linked: &Linked, methods: Vec<MethodRow>) -> Option<Cert>
     ensures carried { IfSome result (λ cert. CarriesPackage linked.now cert) }
     ensures entered { IfSome result (λ cert. HasStatesWhereEntered linked.now cert) }
     ensures least { IfSome result (λ cert. HasLeastStates linked.now cert) }
-    ensures none { IfNone result (length linked.now.body.kept.methods < 2 ^ 16 → ⊥) }
+    ensures none { IfNone result ⊥ }
 {
     let _laws = linked.table().len();
     let mut methods = methods;
@@ -83,7 +83,7 @@ fn certificate_or_fault(linked: &Linked, gathered: Gathered) -> Result<Cert, Ver
     ensures entered { IfOk result (λ cert. HasStatesWhereEntered linked.now cert) }
     ensures all { IfOk result (λ cert. HasAllStates linked.now cert) }
     ensures least { IfOk result (λ cert. HasLeastStates linked.now cert) }
-    ensures refused { length linked.now.body.kept.methods < 2 ^ 16 → IfErr result (IsRefusal linked.now) }
+    ensures refused { IfErr result (IsRefusal linked.now) }
 {
     if let Some(told) = gathered.told {
         return Err(VerifyFault::NoCertificate {
@@ -111,7 +111,7 @@ pub fn infer(alloc: Global, linked: &Linked) -> Result<Cert, VerifyFault>
     ensures entered { IfOk result (λ cert. HasStatesWhereEntered linked.now cert) }
     ensures all { IfOk result (λ cert. HasAllStates linked.now cert) }
     ensures least { IfOk result (λ cert. HasLeastStates linked.now cert) }
-    ensures refused { length linked.now.body.kept.methods < 2 ^ 16 → IfErr result (IsRefusal linked.now) }
+    ensures refused { IfErr result (IsRefusal linked.now) }
 {
     flow_laws(linked);
     let gathered = gather_all(alloc, linked)?;

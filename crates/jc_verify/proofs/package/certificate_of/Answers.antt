@@ -6,6 +6,7 @@ use Rattle.jc_check.specs.Checked.{CarriesPackage}
 use Rattle.jc_verify.specs.Inferred.{HasLeastStates, HasStatesWhereEntered}
 use Rattle.jc_verify.proofs.Certifying.{is_cert}
 use Rattle.jc_verify.proofs.Certified.{certified, least_states, where_entered}
+use Rattle.jc_verify.proofs.Fewer.{fewer}
 use Rattle.jc_verify.proofs.Visiting.{if_none, if_some}
 use Rattle.jc_verify.proofs.package.certificate_of.Goals as goal
 
@@ -31,4 +32,5 @@ pub returns-clause-none : goal.returns-clause-none
 returns-clause-none c =
     let order = IsPermutation-map row c.args.methods.items c.sort_unstable_by_key.new.self.items c.sort_unstable_by_key.ensures.permutation in
     let ascend = IsNonDecreasingBy-from_sort_by_key (λ (m : MethodRow). m.offset) _ c.sort_unstable_by_key.ensures.sorted (λ a r q k. search rules) in
-    if_none c.new.result _ _ c.new.ensures.none (λ none few. none (is_cert c.args.linked.now (rows c.args.methods.items) c.requires.gathered.0 c.sort_unstable_by_key.new.self.items c.requires.gathered.1 order ascend c.requires.fit few))
+    let few = fewer c.args.linked.now.body.kept.methods c.requires.fit.apart in
+    if_none c.new.result _ _ c.new.ensures.none (λ none. none (is_cert c.args.linked.now (rows c.args.methods.items) c.requires.gathered.0 c.sort_unstable_by_key.new.self.items c.requires.gathered.1 order ascend c.requires.fit few))

@@ -6,4 +6,4 @@ pub returns-in-Some-certificate_of-clause-all : goal.returns-in-Some-certificate
 returns-in-Some-certificate_of-clause-all c = all_states c.args.linked.now c.requires.laws c.in-Some-certificate_of.cert c.in-Some-certificate_of.ensures.carried
 
 pub returns-in-Some-clause-refused : goal.returns-in-Some-clause-refused
-returns-in-Some-clause-refused c few = is_refusal c.args.linked.now c.requires.fit c.args.gathered c.requires.so_far c.in-Some.told c.in-Some.is
+returns-in-Some-clause-refused c = is_refusal c.args.linked.now c.requires.fit c.args.gathered c.requires.so_far c.in-Some.told c.in-Some.is

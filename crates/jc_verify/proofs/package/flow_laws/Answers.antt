@@ -26,7 +26,7 @@ returns-clause-fit c =
     let classes = c.order_laws.ensures.lattices world supers.orderly supers.top in
     let known = c.types_name_classes.ensures in
     record {
-      differ = c.body-body.ensures.differ;
+      apart = c.body-body.ensures.apart;
       named = λ n b at.
           keeps_names l (method_of l b) (known.entry n b at) (λ h class. known.caught n b h class at) (known.effects n b at) known.joins
           (c.order_laws.ensures.joins _ _ _ _ classes) (c.order_laws.ensures.antisymmetric _ order);

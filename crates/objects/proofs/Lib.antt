@@ -1,1 +1,2 @@
 mod There
+mod Filling

@@ -19,7 +19,7 @@ fn is_there(store: &Store, number: u16) -> bool
 }
 
 /// Whether it is there, and has a component at an index.
-fn has_cell(store: &Store, number: u16, index: u16) -> bool
+pub(crate) fn has_cell(store: &Store, number: u16, index: u16) -> bool
     ensures there { result ≡ true → HasCell store.now number index }
     ensures missing { result ≡ false → component store.now number index ≡ None }
 {

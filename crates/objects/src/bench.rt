@@ -68,7 +68,7 @@ fn add_in_store(store: &mut Store, place: u16) -> u16
     word
 }
 
-/// Adds one to the cell in which such a component could be, and answers what it was.
+/// Adds one to the cell that is its in a plain list, where each object takes one cell more, and answers what it was.
 fn add_in_cells(cells: &mut [u16], place: u16) -> u16
     requires filled { length cells.old ≡ 1040 }
     requires within { place < 1024 }
@@ -76,7 +76,7 @@ fn add_in_cells(cells: &mut [u16], place: u16) -> u16
 {
     let number = place / LEN + 1;
     let index = place % LEN;
-    let at = usize::from((number - 1) * LEN + index);
+    let at = usize::from((number - 1) * (LEN + 1) + index);
     let word = cells[at];
     cells[at] = word.wrapping_add(1);
     word

@@ -39,6 +39,7 @@ fn component(store: &Store, number: u16, index: u16) -> Option<u16>
 
 /// Puts a word into the component of an object at an index, if there are both.
 fn put(store: &mut Store, number: u16, index: u16, word: u16) -> bool
+    ensures there { result ≡ true → HasCell store.old number index }
     ensures put { result ≡ true → (object : Object ℕ) → object_at store.old.objects number ≡ Some object
         → store.new ≡ with_objects store.old (with_object store.old.objects number (with_cell object index word)) }
     ensures missing { result ≡ false → component store.old number index ≡ None }

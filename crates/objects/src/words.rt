@@ -12,18 +12,12 @@ const CLASS: ClassName = ClassName::Loaded {
 
 /// A decimal number below 256.
 pub(crate) fn byte(word: &str) -> Option<u8> {
-    if word.starts_with('+') {
-        return None;
-    }
-    word.parse::<u8>().ok()
+    u8::try_from(size(word)?).ok()
 }
 
 /// A decimal number below 65,536.
 pub(crate) fn short(word: &str) -> Option<u16> {
-    if word.starts_with('+') {
-        return None;
-    }
-    word.parse::<u16>().ok()
+    u16::try_from(size(word)?).ok()
 }
 
 /// A decimal number of components.
@@ -36,10 +30,7 @@ pub(crate) fn size(word: &str) -> Option<usize> {
 
 /// A decimal number of turns.
 pub(crate) fn count(word: &str) -> Option<u32> {
-    if word.starts_with('+') {
-        return None;
-    }
-    word.parse::<u32>().ok()
+    u32::try_from(size(word)?).ok()
 }
 
 /// An owner, its context and its instance with a point between them.

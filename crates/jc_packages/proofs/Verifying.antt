@@ -8,11 +8,21 @@ use Rattle.jc_base.specs.declared.fault.LoadFault.TheVariants as faults
 use Rattle.jc_cap_desc.specs.Package.{package_of}
 use Rattle.jc_cap_desc.specs.Shape.{Shape}
 use Rattle.jc_classes.specs.Growth.{grown}
-use Rattle.jc_packages.specs.Verify.{AreLoaded, IsFirstRefusal, IsRefused}
+use Rattle.jc_check.specs.Checked.{stated_for}
+use Rattle.jc_link.specs.Linked.{Linked}
+use Rattle.jc_verify.specs.Refusal.{IsFirstWithout}
+use Rattle.jc_packages.specs.Verify.{AreLoaded, IsCarriedByNone, IsFirstRefusal, IsRefused}
 use Rattle.jc_packages.specs.Verify.AreLoaded.{next, none}
 use Rattle.jc_packages.specs.Verify.IsFirstRefusal.{full, here, later}
 use Rattle.jc_packages.specs.PrivateVerify.{AreUnloaded, IsPastLast, IsPut, IsUnlinked, IsUnput, Leads}
 use Rattle.jc_packages.specs.PrivateVerify.IsUnput.{memory, refused}
+
+-- a package whose method no states carry is carried by no certificate
+pub carried_by_none : (l : Linked) (offset : ℕ) → IsFirstWithout l offset → IsCarriedByNone l offset
+carried_by_none l offset first = record {
+  first = first;
+  none = λ whole. first.without (record { states = stated_for whole.rows first.method.offset; carried = whole.carried.methods first.place first.method first.is });
+}
 
 -- an image that can't be cut is refused
 pub uncut : (before : List Shape) (image : List ℕ) (fault : LoadFault)

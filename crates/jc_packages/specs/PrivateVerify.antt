@@ -5,7 +5,7 @@ use Rattle.jc_base.specs.declared.fault.LoadFault.TheVariants as faults
 use Rattle.jc_cap_desc.specs.Shape.{Package, Shape}
 use Rattle.jc_classes.specs.Growth.{grown}
 use Rattle.jc_link.specs.Linked.{Linked}
-use Rattle.jc_packages.specs.Verify.{AreLoaded, IsFine, IsFirstRefusal, IsRefused, SpellCarrying, most_in_world}
+use Rattle.jc_packages.specs.Verify.{AreLoaded, IsCarriedByNone, IsFine, IsFirstRefusal, IsRefused, SpellCarrying, most_in_world}
 use Rattle.jc_packages.specs.declared.verify_answer.VerifyAnswer.{VerifyAnswer}
 use Rattle.jc_packages.specs.declared.verify_answer.VerifyAnswer.TheVariants.{Certificate, NoCertificate, Refused, Memory}
 
@@ -44,6 +44,6 @@ pub record Leads (first : List Shape) (images : List (List ℕ)) (world : List S
 -- what is answered to a linked package
 abbrev pub IsInferred : Linked → VerifyAnswer → Type 0
 IsInferred l (Certificate bytes) = SpellCarrying l bytes.items
-IsInferred l (NoCertificate method fault) = ⊤
+IsInferred l (NoCertificate method fault) = IsCarriedByNone l method
 IsInferred l (Refused fault) = ⊥
 IsInferred l Memory = ⊤

@@ -1,4 +1,4 @@
--- What `verify` answers to a package behind others, under a binding: a certificate that carries it, or the first refusal.
+-- What `verify` answers to a package behind others, under a binding: a certificate that carries it, or that none does, or the first refusal.
 use Rattle.std.specs.Prelude.{⊤, ◌≡◌, ℕ, ◌<◌, ◌≤◌, List, [], ◌∷◌, ◌++◌, length, Some, Result, Ok}
 use Rattle.jc_api.specs.Bound.{Bound}
 use Rattle.jc_base.specs.Cutting.{Piece, Splits, answer}
@@ -9,11 +9,12 @@ use Rattle.jc_cap_desc.specs.Package.{package_of}
 use Rattle.jc_cap_desc.specs.Shape.{Package, Shape}
 use Rattle.jc_cert.specs.Cert.{Row}
 use Rattle.jc_cert.specs.Writing.{spelling}
-use Rattle.jc_check.specs.Checked.{CarriesPackage}
+use Rattle.jc_check.specs.Checked.{CarriesPackage, IsPackageCarried}
 use Rattle.jc_classes.specs.Api.{api_world}
 use Rattle.jc_classes.specs.Growth.{grown}
 use Rattle.jc_link.specs.Linked.{IsLinked, Linked, refusal_of}
 use Rattle.jc_link.specs.WellFormed.{IsWellFormed}
+use Rattle.jc_verify.specs.Refusal.{IsFirstWithout}
 use Rattle.jc_packages.specs.declared.verify_answer.VerifyAnswer.{VerifyAnswer}
 use Rattle.jc_packages.specs.declared.verify_answer.VerifyAnswer.TheVariants.{Certificate, NoCertificate, Refused, Memory}
 
@@ -78,14 +79,20 @@ pub record IsCertified (binding : Bound) (earlier : List (List ℕ)) (image byte
   pub after : IsLinkedAfter binding earlier image linked
   pub spelled : SpellCarrying linked bytes
 
--- the package is linked behind the earlier ones
-pub record IsLoadable (binding : Bound) (earlier : List (List ℕ)) (image : List ℕ) : Type 0 where
+-- no certificate carries a linked package: no states carry the method at an offset, and those before it can be carried
+pub record IsCarriedByNone (l : Linked) (offset : ℕ) : Type 0 where
+  pub first : IsFirstWithout l offset
+  pub none : IsPackageCarried l → ⊥
+
+-- the package is linked behind the earlier ones, and no certificate carries it
+pub record IsUncertified (binding : Bound) (earlier : List (List ℕ)) (image : List ℕ) (offset : ℕ) : Type 0 where
   pub linked : Linked
   pub after : IsLinkedAfter binding earlier image linked
+  pub uncarried : IsCarriedByNone linked offset
 
 -- the answer to a package behind earlier ones, under a binding
 abbrev pub IsVerified : Bound → List (List ℕ) → List ℕ → VerifyAnswer → Type 0
 IsVerified binding earlier image (Certificate bytes) = IsCertified binding earlier image bytes.items
-IsVerified binding earlier image (NoCertificate method fault) = IsLoadable binding earlier image
+IsVerified binding earlier image (NoCertificate method fault) = IsUncertified binding earlier image method
 IsVerified binding earlier image (Refused fault) = IsFirstRefusal (api_world binding) (earlier ++ image ∷ []) fault
 IsVerified binding earlier image Memory = ⊤

@@ -7,7 +7,7 @@ use Rattle.std.specs.Option.{option_map, option_map_or}
 use Rattle.std.proofs.lemmas.Bool.{eq-eqb, eqb-true}
 use Rattle.std.proofs.lemmas.List.Sorted.{Contains-permutation, IsPermutation-sym}
 use Rattle.std.proofs.lemmas.Option.{none-some, same_Some, slice_get-get_or, slice_get_within}
-use Rattle.jc_cap_desc.specs.Shape.{MethodBody}
+use Rattle.jc_cap_desc.specs.Shape.{MethodBody, StandApart}
 use Rattle.jc_cert.specs.Cert.{Row}
 use Rattle.jc_link.specs.Linked.{Linked}
 use Rattle.jc_check.specs.Checked.{CarriesPackage, has_code_at, stated_for, stray_offset}
@@ -57,7 +57,7 @@ moved xs ys p k x at =
 
 -- ---- the package is carried
 
-module _ (l : Linked) (of seen_rows : List Row) (seen : List ℕ) (p : IsPermutation of seen_rows) (gathered : AreGathered l (length l.body.kept.methods) of seen) where
+module _ (l : Linked) (apart : StandApart l.body.kept.methods) (of seen_rows : List Row) (p : IsPermutation of seen_rows) (gathered : AreGathered l (length l.body.kept.methods) of) where
   methods : List MethodBody
   methods = l.body.kept.methods
 
@@ -93,7 +93,8 @@ module _ (l : Linked) (of seen_rows : List Row) (seen : List ℕ) (p : IsPermuta
       by_found (Some r) e =
           let f = found_at (λ (r : Row). r.offset == b.offset) seen_rows r e in
           let row = come f.place r f.is in
-          let same : row.method ≡ b = gathered.apart row.place n row.method b row.stands stands (sym row.offset ∙ eqb-true r.offset b.offset f.holds) in
+          let place = apart.differ row.place n row.method b row.stands.is at (sym row.offset ∙ eqb-true r.offset b.offset f.holds) in
+          let same : row.method ≡ b = same_Some row.method b (sym row.stands.is ∙ ap (slice_get l.body.kept.methods) place ∙ at) in
           subst (λ x. IsInferred l (method_of l x) r.states) same row.inferred
 
   pub certified : CarriesPackage l seen_rows

@@ -45,7 +45,7 @@ row_of [] n r e = absurd (none-some r e)
 row_of (x ∷ ms) zero r e = (x, refl, same_Some (row x) r e)
 row_of (x ∷ ms) (suc n) r e = row_of ms n r e
 
-module _ (l : Linked) (of : List Row) (seen : List ℕ) (put : List MethodRow) (gathered : AreGathered l (length l.body.kept.methods) of seen) (order : IsPermutation of (rows put))
+module _ (l : Linked) (of : List Row) (put : List MethodRow) (gathered : AreGathered l (length l.body.kept.methods) of) (order : IsPermutation of (rows put))
     (ascend : IsNonDecreasingBy (λ (m : MethodRow). m.offset) put) (fit : HasFitMethods l) (few : length l.body.kept.methods < 2 ^ 16) where
   distinct : IsDistinct (λ (r s : Row). r.offset == s.offset) of
   distinct =

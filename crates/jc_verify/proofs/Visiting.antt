@@ -1,6 +1,7 @@
 -- What is closed once an instruction has been visited.
-use Rattle.std.proofs.Common.{◌≡◌, ℕ, Bool, true, false, List, Option, Some, None, Ok, Err, Result}
-use Rattle.std.specs.Prelude.{IfErr, IfNone, IfOk, IfSome}
+use Rattle.std.proofs.Common.{◌≡◌, refl, subst, ℕ, Bool, true, false, List, Option, Some, None, Ok, Err, Result}
+use Rattle.std.specs.Prelude.{IfErr, IfNone, IfOk, IfSome, IsSome}
+use Rattle.std.proofs.lemmas.Option.{none-some, same_Some}
 use Rattle.jc_code.specs.Listing.{PlacedInstr}
 use Rattle.jc_check.specs.Method.{Method}
 use Rattle.jc_check.specs.Rules.{Rules}
@@ -27,17 +28,19 @@ pub closed_by : (rules : Rules) (m : Method) (numbers : List (Option ℕ)) (typi
 closed_by rules m numbers typing true x s after decoded visited falls closed = goes_on x s after decoded visited falls.0 falls.1 closed
 closed_by rules m numbers typing false x s after decoded visited falls closed = meets x s after decoded visited falls
 
-pub if_some : {A : Type 0} (o : Option A) (P Q : A → Type 0) → IfSome o P → ((x : A) → P x → Q x) → IfSome o Q
-if_some None P Q h on = tt
-if_some (Some x) P Q h on = on x h
-
 pub if_err : {A E : Type 0} (r : Result A E) (P Q : E → Type 0) → IfErr r P → ((e : E) → P e → Q e) → IfErr r Q
 if_err (Ok x) P Q h on = tt
 if_err (Err e) P Q h on = on e h
 
-pub if_none : {A : Type 0} (o : Option A) (P Q : Type 0) → IfNone o P → (P → Q) → IfNone o Q
-if_none None P Q h on = on h
-if_none (Some x) P Q h on = tt
+-- what is there unless something fails, which holds
+pub is_some_unless : {A : Type 0} (o : Option A) (P : Type 0) → IfNone o (P → ⊥) → P → IsSome o
+is_some_unless None P fails h = absurd (fails h)
+is_some_unless (Some x) P fails h = refl
+
+-- what holds of what is there
+pub holds : {A : Type 0} (o : Option A) (P : A → Type 0) (x : A) → o ≡ Some x → IfSome o P → P x
+holds None P x e h = absurd (none-some x e)
+holds (Some y) P x e h = subst P (same_Some y x e) h
 
 pub if_ok_four : {A E : Type 0} (r : Result A E) (P Q S T R : A → Type 0) → IfOk r P → IfOk r Q → IfOk r S → IfOk r T → ((x : A) → P x → Q x → S x → T x → R x) → IfOk r R
 if_ok_four (Ok x) P Q S T R h k i j on = on x h k i j

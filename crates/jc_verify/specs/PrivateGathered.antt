@@ -1,7 +1,6 @@
 -- Private. What is known of a package's rows, one method after the other.
-use Rattle.std.specs.Prelude.{◌≡◌, ◌⊎◌, ℕ, ◌+◌, ◌^◌, ◌<◌, ◌≤◌, true, List, [], ◌∷◌, ◌++◌, Some, None, length, slice_get}
+use Rattle.std.specs.Prelude.{◌≡◌, ◌⊎◌, ℕ, ◌+◌, ◌^◌, ◌<◌, ◌≤◌, List, [], ◌∷◌, ◌++◌, Some, None, length, slice_get}
 use Rattle.std.specs.List.{AllByRecursion}
-use Rattle.jc_base.specs.NumberSet.{has_number}
 use Rattle.jc_cap_desc.specs.Shape.{MethodBody}
 use Rattle.jc_cert.specs.Cert.{IsStatedType, PcsAscend, Row, Stated, rows}
 use Rattle.jc_link.specs.Linked.{Linked}
@@ -58,46 +57,27 @@ pub record HasRow (of : List Row) (offset : ℕ) : Type 0 where
   pub for : row.offset ≡ offset
 
 -- the first methods have their rows, those that states carry at places; others are carried without a state
-pub record AreGathered (l : Linked) (n : ℕ) (of : List Row) (seen : List ℕ) : Type 0 where
+pub record AreGathered (l : Linked) (n : ℕ) (of : List Row) : Type 0 where
   pub each : (k : ℕ) (b : MethodBody) → Stands l n k b → IsInferred l (method_of l b) [] ⊎ HasRow of b.offset
   pub come : (k : ℕ) (r : Row) → slice_get of k ≡ Some r → IsRowOf l n r
-  pub known : (k : ℕ) (b : MethodBody) → Stands l n k b → has_number seen b.offset ≡ true
-  pub apart : (j k : ℕ) (a b : MethodBody) → Stands l n j a → Stands l n k b → a.offset ≡ b.offset → a ≡ b
   pub distinct : (j k : ℕ) (r s : Row) → slice_get of j ≡ Some r → slice_get of k ≡ Some s → r.offset ≡ s.offset → j ≡ k
   pub few : length of ≤ n
-
--- two methods with code stand at one offset, the one of them before the other
-pub record AreTwo (l : Linked) (offset : ℕ) : Type 0 where
-  pub first : ℕ
-  pub second : ℕ
-  pub apart : first < second
-  pub one : MethodBody
-  pub other : MethodBody
-  pub is_one : slice_get l.body.kept.methods first ≡ Some one
-  pub is_other : slice_get l.body.kept.methods second ≡ Some other
-  pub at_one : one.offset ≡ offset
-  pub at_other : other.offset ≡ offset
 
 -- no states carry a method, or some class in it has no name
 abbrev pub IsDenied : Linked → Method → Type 0
 IsDenied l m = (CanBeCarried l m → ⊥) ⊎ (KeepsNames l m → ⊥)
 
--- why a method with code at this offset is told of
-pub data IsTold (l : Linked) (offset : ℕ) : Type 0 where
-  denied : (place : ℕ) (b : MethodBody) → slice_get l.body.kept.methods place ≡ Some b → b.offset ≡ offset → IsDenied l (method_of l b) → IsTold l offset
-  twice : AreTwo l offset → IsTold l offset
-
--- one of the first methods stands at an offset
-pub record HasMethodAt (l : Linked) (n offset : ℕ) : Type 0 where
+-- a method with code stands at this offset, and no states carry it
+pub record IsTold (l : Linked) (offset : ℕ) : Type 0 where
   pub place : ℕ
   pub method : MethodBody
-  pub stands : Stands l n place method
+  pub is : slice_get l.body.kept.methods place ≡ Some method
   pub at : method.offset ≡ offset
+  pub without : CanBeCarried l (method_of l method) → ⊥
 
--- so it is where nothing is told. Where a method is told of there is a reason, and those that stand before it can be carried
+-- so it is where nothing is told. Where a method is told of no states carry it, and those that stand before it can be carried
 pub record IsSoFar (l : Linked) (n : ℕ) (g : Gathered) : Type 0 where
-  pub gathered : g.told ≡ None → AreGathered l n (rows g.rows.items) g.seen
-  pub seen : (offset : ℕ) → has_number g.seen offset ≡ true → HasMethodAt l n offset
+  pub gathered : g.told ≡ None → AreGathered l n (rows g.rows.items)
   pub told : (t : Told) → g.told ≡ Some t → IsTold l t.method
   pub carried : (k : ℕ) (b : MethodBody) → Stands l n k b → ((t : Told) → g.told ≡ Some t → b.offset < t.method) → CanBeCarried l (method_of l b)
 

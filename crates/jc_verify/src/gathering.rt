@@ -8,10 +8,11 @@ ghost use Rattle.jc_check.specs.Package.{method_of};
 ghost use Rattle.jc_check.specs.declared.fault.WordFault.TheVariants.{Refused};
 ghost use Rattle.jc_verify.specs.PrivateFlow.{HasLaws};
 ghost use Rattle.jc_verify.specs.PrivateGathered.{IsDenied, IsInferred, IsPut, IsSoFar};
+ghost use Rattle.jc_verify.specs.PrivateRefused.{HasFitMethods};
 
 use crate::fault::VerifyFault;
 use crate::method::states_of;
-use jc_base::{NumberSet, Reason};
+use jc_base::Reason;
 use jc_cert::{MethodRow, StateRow};
 use jc_check::{Fault, WordFault, method_of};
 use jc_link::{Linked, MethodCode};
@@ -24,12 +25,11 @@ pub(crate) struct Told {
     pub(crate) fault: Fault,
 }
 
-/// What is known of the first methods of a package: the rows of those that have states, the offsets of all that were looked at, and
-/// of those without a certificate the one with the least offset.
+/// What is known of the first methods of a package: the rows of those that have states, and of those without a certificate the one with
+/// the least offset.
 #[derive(Drop)]
 pub(crate) struct Gathered {
     pub(crate) rows: Vec<MethodRow>,
-    pub(crate) seen: NumberSet,
     pub(crate) told: Option<Told>,
 }
 
@@ -60,7 +60,6 @@ fn put_states(
     states: Vec<StateRow>,
 ) -> Result<(), VerifyFault>
     ensures put { IfOk result (λ u. IsPut offset (map stated states.items) (rows gathered.old.rows.items) (rows gathered.new.rows.items)) }
-    ensures seen { gathered.new.seen ≡ gathered.old.seen }
     ensures told { gathered.new.told ≡ gathered.old.told }
     ensures memory { IfErr result (λ fault. fault ≡ VerifyFault.Memory) }
 {
@@ -71,15 +70,15 @@ fn put_states(
     Ok(())
 }
 
-/// One method more. One that stands behind a method without a certificate is passed over; of two at one offset, which no linked package has,
-/// the second has none.
+/// One method more. One that stands behind a method without a certificate is passed over.
 pub(crate) fn gather(
     alloc: Global,
     linked: &Linked,
     body: &MethodCode,
     gathered: &mut Gathered,
 ) -> Result<(), VerifyFault>
-    requires { HasLaws linked.now }
+    requires laws { HasLaws linked.now }
+    requires fit { HasFitMethods linked.now }
     ensures gathered { IfOk result (λ u. (n : ℕ) → slice_get linked.now.body.kept.methods n ≡ Some body.now → IsSoFar linked.now n gathered.old → IsSoFar linked.now (n + 1) gathered.new) }
     ensures memory { IfErr result (λ fault. fault ≡ VerifyFault.Memory) }
 {
@@ -87,11 +86,6 @@ pub(crate) fn gather(
     if is_passed_over(gathered.told, offset) {
         return Ok(());
     }
-    if gathered.seen.contains(offset) {
-        gathered.told = Some(told_at(offset, 0, Reason::CertMismatch));
-        return Ok(());
-    }
-    gathered.seen.insert(offset);
     match states_for(alloc, linked, body) {
         Ok(states) => put_states(gathered, offset, states),
         Err(WordFault::Refused { pc, reason }) => {

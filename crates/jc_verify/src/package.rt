@@ -1,6 +1,6 @@
 //! The certificate of a package.
 
-ghost use Rattle.std.specs.Prelude.{◌≡◌, ℕ, List, length, IfErr, IfNone, IfOk, IfSome};
+ghost use Rattle.std.specs.Prelude.{◌≡◌, length, IfErr, IfOk};
 ghost use Rattle.jc_cert.specs.Cert.{rows};
 ghost use Rattle.jc_check.specs.Checked.{CarriesPackage};
 ghost use Rattle.jc_verify.specs.Inferred.{HasAllStates, HasLeastStates, HasStatesWhereEntered};
@@ -11,9 +11,8 @@ ghost use Rattle.jc_verify.specs.Refusal.{IsRefusal};
 
 use crate::fault::VerifyFault;
 use crate::gathering::{Gathered, gather};
-use jc_base::{NumberSet, Reason};
 use jc_cert::{Cert, MethodRow};
-use jc_check::{Fault, types_name_classes};
+use jc_check::types_name_classes;
 use jc_code::listing_laws;
 use jc_link::{Linked, MethodCode, built_worlds_are_sound};
 use jc_step::effects_are_monotone;
@@ -43,13 +42,13 @@ fn methods_of(linked: &Linked) -> &[MethodCode]
 
 /// What is known of all methods of a package.
 fn gather_all(alloc: Global, linked: &Linked) -> Result<Gathered, VerifyFault>
-    requires { HasLaws linked.now }
+    requires laws { HasLaws linked.now }
+    requires fit { HasFitMethods linked.now }
     ensures so_far { IfOk result (IsSoFar linked.now (length linked.now.body.kept.methods)) }
     ensures memory { IfErr result (λ fault. fault ≡ VerifyFault.Memory) }
 {
     let mut gathered = Gathered {
         rows: Vec::new(alloc),
-        seen: NumberSet::empty(),
         told: None,
     };
     let methods = methods_of(linked);
@@ -60,18 +59,16 @@ fn gather_all(alloc: Global, linked: &Linked) -> Result<Gathered, VerifyFault>
 }
 
 /// The certificate of rows that carry a package's methods, in whatever order.
-fn certificate_of(linked: &Linked, methods: Vec<MethodRow>) -> Option<Cert>
+fn certificate_of(linked: &Linked, methods: Vec<MethodRow>) -> Cert
     requires fit { HasFitMethods linked.now }
-    requires gathered { (seen : List ℕ) × AreGathered linked.now (length linked.now.body.kept.methods) (rows methods.items) seen }
-    ensures carried { IfSome result (λ cert. CarriesPackage linked.now cert) }
-    ensures entered { IfSome result (λ cert. HasStatesWhereEntered linked.now cert) }
-    ensures least { IfSome result (λ cert. HasLeastStates linked.now cert) }
-    ensures none { IfNone result ⊥ }
+    requires gathered { AreGathered linked.now (length linked.now.body.kept.methods) (rows methods.items) }
+    ensures carried { CarriesPackage linked.now result }
+    ensures entered { HasStatesWhereEntered linked.now result }
+    ensures least { HasLeastStates linked.now result }
 {
-    let _laws = linked.table().len();
     let mut methods = methods;
     methods.sort_unstable_by_key(|row| row.offset);
-    Cert::new(methods)
+    Cert::new(methods).unwrap()
 }
 
 /// The certificate of what is known of all methods, unless one of them is told of.
@@ -91,16 +88,7 @@ fn certificate_or_fault(linked: &Linked, gathered: Gathered) -> Result<Cert, Ver
             fault: told.fault,
         });
     }
-    match certificate_of(linked, gathered.rows) {
-        Some(cert) => Ok(cert),
-        None => Err(VerifyFault::NoCertificate {
-            method: 0,
-            fault: Fault {
-                pc: 0,
-                reason: Reason::CertMismatch,
-            },
-        }),
-    }
+    Ok(certificate_of(linked, gathered.rows))
 }
 
 /// Works out a certificate that carries a linked package, with states only where control flow enters a method by a branch or a

@@ -70,9 +70,7 @@ impl Store {
             start: self.used,
             len: len as u16,
         };
-        if self.headers.push(header).is_err() {
-            return None;
-        }
+        self.headers.push_reserved(header);
         self.used += len as u16;
         Some(self.headers.len() as u16)
     }

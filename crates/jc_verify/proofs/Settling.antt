@@ -226,6 +226,17 @@ module _ (l : Linked) (laws : HasLaws l) (m : Method) (numbers : List (Option �
   pub swept_before : (number end : ℕ) (start now next : Places) → 0 < number → IsSwept l m numbers number end start now → IsFollowed l m numbers (number - 1) now next → IsSwept l m numbers (number - 1) end start next
   swept_before number end start now next some s f = swept_more number end (number - 1) (number - 1) end start now next s f (λ n le lt other. (omega (arith, some, le, other), lt))
 
+  -- all of them once more
+  pub swept_again : (end last : ℕ) (start now next : Places) → IsSwept l m numbers 0 end start now → IsSwept l m numbers 0 last now next → IsSwept l m numbers 0 last start next
+  swept_again end last start now next s t = record {
+    risen = risen_through l laws m numbers start now next s.risen t.risen;
+    under = λ typing upper under. t.under typing upper (s.under typing upper under);
+    named = λ keeps h. t.named keeps (s.named keeps h);
+    settled = λ h. t.settled (s.settled h);
+    left = omega (arith, s.left, t.left);
+    flags = λ n p le lt e changed. let less = t.flags n p le lt e changed in omega (arith, less, s.left);
+  }
+
   -- ---- what taking up a place leaves
 
   module _ (places : Places) (number : ℕ) (p q : Place StateWithRoom) (at : slice_get places number ≡ Some p) where

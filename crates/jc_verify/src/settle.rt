@@ -132,33 +132,6 @@ fn sweep_backwards(
     Ok(())
 }
 
-/// Follows control flow from each place that has changed, one way or the other.
-fn sweep(
-    flow: &Flow,
-    places: &mut [Place<State>],
-    caught: &mut State,
-    state: &mut State,
-    forwards: bool,
-) -> Result<(), WordFault>
-    requires laws { HasLaws flow.now.linked.now }
-    requires numbered { IsNumbered flow.now.numbers.now places.old }
-    requires sized { length flow.now.numbers.now ≡ length flow.now.method.now.code }
-    requires shaped { AreShaped flow.now.method.now places.old }
-    requires caught { HasRoom flow.now.method.now caught.old }
-    requires room { HasRoom flow.now.method.now state.old }
-    requires short { length flow.now.method.now.code < 2 ^ 16 }
-    ensures swept { IfOk result (λ u. IsSwept flow.now.linked.now flow.now.method.now flow.now.numbers.now 0 (length places.new) places.old places.new) }
-    ensures caught { IfOk result (λ u. HasRoom flow.now.method.now caught.new) }
-    ensures room { IfOk result (λ u. HasRoom flow.now.method.now state.new) }
-    ensures refused { IfErr result (λ fault. (pc : ℕ) (reason : Reason) → fault ≡ Refused pc reason → (typing : Typing) → IsCarrier flow.now.linked.now flow.now.method.now flow.now.numbers.now typing → IsUnder flow.now.linked.now flow.now.numbers.now places.old typing → ⊥) }
-{
-    if forwards {
-        sweep_forwards(flow, places, caught, state)
-    } else {
-        sweep_backwards(flow, places, caught, state)
-    }
-}
-
 /// Whether a place has changed.
 fn has_changed(places: &[Place<State>]) -> bool
     ensures some { result ≡ true → (n : ℕ) × (p : PlaceOf StateWithRoom) × (slice_get places.now n ≡ Some p) × (p.changed ≡ true) }
@@ -194,13 +167,12 @@ fn settle(
     ensures named { IfOk result (λ u. KeepsNames flow.now.linked.now flow.now.method.now → AreNamed flow.now.linked.now.world places.old → AreNamed flow.now.linked.now.world places.new) }
     ensures refused { IfErr result (λ fault. (pc : ℕ) (reason : Reason) → fault ≡ Refused pc reason → (typing : Typing) → IsCarrier flow.now.linked.now flow.now.method.now flow.now.numbers.now typing → IsUnder flow.now.linked.now flow.now.numbers.now places.old typing → ⊥) }
 {
-    let mut forwards = true;
     loop {
-        sweep(flow, places, caught, state, forwards)?;
+        sweep_forwards(flow, places, caught, state)?;
+        sweep_backwards(flow, places, caught, state)?;
         if !has_changed(places) {
             return Ok(());
         }
-        forwards = !forwards;
     }
 }
 

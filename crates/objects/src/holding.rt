@@ -5,6 +5,7 @@ ghost use Rattle.jc_store.specs.Heap.{Object, cleared, object_at, with_cell, wit
 ghost use Rattle.jc_store.specs.Store.{HasCell, IsFull, IsThere, fresh, with_objects};
 ghost use Rattle.objects.specs.Held.{component, kind_of, len_of, owner_of};
 ghost use Rattle.objects.specs.Made.{IsMade};
+ghost use Rattle.objects.specs.declared.answer.Answer.TheVariants.{Cleared};
 
 use crate::answer::Answer;
 use crate::words;
@@ -94,7 +95,8 @@ fn made(store: &mut Store, kind: Kind, owner: Owner, len: usize) -> Answer
 
 /// Puts 0 into the components that an event clears.
 fn cleared(store: &mut Store, event: ClearingEvent, context: Option<u8>) -> Answer
-    ensures { store.new ≡ with_objects store.old (cleared (λ kind. 0) event context store.old.objects) }
+    ensures cleared { store.new ≡ with_objects store.old (cleared (λ kind. 0) event context store.old.objects) }
+    ensures told { result ≡ Cleared }
 {
     store.clear(event, context);
     Answer::Cleared

@@ -1,4 +1,4 @@
-use Rattle.std.proofs.Common.{rules, subst, sym, ◌≡◌, ◌∙◌}
+use Rattle.std.proofs.Common.{rules, subst, sym}
 use Rattle.std.proofs.lemmas.List.Sorted.{IsNonDecreasingBy-from_sort_by_key, IsPermutation-map}
 use Rattle.jc_cert.specs.Cert.{row, rows}
 use Rattle.jc_cert.specs.declared.cert.MethodRow.{MethodRow}

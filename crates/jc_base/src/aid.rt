@@ -20,7 +20,7 @@ const LONGEST_AID: usize = 16;
 #[derive(Clone, Copy, Debug)]
 pub struct Aid {
     bytes: [u8; LONGEST_AID],
-    len: usize,
+    len: u8,
 }
 
 impl Model for Aid {
@@ -57,14 +57,17 @@ impl Aid {
         }
         let mut held = [0; LONGEST_AID];
         held[..len].copy_from_slice(bytes);
-        Some(Aid { bytes: held, len })
+        Some(Aid {
+            bytes: held,
+            len: len as u8,
+        })
     }
 
     /// Its bytes.
     pub fn as_slice(&self) -> &[u8]
         ensures { result.now ≡ self.now }
     {
-        &self.bytes[..self.len]
+        &self.bytes[..usize::from(self.len)]
     }
 
     /// How many bytes it has, 5 to 16.
@@ -73,7 +76,7 @@ impl Aid {
         ensures least { shortest_aid ≤ result }
         ensures most { result ≤ longest_aid }
     {
-        self.len
+        usize::from(self.len)
     }
 }
 

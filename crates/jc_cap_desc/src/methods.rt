@@ -1,6 +1,6 @@
 //! The methods of a class, with their headers and types.
 
-ghost use Rattle.std.specs.Prelude.{◌≡◌, ◌∷◌, [], IfSome, IfNone};
+ghost use Rattle.std.specs.Prelude.{◌≡◌, ◌≤◌, ◌∷◌, [], length, IfSome, IfNone};
 ghost use Rattle.jc_cap_desc.specs.PrivateShape.{header_if};
 ghost use Rattle.jc_cap_desc.specs.Shape.{method_shape};
 
@@ -117,6 +117,14 @@ impl<'p, 'a> Model for ClassMethods<'p, 'a> {
 }
 
 impl<'p, 'a> ClassMethods<'p, 'a> {
+    /// No more than so many are left, to reserve room for them.
+    #[tactic(auto, using(crate::proofs::Few::fewer))]
+    pub fn most(&self) -> u16
+        ensures { length self.now ≤ result }
+    {
+        self.left.count()
+    }
+
     /// Takes the first method off, or answers `None` where there is none.
     pub fn next(&mut self) -> Option<ClassMethod<'a>>
         ensures some { IfSome result (λ method. self.old ≡ method ∷ self.new) }

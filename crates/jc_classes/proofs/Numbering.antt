@@ -1,5 +1,5 @@
 -- Lists by numbers and tokens, one more at a time.
-use Rattle.std.proofs.Common.{◌≡◌, ℕ, zero, suc, ◌+◌, ◌<◌, ◌≤◌, Bool, true, cond, max, map, ◌⊎◌, inl, inr, List, [], ◌∷◌, ◌++◌, length, nat_le, Option, Some, None, refl, ap, ◌∙◌, subst, add-one, length-append, arith}
+use Rattle.std.proofs.Common.{◌≡◌, ℕ, zero, suc, ◌+◌, ◌^◌, ◌<◌, ◌≤◌, Bool, true, cond, max, map, ◌⊎◌, inl, inr, List, [], ◌∷◌, ◌++◌, length, nat_le, Option, Some, None, refl, ap, ◌∙◌, subst, add-one, length-append, arith}
 use Rattle.std.specs.List.{slice_get, list_all, filter_map, cons_option, find, range_with_len}
 use Rattle.std.specs.Option.{option_or, option_to_list}
 use Rattle.std.proofs.lemmas.Bool.{leb-true, cases_lt, lt-ltb, le-ltb}
@@ -10,9 +10,10 @@ use Rattle.std.proofs.lemmas.Option.{slice_get_past}
 use Rattle.jc_base.proofs.Binding.{both_true, the_some}
 use Rattle.jc_api.specs.Bound.{Bound}
 use Rattle.jc_api.specs.Member.{ApiMember, members, member_of, shown}
+use Rattle.jc_api.specs.declared.class.ApiClass.{ApiClass}
 use Rattle.jc_api.specs.declared.class.ApiPackage.{ApiPackage}
 use Rattle.jc_api.specs.declared.member.Member.{Member}
-use Rattle.jc_classes.specs.Api.{those_to, each_below, room_for, room_to, is_token, number_to, class_shape_of, last_class}
+use Rattle.jc_classes.specs.Api.{those_to, each_below, room_for, room_to, is_token, number_to, class_shape_of, last_class, last_member, method_of}
 use Rattle.jc_classes.specs.PrivateApi.{with_room, if_token}
 use Rattle.jc_classes.specs.Limits.{most_classes_of_one}
 
@@ -123,6 +124,9 @@ those_few {A = A} f (suc n) = rw (those_suc f n) (by_one (f (suc n)) (those_few 
 
 pub few_classes : (bound : Bound) (which : ApiPackage) → length (those_to last_class (class_shape_of bound which)) ≤ most_classes_of_one
 few_classes bound which = let h = those_few (class_shape_of bound which) last_class in omega arith
+
+pub few_methods : (bound : Bound) (class : ApiClass) (n : ℕ) → n ≤ last_member → length (those_to n (method_of bound class)) < 2 ^ 16
+few_methods bound class n within = let h = those_few (method_of bound class) n in omega (arith, h, within)
 
 -- no member has a number past a byte
 pub member_past : (n : ℕ) → 256 ≤ n → member_of n ≡ None

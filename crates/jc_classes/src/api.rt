@@ -1,6 +1,6 @@
 //! The packages of the API as shapes.
 
-ghost use Rattle.std.specs.Prelude.{◌≡◌, ◌≤◌, ◌<◌, ◌++◌, length, map, IfOk, IfSome, OnOk};
+ghost use Rattle.std.specs.Prelude.{◌≡◌, ◌≤◌, ◌<◌, ◌^◌, ◌++◌, length, map, IfOk, IfSome, OnOk};
 ghost use Rattle.std.specs.Option.{option_map, option_and_then, option_to_list};
 ghost use Rattle.jc_api.specs.Class.{class_of, package_of, superclass_of};
 ghost use Rattle.jc_api.specs.Member.{shown};
@@ -303,7 +303,8 @@ fn put_method(
 /// The methods that a class declares.
 #[tactic(auto, using(crate::proofs::Numbering::those_more, crate::proofs::Numbering::those_none))]
 fn methods_in(alloc: Global, binding: &Binding, class: ApiClass) -> Result<Vec<Method>, AllocError>
-    ensures { IfOk result (λ methods. methods.items ≡ those_to last_member (method_of binding.now class)) }
+    ensures methods { IfOk result (λ methods. methods.items ≡ those_to last_member (method_of binding.now class)) }
+    ensures few { IfOk result (λ methods. length methods.items < 2 ^ 16) }
 {
     let mut methods = Vec::new(alloc);
     for before in 0..LAST_MEMBER {

@@ -1,6 +1,6 @@
 //! Tables of where the classes and methods of a package stand, by their offsets.
 
-ghost use Rattle.std.specs.Prelude.{◌≡◌, ℕ, ◌==◌, ◌<◌, ◌≤◌, Some, if◌then◌else◌, length, IfOk};
+ghost use Rattle.std.specs.Prelude.{◌≡◌, ℕ, ◌==◌, ◌<◌, ◌≤◌, ◌^◌, Some, if◌then◌else◌, length, IfOk};
 ghost use Rattle.std.specs.List.{position};
 ghost use Rattle.jc_classes.specs.Limits.{most_classes_of_one};
 ghost use Rattle.jc_classes.specs.PrivatePlaces.{place_at, place_or, position_in, first_method, AreClassPlaces, AreMethodPlaces};
@@ -61,6 +61,7 @@ fn put_methods(
     class: u8,
     methods: &[Method],
 ) -> Result<(), AllocError>
+    requires { length methods.now < 2 ^ 16 }
     ensures { IfOk result (λ u. (i : ℕ) → place_at places.new.items i ≡ place_or class (position (λ m. m.offset == i) methods.now) (place_at places.old.items i)) }
 {
     let mut left = methods.len();
@@ -69,7 +70,7 @@ fn put_methods(
         let method = &methods[left];
         let place = MethodPlace {
             class,
-            method: left,
+            method: left as u16,
         };
         put(places, usize::from(method.offset), place)?;
     }
@@ -149,7 +150,7 @@ impl PackageShape {
     {
         let place = place_at(&self.method_places, usize::from(offset))?;
         let class = self.classes.get(usize::from(place.class))?;
-        let method = class.methods.get(place.method)?;
+        let method = class.methods.get(usize::from(place.method))?;
         Some(PlacedMethod { class, method })
     }
 }

@@ -126,6 +126,7 @@ pub struct Class {
 }
 
 impl Model for Class {
+    ghost use Rattle.std.specs.Prelude.{◌<◌, ◌^◌, length};
     ghost use Rattle.jc_cap_desc.specs.Shape.{ClassShape};
     ghost use Rattle.jc_classes.specs.PrivateShape.{record_of};
 
@@ -138,13 +139,15 @@ impl Model for Class {
       fields = k.fields.items;
       methods = k.methods.items;
     } };
+
+    ghost invariant = { λ k. length k.methods.items < 2 ^ 16 };
 }
 
 /// Where a method stands: which of the package's classes it belongs to, and which of that class's methods it is.
 #[derive(Clone, Copy)]
 pub(crate) struct MethodPlace {
     pub(crate) class: u8,
-    pub(crate) method: usize,
+    pub(crate) method: u16,
 }
 
 /// A package.

@@ -47,11 +47,11 @@ fn gather_all(alloc: Global, linked: &Linked) -> Result<Gathered, VerifyFault>
     ensures so_far { IfOk result (IsSoFar linked.now (length linked.now.body.kept.methods)) }
     ensures memory { IfErr result (λ fault. fault ≡ VerifyFault.Memory) }
 {
+    let methods = methods_of(linked);
     let mut gathered = Gathered {
-        rows: Vec::new(alloc),
+        rows: Vec::with_capacity(alloc, methods.len())?,
         told: None,
     };
-    let methods = methods_of(linked);
     for index in 0..methods.len() {
         gather(alloc, linked, &methods[index], &mut gathered)?;
     }

@@ -122,7 +122,7 @@ pub(crate) fn stated_rows(
     ensures rows { IfOk result (λ rows. AreStateRows (class_of_name table.now) places.now (map stated rows.items)) }
     ensures refused { IfErr result (λ fault. (pc : ℕ) (reason : Reason) → fault ≡ Refused pc reason → HasUnnamed table.now places.now) }
 {
-    let mut rows = Vec::new(alloc);
+    let mut rows = Vec::with_capacity(alloc, places.len())?;
     for index in 0..places.len() {
         put_row(alloc, table, &places[index], &mut rows)?;
     }

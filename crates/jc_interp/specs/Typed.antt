@@ -1,5 +1,5 @@
 -- When a defensive machine is well typed: what it holds is of the types by which its code was checked, and of declared types elsewhere.
-use Rattle.std.specs.Prelude.{⊤, ◌≡◌, ℕ, zero, suc, ◌+◌, Bool, true, false, List, [], ◌∷◌, ◌++◌, length, map, take, Option, Some, None, slice_get}
+use Rattle.std.specs.Prelude.{⊤, ◌≡◌, ℕ, zero, suc, ◌+◌, Bool, true, false, List, [], ◌∷◌, ◌++◌, length, map, take, Option, Some, None, IsSome, slice_get}
 use Rattle.std.specs.List.{AllByRecursion, range_with_len}
 use Rattle.std.specs.Option.{option_map_or}
 use Rattle.jc_api.specs.declared.class.ApiClass.{ApiClass}
@@ -17,6 +17,8 @@ use Rattle.jc_link.specs.Linked.{Linked, LinkedBody, World}
 use Rattle.jc_link.specs.MemberType.{counted}
 use Rattle.jc_link.specs.Named.{size_of}
 use Rattle.jc_link.specs.Target.{instance_type_of, static_type_of}
+use Rattle.jc_link.specs.declared.named.StaticPlace.{StaticPlace}
+use Rattle.jc_step.specs.Objects.{has_objects}
 use Rattle.jc_store.specs.Heap.{Heap, Object, object_at}
 use Rattle.jc_store.specs.declared.kind.ObjectType.{ObjectType}
 use Rattle.jc_store.specs.declared.kind.ObjectType.TheVariants.{Instance, BooleanArray, ByteArray, ShortArray, ReferenceArray}
@@ -24,6 +26,7 @@ use Rattle.jc_types.specs.Ty.{type_of_declared}
 use Rattle.jc_types.specs.declared.ty.Ty.{Ty}
 use Rattle.jc_types.specs.declared.ty.Ty.TheVariants as types
 use Rattle.jc_interp.specs.Agree.{Agree, AgreeBeside, Pointwise, Reads, WordMachine}
+use Rattle.jc_interp.specs.Fields.{static_at}
 use Rattle.jc_interp.specs.Lookup.{body_at, code_at, component_class, is_boolean_array, is_byte_array, is_instance, is_of_class, is_of_type, is_short_array, is_word, leads_to}
 use Rattle.jc_interp.specs.Machine.{Ends, Frame, Machine, Next, Outcome, StaticValue, Stuck, Surroundings, Throws, UsedUp}
 use Rattle.jc_interp.specs.Objects.{is_null}
@@ -66,18 +69,31 @@ CellsTyped world heap cells ByteArray = AllByRecursion (λ v. is_word v ≡ true
 CellsTyped world heap cells ShortArray = AllByRecursion (λ v. is_word v ≡ true) cells
 CellsTyped world heap cells (ReferenceArray c) = AllByRecursion (λ v. leads_to heap (is_instance world c) v ≡ true) cells
 
-abbrev pub HeapTyped : List Shape → Heap TaggedValue → Type 0
-HeapTyped world heap = AllByRecursion (λ o. CellsTyped world heap o.cells o.kind.object) heap
+-- an object of a class is of one that has objects: it is there, and isn't abstract
+abbrev pub may_be_made : List Shape → ObjectType → Bool
+may_be_made world (Instance c) = has_objects world c
+may_be_made world BooleanArray = true
+may_be_made world ByteArray = true
+may_be_made world ShortArray = true
+may_be_made world (ReferenceArray c) = true
 
--- each static field has a declared type, of which its value is
+pub record ObjectTyped (world : List Shape) (heap : Heap TaggedValue) (o : Object TaggedValue) : Type 0 where
+  pub made : may_be_made world o.kind.object ≡ true
+  pub cells : CellsTyped world heap o.cells o.kind.object
+
+abbrev pub HeapTyped : List Shape → Heap TaggedValue → Type 0
+HeapTyped world heap = AllByRecursion (ObjectTyped world heap) heap
+
+-- each value of a static field is of the type that the field is declared with
 pub record StaticTyped (world : List Shape) (heap : Heap TaggedValue) (home : ℕ) (s : StaticValue) : Type 0 where
   pub declared : DeclaredType ClassName
   pub found : static_type_of world (record { home = home; offset = s.offset }) ≡ Some declared
   pub typed : is_of_type world heap declared s.value ≡ true
 
-abbrev pub StaticsTyped : List Shape → Heap TaggedValue → List (List StaticValue) → Type 0
-StaticsTyped world heap statics =
-    (n : ℕ) (fields : List StaticValue) → slice_get statics n ≡ Some fields → AllByRecursion (StaticTyped world heap (2 + n)) fields
+-- and each static field that is declared has one
+pub record StaticsTyped (world : List Shape) (heap : Heap TaggedValue) (statics : List (List StaticValue)) : Type 0 where
+  pub typed : (n : ℕ) (fields : List StaticValue) → slice_get statics n ≡ Some fields → AllByRecursion (StaticTyped world heap (2 + n)) fields
+  pub present : (place : StaticPlace) (declared : DeclaredType ClassName) → static_type_of world place ≡ Some declared → IsSome (static_at statics place.home place.offset)
 
 -- what the runtime throws is there: an object of a class, with so many cells
 pub record IsThere (heap : Heap TaggedValue) (number : ℕ) (class : ApiClass) (cells : ℕ) : Type 0 where

@@ -94,7 +94,8 @@ fn write_rows(alloc: Global, methods: &[MethodRow]) -> Result<Vec<u8>, AllocErro
 
 /// The one spelling of a certificate. The only error is that no memory was left.
 pub fn write(alloc: Global, cert: &Cert) -> Result<Vec<u8>, AllocError>
-    ensures { IfOk result (λ bytes. bytes.items ≡ spelling cert.now) }
+    ensures cert { IsCert cert.now }
+    ensures spelled { IfOk result (λ bytes. bytes.items ≡ spelling cert.now) }
 {
     write_rows(alloc, cert.rows())
 }

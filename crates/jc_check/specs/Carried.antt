@@ -6,7 +6,7 @@ use Rattle.jc_classes.specs.declared.name.ClassName.{ClassName}
 use Rattle.jc_code.specs.Listing.{PlacedInstr, IsListing, placed_at, begins}
 use Rattle.jc_code.specs.Targets.{targets_of, falls_of}
 use Rattle.jc_types.specs.State.{Types, types_below, stated_types}
-use Rattle.jc_cert.specs.Cert.{Stated, Row}
+use Rattle.jc_cert.specs.Cert.{IsCert, Row, Stated}
 use Rattle.jc_check.specs.Rules.{Rules, word_rules}
 use Rattle.jc_check.specs.Method.{Handler, Method, caught_types, covers, entry_of, word_method, states_of}
 use Rattle.jc_check.specs.Claim.{Claim, claim_of}
@@ -103,8 +103,9 @@ pub record Carries (rules : Rules) (m : Method) (states : List Stated) : Type 0 
   pub live : (pc : ℕ) (x : PlacedInstr) (s : Types) → placed_at listing pc ≡ Some x → typing pc ≡ Some s → IsCarriedAt rules m listing claims typing x s
   pub dead : (pc : ℕ) (x : PlacedInstr) → placed_at listing pc ≡ Some x → typing pc ≡ None → NothingGoesOn (state_at claims x.instr.next_pc) (typing x.instr.next_pc)
 
--- a certificate carries code alone
+-- rows are a certificate, which carries code alone
 pub record CertCarriesCode (code : List ℕ) (rows : List Row) : Type 0 where
+  pub cert : IsCert rows
   pub states : List Stated
   pub are : states_of rows ≡ Some states
   pub carried : Carries word_rules (word_method code) states

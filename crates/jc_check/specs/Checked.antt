@@ -6,7 +6,7 @@ use Rattle.jc_base.specs.declared.fault.LoadFault.{LoadFault}
 use Rattle.jc_base.specs.declared.fault.LoadFault.TheVariants.{MethodRefused, Memory}
 use Rattle.jc_base.specs.declared.reason.Reason.TheVariants.{CertMismatch}
 use Rattle.jc_cap_desc.specs.Shape.{MethodBody}
-use Rattle.jc_cert.specs.Cert.{Stated, Row}
+use Rattle.jc_cert.specs.Cert.{IsCert, Row, Stated}
 use Rattle.jc_link.specs.Linked.{Linked}
 use Rattle.jc_check.specs.Carried.{Carries}
 use Rattle.jc_check.specs.FirstFault.{IsFirstFault}
@@ -55,6 +55,7 @@ IsRefusal l rows fault = (fault ≡ Memory) ⊎ IsFirstRefusal l rows fault
 -- a package that some certificate carries
 pub record IsPackageCarried (l : Linked) : Type 0 where
   pub rows : List Row
+  pub cert : IsCert rows
   pub carried : CarriesPackage l rows
 
 -- a method with code is well typed

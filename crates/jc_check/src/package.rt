@@ -135,6 +135,7 @@ fn first_uncarried(
 
 /// The first refusal of a package with a certificate, if there is one.
 fn package_refusal(alloc: Global, linked: &Linked, cert: &Cert) -> Result<(), LoadFault>
+    ensures cert { IsCert cert.now }
     ensures accepted { OnOk result (CarriesPackage linked.now cert.now) }
     ensures refused { IfErr result (IsRefusal linked.now cert.now) }
 {
@@ -158,6 +159,7 @@ fn package_refusal(alloc: Global, linked: &Linked, cert: &Cert) -> Result<(), Lo
 /// The same, with what becomes of a certificate that carries the package.
 #[tactic(auto, using(crate::proofs::Least::memory_alone))]
 fn first_refusal(alloc: Global, linked: &Linked, cert: &Cert) -> Result<(), LoadFault>
+    ensures cert { IsCert cert.now }
     ensures accepted { OnOk result (CarriesPackage linked.now cert.now) }
     ensures refused { IfErr result (IsRefusal linked.now cert.now) }
     ensures carried { CarriesPackage linked.now cert.now → MatchResult result (λ u. ⊤) (λ fault. fault ≡ LoadFault.Memory) }

@@ -1,7 +1,7 @@
 //! Code alone, checked with its certificate.
 
 ghost use Rattle.std.specs.Prelude.{⊤, ◌≡◌, ◌<◌, ◌^◌, map, length, option_map, IfOk, IfErr, IfSome, MatchResult};
-ghost use Rattle.jc_cert.specs.Cert.{stated};
+ghost use Rattle.jc_cert.specs.Cert.{IsCert, stated};
 ghost use Rattle.jc_check.specs.Fault.{IfRefused};
 ghost use Rattle.jc_check.specs.Method.{states_of};
 ghost use Rattle.jc_check.specs.Typing.{IsWellTyped};
@@ -54,6 +54,7 @@ impl<'a> CheckedWords<'a> {
 
 // The certificate's states for code alone.
 fn states_for(cert: &Cert) -> Option<&[StateRow]>
+    ensures cert { IsCert cert.now }
     ensures count { IfSome result (λ states. length states.now < 2 ^ 16) }
     ensures states { option_map (λ states. map stated states.now) result ≡ states_of cert.now }
 {

@@ -1,7 +1,9 @@
 -- The pool of each package of a world is resolved, and stays so as packages come.
-use Rattle.std.proofs.Common.{◌≡◌, ℕ, zero, suc, ◌+◌, ◌-◌, ◌<◌, ◌≤◌, Bool, true, false, cond, List, [], ◌∷◌, ◌++◌, map, length, Some, None, refl, ap, sym, ◌∙◌, subst, arith, nat_lt, ◌==◌, Option, is_some, slice_get}
+use Rattle.std.proofs.Common.{◌≡◌, ℕ, zero, suc, ◌+◌, ◌-◌, ◌<◌, ◌≤◌, Bool, true, false, cond, List, [], ◌∷◌, ◌++◌, map, length, take, Some, None, refl, ap, sym, ◌∙◌, subst, arith, nat_lt, ◌==◌, Option, is_some, slice_get}
 use Rattle.std.proofs.Math.Path.{fun_ext}
+use Rattle.std.proofs.Math.Seq.{take-length}
 use Rattle.std.proofs.lemmas.Bool.{le-ltb, ltb-true, ltb-false}
+use Rattle.std.proofs.lemmas.List.{take-append-le}
 use Rattle.std.specs.List.{find}
 use Rattle.std.specs.Option.{option_and_then, option_map}
 use Rattle.jc_cap_class.specs.Component.{is_class}
@@ -17,7 +19,8 @@ use Rattle.jc_link.proofs.Nones.{found_at}
 use Rattle.jc_link.specs.Built.{IsBuilt}
 use Rattle.jc_link.specs.Growth.{HasApi, KeepsLinking}
 use Rattle.jc_link.specs.Kept.{kept_of}
-use Rattle.jc_link.specs.Linked.{AreHeaded, IsBoundTo, IsLast, IsResolved, IsWorld, Linked, LinkedBody, World, with_linked}
+use Rattle.jc_link.specs.Linked.{AreHeaded, IsBoundTo, IsKnown, IsLast, IsResolved, IsWorld, Linked, LinkedBody, World, with_linked}
+use Rattle.jc_link.specs.WellFormed.{IsWellFormed}
 use Rattle.jc_link.specs.Target.{pool_targets}
 
 -- what stands behind the last
@@ -27,11 +30,11 @@ behind_last [] y z (suc n) h e = absurd (none_some z e)
 behind_last (x ∷ xs) y z zero h e = absurd (omega arith)
 behind_last (x ∷ xs) y z (suc n) h e = let rest = behind_last xs y z n (omega arith) e in (ap suc rest.0, rest.1)
 
--- the methods of classes of the last package of a world have headers, as they have in the package
-headed : (before : List Shape) (shape : Shape) → HasApi before → HaveHeaders shape → AreHeaded (grown before shape) (length before)
-headed before shape api have offset d e =
-    let home : length before ≡ suc (suc (length before - 2)) = omega (arith, api) in
-    by_home (length before - 2) home (ap (λ n. method_at (grown before shape) (method_name n offset)) (sym home) ∙ e)
+-- the methods of classes of a loaded package have headers in its world, as they have in the package
+headed_at : (world : List Shape) (home : ℕ) (shape : Shape) → 2 ≤ home → slice_get world home ≡ Some shape → HaveHeaders shape → AreHeaded world home
+headed_at world home shape api at have offset d e =
+    let two : home ≡ suc (suc (home - 2)) = omega (arith, api) in
+    by_home (home - 2) two (ap (λ n. method_at world (method_name n offset)) (sym two) ∙ e)
   where
     its_header : (there : Shape) (k : ClassShape) (n : ℕ) → shape ≡ there → slice_get there.classes n ≡ Some k → method_of_class offset k ≡ Some d.method → is_some d.method.header ≡ true
     its_header there k n same at is =
@@ -42,33 +45,52 @@ headed before shape api have offset d e =
     its_method c None f = absurd (none_some d f)
     its_method c (Some m) f = ap (λ (d : DeclaredMethod). Some d.method) (the_some _ d f)
 
-    by_home : (n : ℕ) → length before ≡ suc (suc n) → method_at (grown before shape) (method_name (suc (suc n)) offset) ≡ Some d → is_some d.method.header ≡ true
-    by_home n home e =
+    by_home : (n : ℕ) → home ≡ suc (suc n) → method_at world (method_name (suc (suc n)) offset) ≡ Some d → is_some d.method.header ≡ true
+    by_home n two e =
         let one : suc (suc n) - 1 ≡ suc n = omega arith in
         let named : method_name (suc (suc n)) offset ≡ Loaded (suc n) offset
         = ap (λ b. cond b (Api offset) (Loaded (suc (suc n) - 1) offset)) (le-ltb (suc (suc n)) 2 (omega arith)) ∙ ap (λ i. Loaded i offset) one in
-        let there = some_of (declared_in (suc (suc n)) offset) (slice_get (grown before shape) (suc (suc n))) d (ap (method_at (grown before shape)) (sym named) ∙ e) in
-        let last = behind_last before shape there.0 (suc (suc n)) (omega (arith, home)) there.1 in
+        let there = some_of (declared_in (suc (suc n)) offset) (slice_get world (suc (suc n))) d (ap (method_at world) (sym named) ∙ e) in
+        let same : shape ≡ there.0 = the_some shape there.0 (sym at ∙ ap (slice_get world) two ∙ there.1) in
         let k = some_of (λ k. option_and_then (λ class. option_map (λ m. record { class = class; method = m }) (method_of_class offset k)) (name_of (suc (suc n)) k)) (find (λ k. is_some (method_of_class offset k)) (there.0).classes) d there.2 in
         let name = some_of (λ class. option_map (λ m. record { class = class; method = m }) (method_of_class offset k.0)) (name_of (suc (suc n)) k.0) d k.2 in
         let place = found_at (λ k. is_some (method_of_class offset k)) (there.0).classes k.0 k.1 in
-        its_header there.0 k.0 place.0 last.1 place.1 (its_method name.0 (method_of_class offset k.0) name.2)
+        its_header there.0 k.0 place.0 same place.1 (its_method name.0 (method_of_class offset k.0) name.2)
+
+-- what stands at the end of a world, and what stands before it
+at_end : (before : List Shape) (shape : Shape) → slice_get (grown before shape) (length before) ≡ Some shape
+at_end [] shape = refl
+at_end (s ∷ before) shape = at_end before shape
+
+before_end : (before : List Shape) (shape : Shape) → take (length before) (grown before shape) ≡ before
+before_end before shape = take-append-le (length before) before (shape ∷ []) (omega arith) ∙ take-length before
+
+-- what is known of a package where it stands, in a world with it at the end
+known_at_end : (before : List Shape) (p : Package) (b : LinkedBody) → HasApi before → IsWellFormed before p → b.kept ≡ kept_of p.body
+    → map Some b.targets ≡ pool_targets (grown before p.shape) (length before) p.body.pool → StandApart p.body.methods → HaveHeaders p.shape
+    → IsKnown (grown before p.shape) (length before) b
+known_at_end before p b api fine kept targets apart have = record {
+  loaded = record {
+    «package» = p;
+    there = at_end before p.shape;
+    fine = subst (λ w. IsWellFormed w p) (sym (before_end before p.shape)) fine;
+    kept_is = kept;
+    apart = apart;
+    headers = have;
+  };
+  resolved = targets ∙ ap (λ pool. pool_targets (grown before p.shape) (length before) pool) (sym (ap (λ k. k.pool) kept));
+  headed = headed_at (grown before p.shape) (length before) p.shape api (at_end before p.shape) have;
+}
 
 -- a package that is bound is the last of its world
-pub is_last : (before world : List Shape) (p : Package) (b : LinkedBody) → IsBuilt world → world ≡ grown before p.shape → b.kept ≡ kept_of p.body
+pub is_last : (before world : List Shape) (p : Package) (b : LinkedBody) → IsBuilt world → world ≡ grown before p.shape → IsWellFormed before p → b.kept ≡ kept_of p.body
     → map Some b.targets ≡ pool_targets world (length before) p.body.pool → StandApart p.body.methods → HasApi before → HaveHeaders p.shape
     → IsLast (record { world = world; body = b })
-is_last before world p b built is kept targets apart api have =
+is_last before world p b built is fine kept targets apart api have =
     let more = ap (λ w. length w) is ∙ length_more before p.shape in
     let home : length before ≡ length world - 1 = omega (arith, more) in
-    record {
-      built = built;
-      resolved =
-          targets ∙ ap (λ h. pool_targets world h p.body.pool) home
-          ∙ ap (λ pool. pool_targets world (length world - 1) pool) (sym (ap (λ k. k.pool) kept));
-      apart = subst StandApart (sym (ap (λ k. k.methods) kept)) apart;
-      headed = subst (λ h. AreHeaded world h) home (subst (λ w. AreHeaded w (length before)) (sym is) (headed before p.shape api have));
-    }
+    let known = known_at_end before p b api fine kept (targets ∙ ap (λ w. pool_targets w (length before) p.body.pool) is) apart have in
+    record { built = built; known = subst (λ h. IsKnown world h b) home (subst (λ w. IsKnown w (length before) b) (sym is) known) }
 
 -- a pool that is resolved in a world is in the world with a package more
 still_resolved : (world : List Shape) (more : Shape) (home : ℕ) (b : LinkedBody) → KeepsLinking world more → HasApi world → home < length world
@@ -76,24 +98,43 @@ still_resolved : (world : List Shape) (more : Shape) (home : ℕ) (b : LinkedBod
 still_resolved world more home b keeps api h resolved =
     resolved ∙ ap (λ f. map f b.kept.pool) (fun_ext (λ entry. sym (keeps.targets home entry api h)))
 
+-- what is known of a package stays known
+still_known : (world : List Shape) (more : Shape) (home : ℕ) (b : LinkedBody) → KeepsLinking world more → HasApi world → 2 ≤ home → home < length world
+    → IsKnown world home b → IsKnown (grown world more) home b
+still_known world more home b keeps api loaded h known =
+    let was = known.loaded in
+    let there : slice_get (grown world more) home ≡ Some (was.«package»).shape = get_before world more home h ∙ was.there in
+    record {
+      loaded = record {
+        «package» = was.«package»;
+        there = there;
+        fine = subst (λ w. IsWellFormed w was.«package») (sym (take-append-le home world (more ∷ []) (omega arith))) was.fine;
+        kept_is = was.kept_is;
+        apart = was.apart;
+        headers = was.headers;
+      };
+      resolved = still_resolved world more home b keeps api h known.resolved;
+      headed = headed_at (grown world more) home (was.«package»).shape loaded there was.headers;
+    }
+
 module _ (keeps : (world : List Shape) (more : Shape) → KeepsLinking world more) (w : World) (l : Linked) (is : IsWorld w) (last : IsLast l) (bound : IsBoundTo w l) where
   -- one of those before
-  before_resolved : (n : ℕ) (body : LinkedBody) → n < length w.bodies → slice_get (w.bodies ++ l.body ∷ []) n ≡ Some body → IsResolved l.world (2 + n) body
-  before_resolved n body h e =
+  before_known : (n : ℕ) (body : LinkedBody) → n < length w.bodies → slice_get (w.bodies ++ l.body ∷ []) n ≡ Some body → IsKnown l.world (2 + n) body
+  before_known n body h e =
       let count = is.count in
-      let there = is.resolved n body (sym (get_before w.bodies l.body n h) ∙ e) in
-      subst (λ world. IsResolved world (2 + n) body) (sym bound.1)
-      (still_resolved w.shapes bound.0 (2 + n) body (keeps w.shapes bound.0) (omega (arith, count)) (omega (arith, count, h)) there)
+      let there = is.known n body (sym (get_before w.bodies l.body n h) ∙ e) in
+      subst (λ world. IsKnown world (2 + n) body) (sym bound.1)
+      (still_known w.shapes bound.0 (2 + n) body (keeps w.shapes bound.0) (omega (arith, count)) (omega arith) (omega (arith, count, h)) there)
 
   -- the last
-  last_resolved : (n : ℕ) (body : LinkedBody) → length w.bodies ≤ n → slice_get (w.bodies ++ l.body ∷ []) n ≡ Some body → IsResolved l.world (2 + n) body
-  last_resolved n body h e =
+  last_known : (n : ℕ) (body : LinkedBody) → length w.bodies ≤ n → slice_get (w.bodies ++ l.body ∷ []) n ≡ Some body → IsKnown l.world (2 + n) body
+  last_known n body h e =
       let at = behind_last w.bodies l.body body n h e in
       let here = at.0 in
       let count = is.count in
       let one = ap (λ s. length s) bound.1 ∙ length_more w.shapes bound.0 in
       let home : length l.world - 1 ≡ 2 + n = omega (arith, one, count, here) in
-      subst (λ home. IsResolved l.world home body) home (subst (λ b. IsResolved l.world (length l.world - 1) b) at.1 last.resolved)
+      subst (λ home. IsKnown l.world home body) home (subst (λ b. IsKnown l.world (length l.world - 1) b) at.1 last.known)
 
   -- a world with a package that was bound to it
   pub world_added : IsWorld (with_linked w l)
@@ -104,10 +145,10 @@ module _ (keeps : (world : List Shape) (more : Shape) → KeepsLinking world mor
       record {
         built = last.built;
         count = omega (arith, one, bodies, count);
-        resolved = λ n body e. by_place n body e (nat_lt n (length w.bodies)) (ltb-true n (length w.bodies)) (ltb-false n (length w.bodies));
+        known = λ n body e. by_place n body e (nat_lt n (length w.bodies)) (ltb-true n (length w.bodies)) (ltb-false n (length w.bodies));
       }
     where
       by_place : (n : ℕ) (body : LinkedBody) → slice_get (w.bodies ++ l.body ∷ []) n ≡ Some body → (b : Bool) → (b ≡ true → n < length w.bodies) → (b ≡ false → length w.bodies ≤ n)
-          → IsResolved l.world (2 + n) body
-      by_place n body e true h k = before_resolved n body (h refl) e
-      by_place n body e false h k = last_resolved n body (k refl) e
+          → IsKnown l.world (2 + n) body
+      by_place n body e true h k = before_known n body (h refl) e
+      by_place n body e false h k = last_known n body (k refl) e

@@ -1,8 +1,10 @@
 -- Packages that are bound to those before them, and the world of those (Java Card Virtual Machine Specification, Linking).
-use Rattle.std.specs.Prelude.{◌≡◌, ◌⊎◌, ℕ, ◌+◌, ◌-◌, List, [], ◌∷◌, ◌++◌, map, length, true, Option, Some, Result, Ok, Err, is_some, slice_get}
+use Rattle.std.specs.Prelude.{◌≡◌, ◌⊎◌, ℕ, ◌+◌, ◌-◌, List, [], ◌∷◌, ◌++◌, map, length, take, true, Option, Some, Result, Ok, Err, is_some, slice_get}
 use Rattle.jc_base.specs.declared.fault.LoadFault.{LoadFault}
 use Rattle.jc_base.specs.declared.fault.LoadFault.TheVariants.{Memory}
-use Rattle.jc_cap_desc.specs.Shape.{StandApart, Package, Shape}
+use Rattle.jc_base.specs.Parts.{Infos}
+use Rattle.jc_cap_desc.specs.Package.{package_of}
+use Rattle.jc_cap_desc.specs.Shape.{HaveHeaders, Package, Shape, StandApart}
 use Rattle.jc_classes.specs.Growth.{grown}
 use Rattle.jc_classes.specs.Members.{DeclaredMethod, method_at}
 use Rattle.jc_classes.specs.Methods.{method_name}
@@ -22,6 +24,10 @@ pub record Linked : Type 0 where
   pub world : List Shape
   pub body : LinkedBody
 
+-- the most packages of a world: the API's two and 64 loaded ones (one that is being bound to them is a further one)
+abbrev pub most_in_world : ℕ
+most_in_world = 66
+
 -- the shapes of a world, the API's first, and the rest of its loaded packages
 pub record World : Type 0 where
   pub shapes : List Shape
@@ -35,20 +41,33 @@ IsResolved world home body = map Some body.targets ≡ pool_targets world home b
 abbrev pub AreHeaded : List Shape → ℕ → Type 0
 AreHeaded world home = (offset : ℕ) (d : DeclaredMethod) → method_at world (method_name home offset) ≡ Some d → is_some d.method.header ≡ true
 
--- what each linked package is: its world is built of well-formed packages, the last of which it is, its pool is resolved there, no
--- two of its methods with code stand at one offset, and its classes' methods have headers
+-- a loaded package where it stands, with what is kept of it: it was read of an image, and it is well-formed in the world of those
+-- before it. So each fact of linking holds of it: its pool's types, its static image, its classes
+pub record IsLoadedAt (world : List Shape) (home : ℕ) (kept : Kept) : Type 0 where
+  pub «package» : Package
+  pub there : slice_get world home ≡ Some «package».shape
+  pub fine : IsWellFormed (take home world) «package»
+  pub kept_is : kept ≡ kept_of «package».body
+  pub apart : StandApart «package».body.methods
+  pub headers : HaveHeaders «package».shape
+
+-- what is known of a loaded package where it stands: it was read and linked there, its pool is resolved, and its classes' methods
+-- have headers
+pub record IsKnown (world : List Shape) (home : ℕ) (body : LinkedBody) : Type 0 where
+  pub loaded : IsLoadedAt world home body.kept
+  pub resolved : IsResolved world home body
+  pub headed : AreHeaded world home
+
+-- what each linked package is: it is the last of a world that is built of well-formed packages
 pub record IsLast (l : Linked) : Type 0 where
   pub built : IsBuilt l.world
-  pub resolved : IsResolved l.world (length l.world - 1) l.body
-  pub apart : StandApart l.body.kept.methods
-  pub headed : AreHeaded l.world (length l.world - 1)
+  pub known : IsKnown l.world (length l.world - 1) l.body
 
--- what each world is: it is built of well-formed packages, and the pool of each of the loaded ones, which stand behind the API's
--- two, is resolved there
+-- what each world is: it is built of well-formed packages, of which the loaded ones stand behind the API's two
 pub record IsWorld (w : World) : Type 0 where
   pub built : IsBuilt w.shapes
   pub count : length w.shapes ≡ 2 + length w.bodies
-  pub resolved : (n : ℕ) (body : LinkedBody) → slice_get w.bodies n ≡ Some body → IsResolved w.shapes (2 + n) body
+  pub known : (n : ℕ) (body : LinkedBody) → slice_get w.bodies n ≡ Some body → IsKnown w.shapes (2 + n) body
 
 -- this package, bound to the packages of a world: it is well-formed there, and each entry of its pool leads to its target
 pub record IsLinked (before : List Shape) (p : Package) (l : Linked) : Type 0 where
@@ -57,14 +76,21 @@ pub record IsLinked (before : List Shape) (p : Package) (l : Linked) : Type 0 wh
   pub kept : l.body.kept ≡ kept_of p.body
   pub targets : IsResolved l.world (length before) l.body
 
+-- the parts of an image are a package, and this is what it is, bound to the packages of a world
+pub record IsLinkedFrom (before : List Shape) (parts : Infos) (l : Linked) : Type 0 where
+  pub «package» : Package
+  pub read : package_of parts ≡ Ok «package»
+  pub linked : IsLinked before «package» l
+
 -- why a package that was read, or wasn't, isn't linked
 abbrev pub refusal_of : List Shape → Result Package LoadFault → Option LoadFault
 refusal_of before (Err fault) = Some fault
 refusal_of before (Ok p) = fault_behind before p
 
--- a refusal of a package, or want of memory
+-- a refusal: of what is no package what is wrong with it; of a package why it isn't well-formed, or that memory is out
 abbrev pub IsRefusal : List Shape → Result Package LoadFault → LoadFault → Type 0
-IsRefusal before read fault = (fault ≡ Memory) ⊎ (refusal_of before read ≡ Some fault)
+IsRefusal before (Err why) fault = fault ≡ why
+IsRefusal before (Ok p) fault = (fault ≡ Memory) ⊎ (fault_behind before p ≡ Some fault)
 
 -- a package was bound to a world as it stands
 abbrev pub IsBoundTo : World → Linked → Type 0

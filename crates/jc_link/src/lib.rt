@@ -22,7 +22,7 @@ pub use growth::{
     adding_keeps_linking, an_applet_is_well_formed, built_worlds_are_sound,
     built_worlds_name_classes,
 };
-pub use linking::link;
+pub use linking::{link, link_package};
 pub use named::{Named, StaticPlace};
 pub use target::{MemberType, PoolTarget, member_type};
 pub use types::{counted, is_known_method, return_found, type_found};

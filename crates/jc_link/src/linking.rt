@@ -2,7 +2,7 @@
 
 ghost use Rattle.std.specs.Prelude.{◌≡◌, ◌<◌, ◌≤◌, map, length, Some, Ok, IfOk, IfErr};
 ghost use Rattle.jc_cap_desc.specs.Package.{package_of};
-ghost use Rattle.jc_cap_desc.specs.Shape.{StandApart, HaveHeaders, Package as PackageRecord};
+ghost use Rattle.jc_cap_desc.specs.Shape.{StandApart, HaveHeaders};
 ghost use Rattle.jc_classes.specs.Growth.{grown};
 ghost use Rattle.jc_classes.specs.Limits.{most_packages};
 ghost use Rattle.jc_link.specs.Built.{IsBuilt};
@@ -10,7 +10,7 @@ ghost use Rattle.jc_link.specs.Growth.{HasApi};
 ghost use Rattle.jc_link.specs.Kept.{kept_of};
 ghost use Rattle.jc_link.specs.Target.{pool_targets};
 ghost use Rattle.jc_link.specs.Sound.{LeadSomewhere};
-ghost use Rattle.jc_link.specs.Linked.{IsBoundTo, IsLinked, IsRefusal};
+ghost use Rattle.jc_link.specs.Linked.{IsBoundTo, IsLinked, IsLinkedFrom, IsRefusal};
 ghost use Rattle.jc_link.specs.PrivateFaults.{class_fault, pool_fault};
 ghost use Rattle.jc_link.specs.WellFormed.{IsWellFormed, linking_fault};
 
@@ -150,23 +150,35 @@ fn bound(
     Ok(Linked { table, body })
 }
 
-/// Binds a package to the packages of a world (Java Card Virtual Machine Specification, Linking): it is well-formed there, or
-/// the refusal with the least number is told, at its first place. Want of memory may be told in place of an answer.
-pub fn link(alloc: Global, parts: &Parts, world: &World) -> Result<Linked, LoadFault>
-    ensures bound { IfOk result (λ l. IsBoundTo world.now l) }
-    ensures linked { IfOk result (λ l. (p : PackageRecord) × (package_of parts.now ≡ Ok p) × IsLinked world.now.shapes p l) }
-    ensures refused { IfErr result (λ fault. IsRefusal world.now.shapes (package_of parts.now) fault) }
+/// Binds a package that was read to the packages of a world: it is well-formed there, or the refusal with the least number is
+/// told, at its first place. Memory may be told in place of an answer.
+pub fn link_package(alloc: Global, read: &Package, world: &World) -> Result<Linked, LoadFault>
+    requires apart { StandApart read.now.body.methods }
+    requires headers { HaveHeaders read.now.shape }
+    ensures bound { IfOk result (IsBoundTo world.now) }
+    ensures linked { IfOk result (IsLinked world.now.shapes read.now) }
+    ensures refused { IfErr result (IsRefusal world.now.shapes (Ok read.now)) }
 {
-    let linked = read_package(parts)?;
-    let Ok(table) = with_package(alloc, world.table(), &linked) else {
+    let Ok(table) = with_package(alloc, world.table(), read) else {
         return Err(LoadFault::Memory);
     };
     let home = world.table().len();
     let Some(shape) = table.shape(home) else {
         return Err(LoadFault::Memory);
     };
-    match linking_fault(&table, home, shape, &linked) {
+    match linking_fault(&table, home, shape, read) {
         Some(fault) => Err(fault),
-        None => bound(alloc, world, table, &linked).map_err(|_| LoadFault::Memory),
+        None => bound(alloc, world, table, read).map_err(|_| LoadFault::Memory),
     }
+}
+
+/// Reads the package in the parts of an image, and binds it to the packages of a world (Java Card Virtual Machine Specification,
+/// Linking). Reading takes no memory, so parts that are no package get their refusal; of a package memory may be told in place
+/// of an answer.
+pub fn link(alloc: Global, parts: &Parts, world: &World) -> Result<Linked, LoadFault>
+    ensures bound { IfOk result (IsBoundTo world.now) }
+    ensures linked { IfOk result (IsLinkedFrom world.now.shapes parts.now) }
+    ensures refused { IfErr result (IsRefusal world.now.shapes (package_of parts.now)) }
+{
+    link_package(alloc, &read_package(parts)?, world)
 }

@@ -1,11 +1,10 @@
 //! The world of the packages on a card.
 
-ghost use Rattle.std.specs.Prelude.{◌≡◌, ◌+◌, ◌-◌, ◌<◌, ◌≤◌, [], length, IfOk, IfErr};
-ghost use Rattle.jc_cap_desc.specs.Shape.{StandApart};
+ghost use Rattle.std.specs.Prelude.{◌≡◌, ◌-◌, ◌<◌, ◌≤◌, [], length, nat_le, IfOk, IfErr};
 ghost use Rattle.jc_classes.specs.Limits.{most_packages};
 ghost use Rattle.jc_classes.specs.Api.{api_world};
 ghost use Rattle.jc_link.specs.Built.{IsBuilt};
-ghost use Rattle.jc_link.specs.Linked.{AreHeaded, IsBoundTo, IsResolved, IsWorld, with_linked};
+ghost use Rattle.jc_link.specs.Linked.{IsBoundTo, IsKnown, IsWorld, most_in_world, with_linked};
 
 use crate::body::PackageBody;
 use crate::growth::adding_keeps_linking;
@@ -14,6 +13,9 @@ use jc_api::Binding;
 use jc_classes::ClassTable;
 use std::alloc::{AllocError, Global};
 use std::marker::Model;
+
+/// The most packages of a world: the API's two and 64 loaded ones.
+const MOST_IN_WORLD: usize = 66;
 
 /// What a linked package has beside its shape.
 #[derive(Drop)]
@@ -69,7 +71,7 @@ impl Linked {
     pub fn table(&self) -> &ClassTable
         ensures table { result.now ≡ self.now.world }
         ensures built { IsBuilt self.now.world }
-        ensures headed { AreHeaded self.now.world (length self.now.world - 1) }
+        ensures known { IsKnown self.now.world (length self.now.world - 1) self.now.body }
     {
         &self.table
     }
@@ -77,8 +79,7 @@ impl Linked {
     /// What the package has beside its shape.
     pub fn body(&self) -> &LinkedBody
         ensures body { result.now ≡ self.now.body }
-        ensures resolved { IsResolved self.now.world (length self.now.world - 1) self.now.body }
-        ensures apart { StandApart self.now.body.kept.methods }
+        ensures known { IsKnown self.now.world (length self.now.world - 1) self.now.body }
     {
         &self.body
     }
@@ -137,16 +138,23 @@ impl World {
     /// How many packages there are, the two of the API among them: at most 66.
     pub fn len(&self) -> usize
         ensures count { result ≡ length self.now.shapes }
-        ensures room { result < most_packages }
+        ensures most { result ≤ most_in_world }
     {
         self.table.len()
     }
 
-    /// Puts a package behind the others that was bound to this world as it stands, which has fewer than 66. Where no memory is
-    /// left the world is as it was.
+    /// Whether there is no room for a package more: 64 are loaded.
+    pub fn is_full(&self) -> bool
+        ensures { result ≡ nat_le most_in_world (length self.now.shapes) }
+    {
+        self.len() >= MOST_IN_WORLD
+    }
+
+    /// Puts a package behind the others that was bound to this world as it stands, which isn't full. Where no memory is left the
+    /// world is as it was.
     pub fn add(&mut self, linked: Linked) -> Result<(), AllocError>
         requires bound { IsBoundTo self.now linked }
-        requires room { length self.now.shapes + 1 < most_packages }
+        requires room { length self.now.shapes < most_in_world }
         ensures done { IfOk result (λ u. self.new ≡ with_linked self.old linked) }
         ensures kept { IfErr result (λ e. self.new ≡ self.old) }
     {

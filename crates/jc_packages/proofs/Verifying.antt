@@ -1,21 +1,25 @@
 -- Images that are linked one behind the other.
-use Rattle.std.proofs.Common.{◌≡◌, ◌⊎◌, ◌≤◌, ◌∙◌, sym, ap, subst, refl, ℕ, List, [], ◌∷◌, ◌++◌, ◌+◌, ◌<◌, length, drop, get_or, map, Err, Vec, Global, inl, inr}
+use Rattle.std.proofs.Common.{◌≡◌, ◌⊎◌, ◌≤◌, ◌∙◌, sym, ap, subst, refl, ℕ, List, [], ◌∷◌, ◌++◌, ◌+◌, ◌<◌, length, drop, get_or, map, Ok, Err, Some, Vec, Global, inl, inr}
 use Rattle.std.proofs.lemmas.List.{drop_all, drop_more}
 use Rattle.jc_base.specs.Cutting.{Piece, Splits, answer}
+use Rattle.jc_base.specs.Parts.{Infos}
 use Rattle.jc_base.specs.Results.{◌>>=◌}
 use Rattle.jc_base.specs.declared.fault.LoadFault.{LoadFault}
 use Rattle.jc_base.specs.declared.fault.LoadFault.TheVariants as faults
 use Rattle.jc_cap_desc.specs.Package.{package_of}
-use Rattle.jc_cap_desc.specs.Shape.{Shape}
+use Rattle.jc_cap_desc.specs.Shape.{Package, Shape}
 use Rattle.jc_classes.specs.Growth.{grown}
 use Rattle.jc_check.specs.Checked.{stated_for}
 use Rattle.jc_link.specs.Linked.{Linked}
 use Rattle.jc_verify.specs.Refusal.{IsFirstWithout}
-use Rattle.jc_packages.specs.Verify.{AreLoaded, IsCarriedByNone, IsFirstRefusal, IsRefused}
+use Rattle.jc_link.specs.Linked.{IsRefusal}
+use Rattle.jc_packages.specs.Verify.{AreLoaded, IsCarriedByNone, IsFirstRefusal, IsPackage, IsReadAs, IsRefused, MayBeShort}
 use Rattle.jc_packages.specs.Verify.AreLoaded.{next, none}
 use Rattle.jc_packages.specs.Verify.IsFirstRefusal.{full, here, later}
-use Rattle.jc_packages.specs.PrivateVerify.{AreUnloaded, IsPastLast, IsPut, IsUnlinked, IsUnput, Leads}
-use Rattle.jc_packages.specs.PrivateVerify.IsUnput.{memory, refused}
+use Rattle.jc_packages.specs.Verify.MayBeShort as short
+use Rattle.jc_packages.specs.PrivateVerify.{AreUnloaded, IsPastLast, IsPut, IsStopped, IsUnlinked, IsUnput, Leads, Tells}
+use Rattle.jc_packages.specs.declared.unlinked.Unlinked.{Unlinked}
+use Rattle.jc_packages.specs.declared.unlinked.Unlinked.TheVariants.{Memory, Refused}
 
 -- a package whose method no states carry is carried by no certificate
 pub carried_by_none : (l : Linked) (offset : ℕ) → IsFirstWithout l offset → IsCarriedByNone l offset
@@ -33,9 +37,35 @@ uncut before image fault found = record {
   refused = refl;
 }
 
+-- an image that can be cut is read as its parts are
+pub read_as : (image : List ℕ) (parts : Infos) (read : Result Package LoadFault)
+    → (pieces : List Piece) × (rest : List ℕ) × Splits image pieces rest × (Ok parts ≡ answer pieces rest) → read ≡ package_of parts → IsReadAs image read
+read_as image parts read found is = record {
+  pieces = found.0;
+  rest = found.1;
+  cut = found.2;
+  is = is ∙ ap (λ r. r >>= package_of) found.3;
+}
+
+-- a package that isn't linked is refused, or memory is out
+pub why_unlinked : (before : List Shape) (image : List ℕ) (p : Package) (fault : LoadFault) (why : Unlinked) → IsReadAs image (Ok p)
+    → IsRefusal before (Ok p) fault → Tells fault why → IsUnlinked before image why
+why_unlinked before image p fault why read is (Tells.short memory told) = subst (IsUnlinked before image) (sym told) (record { «package» = p; read = read })
+why_unlinked before image p fault why read (inl memory) (Tells.refused no told) = absurd (no memory)
+why_unlinked before image p fault why read (inr behind) (Tells.refused no told) =
+    subst (IsUnlinked before image) (sym told) (record { read = Ok p; is = read; refused = behind })
+
 -- before the first image
 pub at_first : (first : List Shape) (images : List (List ℕ)) → Leads first images first images
-at_first first images = record { loaded = λ last all. all; refused = λ image fault told. told }
+at_first first images = record { loaded = λ last all. all; stopped = λ image why is. is }
+
+-- behind an image that is put, the rest is stopped as before it
+stopped_later : (before after : List Shape) (image : List ℕ) (images : List (List ℕ)) (why : Unlinked) → IsPut before image after
+    → IsStopped after images why → IsStopped before (image ∷ images) why
+stopped_later before after image images (Refused fault) put is =
+    later before image images put.«package» fault put.fine put.room (subst (λ w. IsFirstRefusal w images fault) put.world is)
+stopped_later before after image images Memory put is =
+    short.later before image images put.«package» put.fine put.room (subst (λ w. MayBeShort w images) put.world is)
 
 -- behind one image more
 pub one_further : (first world after : List Shape) (images left : List (List ℕ)) (image : List ℕ) → Leads first images world (image ∷ left)
@@ -44,8 +74,7 @@ one_further first world after images left image leads put =
     let p = put.«package» in
     record {
       loaded = λ last all. leads.loaded last (next world last image left p put.fine put.room (subst (λ w. AreLoaded w left last) put.world all));
-      refused = λ other fault told. leads.refused other fault (later world image (left ++ other ∷ []) p fault put.fine put.room
-          (subst (λ w. IsFirstRefusal w (left ++ other ∷ []) fault) put.world told));
+      stopped = λ other why is. leads.stopped other why (stopped_later world after image (left ++ other ∷ []) why put is);
     }
 
 -- no room for a package that others are linked behind
@@ -56,12 +85,23 @@ no_room world image other [] fault past =
 no_room world image other (x ∷ left) fault past =
     subst (IsFirstRefusal world (image ∷ x ∷ left ++ other ∷ [])) (sym past.told) (full world image x (left ++ other ∷ []) past.«package» past.fine past.room)
 
--- the first refusal is that of the image that isn't put behind the others
-pub stopped : (first world : List Shape) (images left : List (List ℕ)) (image : List ℕ) (fault : LoadFault) → Leads first images world (image ∷ left)
-    → IsUnput world image fault → AreUnloaded first images fault
-stopped first world images left image fault leads (memory is) = inl is
-stopped first world images left image fault leads (refused is) = inr (λ other. leads.refused other fault (here world image (left ++ other ∷ []) fault is))
-stopped first world images left image fault leads (IsUnput.full past) = inr (λ other. leads.refused other fault (no_room world image other left fault past))
+-- an image that isn't linked is where images are stopped
+pub stopped_here : (world : List Shape) (image : List ℕ) (images : List (List ℕ)) (why : Unlinked) → IsUnlinked world image why
+    → IsStopped world (image ∷ images) why
+stopped_here world image images (Refused fault) is = here world image images fault is
+stopped_here world image images Memory is = short.here world image images is
+
+-- so is one that isn't put behind the others, where another follows
+unput_here : (world : List Shape) (image other : List ℕ) (left : List (List ℕ)) (why : Unlinked) → IsUnput world image why
+    → IsStopped world (image ∷ left ++ other ∷ []) why
+unput_here world image other left (Refused fault) (inl is) = here world image (left ++ other ∷ []) fault is
+unput_here world image other left (Refused fault) (inr past) = no_room world image other left fault past
+unput_here world image other left Memory is = short.here world image (left ++ other ∷ []) is
+
+-- the images are stopped at the one that isn't put behind the others
+pub stopped : (first world : List Shape) (images left : List (List ℕ)) (image : List ℕ) (why : Unlinked) → Leads first images world (image ∷ left)
+    → IsUnput world image why → AreUnloaded first images why
+stopped first world images left image why leads is = λ other. leads.stopped other why (unput_here world image other left why is)
 
 next_of : {A : Type 0} (xs : List A) (i : ℕ) (x : A) → i < length xs → x ≡ get_or xs i x → drop i xs ≡ x ∷ drop (i + 1) xs
 next_of xs i x h is = drop_more xs i x h ∙ ap (λ y. y ∷ drop (i + 1) xs) (sym is)
@@ -78,22 +118,17 @@ module _ (first world : List Shape) (images : List (Vec ℕ Global)) (i : ℕ) (
   pub further : (after : List Shape) → IsPut world bytes after → Leads first (images_of images) after (images_of (drop (i + 1) images))
   further after put = one_further first world after (images_of images) (images_of (drop (i + 1) images)) bytes met put
 
-  pub ended : (fault : LoadFault) → IsUnput world bytes fault → AreUnloaded first (images_of images) fault
-  ended fault unput = stopped first world (images_of images) (images_of (drop (i + 1) images)) bytes fault met unput
+  pub ended : (why : Unlinked) → IsUnput world bytes why → AreUnloaded first (images_of images) why
+  ended why unput = stopped first world (images_of images) (images_of (drop (i + 1) images)) bytes why met unput
 
--- a refusal behind loaded packages is the first of all
-pub last_refused : (first world : List Shape) (images : List (List ℕ)) (image : List ℕ) (fault : LoadFault) → AreLoaded first images world
-    → IsRefused world image fault → IsFirstRefusal first (images ++ image ∷ []) fault
-last_refused first world images image fault (none w) is = here first image [] fault is
-last_refused first world images image fault (next before after i rest p fine room all) is =
-    later first i (rest ++ image ∷ []) p fault fine room (last_refused (grown first p.shape) world rest image fault all is)
+-- behind loaded packages images are stopped where the last one isn't linked
+pub last_stopped : (first world : List Shape) (images : List (List ℕ)) (image : List ℕ) (why : Unlinked) → AreLoaded first images world
+    → IsUnlinked world image why → IsStopped first (images ++ image ∷ []) why
+last_stopped first world images image why (none w) is = stopped_here first image [] why is
+last_stopped first world images image why (next before after i rest p fine room all) is =
+    stopped_later first (grown first p.shape) i (rest ++ image ∷ []) why (record { «package» = p; fine = fine; room = room; world = refl })
+        (last_stopped (grown first p.shape) world rest image why all is)
 
 -- behind the last image
 pub at_last : (first world : List Shape) (images : List (Vec ℕ Global)) (i : ℕ) → length images ≤ i → Leads first (images_of images) world (images_of (drop i images)) → AreLoaded first (images_of images) world
 at_last first world images i past leads = leads.loaded world (subst (λ left. AreLoaded world (images_of left) world) (sym (drop_all i images past)) (none world))
-
--- why the last image isn't linked
-pub last_unlinked : (first world : List Shape) (images : List (List ℕ)) (image : List ℕ) (fault : LoadFault) → AreLoaded first images world
-    → IsUnlinked world image fault → (fault ≡ faults.Memory) ⊎ IsFirstRefusal first (images ++ image ∷ []) fault
-last_unlinked first world images image fault all (inl is) = inl is
-last_unlinked first world images image fault all (inr is) = inr (last_refused first world images image fault all is)

@@ -7,12 +7,12 @@ use Rattle.jc_base.specs.declared.fault.LoadFault.{LoadFault}
 use Rattle.jc_base.specs.declared.fault.LoadFault.TheVariants as faults
 use Rattle.jc_cap_desc.specs.Package.{package_of}
 use Rattle.jc_cap_desc.specs.Shape.{Package, Shape}
-use Rattle.jc_cert.specs.Cert.{Row}
+use Rattle.jc_cert.specs.Cert.{IsCert, Row}
 use Rattle.jc_cert.specs.Writing.{spelling}
 use Rattle.jc_check.specs.Checked.{CarriesPackage, IsPackageCarried}
 use Rattle.jc_classes.specs.Api.{api_world}
 use Rattle.jc_classes.specs.Growth.{grown}
-use Rattle.jc_link.specs.Linked.{IsLinked, Linked, refusal_of}
+use Rattle.jc_link.specs.Linked.{IsLinked, Linked, most_in_world, refusal_of}
 use Rattle.jc_link.specs.WellFormed.{IsWellFormed}
 use Rattle.jc_verify.specs.Refusal.{IsFirstWithout}
 use Rattle.jc_packages.specs.declared.verify_answer.VerifyAnswer.{VerifyAnswer}
@@ -36,10 +36,6 @@ pub record IsRefused (before : List Shape) (image : List ℕ) (fault : LoadFault
   pub is : IsReadAs image read
   pub refused : refusal_of before read ≡ Some fault
 
--- the most packages of a world: the API's two and 64 loaded ones
-abbrev pub most_in_world : ℕ
-most_in_world = 66
-
 -- the images are packages, each well-formed in the world of those before it and put behind them, from a first world to a last one
 pub data AreLoaded : List Shape → List (List ℕ) → List Shape → Type 0 where
   none : (world : List Shape) → AreLoaded world [] world
@@ -54,6 +50,17 @@ pub data IsFirstRefusal : List Shape → List (List ℕ) → LoadFault → Type 
       → IsFirstRefusal before (image ∷ next ∷ images) faults.Full
   later : (before : List Shape) (image : List ℕ) (images : List (List ℕ)) (p : Package) (fault : LoadFault) → IsFine before image p
       → length before < most_in_world → IsFirstRefusal (grown before p.shape) images fault → IsFirstRefusal before (image ∷ images) fault
+
+-- the image is a package
+pub record IsPackage (image : List ℕ) : Type 0 where
+  pub «package» : Package
+  pub read : IsReadAs image (Ok «package»)
+
+-- where memory may be out: at an image that is a package, behind images that are put behind one another
+pub data MayBeShort : List Shape → List (List ℕ) → Type 0 where
+  here : (before : List Shape) (image : List ℕ) (images : List (List ℕ)) → IsPackage image → MayBeShort before (image ∷ images)
+  later : (before : List Shape) (image : List ℕ) (images : List (List ℕ)) (p : Package) → IsFine before image p
+      → length before < most_in_world → MayBeShort (grown before p.shape) images → MayBeShort before (image ∷ images)
 
 -- the image is a package, and this is what it is, linked behind those before it
 pub record IsLinkedBehind (before : List Shape) (image : List ℕ) (l : Linked) : Type 0 where
@@ -70,6 +77,7 @@ pub record IsLinkedAfter (binding : Bound) (earlier : List (List ℕ)) (image : 
 -- bytes that spell a certificate which carries a linked package
 pub record SpellCarrying (l : Linked) (bytes : List ℕ) : Type 0 where
   pub rows : List Row
+  pub cert : IsCert rows
   pub carried : CarriesPackage l rows
   pub bytes_are : bytes ≡ spelling rows
 
@@ -90,9 +98,9 @@ pub record IsUncertified (binding : Bound) (earlier : List (List ℕ)) (image : 
   pub after : IsLinkedAfter binding earlier image linked
   pub uncarried : IsCarriedByNone linked offset
 
--- the answer to a package behind earlier ones, under a binding
+-- the answer to a package behind earlier ones, under a binding; memory may be out for any answer but the refusals of reading the first
 abbrev pub IsVerified : Bound → List (List ℕ) → List ℕ → VerifyAnswer → Type 0
 IsVerified binding earlier image (Certificate bytes) = IsCertified binding earlier image bytes.items
 IsVerified binding earlier image (NoCertificate method fault) = IsUncertified binding earlier image method
 IsVerified binding earlier image (Refused fault) = IsFirstRefusal (api_world binding) (earlier ++ image ∷ []) fault
-IsVerified binding earlier image Memory = ⊤
+IsVerified binding earlier image Memory = MayBeShort (api_world binding) (earlier ++ image ∷ [])

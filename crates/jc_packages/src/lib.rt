@@ -4,11 +4,12 @@
 mod memory;
 mod named;
 mod source;
+mod unlinked;
 mod verification;
 mod verify_answer;
 
 pub use memory::MemorySource;
 pub use named::verify_named;
 pub use source::{PackageSource, SourceFault};
-pub use verification::verify;
+pub use verification::{put, verify};
 pub use verify_answer::VerifyAnswer;

@@ -1,65 +1,91 @@
 //! The verification of a package: its certificate is worked out.
 
-ghost use Rattle.std.specs.Prelude.{◌≡◌, ◌⊎◌, ◌<◌, ◌≤◌, [], ◌∷◌, ◌++◌, map, length, IfOk, IfErr};
+ghost use Rattle.std.specs.Prelude.{◌≡◌, ◌⊎◌, ◌<◌, ◌≤◌, [], ◌∷◌, ◌++◌, List, map, length, IfOk, IfErr};
 ghost use Rattle.jc_base.specs.declared.fault.LoadFault.TheVariants.{Full, Memory};
+ghost use Rattle.jc_cap_desc.specs.Shape.{Shape};
 ghost use Rattle.jc_classes.specs.Api.{api_world};
 ghost use Rattle.jc_check.specs.Checked.{CarriesPackage};
-ghost use Rattle.jc_link.specs.Linked.{IsBoundTo, Linked as LinkedPackage, with_linked};
-ghost use Rattle.jc_packages.specs.Verify.{AreLoaded, IsFirstRefusal, IsLinkedAfter, IsLinkedBehind, IsVerified, most_in_world};
-ghost use Rattle.jc_packages.specs.PrivateVerify.{AreUnloaded, IsInferred, IsPut, IsUnlinked, IsUnput};
+ghost use Rattle.jc_link.specs.Linked.{IsBoundTo, Linked as LinkedPackage, most_in_world, with_linked};
+ghost use Rattle.jc_packages.specs.Verify.{AreLoaded, IsLinkedAfter, IsLinkedBehind, IsVerified};
+ghost use Rattle.jc_packages.specs.PrivateVerify.{AreUnloaded, IsInferred, IsPut, IsStopped, IsUnlinked, IsUnput};
 
+use crate::unlinked::Unlinked;
 use crate::verify_answer::VerifyAnswer;
 use jc_api::Binding;
 use jc_base::{LoadFault, cut};
+use jc_cap_desc::read_package;
 use jc_cert::Cert;
-use jc_link::{Linked, World, link};
+use jc_link::{Linked, World, link_package};
 use jc_verify::{VerifyFault, infer};
 use std::alloc::Global;
 
-/// The most packages of a world, those of the API among them.
-const MOST_IN_WORLD: usize = 66;
-
-// The package in an image, linked behind those of a world.
-fn link_image(alloc: Global, image: &[u8], world: &World) -> Result<Linked, LoadFault>
-    ensures bound { IfOk result (λ l. IsBoundTo world.now l) }
-    ensures linked { IfOk result (IsLinkedBehind world.now.shapes image.now) }
-    ensures refused { IfErr result (IsUnlinked world.now.shapes image.now) }
-{
-    link(alloc, &cut(image)?, world)
-}
-
-// Puts a linked package behind the others, if there is room.
-fn put(world: &mut World, linked: Linked) -> Result<(), LoadFault>
+/// Puts a linked package behind the others of the world that it was bound to, if there is room; else the world is as it was.
+pub fn put(world: &mut World, linked: Linked) -> Result<(), LoadFault>
     requires { IsBoundTo world.old linked }
     ensures put { IfOk result (λ u. world.new ≡ with_linked world.old linked) }
     ensures room { IfOk result (λ u. length world.old.shapes < most_in_world) }
-    ensures full { IfErr result (λ fault. (fault ≡ Memory) ⊎ (fault ≡ Full) × (most_in_world ≤ length world.old.shapes)) }
+    ensures refused { IfErr result (λ fault. (fault ≡ Memory) ⊎ (fault ≡ Full) × (most_in_world ≤ length world.old.shapes)) }
+    ensures kept { IfErr result (λ fault. world.new ≡ world.old) }
 {
-    if world.len() >= MOST_IN_WORLD {
+    if world.is_full() {
         return Err(LoadFault::Full);
     }
     world.add(linked).map_err(|_| LoadFault::Memory)
 }
 
-// Puts the package in an image behind the others.
-fn load(alloc: Global, world: &mut World, image: &[u8]) -> Result<(), LoadFault>
-    ensures loaded { IfOk result (λ u. IsPut world.old.shapes image.now world.new.shapes) }
-    ensures refused { IfErr result (IsUnput world.old.shapes image.now) }
+// The package in an image, linked behind those of a world.
+fn link_image(alloc: Global, image: &[u8], world: &World) -> Result<Linked, Unlinked>
+    ensures bound { IfOk result (IsBoundTo world.now) }
+    ensures linked { IfOk result (IsLinkedBehind world.now.shapes image.now) }
+    ensures unlinked { IfErr result (IsUnlinked world.now.shapes image.now) }
 {
-    let linked = link_image(alloc, image, world)?;
-    put(world, linked)
+    let parts = cut(image).map_err(Unlinked::Refused)?;
+    let read = read_package(&parts).map_err(Unlinked::Refused)?;
+    Ok(link_package(alloc, &read, world)?)
 }
 
-// The world of the API's packages, with those in images behind them.
-fn load_all(alloc: Global, earlier: &[Vec<u8>], binding: &Binding) -> Result<World, LoadFault>
-    ensures loaded { IfOk result (λ w. AreLoaded (api_world binding.now) (map (λ image. image.items) earlier.now) w.shapes) }
-    ensures refused { IfErr result (AreUnloaded (api_world binding.now) (map (λ image. image.items) earlier.now)) }
+// Why an image isn't linked where no memory is left: what is wrong with it by itself, or that.
+fn unlinked(image: &[u8]) -> Unlinked
+    ensures { (before : List Shape) → IsUnlinked before image.now result }
 {
-    let mut world = World::new(alloc, binding).map_err(|_| LoadFault::Memory)?;
-    for image in earlier {
-        load(alloc, &mut world, image)?;
+    let parts = match cut(image) {
+        Ok(parts) => parts,
+        Err(fault) => return Unlinked::Refused(fault),
+    };
+    match read_package(&parts) {
+        Ok(_) => Unlinked::Memory,
+        Err(fault) => Unlinked::Refused(fault),
     }
-    Ok(world)
+}
+
+// Why the first of images isn't linked where no memory is left.
+fn first_unlinked(image: &[u8], earlier: &[Vec<u8>]) -> Unlinked
+    ensures { (before : List Shape) → IsStopped before (map (λ image. image.items) earlier.now ++ image.now ∷ []) result }
+{
+    match earlier {
+        [] => unlinked(image),
+        [first, ..] => unlinked(first),
+    }
+}
+
+// Puts the package in an image behind the others.
+fn load(alloc: Global, world: &mut World, image: &[u8]) -> Result<(), Unlinked>
+    ensures loaded { IfOk result (λ u. IsPut world.old.shapes image.now world.new.shapes) }
+    ensures unput { IfErr result (IsUnput world.old.shapes image.now) }
+{
+    let linked = link_image(alloc, image, world)?;
+    Ok(put(world, linked)?)
+}
+
+// Puts the packages in images behind one another.
+fn load_all(alloc: Global, world: &mut World, earlier: &[Vec<u8>]) -> Result<(), Unlinked>
+    ensures loaded { IfOk result (λ u. AreLoaded world.old.shapes (map (λ image. image.items) earlier.now) world.new.shapes) }
+    ensures unloaded { IfErr result (AreUnloaded world.old.shapes (map (λ image. image.items) earlier.now)) }
+{
+    for image in earlier {
+        load(alloc, world, image)?;
+    }
+    Ok(())
 }
 
 // The package in an image, linked behind those before it.
@@ -68,11 +94,14 @@ fn link_last(
     image: &[u8],
     earlier: &[Vec<u8>],
     binding: &Binding,
-) -> Result<Linked, LoadFault>
+) -> Result<Linked, Unlinked>
     ensures linked { IfOk result (IsLinkedAfter binding.now (map (λ image. image.items) earlier.now) image.now) }
-    ensures refused { IfErr result (λ fault. (fault ≡ Memory) ⊎ IsFirstRefusal (api_world binding.now) (map (λ image. image.items) earlier.now ++ image.now ∷ []) fault) }
+    ensures stopped { IfErr result (IsStopped (api_world binding.now) (map (λ image. image.items) earlier.now ++ image.now ∷ [])) }
 {
-    let world = load_all(alloc, earlier, binding)?;
+    let Ok(mut world) = World::new(alloc, binding) else {
+        return Err(first_unlinked(image, earlier));
+    };
+    load_all(alloc, &mut world, earlier)?;
     link_image(alloc, image, &world)
 }
 
@@ -105,7 +134,7 @@ pub fn verify(alloc: Global, image: &[u8], earlier: &[Vec<u8>], binding: &Bindin
 {
     match link_last(alloc, image, earlier, binding) {
         Ok(linked) => inferred(alloc, &linked),
-        Err(LoadFault::Memory) => VerifyAnswer::Memory,
-        Err(fault) => VerifyAnswer::Refused(fault),
+        Err(Unlinked::Refused(fault)) => VerifyAnswer::Refused(fault),
+        Err(Unlinked::Memory) => VerifyAnswer::Memory,
     }
 }

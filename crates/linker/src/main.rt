@@ -9,24 +9,10 @@ ghost use Rattle.jc_link.specs.Linked.{IsBoundTo, Linked as LinkedPackage, with_
 use jc_api::Binding;
 use jc_base::{LoadFault, cut};
 use jc_check::check;
-use jc_link::{Linked, World, link};
+use jc_link::{World, link};
+use jc_packages::put;
 use std::alloc::Global;
 use std::{env, fs, io};
-
-// The greatest number of packages that can be put behind one another, those of the API among them.
-const MOST_PACKAGES: usize = 66;
-
-// Puts a package behind the others of the world that it was bound to, if there is room; else the world is as it was.
-fn put(world: &mut World, linked: Linked) -> Result<(), LoadFault>
-    requires { IsBoundTo world.old linked }
-    ensures put { IfOk result (λ u. world.new ≡ with_linked world.old linked) }
-    ensures refused { IfErr result (λ fault. world.new ≡ world.old) }
-{
-    if world.len() >= MOST_PACKAGES {
-        return Err(LoadFault::Full);
-    }
-    world.add(linked).map_err(|_| LoadFault::Memory)
-}
 
 // Puts a package behind the others of a world, if it is well-formed there; else the world is as it was.
 fn load(alloc: Global, world: &mut World, image: &[u8]) -> Result<(), LoadFault>

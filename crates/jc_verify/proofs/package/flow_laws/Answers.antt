@@ -1,5 +1,7 @@
-use Rattle.jc_verify.proofs.Naming.{keeps_names}
+use Rattle.std.proofs.Common.{subst, sym, ap}
+use Rattle.jc_cap_desc.specs.Shape.{StandApart}
 use Rattle.jc_check.specs.Package.{method_of}
+use Rattle.jc_verify.proofs.Naming.{keeps_names}
 use Rattle.jc_verify.proofs.package.flow_laws.Goals as goal
 
 pub returns-clause-laws : goal.returns-clause-laws
@@ -25,8 +27,9 @@ returns-clause-fit c =
     let order = c.order_laws.ensures.tables world supers.orderly supers.top in
     let classes = c.order_laws.ensures.lattices world supers.orderly supers.top in
     let known = c.types_name_classes.ensures in
+    let loaded = c.body-body.ensures.known.loaded in
     record {
-      apart = c.body-body.ensures.apart;
+      apart = subst StandApart (sym (ap (λ k. k.methods) loaded.kept_is)) loaded.apart;
       named = λ n b at.
           keeps_names l (method_of l b) (known.entry n b at) (λ h class. known.caught n b h class at) (known.effects n b at) known.joins
           (c.order_laws.ensures.joins _ _ _ _ classes) (c.order_laws.ensures.antisymmetric _ order);

@@ -132,7 +132,6 @@ fn leads(world: &World, table: &ClassTable, linked: &Package)
 }
 
 /// The package, bound to the packages of a world: it is well-formed there.
-#[tactic(auto, using(crate::proofs::Resolved::is_last))]
 fn bound(
     alloc: Global,
     world: &World,

@@ -14,6 +14,6 @@ invariant_of-result c =
       record {
         built = subst IsBuilt (sym c.in_ok-table.ensures) (api c.args.binding.now c.has_no_clash.ensures);
         count = omega (arith, two, none);
-        resolved = λ n body e. absurd (none_some body (sym (ap (λ bodies. slice_get bodies n) empty) ∙ e));
+        known = λ n body e. absurd (none_some body (sym (ap (λ bodies. slice_get bodies n) empty) ∙ e));
       },
     )

@@ -7,3 +7,4 @@ mod Joined
 mod Reading
 pub mod Differing
 pub mod Headed
+pub mod Typing

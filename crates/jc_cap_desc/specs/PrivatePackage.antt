@@ -1,5 +1,5 @@
 -- Private. The components as they are read, each once, in the order of the code.
-use Rattle.std.specs.Prelude.{ℕ, ◌≤◌, List, length, Option, None, Result, Ok, Err, IfOk}
+use Rattle.std.specs.Prelude.{◌≡◌, ℕ, ◌≤◌, true, List, length, Option, None, Result, Ok, Err, IfOk}
 use Rattle.jc_base.specs.Parts.{Infos}
 use Rattle.jc_base.specs.Results.{◌>>=◌}
 use Rattle.jc_base.specs.declared.fault.LoadFault.{LoadFault}
@@ -13,7 +13,7 @@ use Rattle.jc_cap_data.specs.Statics.{static_fields_of}
 use Rattle.jc_cap_head.specs.Header.{Heading, header_of}
 use Rattle.jc_cap_method.specs.Component.{methods_of}
 use Rattle.jc_cap_pool.specs.Pool.{pool_of}
-use Rattle.jc_cap_desc.specs.Types.{descriptor_of}
+use Rattle.jc_cap_desc.specs.Types.{descriptor_of, classes_are_typed}
 use Rattle.jc_cap_desc.specs.Shape.{Package, shape_of, body_of}
 use Rattle.jc_cap_desc.specs.Package.{fault_of, told}
 use Rattle.jc_cap_desc.specs.declared.package.Components.{Components}
@@ -77,3 +77,7 @@ HasFewRecords found = IfOk found.records (λ records. IfOk found.descriptor (λ 
 -- no more imports than a byte counts
 abbrev pub HasFewImports : Components → Type 0
 HasFewImports found = IfOk found.imports (λ imports. length imports ≤ 255)
+
+-- the fields and methods of classes have types
+abbrev pub HasTypes : Components → Type 0
+HasTypes found = IfOk found.descriptor (λ info. classes_are_typed info.types info.classes ≡ true)

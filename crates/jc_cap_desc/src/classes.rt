@@ -4,6 +4,7 @@ ghost use Rattle.std.specs.Prelude.{◌≡◌, ◌∷◌, [], true, IfSome, IfNo
 ghost use Rattle.std.specs.List.{find};
 ghost use Rattle.jc_cap_desc.specs.Across.{is_row_of};
 ghost use Rattle.jc_cap_desc.specs.Shape.{class_shape};
+ghost use Rattle.jc_cap_desc.specs.Types.{classes_are_typed};
 
 use crate::across::is_row_of;
 use crate::class_row::{ClassRow, ClassRows};
@@ -30,12 +31,14 @@ impl<'p, 'a> Model for Class<'p, 'a> {
     ghost use Rattle.std.specs.Prelude.{◌≡◌, true};
     ghost use Rattle.jc_cap_desc.specs.Across.{is_row_of};
     ghost use Rattle.jc_cap_desc.specs.Shape.{ClassShape, joined};
+    ghost use Rattle.jc_cap_desc.specs.Types.{methods_are_typed};
 
     ghost Value = { ClassShape };
 
     ghost view = { λ c. joined c.types.now c.bodies.now c.placed c.row };
 
-    ghost invariant = { λ c. is_row_of c.placed.offset c.row ≡ true };
+    ghost invariant = { λ c. (is_row_of c.placed.offset c.row ≡ true)
+        × (methods_are_typed c.types.now c.row.methods ≡ true) };
 }
 
 impl<'p, 'a> Class<'p, 'a> {
@@ -101,11 +104,13 @@ fn row_of<'a>(offset: usize, rows: &ClassRows<'a>) -> Option<ClassRow<'a>>
 }
 
 /// The class or interface whose record this is, if it has a row.
+#[tactic(auto, using(crate::proofs::Typing::row_typed))]
 fn class_of<'p, 'a>(
     info: &'p DescriptorInfo<'a>,
     bodies: &'p MethodInfo<'a>,
     placed: Placed<Record<'a>>,
 ) -> Option<Class<'p, 'a>>
+    requires { classes_are_typed info.now.types info.now.classes ≡ true }
     ensures { result ≡ class_shape info.now bodies.now placed.entry }
 {
     let row = row_of(placed.offset, &info.classes)?;
@@ -126,13 +131,16 @@ pub struct Classes<'p, 'a> {
 }
 
 impl<'p, 'a> Model for Classes<'p, 'a> {
-    ghost use Rattle.std.specs.Prelude.{List};
+    ghost use Rattle.std.specs.Prelude.{◌≡◌, true, List};
     ghost use Rattle.std.specs.List.{filter_map};
     ghost use Rattle.jc_cap_desc.specs.Shape.{ClassShape, class_shape};
+    ghost use Rattle.jc_cap_desc.specs.Types.{classes_are_typed};
 
     ghost Value = { List ClassShape };
 
     ghost view = { λ c. filter_map (class_shape c.info.now c.bodies.now) c.left };
+
+    ghost invariant = { λ c. classes_are_typed c.info.now.types c.info.now.classes ≡ true };
 }
 
 impl<'p, 'a> Classes<'p, 'a> {

@@ -1,6 +1,6 @@
 //! The methods of a class, with their headers and types.
 
-ghost use Rattle.std.specs.Prelude.{◌≡◌, ◌≤◌, ◌∷◌, [], length, IfSome, IfNone};
+ghost use Rattle.std.specs.Prelude.{◌≡◌, ◌∷◌, [], length, IfSome, IfNone};
 ghost use Rattle.jc_cap_desc.specs.PrivateShape.{header_if};
 ghost use Rattle.jc_cap_desc.specs.Shape.{method_shape};
 
@@ -106,36 +106,36 @@ pub struct ClassMethods<'p, 'a> {
 }
 
 impl<'p, 'a> Model for ClassMethods<'p, 'a> {
-    ghost use Rattle.std.specs.Prelude.{List};
+    ghost use Rattle.std.specs.Prelude.{◌≡◌, true, List};
     ghost use Rattle.std.specs.List.{filter_map};
     ghost use Rattle.jc_cap_desc.specs.Shape.{MethodShape, method_shape};
     ghost use Rattle.jc_cap_desc.specs.PrivateShape.{header_if};
+    ghost use Rattle.jc_cap_desc.specs.Types.{methods_are_typed};
 
     ghost Value = { List MethodShape };
 
     ghost view = { λ m. filter_map (method_shape m.types.now (header_if m.is_class m.bodies.now)) m.left };
+
+    ghost invariant = { λ m. methods_are_typed m.types.now m.left ≡ true };
 }
 
 impl<'p, 'a> ClassMethods<'p, 'a> {
-    /// No more than so many are left, to reserve room for them.
-    #[tactic(auto, using(crate::proofs::Few::fewer))]
-    pub fn most(&self) -> u16
-        ensures { length self.now ≤ result }
+    /// How many are left.
+    #[tactic(auto, using(crate::proofs::Typing::all_typed))]
+    pub fn len(&self) -> u16
+        ensures { result ≡ length self.now }
     {
         self.left.count()
     }
 
     /// Takes the first method off, or answers `None` where there is none.
+    #[tactic(auto, using(crate::proofs::Typing::first_made, crate::proofs::Typing::rest_typed))]
     pub fn next(&mut self) -> Option<ClassMethod<'a>>
         ensures some { IfSome result (λ method. self.old ≡ method ∷ self.new) }
         ensures none { IfNone result ((self.old ≡ []) × (self.new ≡ [])) }
     {
-        while let Some(row) = self.left.next() {
-            let header = header_if(self.is_class, self.bodies, row.offset);
-            if let Some(method) = method_of(self.types, header, row) {
-                return Some(method);
-            }
-        }
-        None
+        let row = self.left.next()?;
+        let header = header_if(self.is_class, self.bodies, row.offset);
+        method_of(self.types, header, row)
     }
 }

@@ -4,7 +4,7 @@ ghost use Rattle.std.specs.Prelude.{◌≡◌, ◌<◌, ◌≤◌, ◌^◌, IfOk
 ghost use Rattle.std.specs.Option.{option_and_then};
 ghost use Rattle.jc_cap_desc.specs.Package.{layout_in, package_fault, package_of};
 ghost use Rattle.jc_cap_desc.specs.Shape.{StandApart, HaveHeaders};
-ghost use Rattle.jc_cap_desc.specs.PrivatePackage.{records_in, components_in, class_fault_in, component_fault_in, HasFewRows, HasFewRecords, HasFewImports, joined};
+ghost use Rattle.jc_cap_desc.specs.PrivatePackage.{records_in, components_in, class_fault_in, component_fault_in, HasFewRows, HasFewRecords, HasFewImports, HasTypes, joined};
 
 use crate::bodies::MethodBodies;
 use crate::classes::Classes;
@@ -37,8 +37,9 @@ pub struct Package<'a> {
 }
 
 impl<'a> Model for Package<'a> {
-    ghost use Rattle.std.specs.Prelude.{◌≤◌, length};
+    ghost use Rattle.std.specs.Prelude.{◌≡◌, ◌≤◌, length, true};
     ghost use Rattle.jc_cap_desc.specs.Shape.{Package as PackageRecord, shape_of, body_of};
+    ghost use Rattle.jc_cap_desc.specs.Types.{classes_are_typed};
 
     ghost Value = { PackageRecord };
 
@@ -47,7 +48,8 @@ impl<'a> Model for Package<'a> {
       body = body_of p.header.name p.applets p.pool p.statics p.records p.descriptor p.methods;
     } };
 
-    ghost invariant = { λ p. (length p.records ≤ 255) × (length p.imports ≤ 255) };
+    ghost invariant = { λ p. (length p.records ≤ 255) × (length p.imports ≤ 255)
+        × (classes_are_typed p.descriptor.types p.descriptor.classes ≡ true) };
 }
 
 impl<'a> Package<'a> {
@@ -172,6 +174,7 @@ fn read_components<'a>(parts: &Parts<'a>) -> Components<'a>
     ensures read { result ≡ components_in parts.now }
     ensures few { HasFewRows result }
     ensures imports { HasFewImports result }
+    ensures typed { HasTypes result }
     ensures short { length parts.now.method < 2 ^ 16 }
 {
     let header = read_header(parts);
@@ -245,6 +248,7 @@ fn package_fault(parts: &Parts, found: &Components) -> Option<LoadFault>
 fn joined<'a>(found: Components<'a>) -> Result<Package<'a>, LoadFault>
     requires records { HasFewRecords found }
     requires imports { HasFewImports found }
+    requires typed { HasTypes found }
     ensures { result ≡ joined found.entry }
 {
     Ok(Package {

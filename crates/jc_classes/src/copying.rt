@@ -127,7 +127,7 @@ fn methods_of(alloc: Global, class: &jc_cap_desc::Class) -> Result<Vec<Method>, 
     ensures few { IfOk result (λ copied. length copied.items < 2 ^ 16) }
 {
     let mut left = class.methods();
-    let mut copied = Vec::with_capacity(alloc, usize::from(left.most()))?;
+    let mut copied = Vec::with_capacity(alloc, usize::from(left.len()))?;
     while let Some(method) = left.next() {
         copied.push(method_of(alloc, &method)?)?;
     }

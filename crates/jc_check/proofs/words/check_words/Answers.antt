@@ -8,7 +8,7 @@ use Rattle.jc_check.proofs.words.check_words.Goals as goal
 pub invariant_of-result : goal.invariant_of-result
 invariant_of-result c =
     let carries = rw c.of_words.ensures at c.in_ok-check_method.ensures.accepted in (
-      record { rows = c.args.cert.now; carried = record { states = map stated c.in-Some.states.now; are = sym c.in-Some.ensures.states; carried = carries }; short = c.requires },
+      record { rows = c.args.cert.now; carried = record { cert = c.states_for.ensures.cert; states = map stated c.in-Some.states.now; are = sym c.in-Some.ensures.states; carried = carries }; short = c.requires },
       well_typed (c.order_laws.ensures.reflexive (is_class_below []) (ordered c.order_laws.ensures.tables)) c.args.code.now (map stated c.in-Some.states.now) carries,
     )
 

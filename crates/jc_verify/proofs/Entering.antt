@@ -4,6 +4,8 @@ use Rattle.std.specs.Prelude.{IfOk, IfErr}
 use Rattle.std.specs.List.{Contains}
 use Rattle.std.proofs.lemmas.Option.{same_Some}
 use Rattle.std.proofs.lemmas.Result.{IfErr-weaker}
+use Rattle.jc_base.specs.declared.reason.Reason.{Reason}
+use Rattle.jc_base.specs.declared.reason.Reason.TheVariants.{FallsOff, NoTarget}
 use Rattle.jc_code.specs.Instructions.{instr_at}
 use Rattle.jc_code.specs.Listing.{PlacedInstr, begins, placed_at}
 use Rattle.jc_code.specs.Targets.{falls_of, targets_of}
@@ -12,7 +14,8 @@ use Rattle.jc_check.specs.Carried.{HandlerStands}
 use Rattle.jc_check.specs.Method.{Handler, Method, covers}
 use Rattle.jc_check.specs.declared.fault.WordFault.{WordFault}
 use Rattle.jc_verify.specs.Live.{IsLive, behind, caught}
-use Rattle.jc_verify.specs.PrivateLive.{IfRefusal, IsAstray, IsDone, IsFollowed, IsFound, IsGround, IsReached, branches_off, falls_off}
+use Rattle.jc_verify.specs.PrivateLive.{IfRefusal, IsAstray, IsDone, IsFollowed, IsFound, IsGround, IsReached, ToldAt, leads}
+use Rattle.jc_verify.specs.Told.{LeadsAstray, falls_off, no_target}
 use Rattle.jc_verify.specs.declared.entries.Followed.{Followed}
 use Rattle.jc_verify.proofs.Following.{is_done}
 use Rattle.jc_verify.proofs.Passing.{all_contained, if_refusal}
@@ -41,17 +44,24 @@ module _ (m : Method) (listing : List PlacedInstr) (starts : List ℕ) (ground :
     behind_reached falls within = record { live = behind x at live falls; begin = behind_begins m.code listing x.pc x ground.decoded.whole at within }
 
     -- it leads where no instruction begins
-    pub astray_by_branch : (place : ℤ) × Contains (targets_of x.pc x.instr.operation) place × ((p : ℕ) → place ≡ pos p → begins listing p ≡ false) → IsAstray m listing
-    astray_by_branch h = branches_off x h.0 at live h.1 h.2
+    astray_for : (why : Reason) → LeadsAstray m listing x why → (pc : ℕ) (reason : Reason) → pc ≡ x.pc → reason ≡ why → IsAstray m listing pc reason
+    astray_for why off pc reason here is = rw here (rw is (leads x why at live off))
 
-    pub astray_behind : (falls_of x.instr.operation ≡ true) × (length m.code ≤ x.instr.next_pc) → IsAstray m listing
-    astray_behind h = falls_off x at live h.0 h.1
+    pub astray_by_branch : (pc : ℕ) (reason : Reason)
+        → ToldAt x.pc NoTarget ((place : ℤ) × Contains (targets_of x.pc x.instr.operation) place × ((p : ℕ) → place ≡ pos p → begins listing p ≡ false)) pc reason
+        → IsAstray m listing pc reason
+    astray_by_branch pc reason (here, is, (place, among, none)) = astray_for NoTarget (no_target place among none) pc reason here is
+
+    pub astray_behind : (pc : ℕ) (reason : Reason) → ToldAt x.pc FallsOff ((falls_of x.instr.operation ≡ true) × (length m.code ≤ x.instr.next_pc)) pc reason
+        → IsAstray m listing pc reason
+    astray_behind pc reason (here, is, (falls, past)) = astray_for FallsOff (falls_off falls past) pc reason here is
 
     -- all that it leads to is entered
     pub visited : (f : Followed) → IsDone m f x → IsFollowed m listing (Some x.pc) f → IsFollowed m listing None f
     visited f done h = is_done m listing x.pc f (λ y e is. subst (IsDone m f) (same_Some x y (sym at ∙ subst (λ (n : ℕ). placed_at listing n ≡ Some y) is e)) done) h
 
-pub if_err_refused : {A : Type 0} (r : Result A WordFault) (P Q : Type 0) → IfErr r (λ fault. IfRefusal fault P) → (P → Q) → IfErr r (λ fault. IfRefusal fault Q)
+pub if_err_refused : {A : Type 0} (r : Result A WordFault) (P Q : ℕ → Reason → Type 0) → IfErr r (λ fault. IfRefusal fault P) → ((pc : ℕ) (reason : Reason) → P pc reason → Q pc reason)
+    → IfErr r (λ fault. IfRefusal fault Q)
 if_err_refused r P Q h on = IfErr-weaker r _ _ (λ fault k. if_refusal fault P Q k on) h
 
 pub if_ok_all : {A E : Type 0} (r : Result A E) (P Q R S : A → Type 0) → IfOk r P → IfOk r Q → IfOk r R → ((x : A) → P x → Q x → R x → S x) → IfOk r S

@@ -7,9 +7,12 @@ use Rattle.jc_base.specs.NumberSet.{has_number}
 use Rattle.jc_code.specs.Listing.{PlacedInstr, begins, placed_at}
 use Rattle.jc_check.specs.Method.{Method}
 use Rattle.jc_verify.specs.Live.{IsEntered, IsLive, first, behind, by_branch, by_handler, branched, caught}
-use Rattle.jc_verify.specs.PrivateLive.{AreEntries, AreLive, Grown, IsAwaited, IsDone, IsFollowed, IsFound, IsHeld, IsReached, all_numbers, left_of, left_out}
+use Rattle.jc_code.specs.Targets.{targets_of}
+use Rattle.jc_verify.specs.Told.{GoesStraight, falls_off, no_target}
+use Rattle.jc_verify.specs.PrivateLive.{AreEntries, AreLive, Grown, IsAwaited, IsDone, IsFollowed, IsFound, IsGround, IsHeld, IsReached, all_numbers, left_of, left_out}
 use Rattle.jc_verify.specs.declared.entries.Followed.{Followed}
 use Rattle.jc_verify.proofs.Numbers.{has_cases, has_itself, has_kept, one_less}
+use Rattle.jc_verify.proofs.Starting.{none_past}
 
 pub grown_self : (f : Followed) → Grown f f
 grown_self f = record { live = λ pc h. h; entered = λ pc h. h; left = refl }
@@ -25,7 +28,7 @@ done_on : (f g : Followed) → ((pc : ℕ) → has_number f.live pc ≡ true →
     → (m : Method) (x : PlacedInstr) → IsDone m f x → IsDone m g x
 done_on f g live entered m x d = record {
   handlers = λ h among covered. let k = d.handlers h among covered in record { live = live h.goes_on k.live; entered = entered h.goes_on k.entered };
-  branches = λ place among pc is. let k = d.branches place among pc is in record { live = live pc k.live; entered = entered pc k.entered };
+  branches = λ place among. let k = d.branches place among in record { pc = k.pc; is = k.is; held = record { live = live k.pc k.held.live; entered = entered k.pc k.held.entered } };
   behind = λ falls. live x.instr.next_pc (d.behind falls);
 }
 
@@ -242,14 +245,20 @@ module _ (m : Method) (listing : List PlacedInstr) (f : Followed) (h : IsFollowe
       by (inl (inr c)) = let k = subst (λ (s : List ℕ). Contains s x.pc) stack c in absurd (omega (arith, k.1))
       by (inr d) = d
 
+  held_at_branch : (x : PlacedInstr) (pc : ℕ) → placed_at listing x.pc ≡ Some x → has_number f.live x.pc ≡ true → Contains (targets_of x.pc x.instr.operation) (pos pc) → IsHeld f pc
+  held_at_branch x pc at e among = let b = (all_done x at e).branches (pos pc) among in subst (IsHeld f) (sym (the_pos pc b.pc b.is)) b.held
+    where
+      the_pos : (a b : ℕ) → pos a ≡ pos b → a ≡ b
+      the_pos a b e = cc
+
   all_live : {pc : ℕ} → IsLive m listing pc → has_number f.live pc ≡ true
   all_live first = h.first
   all_live (behind x at live falls) = (all_done x at (all_live live)).behind falls
-  all_live (by_branch x pc at live among) = ((all_done x at (all_live live)).branches (pos pc) among pc refl).live
+  all_live (by_branch x pc at live among) = (held_at_branch x pc at (all_live live) among).live
   all_live (by_handler x h at live among covered) = ((all_done x at (all_live live)).handlers h among covered).live
 
   all_entered : {pc : ℕ} → IsEntered m listing pc → has_number f.entered pc ≡ true
-  all_entered (branched x pc at live among) = ((all_done x at (all_live live)).branches (pos pc) among pc refl).entered
+  all_entered (branched x pc at live among) = (held_at_branch x pc at (all_live live) among).entered
   all_entered (caught x h at live among covered) = ((all_done x at (all_live live)).handlers h among covered).entered
 
   pub entries_found : AreEntries m listing f.entered
@@ -257,3 +266,14 @@ module _ (m : Method) (listing : List PlacedInstr) (f : Followed) (h : IsFollowe
 
   pub live_found : AreLive m listing f.live
   live_found = record { reached = λ pc e. (h.live pc e).live; all = λ pc e. all_live e }
+
+  -- so nothing that is reached leads where no instruction begins
+  pub goes_straight : (starts : List ℕ) → IsGround m listing starts → GoesStraight m listing
+  goes_straight starts ground x why at live (no_target place among none) =
+      let b = (all_done x at (all_live live)).branches place among in
+      let e : true ≡ false = sym (h.entered b.pc b.held.entered).begin ∙ none b.pc b.is in
+      absurd cc
+  goes_straight starts ground x why at live (falls_off goes past) =
+      let next = h.live x.instr.next_pc ((all_done x at (all_live live)).behind goes) in
+      let k = none_past ground.laws m.code listing x.instr.next_pc ground.decoded.whole next.begin in
+      absurd (omega (arith, k, past))

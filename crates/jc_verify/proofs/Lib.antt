@@ -9,6 +9,8 @@ mod Settling
 mod Counting
 mod Stating
 mod Carrying
+mod Reaching
+mod Ending
 mod Ordering
 mod Rows
 mod Telling

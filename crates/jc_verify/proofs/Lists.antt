@@ -3,7 +3,7 @@ use Rattle.std.proofs.Common.{◌≡◌, ◌⊎◌, inl, inr, ℕ, zero, suc, �
 use Rattle.std.specs.List.{AllByRecursion}
 use Rattle.std.proofs.lemmas.Option.{none-some, same_Some}
 
-drop_get : {A : Type 0} (xs : List A) (k : ℕ) (x : A) → slice_get xs k ≡ Some x → drop k xs ≡ x ∷ drop (k + 1) xs
+pub drop_get : {A : Type 0} (xs : List A) (k : ℕ) (x : A) → slice_get xs k ≡ Some x → drop k xs ≡ x ∷ drop (k + 1) xs
 drop_get [] k x e = absurd cc
 drop_get (y ∷ ys) zero x e = ap (λ z. z ∷ ys) (same_Some y x e)
 drop_get (y ∷ ys) (suc k) x e = let h : suc k + 1 ≡ suc (k + 1) = omega arith in rw h (drop_get ys k x e)
@@ -51,3 +51,7 @@ get_last (z ∷ xs) x = get_last xs x
 pub all_more : {A : Type 0} (P : A → Type 0) (xs : List A) (x : A) → AllByRecursion P xs → P x → AllByRecursion P (xs ++ x ∷ [])
 all_more P [] x h holds = (holds, tt)
 all_more P (y ∷ ys) x h holds = (h.0, all_more P ys x h.1 holds)
+
+pub none_left : {A : Type 0} (xs : List A) → length xs ≤ 0 → xs ≡ []
+none_left [] le = refl
+none_left (x ∷ xs) le = absurd (omega (arith, le))

@@ -3,6 +3,7 @@ use Rattle.std.proofs.Common.{◌≡◌, ◌⊎◌, inl, inr, ℕ, ◌+◌, ◌<
 use Rattle.std.specs.List.{AllByRecursion, Contains}
 use Rattle.std.proofs.lemmas.Bool.{cases_eq}
 use Rattle.std.proofs.lemmas.Option.{none-some, same_Some, slice_get-get_or, slice_get_within, get_or_from_slice_get}
+use Rattle.jc_base.specs.declared.reason.Reason.{Reason}
 use Rattle.jc_code.specs.Listing.{PlacedInstr, begins}
 use Rattle.jc_check.specs.Method.{Handler}
 use Rattle.jc_check.specs.declared.fault.WordFault.{WordFault}
@@ -22,11 +23,11 @@ all_at P (y ∷ ys) (suc n) x at h = all_at P ys n x at h.1
 pub all_contained : {A : Type 0} (P : A → Type 0) (xs : List A) (x : A) → Contains xs x → AllByRecursion P xs → P x
 all_contained P xs x c h = all_at P xs c.0 x (slice_get-get_or xs c.0 x c.1 ∙ ap Some c.2) h
 
-pub if_refusal : (fault : WordFault) (P Q : Type 0) → IfRefusal fault P → (P → Q) → IfRefusal fault Q
-if_refusal (Refused pc reason) P Q h on = on h
+pub if_refusal : (fault : WordFault) (P Q : ℕ → Reason → Type 0) → IfRefusal fault P → ((pc : ℕ) (reason : Reason) → P pc reason → Q pc reason) → IfRefusal fault Q
+if_refusal (Refused pc reason) P Q h on = on pc reason h
 if_refusal Memory P Q h on = tt
 
-pub no_refusal : (fault : WordFault) (P : Type 0) → fault ≡ Memory → IfRefusal fault P
+pub no_refusal : (fault : WordFault) (P : ℕ → Reason → Type 0) → fault ≡ Memory → IfRefusal fault P
 no_refusal fault P e = subst (λ (f : WordFault). IfRefusal f P) (sym e) tt
 
 -- of these places the one with a number is no pc at which an instruction begins
@@ -63,4 +64,4 @@ pub caught_on : (pc : ℕ) (f g : Followed) → Grown f g → (h : Handler) → 
 caught_on pc f g grown h held covered = held_on f g grown h.goes_on (held covered)
 
 pub branch_on : (f g : Followed) → Grown f g → (place : ℤ) → IsBranchIn f place → IsBranchIn g place
-branch_on f g grown place held pc is = held_on f g grown pc (held pc is)
+branch_on f g grown place b = record { pc = b.pc; is = b.is; held = held_on f g grown b.pc b.held }

@@ -13,10 +13,11 @@ use Rattle.jc_check.specs.Rules.{Rules}
 use Rattle.jc_check.specs.declared.fault.WordFault.{WordFault}
 use Rattle.jc_check.specs.declared.fault.WordFault.TheVariants.{Refused}
 use Rattle.jc_verify.specs.Live.{IsLive, first, behind, by_branch, by_handler}
-use Rattle.jc_verify.specs.PrivateLive.{IfRefusal, IsAstray, IsDecoded, IsGround, branches_off, falls_off}
+use Rattle.jc_verify.specs.PrivateLive.{IfRefusal, IsAstray, IsDecoded, IsGround, leads}
+use Rattle.jc_verify.specs.Told.{LeadsAstray, falls_off, no_target}
 use Rattle.jc_verify.proofs.Passing.{all_contained}
 
-by_refusal : (fault : WordFault) (P : Type 0) → IfRefusal fault P → (pc : ℕ) (reason : Reason) → fault ≡ Refused pc reason → P
+by_refusal : (fault : WordFault) (P : ℕ → Reason → Type 0) → IfRefusal fault P → (pc : ℕ) (reason : Reason) → fault ≡ Refused pc reason → P pc reason
 by_refusal fault P h pc reason e = subst (λ (f : WordFault). IfRefusal f P) e h
 
 module _ (rules : Rules) (m : Method) (states : List Stated) (k : Carries rules m states) where
@@ -55,18 +56,21 @@ module _ (rules : Rules) (m : Method) (states : List Stated) (k : Carries rules 
       (a.state, k.stated h.goes_on a.state a.stated)
 
   -- so nothing leads where no instruction begins
-  never_astray : IsAstray m k.listing → ⊥
-  never_astray (branches_off x place at live among none) =
+  never_leads : (x : PlacedInstr) → placed_at k.listing x.pc ≡ Some x → IsLive m k.listing x.pc → {reason : Reason} → LeadsAstray m k.listing x reason → ⊥
+  never_leads x at live (no_target place among none) =
       let c = carried_at x at (live_typed live) in
       let a = all_contained (Arrives rules k.listing k.claims c.after) (targets_of x.pc x.instr.operation) place among c.branches in
       apart (sym a.begin ∙ none a.pc a.is)
     where
       apart : true ≡ false → ⊥
       apart e = absurd cc
-  never_astray (falls_off x at live falls past) =
+  never_leads x at live (falls_off falls past) =
       let c = carried_at x at (live_typed live) in
       let w = (goes_on (falls_of x.instr.operation) c.after x.instr.next_pc falls c.behind).0 in
       absurd (omega (arith, w, past))
+
+  never_astray : {pc : ℕ} {reason : Reason} → IsAstray m k.listing pc reason → ⊥
+  never_astray (leads x reason at live off) = never_leads x at live off
 
   pub never_empty : m.code ≡ [] → ⊥
   never_empty e = let w = k.entry.0 in let n = ap (λ (bytes : List ℕ). length bytes) e in absurd (omega (arith, w, n))
@@ -86,6 +90,6 @@ module _ (rules : Rules) (m : Method) (states : List Stated) (k : Carries rules 
     grounded listing starts short d = record { laws = laws; short = short; decoded = decoded listing starts d; handlers = k.caught }
 
     pub never_refused : (listing : List PlacedInstr) (starts : List ℕ) → length m.code < 2 ^ 16 → IsDecoded m.code listing starts
-        → (fault : WordFault) → IfRefusal fault ((xs : List PlacedInstr) → IsGround m xs starts → IsAstray m xs) → (pc : ℕ) (reason : Reason) → fault ≡ Refused pc reason → ⊥
+        → (fault : WordFault) → IfRefusal fault (λ at why. (xs : List PlacedInstr) → IsGround m xs starts → IsAstray m xs at why) → (pc : ℕ) (reason : Reason) → fault ≡ Refused pc reason → ⊥
     never_refused listing starts short d fault off pc reason is =
-        never_astray (by_refusal fault ((xs : List PlacedInstr) → IsGround m xs starts → IsAstray m xs) off pc reason is k.listing (grounded listing starts short d))
+        never_astray (by_refusal fault (λ at why. (xs : List PlacedInstr) → IsGround m xs starts → IsAstray m xs at why) off pc reason is k.listing (grounded listing starts short d))

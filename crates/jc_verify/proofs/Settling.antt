@@ -11,13 +11,13 @@ use Rattle.jc_check.specs.Typing.{BranchLeads, HandlerLeads, Leads, Typing}
 use Rattle.jc_link.specs.Linked.{Linked}
 use Rattle.jc_types.specs.State.{StateWithRoom, Types}
 use Rattle.jc_verify.specs.PrivateFlow.{AreShaped, Grown, HasLaws, HasShape, IsClosed, IsNumbered, IsUnder, IsUpper, IsVisited, Places, Risen, held_at, height_in, left_in, most_height, number_at, types_held, below_in, ends, meets, goes_on}
-use Rattle.jc_verify.specs.PrivateNames.{AreNamed, HasNames, KeepsNames}
+use Rattle.jc_verify.specs.PrivateTold.{AreReached, Reaches}
 use Rattle.jc_verify.specs.PrivatePlaces.{IsStep, left_of}
 use Rattle.jc_verify.specs.PrivateSettled.{IsFollowed, IsSettled, IsSwept, settled_place}
 use Rattle.jc_verify.specs.declared.place.Place.{Place}
 use Rattle.jc_verify.proofs.Arriving.{IsHeldBy, at_number, held_by, number_within, set_length, set_other, set_same}
 use Rattle.jc_verify.proofs.Growing.{grown_self, leads_on, risen_self, risen_through}
-use Rattle.jc_verify.proofs.Naming.{named_cleared, types_named}
+use Rattle.jc_verify.proofs.Reaching.{reached_cleared, types_reached}
 use Rattle.jc_verify.proofs.Stepping.{left_falls, raised_falls, stands}
 
 all_on : {A : Type 0} (P Q : A → Type 0) → ((x : A) → P x → Q x) → (xs : List A) → AllByRecursion P xs → AllByRecursion Q xs
@@ -122,7 +122,7 @@ module _ (l : Linked) (laws : HasLaws l) (m : Method) (numbers : List (Option �
     not_followed unchanged = record {
       risen = risen_self l laws m numbers places;
       under = λ typing upper under. under;
-      named = λ keeps h. h;
+      reached = λ h. h;
       settled = λ h. h;
       left = omega arith;
       flags = λ n q e changed. inr (λ is. absurd (flag n q e changed is), q, e, changed);
@@ -136,7 +136,7 @@ module _ (l : Linked) (laws : HasLaws l) (m : Method) (numbers : List (Option �
 
     module _ (after : Places) (g : Grown l m numbers (cleared places number p) after)
         (closed : (t : Types) → types_held p ≡ Some t → IsClosed (package_rules l) m numbers (held_at numbers after) p.pc t)
-        (least : (typing : Typing) → IsUpper l m typing → IsUnder l numbers places typing → IsUnder l numbers after typing) (named : KeepsNames l m → AreNamed l.world places → AreNamed l.world after) where
+        (least : (typing : Typing) → IsUpper l m typing → IsUnder l numbers places typing → IsUnder l numbers after typing) (reached : AreReached l m places → AreReached l m after) where
       -- a place that hasn't changed since is as it was
       unchanged_since : (n : ℕ) (q : Place StateWithRoom) → slice_get after n ≡ Some q → q.changed ≡ false → slice_get (cleared places number p) n ≡ Some q
       unchanged_since n q e unchanged = by_step (g.steps.each n before.0 q before.1 e)
@@ -189,7 +189,7 @@ module _ (l : Linked) (laws : HasLaws l) (m : Method) (numbers : List (Option �
       followed = record {
         risen = risen_through l laws m numbers places (cleared places number p) after cleared_risen g.risen;
         under = least;
-        named = named;
+        reached = reached;
         settled = followed_settled;
         left = left_after;
         flags = followed_flags;
@@ -198,7 +198,7 @@ module _ (l : Linked) (laws : HasLaws l) (m : Method) (numbers : List (Option �
   -- ---- one place after the other
 
   pub swept_none : (first : ℕ) (places : Places) → IsSwept l m numbers first first places places
-  swept_none first places = record { risen = risen_self l laws m numbers places; under = λ typing upper under. under; named = λ keeps h. h; settled = λ h. h; left = omega arith; flags = λ n p le lt. absurd (omega (arith, le, lt)) }
+  swept_none first places = record { risen = risen_self l laws m numbers places; under = λ typing upper under. under; reached = λ h. h; settled = λ h. h; left = omega arith; flags = λ n p le lt. absurd (omega (arith, le, lt)) }
 
   -- one place more behind those that were swept, or before them
   module _ (first end k from to : ℕ) (start now next : Places) (s : IsSwept l m numbers first end start now) (f : IsFollowed l m numbers k now next)
@@ -207,7 +207,7 @@ module _ (l : Linked) (laws : HasLaws l) (m : Method) (numbers : List (Option �
     swept_more = record {
       risen = risen_through l laws m numbers start now next s.risen f.risen;
       under = λ typing upper under. f.under typing upper (s.under typing upper under);
-      named = λ keeps h. f.named keeps (s.named keeps h);
+      reached = λ h. f.reached (s.reached h);
       settled = λ h. f.settled (s.settled h);
       left = omega (arith, s.left, f.left);
       flags = λ n p le lt e changed. by_flag n le lt (f.flags n p e changed);
@@ -231,7 +231,7 @@ module _ (l : Linked) (laws : HasLaws l) (m : Method) (numbers : List (Option �
   swept_again end last start now next s t = record {
     risen = risen_through l laws m numbers start now next s.risen t.risen;
     under = λ typing upper under. t.under typing upper (s.under typing upper under);
-    named = λ keeps h. t.named keeps (s.named keeps h);
+    reached = λ h. t.reached (s.reached h);
     settled = λ h. t.settled (s.settled h);
     left = omega (arith, s.left, t.left);
     flags = λ n p le lt e changed. let less = t.flags n p le lt e changed in omega (arith, less, s.left);
@@ -252,20 +252,27 @@ module _ (l : Linked) (laws : HasLaws l) (m : Method) (numbers : List (Option �
     none_taken (inr (same, none)) =
         subst (λ x. IsFollowed l m numbers number places (slice_set places number x)) (sym same)
         (followed places number p at (cleared places number p) (grown_self l laws m numbers (cleared places number p)) (λ t e. absurd (none-some t (sym none ∙ e)))
-        (λ typing upper under. cleared_under places number p at typing under) (λ keeps h. named_cleared l m places number p (settled_place p) at refl h))
+        (λ typing upper under. cleared_under places number p at typing under) (λ h. reached_cleared l m places number p (settled_place p) at refl refl h))
 
     pub one_taken : (start : ℕ) (s : Types) (after : Places) → IsNumbered numbers places → p.pc ≡ start → q ≡ settled_place p → types_held p ≡ Some s → Grown l m numbers (slice_set places number q) after
         → ((final : Places) → Risen l m numbers after final → IsClosed (package_rules l) m numbers (held_at numbers final) start s)
         → ((typing : Typing) → IsUpper l m typing → IsUnder l numbers (slice_set places number q) typing → Leads (package_rules l) typing s start → IsUnder l numbers after typing)
-        → (KeepsNames l m → AreNamed l.world (slice_set places number q) → HasNames l.world s → AreNamed l.world after) → IsFollowed l m numbers number places after
-    one_taken start s after numbered pc same held g closed least named =
+        → AreReached l m after → IsFollowed l m numbers number places after
+    one_taken start s after numbered pc same held g closed least reached =
         followed places number p at after (subst (λ x. Grown l m numbers (slice_set places number x) after) same g)
         (λ t e. subst (λ u. IsClosed (package_rules l) m numbers (held_at numbers after) p.pc u) (same_Some s t (sym held ∙ e))
         (subst (λ n. IsClosed (package_rules l) m numbers (held_at numbers after) n s) (sym pc) (closed after (risen_self l laws m numbers after))))
         (λ typing upper under.
         least typing upper (subst (λ x. IsUnder l numbers (slice_set places number x) typing) (sym same) (cleared_under places number p at typing under))
         (subst (Leads (package_rules l) typing s) pc (under p.pc s (at_number l laws m numbers places p.pc number p (numbered.known number p at) at ∙ held))))
-        (λ keeps h. named keeps (named_cleared l m places number p q at (ap (λ (x : Place StateWithRoom). x.held) same) h) (types_named l p.held s held (λ x e. h number p x at e)))
+        (λ h. reached)
+
+    -- what is known of states that flow, of what was taken up
+    pub taken_reached : (start : ℕ) (s : Types) → p.pc ≡ start → q ≡ settled_place p → types_held p ≡ Some s → AreReached l m places → AreReached l m (slice_set places number q) × Reaches l m start s
+    taken_reached start s pc same held h = (
+      reached_cleared l m places number p q at (ap (λ (x : Place StateWithRoom). x.pc) same) (ap (λ (x : Place StateWithRoom). x.held) same) h,
+      subst (λ n. Reaches l m n s) pc (types_reached l m p.pc p.held s held (λ x e. h number p x at e)),
+    )
 
     -- what a typing says of what was taken up
     pub taken_under : (start : ℕ) (s : Types) → IsNumbered numbers places → p.pc ≡ start → q ≡ settled_place p → types_held p ≡ Some s → (typing : Typing) → IsUnder l numbers places typing

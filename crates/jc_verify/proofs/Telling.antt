@@ -8,10 +8,11 @@ use Rattle.jc_cap_desc.specs.Shape.{MethodBody}
 use Rattle.jc_cert.specs.Cert.{Stated, rows}
 use Rattle.jc_link.specs.Linked.{Linked}
 use Rattle.jc_check.specs.Method.{Method}
-use Rattle.jc_check.specs.Package.{method_of}
+use Rattle.jc_check.specs.Package.{method_of, package_rules}
 use Rattle.jc_verify.specs.PrivateGathered.{AreGathered, IsDenied, IsInferred, IsSoFar, IsTold, Stands}
 use Rattle.jc_verify.specs.PrivateNames.{KeepsNames}
-use Rattle.jc_verify.specs.Refusal.{CanBeCarried, IsFirstWithout}
+use Rattle.jc_verify.specs.Refusal.{CanBeCarried, IsUncarried}
+use Rattle.jc_verify.specs.Told.{IsToldOf}
 use Rattle.jc_verify.specs.declared.gathering.Gathered.{Gathered}
 use Rattle.jc_verify.specs.declared.gathering.Told.{Told}
 
@@ -51,10 +52,10 @@ module _ (l : Linked) (n : ℕ) (b : MethodBody) (at : slice_get l.body.kept.met
 
   -- it is told of now
   pub told_now : (after : Gathered) (t : Told) → after.told ≡ Some t → t.method ≡ b.offset → ((u : Told) → g.told ≡ Some u → b.offset < u.method)
-      → (CanBeCarried l (method_of l b) → ⊥) → IsSoFar l (n + 1) after
-  told_now after t told is before without = record {
+      → (CanBeCarried l (method_of l b) → ⊥) → IsToldOf (package_rules l) (method_of l b) t.fault → IsSoFar l (n + 1) after
+  told_now after t told is before without of = record {
     gathered = λ none. absurd (none-some t (sym none ∙ told));
-    told = λ u e. subst (λ (x : Told). IsTold l x.method) (same_Some t u (sym told ∙ e)) (record { place = n; method = b; is = at; at = sym is; without = without });
+    told = λ u e. subst (λ (x : Told). IsTold l x.method x.fault) (same_Some t u (sym told ∙ e)) (record { place = n; method = b; is = at; at = sym is; without = without; told = of });
     carried = λ k c s lower. by k c (either k c s) (lower t told);
   }
     where
@@ -76,10 +77,10 @@ module _ (l : Linked) (n : ℕ) (b : MethodBody) (at : slice_get l.body.kept.met
       by k c (inr same) lower = subst (λ (x : MethodBody). CanBeCarried l (method_of l x)) same (record { states = states; carried = inferred.carried })
 
 -- what is told of all methods is a refusal
-pub is_refusal : (l : Linked) (g : Gathered) → IsSoFar l (length l.body.kept.methods) g → (t : Told) → g.told ≡ Some t → IsFirstWithout l t.method
+pub is_refusal : (l : Linked) (g : Gathered) → IsSoFar l (length l.body.kept.methods) g → (t : Told) → g.told ≡ Some t → IsUncarried l t.method t.fault
 is_refusal l g so_far t told =
     let why = so_far.told t told in
-    record { place = why.place; method = why.method; is = why.is; at = why.at; without = why.without; before = before }
+    record { first = record { place = why.place; method = why.method; is = why.is; at = why.at; without = why.without; before = before }; told = why.told }
   where
     before : (n : ℕ) (c : MethodBody) → slice_get l.body.kept.methods n ≡ Some c → c.offset < t.method → CanBeCarried l (method_of l c)
     before n c at lower =

@@ -1,10 +1,12 @@
 pub mod Live
 pub mod Inferred
+pub mod Told
 pub mod Refusal
 pub mod PrivatePlaces
 pub mod PrivateFlow
 pub mod PrivateCarrier
 pub mod PrivateStop
+pub mod PrivateTold
 pub mod PrivateSettled
 pub mod PrivateStated
 pub mod PrivateNames

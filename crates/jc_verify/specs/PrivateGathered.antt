@@ -7,9 +7,11 @@ use Rattle.jc_link.specs.Linked.{Linked}
 use Rattle.jc_check.specs.Carried.{Carries}
 use Rattle.jc_check.specs.Method.{Method}
 use Rattle.jc_check.specs.Package.{method_of, package_rules}
+use Rattle.jc_check.specs.declared.fault.Fault.{Fault}
 use Rattle.jc_verify.specs.Inferred.{AreLeast, AreWhereEntered}
 use Rattle.jc_verify.specs.PrivateNames.{KeepsNames}
 use Rattle.jc_verify.specs.Refusal.{CanBeCarried}
+use Rattle.jc_verify.specs.Told.{IsToldOf}
 use Rattle.jc_verify.specs.declared.gathering.Gathered.{Gathered}
 use Rattle.jc_verify.specs.declared.gathering.Told.{Told}
 
@@ -67,18 +69,19 @@ pub record AreGathered (l : Linked) (n : ℕ) (of : List Row) : Type 0 where
 abbrev pub IsDenied : Linked → Method → Type 0
 IsDenied l m = (CanBeCarried l m → ⊥) ⊎ (KeepsNames l m → ⊥)
 
--- a method with code stands at this offset, and no states carry it
-pub record IsTold (l : Linked) (offset : ℕ) : Type 0 where
+-- a method with code stands at this offset, no states carry it, and the fault is told of it
+pub record IsTold (l : Linked) (offset : ℕ) (fault : Fault) : Type 0 where
   pub place : ℕ
   pub method : MethodBody
   pub is : slice_get l.body.kept.methods place ≡ Some method
   pub at : method.offset ≡ offset
   pub without : CanBeCarried l (method_of l method) → ⊥
+  pub told : IsToldOf (package_rules l) (method_of l method) fault
 
 -- so it is where nothing is told. Where a method is told of no states carry it, and those that stand before it can be carried
 pub record IsSoFar (l : Linked) (n : ℕ) (g : Gathered) : Type 0 where
   pub gathered : g.told ≡ None → AreGathered l n (rows g.rows.items)
-  pub told : (t : Told) → g.told ≡ Some t → IsTold l t.method
+  pub told : (t : Told) → g.told ≡ Some t → IsTold l t.method t.fault
   pub carried : (k : ℕ) (b : MethodBody) → Stands l n k b → ((t : Told) → g.told ≡ Some t → b.offset < t.method) → CanBeCarried l (method_of l b)
 
 -- a row was put behind others, if it has states

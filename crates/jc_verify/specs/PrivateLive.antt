@@ -2,6 +2,7 @@
 use Rattle.std.specs.Prelude.{◌≡◌, ◌⊎◌, ⊤, ℕ, ℤ, zero, suc, ◌+◌, ◌<◌, ◌≤◌, ◌^◌, true, false, pos, List, length, Option, Some, Contains, if◌then◌else◌}
 use Rattle.std.specs.List.{AllByRecursion}
 use Rattle.jc_base.specs.NumberSet.{has_number}
+use Rattle.jc_base.specs.declared.reason.Reason.{Reason}
 use Rattle.jc_code.specs.Instructions.{instr_at}
 use Rattle.jc_code.specs.Listing.{IsListing, ListingLaws, PlacedInstr, begins, placed_at}
 use Rattle.jc_code.specs.Targets.{targets_of, falls_of}
@@ -10,6 +11,7 @@ use Rattle.jc_check.specs.Method.{Handler, Method, covers}
 use Rattle.jc_check.specs.declared.fault.WordFault.{WordFault}
 use Rattle.jc_check.specs.declared.fault.WordFault.TheVariants.{Refused, Memory}
 use Rattle.jc_verify.specs.Live.{IsEntered, IsLive}
+use Rattle.jc_verify.specs.Told.{LeadsAstray}
 use Rattle.jc_verify.specs.declared.entries.Followed.{Followed}
 
 -- code that decodes, with the set of the pcs at which its instructions begin
@@ -52,9 +54,11 @@ pub record Grown (before after : Followed) : Type 0 where
 abbrev pub IsCaughtIn : Followed → ℕ → Handler → Type 0
 IsCaughtIn f pc h = covers h pc ≡ true → IsHeld f h.goes_on
 
--- a place that is a pc is entered
-abbrev pub IsBranchIn : Followed → ℤ → Type 0
-IsBranchIn f place = (pc : ℕ) → place ≡ pos pc → IsHeld f pc
+-- a place is a pc, which is entered
+pub record IsBranchIn (f : Followed) (place : ℤ) : Type 0 where
+  pub pc : ℕ
+  pub is : place ≡ pos pc
+  pub held : IsHeld f pc
 
 -- control flow was followed from an instruction
 pub record IsDone (m : Method) (f : Followed) (x : PlacedInstr) : Type 0 where
@@ -95,12 +99,15 @@ pub record AreLive (m : Method) (listing : List PlacedInstr) (live : List ℕ) :
   pub all : (pc : ℕ) → IsLive m listing pc → has_number live pc ≡ true
 
 -- an instruction that is reached leads where none begins
-pub data IsAstray (m : Method) (listing : List PlacedInstr) : Type 0 where
-  branches_off : (x : PlacedInstr) (place : ℤ) → placed_at listing x.pc ≡ Some x → IsLive m listing x.pc → Contains (targets_of x.pc x.instr.operation) place
-      → ((pc : ℕ) → place ≡ pos pc → begins listing pc ≡ false) → IsAstray m listing
-  falls_off : (x : PlacedInstr) → placed_at listing x.pc ≡ Some x → IsLive m listing x.pc → falls_of x.instr.operation ≡ true → length m.code ≤ x.instr.next_pc → IsAstray m listing
+pub data IsAstray (m : Method) (listing : List PlacedInstr) : ℕ → Reason → Type 0 where
+  leads : (x : PlacedInstr) (reason : Reason) → placed_at listing x.pc ≡ Some x → IsLive m listing x.pc
+      → LeadsAstray m listing x reason → IsAstray m listing x.pc reason
 
--- it holds where something is refused
-abbrev pub IfRefusal : WordFault → Type 0 → Type 0
-IfRefusal (Refused pc reason) holds = holds
+-- it holds of the pc and the reason where something is refused
+abbrev pub IfRefusal : WordFault → (ℕ → Reason → Type 0) → Type 0
+IfRefusal (Refused pc reason) holds = holds pc reason
 IfRefusal Memory holds = ⊤
+
+-- this is told at a pc, and something holds
+abbrev pub ToldAt : ℕ → Reason → Type 0 → ℕ → Reason → Type 0
+ToldAt pc why holds at reason = (at ≡ pc) × (reason ≡ why) × holds

@@ -8,7 +8,7 @@ use Rattle.jc_check.specs.Package.{package_rules}
 use Rattle.jc_check.specs.Typing.{Typing}
 use Rattle.jc_verify.specs.PrivateCarrier.{HasPlace}
 use Rattle.jc_verify.specs.PrivateFlow.{AreShaped, ClosedIf, FallsIf, IsClosed, IsNumbered, IsUnder, IsUpper, Places, Risen, held_at, left_in, number_at, types_held}
-use Rattle.jc_verify.specs.PrivateNames.{AreNamed, KeepsNames}
+use Rattle.jc_verify.specs.PrivateTold.{AreReached}
 use Rattle.jc_verify.specs.declared.place.Place.{Place}
 
 -- from each place that hasn't changed since, control flow was followed
@@ -36,7 +36,7 @@ settled_place p = record { pc = p.pc; held = p.held; changed = false }
 pub record IsFollowed (l : Linked) (m : Method) (numbers : List (Option ℕ)) (number : ℕ) (before after : Places) : Type 0 where
   pub risen : Risen l m numbers before after
   pub under : (typing : Typing) → IsUpper l m typing → IsUnder l numbers before typing → IsUnder l numbers after typing
-  pub named : KeepsNames l m → AreNamed l.world before → AreNamed l.world after
+  pub reached : AreReached l m before → AreReached l m after
   pub settled : IsSettled l m numbers before → IsSettled l m numbers after
   pub left : left_in l m after ≤ left_in l m before
   pub flags : (n : ℕ) (p : Place StateWithRoom) → slice_get after n ≡ Some p → p.changed ≡ true
@@ -46,7 +46,7 @@ pub record IsFollowed (l : Linked) (m : Method) (numbers : List (Option ℕ)) (n
 pub record IsSwept (l : Linked) (m : Method) (numbers : List (Option ℕ)) (first end : ℕ) (before after : Places) : Type 0 where
   pub risen : Risen l m numbers before after
   pub under : (typing : Typing) → IsUpper l m typing → IsUnder l numbers before typing → IsUnder l numbers after typing
-  pub named : KeepsNames l m → AreNamed l.world before → AreNamed l.world after
+  pub reached : AreReached l m before → AreReached l m after
   pub settled : IsSettled l m numbers before → IsSettled l m numbers after
   pub left : left_in l m after ≤ left_in l m before
   pub flags : (n : ℕ) (p : Place StateWithRoom) → first ≤ n → n < end → slice_get after n ≡ Some p → p.changed ≡ true → left_in l m after < left_in l m before
@@ -69,7 +69,7 @@ pub record AreNumbered (entries : List ℕ) (pc : ℕ) (numbers : List (Option �
 pub record IsFilled (l : Linked) (m : Method) (numbers : List (Option ℕ)) (before after : Places) : Type 0 where
   pub risen : Risen l m numbers before after
   pub under : (typing : Typing) → IsUpper l m typing → IsUnder l numbers after typing
-  pub named : KeepsNames l m → AreNamed l.world after
+  pub reached : AreReached l m after
   pub numbered : IsNumbered numbers after
   pub shaped : AreShaped m after
   pub entry : IsEntryMet l m numbers after

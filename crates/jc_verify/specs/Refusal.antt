@@ -6,6 +6,8 @@ use Rattle.jc_link.specs.Linked.{Linked}
 use Rattle.jc_check.specs.Carried.{Carries}
 use Rattle.jc_check.specs.Method.{Method}
 use Rattle.jc_check.specs.Package.{method_of, package_rules}
+use Rattle.jc_check.specs.declared.fault.Fault.{Fault}
+use Rattle.jc_verify.specs.Told.{IsToldOf}
 use Rattle.jc_verify.specs.declared.fault.VerifyFault.{VerifyFault}
 use Rattle.jc_verify.specs.declared.fault.VerifyFault.TheVariants.{Memory, NoCertificate}
 
@@ -23,7 +25,13 @@ pub record IsFirstWithout (l : Linked) (offset : ℕ) : Type 0 where
   pub without : CanBeCarried l (method_of l method) → ⊥
   pub before : (n : ℕ) (b : MethodBody) → slice_get l.body.kept.methods n ≡ Some b → b.offset < offset → CanBeCarried l (method_of l b)
 
--- why there is no certificate: a method that no states carry, the one with the least offset; or want of memory
+-- the method at this offset is the first that no states carry, and the fault is told of it
+pub record IsUncarried (l : Linked) (offset : ℕ) (fault : Fault) : Type 0 where
+  pub first : IsFirstWithout l offset
+  pub told : IsToldOf (package_rules l) (method_of l first.method) fault
+
+-- why there is no certificate: a method that no states carry, the one with the least offset, with what is told of it;
+-- or no memory was left
 abbrev pub IsRefusal : Linked → VerifyFault → Type 0
-IsRefusal l (NoCertificate method fault) = IsFirstWithout l method
+IsRefusal l (NoCertificate method fault) = IsUncarried l method fault
 IsRefusal l Memory = ⊤

@@ -1,9 +1,10 @@
 //! Where control flow enters a method, by branches and by handlers.
 
-ghost use Rattle.std.specs.Prelude.{◌≡◌, ◌≢◌, ◌<◌, ◌≤◌, ◌^◌, [], ℕ, ℤ, pos, List, Ok, Some, None, true, false, Contains, length, slice_get, IfOk, IfErr};
+ghost use Rattle.std.specs.Prelude.{◌≡◌, ◌≢◌, ◌<◌, ◌≤◌, ◌^◌, [], ℕ, ℤ, pos, List, Ok, Err, Some, None, true, false, Contains, length, slice_get, IfOk, IfErr};
 ghost use Rattle.std.specs.List.{AllByRecursion};
 ghost use Rattle.jc_base.specs.NumberSet.{has_number};
 ghost use Rattle.jc_base.specs.declared.reason.Reason.{Reason};
+ghost use Rattle.jc_base.specs.declared.reason.Reason.TheVariants.{FallsOff, NoTarget};
 ghost use Rattle.jc_cert.specs.Cert.{Stated};
 ghost use Rattle.jc_code.specs.Instructions.{instr_at};
 ghost use Rattle.jc_code.specs.Listing.{IsListing, PlacedInstr, StopsAt, begins, placed_at};
@@ -11,13 +12,17 @@ ghost use Rattle.jc_code.specs.Targets.{falls_of, targets_of};
 ghost use Rattle.jc_code.specs.declared.fault.CodeFault.{CodeFault};
 ghost use Rattle.jc_check.specs.Rules.{Rules};
 ghost use Rattle.jc_check.specs.Carried.{Carries, HandlerStands};
-ghost use Rattle.jc_check.specs.FirstFault.{reason_of};
+ghost use Rattle.jc_check.specs.FirstFault.{handler_stands, handlers_stand, reason_of, told_at};
 ghost use Rattle.jc_check.specs.Method.{covers};
 ghost use Rattle.jc_check.specs.Method as methods;
 ghost use Rattle.jc_check.specs.declared.fault.WordFault.TheVariants.{Memory, Refused};
 ghost use Rattle.jc_verify.specs.Live.{IsEntered};
 ghost use Rattle.jc_verify.specs.PrivateFlow.{placed};
-ghost use Rattle.jc_verify.specs.PrivateLive.{AreEntries, AreLive, Grown, IfRefusal, IsAstray, IsBranchIn, IsCaughtIn, IsDecoded, IsFollowed, IsFound, IsGround, IsHeld, IsReached, left_of};
+ghost use Rattle.jc_verify.specs.PrivateLive.{AreEntries, AreLive, Grown, IfRefusal, IsAstray, IsBranchIn, IsCaughtIn, IsDecoded, IsFollowed, IsFound, IsGround, IsHeld, IsReached, ToldAt, left_of};
+ghost use Rattle.jc_check.specs.Package.{package_rules};
+ghost use Rattle.jc_link.specs.Linked.{Linked};
+ghost use Rattle.jc_verify.specs.PrivateTold.{Tells};
+ghost use Rattle.jc_verify.specs.Told.{GoesStraight};
 
 use jc_base::{NumberSet, Reason};
 use jc_check::{Fault, Handler, Method, WordFault};
@@ -64,6 +69,9 @@ fn starts_of(code: &[u8]) -> Result<NumberSet, Fault>
 fn stand_handler(starts: &NumberSet, handler: &Handler) -> Result<(), Fault>
     ensures ok { IfOk result (λ u. (code : List ℕ) (listing : List PlacedInstr) → IsDecoded code listing starts.now → HandlerStands listing handler.now) }
     ensures err { IfErr result (λ fault. (code : List ℕ) (listing : List PlacedInstr) → IsDecoded code listing starts.now → HandlerStands listing handler.now → ⊥) }
+    ensures told { IfErr result (λ fault. (code : List ℕ) (listing : List PlacedInstr)
+        → IsDecoded code listing starts.now
+        → told_at handler.now.goes_on (handler_stands listing handler.now) ≡ Err fault) }
 {
     if !starts.contains(handler.goes_on) {
         return Err(Fault {
@@ -84,6 +92,8 @@ fn stand_handler(starts: &NumberSet, handler: &Handler) -> Result<(), Fault>
 fn stand_handlers(starts: &NumberSet, handlers: &[Handler]) -> Result<(), Fault>
     ensures ok { IfOk result (λ u. (code : List ℕ) (listing : List PlacedInstr) → IsDecoded code listing starts.now → AllByRecursion (HandlerStands listing) handlers.now) }
     ensures err { IfErr result (λ fault. (code : List ℕ) (listing : List PlacedInstr) → IsDecoded code listing starts.now → AllByRecursion (HandlerStands listing) handlers.now → ⊥) }
+    ensures told { IfErr result (λ fault. (code : List ℕ) (listing : List PlacedInstr)
+        → IsDecoded code listing starts.now → handlers_stand listing handlers.now ≡ Err fault) }
 {
     for index in 0..handlers.len() {
         stand_handler(starts, &handlers[index])?;
@@ -179,8 +189,9 @@ fn branch_to(
     ensures grown { IfOk result (λ u. Grown followed.old followed.new) }
     ensures followed { IfOk result (λ u. (m : methods.Method) (listing : List PlacedInstr) (now : ℕ) → IsGround m listing starts.now
         → ((p : ℕ) → slice_get targets.now index ≡ Some (pos p) → IsEntered m listing p) → IsFollowed m listing (Some now) followed.old → IsFollowed m listing (Some now) followed.new) }
-    ensures refused { IfErr result (λ fault. IfRefusal fault ((m : methods.Method) (listing : List PlacedInstr) → IsGround m listing starts.now
-        → (p : ℕ) → slice_get targets.now index ≡ Some (pos p) → begins listing p ≡ false)) }
+    ensures refused { IfErr result (λ fault. IfRefusal fault (ToldAt pc NoTarget
+        ((m : methods.Method) (listing : List PlacedInstr) → IsGround m listing starts.now
+        → (p : ℕ) → slice_get targets.now index ≡ Some (pos p) → begins listing p ≡ false))) }
 {
     let target = targets.get(index).unwrap();
     if target < 0 {
@@ -211,8 +222,10 @@ fn branch_all(
     ensures grown { IfOk result (λ u. Grown followed.old followed.new) }
     ensures followed { IfOk result (λ u. (m : methods.Method) (listing : List PlacedInstr) (now : ℕ) → IsGround m listing starts.now
         → ((p : ℕ) → Contains (targets_of pc instr.now.operation) (pos p) → IsEntered m listing p) → IsFollowed m listing (Some now) followed.old → IsFollowed m listing (Some now) followed.new) }
-    ensures refused { IfErr result (λ fault. IfRefusal fault ((m : methods.Method) (listing : List PlacedInstr) → IsGround m listing starts.now
-        → (place : ℤ) × Contains (targets_of pc instr.now.operation) place × ((p : ℕ) → place ≡ pos p → begins listing p ≡ false))) }
+    ensures refused { IfErr result (λ fault. IfRefusal fault (ToldAt pc NoTarget
+        ((m : methods.Method) (listing : List PlacedInstr) → IsGround m listing starts.now
+        → (place : ℤ) × Contains (targets_of pc instr.now.operation) place
+        × ((p : ℕ) → place ≡ pos p → begins listing p ≡ false)))) }
 {
     let targets = instr.targets(pc);
     for index in 0..targets.len() {
@@ -229,7 +242,8 @@ fn fall(followed: &mut Followed, method: &Method, pc: u16, instr: &Instr) -> Res
     ensures grown { IfOk result (λ u. Grown followed.old followed.new) }
     ensures followed { IfOk result (λ u. (listing : List PlacedInstr) (now : ℕ) → (falls_of instr.now.operation ≡ true → instr.now.next_pc < length method.now.code → IsReached method.now listing instr.now.next_pc)
         → IsFollowed method.now listing (Some now) followed.old → IsFollowed method.now listing (Some now) followed.new) }
-    ensures refused { IfErr result (λ fault. IfRefusal fault ((falls_of instr.now.operation ≡ true) × (length method.now.code ≤ instr.now.next_pc))) }
+    ensures refused { IfErr result (λ fault. IfRefusal fault (ToldAt pc FallsOff
+        ((falls_of instr.now.operation ≡ true) × (length method.now.code ≤ instr.now.next_pc)))) }
 {
     if !instr.falls_through() {
         return Ok(());
@@ -252,8 +266,9 @@ fn visit(
     ensures left { IfOk result (λ u. left_of followed.new ≡ left_of followed.old) }
     ensures followed { IfOk result (λ u. (listing : List PlacedInstr) → IsGround method.now listing starts.now → placed_at listing pc ≡ Some (placed pc instr.now)
         → IsFollowed method.now listing (Some pc) followed.old → IsFollowed method.now listing None followed.new) }
-    ensures refused { IfErr result (λ fault. IfRefusal fault ((listing : List PlacedInstr) → IsGround method.now listing starts.now → placed_at listing pc ≡ Some (placed pc instr.now)
-        → IsFollowed method.now listing (Some pc) followed.old → IsAstray method.now listing)) }
+    ensures refused { IfErr result (λ fault. IfRefusal fault (λ at reason. (listing : List PlacedInstr)
+        → IsGround method.now listing starts.now → placed_at listing pc ≡ Some (placed pc instr.now)
+        → IsFollowed method.now listing (Some pc) followed.old → IsAstray method.now listing at reason)) }
 {
     handle_all(followed, method.handlers(), pc)?;
     branch_all(followed, starts, pc, instr)?;
@@ -271,8 +286,9 @@ fn visit_at(
     ensures left { IfOk result (λ u. left_of followed.new ≡ left_of followed.old) }
     ensures followed { IfOk result (λ u. (listing : List PlacedInstr) → IsGround method.now listing starts.now
         → IsFollowed method.now listing (Some pc) followed.old → IsFollowed method.now listing None followed.new) }
-    ensures refused { IfErr result (λ fault. IfRefusal fault ((listing : List PlacedInstr) → IsGround method.now listing starts.now
-        → IsFollowed method.now listing (Some pc) followed.old → IsAstray method.now listing)) }
+    ensures refused { IfErr result (λ fault. IfRefusal fault (λ at reason. (listing : List PlacedInstr)
+        → IsGround method.now listing starts.now → IsFollowed method.now listing (Some pc) followed.old
+        → IsAstray method.now listing at reason)) }
 {
     match decode(method.code(), usize::from(pc)) {
         Ok(instr) => visit(followed, method, starts, pc, &instr),
@@ -301,7 +317,10 @@ fn follow_all(alloc: Global, method: &Method, starts: &NumberSet) -> Result<Numb
     requires some { method.now.code ≢ [] }
     ensures found { IfOk result (λ entries. (listing : List PlacedInstr) → IsGround method.now listing starts.now → AreEntries method.now listing entries) }
     ensures live { IfOk result (λ entries. (live : List ℕ) × ((listing : List PlacedInstr) → IsGround method.now listing starts.now → AreLive method.now listing live)) }
-    ensures refused { IfErr result (λ fault. IfRefusal fault ((listing : List PlacedInstr) → IsGround method.now listing starts.now → IsAstray method.now listing)) }
+    ensures straight { IfOk result (λ entries. (listing : List PlacedInstr) → IsGround method.now listing starts.now
+        → GoesStraight method.now listing) }
+    ensures refused { IfErr result (λ fault. IfRefusal fault (λ at reason. (listing : List PlacedInstr)
+        → IsGround method.now listing starts.now → IsAstray method.now listing at reason)) }
 {
     let mut followed = at_first(alloc)?;
     while let Some(pc) = followed.stack.pop() {
@@ -319,8 +338,11 @@ pub(crate) fn entries_of(alloc: Global, method: &Method) -> Result<NumberSet, Wo
     ensures all { IfOk result (λ entries. (listing : List PlacedInstr) → IsListing instr_at method.now.code listing → (pc : ℕ) → IsEntered method.now listing pc → has_number entries pc ≡ true) }
     ensures live { IfOk result (λ entries. (live : List ℕ) × ((listing : List PlacedInstr) → IsListing instr_at method.now.code listing → AreLive method.now listing live)) }
     ensures handlers { IfOk result (λ entries. (listing : List PlacedInstr) → IsListing instr_at method.now.code listing → AllByRecursion (HandlerStands listing) method.now.handlers) }
+    ensures straight { IfOk result (λ entries. (listing : List PlacedInstr) → IsListing instr_at method.now.code listing
+        → GoesStraight method.now listing) }
     ensures some { IfOk result (λ entries. method.now.code ≢ []) }
     ensures refused { IfErr result (λ fault. (pc : ℕ) (reason : Reason) → fault ≡ Refused pc reason → (rules : Rules) → rules.decoder ≡ instr_at → (states : List Stated) → Carries rules method.now states → ⊥) }
+    ensures told { IfErr result (λ fault. (l : Linked) → Tells (package_rules l) method.now fault) }
 {
     listing_laws();
     let code = method.code();

@@ -1,20 +1,23 @@
 //! Following control flow through a method.
 
-ghost use Rattle.std.specs.Prelude.{◌≡◌, ◌<◌, ◌≤◌, ◌^◌, ℤ, true, false, Some, None, Ok, Option, List, ℕ, length, pos, slice_get, IfOk, IfErr, IfNone, IfSome};
+ghost use Rattle.std.specs.Prelude.{◌≡◌, ◌<◌, ◌≤◌, ◌^◌, ℤ, true, false, Some, None, Ok, Option, List, ℕ, length, pos, Contains, slice_get, IfOk, IfErr, IfNone, IfSome};
 ghost use Rattle.std.specs.List.{AllByRecursion};
 ghost use Rattle.jc_code.specs.Targets.{targets_of};
 ghost use Rattle.jc_types.specs.Changes.{Became};
-ghost use Rattle.jc_check.specs.Method.{caught_types};
+ghost use Rattle.jc_check.specs.Method.{caught_types, covers};
 ghost use Rattle.jc_check.specs.Package.{package_rules};
 ghost use Rattle.jc_check.specs.Typing.{BranchLeads, HandlerLeads, Leads, Typing};
 ghost use Rattle.jc_verify.specs.PrivateStop.{fault_at};
 ghost use Rattle.jc_classes.specs.declared.name.ClassName.{ClassName as ClassNameOf};
-ghost use Rattle.jc_verify.specs.PrivateNames.{AreNamed, HasNames, KeepsNames};
+ghost use Rattle.jc_verify.specs.PrivateTold.{AreCaught, AreReached, IfRefused, IsFallen, IsGroundOf, IsHandlersWay, IsHeldAt, IsUncaught, IsUncaughtAt, IsUnled, MeetsUnlike, Reaches, Tells, TellsAt};
 ghost use Rattle.jc_verify.specs.PrivateCarrier.{BranchHasPlace, HandlerHasPlace, HasPlace, IsCarrier, IsDecodedAt};
+ghost use Rattle.jc_types.specs.State.{StateWithRoom};
 ghost use Rattle.jc_verify.specs.declared.place.NotTaken.TheVariants.{Unlike};
+ghost use Rattle.jc_verify.specs.declared.place.Place.{Place as PlaceOf};
 ghost use Rattle.jc_verify.specs.declared.stop.Stop.TheVariants.{Refused};
 ghost use Rattle.jc_check.specs.declared.fault.WordFault.TheVariants as faults;
 ghost use Rattle.jc_base.specs.declared.reason.Reason.{Reason};
+ghost use Rattle.jc_base.specs.declared.reason.Reason.TheVariants.{CertMismatch};
 ghost use Rattle.jc_verify.specs.PrivateFlow.{ClosedIf, FallsIf, Grown, HasLaws, HasRoom, IsClosed, IsNumbered, IsUnder, IsUpper, Places, Risen, held_at, number_at, placed};
 
 use crate::place::{NotTaken, Place, take_in};
@@ -67,6 +70,9 @@ fn arrive(
 ) -> Result<(), NotTaken>
     requires laws { HasLaws flow.now.linked.now }
     requires numbered { IsNumbered flow.now.numbers.now places.old }
+    requires reached { AreReached flow.now.linked.now flow.now.method.now places.old }
+    requires here { (p : PlaceOf StateWithRoom) → slice_get places.old number ≡ Some p
+        → Reaches flow.now.linked.now flow.now.method.now p.pc state.now.types }
     requires there { number < length places.old }
     requires room { HasRoom flow.now.method.now state.now }
     ensures grown { IfOk result (λ u. Grown flow.now.linked.now flow.now.method.now flow.now.numbers.now places.old places.new) }
@@ -76,7 +82,9 @@ fn arrive(
         → Leads (package_rules flow.now.linked.now) typing state.now.types pc → IsUnder flow.now.linked.now flow.now.numbers.now places.new typing) }
     ensures unlike { IfErr result (λ why. why ≡ Unlike → (typing : Typing) (pc : ℕ) → number_at flow.now.numbers.now pc ≡ Some number → IsUnder flow.now.linked.now flow.now.numbers.now places.old typing
         → Leads (package_rules flow.now.linked.now) typing state.now.types pc → ⊥) }
-    ensures named { IfOk result (λ u. KeepsNames flow.now.linked.now flow.now.method.now → AreNamed flow.now.linked.now.world places.old → HasNames flow.now.linked.now.world state.now.types → AreNamed flow.now.linked.now.world places.new) }
+    ensures told { IfErr result (λ why. why ≡ Unlike → (pc : ℕ) → number_at flow.now.numbers.now pc ≡ Some number
+        → MeetsUnlike (IsHeldAt flow.now.numbers.now places.old) pc state.now.types CertMismatch) }
+    ensures reached { IfOk result (λ u. AreReached flow.now.linked.now flow.now.method.now places.new) }
 {
     let _depth = state.depth();
     let linked = flow.linked;
@@ -93,6 +101,8 @@ fn arrive_at(
 ) -> Result<bool, Stop>
     requires laws { HasLaws flow.now.linked.now }
     requires numbered { IsNumbered flow.now.numbers.now places.old }
+    requires reached { AreReached flow.now.linked.now flow.now.method.now places.old }
+    requires here { Reaches flow.now.linked.now flow.now.method.now pc state.now.types }
     requires room { HasRoom flow.now.method.now state.now }
     ensures grown { IfOk result (λ is. Grown flow.now.linked.now flow.now.method.now flow.now.numbers.now places.old places.new) }
     ensures met { IfOk result (λ is. is ≡ true → (final : Places) → Risen flow.now.linked.now flow.now.method.now flow.now.numbers.now places.new final
@@ -100,7 +110,9 @@ fn arrive_at(
     ensures none { IfOk result (λ is. is ≡ false → number_at flow.now.numbers.now pc ≡ None) }
     ensures least { IfOk result (λ is. (typing : Typing) → IsUnder flow.now.linked.now flow.now.numbers.now places.old typing
         → Leads (package_rules flow.now.linked.now) typing state.now.types pc → IsUnder flow.now.linked.now flow.now.numbers.now places.new typing) }
-    ensures named { IfOk result (λ is. KeepsNames flow.now.linked.now flow.now.method.now → AreNamed flow.now.linked.now.world places.old → HasNames flow.now.linked.now.world state.now.types → AreNamed flow.now.linked.now.world places.new) }
+    ensures told { IfErr result (IfRefused
+        (MeetsUnlike (IsHeldAt flow.now.numbers.now places.old) pc state.now.types)) }
+    ensures reached { IfOk result (λ is. AreReached flow.now.linked.now flow.now.method.now places.new) }
     ensures refused { IfErr result (λ stop. (reason : Reason) → stop ≡ Refused reason → (typing : Typing) → IsUnder flow.now.linked.now flow.now.numbers.now places.old typing
         → Leads (package_rules flow.now.linked.now) typing state.now.types pc → ⊥) }
 {
@@ -124,6 +136,9 @@ fn catch_at(
 ) -> Result<(), Stop>
     requires laws { HasLaws flow.now.linked.now }
     requires numbered { IsNumbered flow.now.numbers.now places.old }
+    requires reached { AreReached flow.now.linked.now flow.now.method.now places.old }
+    requires here { Reaches flow.now.linked.now flow.now.method.now goes_on (caught_types class state.now.types) }
+    requires place { HasPlace flow.now.numbers.now goes_on }
     requires caught { HasRoom flow.now.method.now caught.old }
     requires room { HasRoom flow.now.method.now state.now }
     ensures grown { IfOk result (λ u. Grown flow.now.linked.now flow.now.method.now flow.now.numbers.now places.old places.new) }
@@ -132,7 +147,9 @@ fn catch_at(
     ensures caught { HasRoom flow.now.method.now caught.new }
     ensures least { IfOk result (λ u. (typing : Typing) → IsUnder flow.now.linked.now flow.now.numbers.now places.old typing
         → Leads (package_rules flow.now.linked.now) typing (caught_types class state.now.types) goes_on → IsUnder flow.now.linked.now flow.now.numbers.now places.new typing) }
-    ensures named { IfOk result (λ u. KeepsNames flow.now.linked.now flow.now.method.now → AreNamed flow.now.linked.now.world places.old → HasNames flow.now.linked.now.world (caught_types class state.now.types) → AreNamed flow.now.linked.now.world places.new) }
+    ensures told { IfErr result (IfRefused
+        (IsUncaughtAt flow.now.linked.now flow.now.method.now goes_on (caught_types class state.now.types))) }
+    ensures reached { IfOk result (λ u. AreReached flow.now.linked.now flow.now.method.now places.new) }
     ensures refused { IfErr result (λ stop. (reason : Reason) → stop ≡ Refused reason → (typing : Typing) → IsCarrier flow.now.linked.now flow.now.method.now flow.now.numbers.now typing → IsUnder flow.now.linked.now flow.now.numbers.now places.old typing
         → Leads (package_rules flow.now.linked.now) typing (caught_types class state.now.types) goes_on → HasPlace flow.now.numbers.now goes_on → ⊥) }
 {
@@ -161,6 +178,10 @@ fn handle(
 ) -> Result<(), Stop>
     requires laws { HasLaws flow.now.linked.now }
     requires numbered { IsNumbered flow.now.numbers.now places.old }
+    requires reached { AreReached flow.now.linked.now flow.now.method.now places.old }
+    requires here { (class : ClassNameOf) → covers handler.now pc ≡ true → handler.now.caught ≡ Some class
+        → Reaches flow.now.linked.now flow.now.method.now handler.now.goes_on (caught_types class state.now.types) }
+    requires way { IsHandlersWay flow.now.numbers.now pc handler.now }
     requires caught { HasRoom flow.now.method.now caught.old }
     requires room { HasRoom flow.now.method.now state.now }
     ensures grown { IfOk result (λ u. Grown flow.now.linked.now flow.now.method.now flow.now.numbers.now places.old places.new) }
@@ -169,7 +190,9 @@ fn handle(
     ensures caught { HasRoom flow.now.method.now caught.new }
     ensures least { IfOk result (λ u. (typing : Typing) → IsUnder flow.now.linked.now flow.now.numbers.now places.old typing
         → HandlerLeads (package_rules flow.now.linked.now) typing pc state.now.types handler.now → IsUnder flow.now.linked.now flow.now.numbers.now places.new typing) }
-    ensures named { IfOk result (λ u. KeepsNames flow.now.linked.now flow.now.method.now → AreNamed flow.now.linked.now.world places.old → ((class : ClassNameOf) → handler.now.caught ≡ Some class → HasNames flow.now.linked.now.world (caught_types class state.now.types)) → AreNamed flow.now.linked.now.world places.new) }
+    ensures told { IfErr result (IfRefused
+        (IsUncaught flow.now.linked.now flow.now.method.now (λ h. h ≡ handler.now) pc state.now.types)) }
+    ensures reached { IfOk result (λ u. AreReached flow.now.linked.now flow.now.method.now places.new) }
     ensures refused { IfErr result (λ stop. (reason : Reason) → stop ≡ Refused reason → (typing : Typing) → IsCarrier flow.now.linked.now flow.now.method.now flow.now.numbers.now typing → IsUnder flow.now.linked.now flow.now.numbers.now places.old typing
         → HandlerLeads (package_rules flow.now.linked.now) typing pc state.now.types handler.now → HandlerHasPlace flow.now.numbers.now pc handler.now → ⊥) }
 {
@@ -192,6 +215,9 @@ fn handle_all(
 ) -> Result<(), Stop>
     requires laws { HasLaws flow.now.linked.now }
     requires numbered { IsNumbered flow.now.numbers.now places.old }
+    requires reached { AreReached flow.now.linked.now flow.now.method.now places.old }
+    requires here { AreCaught flow.now.linked.now flow.now.method.now pc state.now.types }
+    requires ways { AllByRecursion (IsHandlersWay flow.now.numbers.now pc) flow.now.method.now.handlers }
     requires caught { HasRoom flow.now.method.now caught.old }
     requires room { HasRoom flow.now.method.now state.now }
     ensures grown { IfOk result (λ u. Grown flow.now.linked.now flow.now.method.now flow.now.numbers.now places.old places.new) }
@@ -200,7 +226,10 @@ fn handle_all(
     ensures caught { HasRoom flow.now.method.now caught.new }
     ensures least { IfOk result (λ u. (typing : Typing) → IsUnder flow.now.linked.now flow.now.numbers.now places.old typing
         → AllByRecursion (HandlerLeads (package_rules flow.now.linked.now) typing pc state.now.types) flow.now.method.now.handlers → IsUnder flow.now.linked.now flow.now.numbers.now places.new typing) }
-    ensures named { IfOk result (λ u. KeepsNames flow.now.linked.now flow.now.method.now → AreNamed flow.now.linked.now.world places.old → HasNames flow.now.linked.now.world state.now.types → AreNamed flow.now.linked.now.world places.new) }
+    ensures told { IfErr result (IfRefused
+        (IsUncaught flow.now.linked.now flow.now.method.now (Contains flow.now.method.now.handlers) pc
+        state.now.types)) }
+    ensures reached { IfOk result (λ u. AreReached flow.now.linked.now flow.now.method.now places.new) }
     ensures refused { IfErr result (λ stop. (reason : Reason) → stop ≡ Refused reason → (typing : Typing) → IsCarrier flow.now.linked.now flow.now.method.now flow.now.numbers.now typing → IsUnder flow.now.linked.now flow.now.numbers.now places.old typing
         → AllByRecursion (HandlerLeads (package_rules flow.now.linked.now) typing pc state.now.types) flow.now.method.now.handlers → AllByRecursion (HandlerHasPlace flow.now.numbers.now pc) flow.now.method.now.handlers → ⊥) }
 {
@@ -221,6 +250,11 @@ fn branch_to(
 ) -> Result<(), Stop>
     requires laws { HasLaws flow.now.linked.now }
     requires numbered { IsNumbered flow.now.numbers.now places.old }
+    requires reached { AreReached flow.now.linked.now flow.now.method.now places.old }
+    requires here { (pc : ℕ) → slice_get targets.now index ≡ Some (pos pc)
+        → Reaches flow.now.linked.now flow.now.method.now pc state.now.types }
+    requires places { (place : ℤ) → slice_get targets.now index ≡ Some place
+        → BranchHasPlace flow.now.numbers.now place }
     requires room { HasRoom flow.now.method.now state.now }
     requires index { index < length targets.now }
     ensures grown { IfOk result (λ u. Grown flow.now.linked.now flow.now.method.now flow.now.numbers.now places.old places.new) }
@@ -228,7 +262,10 @@ fn branch_to(
         → (place : ℤ) → slice_get targets.now index ≡ Some place → BranchLeads (package_rules flow.now.linked.now) (held_at flow.now.numbers.now final) state.now.types place) }
     ensures least { IfOk result (λ u. (typing : Typing) → IsUnder flow.now.linked.now flow.now.numbers.now places.old typing
         → ((place : ℤ) → slice_get targets.now index ≡ Some place → BranchLeads (package_rules flow.now.linked.now) typing state.now.types place) → IsUnder flow.now.linked.now flow.now.numbers.now places.new typing) }
-    ensures named { IfOk result (λ u. KeepsNames flow.now.linked.now flow.now.method.now → AreNamed flow.now.linked.now.world places.old → HasNames flow.now.linked.now.world state.now.types → AreNamed flow.now.linked.now.world places.new) }
+    ensures told { IfErr result (IfRefused
+        (IsUnled flow.now.linked.now flow.now.method.now (λ place. slice_get targets.now index ≡ Some place)
+        state.now.types)) }
+    ensures reached { IfOk result (λ u. AreReached flow.now.linked.now flow.now.method.now places.new) }
     ensures refused { IfErr result (λ stop. (reason : Reason) → stop ≡ Refused reason → (typing : Typing) → IsUnder flow.now.linked.now flow.now.numbers.now places.old typing
         → ((place : ℤ) → slice_get targets.now index ≡ Some place → BranchLeads (package_rules flow.now.linked.now) typing state.now.types place) → ((place : ℤ) → slice_get targets.now index ≡ Some place → BranchHasPlace flow.now.numbers.now place) → ⊥) }
 {
@@ -253,13 +290,20 @@ fn branch_all(
 ) -> Result<(), Stop>
     requires laws { HasLaws flow.now.linked.now }
     requires numbered { IsNumbered flow.now.numbers.now places.old }
+    requires reached { AreReached flow.now.linked.now flow.now.method.now places.old }
+    requires here { (to : ℕ) → Contains (targets_of pc instr.now.operation) (pos to)
+        → Reaches flow.now.linked.now flow.now.method.now to state.now.types }
+    requires places { AllByRecursion (BranchHasPlace flow.now.numbers.now) (targets_of pc instr.now.operation) }
     requires room { HasRoom flow.now.method.now state.now }
     ensures grown { IfOk result (λ u. Grown flow.now.linked.now flow.now.method.now flow.now.numbers.now places.old places.new) }
     ensures met { IfOk result (λ u. (final : Places) → Risen flow.now.linked.now flow.now.method.now flow.now.numbers.now places.new final
         → AllByRecursion (BranchLeads (package_rules flow.now.linked.now) (held_at flow.now.numbers.now final) state.now.types) (targets_of pc instr.now.operation)) }
     ensures least { IfOk result (λ u. (typing : Typing) → IsUnder flow.now.linked.now flow.now.numbers.now places.old typing
         → AllByRecursion (BranchLeads (package_rules flow.now.linked.now) typing state.now.types) (targets_of pc instr.now.operation) → IsUnder flow.now.linked.now flow.now.numbers.now places.new typing) }
-    ensures named { IfOk result (λ u. KeepsNames flow.now.linked.now flow.now.method.now → AreNamed flow.now.linked.now.world places.old → HasNames flow.now.linked.now.world state.now.types → AreNamed flow.now.linked.now.world places.new) }
+    ensures told { IfErr result (IfRefused
+        (IsUnled flow.now.linked.now flow.now.method.now (Contains (targets_of pc instr.now.operation))
+        state.now.types)) }
+    ensures reached { IfOk result (λ u. AreReached flow.now.linked.now flow.now.method.now places.new) }
     ensures refused { IfErr result (λ stop. (reason : Reason) → stop ≡ Refused reason → (typing : Typing) → IsUnder flow.now.linked.now flow.now.numbers.now places.old typing
         → AllByRecursion (BranchLeads (package_rules flow.now.linked.now) typing state.now.types) (targets_of pc instr.now.operation) → AllByRecursion (BranchHasPlace flow.now.numbers.now) (targets_of pc instr.now.operation) → ⊥) }
 {
@@ -280,6 +324,9 @@ pub(crate) fn fall_to(
 ) -> Result<bool, Stop>
     requires laws { HasLaws flow.now.linked.now }
     requires numbered { IsNumbered flow.now.numbers.now places.old }
+    requires reached { AreReached flow.now.linked.now flow.now.method.now places.old }
+    requires here { pc < length flow.now.method.now.code
+        → Reaches flow.now.linked.now flow.now.method.now pc state.now.types }
     requires room { HasRoom flow.now.method.now state.now }
     ensures grown { IfOk result (λ on. Grown flow.now.linked.now flow.now.method.now flow.now.numbers.now places.old places.new) }
     ensures met { IfOk result (λ on. (final : Places) → Risen flow.now.linked.now flow.now.method.now flow.now.numbers.now places.new final
@@ -287,7 +334,9 @@ pub(crate) fn fall_to(
     ensures within { IfOk result (λ on. pc < length flow.now.method.now.code) }
     ensures least { IfOk result (λ on. (typing : Typing) → IsUnder flow.now.linked.now flow.now.numbers.now places.old typing
         → Leads (package_rules flow.now.linked.now) typing state.now.types pc → IsUnder flow.now.linked.now flow.now.numbers.now places.new typing) }
-    ensures named { IfOk result (λ on. KeepsNames flow.now.linked.now flow.now.method.now → AreNamed flow.now.linked.now.world places.old → HasNames flow.now.linked.now.world state.now.types → AreNamed flow.now.linked.now.world places.new) }
+    ensures told { IfErr result (IfRefused
+        (IsFallen flow.now.method.now (IsHeldAt flow.now.numbers.now places.old) pc state.now.types)) }
+    ensures reached { IfOk result (λ on. AreReached flow.now.linked.now flow.now.method.now places.new) }
     ensures refused { IfErr result (λ stop. (reason : Reason) → stop ≡ Refused reason → (typing : Typing) → IsUnder flow.now.linked.now flow.now.numbers.now places.old typing
         → Leads (package_rules flow.now.linked.now) typing state.now.types pc → pc < length flow.now.method.now.code → ⊥) }
 {
@@ -324,6 +373,9 @@ fn visit(
 ) -> Result<bool, Stop>
     requires laws { HasLaws flow.now.linked.now }
     requires numbered { IsNumbered flow.now.numbers.now places.old }
+    requires reached { AreReached flow.now.linked.now flow.now.method.now places.old }
+    requires here { Reaches flow.now.linked.now flow.now.method.now pc state.old.types }
+    requires ground { IsGroundOf flow.now.linked.now flow.now.method.now flow.now.numbers.now }
     requires caught { HasRoom flow.now.method.now caught.old }
     requires room { HasRoom flow.now.method.now state.old }
     requires decoded { (package_rules flow.now.linked.now).decoder flow.now.method.now.code pc ≡ Ok instr.now }
@@ -336,7 +388,10 @@ fn visit(
     ensures room { IfOk result (λ on. HasRoom flow.now.method.now state.new) }
     ensures least { IfOk result (λ on. (typing : Typing) → IsUpper flow.now.linked.now flow.now.method.now typing → IsUnder flow.now.linked.now flow.now.numbers.now places.old typing
         → Leads (package_rules flow.now.linked.now) typing state.old.types pc → IsUnder flow.now.linked.now flow.now.numbers.now places.new typing × (on ≡ true → Leads (package_rules flow.now.linked.now) typing state.new.types instr.now.next_pc)) }
-    ensures named { IfOk result (λ on. KeepsNames flow.now.linked.now flow.now.method.now → AreNamed flow.now.linked.now.world places.old → HasNames flow.now.linked.now.world state.old.types → AreNamed flow.now.linked.now.world places.new × HasNames flow.now.linked.now.world state.new.types) }
+    ensures told { IfErr result (TellsAt (package_rules flow.now.linked.now) flow.now.method.now pc) }
+    ensures next { IfOk result (λ on. on ≡ true
+        → Reaches flow.now.linked.now flow.now.method.now instr.now.next_pc state.new.types) }
+    ensures reached { IfOk result (λ on. AreReached flow.now.linked.now flow.now.method.now places.new) }
     ensures refused { IfErr result (λ stop. (reason : Reason) → stop ≡ Refused reason → (typing : Typing) → IsCarrier flow.now.linked.now flow.now.method.now flow.now.numbers.now typing → IsUnder flow.now.linked.now flow.now.numbers.now places.old typing
         → Leads (package_rules flow.now.linked.now) typing state.old.types pc → ⊥) }
 {
@@ -372,6 +427,9 @@ pub(crate) fn follow(
 ) -> Result<(), WordFault>
     requires laws { HasLaws flow.now.linked.now }
     requires numbered { IsNumbered flow.now.numbers.now places.old }
+    requires reached { AreReached flow.now.linked.now flow.now.method.now places.old }
+    requires here { Reaches flow.now.linked.now flow.now.method.now start state.old.types }
+    requires ground { IsGroundOf flow.now.linked.now flow.now.method.now flow.now.numbers.now }
     requires caught { HasRoom flow.now.method.now caught.old }
     requires room { HasRoom flow.now.method.now state.old }
     requires short { length flow.now.method.now.code < 2 ^ 16 }
@@ -383,7 +441,8 @@ pub(crate) fn follow(
     ensures room { IfOk result (λ u. HasRoom flow.now.method.now state.new) }
     ensures least { IfOk result (λ u. (typing : Typing) → IsUpper flow.now.linked.now flow.now.method.now typing → IsUnder flow.now.linked.now flow.now.numbers.now places.old typing
         → Leads (package_rules flow.now.linked.now) typing state.old.types start → IsUnder flow.now.linked.now flow.now.numbers.now places.new typing) }
-    ensures named { IfOk result (λ u. KeepsNames flow.now.linked.now flow.now.method.now → AreNamed flow.now.linked.now.world places.old → HasNames flow.now.linked.now.world state.old.types → AreNamed flow.now.linked.now.world places.new) }
+    ensures told { IfErr result (Tells (package_rules flow.now.linked.now) flow.now.method.now) }
+    ensures reached { IfOk result (λ u. AreReached flow.now.linked.now flow.now.method.now places.new) }
     ensures refused { IfErr result (λ fault. (pc : ℕ) (reason : Reason) → fault ≡ faults.Refused pc reason → (typing : Typing) → IsCarrier flow.now.linked.now flow.now.method.now flow.now.numbers.now typing → IsUnder flow.now.linked.now flow.now.numbers.now places.old typing
         → Leads (package_rules flow.now.linked.now) typing state.old.types start → ⊥) }
 {

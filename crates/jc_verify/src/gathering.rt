@@ -4,11 +4,14 @@ ghost use Rattle.std.specs.Prelude.{◌≡◌, ◌+◌, ℕ, Some, map, length, 
 ghost use Rattle.std.specs.Option.{option_map_or};
 ghost use Rattle.jc_cert.specs.Cert.{rows, stated};
 ghost use Rattle.jc_base.specs.declared.reason.Reason.{Reason};
-ghost use Rattle.jc_check.specs.Package.{method_of};
+ghost use Rattle.jc_check.specs.FirstFault.{fault_at};
+ghost use Rattle.jc_check.specs.Package.{method_of, package_rules};
 ghost use Rattle.jc_check.specs.declared.fault.WordFault.TheVariants.{Refused};
 ghost use Rattle.jc_verify.specs.PrivateFlow.{HasLaws};
 ghost use Rattle.jc_verify.specs.PrivateGathered.{IsDenied, IsInferred, IsPut, IsSoFar};
+ghost use Rattle.jc_verify.specs.PrivateNames.{KeepsNames};
 ghost use Rattle.jc_verify.specs.PrivateRefused.{HasFitMethods};
+ghost use Rattle.jc_verify.specs.PrivateTold.{Tells};
 
 use crate::fault::VerifyFault;
 use crate::method::states_of;
@@ -38,6 +41,8 @@ fn states_for(alloc: Global, linked: &Linked, body: &MethodCode) -> Result<Vec<S
     requires { HasLaws linked.now }
     ensures inferred { IfOk result (λ states. IsInferred linked.now (method_of linked.now body.now) (map stated states.items)) }
     ensures refused { IfErr result (λ fault. (pc : ℕ) (reason : Reason) → fault ≡ Refused pc reason → IsDenied linked.now (method_of linked.now body.now)) }
+    ensures told { IfErr result (λ fault. KeepsNames linked.now (method_of linked.now body.now)
+        → Tells (package_rules linked.now) (method_of linked.now body.now) fault) }
 {
     let method = method_of(alloc, linked, body)?;
     states_of(alloc, linked, &method)
@@ -97,7 +102,8 @@ pub(crate) fn gather(
 }
 
 fn told_at(method: u16, pc: u16, reason: Reason) -> Told
-    ensures { result.method ≡ method }
+    ensures method { result.method ≡ method }
+    ensures fault { result.fault ≡ fault_at pc reason }
 {
     Told {
         method,

@@ -9,7 +9,8 @@ ghost use Rattle.jc_verify.specs.PrivateNames.{KeepsNames};
 ghost use Rattle.jc_verify.specs.PrivateCarrier.{IsCarrier};
 ghost use Rattle.jc_types.specs.State.{StateWithRoom};
 ghost use Rattle.jc_verify.specs.declared.place.Place.{Place as PlaceOf};
-ghost use Rattle.jc_check.specs.Package.{class_of_name};
+ghost use Rattle.jc_check.specs.Package.{class_of_name, package_rules};
+ghost use Rattle.jc_verify.specs.PrivateTold.{IsGroundOf, Tells};
 ghost use Rattle.jc_verify.specs.PrivateFlow.{HasLaws, IsNumbered, Places};
 ghost use Rattle.jc_verify.specs.PrivateGathered.{IsDenied, IsInferred};
 ghost use Rattle.jc_verify.specs.PrivateSettled.{IsFilled};
@@ -32,12 +33,15 @@ fn rows_in(flow: &Flow, places: &mut [Place<State>]) -> Result<Vec<StateRow>, Wo
     requires laws { HasLaws flow.now.linked.now }
     requires numbered { IsNumbered flow.now.numbers.now places.old }
     requires sized { length flow.now.numbers.now ≡ length flow.now.method.now.code }
+    requires ground { IsGroundOf flow.now.linked.now flow.now.method.now flow.now.numbers.now }
     requires empty { (n : ℕ) (p : PlaceOf StateWithRoom) → slice_get places.old n ≡ Some p → p.held ≡ None }
     requires short { length flow.now.method.now.code < 2 ^ 16 }
     ensures rows { IfOk result (λ rows. (final : Places) × IsFilled flow.now.linked.now flow.now.method.now flow.now.numbers.now places.old final
         × AreStateRows (class_of_name flow.now.linked.now.world) final (map stated rows.items)) }
     ensures refused { IfErr result (λ fault. (pc : ℕ) (reason : Reason) → fault ≡ Refused pc reason
         → ((typing : Typing) → IsCarrier flow.now.linked.now flow.now.method.now flow.now.numbers.now typing → ⊥) ⊎ (KeepsNames flow.now.linked.now flow.now.method.now → ⊥)) }
+    ensures told { IfErr result (λ fault. KeepsNames flow.now.linked.now flow.now.method.now
+        → Tells (package_rules flow.now.linked.now) flow.now.method.now fault) }
 {
     fill(flow, places)?;
     let linked = flow.linked;
@@ -54,6 +58,8 @@ pub(crate) fn states_of(
     requires short { length method.now.code < 2 ^ 16 }
     ensures inferred { IfOk result (λ rows. IsInferred linked.now method.now (map stated rows.items)) }
     ensures refused { IfErr result (λ fault. (pc : ℕ) (reason : Reason) → fault ≡ Refused pc reason → IsDenied linked.now method.now) }
+    ensures told { IfErr result (λ fault. KeepsNames linked.now method.now
+        → Tells (package_rules linked.now) method.now fault) }
 {
     first_fault_laws();
     let _most = method.max_stack;

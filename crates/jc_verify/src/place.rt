@@ -64,6 +64,7 @@ pub(crate) fn take_in<L: Lattice + Drop>(
     ensures holds { IfOk result (λ u. HoldsAbove (L.lies_below table.now) place.new value.now) }
     ensures least { IfOk result (λ u. (z : L) → IsHeldBelow (L.lies_below table.now) place.old z → L.lies_below table.now value.now z ≡ true → IsHeldBelow (L.lies_below table.now) place.new z) }
     ensures taken { IfOk result (λ u. IsTakenIn (L.lies_below table.now) place.old place.new value.now) }
+    ensures same { IfOk result (λ u. place.new.pc ≡ place.old.pc) }
     ensures unlike { IfErr result (λ why. why ≡ Unlike → IsUnlike L.fits place.old value.now) }
 {
     match &mut place.held {

@@ -6,7 +6,8 @@ ghost use Rattle.jc_check.specs.Method.{entry_of};
 ghost use Rattle.jc_check.specs.Typing.{Typing};
 ghost use Rattle.jc_check.specs.declared.fault.WordFault.TheVariants.{Refused};
 ghost use Rattle.jc_types.specs.State.{StateWithRoom};
-ghost use Rattle.jc_verify.specs.PrivateNames.{AreNamed, KeepsNames};
+ghost use Rattle.jc_verify.specs.PrivateTold.{AreReached, IsGroundOf, Tells};
+ghost use Rattle.jc_check.specs.Package.{package_rules};
 ghost use Rattle.jc_verify.specs.PrivateCarrier.{IsCarrier};
 ghost use Rattle.jc_verify.specs.PrivateFlow.{AreShaped, Grown, HasLaws, HasRoom, HasShape, IsNumbered, IsUnder, IsUpper, Places, Risen, types_held};
 ghost use Rattle.jc_verify.specs.declared.place.Place.{Place as PlaceOf};
@@ -65,6 +66,8 @@ fn follow_place(
     requires numbered { IsNumbered flow.now.numbers.now places.old }
     requires sized { length flow.now.numbers.now ≡ length flow.now.method.now.code }
     requires shaped { AreShaped flow.now.method.now places.old }
+    requires reached { AreReached flow.now.linked.now flow.now.method.now places.old }
+    requires ground { IsGroundOf flow.now.linked.now flow.now.method.now flow.now.numbers.now }
     requires caught { HasRoom flow.now.method.now caught.old }
     requires room { HasRoom flow.now.method.now state.old }
     requires short { length flow.now.method.now.code < 2 ^ 16 }
@@ -73,6 +76,7 @@ fn follow_place(
     ensures caught { IfOk result (λ u. HasRoom flow.now.method.now caught.new) }
     ensures room { IfOk result (λ u. HasRoom flow.now.method.now state.new) }
     ensures refused { IfErr result (λ fault. (pc : ℕ) (reason : Reason) → fault ≡ Refused pc reason → (typing : Typing) → IsCarrier flow.now.linked.now flow.now.method.now flow.now.numbers.now typing → IsUnder flow.now.linked.now flow.now.numbers.now places.old typing → ⊥) }
+    ensures told { IfErr result (Tells (package_rules flow.now.linked.now) flow.now.method.now) }
 {
     match take_up(&mut places[number], state) {
         Some(start) => follow(flow, places, caught, state, start),
@@ -91,6 +95,8 @@ fn sweep_forwards(
     requires numbered { IsNumbered flow.now.numbers.now places.old }
     requires sized { length flow.now.numbers.now ≡ length flow.now.method.now.code }
     requires shaped { AreShaped flow.now.method.now places.old }
+    requires reached { AreReached flow.now.linked.now flow.now.method.now places.old }
+    requires ground { IsGroundOf flow.now.linked.now flow.now.method.now flow.now.numbers.now }
     requires caught { HasRoom flow.now.method.now caught.old }
     requires room { HasRoom flow.now.method.now state.old }
     requires short { length flow.now.method.now.code < 2 ^ 16 }
@@ -98,6 +104,7 @@ fn sweep_forwards(
     ensures caught { IfOk result (λ u. HasRoom flow.now.method.now caught.new) }
     ensures room { IfOk result (λ u. HasRoom flow.now.method.now state.new) }
     ensures refused { IfErr result (λ fault. (pc : ℕ) (reason : Reason) → fault ≡ Refused pc reason → (typing : Typing) → IsCarrier flow.now.linked.now flow.now.method.now flow.now.numbers.now typing → IsUnder flow.now.linked.now flow.now.numbers.now places.old typing → ⊥) }
+    ensures told { IfErr result (Tells (package_rules flow.now.linked.now) flow.now.method.now) }
 {
     for number in 0..places.len() {
         follow_place(flow, places, caught, state, number)?;
@@ -116,6 +123,8 @@ fn sweep_backwards(
     requires numbered { IsNumbered flow.now.numbers.now places.old }
     requires sized { length flow.now.numbers.now ≡ length flow.now.method.now.code }
     requires shaped { AreShaped flow.now.method.now places.old }
+    requires reached { AreReached flow.now.linked.now flow.now.method.now places.old }
+    requires ground { IsGroundOf flow.now.linked.now flow.now.method.now flow.now.numbers.now }
     requires caught { HasRoom flow.now.method.now caught.old }
     requires room { HasRoom flow.now.method.now state.old }
     requires short { length flow.now.method.now.code < 2 ^ 16 }
@@ -123,6 +132,7 @@ fn sweep_backwards(
     ensures caught { IfOk result (λ u. HasRoom flow.now.method.now caught.new) }
     ensures room { IfOk result (λ u. HasRoom flow.now.method.now state.new) }
     ensures refused { IfErr result (λ fault. (pc : ℕ) (reason : Reason) → fault ≡ Refused pc reason → (typing : Typing) → IsCarrier flow.now.linked.now flow.now.method.now flow.now.numbers.now typing → IsUnder flow.now.linked.now flow.now.numbers.now places.old typing → ⊥) }
+    ensures told { IfErr result (Tells (package_rules flow.now.linked.now) flow.now.method.now) }
 {
     let mut number = places.len();
     while number > 0 {
@@ -156,6 +166,8 @@ fn settle(
     requires numbered { IsNumbered flow.now.numbers.now places.old }
     requires sized { length flow.now.numbers.now ≡ length flow.now.method.now.code }
     requires shaped { AreShaped flow.now.method.now places.old }
+    requires reached { AreReached flow.now.linked.now flow.now.method.now places.old }
+    requires ground { IsGroundOf flow.now.linked.now flow.now.method.now flow.now.numbers.now }
     requires settled { IsSettled flow.now.linked.now flow.now.method.now flow.now.numbers.now places.old }
     requires caught { HasRoom flow.now.method.now caught.old }
     requires room { HasRoom flow.now.method.now state.old }
@@ -164,8 +176,9 @@ fn settle(
     ensures closed { IfOk result (λ u. AreAllClosed flow.now.linked.now flow.now.method.now flow.now.numbers.now places.new) }
     ensures under { IfOk result (λ u. (typing : Typing) → IsUpper flow.now.linked.now flow.now.method.now typing → IsUnder flow.now.linked.now flow.now.numbers.now places.old typing
         → IsUnder flow.now.linked.now flow.now.numbers.now places.new typing) }
-    ensures named { IfOk result (λ u. KeepsNames flow.now.linked.now flow.now.method.now → AreNamed flow.now.linked.now.world places.old → AreNamed flow.now.linked.now.world places.new) }
+    ensures reached { IfOk result (λ u. AreReached flow.now.linked.now flow.now.method.now places.new) }
     ensures refused { IfErr result (λ fault. (pc : ℕ) (reason : Reason) → fault ≡ Refused pc reason → (typing : Typing) → IsCarrier flow.now.linked.now flow.now.method.now flow.now.numbers.now typing → IsUnder flow.now.linked.now flow.now.numbers.now places.old typing → ⊥) }
+    ensures told { IfErr result (Tells (package_rules flow.now.linked.now) flow.now.method.now) }
 {
     loop {
         sweep_forwards(flow, places, caught, state)?;
@@ -185,6 +198,8 @@ fn enter(
 ) -> Result<(), WordFault>
     requires laws { HasLaws flow.now.linked.now }
     requires numbered { IsNumbered flow.now.numbers.now places.old }
+    requires ground { IsGroundOf flow.now.linked.now flow.now.method.now flow.now.numbers.now }
+    requires empty { (n : ℕ) (p : PlaceOf StateWithRoom) → slice_get places.old n ≡ Some p → p.held ≡ None }
     requires caught { HasRoom flow.now.method.now caught.old }
     requires room { HasRoom flow.now.method.now state.old }
     requires entry { state.old.types ≡ entry_of flow.now.method.now }
@@ -195,8 +210,9 @@ fn enter(
     ensures room { IfOk result (λ u. HasRoom flow.now.method.now state.new) }
     ensures under { IfOk result (λ u. (typing : Typing) → IsUpper flow.now.linked.now flow.now.method.now typing → IsUnder flow.now.linked.now flow.now.numbers.now places.old typing
         → IsUnder flow.now.linked.now flow.now.numbers.now places.new typing) }
-    ensures named { IfOk result (λ u. KeepsNames flow.now.linked.now flow.now.method.now → AreNamed flow.now.linked.now.world places.old → AreNamed flow.now.linked.now.world places.new) }
+    ensures reached { IfOk result (λ u. AreReached flow.now.linked.now flow.now.method.now places.new) }
     ensures refused { IfErr result (λ fault. (pc : ℕ) (reason : Reason) → fault ≡ Refused pc reason → (typing : Typing) → IsCarrier flow.now.linked.now flow.now.method.now flow.now.numbers.now typing → IsUnder flow.now.linked.now flow.now.numbers.now places.old typing → ⊥) }
+    ensures told { IfErr result (Tells (package_rules flow.now.linked.now) flow.now.method.now) }
 {
     match fall_to(flow, places, state, 0) {
         Ok(true) => follow(flow, places, caught, state, 0),
@@ -211,10 +227,12 @@ pub(crate) fn fill(flow: &Flow, places: &mut [Place<State>]) -> Result<(), WordF
     requires laws { HasLaws flow.now.linked.now }
     requires numbered { IsNumbered flow.now.numbers.now places.old }
     requires sized { length flow.now.numbers.now ≡ length flow.now.method.now.code }
+    requires ground { IsGroundOf flow.now.linked.now flow.now.method.now flow.now.numbers.now }
     requires empty { (n : ℕ) (p : PlaceOf StateWithRoom) → slice_get places.old n ≡ Some p → p.held ≡ None }
     requires short { length flow.now.method.now.code < 2 ^ 16 }
     ensures filled { IfOk result (λ u. IsFilled flow.now.linked.now flow.now.method.now flow.now.numbers.now places.old places.new) }
     ensures refused { IfErr result (λ fault. (pc : ℕ) (reason : Reason) → fault ≡ Refused pc reason → (typing : Typing) → IsCarrier flow.now.linked.now flow.now.method.now flow.now.numbers.now typing → ⊥) }
+    ensures told { IfErr result (Tells (package_rules flow.now.linked.now) flow.now.method.now) }
 {
     let method = flow.method;
     let mut state = State::entry(

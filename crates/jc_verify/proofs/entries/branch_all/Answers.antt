@@ -9,8 +9,8 @@ pub returns-in_err-branch_to-clause-refused : goal.returns-in_err-branch_to-clau
 returns-in_err-branch_to-clause-refused c =
     let p = err_from_is_err_and c.from_residual.result c.from_residual.ensures.1 in
     let within : c.loop-index.index < length c.targets-targets.result = omega (arith, c.loop-index-test.true, c.len-index-end.ensures) in
-    rw (p.1, p.2) (if_refusal c.in_err-branch_to.field-0.0 _ _ c.in_err-branch_to.ensures.refused (λ none m listing ground.
-    rw c.targets-targets.ensures at (off_one c.targets-targets.result c.loop-index.index within listing (none m listing ground))))
+    rw (p.1, p.2) (if_refusal c.in_err-branch_to.field-0.0 _ _ c.in_err-branch_to.ensures.refused (λ at why (here, is, none).
+    (here, is, λ m listing ground. rw c.targets-targets.ensures at (off_one c.targets-targets.result c.loop-index.index within listing (none m listing ground)))))
 
 pub loop-index-preserved : goal.loop-index-preserved
 loop-index-preserved c =

@@ -1,7 +1,11 @@
-use Rattle.std.proofs.Common.{rules}
+use Rattle.std.proofs.Common.{rules, ◌≡◌, ◌≢◌, ◌≤◌, [], length}
 use Rattle.std.proofs.lemmas.Result.{IfErr-weaker, err_from_is_err_and}
+use Rattle.jc_verify.proofs.Lists.{none_left}
 use Rattle.jc_verify.proofs.Refusing.{never_refused, never_stopped}
 use Rattle.jc_verify.proofs.Visiting.{if_ok}
+use Rattle.jc_verify.proofs.Ending.{tells_astray, tells_handler, tells_undecoded}
+use Rattle.jc_verify.specs.PrivateLive.{IsGround}
+use Rattle.jc_verify.specs.Told.{empty}
 use Rattle.jc_verify.proofs.entries.entries_of.Goals as goal
 
 pub returns-in_err-starts-clause-refused : goal.returns-in_err-starts-clause-refused
@@ -20,3 +24,32 @@ returns-clause-refused c =
 pub returns-clause-live : goal.returns-clause-live
 returns-clause-live c =
     if_ok c.follow_all.result _ _ c.follow_all.ensures.live (λ entries live. (live.0, λ listing whole. live.1 listing (search rules)))
+
+pub returns-in_err-starts-clause-told : goal.returns-in_err-starts-clause-told
+returns-in_err-starts-clause-told c =
+    let p = err_from_is_err_and c.from_residual.result c.from_residual.ensures.1 in
+    let stop = rw c.code-code.ensures at c.in_err-starts.ensures.err in
+    rw (p.1, p.2) (λ l. tells_undecoded l c.args.method.now c.in_err-starts.field-0.0.pc c.in_err-starts.field-0.0.reason stop.0 stop.1 stop.2)
+
+pub returns-then-is_empty-clause-told : goal.returns-then-is_empty-clause-told
+returns-then-is_empty-clause-told c =
+    let short : length c.code-code.result.now ≤ 0 = search rules in
+    let none : c.args.method.now.code ≡ [] = rw c.code-code.ensures at (none_left c.code-code.result.now short) in
+    rw c.refusal.ensures (λ l. empty none)
+
+pub returns-in_err-stand_handlers-clause-told : goal.returns-in_err-stand_handlers-clause-told
+returns-in_err-stand_handlers-clause-told c =
+    let p = err_from_is_err_and c.from_residual-in_err-stand_handlers.result c.from_residual-in_err-stand_handlers.ensures.1 in
+    let m = c.args.method.now in
+    let found = rw c.code-code.ensures at c.in_ok-starts.ensures.ok in
+    let some : m.code ≢ [] = search rules in
+    let told = rw c.handlers.ensures at c.in_err-stand_handlers.ensures.told in
+    rw (p.1, p.2) (λ l. tells_handler l m found.0 c.in_ok-starts.starts found.1 some c.in_err-stand_handlers.field-0.0.pc c.in_err-stand_handlers.field-0.0.reason (told m.code found.0 found.1))
+
+pub returns-clause-told : goal.returns-clause-told
+returns-clause-told c =
+    let m = c.args.method.now in
+    let found = rw c.code-code.ensures at c.in_ok-starts.ensures.ok in
+    let stand = rw c.handlers.ensures at c.in_ok-stand_handlers.ensures.ok in
+    let ground : IsGround m found.0 c.in_ok-starts.starts = record { laws = c.listing_laws.ensures.all; short = c.requires.short; decoded = found.1; handlers = stand m.code found.0 found.1 } in
+    IfErr-weaker c.follow_all.result _ _ (λ fault off l. tells_astray l m found.0 c.in_ok-starts.starts ground fault off) c.follow_all.ensures.refused

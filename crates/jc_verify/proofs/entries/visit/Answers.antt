@@ -10,8 +10,8 @@ pub returns-in_err-branch_all-clause-refused : goal.returns-in_err-branch_all-cl
 returns-in_err-branch_all-clause-refused c =
     let p = err_from_is_err_and c.from_residual-in_err-branch_all.result c.from_residual-in_err-branch_all.ensures.1 in
     let m = c.args.method.now in
-    rw (p.1, p.2) (if_refusal c.in_err-branch_all.field-0.0 _ _ c.in_err-branch_all.ensures.refused (λ off listing ground at h.
-    astray_by_branch m listing c.args.starts.now ground (placed c.args.pc c.args.instr.now) at (reached_now m listing c.args.pc c.args.followed.now h).live (off m listing ground)))
+    rw (p.1, p.2) (if_refusal c.in_err-branch_all.field-0.0 _ _ c.in_err-branch_all.ensures.refused (λ pc reason (here, is, off) listing ground at h.
+    astray_by_branch m listing c.args.starts.now ground (placed c.args.pc c.args.instr.now) at (reached_now m listing c.args.pc c.args.followed.now h).live pc reason (here, is, off m listing ground)))
 
 pub returns-clause-followed : goal.returns-clause-followed
 returns-clause-followed c =
@@ -35,5 +35,5 @@ returns-clause-followed c =
 pub returns-clause-refused : goal.returns-clause-refused
 returns-clause-refused c =
     let m = c.args.method.now in
-    if_err_refused c.fall.result _ _ c.fall.ensures.refused (λ off listing ground at h.
-    astray_behind m listing c.args.starts.now ground (placed c.args.pc c.args.instr.now) at (reached_now m listing c.args.pc c.args.followed.now h).live off)
+    if_err_refused c.fall.result _ _ c.fall.ensures.refused (λ pc reason off listing ground at h.
+    astray_behind m listing c.args.starts.now ground (placed c.args.pc c.args.instr.now) at (reached_now m listing c.args.pc c.args.followed.now h).live pc reason off)

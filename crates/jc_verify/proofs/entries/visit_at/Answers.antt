@@ -15,7 +15,7 @@ pub returns-in-Ok-clause-refused : goal.returns-in-Ok-clause-refused
 returns-in-Ok-clause-refused c =
     let m = c.args.method.now in
     let decoded = rw (c.code.ensures, c.from.ensures) at (sym c.in-Ok.ensures.instr) in
-    if_err_refused c.visit.result _ _ c.visit.ensures.refused (λ off listing ground h.
+    if_err_refused c.visit.result _ _ c.visit.ensures.refused (λ pc reason off listing ground h.
     off listing ground (placed_here ground.laws m.code listing c.args.pc c.in-Ok.instr ground.decoded.whole (reached_now m listing c.args.pc c.args.followed.now h).begin decoded) h)
 
 pub returns-in-Err-clause-refused : goal.returns-in-Err-clause-refused

@@ -1,9 +1,11 @@
-use Rattle.std.proofs.Common.{arith}
+use Rattle.std.specs.Option.{option_map}
+use Rattle.std.proofs.Common.{◌∙◌, ap, arith}
 use Rattle.std.proofs.lemmas.Option.{slice_get-get_or}
-use Rattle.jc_verify.proofs.Arriving.{arrived, leads_in, in_room, low_enough}
+use Rattle.jc_verify.specs.PrivateTold.{meets_unlike}
+use Rattle.jc_verify.proofs.Arriving.{arrived, at_number, leads_in, in_room, low_enough}
 use Rattle.jc_verify.proofs.Visiting.{if_err, if_ok, if_ok_both}
 use Rattle.jc_verify.proofs.Lying.{never_unlike, under_arrived}
-use Rattle.jc_verify.proofs.Naming.{named_arrived}
+use Rattle.jc_verify.proofs.Reaching.{reached_arrived}
 use Rattle.jc_verify.proofs.flow.arrive.Goals as goal
 
 pub returns-clause-grown : goal.returns-clause-grown
@@ -41,8 +43,17 @@ returns-clause-unlike c =
     if_err c.take_in.result _ _ c.take_in.ensures.unlike (λ why unlike is_unlike typing pc is under leads.
     never_unlike c.args.flow.now.linked.now c.requires.laws c.args.flow.now.method.now c.args.flow.now.numbers.now c.args.places.now c.requires.numbered typing under c.args.number pc _ c.args.state.now at is leads (unlike is_unlike))
 
-pub returns-clause-named : goal.returns-clause-named
-returns-clause-named c =
+pub returns-clause-reached : goal.returns-clause-reached
+returns-clause-reached c =
     let at = slice_get-get_or c.args.places.now c.args.number c.index-places-number.result c.requires.there in
     let taken = rw c.table.ensures.table at c.take_in.ensures.taken in
-    if_ok c.take_in.result _ _ taken (λ u taken. named_arrived c.args.flow.now.linked.now c.args.flow.now.method.now c.args.places.now c.args.number _ c.take_in.new.place at c.args.state.now taken)
+    let here = c.requires.here _ at in
+    if_ok_both c.take_in.result _ _ _ taken c.take_in.ensures.same (λ u taken same.
+    reached_arrived c.args.flow.now.linked.now c.args.flow.now.method.now c.args.places.now c.args.number _ c.take_in.new.place at same c.args.state.now taken c.requires.reached here)
+
+pub returns-clause-told : goal.returns-clause-told
+returns-clause-told c =
+    let at = slice_get-get_or c.args.places.now c.args.number c.index-places-number.result c.requires.there in
+    if_err c.take_in.result _ _ c.take_in.ensures.unlike (λ why unlike is pc at_pc.
+    let u = unlike is in
+    meets_unlike u.value.types (at_number c.args.flow.now.linked.now c.requires.laws c.args.flow.now.method.now c.args.flow.now.numbers.now c.args.places.now pc c.args.number _ at_pc at ∙ ap (option_map (λ s. s.types)) u.held) u.unlike)

@@ -1,11 +1,11 @@
 use Rattle.jc_check.specs.Package.{package_rules}
 use Rattle.jc_check.specs.Typing.{BranchLeads}
 use Rattle.jc_verify.specs.PrivateFlow.{ArePassed}
-use Rattle.jc_verify.specs.PrivateNames.{AreNamed, HasNames, KeepsNames}
+use Rattle.jc_verify.specs.PrivateTold.{AreReached}
 use Rattle.jc_verify.proofs.flow.branch_all.Given as goal
 
 abbrev pub invariant-loop-index : goal.invariant-loop-index
 invariant-loop-index l = record {
   passed : ArePassed l.flow.linked.now l.flow.method.now l.flow.numbers.now (λ typing. BranchLeads (package_rules l.flow.linked.now) typing l.state.types) l.targets l.index l.fn.places l.places;
-  named : KeepsNames l.flow.linked.now l.flow.method.now → AreNamed l.flow.linked.now.world l.fn.places → HasNames l.flow.linked.now.world l.state.types → AreNamed l.flow.linked.now.world l.places;
+  reached : AreReached l.flow.linked.now l.flow.method.now l.places;
 }

@@ -3,6 +3,8 @@ use Rattle.jc_check.specs.Package.{package_rules}
 use Rattle.jc_verify.proofs.Denying.{stop_told}
 use Rattle.jc_verify.proofs.Growing.{grown_self, grown_through, risen_through}
 use Rattle.jc_verify.specs.PrivateFlow.{ClosedIf, held_at}
+use Rattle.jc_verify.proofs.Ending.{tells_at}
+use Rattle.jc_verify.proofs.Reaching.{decoded_there}
 use Rattle.jc_verify.proofs.flow.follow.Goals as goal
 
 pub loop-instr-init : goal.loop-instr-init
@@ -13,7 +15,8 @@ loop-instr-init c = record {
   room = c.requires.room;
   within = c.requires.within;
   under = λ typing upper under leads. (under, leads);
-  named = λ keeps h names. (h, names);
+  reached = c.requires.reached;
+  here = c.requires.here;
   rest = λ final g h. h;
 }
 
@@ -33,7 +36,8 @@ loop-instr-preserved c =
           let now = c.loop-instr.invariant.under typing upper under leads in
           let next = visited.least typing upper now.0 now.1 in
           (next.0, next.1 c.in-Ok-true.field-0-test);
-      named = λ keeps h names. let now = c.loop-instr.invariant.named keeps h names in visited.named keeps now.0 now.1;
+      reached = visited.reached;
+      here = visited.next c.in-Ok-true.field-0-test;
       rest = λ final g h.
           let If : Bool → Type 0 = λ on. ClosedIf on (package_rules l) m numbers (held_at numbers final) c.in-Some.instr.next_pc c.visit.new.state.types in
           c.loop-instr.invariant.rest final (risen_through l c.requires.laws m numbers c.loop-instr.places c.visit.new.places final visited.grown.risen g) (visited.closed final g (subst If (sym c.in-Ok-true.field-0-test) h));
@@ -66,5 +70,10 @@ returns-in-Err-clause-refused c at reason is typing carrier under leads =
     let now = c.loop-instr.invariant.under typing carrier.upper under leads in
     c.in-Err.ensures.refused reason (stop_told c.loop-instr.pc at c.in-Err.stop reason (sym c.told_at-in-Err.ensures ∙ is)) typing carrier now.0 now.1
 
-pub returns-in-Ok-false-clause-named : goal.returns-in-Ok-false-clause-named
-returns-in-Ok-false-clause-named c keeps h names = let now = c.loop-instr.invariant.named keeps h names in (c.in-Ok-false.ensures.named keeps now.0 now.1).0
+pub returns-in-None-clause-told : goal.returns-in-None-clause-told
+returns-in-None-clause-told c =
+    absurd ((rw c.from.ensures at c.in-None.ensures.none)
+    (decoded_there c.args.flow.now.linked.now c.requires.laws c.args.flow.now.method.now c.args.flow.now.numbers.now c.requires.ground c.loop-instr.pc c.loop-instr.state.types c.loop-instr.invariant.here))
+
+pub returns-in-Err-clause-told : goal.returns-in-Err-clause-told
+returns-in-Err-clause-told c = rw c.told_at-in-Err.ensures (tells_at (package_rules c.args.flow.now.linked.now) c.args.flow.now.method.now c.loop-instr.pc c.in-Err.stop c.in-Err.ensures.told)

@@ -2,7 +2,7 @@ use Rattle.std.proofs.Common.{◌-◌, ◌<◌, length}
 use Rattle.jc_check.specs.Package.{package_rules}
 use Rattle.jc_check.specs.Typing.{Leads, Typing}
 use Rattle.jc_verify.specs.PrivateFlow.{Grown, HasRoom, IsClosed, IsNumbered, IsUnder, IsUpper, Places, Risen, held_at}
-use Rattle.jc_verify.specs.PrivateNames.{AreNamed, HasNames, KeepsNames}
+use Rattle.jc_verify.specs.PrivateTold.{AreReached, Reaches}
 use Rattle.jc_verify.proofs.flow.follow.Given as goal
 
 abbrev pub invariant-loop-instr : goal.invariant-loop-instr
@@ -14,8 +14,8 @@ invariant-loop-instr l = record {
   within : l.pc < length l.flow.method.now.code;
   under : (typing : Typing) → IsUpper l.flow.linked.now l.flow.method.now typing → IsUnder l.flow.linked.now l.flow.numbers.now l.fn.places typing → Leads (package_rules l.flow.linked.now) typing l.fn.state.types l.start
       → IsUnder l.flow.linked.now l.flow.numbers.now l.places typing × Leads (package_rules l.flow.linked.now) typing l.state.types l.pc;
-  named : KeepsNames l.flow.linked.now l.flow.method.now → AreNamed l.flow.linked.now.world l.fn.places → HasNames l.flow.linked.now.world l.fn.state.types
-      → AreNamed l.flow.linked.now.world l.places × HasNames l.flow.linked.now.world l.state.types;
+  reached : AreReached l.flow.linked.now l.flow.method.now l.places;
+  here : Reaches l.flow.linked.now l.flow.method.now l.pc l.state.types;
   rest : (final : Places) → Risen l.flow.linked.now l.flow.method.now l.flow.numbers.now l.places final
       → IsClosed (package_rules l.flow.linked.now) l.flow.method.now l.flow.numbers.now (held_at l.flow.numbers.now final) l.pc l.state.types
       → IsClosed (package_rules l.flow.linked.now) l.flow.method.now l.flow.numbers.now (held_at l.flow.numbers.now final) l.start l.fn.state.types;

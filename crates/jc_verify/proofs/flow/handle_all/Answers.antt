@@ -1,4 +1,4 @@
-use Rattle.std.proofs.Common.{List, length, refl, subst}
+use Rattle.std.proofs.Common.{List, length, refl, subst, sym}
 use Rattle.std.specs.List.{AllByRecursion, Contains}
 use Rattle.jc_check.specs.Method.{Handler}
 use Rattle.jc_check.specs.Package.{package_rules}
@@ -8,13 +8,15 @@ use Rattle.std.proofs.lemmas.Option.{slice_get_read}
 use Rattle.std.proofs.lemmas.Result.{err_from_is_err_and}
 use Rattle.jc_verify.proofs.Growing.{passed_none, passed_one}
 use Rattle.jc_verify.proofs.Passing.{all_at, contains_at}
+use Rattle.jc_verify.specs.PrivateTold.{IsHandlersWay}
+use Rattle.jc_verify.proofs.Ending.{if_refused}
 use Rattle.jc_verify.proofs.flow.handle_all.Goals as goal
 
 pub loop-index-init : goal.loop-index-init
 loop-index-init c = record {
   passed = passed_none c.args.flow.now.linked.now c.requires.laws c.args.flow.now.method.now c.args.flow.now.numbers.now _ _ c.args.places.now c.requires.numbered;
   room = c.requires.caught;
-  named = λ keeps h names. h;
+  reached = c.requires.reached;
 }
 
 pub loop-index-preserved : goal.loop-index-preserved
@@ -25,10 +27,7 @@ loop-index-preserved c =
           passed_one c.args.flow.now.linked.now c.requires.laws c.args.flow.now.method.now c.args.flow.now.numbers.now _ _ c.loop-index.index c.index-handlers-index.result c.args.places.now c.loop-index.places c.handle.new.places
           c.loop-index.invariant.passed at c.in_ok-handle.ensures.grown (λ final g. c.in_ok-handle.ensures.met final g) (λ typing under leads. c.in_ok-handle.ensures.least typing under leads);
       room = c.handle.ensures.caught;
-      named = λ keeps h names.
-          let among : Contains c.args.flow.now.method.now.handlers c.index-handlers-index.result =
-          subst (λ (hs : List Handler). Contains hs c.index-handlers-index.result) c.handlers-handlers.ensures (contains_at handlers c.loop-index.index c.index-handlers-index.result at) in
-          c.in_ok-handle.ensures.named keeps (c.loop-index.invariant.named keeps h names) (λ class is. keeps.caught c.index-handlers-index.result class c.args.state.now.types among is names);
+      reached = c.in_ok-handle.ensures.reached;
     }
 
 pub returns-in_err-handle-clause-refused : goal.returns-in_err-handle-clause-refused
@@ -41,3 +40,34 @@ returns-in_err-handle-clause-refused c =
     let have : AllByRecursion (HandlerHasPlace c.args.flow.now.numbers.now c.args.pc) handlers = rw c.handlers-handlers.ensures places in
     c.in_err-handle.ensures.refused reason is typing carrier (c.loop-index.invariant.passed.under typing under lead) (all_at _ handlers c.loop-index.index c.index-handlers-index.result at lead)
     (all_at _ handlers c.loop-index.index c.index-handlers-index.result at have))
+
+pub handle-requires-clause-here : goal.handle-requires-clause-here
+handle-requires-clause-here c class covered is =
+    let handlers = c.handlers-handlers.result.now in
+    let at = slice_get_read handlers (length handlers) c.loop-index.index c.index-handlers-index.result refl c.loop-index-test.true c.index-handlers-index.is in
+    let among : Contains c.args.flow.now.method.now.handlers c.index-handlers-index.result =
+    subst (λ (hs : List Handler). Contains hs c.index-handlers-index.result) c.handlers-handlers.ensures (contains_at handlers c.loop-index.index c.index-handlers-index.result at) in
+    c.requires.here c.index-handlers-index.result class among covered is
+
+pub handle-requires-clause-way : goal.handle-requires-clause-way
+handle-requires-clause-way c =
+    let handlers = c.handlers-handlers.result.now in
+    let at = slice_get_read handlers (length handlers) c.loop-index.index c.index-handlers-index.result refl c.loop-index-test.true c.index-handlers-index.is in
+    let ways : AllByRecursion (IsHandlersWay c.args.flow.now.numbers.now c.args.pc) handlers = rw c.handlers-handlers.ensures c.requires.ways in
+    all_at _ handlers c.loop-index.index c.index-handlers-index.result at ways
+
+pub returns-in_err-handle-clause-told : goal.returns-in_err-handle-clause-told
+returns-in_err-handle-clause-told c =
+    let p = err_from_is_err_and c.from_residual.result c.from_residual.ensures.1 in
+    let handlers = c.handlers-handlers.result.now in
+    let at = slice_get_read handlers (length handlers) c.loop-index.index c.index-handlers-index.result refl c.loop-index-test.true c.index-handlers-index.is in
+    let among : Contains c.args.flow.now.method.now.handlers c.index-handlers-index.result =
+    subst (λ (hs : List Handler). Contains hs c.index-handlers-index.result) c.handlers-handlers.ensures (contains_at handlers c.loop-index.index c.index-handlers-index.result at) in
+    rw (p.1, p.2) (if_refused c.in_err-handle.field-0.0 _ _ c.in_err-handle.ensures.told (λ reason u. record {
+      h = u.h;
+      class = u.class;
+      is = subst (Contains c.args.flow.now.method.now.handlers) (sym u.is) among;
+      covered = u.covered;
+      catches = u.catches;
+      untaken = u.untaken;
+    }))

@@ -6,6 +6,8 @@ use Rattle.jc_verify.proofs.Denying.{handled_there, has_effect, ways_there}
 use Rattle.jc_verify.proofs.Lying.{fine_down}
 use Rattle.jc_verify.proofs.Visiting.{if_err, if_ok, if_ok_both, closed_by}
 use Rattle.jc_verify.specs.PrivateFlow.{ends, held_at, placed}
+use Rattle.jc_verify.proofs.Ending.{if_refused}
+use Rattle.jc_verify.proofs.Reaching.{branch_reaches, branches_places, caught_reaches, falls_reaches, handlers_ways, told_effect, told_fallen, told_uncaught, told_unled}
 use Rattle.jc_verify.proofs.flow.visit.Goals as goal
 
 pub returns-then-falls_through-clause-grown : goal.returns-then-falls_through-clause-grown
@@ -96,13 +98,45 @@ returns-then-falls_through-clause-refused c =
     refused reason is typing (c.in_ok-branch_all.ensures.least typing (c.in_ok-handle_all.ensures.least typing under fine.handled) fine.branches) (fine.falls falls)
     ((ways_there l c.requires.laws m c.args.flow.now.numbers.now typing carrier c.args.pc c.args.instr.now c.args.state.now.types leads c.requires.decoded).within falls))
 
-pub returns-then-falls_through-clause-named : goal.returns-then-falls_through-clause-named
-returns-then-falls_through-clause-named c =
-    if_ok c.fall_to.result _ _ c.fall_to.ensures.named (λ on named keeps h names.
-    let after = keeps.effect c.args.instr.now.operation c.args.state.now.types c.take_effect.new.state.types names c.in_ok-take_effect.ensures.became in
-    (named keeps (c.in_ok-branch_all.ensures.named keeps (c.in_ok-handle_all.ensures.named keeps h names) after) after, after))
+-- ---- the states that flow, and what is told
 
-pub returns-else-falls_through-clause-named : goal.returns-else-falls_through-clause-named
-returns-else-falls_through-clause-named c keeps h names =
-    let after = keeps.effect c.args.instr.now.operation c.args.state.now.types c.take_effect.new.state.types names c.in_ok-take_effect.ensures.became in
-    (c.in_ok-branch_all.ensures.named keeps (c.in_ok-handle_all.ensures.named keeps h names) after, after)
+pub handle_all-requires-clause-here : goal.handle_all-requires-clause-here
+handle_all-requires-clause-here c = caught_reaches c.args.flow.now.linked.now c.requires.laws c.args.flow.now.method.now c.args.flow.now.numbers.now c.requires.ground c.args.pc c.args.state.now.types c.requires.here c.args.instr.now c.requires.decoded
+
+pub handle_all-requires-clause-ways : goal.handle_all-requires-clause-ways
+handle_all-requires-clause-ways c = handlers_ways c.args.flow.now.linked.now c.requires.laws c.args.flow.now.method.now c.args.flow.now.numbers.now c.requires.ground c.args.pc c.args.state.now.types c.requires.here c.args.instr.now c.requires.decoded
+
+pub branch_all-requires-clause-here : goal.branch_all-requires-clause-here
+branch_all-requires-clause-here c = branch_reaches c.args.flow.now.linked.now c.requires.laws c.args.flow.now.method.now c.args.flow.now.numbers.now c.requires.ground c.args.pc c.args.state.now.types c.requires.here c.args.instr.now c.requires.decoded c.take_effect.new.state.types c.in_ok-take_effect.ensures.became
+
+pub branch_all-requires-clause-places : goal.branch_all-requires-clause-places
+branch_all-requires-clause-places c = branches_places c.args.flow.now.linked.now c.requires.laws c.args.flow.now.method.now c.args.flow.now.numbers.now c.requires.ground c.args.pc c.args.state.now.types c.requires.here c.args.instr.now c.requires.decoded
+
+pub fall_to-requires-clause-here : goal.fall_to-requires-clause-here
+fall_to-requires-clause-here c = falls_reaches c.args.flow.now.linked.now c.requires.laws c.args.flow.now.method.now c.args.flow.now.numbers.now c.requires.ground c.args.pc c.args.state.now.types c.requires.here c.args.instr.now c.requires.decoded c.take_effect.new.state.types c.in_ok-take_effect.ensures.became (sym c.falls_through.ensures ∙ c.if-falls_through.true)
+
+pub returns-then-falls_through-clause-next : goal.returns-then-falls_through-clause-next
+returns-then-falls_through-clause-next c =
+    if_ok c.fall_to.result _ _ c.fall_to.ensures.within (λ on within is.
+    falls_reaches c.args.flow.now.linked.now c.requires.laws c.args.flow.now.method.now c.args.flow.now.numbers.now c.requires.ground c.args.pc c.args.state.now.types c.requires.here c.args.instr.now c.requires.decoded c.take_effect.new.state.types c.in_ok-take_effect.ensures.became (sym c.falls_through.ensures ∙ c.if-falls_through.true) within)
+
+pub returns-in_err-handle_all-clause-told : goal.returns-in_err-handle_all-clause-told
+returns-in_err-handle_all-clause-told c =
+    let p = err_from_is_err_and c.from_residual.result c.from_residual.ensures.1 in
+    rw (p.1, p.2) (if_refused c.in_err-handle_all.field-0.0 _ _ c.in_err-handle_all.ensures.told (told_uncaught c.args.flow.now.linked.now c.requires.laws c.args.flow.now.method.now c.args.flow.now.numbers.now c.requires.ground c.args.pc c.args.state.now.types c.requires.here c.args.instr.now c.requires.decoded))
+
+pub returns-in_err-take_effect-clause-told : goal.returns-in_err-take_effect-clause-told
+returns-in_err-take_effect-clause-told c =
+    let p = err_from_is_err_and c.from_residual-in_err-take_effect.result c.from_residual-in_err-take_effect.ensures.1 in
+    rw (p.1, p.2) (told_effect c.args.flow.now.linked.now c.requires.laws c.args.flow.now.method.now c.args.flow.now.numbers.now c.requires.ground c.args.pc c.args.state.now.types c.requires.here c.args.instr.now c.requires.decoded c.in_err-take_effect.field-0.0 c.in_err-take_effect.ensures.became)
+
+pub returns-in_err-branch_all-clause-told : goal.returns-in_err-branch_all-clause-told
+returns-in_err-branch_all-clause-told c =
+    let p = err_from_is_err_and c.from_residual-in_err-branch_all.result c.from_residual-in_err-branch_all.ensures.1 in
+    rw (p.1, p.2) (if_refused c.in_err-branch_all.field-0.0 _ _ c.in_err-branch_all.ensures.told (told_unled c.args.flow.now.linked.now c.requires.laws c.args.flow.now.method.now c.args.flow.now.numbers.now c.requires.ground c.args.pc c.args.state.now.types c.requires.here c.args.instr.now c.requires.decoded c.take_effect.new.state.types c.in_ok-take_effect.ensures.became))
+
+pub returns-then-falls_through-clause-told : goal.returns-then-falls_through-clause-told
+returns-then-falls_through-clause-told c =
+    let numbered = c.in_ok-branch_all.ensures.grown.risen.numbered (c.in_ok-handle_all.ensures.grown.risen.numbered c.requires.numbered) in
+    if_err c.fall_to.result _ _ c.fall_to.ensures.told (λ stop told.
+    if_refused stop _ _ told (told_fallen c.args.flow.now.linked.now c.requires.laws c.args.flow.now.method.now c.args.flow.now.numbers.now c.requires.ground c.args.pc c.args.state.now.types c.requires.here c.args.instr.now c.requires.decoded c.take_effect.new.state.types c.in_ok-take_effect.ensures.became (sym c.falls_through.ensures ∙ c.if-falls_through.true) c.branch_all.new.places numbered c.in_ok-branch_all.ensures.reached))

@@ -1,7 +1,9 @@
 use Rattle.std.proofs.Common.{◌<◌, ◌^◌, rules, ap, arith, map, subst, sym, refl, ◌∙◌}
 use Rattle.jc_cap_desc.specs.Shape.{MethodBody}
 use Rattle.jc_cert.specs.Cert.{rows, stated}
-use Rattle.jc_check.specs.Package.{method_of}
+use Rattle.jc_check.specs.Package.{method_of, package_rules}
+use Rattle.jc_verify.specs.PrivateTold.{Tells}
+use Rattle.jc_verify.specs.Told.{IsToldOf}
 use Rattle.jc_verify.specs.PrivateGathered.{IsPut}
 use Rattle.jc_verify.proofs.Telling.{carried_now, is_passed, isnt_passed, passed_over, told_now, without}
 use Rattle.jc_verify.proofs.Rows.{put}
@@ -32,6 +34,8 @@ returns-in-Err-Refused-clause-gathered c n at so_far =
     let l = c.args.linked.now in
     let b = c.args.body.now in
     let same = ap (λ (b : MethodBody). b.offset) c.body.view_is in
-    told_now l n b at c.args.gathered.now so_far _ c.told_at.result refl (c.told_at.ensures ∙ same)
+    told_now l n b at c.args.gathered.now so_far _ c.told_at.result refl (c.told_at.ensures.method ∙ same)
     (λ u e. let lt = isnt_passed c.args.gathered.now.told _ (sym c.is_passed_over.ensures ∙ c.if-is_passed_over.false) u e in omega (arith, lt, same))
     (without l (method_of l b) (c.requires.fit.named n b at) (c.in-Err-Refused.ensures.refused c.in-Err-Refused.pc c.in-Err-Refused.reason c.in-Err-Refused.field-0-is))
+    (subst (IsToldOf (package_rules l) (method_of l b)) (sym c.told_at.ensures.fault)
+    (subst (Tells (package_rules l) (method_of l b)) c.in-Err-Refused.field-0-is (c.in-Err-Refused.ensures.told (c.requires.fit.named n b at))))

@@ -1,4 +1,4 @@
-use Rattle.std.proofs.Common.{◌≡◌, inl, true, map, refl, rules, subst, sym}
+use Rattle.std.proofs.Common.{◌≡◌, ℕ, inl, true, map, refl, rules, subst, sym}
 use Rattle.jc_code.specs.Listing.{begins}
 use Rattle.jc_verify.specs.Live.{IsEntered}
 use Rattle.jc_cert.specs.Cert.{Stated, stated}
@@ -8,6 +8,7 @@ use Rattle.jc_verify.proofs.Bearing.{denied}
 use Rattle.jc_verify.proofs.Carrying.{carried, found_fine, held_kept, rows_each, rows_least, upper_of}
 use Rattle.jc_verify.proofs.Ordering.{in_order}
 use Rattle.jc_verify.proofs.Visiting.{if_err, if_ok}
+use Rattle.jc_verify.proofs.Starting.{none_past}
 use Rattle.jc_verify.proofs.method.states_of.Goals as goal
 
 pub returns-clause-inferred : goal.returns-clause-inferred
@@ -46,3 +47,24 @@ returns-clause-refused c =
     if_err c.rows_in.result _ _ (rw c.deref.ensures.value at c.rows_in.ensures.refused) (λ fault refused pc reason is.
     denied c.args.linked.now c.requires.laws c.args.method.now c.in_ok-numbered.numbered.numbers.items c.in_ok-numbered.numbered.places.items c.in_ok-entries.entries numbered.numbered entries.live entries.starts entries.entered entries.all
     numbered.entered (rw c.code.ensures at numbered.all) (refused pc reason is))
+
+pub rows_in-requires-clause-ground : goal.rows_in-requires-clause-ground
+rows_in-requires-clause-ground c =
+    let entries = c.in_ok-entries.ensures in
+    let listed = entries.listed in
+    let begin : (pc : ℕ) → IsEntered c.args.method.now listed.0 pc → begins listed.0 pc ≡ true = λ pc entered. entries.starts listed.0 listed.1 pc (entries.all listed.0 listed.1 pc entered) in
+    let has_place = rw c.code.ensures at c.in_ok-numbered.ensures.all in
+    record {
+      listing = listed.0;
+      whole = listed.1;
+      some = entries.some;
+      stand = entries.handlers listed.0 listed.1;
+      straight = entries.straight listed.0 listed.1;
+      begin = begin;
+      has_place = λ pc entered. rw c.deref.ensures.value (has_place pc (none_past c.requires.laws.listing c.args.method.now.code listed.0 pc listed.1 (begin pc entered)) (entries.all listed.0 listed.1 pc entered));
+    }
+
+pub returns-in_err-entries-clause-told : goal.returns-in_err-entries-clause-told
+returns-in_err-entries-clause-told c =
+    let p = err_from_is_err_and c.from_residual.result c.from_residual.ensures.1 in
+    rw (p.1, p.2) (λ keeps. c.in_err-entries.ensures.told c.args.linked.now)

@@ -1,10 +1,12 @@
 use Rattle.std.proofs.Common.{subst, sym, ◌∙◌}
 use Rattle.jc_check.specs.Package.{package_rules}
 use Rattle.jc_check.specs.Typing.{Leads}
-use Rattle.jc_verify.specs.PrivateNames.{HasNames}
 use Rattle.jc_verify.proofs.Denying.{stop_told}
 use Rattle.jc_verify.proofs.Growing.{grown_through}
 use Rattle.jc_verify.proofs.Visiting.{if_err, if_ok}
+use Rattle.jc_verify.specs.PrivateTold.{Reaches}
+use Rattle.jc_verify.proofs.Ending.{if_refused, tells_at}
+use Rattle.jc_verify.proofs.Reaching.{never_fallen, reached_first, reaches_entry}
 use Rattle.jc_verify.proofs.settle.enter.Goals as goal
 
 pub returns-in-Ok-true-clause-grown : goal.returns-in-Ok-true-clause-grown
@@ -33,11 +35,18 @@ returns-in-Err-clause-refused c pc reason is typing carrier under =
     let entry = subst (λ t. Leads (package_rules c.args.flow.now.linked.now) typing t 0) (sym c.requires.entry) carrier.upper.entry in
     c.in-Err.ensures.refused reason (stop_told 0 pc c.in-Err.stop reason (sym c.told_at.ensures ∙ is)) typing under entry carrier.some
 
-pub returns-in-Ok-true-clause-named : goal.returns-in-Ok-true-clause-named
-returns-in-Ok-true-clause-named c =
-    if_ok c.follow.result _ _ c.follow.ensures.named (λ u named keeps h.
-    let entry = subst (HasNames c.args.flow.now.linked.now.world) (sym c.requires.entry) keeps.entry in
-    named keeps (c.in-Ok-true.ensures.named keeps h entry) entry)
+pub fall_to-requires-clause-reached : goal.fall_to-requires-clause-reached
+fall_to-requires-clause-reached c = reached_first c.args.flow.now.linked.now c.args.flow.now.method.now c.args.places.now c.requires.empty
 
-pub returns-in-Ok-false-clause-named : goal.returns-in-Ok-false-clause-named
-returns-in-Ok-false-clause-named c keeps h = c.in-Ok-false.ensures.named keeps h (subst (HasNames c.args.flow.now.linked.now.world) (sym c.requires.entry) keeps.entry)
+pub fall_to-requires-clause-here : goal.fall_to-requires-clause-here
+fall_to-requires-clause-here c within = subst (Reaches c.args.flow.now.linked.now c.args.flow.now.method.now 0) (sym c.requires.entry) (reaches_entry c.args.flow.now.linked.now c.requires.laws c.args.flow.now.method.now c.args.flow.now.numbers.now c.requires.ground)
+
+pub follow-requires-clause-here : goal.follow-requires-clause-here
+follow-requires-clause-here c = subst (Reaches c.args.flow.now.linked.now c.args.flow.now.method.now 0) (sym c.requires.entry) (reaches_entry c.args.flow.now.linked.now c.requires.laws c.args.flow.now.method.now c.args.flow.now.numbers.now c.requires.ground)
+
+pub returns-in-Err-clause-told : goal.returns-in-Err-clause-told
+returns-in-Err-clause-told c =
+    let l = c.args.flow.now.linked.now in
+    let m = c.args.flow.now.method.now in
+    rw c.told_at.ensures (tells_at (package_rules l) m 0 c.in-Err.stop (if_refused c.in-Err.stop _ _ c.in-Err.ensures.told (λ reason fallen.
+    absurd (never_fallen l m c.requires.laws c.args.flow.now.numbers.now c.args.places.now c.requires.empty c.requires.ground.some c.args.state.now.types reason fallen))))

@@ -9,7 +9,7 @@ pub loop-places-init : goal.loop-places-init
 loop-places-init c = record {
   risen = risen_self c.args.flow.now.linked.now c.requires.laws c.args.flow.now.method.now c.args.flow.now.numbers.now c.args.places.now;
   under = λ typing upper under. under;
-  named = λ keeps h. h;
+  reached = c.requires.reached;
   settled = c.requires.settled;
   caught = c.requires.caught;
   room = c.requires.room;
@@ -25,10 +25,10 @@ returns-then-not-has_changed-clause-under c typing upper under =
     let swept = swept_again c.args.flow.now.linked.now c.requires.laws c.args.flow.now.method.now c.args.flow.now.numbers.now _ _ c.loop-places.places c.sweep_forwards.new.places c.sweep_backwards.new.places c.in_ok-sweep_forwards.ensures.swept c.in_ok-sweep_backwards.ensures.swept in
     swept.under typing upper (c.loop-places.invariant.under typing upper under)
 
-pub returns-then-not-has_changed-clause-named : goal.returns-then-not-has_changed-clause-named
-returns-then-not-has_changed-clause-named c keeps h =
+pub returns-then-not-has_changed-clause-reached : goal.returns-then-not-has_changed-clause-reached
+returns-then-not-has_changed-clause-reached c =
     let swept = swept_again c.args.flow.now.linked.now c.requires.laws c.args.flow.now.method.now c.args.flow.now.numbers.now _ _ c.loop-places.places c.sweep_forwards.new.places c.sweep_backwards.new.places c.in_ok-sweep_forwards.ensures.swept c.in_ok-sweep_backwards.ensures.swept in
-    swept.named keeps (c.loop-places.invariant.named keeps h)
+    swept.reached c.loop-places.invariant.reached
 
 pub loop-places-smaller : goal.loop-places-smaller
 loop-places-smaller c =
@@ -42,7 +42,7 @@ loop-places-preserved c =
     record {
       risen = risen_through c.args.flow.now.linked.now c.requires.laws c.args.flow.now.method.now c.args.flow.now.numbers.now c.args.places.now c.loop-places.places c.sweep_backwards.new.places c.loop-places.invariant.risen swept.risen;
       under = λ typing upper under. swept.under typing upper (c.loop-places.invariant.under typing upper under);
-      named = λ keeps h. swept.named keeps (c.loop-places.invariant.named keeps h);
+      reached = swept.reached c.loop-places.invariant.reached;
       settled = swept.settled c.loop-places.invariant.settled;
       caught = c.in_ok-sweep_backwards.ensures.caught;
       room = c.in_ok-sweep_backwards.ensures.room;
@@ -58,3 +58,16 @@ returns-in_err-sweep_backwards-clause-refused c =
     let p = err_from_is_err_and c.from_residual-in_err-sweep_backwards.result c.from_residual-in_err-sweep_backwards.ensures.1 in
     rw (p.1, p.2) (λ pc reason is typing carrier under.
     c.in_err-sweep_backwards.ensures.refused pc reason is typing carrier (c.in_ok-sweep_forwards.ensures.swept.under typing carrier.upper (c.loop-places.invariant.under typing carrier.upper under)))
+
+pub returns-in_err-sweep_forwards-clause-told : goal.returns-in_err-sweep_forwards-clause-told
+returns-in_err-sweep_forwards-clause-told c =
+    let p = err_from_is_err_and c.from_residual.result c.from_residual.ensures.1 in
+    rw (p.1, p.2) c.in_err-sweep_forwards.ensures.told
+
+pub returns-in_err-sweep_backwards-clause-told : goal.returns-in_err-sweep_backwards-clause-told
+returns-in_err-sweep_backwards-clause-told c =
+    let p = err_from_is_err_and c.from_residual-in_err-sweep_backwards.result c.from_residual-in_err-sweep_backwards.ensures.1 in
+    rw (p.1, p.2) c.in_err-sweep_backwards.ensures.told
+
+pub sweep_backwards-requires-clause-reached : goal.sweep_backwards-requires-clause-reached
+sweep_backwards-requires-clause-reached c = c.in_ok-sweep_forwards.ensures.swept.reached c.loop-places.invariant.reached

@@ -1,6 +1,6 @@
 use Rattle.jc_check.specs.Typing.{Typing}
 use Rattle.jc_verify.specs.PrivateFlow.{HasRoom, IsUnder, IsUpper, Risen, left_in}
-use Rattle.jc_verify.specs.PrivateNames.{AreNamed, KeepsNames}
+use Rattle.jc_verify.specs.PrivateTold.{AreReached}
 use Rattle.jc_verify.specs.PrivateSettled.{IsSettled}
 use Rattle.jc_verify.proofs.settle.settle.Given as goal
 
@@ -8,7 +8,7 @@ abbrev pub invariant-loop-places : goal.invariant-loop-places
 invariant-loop-places l = record {
   risen : Risen l.flow.linked.now l.flow.method.now l.flow.numbers.now l.fn.places l.places;
   under : (typing : Typing) → IsUpper l.flow.linked.now l.flow.method.now typing → IsUnder l.flow.linked.now l.flow.numbers.now l.fn.places typing → IsUnder l.flow.linked.now l.flow.numbers.now l.places typing;
-  named : KeepsNames l.flow.linked.now l.flow.method.now → AreNamed l.flow.linked.now.world l.fn.places → AreNamed l.flow.linked.now.world l.places;
+  reached : AreReached l.flow.linked.now l.flow.method.now l.places;
   settled : IsSettled l.flow.linked.now l.flow.method.now l.flow.numbers.now l.places;
   caught : HasRoom l.flow.method.now l.caught;
   room : HasRoom l.flow.method.now l.state;

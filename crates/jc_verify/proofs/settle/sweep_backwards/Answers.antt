@@ -23,3 +23,11 @@ pub returns-in_err-follow_place-clause-refused : goal.returns-in_err-follow_plac
 returns-in_err-follow_place-clause-refused c =
     let p = err_from_is_err_and c.from_residual.result c.from_residual.ensures.1 in
     rw (p.1, p.2) (λ pc reason is typing carrier under. c.in_err-follow_place.ensures.refused pc reason is typing carrier (c.loop-number.invariant.swept.under typing carrier.upper under))
+
+pub returns-in_err-follow_place-clause-told : goal.returns-in_err-follow_place-clause-told
+returns-in_err-follow_place-clause-told c =
+    let p = err_from_is_err_and c.from_residual.result c.from_residual.ensures.1 in
+    rw (p.1, p.2) c.in_err-follow_place.ensures.told
+
+pub follow_place-requires-clause-reached : goal.follow_place-requires-clause-reached
+follow_place-requires-clause-reached c = c.loop-number.invariant.swept.reached c.requires.reached

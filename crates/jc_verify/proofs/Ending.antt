@@ -1,0 +1,80 @@
+-- What is told of a method where its inference ends.
+use Rattle.std.proofs.Common.{◌≡◌, ◌≢◌, ℕ, ◌+◌, ◌≤◌, true, List, [], ◌∷◌, length, drop, Some, Ok, Err, Result, refl, sym, ap, subst, ◌∙◌, slice_get}
+use Rattle.std.specs.Prelude.{⊤}
+use Rattle.jc_base.specs.Results.{◌>>=◌}
+use Rattle.jc_base.specs.declared.reason.Reason.{Reason}
+use Rattle.jc_base.specs.declared.reason.Reason.TheVariants.{CertMismatch}
+use Rattle.jc_code.specs.Instructions.{instr_at}
+use Rattle.jc_code.specs.Listing.{IsListing, PlacedInstr, StopsAt, begins}
+use Rattle.jc_code.specs.declared.fault.CodeFault.{CodeFault}
+use Rattle.jc_link.specs.Linked.{Linked}
+use Rattle.jc_check.specs.Carried.{HandlerStands}
+use Rattle.jc_check.specs.FirstFault.{fault_at as fault_of, handler_stands, handlers_stand, reason_of, told_at}
+use Rattle.jc_check.specs.Method.{Handler, Method}
+use Rattle.jc_check.specs.Package.{package_rules}
+use Rattle.jc_check.specs.Rules.{Rules}
+use Rattle.jc_check.specs.declared.fault.Fault.{Fault}
+use Rattle.jc_check.specs.declared.fault.WordFault.{WordFault}
+use Rattle.jc_check.specs.declared.fault.WordFault.TheVariants as faults
+use Rattle.jc_verify.specs.PrivateLive.{IfRefusal, IsAstray, IsDecoded, IsGround, leads}
+use Rattle.jc_verify.specs.PrivateStop.{fault_at, stop_of}
+use Rattle.jc_verify.specs.PrivateTold.{IfRefused, Tells, TellsAt}
+use Rattle.jc_verify.specs.Told.{IsToldOf, astray, empty, handler, undecoded}
+use Rattle.jc_verify.specs.declared.place.NotTaken.{NotTaken}
+use Rattle.jc_verify.specs.declared.place.NotTaken.TheVariants as taking
+use Rattle.jc_verify.specs.declared.stop.Stop.{Stop}
+use Rattle.jc_verify.specs.declared.stop.Stop.TheVariants.{Refused, Memory}
+use Rattle.jc_verify.proofs.Lists.{drop_get}
+
+pub tells_at : (rules : Rules) (m : Method) (pc : ℕ) (stop : Stop) → TellsAt rules m pc stop → Tells rules m (fault_at pc stop)
+tells_at rules m pc (Refused reason) h = h
+tells_at rules m pc Memory h = tt
+
+pub tells_undecoded : (l : Linked) (m : Method) (pc : ℕ) (reason : Reason) (why : CodeFault) → StopsAt instr_at m.code pc why → reason ≡ reason_of why → IsToldOf (package_rules l) m (fault_of pc reason)
+tells_undecoded l m pc reason why stop is = rw is (undecoded pc why stop)
+
+module _ (l : Linked) (m : Method) (listing : List PlacedInstr) (starts : List ℕ) where
+  pub tells_handler : IsDecoded m.code listing starts → m.code ≢ [] → (pc : ℕ) (reason : Reason) → handlers_stand listing m.handlers ≡ Err (fault_of pc reason) → IsToldOf (package_rules l) m (fault_of pc reason)
+  tells_handler decoded some pc reason e = handler listing (fault_of pc reason) decoded.whole some e
+
+  of_astray : IsGround m listing starts → {pc : ℕ} {reason : Reason} → IsAstray m listing pc reason → IsToldOf (package_rules l) m (fault_of pc reason)
+  of_astray ground (leads x reason at live off) = astray listing x reason ground.decoded.whole ground.handlers at live off
+
+  pub tells_astray : IsGround m listing starts → (fault : WordFault) → IfRefusal fault (λ at reason. (xs : List PlacedInstr) → IsGround m xs starts → IsAstray m xs at reason) → Tells (package_rules l) m fault
+  tells_astray ground (faults.Refused pc reason) off = of_astray ground (off listing ground)
+  tells_astray ground faults.Memory off = tt
+
+-- ---- handlers in order
+
+stands_ok : (listing : List PlacedInstr) (h : Handler) → HandlerStands listing h → handler_stands listing h ≡ Ok tt
+stands_ok listing h s = rw (s.begin, s.catches) refl
+
+unfold_one : (listing : List PlacedInstr) (h : Handler) (hs : List Handler) → handlers_stand listing (h ∷ hs) ≡ (told_at h.goes_on (handler_stands listing h) >>= λ _. handlers_stand listing hs)
+unfolding handlers_stand
+unfold_one listing h hs = refl
+
+pub stand_on : (listing : List PlacedInstr) (h : Handler) (hs : List Handler) → HandlerStands listing h → handlers_stand listing (h ∷ hs) ≡ handlers_stand listing hs
+stand_on listing h hs s = unfold_one listing h hs ∙ rw (stands_ok listing h s) refl
+
+pub stand_not : (listing : List PlacedInstr) (h : Handler) (hs : List Handler) (fault : Fault) → told_at h.goes_on (handler_stands listing h) ≡ Err fault → handlers_stand listing (h ∷ hs) ≡ Err fault
+stand_not listing h hs fault e = unfold_one listing h hs ∙ rw e refl
+
+pub stand_one : (listing : List PlacedInstr) (hs : List Handler) (k : ℕ) (h : Handler) → slice_get hs k ≡ Some h → HandlerStands listing h → handlers_stand listing (drop k hs) ≡ handlers_stand listing (drop (k + 1) hs)
+stand_one listing hs k h at s = ap (λ xs. handlers_stand listing xs) (drop_get hs k h at) ∙ stand_on listing h (drop (k + 1) hs) s
+
+pub stop_one : (listing : List PlacedInstr) (hs : List Handler) (k : ℕ) (h : Handler) (fault : Fault) → slice_get hs k ≡ Some h → told_at h.goes_on (handler_stands listing h) ≡ Err fault → handlers_stand listing (drop k hs) ≡ Err fault
+stop_one listing hs k h fault at e = ap (λ xs. handlers_stand listing xs) (drop_get hs k h at) ∙ stand_not listing h (drop (k + 1) hs) fault e
+
+-- ---- reasons
+
+pub if_refused : (stop : Stop) (P Q : Reason → Type 0) → IfRefused P stop → ((reason : Reason) → P reason → Q reason) → IfRefused Q stop
+if_refused (Refused reason) P Q h on = on reason h
+if_refused Memory P Q h on = tt
+
+pub never_told : (rules : Rules) (m : Method) (fault : WordFault) → ((pc : ℕ) (reason : Reason) → fault ≡ faults.Refused pc reason → ⊥) → Tells rules m fault
+never_told rules m (faults.Refused pc reason) never = absurd (never pc reason refl)
+never_told rules m faults.Memory never = tt
+
+pub stopped_by : (why : NotTaken) (P : Reason → Type 0) → (why ≡ taking.Unlike → P CertMismatch) → IfRefused P (stop_of why)
+stopped_by taking.Unlike P h = h refl
+stopped_by taking.Memory P h = tt

@@ -1,0 +1,113 @@
+-- Private. What is known of the states that places hold, and of what is told where control flow is refused to go on.
+use Rattle.std.specs.Prelude.{◌≡◌, ◌≢◌, ◌≤◌, ⊤, ℕ, ℤ, pos, true, false, List, [], length, Option, Some, Contains, slice_get}
+use Rattle.std.specs.List.{AllByRecursion}
+use Rattle.jc_base.specs.declared.reason.Reason.{Reason}
+use Rattle.jc_base.specs.declared.reason.Reason.TheVariants.{CertMismatch, FallsOff, NoTarget}
+use Rattle.jc_classes.specs.declared.name.ClassName.{ClassName}
+use Rattle.jc_code.specs.Listing.{IsListing, PlacedInstr, begins}
+use Rattle.jc_link.specs.Linked.{Linked}
+use Rattle.jc_types.specs.State.{StateWithRoom, Types, has_shape_of}
+use Rattle.jc_check.specs.Carried.{HandlerStands}
+use Rattle.jc_check.specs.FirstFault.{fault_at}
+use Rattle.jc_check.specs.Method.{Handler, Method, caught_types, covers}
+use Rattle.jc_check.specs.Package.{package_rules}
+use Rattle.jc_check.specs.Rules.{Rules}
+use Rattle.jc_check.specs.declared.fault.WordFault.{WordFault}
+use Rattle.jc_check.specs.declared.fault.WordFault.TheVariants as faults
+use Rattle.jc_verify.specs.Live.{IsEntered}
+use Rattle.jc_verify.specs.PrivateCarrier.{HasPlace}
+use Rattle.jc_verify.specs.PrivateFlow.{Places, held_at}
+use Rattle.jc_verify.specs.Told.{Flows, GoesStraight, IsToldOf}
+use Rattle.jc_verify.specs.declared.place.Place.{Place}
+use Rattle.jc_verify.specs.declared.stop.Stop.{Stop}
+use Rattle.jc_verify.specs.declared.stop.Stop.TheVariants.{Refused, Memory}
+
+-- a state flows to a pc, where an instruction begins
+pub record IsFlowing (rules : Rules) (m : Method) (listing : List PlacedInstr) (pc : ℕ) (t : Types) : Type 0 where
+  pub flows : Flows rules m listing pc t
+  pub begin : begins listing pc ≡ true
+
+-- so it is in the listing of a method's code
+abbrev pub Reaches : Linked → Method → ℕ → Types → Type 0
+Reaches l m pc t =
+    (listing : List PlacedInstr) → IsListing (package_rules l).decoder m.code listing
+    → IsFlowing (package_rules l) m listing pc t
+
+-- so it is of what places hold
+abbrev pub AreReached : Linked → Method → Places → Type 0
+AreReached l m places =
+    (n : ℕ) (p : Place StateWithRoom) (s : StateWithRoom) → slice_get places n ≡ Some p → p.held ≡ Some s
+    → Reaches l m p.pc s.types
+
+-- types meet others of another shape at a pc
+pub data MeetsUnlike (at : ℕ → Types → Type 0) (pc : ℕ) (t : Types) : Reason → Type 0 where
+  meets_unlike : (other : Types) → at pc other → has_shape_of other t ≡ false → MeetsUnlike at pc t CertMismatch
+
+-- what places hold at a pc
+abbrev pub IsHeldAt : List (Option ℕ) → Places → ℕ → Types → Type 0
+IsHeldAt numbers places pc t = held_at numbers places pc ≡ Some t
+
+-- what is caught isn't taken in: there is no room for it, or it meets types of another shape
+pub data IsUncaughtAt (l : Linked) (m : Method) (pc : ℕ) (t : Types) : Reason → Type 0 where
+  caught_no_room : m.max_stack ≡ 0 → IsUncaughtAt l m pc t CertMismatch
+  caught_unlike : (reason : Reason) → MeetsUnlike (Reaches l m) pc t reason → IsUncaughtAt l m pc t reason
+
+-- what a handler catches that covers a pc isn't taken in where it goes on
+pub record IsUncaught (l : Linked) (m : Method) (of : Handler → Type 0) (pc : ℕ) (s : Types) (r : Reason) : Type 0 where
+  pub h : Handler
+  pub class : ClassName
+  pub is : of h
+  pub covered : covers h pc ≡ true
+  pub catches : h.caught ≡ Some class
+  pub untaken : IsUncaughtAt l m h.goes_on (caught_types class s) r
+
+-- a branch isn't followed: it leads before the code, or what flows there meets types of another shape
+pub data IsUnled (l : Linked) (m : Method) (among : ℤ → Type 0) (t : Types) : Reason → Type 0 where
+  leads_before : (place : ℤ) → among place → ((pc : ℕ) → place ≡ pos pc → ⊥) → IsUnled l m among t NoTarget
+  leads_unlike : (pc : ℕ) (reason : Reason) → among (pos pc) → MeetsUnlike (Reaches l m) pc t reason
+      → IsUnled l m among t reason
+
+-- what goes on to a pc isn't followed: the code ends before it, or it meets types of another shape
+pub data IsFallen (m : Method) (at : ℕ → Types → Type 0) (pc : ℕ) (t : Types) : Reason → Type 0 where
+  falls_past : length m.code ≤ pc → IsFallen m at pc t FallsOff
+  falls_unlike : (reason : Reason) → MeetsUnlike at pc t reason → IsFallen m at pc t reason
+
+-- where a handler covers a pc it catches a class, and there is a place where it goes on
+pub record IsWay (numbers : List (Option ℕ)) (h : Handler) : Type 0 where
+  pub class : ClassName
+  pub catches : h.caught ≡ Some class
+  pub place : HasPlace numbers h.goes_on
+
+abbrev pub IsHandlersWay : List (Option ℕ) → ℕ → Handler → Type 0
+IsHandlersWay numbers pc h = covers h pc ≡ true → IsWay numbers h
+
+-- what handlers catch at a pc flows where they go on
+abbrev pub AreCaught : Linked → Method → ℕ → Types → Type 0
+AreCaught l m pc s =
+    (h : Handler) (class : ClassName) → Contains m.handlers h → covers h pc ≡ true → h.caught ≡ Some class
+    → Reaches l m h.goes_on (caught_types class s)
+
+-- it holds of the reason where something is refused
+abbrev pub IfRefused : (Reason → Type 0) → Stop → Type 0
+IfRefused holds (Refused reason) = holds reason
+IfRefused holds Memory = ⊤
+
+-- where something is refused, that is told of the method
+abbrev pub Tells : Rules → Method → WordFault → Type 0
+Tells rules m (faults.Refused pc reason) = IsToldOf rules m (fault_at pc reason)
+Tells rules m faults.Memory = ⊤
+
+-- the same at a pc
+abbrev pub TellsAt : Rules → Method → ℕ → Stop → Type 0
+TellsAt rules m pc = IfRefused (λ reason. IsToldOf rules m (fault_at pc reason))
+
+-- the listing of a method's code; its handlers stand, nothing that is reached leads astray, and where control flow
+-- enters an instruction begins and there is a place
+pub record IsGroundOf (l : Linked) (m : Method) (numbers : List (Option ℕ)) : Type 0 where
+  pub listing : List PlacedInstr
+  pub whole : IsListing (package_rules l).decoder m.code listing
+  pub some : m.code ≢ []
+  pub stand : AllByRecursion (HandlerStands listing) m.handlers
+  pub straight : GoesStraight m listing
+  pub begin : (pc : ℕ) → IsEntered m listing pc → begins listing pc ≡ true
+  pub has_place : (pc : ℕ) → IsEntered m listing pc → HasPlace numbers pc

@@ -1,11 +1,10 @@
 -- What is told of a method where its inference ends.
-use Rattle.std.proofs.Common.{◌≡◌, ◌≢◌, ℕ, ◌+◌, ◌≤◌, true, List, [], ◌∷◌, length, drop, Some, Ok, Err, Result, refl, sym, ap, subst, ◌∙◌, slice_get}
-use Rattle.std.specs.Prelude.{⊤}
+use Rattle.std.proofs.Common.{◌≡◌, ◌≢◌, ℕ, ◌+◌, List, [], ◌∷◌, drop, Some, Ok, Err, refl, ap, ◌∙◌, slice_get}
 use Rattle.jc_base.specs.Results.{◌>>=◌}
 use Rattle.jc_base.specs.declared.reason.Reason.{Reason}
 use Rattle.jc_base.specs.declared.reason.Reason.TheVariants.{CertMismatch}
 use Rattle.jc_code.specs.Instructions.{instr_at}
-use Rattle.jc_code.specs.Listing.{IsListing, PlacedInstr, StopsAt, begins}
+use Rattle.jc_code.specs.Listing.{PlacedInstr, StopsAt}
 use Rattle.jc_code.specs.declared.fault.CodeFault.{CodeFault}
 use Rattle.jc_link.specs.Linked.{Linked}
 use Rattle.jc_check.specs.Carried.{HandlerStands}
@@ -19,7 +18,7 @@ use Rattle.jc_check.specs.declared.fault.WordFault.TheVariants as faults
 use Rattle.jc_verify.specs.PrivateLive.{IfRefusal, IsAstray, IsDecoded, IsGround, leads}
 use Rattle.jc_verify.specs.PrivateStop.{fault_at, stop_of}
 use Rattle.jc_verify.specs.PrivateTold.{IfRefused, Tells, TellsAt}
-use Rattle.jc_verify.specs.Told.{IsToldOf, astray, empty, handler, undecoded}
+use Rattle.jc_verify.specs.Told.{IsToldOf, astray, handler, undecoded}
 use Rattle.jc_verify.specs.declared.place.NotTaken.{NotTaken}
 use Rattle.jc_verify.specs.declared.place.NotTaken.TheVariants as taking
 use Rattle.jc_verify.specs.declared.stop.Stop.{Stop}

@@ -1,11 +1,9 @@
 -- Names of classes while places take in what flows.
-use Rattle.std.proofs.Common.{◌≡◌, ◌⊎◌, inl, inr, ℕ, ◌==◌, ◌&&◌, Bool, true, List, [], ◌∷◌, length, Ok, Option, Some, None, slice_get, slice_set, refl, sym, ap, subst, ◌∙◌}
+use Rattle.std.proofs.Common.{◌≡◌, ◌==◌, ◌&&◌, Bool, true, List, [], ◌∷◌, length, Ok, Some, refl, sym, subst, ◌∙◌}
 use Rattle.std.specs.Prelude.{reverse}
 use Rattle.std.specs.List.{AllByRecursion, Contains, list_all}
-use Rattle.std.specs.Option.{option_map}
-use Rattle.std.proofs.lemmas.Bool.{cases_eq, eq-eqb}
+use Rattle.std.proofs.lemmas.Bool.{eq-eqb}
 use Rattle.std.proofs.lemmas.List.{reverse-append, reverse-reverse}
-use Rattle.std.proofs.lemmas.Option.{none-some, same_Some, slice_get_within}
 use Rattle.jc_base.proofs.Binding.{both_true}
 use Rattle.jc_cap_desc.specs.Shape.{Shape}
 use Rattle.jc_classes.specs.Subtype.{common_class, is_class_at, is_class_below}
@@ -13,16 +11,14 @@ use Rattle.jc_classes.specs.declared.name.ClassName.{ClassName}
 use Rattle.jc_code.specs.declared.instr.Operation.{Operation}
 use Rattle.jc_link.specs.Linked.{Linked}
 use Rattle.jc_types.specs.Known.{AreKnown, is_known}
-use Rattle.jc_types.specs.State.{IsJoin, StateWithRoom, Types, has_shape_of, joined_types, types_below}
+use Rattle.jc_types.specs.State.{IsJoin, Types, has_shape_of, joined_types, types_below}
 use Rattle.jc_types.specs.declared.ty.Ty.{Ty}
 use Rattle.jc_types.specs.declared.ty.Ty.TheVariants.{Top, Word, Null, Class, BooleanArray, ByteArray, ShortArray, ReferenceArray}
 use Rattle.jc_check.specs.Method.{Handler, Method, entry_of}
 use Rattle.jc_check.specs.Package.{package_rules}
-use Rattle.jc_verify.specs.PrivateFlow.{Places, below_in}
+use Rattle.jc_verify.specs.PrivateFlow.{Places}
 use Rattle.jc_verify.specs.PrivateNames.{AreNamed, HasNames, HasUnnamed, KeepsNames, TypeHasName}
-use Rattle.jc_verify.specs.PrivatePlaces.{IsTakenIn, put, joined}
-use Rattle.jc_verify.specs.declared.place.Place.{Place}
-use Rattle.jc_verify.proofs.Arriving.{below_lengths, set_other, set_same}
+use Rattle.jc_verify.proofs.Arriving.{below_lengths}
 use Rattle.jc_verify.proofs.Lists.{all_more}
 
 pub never_unnamed : (l : Linked) (places : Places) → AreNamed l.world places → HasUnnamed l.world places → ⊥

@@ -1,26 +1,25 @@
 -- The states that flow to a pc, and what is told where control flow is refused to go on.
-use Rattle.std.proofs.Common.{◌≡◌, ◌≢◌, ◌⊎◌, inl, inr, ℕ, ℤ, pos, ◌<◌, ◌≤◌, true, false, List, [], ◌∷◌, length, Option, Some, None, Ok, Err, arith, refl, sym, ap, subst, ◌∙◌, slice_get, slice_set}
+use Rattle.std.proofs.Common.{◌≡◌, ◌≢◌, ◌⊎◌, inl, inr, ℕ, ℤ, pos, ◌<◌, true, List, [], length, Option, Some, None, Ok, Err, refl, sym, ap, subst, ◌∙◌, slice_get, slice_set}
 use Rattle.std.specs.List.{AllByRecursion, Contains}
 use Rattle.std.specs.Option.{option_map}
 use Rattle.std.proofs.lemmas.Bool.{cases_eq}
 use Rattle.std.proofs.lemmas.Option.{none-some, same_Some, slice_get_within}
 use Rattle.jc_base.specs.declared.reason.Reason.{Reason}
 use Rattle.jc_base.specs.declared.reason.Reason.TheVariants.{CertMismatch, FallsOff, NoTarget}
-use Rattle.jc_classes.specs.Subtype.{is_class_below}
 use Rattle.jc_classes.specs.declared.name.ClassName.{ClassName}
-use Rattle.jc_code.specs.Listing.{IsListing, PlacedInstr, begins, placed_at}
+use Rattle.jc_code.specs.Listing.{IsListing, PlacedInstr, placed_at}
 use Rattle.jc_code.specs.Targets.{falls_of, targets_of}
 use Rattle.jc_code.specs.declared.instr.Instr.{Instr}
 use Rattle.jc_link.specs.Linked.{Linked}
-use Rattle.jc_types.specs.State.{StateWithRoom, Types, has_shape_of}
+use Rattle.jc_types.specs.State.{StateWithRoom, Types}
 use Rattle.jc_check.specs.Carried.{HandlerStands}
 use Rattle.jc_check.specs.FirstFault.{fault_at}
 use Rattle.jc_check.specs.Method.{Handler, Method, caught_types, covers, entry_of}
 use Rattle.jc_check.specs.Package.{package_rules}
 use Rattle.jc_check.specs.Rules.{Rules}
 use Rattle.jc_verify.specs.Live.{IsEntered, IsLive, first, behind, by_branch, by_handler, branched, caught}
-use Rattle.jc_verify.specs.PrivateCarrier.{BranchHasPlace, HasPlace, IsDecodedAt}
-use Rattle.jc_verify.specs.PrivateFlow.{HasLaws, IsNumbered, Places, below_in, held_at, number_at, placed}
+use Rattle.jc_verify.specs.PrivateCarrier.{BranchHasPlace, IsDecodedAt}
+use Rattle.jc_verify.specs.PrivateFlow.{HasLaws, IsNumbered, Places, below_in, held_at, placed}
 use Rattle.jc_verify.specs.PrivateNames.{AreNamed, HasNames, KeepsNames}
 use Rattle.jc_verify.specs.PrivatePlaces.{IsTakenIn, put, joined}
 use Rattle.jc_verify.specs.PrivateTold.{AreReached, IsFallen, IsFlowing, IsGroundOf, IsHandlersWay, IsHeldAt, IsUncaught, IsUncaughtAt, IsUnled, MeetsUnlike, Reaches, caught_no_room, caught_unlike, falls_past, falls_unlike, leads_before, leads_unlike, meets_unlike}
@@ -29,7 +28,7 @@ use Rattle.jc_verify.specs.declared.place.Place.{Place}
 use Rattle.jc_verify.proofs.Arriving.{IsHeldBy, held_by, set_other, set_same}
 use Rattle.jc_verify.proofs.Carrying.{all_by_place}
 use Rattle.jc_verify.proofs.Lists.{none_left}
-use Rattle.jc_verify.proofs.Passing.{all_at, all_contained, contains_at}
+use Rattle.jc_verify.proofs.Passing.{all_at, contains_at}
 use Rattle.jc_verify.proofs.Starting.{behind_begins, first_begins, placed_begins, placed_here}
 
 -- ---- where states flow control flow goes

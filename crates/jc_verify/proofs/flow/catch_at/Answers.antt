@@ -4,10 +4,8 @@ use Rattle.jc_check.specs.Method.{Method}
 use Rattle.jc_check.specs.Package.{package_rules}
 use Rattle.jc_check.specs.Typing.{Leads}
 use Rattle.jc_verify.proofs.Denying.{no_room}
-use Rattle.jc_base.specs.declared.reason.Reason.{Reason}
 use Rattle.jc_check.specs.Method.{caught_types}
 use Rattle.jc_verify.specs.PrivateTold.{IfRefused, IsHeldAt, MeetsUnlike, caught_no_room, caught_unlike}
-use Rattle.jc_verify.proofs.Denying.{no_place}
 use Rattle.jc_verify.proofs.Ending.{if_refused}
 use Rattle.jc_verify.proofs.Reaching.{meets_reached}
 use Rattle.jc_verify.proofs.flow.catch_at.Goals as goal

@@ -2,7 +2,7 @@ use Rattle.std.proofs.Common.{ap, refl, subst, sym, ◌∙◌}
 use Rattle.jc_check.specs.Method.{Handler}
 use Rattle.jc_verify.specs.PrivateCarrier.{HasPlace}
 use Rattle.jc_verify.proofs.Lying.{catch_here}
-use Rattle.jc_verify.proofs.Visiting.{if_err, if_ok}
+use Rattle.jc_verify.proofs.Visiting.{if_err}
 use Rattle.jc_check.specs.Method.{caught_types}
 use Rattle.jc_verify.specs.PrivateTold.{IsUncaughtAt}
 use Rattle.jc_verify.proofs.Ending.{if_refused}

@@ -11,7 +11,8 @@ use Rattle.jc_cap_desc.specs.Shape.{Package, Shape}
 use Rattle.jc_classes.specs.Growth.{grown}
 use Rattle.jc_check.specs.Checked.{stated_for}
 use Rattle.jc_link.specs.Linked.{Linked}
-use Rattle.jc_verify.specs.Refusal.{IsFirstWithout}
+use Rattle.jc_check.specs.declared.fault.Fault.{Fault}
+use Rattle.jc_verify.specs.Refusal.{IsUncarried}
 use Rattle.jc_link.specs.Linked.{IsRefusal}
 use Rattle.jc_packages.specs.Verify.{AreLoaded, IsCarriedByNone, IsFirstRefusal, IsPackage, IsReadAs, IsRefused, MayBeShort}
 use Rattle.jc_packages.specs.Verify.AreLoaded.{next, none}
@@ -22,11 +23,16 @@ use Rattle.jc_packages.specs.declared.unlinked.Unlinked.{Unlinked}
 use Rattle.jc_packages.specs.declared.unlinked.Unlinked.TheVariants.{Memory, Refused}
 
 -- a package whose method no states carry is carried by no certificate
-pub carried_by_none : (l : Linked) (offset : ℕ) → IsFirstWithout l offset → IsCarriedByNone l offset
-carried_by_none l offset first = record {
-  first = first;
-  none = λ whole. first.without (record { states = stated_for whole.rows first.method.offset; carried = whole.carried.methods first.place first.method first.is });
-}
+pub carried_by_none : (l : Linked) (offset : ℕ) (fault : Fault) → IsUncarried l offset fault → IsCarriedByNone l offset fault
+carried_by_none l offset fault is =
+    let first = is.first in
+    record {
+      uncarried = is;
+      none = λ whole. first.without (record {
+        states = stated_for whole.rows first.method.offset;
+        carried = whole.carried.methods first.place first.method first.is;
+      });
+    }
 
 -- an image that can't be cut is refused
 pub uncut : (before : List Shape) (image : List ℕ) (fault : LoadFault)

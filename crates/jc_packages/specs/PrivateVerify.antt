@@ -57,6 +57,6 @@ pub record Leads (first : List Shape) (images : List (List ℕ)) (world : List S
 -- what is answered to a linked package
 abbrev pub IsInferred : Linked → VerifyAnswer → Type 0
 IsInferred l (Certificate bytes) = SpellCarrying l bytes.items
-IsInferred l (NoCertificate method fault) = IsCarriedByNone l method
+IsInferred l (NoCertificate method fault) = IsCarriedByNone l method fault
 IsInferred l (Refused fault) = ⊥
 IsInferred l Memory = ⊤

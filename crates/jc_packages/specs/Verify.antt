@@ -14,7 +14,8 @@ use Rattle.jc_classes.specs.Api.{api_world}
 use Rattle.jc_classes.specs.Growth.{grown}
 use Rattle.jc_link.specs.Linked.{IsLinked, Linked, most_in_world, refusal_of}
 use Rattle.jc_link.specs.WellFormed.{IsWellFormed}
-use Rattle.jc_verify.specs.Refusal.{IsFirstWithout}
+use Rattle.jc_check.specs.declared.fault.Fault.{Fault}
+use Rattle.jc_verify.specs.Refusal.{IsUncarried}
 use Rattle.jc_packages.specs.declared.verify_answer.VerifyAnswer.{VerifyAnswer}
 use Rattle.jc_packages.specs.declared.verify_answer.VerifyAnswer.TheVariants.{Certificate, NoCertificate, Refused, Memory}
 
@@ -87,20 +88,21 @@ pub record IsCertified (binding : Bound) (earlier : List (List ℕ)) (image byte
   pub after : IsLinkedAfter binding earlier image linked
   pub spelled : SpellCarrying linked bytes
 
--- no certificate carries a linked package: no states carry the method at an offset, and those before it can be carried
-pub record IsCarriedByNone (l : Linked) (offset : ℕ) : Type 0 where
-  pub first : IsFirstWithout l offset
+-- no certificate carries a linked package: no states carry the method at an offset, of which the fault is told, and those before it
+-- can be carried
+pub record IsCarriedByNone (l : Linked) (offset : ℕ) (fault : Fault) : Type 0 where
+  pub uncarried : IsUncarried l offset fault
   pub none : IsPackageCarried l → ⊥
 
 -- the package is linked behind the earlier ones, and no certificate carries it
-pub record IsUncertified (binding : Bound) (earlier : List (List ℕ)) (image : List ℕ) (offset : ℕ) : Type 0 where
+pub record IsUncertified (binding : Bound) (earlier : List (List ℕ)) (image : List ℕ) (offset : ℕ) (fault : Fault) : Type 0 where
   pub linked : Linked
   pub after : IsLinkedAfter binding earlier image linked
-  pub uncarried : IsCarriedByNone linked offset
+  pub uncarried : IsCarriedByNone linked offset fault
 
 -- the answer to a package behind earlier ones, under a binding; memory may be out for any answer but the refusals of reading the first
 abbrev pub IsVerified : Bound → List (List ℕ) → List ℕ → VerifyAnswer → Type 0
 IsVerified binding earlier image (Certificate bytes) = IsCertified binding earlier image bytes.items
-IsVerified binding earlier image (NoCertificate method fault) = IsUncertified binding earlier image method
+IsVerified binding earlier image (NoCertificate method fault) = IsUncertified binding earlier image method fault
 IsVerified binding earlier image (Refused fault) = IsFirstRefusal (api_world binding) (earlier ++ image ∷ []) fault
 IsVerified binding earlier image Memory = MayBeShort (api_world binding) (earlier ++ image ∷ [])

@@ -27,10 +27,6 @@ use Rattle.jc_classes.specs.declared.name.ClassName.TheVariants.{Api, Loaded}
 
 -- ---- options
 
-pub some_not_none : {A B : Type 0} (f : A → B) (o : Option A) (x : Option B) → is_some o ≡ true → option_map f o ≡ x → x ≡ None → ⊥
-some_not_none f None x s e n = true_false (sym s)
-some_not_none f (Some a) x s e n = none_some (f a) (sym n ∙ sym e)
-
 pub none_is_none : {A B : Type 0} (f : A → B) (o : Option A) (x : Option B) → is_some o ≡ false → option_map f o ≡ x → x ≡ None
 none_is_none f None x s e = sym e
 none_is_none f (Some a) x s e = absurd (true_false s)
@@ -58,9 +54,6 @@ whole_there world c e = some_there (class_at world c) (both_true (is_some (class
 
 whole_ends : (world : List Shape) (c : ClassName) → has_whole_chain world c ≡ true → comes_to_end world most_classes c ≡ true
 whole_ends world c e = (both_true (is_some (class_at world c)) (comes_to_end world most_classes c) e).1
-
-pub nothing_there : (world : List Shape) (c : ClassName) → class_at world c ≡ None → has_whole_chain world c ≡ true → ⊥
-nothing_there world c none whole = let k = whole_there world c whole in none_some k.0 (sym none ∙ k.1)
 
 there_index : (world : List Shape) (c : ClassName) (k : ClassShape) → class_at world c ≡ Some k → (i : ℕ) × (index_at world c ≡ Some i)
 there_index world c k e =
@@ -316,20 +309,3 @@ module _ (world : List Shape) (tables : List (List (Option Tabled))) (made : Lis
         by_chain c none true e =
             let k = whole_there world c e in
             absurd (no_gap most_classes c k.0 k.1 (whole_ends world c e) (omega arith) none)
-
--- ---- no packages
-
-pub no_tables : AreTables [] []
-no_tables = record {
-  count = refl;
-  right = λ c t e. let i = some_of (table_in [] (home_of c)) (index_at [] c) t e in absurd (none_some t i.2);
-  complete = λ c e. by_chain c (has_whole_chain [] c) refl;
-}
-  where
-    by_chain : (c : ClassName) (b : Bool) → has_whole_chain [] c ≡ b → b ≡ false
-    by_chain c false e = refl
-    by_chain c true e =
-        let k = whole_there [] c e in
-        let i = there_index [] c k.0 k.1 in
-        let w = index_within [] c i.0 i.1 in
-        absurd (omega (arith, w))

@@ -112,7 +112,8 @@ pub record AreTables (world : List Shape) (tables : List (List (Option Tabled)))
 pub record AreBefore (world : List Shape) (tables : List (List (Option Tabled))) : Type 0 where
   pub count : length world ≡ suc (length tables)
   pub right : (c : ClassName) (table : Tabled) → table_of world tables c ≡ Some table → IsTabled world c table
-  pub complete : (c : ClassName) → home_of c < length tables → table_of world tables c ≡ None → has_whole_chain world c ≡ false
+  pub complete : (c : ClassName) → home_of c < length tables → table_of world tables c ≡ None
+      → has_whole_chain world c ≡ false
 
 -- the tables of a package: those of the packages but the last, or those of the last one, as far as they are made
 abbrev pub rows_so_far : List (List (Option Tabled)) → List (Option Tabled) → ℕ → List (Option Tabled)
@@ -120,23 +121,30 @@ rows_so_far tables made home = unwrap_or (slice_get tables home) made
 
 -- the table of a class, if it is made
 abbrev pub table_so_far : List Shape → List (List (Option Tabled)) → List (Option Tabled) → ClassName → Option Tabled
-table_so_far world tables made c = option_and_then (place_at (rows_so_far tables made (home_of c))) (index_at world c)
+table_so_far world tables made c =
+    option_and_then (place_at (rows_so_far tables made (home_of c))) (index_at world c)
 
 -- the last package's tables are being made: each is right, those of the other packages are all there, and there is room
 pub record AreInMaking (world : List Shape) (tables : List (List (Option Tabled))) (made : List (Option Tabled)) : Type 0 where
   pub small : IsSmall world
   pub count : length world ≡ suc (length tables)
   pub right : (c : ClassName) (table : Tabled) → table_so_far world tables made c ≡ Some table → IsTabled world c table
-  pub before : (c : ClassName) → home_of c < length tables → table_so_far world tables made c ≡ None → has_whole_chain world c ≡ false
+  pub before : (c : ClassName) → home_of c < length tables → table_so_far world tables made c ≡ None
+      → has_whole_chain world c ≡ false
   pub room : (c : ClassName) (i : ℕ) → home_of c ≡ length tables → index_at world c ≡ Some i → i < length made
 
 -- a class has a superclass, and that has no table
 abbrev pub LacksTableAbove : List Shape → List (List (Option Tabled)) → List (Option Tabled) → ClassName → Type 0
-LacksTableAbove world tables made c = (d : ClassName) × (superclass_of world c ≡ Some d) × (table_so_far world tables made d ≡ None)
+LacksTableAbove world tables made c =
+    (d : ClassName) × (superclass_of world c ≡ Some d) × (table_so_far world tables made d ≡ None)
 
--- a class whose superclass chain comes to its end lacks a table only where its superclass does
+-- a class whose superclass chain comes to its end can have no table yet: its superclass has none
+abbrev pub IsWaiting : List Shape → List (List (Option Tabled)) → List (Option Tabled) → ClassName → Type 0
+IsWaiting world tables made c = has_whole_chain world c ≡ true → LacksTableAbove world tables made c
+
+-- a class has a table, or can have none yet
 abbrev pub IsSettled : List Shape → List (List (Option Tabled)) → List (Option Tabled) → ClassName → Type 0
-IsSettled world tables made c = table_so_far world tables made c ≡ None → has_whole_chain world c ≡ true → LacksTableAbove world tables made c
+IsSettled world tables made c = table_so_far world tables made c ≡ None → IsWaiting world tables made c
 
 -- how many places are empty
 abbrev pub empty_places : List (Option Tabled) → ℕ
@@ -153,7 +161,8 @@ pub record IsFurther (world : List Shape) (tables : List (List (Option Tabled)))
 -- the classes of the last package with these indexes are settled
 abbrev pub AreSettled : List Shape → List (List (Option Tabled)) → List (Option Tabled) → ℕ → ℕ → Type 0
 AreSettled world tables made first behind =
-    (c : ClassName) (i : ℕ) → home_of c ≡ length tables → index_at world c ≡ Some i → first ≤ i → i < behind → IsSettled world tables made c
+    (c : ClassName) (i : ℕ) → home_of c ≡ length tables → index_at world c ≡ Some i → first ≤ i → i < behind
+    → IsSettled world tables made c
 
 -- the name of the class with an index of the package that stands there
 abbrev pub name_placed : List Shape → ℕ → ℕ → Option ClassName

@@ -2,7 +2,9 @@
 
 ghost use Rattle.std.specs.Prelude.{◌≡◌, ◌+◌, ◌≤◌, ◌++◌, ◌∷◌, [], true, false, length, IfOk, IfErr, IfSome, IfNone};
 ghost use Rattle.std.specs.Option.{option_map};
-ghost use Rattle.jc_classes.specs.PrivateTables.{depth_above, index_at, table_of, table_so_far, name_placed, IsTabled, IsTabledAbove, AreTables, AreBefore, AreInMaking, LacksTableAbove, IsSettled, IsFurther, AreSettled};
+ghost use Rattle.jc_classes.specs.PrivateTables.{depth_above, index_at, name_placed, table_of, table_so_far};
+ghost use Rattle.jc_classes.specs.PrivateTables.{AreBefore, AreInMaking, AreSettled, AreTables};
+ghost use Rattle.jc_classes.specs.PrivateTables.{IsFurther, IsSettled, IsTabled, IsTabledAbove, IsWaiting, LacksTableAbove};
 ghost use Rattle.jc_classes.specs.Subtype.{has_whole_chain};
 ghost use Rattle.jc_classes.specs.World.{home_of};
 
@@ -14,7 +16,8 @@ use crate::walk::MOST_CLASSES;
 use std::alloc::{AllocError, Global};
 
 impl ClassTable {
-    /// The table of a class. There is none only where nothing stands there, or where the superclass chain has a cycle.
+    /// The table of a class or an interface. There is none only where neither stands there, or where the superclass chain
+    /// doesn't come to its end.
     pub(crate) fn table_of(&self, class: ClassName) -> Option<&MethodTable>
         ensures right { IfSome result (λ table. IsTabled self.now class table.now) }
         ensures none { IfNone result (has_whole_chain self.now class ≡ false) }
@@ -64,7 +67,7 @@ impl Shapes {
         class: ClassName,
     ) -> Option<Option<&'t MethodTable>>
         requires { AreInMaking self.now tables.now made.now }
-        ensures right { IfSome result (λ above. IsTabledAbove self.now class (option_map (λ t. t.now) above)) }
+        ensures right { IfSome result (λ a. IsTabledAbove self.now class (option_map (λ t. t.now) a)) }
         ensures none { IfNone result (LacksTableAbove self.now tables.now made.now class) }
     {
         let Some(above) = self.superclass_of(class) else {
@@ -76,7 +79,8 @@ impl Shapes {
         }
     }
 
-    /// The table of a class or an interface. `None` where nothing stands there, or where the class above has no table yet.
+    /// The table of a class or an interface. `None` where neither stands there, or where the class above has no table yet. A
+    /// chain of as many classes as there can be has a cycle.
     fn table_made(
         &self,
         alloc: Global,
@@ -86,7 +90,7 @@ impl Shapes {
     ) -> Result<Option<MethodTable>, AllocError>
         requires { AreInMaking self.now tables.now made.now }
         ensures right { IfOk result (λ found. IfSome found (λ table. IsTabled self.now class table)) }
-        ensures none { IfOk result (λ found. IfNone found (has_whole_chain self.now class ≡ true → LacksTableAbove self.now tables.now made.now class)) }
+        ensures none { IfOk result (λ found. IfNone found (IsWaiting self.now tables.now made.now class)) }
     {
         let Some(found) = self.class_at(class) else {
             return Ok(None);
@@ -116,7 +120,7 @@ impl Shapes {
         requires making { AreInMaking self.now tables.now made.old }
         requires last { home_of class ≡ length tables.now }
         ensures further { IfOk result (λ changed. IsFurther self.now tables.now made.old made.new changed) }
-        ensures settled { IfOk result (λ changed. changed ≡ false → IsSettled self.now tables.now made.new class) }
+        ensures settled { IfOk result (λ b. b ≡ false → IsSettled self.now tables.now made.new class) }
     {
         if self.table_so_far(tables, made, class).is_some() {
             return Ok(false);
@@ -153,7 +157,7 @@ impl Shapes {
         requires making { AreInMaking self.now tables.now made.old }
         requires few { length tables.now ≤ 256 }
         ensures further { IfOk result (λ changed. IsFurther self.now tables.now made.old made.new changed) }
-        ensures settled { IfOk result (λ changed. changed ≡ false → AreSettled self.now tables.now made.new index (index + 1)) }
+        ensures settled { IfOk result (λ b. b ≡ false → AreSettled self.now tables.now made.new index (index + 1)) }
     {
         match self.name_placed(tables.len(), index) {
             Some(class) => self.fill_class(alloc, tables, made, class),
@@ -172,7 +176,7 @@ impl Shapes {
         requires making { AreInMaking self.now tables.now made.old }
         requires few { length tables.now ≤ 256 }
         ensures further { IfOk result (λ changed. IsFurther self.now tables.now made.old made.new changed) }
-        ensures settled { IfOk result (λ changed. changed ≡ false → AreSettled self.now tables.now made.new 0 count) }
+        ensures settled { IfOk result (λ b. b ≡ false → AreSettled self.now tables.now made.new 0 count) }
     {
         let mut changed = false;
         for index in 0..count {
@@ -182,7 +186,7 @@ impl Shapes {
         Ok(changed)
     }
 
-    /// The same again until no table is made: a class is behind the class above it.
+    /// The same again until no table is made: a class's table is made behind that of the class above it.
     fn fill_all(
         &self,
         alloc: Global,

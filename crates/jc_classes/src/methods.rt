@@ -124,8 +124,8 @@ impl ClassTable {
         }
     }
 
-    /// The virtual method of a class at a token, asked for the package that stands there: what its table has, or what a walk
-    /// finds where it has none.
+    /// The virtual method of a class at a token, asked for the package that stands there: what its table has. Where it has
+    /// none, no class stands there or its superclass chain has a cycle: then it is what a walk finds.
     pub fn virtual_method_for(
         &self,
         class: ClassName,

@@ -26,7 +26,7 @@ use Rattle.jc_classes.specs.declared.name.ClassName.TheVariants.{Api, Loaded}
 
 -- ---- one name
 
-numbered_again : (a : ApiClass) → class_of (number_of a) ≡ Some a
+pub numbered_again : (a : ApiClass) → class_of (number_of a) ≡ Some a
 numbered_again Object = refl
 numbered_again Throwable = refl
 numbered_again Exception = refl
@@ -53,7 +53,7 @@ numbered_again Util = refl
 same_class : (a b : ApiClass) → number_of a ≡ number_of b → a ≡ b
 same_class a b e = the_some a b (sym (numbered_again a) ∙ ap class_of e ∙ numbered_again b)
 
-api_low : (p : ApiPackage) → api_home p < 2
+pub api_low : (p : ApiPackage) → api_home p < 2
 api_low Lang = omega arith
 api_low Framework = omega arith
 
@@ -87,7 +87,7 @@ found_passes p (y ∷ ys) x e = by_test (p y) refl e (found_passes p ys x)
     by_test true t e k = sym (ap p (the_some y x e)) ∙ t
     by_test false t e k = k e
 
-class_of_place : (world : List Shape) (c : ClassName) (n : ℕ) (small : IsSmall world) (e : place world c ≡ Some n) → (k : ClassShape) × (class_at world c ≡ Some k) × (k.offset ≡ offset_of c)
+pub class_of_place : (world : List Shape) (c : ClassName) (n : ℕ) (small : IsSmall world) (e : place world c ≡ Some n) → (k : ClassShape) × (class_at world c ≡ Some k) × (k.offset ≡ offset_of c)
 class_of_place world c n small e =
     let p = is_placed world c n small e in
     let k = there (p.shape).classes p.index p.within in
@@ -159,7 +159,7 @@ named_there world home ref c e =
     by_class d None at f = absurd (none_some c f)
     by_class d (Some k) at f = (k, ap (class_at world) (sym (the_some d c f)) ∙ at)
 
-position_if_found : {A : Type 0} (p : A → Bool) (xs : List A) (x : A) → find p xs ≡ Some x → (i : ℕ) × (position p xs ≡ Some i)
+pub position_if_found : {A : Type 0} (p : A → Bool) (xs : List A) (x : A) → find p xs ≡ Some x → (i : ℕ) × (position p xs ≡ Some i)
 position_if_found p xs x e =
     let at : slice_get xs (position_or_len p xs) ≡ Some x = sym (find_at p xs) ∙ e in
     let less = slice_get_within xs (position_or_len p xs) x at in

@@ -57,7 +57,7 @@ api_name_home home number c e =
     by_home true class e h = sym (ap home_of (the_some _ _ e)) ∙ h refl
     by_home false class e h = absurd (none_some c e)
 
-name_home : (home offset : ℕ) (c : ClassName) → name_in home offset ≡ Some c → home_of c ≡ home
+pub name_home : (home offset : ℕ) (c : ClassName) → name_in home offset ≡ Some c → home_of c ≡ home
 name_home home offset c e = by_home (nat_lt home 2) (ltb-false home 2) e
   where
     by_home : (b : Bool) → (b ≡ false → 2 ≤ home) → cond b (api_name home offset) (Some (Loaded (home - 1) offset)) ≡ Some c → home_of c ≡ home
@@ -127,7 +127,7 @@ module _ (world : List Shape) (more : Shape) where
   packages_keep (Loaded zero offset) h = refl
   packages_keep (Loaded (suc n) offset) h = at_home (suc (suc n)) h
 
-  classes_keep : (c : ClassName) → IsWithin world c → class_at (grown world more) c ≡ class_at world c
+  pub classes_keep : (c : ClassName) → IsWithin world c → class_at (grown world more) c ≡ class_at world c
   classes_keep c h = ap (option_and_then (class_in (offset_of c))) (packages_keep c h)
 
   imports_keep : (home token : ℕ) → home < length world → import_of (grown world more) home token ≡ import_of world home token

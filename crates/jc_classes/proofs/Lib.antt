@@ -4,6 +4,7 @@ mod Numbering
 mod Small
 mod Placing
 mod Tabling
+mod Filling
 mod Walking
 mod Marking
 mod Passing

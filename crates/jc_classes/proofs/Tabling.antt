@@ -1,21 +1,21 @@
 -- Tables of the methods of classes.
-use Rattle.std.proofs.Common.{◌≡◌, ◌⊎◌, inl, inr, ℕ, zero, suc, ◌+◌, ◌-◌, ◌*◌, ◌<◌, ◌≤◌, ◌==◌, Bool, true, false, cond, List, [], ◌∷◌, ◌++◌, length, take, get_or, set, Option, Some, None, refl, sym, ap, subst, ◌∙◌, arith, nat_lt, slice_get, unwrap_or, length-append, append-nil, add-one}
+use Rattle.std.proofs.Common.{◌≡◌, ◌⊎◌, inl, inr, ℕ, zero, suc, ◌+◌, ◌-◌, ◌*◌, ◌<◌, ◌≤◌, ◌==◌, ◌&&◌, Bool, true, false, cond, List, [], ◌∷◌, ◌++◌, length, take, get_or, Option, Some, None, refl, sym, ap, subst, ◌∙◌, arith, nat_lt, is_some, slice_get, unwrap_or, length-append, add-one}
 use Rattle.std.proofs.lemmas.Bool.{cases_lt, le-ltb, ltb-true, ltb-false, ne_eqb}
-use Rattle.std.proofs.lemmas.List.{length-set, length-take}
 use Rattle.std.proofs.lemmas.List.Elements.{filter_map-append}
 use Rattle.std.proofs.Math.Seq.{take-suc}
-use Rattle.std.proofs.lemmas.Option.{slice_get_past, slice_get_within, slice_get-get_or}
+use Rattle.std.proofs.lemmas.Option.{slice_get_past, slice_get_within}
 use Rattle.std.specs.List.{find, position, filter_map, cons_option}
 use Rattle.std.specs.Option.{option_map, option_and_then, option_map_or, option_to_list}
-use Rattle.jc_base.proofs.Binding.{the_some, none_some}
+use Rattle.jc_base.proofs.Binding.{none_some}
 use Rattle.jc_cap_class.specs.Interfaces.{Implemented}
 use Rattle.jc_cap_class.specs.declared.record.RecordBody.{RecordBody}
 use Rattle.jc_cap_class.specs.declared.record.RecordBody.TheVariants.{Interface, Class}
 use Rattle.jc_cap_desc.specs.Shape.{ClassShape, Shape}
-use Rattle.jc_classes.proofs.Growing.{get_before, packages_keep, superclasses_keep, superclass_within, virtual_methods_keep, listings_found_keep}
+use Rattle.jc_classes.proofs.Growing.{get_before, packages_keep, classes_keep, superclasses_keep, superclass_within, virtual_methods_keep, listings_found_keep}
 use Rattle.jc_classes.proofs.Below.{one_place}
 use Rattle.jc_classes.proofs.Passing.{some_of, package_there}
 use Rattle.jc_classes.proofs.Marking.{true_false}
+use Rattle.jc_classes.proofs.Walking.{most_is}
 use Rattle.jc_classes.specs.Growth.{grown, IsWithin}
 use Rattle.jc_classes.specs.Limits.{IsSmall}
 use Rattle.jc_classes.specs.Names.{is_same_name}
@@ -24,10 +24,10 @@ use Rattle.jc_classes.specs.Record.{interface_rows}
 use Rattle.jc_cap_class.specs.Component.{is_class}
 use Rattle.jc_classes.specs.Methods.{is_this, table_visit, record_visit, virtual_visit, virtual_method_of, package_visible, interface_visit, listing_visit, indexes_visit, row_for}
 use Rattle.jc_classes.specs.PrivatePlaces.{place_at}
-use Rattle.jc_classes.specs.PrivateTables.{Listed, Tabled, row_at, entry_in, indexes_in, depth_above, entry_above, visible_above, listed_above, IsTabled, IsTabledAbove, entry_made, listed_row, index_at, table_in, IsPut, AreTables, IsWhole}
-use Rattle.jc_classes.specs.Subtype.{comes_to_end}
+use Rattle.jc_classes.specs.PrivateTables.{Listed, Tabled, no_methods, row_at, entry_in, indexes_in, depth_above, entry_above, visible_above, listed_above, IsTabled, IsTabledAbove, entry_made, listed_row, index_at, table_in, table_of, AreTables, AreBefore}
+use Rattle.jc_classes.specs.Subtype.{comes_to_end, has_whole_chain}
 use Rattle.jc_classes.specs.Walk.{most_classes, found_from, walk, found}
-use Rattle.jc_classes.specs.World.{home_of, offset_of, package_at, class_at, class_named, superclass_of}
+use Rattle.jc_classes.specs.World.{home_of, offset_of, package_at, class_at, class_named, superclass_ref, superclass_of}
 use Rattle.jc_classes.specs.declared.name.ClassName.{ClassName}
 use Rattle.jc_classes.specs.declared.name.MethodName.{MethodName}
 use Rattle.jc_classes.specs.declared.walk.Visit.{Visit}
@@ -55,9 +55,18 @@ one_visit visit world n c k e h at =
 
 -- ---- tables of the class above
 
+one_at_least : (world : List Shape) (c : ClassName) (n : ℕ) → comes_to_end world n c ≡ true → 1 ≤ n
+one_at_least world c zero e = absurd (true_false (sym e))
+one_at_least world c (suc n) e = omega arith
+
+one_more : (world : List Shape) (c d : ClassName) (depth : ℕ) → superclass_of world c ≡ Some d → ((n : ℕ) → comes_to_end world n d ≡ true → depth ≤ n) → (n : ℕ) → comes_to_end world n c ≡ true → suc depth ≤ n
+one_more world c d depth s least zero e = absurd (true_false (sym e))
+one_more world c d depth s least (suc n) e = let l = least n (sym (ap (λ (o : Option ClassName). option_map_or (comes_to_end world n) o true) s) ∙ e) in omega (arith, l)
+
 pub none_above : (world : List Shape) (c : ClassName) → superclass_of world c ≡ None → IsTabledAbove world c None
 none_above world c e = record {
   ends = ap (λ (o : Option ClassName). option_map_or (comes_to_end world 0) o true) e;
+  least = one_at_least world c;
   methods = λ token asker b. sym (ap (option_and_then (λ d. virtual_method_of world d token asker)) e);
   interfaces = λ interface. sym (ap (option_and_then (found (interface_visit world interface) world)) e);
 }
@@ -65,6 +74,7 @@ none_above world c e = record {
 pub some_above : (world : List Shape) (c d : ClassName) (table : Tabled) → superclass_of world c ≡ Some d → IsTabled world d table → IsTabledAbove world c (Some table)
 some_above world c d table e t = record {
   ends = ap (λ (o : Option ClassName). option_map_or (comes_to_end world table.depth) o true) e ∙ t.ends;
+  least = one_more world c d table.depth e t.least;
   methods = λ token asker b. t.methods token asker b ∙ sym (ap (option_and_then (λ d. virtual_method_of world d token asker)) e);
   interfaces = λ interface. t.interfaces interface ∙ sym (ap (option_and_then (found (interface_visit world interface) world)) e);
 }
@@ -78,10 +88,46 @@ made_right world c k above table at up one few methods interfaces =
     let ends : comes_to_end world table.depth c ≡ true = ap (λ n. comes_to_end world n c) one ∙ up.ends in
     record {
       ends = ends;
+      least = λ n e. let l = up.least n e in omega (arith, one, l);
       depth = few;
       methods = λ token asker b. methods token asker b ∙ ap (found_from (record_visit world asker token (home_of c) k.body)) (up.methods token asker b) ∙ sym (one_visit (virtual_visit world asker token) world table.depth c k ends few at);
       interfaces = λ interface. interfaces interface ∙ ap (found_from (listing_visit world interface (home_of c) k.body)) (up.interfaces interface) ∙ sym (one_visit (interface_visit world interface) world table.depth c k ends few at);
     }
+
+-- ---- the table of an interface
+
+module _ (world : List Shape) (c : ClassName) (k : ClassShape) (at : class_at world c ≡ Some k) (not_class : is_class k.body ≡ false) where
+  nothing_above : superclass_of world c ≡ None
+  nothing_above = ap (λ (o : Option ClassShape). option_and_then (class_named world (home_of c)) (option_and_then (λ (k : ClassShape). superclass_ref k.body) o)) at ∙ by_body k.body not_class
+    where
+      by_body : (body : RecordBody) → is_class body ≡ false → option_and_then (class_named world (home_of c)) (superclass_ref body) ≡ None
+      by_body (Interface r) e = refl
+      by_body (Class r) e = absurd (true_false e)
+
+  ends_there : comes_to_end world 1 c ≡ true
+  ends_there = ap (λ (o : Option ClassName). option_map_or (comes_to_end world 0) o true) nothing_above
+
+  no_method : (token asker : ℕ) (rest : Option MethodName) (body : RecordBody) → is_class body ≡ false → found_from (record_visit world asker token (home_of c) body) rest ≡ None
+  no_method token asker rest (Interface r) e = refl
+  no_method token asker rest (Class r) e = absurd (true_false e)
+
+  no_row : (interface : ClassName) (rest : Option (List ℕ)) (body : RecordBody) → is_class body ≡ false → found_from (listing_visit world interface (home_of c) body) rest ≡ None
+  no_row interface rest (Interface r) e = refl
+  no_row interface rest (Class r) e = absurd (true_false e)
+
+  no_entry : (token asker : ℕ) (b : Bool) → cond b (place_at no_methods.public token) (place_at (row_at no_methods.visible asker) (token - package_visible)) ≡ None
+  no_entry token asker true = refl
+  no_entry token asker false = refl
+
+  pub interface_tabled : IsTabled world c no_methods
+  interface_tabled = record {
+    ends = ends_there;
+    least = one_at_least world c;
+    depth = omega (arith, most_is);
+    methods = λ token asker b. no_entry token asker (nat_lt token package_visible)
+        ∙ sym (one_visit (virtual_visit world asker token) world 1 c k ends_there (omega (arith, most_is)) at ∙ no_method token asker _ k.body not_class);
+    interfaces = λ interface. sym (one_visit (interface_visit world interface) world 1 c k ends_there (omega (arith, most_is)) at ∙ no_row interface _ k.body not_class);
+  }
 
 -- ---- worlds that grow
 
@@ -98,17 +144,10 @@ ends_keep world more (suc n) c w =
 table_grows : (world : List Shape) (more : Shape) (c : ClassName) (table : Tabled) → IsWithin world c → IsTabled world c table → IsTabled (grown world more) c table
 table_grows world more c table w t = record {
   ends = ends_keep world more table.depth c w ∙ t.ends;
+  least = λ n e. t.least n (sym (ends_keep world more n c w) ∙ e);
   depth = t.depth;
   methods = λ token asker b. t.methods token asker b ∙ sym (virtual_methods_keep world more c token asker w);
   interfaces = λ interface. t.interfaces interface ∙ sym (listings_found_keep world more interface c w);
-}
-
-table_shrinks : (world : List Shape) (more : Shape) (c : ClassName) (table : Tabled) → IsWithin world c → IsTabled (grown world more) c table → IsTabled world c table
-table_shrinks world more c table w t = record {
-  ends = sym (ends_keep world more table.depth c w) ∙ t.ends;
-  depth = t.depth;
-  methods = λ token asker b. t.methods token asker b ∙ virtual_methods_keep world more c token asker w;
-  interfaces = λ interface. t.interfaces interface ∙ listings_found_keep world more interface c w;
 }
 
 indexes_keep : (world : List Shape) (more : Shape) (c : ClassName) → IsWithin world c → index_at (grown world more) c ≡ index_at world c
@@ -119,91 +158,45 @@ table_within tables home index table e =
     let row = some_of (λ (row : List (Option Tabled)). place_at row index) (slice_get tables home) table e in
     slice_get_within tables home row.0 row.1
 
-index_within : (world : List Shape) (c : ClassName) (i : ℕ) → index_at world c ≡ Some i → IsWithin world c
+pub index_within : (world : List Shape) (c : ClassName) (i : ℕ) → index_at world c ≡ Some i → IsWithin world c
 index_within world c i e =
     let shape = some_of (λ (shape : Shape). position (λ (k : ClassShape). k.offset == offset_of c) shape.classes) (package_at world c) i e in
     slice_get_within world (home_of c) shape.0 (package_there world c shape.0 shape.1)
 
-pub tables_grow : (world : List Shape) (more : Shape) (tables : List (List (Option Tabled))) → AreTables world tables → AreTables (grown world more) tables
+table_keeps : (world : List Shape) (more : Shape) (tables : List (List (Option Tabled))) (c : ClassName) → IsWithin world c → table_of (grown world more) tables c ≡ table_of world tables c
+table_keeps world more tables c w = ap (option_and_then (table_in tables (home_of c))) (indexes_keep world more c w)
+
+chain_keeps : (world : List Shape) (more : Shape) (c : ClassName) → IsWithin world c → has_whole_chain (grown world more) c ≡ has_whole_chain world c
+chain_keeps world more c w =
+    ap (λ (o : Option ClassShape). is_some o && comes_to_end (grown world more) most_classes c) (classes_keep world more c w)
+    ∙ ap (λ b. is_some (class_at world c) && b) (ends_keep world more most_classes c w)
+
+pub tables_grow : (world : List Shape) (more : Shape) (tables : List (List (Option Tabled))) → AreTables world tables → AreBefore (grown world more) tables
 tables_grow world more tables t = record {
-  few = omega (arith, t.few, length-append world (more ∷ []));
-  right = λ c i table at e.
-      let less = table_within tables (home_of c) i table e in
-      let w : IsWithin world c = omega (arith, less, t.few) in
-      table_grows world more c table w (t.right c i table (sym (indexes_keep world more c w) ∙ at) e);
+  count = omega (arith, t.count, length-append world (more ∷ []));
+  right = λ c table e.
+      let i = some_of (table_in tables (home_of c)) (index_at (grown world more) c) table e in
+      let less = table_within tables (home_of c) i.0 table i.2 in
+      let w : IsWithin world c = omega (arith, less, t.count) in
+      table_grows world more c table w (t.right c table (sym (table_keeps world more tables c w) ∙ e));
+  complete = λ c less e.
+      let w : IsWithin world c = omega (arith, less, t.count) in
+      chain_keeps world more c w ∙ t.complete c (sym (table_keeps world more tables c w) ∙ e);
 }
 
-get_taken : {A : Type 0} (n : ℕ) (xs : List A) (i : ℕ) (x : A) → slice_get (take n xs) i ≡ Some x → slice_get xs i ≡ Some x
-get_taken zero xs i x e = absurd (none_some x e)
-get_taken (suc n) [] i x e = e
-get_taken (suc n) (y ∷ ys) zero x e = e
-get_taken (suc n) (y ∷ ys) (suc i) x e = get_taken n ys i x e
+-- ---- one class at one place
 
-table_taken : (n : ℕ) (tables : List (List (Option Tabled))) (home index : ℕ) (table : Tabled) → table_in (take n tables) home index ≡ Some table → table_in tables home index ≡ Some table
-table_taken n tables home index table e =
-    let row = some_of (λ (row : List (Option Tabled)). place_at row index) (slice_get (take n tables) home) table e in
-    ap (option_and_then (λ (row : List (Option Tabled)). place_at row index)) (get_taken n tables home row.0 row.1) ∙ row.2
-
-pub tables_shrink : (world : List Shape) (more : Shape) (tables : List (List (Option Tabled))) → AreTables (grown world more) tables → AreTables world (take (length world) tables)
-tables_shrink world more tables t = record {
-  few = omega (arith, length-take (length world) tables);
-  right = λ c i table at e.
-      let w = index_within world c i at in
-      table_shrinks world more c table w (t.right c i table (indexes_keep world more c w ∙ at) (table_taken (length world) tables (home_of c) i table e));
-}
-
--- ---- tables that change
-
-table_pushed : (tables : List (List (Option Tabled))) (row : List (Option Tabled)) (home index : ℕ) → ((i : ℕ) → place_at row i ≡ None) → table_in (tables ++ row ∷ []) home index ≡ table_in tables home index
-table_pushed [] row zero index none = none index
-table_pushed [] row (suc home) index none = refl
-table_pushed (first ∷ tables) row zero index none = refl
-table_pushed (first ∷ tables) row (suc home) index none = table_pushed tables row home index none
-
-pub tables_pushed : (world : List Shape) (tables : List (List (Option Tabled))) (row : List (Option Tabled)) → AreTables world tables → length tables < length world → ((i : ℕ) → place_at row i ≡ None) → AreTables world (tables ++ row ∷ [])
-tables_pushed world tables row t less none = record {
-  few = omega (arith, less, length-append tables (row ∷ []));
-  right = λ c i table at e. t.right c i table at (sym (table_pushed tables row (home_of c) i none) ∙ e);
-}
-
-placed_index : (world : List Shape) (c : ClassName) (i : ℕ) → index_at world c ≡ Some i → place world c ≡ Some (256 * home_of c + i)
+pub placed_index : (world : List Shape) (c : ClassName) (i : ℕ) → index_at world c ≡ Some i → place world c ≡ Some (256 * home_of c + i)
 placed_index world c i e = by_package (package_at world c) e
   where
     by_package : (o : Option Shape) → option_and_then (λ (shape : Shape). position (λ (k : ClassShape). k.offset == offset_of c) shape.classes) o ≡ Some i → option_and_then (place_in (home_of c) (offset_of c)) o ≡ Some (256 * home_of c + i)
     by_package None e = absurd (none_some i e)
     by_package (Some shape) e = ap (option_map (λ (i : ℕ). 256 * home_of c + i)) e
 
-one_class : (world : List Shape) (c d : ClassName) (i j : ℕ) → IsSmall world → index_at world c ≡ Some i → index_at world d ≡ Some j → home_of d ≡ home_of c → j ≡ i → c ≡ d
+pub one_class : (world : List Shape) (c d : ClassName) (i j : ℕ) → IsSmall world → index_at world c ≡ Some i → index_at world d ≡ Some j → home_of d ≡ home_of c → j ≡ i → c ≡ d
 one_class world c d i j small e f home same =
     let n : 256 * home_of d + j ≡ 256 * home_of c + i = omega (arith, home, same) in
     one_place world c d (256 * home_of c + i) small (placed_index world c i e) (placed_index world d j f ∙ ap Some n)
-
-table_set : (tables : List (List (Option Tabled))) (home : ℕ) (old new : List (Option Tabled)) (index : ℕ) (table : Tabled) → slice_get tables home ≡ Some old → IsPut old index table new
-    → (h i : ℕ) (t : Tabled) → table_in (set tables home new) h i ≡ Some t → (table_in tables h i ≡ Some t) ⊎ ((h ≡ home) × (i ≡ index) × (t ≡ table))
-table_set [] home old new index table at put h i t e = absurd (none_some old at)
-table_set (first ∷ tables) zero old new index table at put zero i t e = by_put (put i t e)
-  where
-    by_put : (place_at old i ≡ Some t) ⊎ ((i ≡ index) × (t ≡ table)) → (place_at first i ≡ Some t) ⊎ ((◌≡◌ {A = ℕ} 0 0) × (i ≡ index) × (t ≡ table))
-    by_put (inl before) = inl (ap (λ (row : List (Option Tabled)). place_at row i) (the_some first old at) ∙ before)
-    by_put (inr now) = inr (refl, now.0, now.1)
-table_set (first ∷ tables) zero old new index table at put (suc h) i t e = inl e
-table_set (first ∷ tables) (suc home) old new index table at put zero i t e = inl e
-table_set (first ∷ tables) (suc home) old new index table at put (suc h) i t e = by_put (table_set tables home old new index table at put h i t e)
-  where
-    by_put : (table_in tables h i ≡ Some t) ⊎ ((h ≡ home) × (i ≡ index) × (t ≡ table)) → (table_in tables h i ≡ Some t) ⊎ ((suc h ≡ suc home) × (i ≡ index) × (t ≡ table))
-    by_put (inl before) = inl before
-    by_put (inr now) = inr (ap suc now.0, now.1, now.2)
-
-pub tables_put : (world : List Shape) (tables : List (List (Option Tabled))) (c : ClassName) (old new : List (Option Tabled)) (index : ℕ) (table : Tabled) → IsSmall world → AreTables world tables → index_at world c ≡ Some index → slice_get tables (home_of c) ≡ Some old
-    → IsPut old index table new → IsTabled world c table → AreTables world (set tables (home_of c) new)
-tables_put world tables c old new index table small t at row put right = record {
-  few = omega (arith, t.few, length-set tables (home_of c) new);
-  right = λ d i u there e. by_put d i u there (table_set tables (home_of c) old new index table row put (home_of d) i u e);
-}
-  where
-    by_put : (d : ClassName) (i : ℕ) (u : Tabled) → index_at world d ≡ Some i → (table_in tables (home_of d) i ≡ Some u) ⊎ ((home_of d ≡ home_of c) × (i ≡ index) × (u ≡ table)) → IsTabled world d u
-    by_put d i u there (inl before) = t.right d i u there before
-    by_put d i u there (inr now) = subst (λ x. IsTabled world x u) (one_class world c d index i small at there now.0 now.1) (subst (IsTabled world c) (sym now.2) right)
 
 -- ---- what a table is to have
 
@@ -347,34 +340,3 @@ table_made world c k above table home e class at up one few =
     → ((asker i : ℕ) → i < 128 → place_at (row_at table.visible asker) i ≡ entry_made world above home k.body (128 + i) asker)
     → table.listed ≡ filter_map (listed_row world home) (interface_rows k.body) ++ listed_above above
     → IsTabled world c table) (sym e) (whole_table world c k above table class at up one few)
-
--- ---- a table that is put, a package that is dropped
-
-pub table_put : (world : List Shape) (tables : List (List (Option Tabled))) (c : ClassName) (home : ℕ) (old new : List (Option Tabled)) (index : ℕ) (table : Tabled) → IsWhole world tables → index_at world c ≡ Some index → home ≡ home_of c → home < length tables
-    → old ≡ get_or tables home old → IsPut old index table new → IsTabled world c table → IsWhole world (set tables home new)
-table_put world tables c home old new index table whole at e less here put right = record {
-  small = whole.small;
-  right =
-      let there : slice_get tables (home_of c) ≡ Some old = ap (slice_get tables) (sym e) ∙ slice_get-get_or tables home old less ∙ ap Some (sym here) in
-      subst (λ n. AreTables world (set tables n new)) (sym e) (tables_put world tables c old new index table whole.small whole.right at there put right);
-}
-
-tables_taken : (world : List Shape) (tables : List (List (Option Tabled))) → AreTables world tables → AreTables world (take (length world) tables)
-tables_taken world tables t = record {
-  few = omega (arith, length-take (length world) tables);
-  right = λ c i table at e. t.right c i table at (table_taken (length world) tables (home_of c) i table e);
-}
-
-small_shrinks : (world : List Shape) (more : Shape) → IsSmall (grown world more) → IsSmall world
-small_shrinks world more small = record {
-  packages = omega (arith, small.packages, length-append world (more ∷ []));
-  classes = λ i shape e. small.classes i shape (get_before world more i (slice_get_within world i shape e) ∙ e);
-}
-
-pub whole_popped : (world rest : List Shape) (last : Option Shape) (tables : List (List (Option Tabled))) → world ≡ rest ++ option_to_list last → IsWhole world tables → IsWhole rest (take (length rest) tables)
-whole_popped world rest None tables e whole =
-    let w = subst (λ w. IsWhole w tables) (e ∙ append-nil rest) whole in
-    record { small = w.small; right = tables_taken rest tables w.right }
-whole_popped world rest (Some more) tables e whole =
-    let w = subst (λ w. IsWhole w tables) e whole in
-    record { small = small_shrinks rest more w.small; right = tables_shrink rest more tables w.right }

@@ -1,5 +1,5 @@
 -- Private. Tables of the methods of classes, made from those of the classes above.
-use Rattle.std.specs.Prelude.{◌≡◌, ◌⊎◌, ℕ, suc, ◌-◌, ◌<◌, ◌≤◌, ◌==◌, true, List, [], Option, Some, None, length, nat_lt, slice_get, unwrap_or, if◌then◌else◌}
+use Rattle.std.specs.Prelude.{◌≡◌, ℕ, suc, ◌-◌, ◌<◌, ◌≤◌, ◌==◌, Bool, true, false, List, [], ◌∷◌, Option, Some, None, length, nat_lt, slice_get, unwrap_or, if◌then◌else◌}
 use Rattle.std.specs.List.{find, position}
 use Rattle.std.specs.Option.{option_map, option_and_then}
 use Rattle.jc_cap_class.specs.Interfaces.{Implemented}
@@ -9,9 +9,10 @@ use Rattle.jc_classes.specs.Limits.{IsSmall}
 use Rattle.jc_classes.specs.Methods.{record_visit, package_visible, virtual_method_of, interface_visit, indexes_visit, row_for}
 use Rattle.jc_classes.specs.Names.{is_same_name}
 use Rattle.jc_classes.specs.PrivatePlaces.{place_at}
-use Rattle.jc_classes.specs.Subtype.{comes_to_end}
+use Rattle.jc_classes.specs.PrivateSearch.{class_placed}
+use Rattle.jc_classes.specs.Subtype.{comes_to_end, has_whole_chain}
 use Rattle.jc_classes.specs.Walk.{found, found_from, most_classes}
-use Rattle.jc_classes.specs.World.{home_of, offset_of, package_at, class_named, superclass_of}
+use Rattle.jc_classes.specs.World.{home_of, offset_of, name_in, package_at, class_named, superclass_of}
 use Rattle.jc_classes.specs.declared.name.ClassName.{ClassName}
 use Rattle.jc_classes.specs.declared.name.MethodName.{MethodName}
 
@@ -27,6 +28,10 @@ pub record Tabled : Type 0 where
   pub public : List (Option MethodName)
   pub visible : List (List (Option MethodName))
   pub listed : List Listed
+
+-- the table of an interface
+abbrev pub no_methods : Tabled
+no_methods = record { depth = 1; public = []; visible = []; listed = [] }
 
 -- the methods for one package that asks
 abbrev pub row_at : List (List (Option MethodName)) → ℕ → List (Option MethodName)
@@ -58,9 +63,10 @@ abbrev pub listed_above : Option Tabled → List Listed
 listed_above None = []
 listed_above (Some table) = table.listed
 
--- a table has what the look-ups from its class find
+-- a table has what the look-ups from its class find, and says within how many classes its superclass chain first ends
 pub record IsTabled (world : List Shape) (c : ClassName) (table : Tabled) : Type 0 where
   pub ends : comes_to_end world table.depth c ≡ true
+  pub least : (n : ℕ) → comes_to_end world n c ≡ true → table.depth ≤ n
   pub depth : table.depth ≤ most_classes
   pub methods : (token asker : ℕ) → token < 256 → entry_in table token asker ≡ virtual_method_of world c token asker
   pub interfaces : (interface : ClassName) → indexes_in table.listed interface ≡ found (interface_visit world interface) world c
@@ -68,6 +74,7 @@ pub record IsTabled (world : List Shape) (c : ClassName) (table : Tabled) : Type
 -- a table has what the look-ups from the class above find
 pub record IsTabledAbove (world : List Shape) (c : ClassName) (above : Option Tabled) : Type 0 where
   pub ends : comes_to_end world (suc (depth_above above)) c ≡ true
+  pub least : (n : ℕ) → comes_to_end world n c ≡ true → suc (depth_above above) ≤ n
   pub methods : (token asker : ℕ) → token < 256 → entry_above above token asker ≡ option_and_then (λ d. virtual_method_of world d token asker) (superclass_of world c)
   pub interfaces : (interface : ClassName) → indexes_in (listed_above above) interface ≡ option_and_then (found (interface_visit world interface) world) (superclass_of world c)
 
@@ -91,16 +98,72 @@ index_at world c = option_and_then (λ shape. position (λ k. k.offset == offset
 abbrev pub table_in : List (List (Option Tabled)) → ℕ → ℕ → Option Tabled
 table_in tables home index = option_and_then (λ (row : List (Option Tabled)). place_at row index) (slice_get tables home)
 
--- the tables of the classes of a world, as far as there are any
+-- the table of a class, if there is one
+abbrev pub table_of : List Shape → List (List (Option Tabled)) → ClassName → Option Tabled
+table_of world tables c = option_and_then (table_in tables (home_of c)) (index_at world c)
+
+-- the tables of a world: each is right, and each class whose superclass chain comes to its end has one
 pub record AreTables (world : List Shape) (tables : List (List (Option Tabled))) : Type 0 where
-  pub few : length tables ≤ length world
-  pub right : (c : ClassName) (i : ℕ) (table : Tabled) → index_at world c ≡ Some i → table_in tables (home_of c) i ≡ Some table → IsTabled world c table
+  pub count : length tables ≡ length world
+  pub right : (c : ClassName) (table : Tabled) → table_of world tables c ≡ Some table → IsTabled world c table
+  pub complete : (c : ClassName) → table_of world tables c ≡ None → has_whole_chain world c ≡ false
 
--- what is there behind a change was there before, or is this table in its place
-abbrev pub IsPut : List (Option Tabled) → ℕ → Tabled → List (Option Tabled) → Type 0
-IsPut old index table new = (i : ℕ) (t : Tabled) → place_at new i ≡ Some t → (place_at old i ≡ Some t) ⊎ ((i ≡ index) × (t ≡ table))
+-- the tables of a world's packages but the last
+pub record AreBefore (world : List Shape) (tables : List (List (Option Tabled))) : Type 0 where
+  pub count : length world ≡ suc (length tables)
+  pub right : (c : ClassName) (table : Tabled) → table_of world tables c ≡ Some table → IsTabled world c table
+  pub complete : (c : ClassName) → home_of c < length tables → table_of world tables c ≡ None
+      → has_whole_chain world c ≡ false
 
--- a small world with its tables
-pub record IsWhole (world : List Shape) (tables : List (List (Option Tabled))) : Type 0 where
+-- the tables of a package: those of the packages but the last, or those of the last one, as far as they are made
+abbrev pub rows_so_far : List (List (Option Tabled)) → List (Option Tabled) → ℕ → List (Option Tabled)
+rows_so_far tables made home = unwrap_or (slice_get tables home) made
+
+-- the table of a class, if it is made
+abbrev pub table_so_far : List Shape → List (List (Option Tabled)) → List (Option Tabled) → ClassName → Option Tabled
+table_so_far world tables made c =
+    option_and_then (place_at (rows_so_far tables made (home_of c))) (index_at world c)
+
+-- the last package's tables are being made: each is right, those of the other packages are all there, and there is room
+pub record AreInMaking (world : List Shape) (tables : List (List (Option Tabled))) (made : List (Option Tabled)) : Type 0 where
   pub small : IsSmall world
-  pub right : AreTables world tables
+  pub count : length world ≡ suc (length tables)
+  pub right : (c : ClassName) (table : Tabled) → table_so_far world tables made c ≡ Some table → IsTabled world c table
+  pub before : (c : ClassName) → home_of c < length tables → table_so_far world tables made c ≡ None
+      → has_whole_chain world c ≡ false
+  pub room : (c : ClassName) (i : ℕ) → home_of c ≡ length tables → index_at world c ≡ Some i → i < length made
+
+-- a class has a superclass, and that has no table
+abbrev pub LacksTableAbove : List Shape → List (List (Option Tabled)) → List (Option Tabled) → ClassName → Type 0
+LacksTableAbove world tables made c =
+    (d : ClassName) × (superclass_of world c ≡ Some d) × (table_so_far world tables made d ≡ None)
+
+-- a class whose superclass chain comes to its end can have no table yet: its superclass has none
+abbrev pub IsWaiting : List Shape → List (List (Option Tabled)) → List (Option Tabled) → ClassName → Type 0
+IsWaiting world tables made c = has_whole_chain world c ≡ true → LacksTableAbove world tables made c
+
+-- a class has a table, or can have none yet
+abbrev pub IsSettled : List Shape → List (List (Option Tabled)) → List (Option Tabled) → ClassName → Type 0
+IsSettled world tables made c = table_so_far world tables made c ≡ None → IsWaiting world tables made c
+
+-- how many places are empty
+abbrev pub empty_places : List (Option Tabled) → ℕ
+empty_places [] = 0
+empty_places (None ∷ made) = suc (empty_places made)
+empty_places (Some table ∷ made) = empty_places made
+
+-- tables were made, or nothing changed
+pub record IsFurther (world : List Shape) (tables : List (List (Option Tabled))) (old new : List (Option Tabled)) (changed : Bool) : Type 0 where
+  pub making : AreInMaking world tables new
+  pub same : changed ≡ false → new ≡ old
+  pub fewer : changed ≡ true → empty_places new < empty_places old
+
+-- the classes of the last package with these indexes are settled
+abbrev pub AreSettled : List Shape → List (List (Option Tabled)) → List (Option Tabled) → ℕ → ℕ → Type 0
+AreSettled world tables made first behind =
+    (c : ClassName) (i : ℕ) → home_of c ≡ length tables → index_at world c ≡ Some i → first ≤ i → i < behind
+    → IsSettled world tables made c
+
+-- the name of the class with an index of the package that stands there
+abbrev pub name_placed : List Shape → ℕ → ℕ → Option ClassName
+name_placed world home index = option_and_then (λ k. name_in home k.offset) (class_placed world home index)

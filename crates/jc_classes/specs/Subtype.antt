@@ -1,6 +1,6 @@
 -- Which class is below which (Java Card Virtual Machine Specification, Verification types; Java Language Specification,
 -- Subtyping).
-use Rattle.std.specs.Prelude.{◌≡◌, ◌≢◌, ◌⊎◌, ℕ, zero, suc, ◌<◌, ◌≤◌, Bool, true, false, not, ◌||◌, Some, List, [], ◌∷◌, if◌then◌else◌}
+use Rattle.std.specs.Prelude.{◌≡◌, ◌≢◌, ◌⊎◌, ℕ, zero, suc, ◌<◌, ◌≤◌, Bool, true, false, not, ◌&&◌, ◌||◌, Some, is_some, List, [], ◌∷◌, if◌then◌else◌}
 use Rattle.std.specs.Option.{option_map_or}
 use Rattle.jc_cap_class.specs.Component.{is_class}
 use Rattle.jc_cap_desc.specs.Shape.{Shape}
@@ -45,6 +45,10 @@ is_interface_at world c = option_map_or (λ k. not (is_class k.body)) (class_at 
 abbrev pub comes_to_end : List Shape → ℕ → ClassName → Bool
 comes_to_end world zero c = false
 comes_to_end world (suc n) c = option_map_or (comes_to_end world n) (superclass_of world c) true
+
+-- a class or an interface stands there, and its superclass chain comes to its end
+abbrev pub has_whole_chain : List Shape → ClassName → Bool
+has_whole_chain world c = is_some (class_at world c) && comes_to_end world most_classes c
 
 -- no class's superclasses lead round, and what is listed as an interface is one
 pub record IsOrderly (world : List Shape) : Type 0 where

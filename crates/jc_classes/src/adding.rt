@@ -1,7 +1,6 @@
 //! A table that grows by a package.
 
-ghost use Rattle.std.specs.Prelude.{◌≡◌, ◌<◌, ◌≤◌, List, length, IfOk, IfErr};
-ghost use Rattle.jc_cap_desc.specs.Shape.{Shape};
+ghost use Rattle.std.specs.Prelude.{◌≡◌, ◌<◌, ◌≤◌, length, IfOk, IfErr};
 ghost use Rattle.jc_classes.specs.Growth.{grown};
 ghost use Rattle.jc_classes.specs.Limits.{most_packages, most_classes_of_one};
 
@@ -18,7 +17,7 @@ impl ClassTable {
         ensures done { IfOk result (λ u. self.new ≡ grown self.old «package».now.shape) }
         ensures kept { IfErr result (λ e. self.new ≡ self.old) }
     {
-        let alloc = *self.packages.allocator();
+        let alloc = self.shapes.allocator();
         let shape = shape_of(alloc, package)?;
         self.put_package(alloc, shape)
     }
@@ -34,33 +33,13 @@ impl ClassTable {
         ensures done { IfOk result (λ u. self.new ≡ grown self.old shape) }
         ensures kept { IfErr result (λ e. self.new ≡ self.old) }
     {
-        self.put_shape(shape)?;
-        match self.make_tables(alloc) {
+        self.shapes.put(shape)?;
+        match self.shapes.put_tables(alloc, &mut self.tables) {
             Ok(()) => Ok(()),
             Err(fault) => {
-                self.drop_last();
+                self.shapes.drop_last();
                 Err(fault)
             }
         }
-    }
-
-    /// Puts a shape behind the others; its classes have no tables.
-    #[tactic(auto, using(crate::proofs::Small::small_grown, crate::proofs::Tabling::tables_grow))]
-    fn put_shape(&mut self, shape: PackageShape) -> Result<(), AllocError>
-        requires room { length self.now < most_packages }
-        requires few { length shape.classes ≤ most_classes_of_one }
-        ensures done { IfOk result (λ u. self.new ≡ grown self.old shape) }
-        ensures kept { IfErr result (λ e. self.new ≡ self.old) }
-    {
-        self.packages.push(shape)?;
-        Ok(())
-    }
-
-    /// Drops the last package.
-    fn drop_last(&mut self)
-        ensures { (world : List Shape) (more : Shape) → self.old ≡ grown world more → self.new ≡ world }
-    {
-        self.packages.pop();
-        self.tables.truncate(self.packages.len());
     }
 }

@@ -11,6 +11,7 @@ ghost use Rattle.jc_classes.specs.PrivateShape.{record_of};
 ghost use Rattle.jc_classes.specs.declared.api.Tokens.TheVariants as Of;
 
 use crate::shape::{Body, Class, ClassBody, Export, Method, PackageShape, Table};
+use crate::shapes::Shapes;
 use crate::table::ClassTable;
 use jc_api::{ApiClass, ApiPackage, Binding, Member, MemberKind, is_at_or_above};
 use jc_base::{ClassRef, DeclaredType, PackageInfo, ReturnType};
@@ -492,7 +493,7 @@ impl ClassTable {
         let lang = api_shape(alloc, binding, ApiPackage::Lang)?;
         let framework = api_shape(alloc, binding, ApiPackage::Framework)?;
         let mut table = ClassTable {
-            packages: Vec::new(alloc),
+            shapes: Shapes::new(alloc),
             tables: Vec::new(alloc),
         };
         table.put_package(alloc, lang)?;

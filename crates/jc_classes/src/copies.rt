@@ -163,8 +163,8 @@ impl ClassTable {
     pub fn copy(&self, alloc: Global) -> Result<ClassTable, AllocError>
         ensures { IfOk result (λ copy. copy ≡ self.now) }
     {
-        let packages = all_copied(alloc, &self.packages)?;
+        let shapes = self.shapes.copied(alloc)?;
         let tables = all_copied(alloc, &self.tables)?;
-        Ok(ClassTable { packages, tables })
+        Ok(ClassTable { shapes, tables })
     }
 }

@@ -16,6 +16,7 @@ mod name;
 mod places;
 mod search;
 mod shape;
+mod shapes;
 mod subtypes;
 mod table;
 mod tables;

@@ -1,16 +1,32 @@
 //! The tables of a package's classes, made when it is put in.
 
-ghost use Rattle.std.specs.Prelude.{◌≡◌, ◌≤◌, IfOk, IfSome};
+ghost use Rattle.std.specs.Prelude.{◌≡◌, ◌+◌, ◌≤◌, ◌++◌, ◌∷◌, [], true, false, length, IfOk, IfErr, IfSome, IfNone};
 ghost use Rattle.std.specs.Option.{option_map};
-ghost use Rattle.jc_classes.specs.PrivateTables.{depth_above, index_at, table_in, IsTabled, IsTabledAbove};
+ghost use Rattle.jc_classes.specs.PrivateTables.{depth_above, index_at, name_placed, table_of, table_so_far};
+ghost use Rattle.jc_classes.specs.PrivateTables.{AreBefore, AreInMaking, AreSettled, AreTables};
+ghost use Rattle.jc_classes.specs.PrivateTables.{IsFurther, IsSettled, IsTabled, IsTabledAbove, IsWaiting, LacksTableAbove};
+ghost use Rattle.jc_classes.specs.Subtype.{has_whole_chain};
+ghost use Rattle.jc_classes.specs.World.{home_of};
 
-use crate::name::ClassName;
+use crate::name::{ClassName, name_in};
+use crate::shapes::Shapes;
 use crate::table::ClassTable;
 use crate::tables::{MethodTable, PackageTables};
 use crate::walk::MOST_CLASSES;
 use std::alloc::{AllocError, Global};
 
 impl ClassTable {
+    /// The table of a class or an interface. There is none only where neither stands there, or where the superclass chain
+    /// doesn't come to its end.
+    pub(crate) fn table_of(&self, class: ClassName) -> Option<&MethodTable>
+        ensures right { IfSome result (λ table. IsTabled self.now class table.now) }
+        ensures none { IfNone result (has_whole_chain self.now class ≡ false) }
+    {
+        self.shapes.table_in(&self.tables, class)
+    }
+}
+
+impl Shapes {
     /// Which of its package's classes a class is.
     fn index_of(&self, class: ClassName) -> Option<usize>
         ensures { result ≡ index_at self.now class }
@@ -19,148 +35,207 @@ impl ClassTable {
         shape.index_of(class.offset())
     }
 
-    /// The table of a class, if it is made.
-    pub(crate) fn table_of(&self, class: ClassName) -> Option<&MethodTable>
-        ensures { IfSome result (λ table. IsTabled self.now class table.now) }
+    /// The table of a class, if there is one.
+    fn table_in<'t>(&self, tables: &'t [PackageTables], class: ClassName) -> Option<&'t MethodTable>
+        ensures { option_map (λ t. t.now) result ≡ table_of self.now tables.now class }
     {
         let index = self.index_of(class)?;
-        let table = table_at(&self.tables, class.home(), index)?;
-        Some(table)
+        tables.get(class.home())?.at(index)
     }
 
-    /// The table of the class above a class, if there is a class above. `None` where that has no table.
-    #[tactic(auto, using(crate::proofs::Tabling::none_above, crate::proofs::Tabling::some_above))]
-    fn table_above(&self, class: ClassName) -> Option<Option<&MethodTable>>
-        ensures { IfSome result (λ above. IsTabledAbove self.now class (option_map (λ t. t.now) above)) }
+    /// The table of a class, if it is made: of one of the packages before, or of the last one.
+    fn table_so_far<'t>(
+        &self,
+        tables: &'t [PackageTables],
+        made: &'t PackageTables,
+        class: ClassName,
+    ) -> Option<&'t MethodTable>
+        ensures { option_map (λ t. t.now) result ≡ table_so_far self.now tables.now made.now class }
+    {
+        let index = self.index_of(class)?;
+        match tables.get(class.home()) {
+            Some(rows) => rows.at(index),
+            None => made.at(index),
+        }
+    }
+
+    /// The table of the class above a class, if there is a class above. `None` where that has no table yet.
+    fn table_above<'t>(
+        &self,
+        tables: &'t [PackageTables],
+        made: &'t PackageTables,
+        class: ClassName,
+    ) -> Option<Option<&'t MethodTable>>
+        requires { AreInMaking self.now tables.now made.now }
+        ensures right { IfSome result (λ a. IsTabledAbove self.now class (option_map (λ t. t.now) a)) }
+        ensures none { IfNone result (LacksTableAbove self.now tables.now made.now class) }
     {
         let Some(above) = self.superclass_of(class) else {
             return Some(None);
         };
-        let table = self.table_of(above)?;
-        Some(Some(table))
+        match self.table_so_far(tables, made, above) {
+            Some(table) => Some(Some(table)),
+            None => None,
+        }
     }
 
-    /// The table of a class. `None` where there is no such class, or where the class above has no table.
-    fn table_made(&self, alloc: Global, class: ClassName) -> Result<Option<MethodTable>, AllocError>
-        ensures { IfOk result (λ made. IfSome made (λ table. IsTabled self.now class table)) }
+    /// The table of a class or an interface. `None` where neither stands there, or where the class above has no table yet. A
+    /// chain of as many classes as there can be has a cycle.
+    fn table_made(
+        &self,
+        alloc: Global,
+        tables: &[PackageTables],
+        made: &PackageTables,
+        class: ClassName,
+    ) -> Result<Option<MethodTable>, AllocError>
+        requires { AreInMaking self.now tables.now made.now }
+        ensures right { IfOk result (λ found. IfSome found (λ table. IsTabled self.now class table)) }
+        ensures none { IfOk result (λ found. IfNone found (IsWaiting self.now tables.now made.now class)) }
     {
         let Some(found) = self.class_at(class) else {
             return Ok(None);
         };
-        let Some(above) = self.table_above(class) else {
+        if !found.is_class() {
+            return Ok(Some(MethodTable::of_interface(alloc)));
+        }
+        let Some(above) = self.table_above(tables, made, class) else {
             return Ok(None);
         };
         let depth = depth_of(above);
-        if depth >= MOST_CLASSES || !found.is_class() {
+        if depth >= MOST_CLASSES {
             return Ok(None);
         }
-        let made = self.table_from(alloc, class, found, above, depth + 1)?;
-        Ok(Some(made))
+        let table = self.table_from(alloc, class, found, above, depth + 1)?;
+        Ok(Some(table))
     }
 
-    /// Puts the table of a class.
-    fn put_table(&mut self, class: ClassName, table: MethodTable)
-        requires { IsTabled self.now class table }
-        ensures { self.new ≡ self.old }
+    /// Makes the table of a class of the last package, if it has none. Whether it was made.
+    fn fill_class(
+        &self,
+        alloc: Global,
+        tables: &[PackageTables],
+        made: &mut PackageTables,
+        class: ClassName,
+    ) -> Result<bool, AllocError>
+        requires making { AreInMaking self.now tables.now made.old }
+        requires last { home_of class ≡ length tables.now }
+        ensures further { IfOk result (λ changed. IsFurther self.now tables.now made.old made.new changed) }
+        ensures settled { IfOk result (λ b. b ≡ false → IsSettled self.now tables.now made.new class) }
     {
-        let Some(index) = self.index_of(class) else {
-            return;
-        };
-        let home = class.home();
-        if home < self.tables.len() {
-            self.tables[home].put(index, table);
-        }
-    }
-
-    /// Makes the table of a class that has none. Whether it was made.
-    fn fill_class(&mut self, alloc: Global, class: ClassName) -> Result<bool, AllocError>
-        ensures { self.new ≡ self.old }
-    {
-        if self.table_of(class).is_some() {
+        if self.table_so_far(tables, made, class).is_some() {
             return Ok(false);
         }
-        match self.table_made(alloc, class)? {
+        let Some(index) = self.index_of(class) else {
+            return Ok(false);
+        };
+        match self.table_made(alloc, tables, made, class)? {
             Some(table) => {
-                self.put_table(class, table);
+                made.put(index, table);
                 Ok(true)
             }
             None => Ok(false),
         }
     }
 
-    /// The same of the class with an index of the package that stands there.
-    fn fill(&mut self, alloc: Global, home: usize, index: usize) -> Result<bool, AllocError>
+    /// The name of the class with an index of the package that stands there.
+    fn name_placed(&self, home: usize, index: usize) -> Option<ClassName>
         requires { home ≤ 256 }
-        ensures { self.new ≡ self.old }
+        ensures { result ≡ name_placed self.now home index }
     {
-        let name = match self.class_placed(home, index) {
-            Some(found) => found.name(home),
-            None => None,
-        };
-        match name {
-            Some(class) => self.fill_class(alloc, class),
+        let found = self.class_placed(home, index)?;
+        name_in(home, found.offset)
+    }
+
+    /// The same of the class with an index of the last package.
+    fn fill(
+        &self,
+        alloc: Global,
+        tables: &[PackageTables],
+        made: &mut PackageTables,
+        index: usize,
+    ) -> Result<bool, AllocError>
+        requires making { AreInMaking self.now tables.now made.old }
+        requires few { length tables.now ≤ 256 }
+        ensures further { IfOk result (λ changed. IsFurther self.now tables.now made.old made.new changed) }
+        ensures settled { IfOk result (λ b. b ≡ false → AreSettled self.now tables.now made.new index (index + 1)) }
+    {
+        match self.name_placed(tables.len(), index) {
+            Some(class) => self.fill_class(alloc, tables, made, class),
             None => Ok(false),
         }
     }
 
     /// The same of each of so many classes. Whether any table was made.
-    fn fill_each(&mut self, alloc: Global, home: usize, count: usize) -> Result<bool, AllocError>
-        requires { home ≤ 256 }
-        ensures { self.new ≡ self.old }
+    fn fill_each(
+        &self,
+        alloc: Global,
+        tables: &[PackageTables],
+        made: &mut PackageTables,
+        count: usize,
+    ) -> Result<bool, AllocError>
+        requires making { AreInMaking self.now tables.now made.old }
+        requires few { length tables.now ≤ 256 }
+        ensures further { IfOk result (λ changed. IsFurther self.now tables.now made.old made.new changed) }
+        ensures settled { IfOk result (λ b. b ≡ false → AreSettled self.now tables.now made.new 0 count) }
     {
         let mut changed = false;
         for index in 0..count {
-            let made = self.fill(alloc, home, index)?;
-            changed = changed || made;
+            let filled = self.fill(alloc, tables, made, index)?;
+            changed |= filled;
         }
         Ok(changed)
     }
 
-    /// The same again until no table is made: a class is behind the class above it.
-    fn fill_all(&mut self, alloc: Global, home: usize, count: usize) -> Result<(), AllocError>
-        requires { home ≤ 256 }
-        ensures { self.new ≡ self.old }
+    /// The same again until no table is made: a class's table is made behind that of the class above it.
+    fn fill_all(
+        &self,
+        alloc: Global,
+        tables: &[PackageTables],
+        made: &mut PackageTables,
+        count: usize,
+    ) -> Result<(), AllocError>
+        requires making { AreInMaking self.now tables.now made.old }
+        requires few { length tables.now ≤ 256 }
+        ensures making { IfOk result (λ u. AreInMaking self.now tables.now made.new) }
+        ensures settled { IfOk result (λ u. AreSettled self.now tables.now made.new 0 count) }
     {
-        for _ in 0..count {
-            let made = self.fill_each(alloc, home, count)?;
-            if !made {
+        loop {
+            if !self.fill_each(alloc, tables, made, count)? {
                 return Ok(());
             }
         }
-        Ok(())
-    }
-
-    /// Puts room for the tables of the first package that has none.
-    #[tactic(auto, using(crate::proofs::Tabling::tables_pushed))]
-    fn put_room(&mut self, alloc: Global, count: usize) -> Result<(), AllocError>
-        ensures { self.new ≡ self.old }
-    {
-        let room = PackageTables::new(alloc, count)?;
-        if self.tables.len() < self.packages.len() {
-            self.tables.push(room)?;
-        }
-        Ok(())
     }
 
     /// Makes the tables of the classes of the last package.
-    pub(crate) fn make_tables(&mut self, alloc: Global) -> Result<(), AllocError>
-        ensures { self.new ≡ self.old }
+    fn tables_of_last(
+        &self,
+        alloc: Global,
+        tables: &[PackageTables],
+    ) -> Result<PackageTables, AllocError>
+        requires { AreBefore self.now tables.now }
+        ensures { IfOk result (λ made. AreTables self.now (tables.now ++ made ∷ [])) }
     {
-        let home = self.tables.len();
-        if home > 256 {
-            return Ok(());
-        }
-        let count = self.class_count(home);
-        self.put_room(alloc, count)?;
-        self.fill_all(alloc, home, count)
+        let last = self.len() - 1;
+        let count = self.class_count(last);
+        let mut made = PackageTables::new(alloc, count)?;
+        self.fill_all(alloc, tables, &mut made, count)?;
+        Ok(made)
     }
-}
 
-/// The table of the class with an index of the package that stands there.
-fn table_at(tables: &[PackageTables], home: usize, index: usize) -> Option<&MethodTable>
-    ensures { option_map (λ t. t.now) result ≡ table_in tables.now home index }
-{
-    tables.get(home)?.at(index)
+    /// Puts the tables of the last package behind those of the others.
+    pub(crate) fn put_tables(
+        &self,
+        alloc: Global,
+        tables: &mut Vec<PackageTables>,
+    ) -> Result<(), AllocError>
+        requires { AreBefore self.now tables.old.items }
+        ensures done { IfOk result (λ u. AreTables self.now tables.new.items) }
+        ensures kept { IfErr result (λ e. tables.new.items ≡ tables.old.items) }
+    {
+        let made = self.tables_of_last(alloc, tables)?;
+        tables.push(made)?;
+        Ok(())
+    }
 }
 
 /// Within how many classes the superclasses of the class above come to an end.

@@ -7,6 +7,7 @@ ghost use Rattle.jc_classes.specs.PrivateWalk.{step_of};
 
 use crate::name::{ClassName, MethodName};
 use crate::shape::{Body, PackageShape, Table};
+use crate::shapes::Shapes;
 use crate::table::ClassTable;
 use crate::walk::{MOST_CLASSES, Step, Visit, anchor_behind};
 
@@ -40,7 +41,7 @@ impl PackageShape {
     }
 }
 
-impl ClassTable {
+impl Shapes {
     /// The method that stands there, if one does.
     fn method_there(&self, home: usize, offset: u16) -> Visit<MethodName>
         requires { home ≤ 256 }
@@ -100,7 +101,9 @@ impl ClassTable {
             }
         }
     }
+}
 
+impl ClassTable {
     /// One step of the look-up of a virtual method.
     fn method_step(&self, at: ClassName, token: u8, asker: usize) -> Step<MethodName>
         ensures { result ≡ step_of (virtual_visit self.now asker token) self.now at }
@@ -108,7 +111,10 @@ impl ClassTable {
         let Some(found) = self.class_at(at) else {
             return Step::Ends;
         };
-        match self.record_visit(asker, token, at.home(), &found.body) {
+        match self
+            .shapes
+            .record_visit(asker, token, at.home(), &found.body)
+        {
             Visit::Has(method) => Step::Gives(method),
             Visit::Nothing => Step::Ends,
             Visit::Above => match self.superclass_of(at) {
@@ -118,8 +124,8 @@ impl ClassTable {
         }
     }
 
-    /// The virtual method of a class at a token, asked for the package that stands there: what its table has, or what a walk
-    /// finds where it has none.
+    /// The virtual method of a class at a token, asked for the package that stands there: what its table has. Where it has
+    /// none, no class stands there or its superclass chain has a cycle: then it is what a walk finds.
     pub fn virtual_method_for(
         &self,
         class: ClassName,

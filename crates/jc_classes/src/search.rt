@@ -155,24 +155,6 @@ impl ClassTable {
         }
     }
 
-    /// The class with an index in the package that stands there.
-    pub(crate) fn class_placed(&self, home: usize, index: usize) -> Option<&Class>
-        ensures { option_map (λ k. k.now) result ≡ class_placed self.now home index }
-    {
-        self.shape(home)?.class_with(index)
-    }
-
-    /// How many classes the package has that stands there.
-    pub(crate) fn class_count(&self, home: usize) -> usize
-        ensures count { result ≡ option_map_or (λ s. length s.classes) (slice_get self.now home) 0 }
-        ensures few { result ≤ most_classes_of_one }
-    {
-        match self.shape(home) {
-            Some(shape) => shape.classes.len(),
-            None => 0,
-        }
-    }
-
     /// Marks all classes right above the one with an index, if that is marked.
     fn pass_class(&self, home: usize, index: usize, marks: &mut NumberSet) -> bool
         requires small { IsSmall self.now }

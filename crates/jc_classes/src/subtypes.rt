@@ -1,6 +1,6 @@
 //! Which class is below which.
 
-ghost use Rattle.std.specs.Prelude.{◌≡◌, ◌↔◌, true, IsTrue, List};
+ghost use Rattle.std.specs.Prelude.{◌≡◌, ◌⊎◌, ◌↔◌, true, IsTrue, List};
 ghost use Rattle.jc_cap_desc.specs.Shape.{Shape};
 ghost use Rattle.jc_classes.specs.Subtype.{IsSubtype, IsOrderly, IsLeastAbove, IsOrder, IsClassLattice, is_at_or_above, is_class_at, is_class_below, common_class, classes_above};
 ghost use Rattle.jc_classes.specs.Walk.{most_classes};
@@ -82,11 +82,12 @@ impl ClassTable {
         self.is_class(above) && self.is_subclass(class, above)
     }
 
-    /// A class that is above both of two: the nearest one above the first. Where no class's superclasses lead round and
-    /// what is listed as an interface is one, it is the least that is above both.
+    /// A class that is above both of two: the nearest one above the first, or Object. Where no class's superclasses lead
+    /// round and what is listed as an interface is one, it is the least that is above both.
     pub fn common_super(&self, one: ClassName, other: ClassName) -> ClassName
         ensures first { IsSubtype self.now one result }
         ensures second { IsSubtype self.now other result }
+        ensures there { (is_class_at self.now result ≡ true) ⊎ (result ≡ ClassName.Api ApiClass.Object) }
         ensures least { IsOrderly self.now → IsLeastAbove self.now one other result }
     {
         let mut at = one;

@@ -1,11 +1,11 @@
 //! Tables of the methods of classes, made from those of the classes above.
 
-ghost use Rattle.std.specs.Prelude.{◌≡◌, ℕ, suc, ◌+◌, ◌<◌, ◌≤◌, ◌++◌, Some, None, true, length, IfOk};
+ghost use Rattle.std.specs.Prelude.{◌≡◌, ℕ, suc, ◌+◌, ◌<◌, ◌≤◌, ◌++◌, Some, None, true, length, set, IfOk};
 ghost use Rattle.std.specs.List.{filter_map};
 ghost use Rattle.std.specs.Option.{option_map, option_to_list};
 ghost use Rattle.jc_classes.specs.PrivatePlaces.{place_at};
 ghost use Rattle.jc_cap_class.specs.Component.{is_class};
-ghost use Rattle.jc_classes.specs.PrivateTables.{row_at, entry_in, indexes_in, depth_above, visible_above, listed_above, entry_made, listed_row, IsPut, IsTabled, IsTabledAbove};
+ghost use Rattle.jc_classes.specs.PrivateTables.{no_methods, row_at, entry_in, indexes_in, depth_above, visible_above, listed_above, entry_made, listed_row, IsTabled, IsTabledAbove};
 ghost use Rattle.jc_classes.specs.Walk.{most_classes};
 ghost use Rattle.jc_classes.specs.World.{class_at};
 
@@ -14,7 +14,7 @@ use crate::methods::PACKAGE_VISIBLE;
 use crate::name::{ClassName, MethodName};
 use crate::places::{make_room, place_at};
 use crate::shape::{Class, ImplementedInterface};
-use crate::table::ClassTable;
+use crate::shapes::Shapes;
 use crate::walk::Visit;
 use std::alloc::{AllocError, Global};
 use std::marker::Model;
@@ -98,6 +98,20 @@ impl MethodRow {
 }
 
 impl MethodTable {
+    /// The table of an interface, which has no methods.
+    pub(crate) fn of_interface(alloc: Global) -> MethodTable
+        ensures { result ≡ no_methods }
+    {
+        MethodTable {
+            depth: 1,
+            public: MethodRow {
+                methods: Vec::new(alloc),
+            },
+            visible: Vec::new(alloc),
+            listed: Vec::new(alloc),
+        }
+    }
+
     /// Within how many classes the superclasses come to an end.
     pub(crate) fn depth(&self) -> u16
         ensures { result ≡ self.now.depth }
@@ -130,7 +144,8 @@ impl MethodTable {
 impl PackageTables {
     /// No tables, with room for so many.
     pub(crate) fn new(alloc: Global, count: usize) -> Result<PackageTables, AllocError>
-        ensures { IfOk result (λ made. (i : ℕ) → place_at made i ≡ None) }
+        ensures none { IfOk result (λ made. (i : ℕ) → place_at made i ≡ None) }
+        ensures room { IfOk result (λ made. count < length made) }
     {
         let mut tables = Vec::new(alloc);
         make_room(&mut tables, count)?;
@@ -147,13 +162,12 @@ impl PackageTables {
         }
     }
 
-    /// Puts the table of the class with an index, where there is room.
+    /// Puts the table of the class with an index.
     pub(crate) fn put(&mut self, index: usize, table: MethodTable)
-        ensures { IsPut self.old index table self.new }
+        requires { index < length self.old }
+        ensures { self.new ≡ set self.old index (Some table) }
     {
-        if index < self.tables.len() {
-            self.tables[index] = Some(table);
-        }
+        self.tables[index] = Some(table);
     }
 }
 
@@ -223,7 +237,7 @@ fn askers(above: Option<&MethodTable>, home: usize) -> usize
     }
 }
 
-impl ClassTable {
+impl Shapes {
     /// What the table of a class is to have at a token.
     fn entry_made(
         &self,

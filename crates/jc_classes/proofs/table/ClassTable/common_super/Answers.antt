@@ -1,4 +1,4 @@
-use Rattle.std.proofs.Common.{◌-◌, sym, ◌∙◌, arith}
+use Rattle.std.proofs.Common.{◌-◌, inl, inr, refl, sym, ◌∙◌, arith}
 use Rattle.jc_classes.proofs.Least.{set_out, step_up, nothing_above, found_above, came_round}
 use Rattle.jc_classes.proofs.Marking.{true_false}
 use Rattle.jc_classes.proofs.Walking.{most_is, one_less}
@@ -15,6 +15,9 @@ returns-then-is_class_above-clause-first c = c.loop.invariant.below c.loop.at (s
 pub returns-then-is_class_above-clause-second : goal.returns-then-is_class_above-clause-second
 returns-then-is_class_above-clause-second c = (c.is_class_above.ensures.0 c.if-is_class_above.true).1
 
+pub returns-then-is_class_above-clause-there : goal.returns-then-is_class_above-clause-there
+returns-then-is_class_above-clause-there c = inl (c.is_class_above.ensures.0 c.if-is_class_above.true).0
+
 pub returns-then-is_class_above-clause-least : goal.returns-then-is_class_above-clause-least
 returns-then-is_class_above-clause-least c =
     found_above c.args.self.now c.args.one c.args.other c.loop.at (most_classes - c.loop.counter) c.loop.invariant (c.is_class_above.ensures.0 c.if-is_class_above.true).1
@@ -24,6 +27,9 @@ returns-in-None-clause-first c = object c.args.one
 
 pub returns-in-None-clause-second : goal.returns-in-None-clause-second
 returns-in-None-clause-second c = object c.args.other
+
+pub returns-in-None-clause-there : goal.returns-in-None-clause-there
+returns-in-None-clause-there c = inr refl
 
 pub returns-in-None-clause-least : goal.returns-in-None-clause-least
 returns-in-None-clause-least c =
@@ -40,6 +46,9 @@ returns-clause-first c = object c.args.one
 
 pub returns-clause-second : goal.returns-clause-second
 returns-clause-second c = object c.args.other
+
+pub returns-clause-there : goal.returns-clause-there
+returns-clause-there c = inr refl
 
 pub returns-clause-least : goal.returns-clause-least
 returns-clause-least c o =

@@ -1,9 +1,17 @@
-use Rattle.std.proofs.Common.{ap, sym, subst, ◌∙◌}
-use Rattle.jc_classes.specs.PrivateTables.{AreTables, table_in}
+use Rattle.std.proofs.Common.{◌≡◌, false, ap, subst, ◌∙◌}
+use Rattle.jc_classes.proofs.Filling.{if_some, if_none}
+use Rattle.jc_classes.specs.PrivateTables.{IsTabled, table_of}
+use Rattle.jc_classes.specs.Subtype.{has_whole_chain}
 use Rattle.jc_classes.proofs.table.ClassTable.table_of.Goals as goal
 
-pub returns : goal.returns
-returns c =
-    let tables = subst (λ world. AreTables world c.self.inside.tables.items) c.self.view_is c.self.invariant.right in
-    tables.right c.args.class c.in_ok-index.index c.in_ok-table.table.now (sym c.in_ok-index.ensures)
-    (sym (c.in_ok-table.ensures ∙ ap (λ rows. table_in rows c.home.result c.in_ok-index.index) c.deref.ensures.value ∙ ap (λ home. table_in c.self.inside.tables.items home c.in_ok-index.index) c.home.ensures.home))
+pub returns-clause-right : goal.returns-clause-right
+returns-clause-right c =
+    if_some _ (IsTabled c.args.self.now c.args.class) c.table_in.result (table_of c.self.inside.shapes c.self.inside.tables.items c.args.class)
+    (c.table_in.ensures ∙ ap (λ rows. table_of c.self.inside.shapes rows c.args.class) c.deref.ensures.value)
+    (λ table at. subst (λ world. IsTabled world c.args.class table) c.self.view_is (c.self.invariant.right c.args.class table at))
+
+pub returns-clause-none : goal.returns-clause-none
+returns-clause-none c =
+    if_none _ (has_whole_chain c.args.self.now c.args.class ≡ false) c.table_in.result (table_of c.self.inside.shapes c.self.inside.tables.items c.args.class)
+    (c.table_in.ensures ∙ ap (λ rows. table_of c.self.inside.shapes rows c.args.class) c.deref.ensures.value)
+    (λ none. subst (λ world. has_whole_chain world c.args.class ≡ false) c.self.view_is (c.self.invariant.complete c.args.class none))

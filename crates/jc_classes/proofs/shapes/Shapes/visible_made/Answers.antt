@@ -1,6 +1,6 @@
 use Rattle.std.proofs.Common.{◌≤◌, arith}
 use Rattle.jc_classes.proofs.Tabling.{rows_all}
-use Rattle.jc_classes.proofs.table.ClassTable.visible_made.Goals as goal
+use Rattle.jc_classes.proofs.shapes.Shapes.visible_made.Goals as goal
 
 pub returns : goal.returns
 returns c =

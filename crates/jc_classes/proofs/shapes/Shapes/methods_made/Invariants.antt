@@ -2,7 +2,7 @@ use Rattle.std.proofs.Common.{◌≡◌, ℕ, ◌+◌, ◌<◌, length}
 use Rattle.std.specs.Option.{option_map}
 use Rattle.jc_classes.specs.PrivatePlaces.{place_at}
 use Rattle.jc_classes.specs.PrivateTables.{entry_made}
-use Rattle.jc_classes.proofs.table.ClassTable.methods_made.Given as goal
+use Rattle.jc_classes.proofs.shapes.Shapes.methods_made.Given as goal
 
 abbrev pub invariant-loop-i : goal.invariant-loop-i
 invariant-loop-i l = record {

@@ -4,7 +4,7 @@ use Rattle.jc_classes.proofs.Tabling.{each_pushed}
 use Rattle.jc_classes.specs.PrivatePlaces.{place_at}
 use Rattle.jc_classes.specs.PrivateTables.{entry_made}
 use Rattle.jc_classes.specs.declared.name.MethodName.{MethodName}
-use Rattle.jc_classes.proofs.table.ClassTable.methods_made.Goals as goal
+use Rattle.jc_classes.proofs.shapes.Shapes.methods_made.Goals as goal
 
 pub loop-i-preserved : goal.loop-i-preserved
 loop-i-preserved c =

@@ -2,7 +2,7 @@ use Rattle.std.proofs.Common.{◌≡◌, ℕ, ◌+◌, ◌<◌, length}
 use Rattle.std.specs.Option.{option_map}
 use Rattle.jc_classes.specs.PrivatePlaces.{place_at}
 use Rattle.jc_classes.specs.PrivateTables.{entry_made, row_at}
-use Rattle.jc_classes.proofs.table.ClassTable.visible_made.Given as goal
+use Rattle.jc_classes.proofs.shapes.Shapes.visible_made.Given as goal
 
 abbrev pub invariant-loop-asker : goal.invariant-loop-asker
 invariant-loop-asker l = record {

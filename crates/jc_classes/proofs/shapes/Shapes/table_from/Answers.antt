@@ -3,7 +3,7 @@ use Rattle.std.specs.List.{filter_map}
 use Rattle.std.specs.Option.{option_map}
 use Rattle.jc_classes.proofs.Tabling.{table_made}
 use Rattle.jc_classes.specs.PrivateTables.{listed_row, listed_above}
-use Rattle.jc_classes.proofs.table.ClassTable.table_from.Goals as goal
+use Rattle.jc_classes.proofs.shapes.Shapes.table_from.Goals as goal
 
 pub returns : goal.returns
 returns c =

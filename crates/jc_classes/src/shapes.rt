@@ -1,0 +1,256 @@
+//! The packages of a world.
+
+ghost use Rattle.std.specs.Prelude.{◌≡◌, ◌<◌, ◌≤◌, List, [], length, bytes_eq, slice_get, IfOk, IfErr, IfSome};
+ghost use Rattle.std.specs.List.{position};
+ghost use Rattle.std.specs.Option.{option_map, option_map_or};
+ghost use Rattle.jc_cap_desc.specs.Shape.{Shape};
+ghost use Rattle.jc_classes.specs.Growth.{grown};
+ghost use Rattle.jc_classes.specs.World.{home_of, class_in, package_at, class_at, meets, import_of, loaded_with, exported_class, class_spelled, if_there, class_named, superclass_ref, superclass_of};
+ghost use Rattle.jc_classes.specs.PrivateSearch.{class_placed};
+ghost use Rattle.jc_classes.specs.PrivateShape.{record_of};
+ghost use Rattle.jc_classes.specs.Limits.{IsSmall, most_packages, most_classes_of_one};
+
+use crate::copies::{Copied, all_copied};
+use crate::name::{ClassName, name_in};
+use crate::shape::{Body, Class, PackageShape};
+use jc_base::{Aid, ClassRef, PackageInfo};
+use std::alloc::{AllocError, Global};
+use std::marker::Model;
+
+/// The packages of a world, without the tables of their classes.
+#[derive(Drop)]
+pub(crate) struct Shapes {
+    packages: Vec<PackageShape>,
+}
+
+impl Model for Shapes {
+    ghost use Rattle.std.specs.Prelude.{List};
+    ghost use Rattle.jc_cap_desc.specs.Shape.{Shape};
+    ghost use Rattle.jc_classes.specs.Limits.{IsSmall};
+
+    ghost Value = { List Shape };
+
+    ghost view = { λ s. s.packages.items };
+
+    ghost invariant = { λ s. IsSmall s.packages.items };
+}
+
+impl Copied for Shapes {
+    fn copied(&self, alloc: Global) -> Result<Shapes, AllocError> {
+        Ok(Shapes {
+            packages: all_copied(alloc, &self.packages)?,
+        })
+    }
+}
+
+impl PackageShape {
+    /// The class at an offset.
+    #[tactic(auto, using(crate::proofs::Placing::found_there, crate::proofs::Placing::none_there))]
+    pub(crate) fn class_in(&self, offset: u16) -> Option<&Class>
+        ensures { option_map (λ k. k.now) result ≡ class_in offset self.now }
+    {
+        let index = self.index_of(offset)?;
+        self.class_with(index)
+    }
+
+    /// Whether it meets an import: the AID and the major version are those, and the minor version isn't smaller.
+    fn meets(&self, wanted: &PackageInfo) -> bool
+        ensures { result ≡ meets wanted.now self.now }
+    {
+        let package = &self.package;
+        wanted.aid == package.aid && wanted.major == package.major && wanted.minor <= package.minor
+    }
+}
+
+impl Body {
+    /// The superclass that it names.
+    pub(crate) fn superclass(&self) -> Option<ClassRef>
+        ensures { result ≡ superclass_ref (record_of self.now) }
+    {
+        match self {
+            Body::Interface(_) => None,
+            Body::Class(class) => class.superclass,
+        }
+    }
+}
+
+/// Where the first of these packages stands that meets an import.
+fn first_that_meets(packages: &[PackageShape], wanted: &PackageInfo) -> Option<usize>
+    ensures found { result ≡ position (meets wanted.now) packages.now }
+    ensures within { IfSome result (λ there. there < length packages.now) }
+{
+    packages.iter().position(|p| p.meets(wanted))
+}
+
+/// Where the first of these packages stands that has an AID.
+fn first_with(packages: &[PackageShape], aid: &Aid) -> Option<usize>
+    ensures found { result ≡ position (λ shape. bytes_eq aid.now shape.«package».aid) packages.now }
+    ensures within { IfSome result (λ there. there < length packages.now) }
+{
+    packages.iter().position(|p| *aid == p.package.aid)
+}
+
+impl Shapes {
+    /// No packages.
+    pub(crate) fn new(alloc: Global) -> Shapes
+        ensures { result ≡ [] }
+    {
+        Shapes {
+            packages: Vec::new(alloc),
+        }
+    }
+
+    /// Where its memory is from.
+    pub(crate) fn allocator(&self) -> Global {
+        *self.packages.allocator()
+    }
+
+    /// Puts a package behind the others.
+    #[tactic(auto, using(crate::proofs::Small::small_grown))]
+    pub(crate) fn put(&mut self, shape: PackageShape) -> Result<(), AllocError>
+        requires room { length self.now < most_packages }
+        requires few { length shape.classes ≤ most_classes_of_one }
+        ensures done { IfOk result (λ u. self.new ≡ grown self.old shape) }
+        ensures kept { IfErr result (λ e. self.new ≡ self.old) }
+    {
+        self.packages.push(shape)?;
+        Ok(())
+    }
+
+    /// Drops the last package.
+    pub(crate) fn drop_last(&mut self)
+        ensures { (world : List Shape) (more : Shape) → self.old ≡ grown world more → self.new ≡ world }
+    {
+        self.packages.pop();
+    }
+
+    /// How many packages there are, those of the API among them.
+    pub(crate) fn len(&self) -> usize
+        ensures count { result ≡ length self.now }
+        ensures most { result ≤ most_packages }
+        ensures small { IsSmall self.now }
+    {
+        self.packages.len()
+    }
+
+    /// The package that stands there.
+    pub(crate) fn shape(&self, home: usize) -> Option<&PackageShape>
+        ensures found { option_map (λ s. s.now) result ≡ slice_get self.now home }
+        ensures few { IfSome result (λ s. length s.now.classes ≤ most_classes_of_one) }
+        ensures home { IfSome result (λ s. home < most_packages) }
+    {
+        self.packages.get(home)
+    }
+
+    /// The package of a class.
+    pub(crate) fn package_at(&self, class: ClassName) -> Option<&PackageShape>
+        ensures found { option_map (λ s. s.now) result ≡ package_at self.now class }
+        ensures few { IfSome result (λ s. length s.now.classes ≤ most_classes_of_one) }
+        ensures home { IfSome result (λ s. home_of class < most_packages) }
+    {
+        match class {
+            ClassName::Loaded { package: 0, .. } => None,
+            ClassName::Api(_) | ClassName::Loaded { .. } => self.shape(class.home()),
+        }
+    }
+
+    /// The class that has a name.
+    pub(crate) fn class_at(&self, class: ClassName) -> Option<&Class>
+        ensures { option_map (λ k. k.now) result ≡ class_at self.now class }
+    {
+        let shape = self.package_at(class)?;
+        shape.class_in(class.offset())
+    }
+
+    /// Where the package stands that meets the import with a token: among those before, the first.
+    pub(crate) fn import_of(&self, home: usize, token: u8) -> Option<usize>
+        ensures found { result ≡ import_of self.now home token }
+        ensures before { IfSome result (λ there. there < home) }
+    {
+        let shape = self.packages.get(home)?;
+        let wanted = shape.imports.get(usize::from(token))?;
+        first_that_meets(&self.packages[..home], wanted)
+    }
+
+    /// Where the loaded package with an AID stands, of those before a place.
+    pub(crate) fn loaded_with(&self, home: usize, aid: &Aid) -> Option<usize>
+        requires { home ≤ length self.now }
+        ensures found { result ≡ loaded_with self.now home aid.now }
+        ensures before { IfSome result (λ there. there < home) }
+    {
+        let loaded = self.packages[..home].get(2..)?;
+        let number = first_with(loaded, aid)?;
+        Some(2 + number)
+    }
+
+    /// The class that a package exports under a token.
+    fn exported_class(&self, home: usize, token: u8) -> Option<ClassName>
+        requires { home ≤ 256 }
+        ensures { result ≡ exported_class self.now home token }
+    {
+        let shape = self.packages.get(home)?;
+        let row = shape.exports.get(usize::from(token))?;
+        name_in(home, row.class)
+    }
+
+    /// What a reference spells in the package that stands there.
+    fn class_spelled(&self, home: usize, reference: ClassRef) -> Option<ClassName>
+        requires { home ≤ 256 }
+        ensures { result ≡ class_spelled self.now home reference }
+    {
+        match reference {
+            ClassRef::Internal { offset } => name_in(home, offset),
+            ClassRef::External { package, class } => {
+                let there = self.import_of(home, package)?;
+                self.exported_class(there, class)
+            }
+        }
+    }
+
+    /// A name that a class has.
+    fn if_there(&self, class: ClassName) -> Option<ClassName>
+        ensures { result ≡ if_there self.now class }
+    {
+        if self.class_at(class).is_some() {
+            Some(class)
+        } else {
+            None
+        }
+    }
+
+    /// The class that a reference of the package that stands there finds.
+    pub(crate) fn class_named(&self, home: usize, reference: ClassRef) -> Option<ClassName>
+        requires { home ≤ 256 }
+        ensures { result ≡ class_named self.now home reference }
+    {
+        let class = self.class_spelled(home, reference)?;
+        self.if_there(class)
+    }
+
+    /// The superclass of a class.
+    pub(crate) fn superclass_of(&self, class: ClassName) -> Option<ClassName>
+        ensures { result ≡ superclass_of self.now class }
+    {
+        let found = self.class_at(class)?;
+        let reference = found.body.superclass()?;
+        self.class_named(class.home(), reference)
+    }
+
+    /// The class with an index in the package that stands there.
+    pub(crate) fn class_placed(&self, home: usize, index: usize) -> Option<&Class>
+        ensures { option_map (λ k. k.now) result ≡ class_placed self.now home index }
+    {
+        self.shape(home)?.class_with(index)
+    }
+
+    /// How many classes the package has that stands there.
+    pub(crate) fn class_count(&self, home: usize) -> usize
+        ensures count { result ≡ option_map_or (λ s. length s.classes) (slice_get self.now home) 0 }
+        ensures few { result ≤ most_classes_of_one }
+    {
+        match self.shape(home) {
+            Some(shape) => shape.classes.len(),
+            None => 0,
+        }
+    }
+}

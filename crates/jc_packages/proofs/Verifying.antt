@@ -1,26 +1,26 @@
 -- Images that are linked one behind the other.
-use Rattle.std.proofs.Common.{◌≡◌, ◌⊎◌, ◌≤◌, ◌∙◌, sym, ap, subst, refl, ℕ, List, [], ◌∷◌, ◌++◌, ◌+◌, ◌<◌, length, drop, get_or, map, Ok, Err, Some, Vec, Global, inl, inr}
+use Rattle.std.proofs.Common.{◌≡◌, ◌⊎◌, ◌≤◌, ◌∙◌, sym, ap, subst, refl, ℕ, List, [], ◌∷◌, ◌++◌, ◌+◌, ◌<◌, length, drop, get_or, map, slice_get, Some, Vec, Global, inl, inr}
 use Rattle.std.proofs.lemmas.List.{drop_all, drop_more}
-use Rattle.jc_base.specs.Cutting.{Piece, Splits, answer}
-use Rattle.jc_base.specs.Parts.{Infos}
-use Rattle.jc_base.specs.Results.{◌>>=◌}
+use Rattle.jc_api.specs.Bound.{Bound}
+use Rattle.jc_base.proofs.Binding.{the_some}
 use Rattle.jc_base.specs.declared.fault.LoadFault.{LoadFault}
 use Rattle.jc_base.specs.declared.fault.LoadFault.TheVariants as faults
-use Rattle.jc_cap_desc.specs.Package.{package_of}
-use Rattle.jc_cap_desc.specs.Shape.{Package, Shape}
-use Rattle.jc_classes.specs.Growth.{grown}
+use Rattle.jc_cap_desc.specs.Shape.{Shape}
 use Rattle.jc_check.specs.Checked.{stated_for}
-use Rattle.jc_link.specs.Linked.{Linked}
 use Rattle.jc_check.specs.declared.fault.Fault.{Fault}
+use Rattle.jc_classes.specs.Api.{api_world}
+use Rattle.jc_classes.specs.Growth.{grown}
+use Rattle.jc_link.specs.Linked.{Linked}
 use Rattle.jc_verify.specs.Refusal.{IsUncarried}
-use Rattle.jc_link.specs.Linked.{IsRefusal}
-use Rattle.jc_packages.specs.Verify.{AreLoaded, IsCarriedByNone, IsFirstRefusal, IsPackage, IsReadAs, IsRefused, MayBeShort}
+use Rattle.jc_packages.specs.Verify.{AreLoaded, IsCarriedByNone, IsFirstRefusal, IsLinkedAfter, IsVerified, MayBeShort}
 use Rattle.jc_packages.specs.Verify.AreLoaded.{next, none}
 use Rattle.jc_packages.specs.Verify.IsFirstRefusal.{full, here, later}
-use Rattle.jc_packages.specs.Verify.MayBeShort as short
-use Rattle.jc_packages.specs.PrivateVerify.{AreUnloaded, IsPastLast, IsPut, IsStopped, IsUnlinked, IsUnput, Leads, Tells}
+use Rattle.jc_packages.specs.PrivateVerify.{AreUnloaded, IsInferred, IsPastLast, IsPut, IsStopped, IsUnlinked, IsUnput, Leads}
 use Rattle.jc_packages.specs.declared.unlinked.Unlinked.{Unlinked}
 use Rattle.jc_packages.specs.declared.unlinked.Unlinked.TheVariants.{Memory, Refused}
+use Rattle.jc_packages.specs.declared.verify_answer.VerifyAnswer.{VerifyAnswer}
+use Rattle.jc_packages.specs.declared.verify_answer.VerifyAnswer.TheVariants.{Certificate, NoCertificate}
+use Rattle.jc_packages.specs.declared.verify_answer.VerifyAnswer.TheVariants as answers
 
 -- a package whose method no states carry is carried by no certificate
 pub carried_by_none : (l : Linked) (offset : ℕ) (fault : Fault) → IsUncarried l offset fault → IsCarriedByNone l offset fault
@@ -34,33 +34,6 @@ carried_by_none l offset fault is =
       });
     }
 
--- an image that can't be cut is refused
-pub uncut : (before : List Shape) (image : List ℕ) (fault : LoadFault)
-    → (pieces : List Piece) × (rest : List ℕ) × Splits image pieces rest × (Err fault ≡ answer pieces rest) → IsRefused before image fault
-uncut before image fault found = record {
-  read = Err fault;
-  is = record { pieces = found.0; rest = found.1; cut = found.2; is = ap (λ r. r >>= package_of) found.3 };
-  refused = refl;
-}
-
--- an image that can be cut is read as its parts are
-pub read_as : (image : List ℕ) (parts : Infos) (read : Result Package LoadFault)
-    → (pieces : List Piece) × (rest : List ℕ) × Splits image pieces rest × (Ok parts ≡ answer pieces rest) → read ≡ package_of parts → IsReadAs image read
-read_as image parts read found is = record {
-  pieces = found.0;
-  rest = found.1;
-  cut = found.2;
-  is = is ∙ ap (λ r. r >>= package_of) found.3;
-}
-
--- a package that isn't linked is refused, or memory is out
-pub why_unlinked : (before : List Shape) (image : List ℕ) (p : Package) (fault : LoadFault) (why : Unlinked) → IsReadAs image (Ok p)
-    → IsRefusal before (Ok p) fault → Tells fault why → IsUnlinked before image why
-why_unlinked before image p fault why read is (Tells.short memory told) = subst (IsUnlinked before image) (sym told) (record { «package» = p; read = read })
-why_unlinked before image p fault why read (inl memory) (Tells.refused no told) = absurd (no memory)
-why_unlinked before image p fault why read (inr behind) (Tells.refused no told) =
-    subst (IsUnlinked before image) (sym told) (record { read = Ok p; is = read; refused = behind })
-
 -- before the first image
 pub at_first : (first : List Shape) (images : List (List ℕ)) → Leads first images first images
 at_first first images = record { loaded = λ last all. all; stopped = λ image why is. is }
@@ -71,7 +44,7 @@ stopped_later : (before after : List Shape) (image : List ℕ) (images : List (L
 stopped_later before after image images (Refused fault) put is =
     later before image images put.«package» fault put.fine put.room (subst (λ w. IsFirstRefusal w images fault) put.world is)
 stopped_later before after image images Memory put is =
-    short.later before image images put.«package» put.fine put.room (subst (λ w. MayBeShort w images) put.world is)
+    MayBeShort.later before image images put.«package» put.fine put.room (subst (λ w. MayBeShort w images) put.world is)
 
 -- behind one image more
 pub one_further : (first world after : List Shape) (images left : List (List ℕ)) (image : List ℕ) → Leads first images world (image ∷ left)
@@ -95,14 +68,21 @@ no_room world image other (x ∷ left) fault past =
 pub stopped_here : (world : List Shape) (image : List ℕ) (images : List (List ℕ)) (why : Unlinked) → IsUnlinked world image why
     → IsStopped world (image ∷ images) why
 stopped_here world image images (Refused fault) is = here world image images fault is
-stopped_here world image images Memory is = short.here world image images is
+stopped_here world image images Memory is = MayBeShort.here world image images is
+
+-- the first of images, where it isn't linked
+pub stopped_first : (world : List Shape) (images : List (List ℕ)) (image : List ℕ) (why : Unlinked) → slice_get images 0 ≡ Some image
+    → IsUnlinked world image why → IsStopped world images why
+stopped_first world [] image why first is = absurd cc
+stopped_first world (x ∷ images) image why first is =
+    subst (λ x. IsStopped world (x ∷ images) why) (sym (the_some x image first)) (stopped_here world image images why is)
 
 -- so is one that isn't put behind the others, where another follows
 unput_here : (world : List Shape) (image other : List ℕ) (left : List (List ℕ)) (why : Unlinked) → IsUnput world image why
     → IsStopped world (image ∷ left ++ other ∷ []) why
 unput_here world image other left (Refused fault) (inl is) = here world image (left ++ other ∷ []) fault is
 unput_here world image other left (Refused fault) (inr past) = no_room world image other left fault past
-unput_here world image other left Memory is = short.here world image (left ++ other ∷ []) is
+unput_here world image other left Memory is = MayBeShort.here world image (left ++ other ∷ []) is
 
 -- the images are stopped at the one that isn't put behind the others
 pub stopped : (first world : List Shape) (images left : List (List ℕ)) (image : List ℕ) (why : Unlinked) → Leads first images world (image ∷ left)
@@ -133,8 +113,18 @@ pub last_stopped : (first world : List Shape) (images : List (List ℕ)) (image 
 last_stopped first world images image why (none w) is = stopped_here first image [] why is
 last_stopped first world images image why (next before after i rest p fine room all) is =
     stopped_later first (grown first p.shape) i (rest ++ image ∷ []) why (record { «package» = p; fine = fine; room = room; world = refl })
-        (last_stopped (grown first p.shape) world rest image why all is)
+    (last_stopped (grown first p.shape) world rest image why all is)
 
 -- behind the last image
 pub at_last : (first world : List Shape) (images : List (Vec ℕ Global)) (i : ℕ) → length images ≤ i → Leads first (images_of images) world (images_of (drop i images)) → AreLoaded first (images_of images) world
 at_last first world images i past leads = leads.loaded world (subst (λ left. AreLoaded world (images_of left) world) (sym (drop_all i images past)) (none world))
+
+-- what is answered to a linked package is the answer
+pub verified : (binding : Bound) (earlier : List (List ℕ)) (image : List ℕ) (l : Linked) (answer : VerifyAnswer) → IsLinkedAfter binding earlier image l
+    → IsInferred l answer → IsVerified binding earlier image answer
+verified binding earlier image l (Certificate bytes) after is = record { linked = l; after = after; spelled = is }
+verified binding earlier image l (NoCertificate method fault) after is = record { linked = l; after = after; uncarried = is }
+verified binding earlier image l (answers.Refused fault) after is = absurd is
+verified binding earlier image l answers.Memory after is =
+    let behind = after.behind in
+    last_stopped (api_world binding) after.world earlier image Memory after.loaded (record { «package» = behind.«package»; read = behind.read })

@@ -1,19 +1,19 @@
 //! The verification of a package: its certificate is worked out.
 
-ghost use Rattle.std.specs.Prelude.{◌≡◌, ◌⊎◌, ◌<◌, ◌≤◌, [], ◌∷◌, ◌++◌, List, map, length, IfOk, IfErr};
+ghost use Rattle.std.specs.Prelude.{◌≡◌, ◌⊎◌, ◌<◌, ◌≤◌, [], ◌∷◌, ◌++◌, List, Some, map, length, slice_get, IfOk, IfErr};
 ghost use Rattle.jc_base.specs.declared.fault.LoadFault.TheVariants.{Full, Memory};
-ghost use Rattle.jc_cap_desc.specs.Shape.{Shape};
+ghost use Rattle.jc_cap_desc.specs.Shape.{HaveHeaders, Shape, StandApart};
 ghost use Rattle.jc_classes.specs.Api.{api_world};
 ghost use Rattle.jc_check.specs.Checked.{CarriesPackage};
 ghost use Rattle.jc_link.specs.Linked.{IsBoundTo, Linked as LinkedPackage, most_in_world, with_linked};
-ghost use Rattle.jc_packages.specs.Verify.{AreLoaded, IsLinkedAfter, IsLinkedBehind, IsVerified};
+ghost use Rattle.jc_packages.specs.Verify.{AreLoaded, IsLinkedAfter, IsLinkedBehind, IsReadAs, IsVerified};
 ghost use Rattle.jc_packages.specs.PrivateVerify.{AreUnloaded, IsInferred, IsPut, IsStopped, IsUnlinked, IsUnput};
 
 use crate::unlinked::Unlinked;
 use crate::verify_answer::VerifyAnswer;
 use jc_api::Binding;
 use jc_base::{LoadFault, cut};
-use jc_cap_desc::read_package;
+use jc_cap_desc::{Package, read_package};
 use jc_cert::Cert;
 use jc_link::{Linked, World, link_package};
 use jc_verify::{VerifyFault, infer};
@@ -33,38 +33,45 @@ pub fn put(world: &mut World, linked: Linked) -> Result<(), LoadFault>
     world.add(linked).map_err(|_| LoadFault::Memory)
 }
 
+// The package in an image.
+fn read_image<'a>(image: &'a [u8]) -> Result<Package<'a>, LoadFault>
+    ensures read { IsReadAs image.now result }
+    ensures apart { IfOk result (λ p. StandApart p.body.methods) }
+    ensures headers { IfOk result (λ p. HaveHeaders p.shape) }
+{
+    let parts = cut(image)?;
+    read_package(&parts)
+}
+
 // The package in an image, linked behind those of a world.
 fn link_image(alloc: Global, image: &[u8], world: &World) -> Result<Linked, Unlinked>
     ensures bound { IfOk result (IsBoundTo world.now) }
     ensures linked { IfOk result (IsLinkedBehind world.now.shapes image.now) }
     ensures unlinked { IfErr result (IsUnlinked world.now.shapes image.now) }
 {
-    let parts = cut(image).map_err(Unlinked::Refused)?;
-    let read = read_package(&parts).map_err(Unlinked::Refused)?;
-    Ok(link_package(alloc, &read, world)?)
+    match read_image(image) {
+        Ok(read) => Ok(link_package(alloc, &read, world)?),
+        Err(fault) => Err(Unlinked::Refused(fault)),
+    }
 }
 
 // Why an image isn't linked where no memory is left: what is wrong with it by itself, or that.
 fn unlinked(image: &[u8]) -> Unlinked
     ensures { (before : List Shape) → IsUnlinked before image.now result }
 {
-    let parts = match cut(image) {
-        Ok(parts) => parts,
-        Err(fault) => return Unlinked::Refused(fault),
-    };
-    match read_package(&parts) {
+    match read_image(image) {
         Ok(_) => Unlinked::Memory,
         Err(fault) => Unlinked::Refused(fault),
     }
 }
 
-// Why the first of images isn't linked where no memory is left.
-fn first_unlinked(image: &[u8], earlier: &[Vec<u8>]) -> Unlinked
-    ensures { (before : List Shape) → IsStopped before (map (λ image. image.items) earlier.now ++ image.now ∷ []) result }
+// The first of images.
+fn first_of<'a>(earlier: &'a [Vec<u8>], image: &'a [u8]) -> &'a [u8]
+    ensures { slice_get (map (λ image. image.items) earlier.now ++ image.now ∷ []) 0 ≡ Some result.now }
 {
-    match earlier {
-        [] => unlinked(image),
-        [first, ..] => unlinked(first),
+    match earlier.first() {
+        Some(first) => first,
+        None => image,
     }
 }
 
@@ -77,15 +84,32 @@ fn load(alloc: Global, world: &mut World, image: &[u8]) -> Result<(), Unlinked>
     Ok(put(world, linked)?)
 }
 
-// Puts the packages in images behind one another.
-fn load_all(alloc: Global, world: &mut World, earlier: &[Vec<u8>]) -> Result<(), Unlinked>
-    ensures loaded { IfOk result (λ u. AreLoaded world.old.shapes (map (λ image. image.items) earlier.now) world.new.shapes) }
-    ensures unloaded { IfErr result (AreUnloaded world.old.shapes (map (λ image. image.items) earlier.now)) }
+// A world with the packages in images behind one another.
+fn load_all(alloc: Global, first: World, earlier: &[Vec<u8>]) -> Result<World, Unlinked>
+    ensures loaded { IfOk result (λ w. AreLoaded first.shapes (map (λ image. image.items) earlier.now) w.shapes) }
+    ensures unloaded { IfErr result (AreUnloaded first.shapes (map (λ image. image.items) earlier.now)) }
 {
+    let mut world = first;
     for image in earlier {
-        load(alloc, world, image)?;
+        load(alloc, &mut world, image)?;
     }
-    Ok(())
+    Ok(world)
+}
+
+// The world of the API's packages. Where no memory is left for it the first of the images tells why it isn't linked.
+fn first_world(
+    alloc: Global,
+    image: &[u8],
+    earlier: &[Vec<u8>],
+    binding: &Binding,
+) -> Result<World, Unlinked>
+    ensures made { IfOk result (λ w. w.shapes ≡ api_world binding.now) }
+    ensures stopped { IfErr result (IsStopped (api_world binding.now) (map (λ image. image.items) earlier.now ++ image.now ∷ [])) }
+{
+    match World::new(alloc, binding) {
+        Ok(world) => Ok(world),
+        Err(_) => Err(unlinked(first_of(earlier, image))),
+    }
 }
 
 // The package in an image, linked behind those before it.
@@ -98,10 +122,8 @@ fn link_last(
     ensures linked { IfOk result (IsLinkedAfter binding.now (map (λ image. image.items) earlier.now) image.now) }
     ensures stopped { IfErr result (IsStopped (api_world binding.now) (map (λ image. image.items) earlier.now ++ image.now ∷ [])) }
 {
-    let Ok(mut world) = World::new(alloc, binding) else {
-        return Err(first_unlinked(image, earlier));
-    };
-    load_all(alloc, &mut world, earlier)?;
+    let first = first_world(alloc, image, earlier, binding)?;
+    let world = load_all(alloc, first, earlier)?;
     link_image(alloc, image, &world)
 }
 

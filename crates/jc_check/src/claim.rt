@@ -1,6 +1,6 @@
 //! What a certificate claims of a place, with the classes that its names stand for.
 
-ghost use Rattle.std.specs.Prelude.{◌≡◌, option_map, IfOk};
+ghost use Rattle.std.specs.Prelude.{◌≡◌, option_map, length, vec_capacity, IfOk, IfSome};
 ghost use Rattle.jc_cert.specs.Cert.{stated};
 ghost use Rattle.jc_check.specs.Claim.{type_claimed, types_claimed};
 
@@ -47,14 +47,16 @@ pub(crate) fn types_found<R: CheckRules>(
     rules: &R,
     types: &[StatedType],
 ) -> Result<Option<Vec<Ty>>, AllocError>
-    ensures { IfOk result (λ found. option_map (λ types. types.items) found ≡ types_claimed (R.rules rules.now).class_of types.now) }
+    ensures claimed { IfOk result (λ found. option_map (λ types. types.items) found
+        ≡ types_claimed (R.rules rules.now).class_of types.now) }
+    ensures room { IfOk result (λ found. IfSome found (λ found. vec_capacity found ≡ length types.now)) }
 {
     let mut found = Vec::with_capacity(alloc, types.len())?;
     for index in 0..types.len() {
         let Some(ty) = type_found(rules, types[index]) else {
             return Ok(None);
         };
-        found.push(ty)?;
+        found.push_reserved(ty);
     }
     Ok(Some(found))
 }

@@ -36,6 +36,7 @@ fn nargs_of(declared: &DeclaredMethod) -> u8
 fn header_is_small(declared: &DeclaredMethod)
     ensures { IsSmallHeader declared.now }
 {
+    // Only their contracts count: each number is a byte.
     let _arguments = nargs_of(declared);
     let _locals = max_locals_of(declared);
     let _operands = max_stack_of(declared);
@@ -49,6 +50,7 @@ fn world_laws(linked: &Linked)
     ensures headed { AreHeaded linked.now.world (length linked.now.world - 1) }
     ensures resolved { IsResolved linked.now.world (length linked.now.world - 1) linked.now.body }
 {
+    // Only their contracts count: what always holds of a table and of a linked package.
     let _count = linked.table().len();
     let _body = linked.body();
     built_worlds_are_sound();
@@ -75,7 +77,8 @@ fn one_frame_more(linked: &Linked, body: &MethodCode)
     frame_is_small(linked, body);
 }
 
-/// The frames of all methods with code are small. It does nothing but look at their headers.
+/// The frames of all methods with code are small. It does nothing but look at their headers: that these count with bytes is
+/// what their types say, and no list of methods says it of each.
 #[tactic(auto, using(crate::proofs::Knowing::none_small))]
 fn frames_are_small(linked: &Linked)
     ensures { AreSmallFrames linked.now (length linked.now.body.kept.methods) }

@@ -173,6 +173,7 @@ fn first_refusal(alloc: Global, linked: &Linked, cert: &Cert) -> Result<(), Load
 fn carried_is_typed(linked: &Linked)
     ensures { (of : List Row) → CarriesPackage linked.now of → IsPackageTyped linked.now }
 {
+    // Only its contract counts: what always holds of a table.
     let _count = linked.table().len();
     built_worlds_are_sound();
     order_laws();

@@ -1,6 +1,6 @@
 //! The methods of a linked package as the check sees them.
 
-ghost use Rattle.std.specs.Prelude.{◌≡◌, ◌-◌, ◌++◌, map, IfOk, [], OnOk, IfErr, ◌<◌, ◌^◌, length};
+ghost use Rattle.std.specs.Prelude.{◌≡◌, ◌-◌, ◌++◌, map, IfOk, [], OnOk, IfErr, ◌<◌, ◌^◌, length, vec_capacity};
 ghost use Rattle.std.specs.Option.{option_and_then, option_map_or};
 ghost use Rattle.jc_step.specs.Method.{max_stack_of, own_method, result_of};
 ghost use Rattle.jc_cert.specs.Cert.{stated};
@@ -85,11 +85,12 @@ fn handlers_of(
     code_offset: usize,
     rows: &[HandlerRow],
 ) -> Result<Vec<Handler>, AllocError>
-    ensures { IfOk result (λ handlers. handlers.items ≡ map (handler_of linked.now code_offset) rows.now) }
+    ensures handlers { IfOk result (λ handlers. handlers.items ≡ map (handler_of linked.now code_offset) rows.now) }
+    ensures room { IfOk result (λ handlers. vec_capacity handlers ≡ length rows.now) }
 {
     let mut handlers = Vec::with_capacity(alloc, rows.len())?;
     for row in rows {
-        handlers.push(handler_of(linked, code_offset, row))?;
+        handlers.push_reserved(handler_of(linked, code_offset, row));
     }
     Ok(handlers)
 }

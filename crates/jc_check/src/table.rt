@@ -1,6 +1,6 @@
 //! The table of marks: where instructions begin, and where the certificate claims a state.
 
-ghost use Rattle.std.specs.Prelude.{◌≡◌, ◌<◌, ◌^◌, ◌++◌, [], ◌∷◌, List, Ok, Err, map, true, length, replicate, slice_index_or, IfOk, IfErr, OnOk};
+ghost use Rattle.std.specs.Prelude.{◌≡◌, ◌<◌, ◌^◌, ◌++◌, [], ◌∷◌, List, Ok, Err, map, true, length, replicate, slice_index_or, vec_capacity, IfOk, IfErr, OnOk};
 ghost use Rattle.jc_code.specs.declared.fault.CodeFault.{CodeFault};
 ghost use Rattle.jc_code.specs.Listing.{PlacedInstr, StopsAt, begins};
 ghost use Rattle.jc_cert.specs.Cert.{stated};
@@ -37,11 +37,12 @@ fn reason_for(fault: CodeFault) -> Reason
 
 /// A table without marks for so many bytes.
 pub(crate) fn no_marks(alloc: Global, count: usize) -> Result<Vec<Mark>, AllocError>
-    ensures { IfOk result (λ marks. marks.items ≡ replicate count Inside) }
+    ensures marks { IfOk result (λ marks. marks.items ≡ replicate count Inside) }
+    ensures room { IfOk result (λ marks. vec_capacity marks ≡ count) }
 {
     let mut marks = Vec::with_capacity(alloc, count)?;
     for _ in 0..count {
-        marks.push(Mark::Inside)?;
+        marks.push_reserved(Mark::Inside);
     }
     Ok(marks)
 }
@@ -219,13 +220,14 @@ pub(crate) fn mark_states<R: CheckRules>(
         → (states_stand (R.rules rules.now) method.now listing (map stated states.now) ≡ Ok claims.items) × IsTable (R.rules rules.now) method.now listing claims.items marks.new) }
     ensures err { IfErr result (λ fault. IfRefused fault (λ f. (listing : List PlacedInstr) → IsTable (R.rules rules.now) method.now listing [] marks.old
         → states_stand (R.rules rules.now) method.now listing (map stated states.now) ≡ Err f)) }
+    ensures room { IfOk result (λ claims. vec_capacity claims ≡ length states.now) }
 {
     let mut claims = Vec::with_capacity(alloc, states.len())?;
     for index in 0..states.len() {
         let row = &states[index];
         let claim = stand_state(alloc, rules, method, marks, row)?;
         hold(marks, usize::from(row.pc), index as u16);
-        claims.push(claim)?;
+        claims.push_reserved(claim);
     }
     Ok(claims)
 }

@@ -1,6 +1,6 @@
 //! Copies of a package's shape, which lends from its image.
 
-ghost use Rattle.std.specs.Prelude.{◌≡◌, ◌<◌, ◌≤◌, ◌^◌, length, IfOk};
+ghost use Rattle.std.specs.Prelude.{◌≡◌, ◌<◌, ◌≤◌, ◌^◌, length, vec_capacity, IfOk};
 ghost use Rattle.jc_cap_class.specs.declared.record.RecordBody.TheVariants as Read;
 ghost use Rattle.jc_classes.specs.Limits.{most_classes_of_one};
 ghost use Rattle.jc_classes.specs.PrivateShape.{record_of};
@@ -124,12 +124,13 @@ fn method_of(alloc: Global, method: &ClassMethod) -> Result<Method, AllocError>
 
 fn methods_of(alloc: Global, class: &jc_cap_desc::Class) -> Result<Vec<Method>, AllocError>
     ensures copied { IfOk result (λ copied. copied.items ≡ class.now.methods) }
+    ensures room { IfOk result (λ copied. vec_capacity copied ≡ length class.now.methods) }
     ensures few { IfOk result (λ copied. length copied.items < 2 ^ 16) }
 {
     let mut left = class.methods();
     let mut copied = Vec::with_capacity(alloc, usize::from(left.len()))?;
     while let Some(method) = left.next() {
-        copied.push(method_of(alloc, &method)?)?;
+        copied.push_reserved(method_of(alloc, &method)?);
     }
     Ok(copied)
 }

@@ -54,7 +54,7 @@ module _ (places : List FramePlace) (words : List ℕ) (s : Sizes) (laid : IsLai
     same_length : length others ≡ length words
     same_length = ap (λ (xs : List ℕ). length xs) put ∙ put_length words s.used arguments arguments_within
 
-    pub one_more : (count room word_count used : ℕ) → count ≡ s.places + 1 → s.room ≤ room → word_count ≡ s.words → used ≡ s.used + p.locals + p.operands
+    pub one_more : (count room word_count used : ℕ) → count ≡ s.places + 1 → room ≡ s.room → word_count ≡ s.words → used ≡ s.used + p.locals + p.operands
         → IsLaid items others (record { places = count; room = room; words = word_count; used = used; most_frames = s.most_frames; most_words = s.most_words })
     one_more count room word_count used counts grows same_count ends =
         let l : length items ≡ length places + 1 = ap (λ (xs : List FramePlace). length xs) are ∙ length-append places (p ∷ []) in

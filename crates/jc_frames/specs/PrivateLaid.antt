@@ -31,7 +31,7 @@ pub record Sizes : Type 0 where
   pub most_frames : ℕ
   pub most_words : ℕ
 
--- the frames lie within the words
+-- the frames lie within the words; room for exactly the most frames is reserved
 pub record IsLaid (places : List FramePlace) (words : List ℕ) (s : Sizes) : Type 0 where
   pub laid : AreLaid (reverse places) s.used
   pub place_count : s.places ≡ length places
@@ -39,7 +39,7 @@ pub record IsLaid (places : List FramePlace) (words : List ℕ) (s : Sizes) : Ty
   pub sized : length words ≡ s.most_words
   pub within : s.used ≤ s.most_words
   pub frames : length places ≤ s.most_frames
-  pub reserved : s.most_frames ≤ s.room
+  pub reserved : s.room ≡ s.most_frames
   pub few_frames : s.most_frames < 2 ^ 8
   pub few_words : s.most_words < 2 ^ 16
 

@@ -99,7 +99,7 @@ module _ (headers : List Header) (cells : List ℕ) (s : Sizes) (laid : IsLaid h
 
   -- one object more
   pub one_more : (h : Header) (items : List Header) (count room : ℕ) → h.start ≡ s.used → (length headers < s.most_objects) × (s.used + length headers + 1 + h.len ≤ s.most_cells)
-      → items ≡ headers ++ h ∷ [] → count ≡ s.headers + 1 → s.room ≤ room
+      → items ≡ headers ++ h ∷ [] → count ≡ s.headers + 1 → room ≡ s.room
       → IsLaid items cells (record { headers = count; room = room; cells = s.cells; used = s.used + h.len; most_objects = s.most_objects; most_cells = s.most_cells })
   one_more h items count room start left are counts grows =
       let l : length items ≡ length headers + 1 = ap (λ (xs : List Header). length xs) are ∙ length_more headers h in

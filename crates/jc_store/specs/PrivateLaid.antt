@@ -28,7 +28,8 @@ pub record Sizes : Type 0 where
   pub most_objects : ℕ
   pub most_cells : ℕ
 
--- the objects lie within the cells, with one cell left for each of them, and the cells behind them are 0
+-- the objects lie within the cells, with one cell left for each of them, and the cells behind them are 0; room for exactly
+-- the most headers is reserved
 pub record IsLaid (headers : List Header) (cells : List ℕ) (s : Sizes) : Type 0 where
   pub laid : AreLaid 0 headers s.used
   pub header_count : s.headers ≡ length headers
@@ -37,7 +38,7 @@ pub record IsLaid (headers : List Header) (cells : List ℕ) (s : Sizes) : Type 
   pub within : s.used + length headers ≤ s.most_cells
   pub blank : drop s.used cells ≡ replicate (s.most_cells - s.used) 0
   pub objects : length headers ≤ s.most_objects
-  pub reserved : s.most_objects ≤ s.room
+  pub reserved : s.room ≡ s.most_objects
   pub few_objects : s.most_objects < 2 ^ 16
   pub few_cells : s.most_cells < 2 ^ 16
 

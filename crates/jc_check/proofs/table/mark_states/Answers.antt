@@ -1,4 +1,4 @@
-use Rattle.std.proofs.Common.{map, arith}
+use Rattle.std.proofs.Common.{map, ◌∙◌, arith}
 use Rattle.std.proofs.lemmas.List.{length-map}
 use Rattle.std.proofs.lemmas.Result.{err_from_is_err_and}
 use Rattle.jc_cert.specs.Cert.{stated}
@@ -10,14 +10,18 @@ returns-in_err-claim-clause-err g c =
     let p = err_from_is_err_and c.from_residual-in_err-claim.result c.from_residual-in_err-claim.ensures.1 in
     let at = row_there c.args.states.now c.loop-index.index c.index-states-index.result c.loop-index-test.true c.index-states-index.is in
     rw (p.1, p.2) (told_states (g.R.CheckRules.rules c.args.rules.now) c.args.method.now (map stated c.args.states.now) c.loop-index.index c.loop-index.claims.items c.args.marks.now c.loop-index.marks (stated c.index-states-index.result) c.in_err-claim.field-0.0 at
-    c.in_err-claim.ensures.err c.loop-index.invariant)
+    c.in_err-claim.ensures.err c.loop-index.invariant.0)
 
 pub loop-index-preserved : goal.loop-index-preserved
-loop-index-preserved g c listing table =
+loop-index-preserved g c =
     let at = row_there c.args.states.now c.loop-index.index c.index-states-index.result c.loop-index-test.true c.index-states-index.is in
-    rw c.in_ok-push.ensures.items (more_states (g.R.CheckRules.rules c.args.rules.now) c.args.method.now listing (map stated c.args.states.now) c.loop-index.index c.loop-index.claims.items c.loop-index.marks c.hold.new.marks (stated c.index-states-index.result) c.in_ok-claim.claim at
-    (c.in_ok-claim.ensures.ok listing c.loop-index.claims.items) (rw c.from.ensures at c.hold.ensures.table) (c.loop-index.invariant listing table))
+    let n = c.loop-index.invariant.1 in let more = c.push_reserved.ensures.len in (
+      (λ listing table. rw c.push_reserved.ensures.items (more_states (g.R.CheckRules.rules c.args.rules.now) c.args.method.now listing (map stated c.args.states.now) c.loop-index.index c.loop-index.claims.items c.loop-index.marks c.hold.new.marks (stated c.index-states-index.result) c.in_ok-claim.claim at
+          (c.in_ok-claim.ensures.ok listing c.loop-index.claims.items) (rw c.from.ensures at c.hold.ensures.table) (c.loop-index.invariant.0 listing table))),
+      omega (arith, n, more),
+      c.push_reserved.ensures.capacity ∙ c.loop-index.invariant.2,
+    )
 
 pub returns-clause-ok : goal.returns-clause-ok
 returns-clause-ok g c listing table =
-    all_states (g.R.CheckRules.rules c.args.rules.now) c.args.method.now listing (map stated c.args.states.now) c.loop-index.index c.loop-index.claims.items c.loop-index.marks (rw length-map (omega (arith, c.loop-index-test.false))) (c.loop-index.invariant listing table)
+    all_states (g.R.CheckRules.rules c.args.rules.now) c.args.method.now listing (map stated c.args.states.now) c.loop-index.index c.loop-index.claims.items c.loop-index.marks (rw length-map (omega (arith, c.loop-index-test.false))) (c.loop-index.invariant.0 listing table)

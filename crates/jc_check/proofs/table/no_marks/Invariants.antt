@@ -1,7 +1,7 @@
-use Rattle.std.proofs.Common.{◌≡◌}
+use Rattle.std.proofs.Common.{◌≡◌, vec_len, vec_capacity}
 use Rattle.std.specs.Prelude.{replicate}
 use Rattle.jc_check.specs.declared.mark.Mark.TheVariants.{Inside}
 use Rattle.jc_check.proofs.table.no_marks.Given as goal
 
 abbrev pub invariant-loop : goal.invariant-loop
-invariant-loop l = l.marks.items ≡ replicate l.counter Inside
+invariant-loop l = (l.marks.items ≡ replicate l.counter Inside) × (vec_len l.marks ≡ l.counter) × (vec_capacity l.marks ≡ l.count)

@@ -11,5 +11,6 @@ pub mod PrivateText
 pub mod Statement
 pub mod Draft
 pub mod PrivateDraft
+pub mod Fault
 pub mod Binding
 pub mod Meaning

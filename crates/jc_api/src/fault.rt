@@ -1,21 +1,37 @@
 //! Why a text isn't a binding.
 
-use thiserror::Error;
+use std::error::Error;
+use std::fmt;
 
-/// Why a text isn't a binding: the first fault in the order of the lines, which are numbered from 1 on.
-#[derive(Clone, Copy, Debug, PartialEq, Eq, Drop, Error)]
+/// Why a text isn't a binding: the first fault in the order of the lines, which are numbered from 1 on. Its `Display` is the words that
+/// are printed.
+#[derive(Clone, Copy, Debug, PartialEq, Eq, Drop)]
 pub enum BindingFault {
     /// The line with this number says nothing that a line may say.
-    #[error("BadLine {0}")]
     BadLine(usize),
     /// The line with this number names a package, class or member that a line before it named.
-    #[error("Repeated {0}")]
     Repeated(usize),
     /// The line with this number gives an AID or token that a line before it gave to something else, where they have to
     /// differ.
-    #[error("Clash {0}")]
     Clash(usize),
     /// A package, class or member isn't named.
-    #[error("Missing")]
     Missing,
 }
+
+impl fmt::Display for BindingFault {
+    ghost use Rattle.std.specs.Prelude.{Some};
+    ghost use Rattle.jc_api.specs.Fault.{words_of};
+
+    ghost output = { λ fault. Some (words_of fault) };
+
+    fn fmt<W: fmt::Write>(&self, f: &mut fmt::Formatter<W>) -> fmt::Result {
+        match self {
+            BindingFault::BadLine(line) => write!(f, "BadLine {line}"),
+            BindingFault::Repeated(line) => write!(f, "Repeated {line}"),
+            BindingFault::Clash(line) => write!(f, "Clash {line}"),
+            BindingFault::Missing => write!(f, "Missing"),
+        }
+    }
+}
+
+impl Error for BindingFault {}

@@ -1,5 +1,7 @@
 -- Packages and certificates in memory, by their names.
-use Rattle.std.specs.Prelude.{◌≡◌, ◌++◌, ◌∷◌, [], ℕ, List, Option, Some, find, option_map, bytes_eq}
+use Rattle.std.specs.Prelude.{◌≡◌, ◌++◌, ◌∷◌, [], ℕ, List, Option, Some, None, find, option_map, bytes_eq}
+use Rattle.jc_packages.specs.declared.source.SourceFault.{SourceFault}
+use Rattle.jc_packages.specs.declared.source.SourceFault.TheVariants.{Failed, Memory}
 
 -- bytes under a name
 pub record Stored : Type 0 where
@@ -27,3 +29,13 @@ stored_under name stored = option_map (λ s. s.bytes) (find (λ s. bytes_eq s.na
 -- under a name are these bytes
 abbrev pub Holds : List Stored → List ℕ → List ℕ → Type 0
 Holds stored name bytes = stored_under name stored ≡ Some bytes
+
+-- under a name are some bytes
+pub record IsHeld (stored : List Stored) (name : List ℕ) : Type 0 where
+  pub bytes : List ℕ
+  pub held : Holds stored name bytes
+
+-- why nothing is read under a name: nothing is there, or something is, and there is no memory for it
+abbrev pub IsUnread : List Stored → List ℕ → SourceFault → Type 0
+IsUnread stored name Failed = stored_under name stored ≡ None
+IsUnread stored name Memory = IsHeld stored name

@@ -1,7 +1,7 @@
 //! Packages and certificates in memory.
 
-ghost use Rattle.std.specs.Prelude.{◌≡◌, ◌+◌, ◌<◌, ◌≤◌, ◌^◌, None, IfOk, IfErr, find, option_map, bytes_eq};
-ghost use Rattle.jc_packages.specs.Memory.{Holds, empty_store, stored_under, with_stored};
+ghost use Rattle.std.specs.Prelude.{◌≡◌, ◌+◌, ◌<◌, ◌≤◌, ◌^◌, IfOk, IfErr, find, option_map, bytes_eq};
+ghost use Rattle.jc_packages.specs.Memory.{Holds, IsUnread, empty_store, with_stored};
 ghost use Rattle.jc_packages.specs.Source.{HoldSame, failures_in};
 
 use crate::source::{PackageSource, SourceFault};
@@ -62,7 +62,7 @@ fn entry_under<'e>(entries: &'e [Entry], name: &str) -> Option<&'e Entry>
 // The bytes under a name.
 fn copied(alloc: Global, entries: &[Entry], name: &str) -> Result<Vec<u8>, SourceFault>
     ensures held { IfOk result (λ bytes. Holds entries.now name.now bytes.items) }
-    ensures missing { IfErr result (λ fault. fault ≡ SourceFault.Failed → stored_under name.now entries.now ≡ None) }
+    ensures unread { IfErr result (IsUnread entries.now name.now) }
 {
     match entry_under(entries, name) {
         Some(entry) => Vec::from_slice(alloc, &entry.bytes).map_err(|_| SourceFault::Memory),
@@ -124,7 +124,7 @@ impl PackageSource for MemorySource {
         ensures held { IfOk result (λ image. Holds self.old.images name.now image.items) }
         ensures same_images { HoldSame (Holds self.old.images) (Holds self.new.images) }
         ensures same_certificates { HoldSame (Holds self.old.certificates) (Holds self.new.certificates) }
-        ensures missing { IfErr result (λ fault. fault ≡ SourceFault.Failed → stored_under name.now self.old.images ≡ None) }
+        ensures unread { IfErr result (IsUnread self.old.images name.now) }
     {
         let read = copied(alloc, &self.images, name);
         self.failures += failures_in(&read);
@@ -137,7 +137,7 @@ impl PackageSource for MemorySource {
         ensures held { IfOk result (λ certificate. Holds self.old.certificates name.now certificate.items) }
         ensures same_images { HoldSame (Holds self.old.images) (Holds self.new.images) }
         ensures same_certificates { HoldSame (Holds self.old.certificates) (Holds self.new.certificates) }
-        ensures missing { IfErr result (λ fault. fault ≡ SourceFault.Failed → stored_under name.now self.old.certificates ≡ None) }
+        ensures unread { IfErr result (IsUnread self.old.certificates name.now) }
     {
         let read = copied(alloc, &self.certificates, name);
         self.failures += failures_in(&read);

@@ -10,3 +10,5 @@ mod Cases
 mod Running
 mod Evaluating
 mod Lines
+mod Reading
+mod Jobs

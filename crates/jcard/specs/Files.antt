@@ -1,36 +1,91 @@
--- Files: why one can't be read or written, by its name, and which binding its bytes say.
-use Rattle.std.specs.Prelude.{⊤, ◌≡◌, ◌++◌, ℕ, List, Option, Some, None, Err, option_map, codes}
+-- Files: what the system tells of a path, what is read and written there, and why not, with the words for it.
+use Rattle.std.specs.Prelude.{⊤, ◌≡◌, ◌<◌, ◌≤◌, ◌++◌, ℕ, List, length, Option, Some, None, option_map, codes}
 use Rattle.std.specs.Fmt.{decimal}
-use Rattle.std.specs.Str.{IsUtf8}
+use Rattle.std.specs.IoError.{error_kind}
 use Rattle.std.specs.String.{string_bytes}
-use Rattle.jc_api.specs.Binding.{binding_of}
+use Rattle.std.specs.declared.io.Error.{Error}
+use Rattle.std.specs.declared.io.ErrorKind.TheVariants.{OutOfMemory}
+use Rattle.jc_api.specs.Fault.{words_of}
 use Rattle.jcard.specs.declared.files.FileCause.{FileCause}
 use Rattle.jcard.specs.declared.files.FileCause.TheVariants.{System, NoFolder, TooLong, NotText, NoBinding}
 use Rattle.jcard.specs.declared.files.FileFault.{FileFault}
 use Rattle.jcard.specs.declared.files.ReadFault.{ReadFault}
 use Rattle.jcard.specs.declared.files.ReadFault.TheVariants.{File, Memory}
 
--- what is said of a cause; the system has words of its own, and so has the reader of bindings
+-- what the system tells of a path: a folder is there, or a file of these bytes, or it tells an error
+pub data Entry : Type 0 where
+  folder : Entry
+  file : List ℕ → Entry
+  failing : Error → Entry
+
+-- bytes that were written to the file under a path
+pub record Written : Type 0 where
+  pub path : List ℕ
+  pub bytes : List ℕ
+
+-- these files were written, in their order, behind whatever was written before
+abbrev pub IsWritten : (List Written → Type 0) → (List Written → Type 0) → List Written → Type 0
+IsWritten before after files = (earlier : List Written) → before earlier → after (earlier ++ files)
+
+-- a file is under a path, whatever its bytes are
+pub record IsFile (holds : Entry → Type 0) : Type 0 where
+  pub bytes : List ℕ
+  pub held : holds (file bytes)
+
+-- a file of more bytes than so many is under a path
+pub record IsLonger (holds : Entry → Type 0) (most : ℕ) : Type 0 where
+  pub bytes : List ℕ
+  pub held : holds (file bytes)
+  pub more : most < length bytes
+
+-- the file under a path has these bytes, and no more than so many
+pub record IsContent (holds : Entry → Type 0) (most : ℕ) (bytes : List ℕ) : Type 0 where
+  pub held : holds (file bytes)
+  pub within : length bytes ≤ most
+
+-- why no file of at most so many bytes is read: the system tells an error, or the file has more
+abbrev pub IsUnread : (Entry → Type 0) → ℕ → FileCause → Type 0
+IsUnread holds most (System error) = holds (failing error)
+IsUnread holds most NoFolder = ⊥
+IsUnread holds most (TooLong limit) = (limit ≡ most) × IsLonger holds most
+IsUnread holds most NotText = ⊥
+IsUnread holds most (NoBinding fault) = ⊥
+
+-- why no file is written: the system tells an error
+abbrev pub IsUnwritten : (Entry → Type 0) → FileCause → Type 0
+IsUnwritten holds (System error) = holds (failing error)
+IsUnwritten holds NoFolder = ⊥
+IsUnwritten holds (TooLong limit) = ⊥
+IsUnwritten holds NotText = ⊥
+IsUnwritten holds (NoBinding fault) = ⊥
+
+-- the words of a cause, of which the system has some of its own
 abbrev pub cause_text : FileCause → Option (List ℕ)
 cause_text (System error) = None
 cause_text NoFolder = Some (codes "it is no folder")
 cause_text (TooLong most) = Some ((codes "it is of more than " ++ decimal most) ++ codes " bytes")
 cause_text NotText = Some (codes "it isn't UTF-8")
-cause_text (NoBinding fault) = None
+cause_text (NoBinding fault) = Some (codes "it is no binding: " ++ words_of fault)
 
 -- the file is named first
 abbrev pub file_line : FileFault → Option (List ℕ)
 file_line fault = option_map (λ text. (string_bytes fault.name ++ codes ": ") ++ text) (cause_text fault.cause)
 
--- the fault of the file with a name, or want of memory
-abbrev pub IsFaultOf : List ℕ → FileCause → ReadFault → Type 0
-IsFaultOf name cause (File fault) = (string_bytes fault.name ≡ name) × (fault.cause ≡ cause)
-IsFaultOf name cause Memory = ⊤
+-- the system tells that it is out of memory
+abbrev pub IsOutOfMemory : FileCause → Type 0
+IsOutOfMemory (System error) = error_kind error ≡ OutOfMemory
+IsOutOfMemory NoFolder = ⊥
+IsOutOfMemory (TooLong limit) = ⊥
+IsOutOfMemory NotText = ⊥
+IsOutOfMemory (NoBinding fault) = ⊥
 
--- why bytes say no binding
-abbrev pub IsNoBinding : List ℕ → FileCause → Type 0
-IsNoBinding bytes (System error) = ⊥
-IsNoBinding bytes NoFolder = ⊥
-IsNoBinding bytes (TooLong most) = ⊥
-IsNoBinding bytes NotText = IsUtf8 bytes → ⊥
-IsNoBinding bytes (NoBinding fault) = IsUtf8 bytes × (binding_of bytes ≡ Err fault)
+-- the fault names this path, and its cause is one of these, and not that the system is out of memory
+pub record IsFaultAt (path : List ℕ) (IsCause : FileCause → Type 0) (fault : FileFault) : Type 0 where
+  pub named : string_bytes fault.name ≡ path
+  pub cause : IsCause fault.cause
+  pub other : IsOutOfMemory fault.cause → ⊥
+
+-- the fault of a file is one of these; out of memory may be told at any time
+abbrev pub OfFile : (FileFault → Type 0) → ReadFault → Type 0
+OfFile IsFault (File fault) = IsFault fault
+OfFile IsFault Memory = ⊤

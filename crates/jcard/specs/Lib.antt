@@ -3,6 +3,8 @@ pub mod Eval
 pub mod PrivateEval
 pub mod Texts
 pub mod Line
+pub mod Folders
+pub mod PrivateFolders
 pub mod Verify
 pub mod Files
 pub mod Saying

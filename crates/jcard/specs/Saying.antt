@@ -1,5 +1,5 @@
 -- What the program says to a command line: a message, the stream that it is written to, and the exit status.
-use Rattle.std.specs.Prelude.{⊤, ◌≡◌, ◌⊎◌, ◌++◌, ℕ, List, length, Option, Some, None, is_some, option_map, codes}
+use Rattle.std.specs.Prelude.{⊤, ◌≡◌, ◌⊎◌, ◌++◌, ℕ, List, Option, Some, None, option_map, codes}
 use Rattle.std.specs.declared.io.ErrorKind.{ErrorKind}
 use Rattle.std.specs.declared.io.ErrorKind.TheVariants as io
 use Rattle.std.specs.Fmt.{decimal}
@@ -9,11 +9,11 @@ use Rattle.clap.specs.declared.error.kind.ErrorKind.TheVariants.{DisplayHelp, Di
 use Rattle.jc_base.specs.Reason.{name_of}
 use Rattle.jc_packages.specs.Answer.{verify_line_of}
 use Rattle.jcard.specs.Answer.{line_of}
-use Rattle.jcard.specs.Files.{file_line}
+use Rattle.jcard.specs.Files.{Entry, Written, file_line}
 use Rattle.jcard.specs.Line.{IsJobFor, IsLineError}
 use Rattle.jcard.specs.Texts.{AnswersTexts, IsTextFault, fault_line_of}
 use Rattle.jcard.specs.declared.answer.EvalAnswer.{EvalAnswer}
-use Rattle.jcard.specs.Verify.{AnswersPackages}
+use Rattle.jcard.specs.Verify.{IsDone, IsUndone}
 use Rattle.jcard.specs.declared.job.Job.{Job}
 use Rattle.jcard.specs.declared.job.Job.TheVariants.{Eval, Verify}
 use Rattle.jcard.specs.declared.job.VerifyJob.{VerifyJob}
@@ -26,6 +26,7 @@ use Rattle.jcard.specs.declared.saying.Reply.TheVariants as replies
 use Rattle.jcard.specs.declared.saying.Status.{Status}
 use Rattle.jcard.specs.declared.saying.Status.TheVariants.{Success, Failure, Misuse}
 use Rattle.jcard.specs.declared.saying.Stream.TheVariants.{Output, Errors}
+use Rattle.jcard.specs.declared.files.FileFault.{FileFault}
 use Rattle.jcard.specs.declared.files.ReadFault.{ReadFault}
 use Rattle.jcard.specs.declared.files.ReadFault.TheVariants as reading
 use Rattle.jcard.specs.declared.texts.TextFault.{TextFault}
@@ -43,7 +44,7 @@ status_number Misuse = 2
 abbrev pub line_feed : List ℕ
 line_feed = codes "\n"
 
--- the bytes that are written, but for the words of clap, of the system, and of the readers of hexadecimal and of bindings
+-- the bytes that are written, but for the words of clap, of the system, and of the reader of hexadecimal
 abbrev pub text_of : Message → Option (List ℕ)
 text_of (Answer answer) = Some (line_of answer ++ line_feed)
 text_of (Fault fault) = option_map (λ line. (codes "error: " ++ line) ++ line_feed) (fault_line_of fault)
@@ -132,10 +133,11 @@ abbrev pub IsSaidOfFiles : ReadFault → Said → Type 0
 IsSaidOfFiles (reading.File fault) said = (said.message ≡ File fault) × IsFailure said
 IsSaidOfFiles reading.Memory said = (said.message ≡ Fault Memory) × IsFailure said
 
--- what is said of a package in a folder behind others: the answer to what they hold, or that files can't be read or written
-pub data IsSaidOfJob (job : VerifyJob) (said : Said) : Type 0 where
-  verified : (answer : VerifyAnswer) → AnswersPackages (length job.earlier.items) (is_some job.binding) answer → IsSaidOfVerified answer said → IsSaidOfJob job said
-  unread : (fault : ReadFault) → IsSaidOfFiles fault said → IsSaidOfJob job said
+-- what is said of a package in a folder behind others: the answer to what the files hold, once it is written; or the file at fault; or out of memory
+pub data IsSaidOfJob (holds : List ℕ → Entry → Type 0) (wrote : List Written → Type 0) (job : VerifyJob) (said : Said) : Type 0 where
+  done : (answer : VerifyAnswer) → IsDone holds wrote job answer → IsSaidOfVerified answer said → IsSaidOfJob holds wrote job said
+  undone : (fault : FileFault) → IsUndone holds wrote job fault → IsSaidOfFiles (reading.File fault) said → IsSaidOfJob holds wrote job said
+  memory : IsSaidOfFiles reading.Memory said → IsSaidOfJob holds wrote job said
 
 -- why there is no certificate, which is said beside the line of an answer
 abbrev pub verify_remark : VerifyAnswer → Option Remark

@@ -1,19 +1,12 @@
-//! Files of at most so many bytes, and why one can't be read or written.
+//! The files of a system as the program sees them, and why one can't be read or written.
 
-ghost use Rattle.std.specs.Prelude.{◌≤◌, length, IfOk};
-ghost use Rattle.jcard.specs.Files.{IsFaultOf};
+ghost use Rattle.std.specs.Prelude.{◌≡◌, ℕ, true, false, [], ◌∷◌, List, IfOk, IfErr};
+ghost use Rattle.jcard.specs.Files.{Entry, IsContent, IsFaultAt, IsFile, IsUnread, IsWritten, OfFile, Written};
+ghost use Rattle.jcard.specs.Files.Entry.{failing, folder};
 
 use jc_api::BindingFault;
-use std::alloc::{AllocError, Global};
-use std::fs::File;
-use std::io::Read;
-use std::{fmt, fs, io};
-
-/// The most bytes of a component's file: a tag, a size, and as many as that says.
-pub const MOST_COMPONENT: usize = 65538;
-
-/// The most bytes of the file of a certificate or of a binding.
-pub const MOST_FILE: usize = 1048576;
+use std::alloc::{AllocError, AllocFailed, Global};
+use std::{fmt, io};
 
 /// What is wrong with a file.
 #[derive(Debug, Drop)]
@@ -28,12 +21,6 @@ pub enum FileCause {
     NotText,
     /// Its text is no binding.
     NoBinding(BindingFault),
-}
-
-impl From<io::Error> for FileCause {
-    fn from(error: io::Error) -> FileCause {
-        FileCause::System(error)
-    }
 }
 
 impl fmt::Display for FileCause {
@@ -52,7 +39,7 @@ impl fmt::Display for FileCause {
     }
 }
 
-/// A file, by its name, and what is wrong with it.
+/// A file or folder, by its path, and what is wrong with it.
 #[derive(Debug, Drop)]
 pub struct FileFault {
     pub name: String,
@@ -79,41 +66,61 @@ pub enum ReadFault {
 }
 
 impl From<AllocError> for ReadFault {
+    ghost use Rattle.jcard.specs.declared.files.ReadFault.TheVariants.{Memory};
+
+    ghost from_gives = { λ _ fault. fault ≡ Memory };
+
     fn from(_error: AllocError) -> ReadFault {
         ReadFault::Memory
     }
 }
 
-/// The fault of a file, or want of memory where that is the cause.
-pub fn fault_of(alloc: Global, name: &str, cause: FileCause) -> ReadFault
-    ensures { IsFaultOf name.now cause result }
+impl<T: Drop> From<AllocFailed<T>> for ReadFault {
+    ghost use Rattle.jcard.specs.declared.files.ReadFault.TheVariants.{Memory};
+
+    ghost from_gives = { λ _ fault. fault ≡ Memory };
+
+    fn from(_failed: AllocFailed<T>) -> ReadFault {
+        ReadFault::Memory
+    }
+}
+
+/// The files of a system. Reading changes nothing. What is told of a path is told by the state in which it is asked for.
+pub trait Files {
+    // What the system tells of a path: what is there, or an error where it is looked at, read or written.
+    ghost holds: { Self → List ℕ → Entry → Type 0 };
+
+    // Which files were written, in their order.
+    ghost has_written: { Self → List Written → Type 0 };
+
+    /// Whether a folder is under a path.
+    fn is_folder(&self, path: &str) -> io::Result<bool>
+        ensures folder { result ≡ Ok true → holds self.now path.now folder }
+        ensures file { result ≡ Ok false → IsFile (holds self.now path.now) }
+        ensures failing { IfErr result (λ error. holds self.now path.now (failing error)) };
+
+    /// All bytes of the file under a path, which has at most so many.
+    fn read(&self, alloc: Global, path: &str, most: usize) -> Result<Vec<u8>, FileCause>
+        ensures read { IfOk result (λ bytes. IsContent (holds self.now path.now) most bytes.items) }
+        ensures unread { IfErr result (IsUnread (holds self.now path.now) most) };
+
+    /// Writes all of these bytes to the file under a path, and nothing else.
+    fn write(&mut self, path: &str, bytes: &[u8]) -> io::Result<()>
+        ensures written { IfOk result (λ u. IsWritten (has_written self.old) (has_written self.new) (record { path = path.now; bytes = bytes.now } ∷ [])) }
+        ensures failing { IfErr result (λ error. holds self.old path.now (failing error)) };
+}
+
+/// The fault of the file under a path, or out of memory where that is the cause.
+pub fn fault_of(alloc: Global, path: &str, cause: FileCause) -> ReadFault
+    ensures { OfFile (IsFaultAt path.now (λ told. told ≡ cause)) result }
 {
     if let FileCause::System(error) = &cause {
         if error.kind() == io::ErrorKind::OutOfMemory {
             return ReadFault::Memory;
         }
     }
-    match String::from_str(alloc, name) {
+    match String::from_str(alloc, path) {
         Ok(name) => ReadFault::File(FileFault { name, cause }),
         Err(_) => ReadFault::Memory,
     }
-}
-
-/// The bytes of a file that has at most so many.
-pub fn bytes_within(rt: &HostRuntime, name: &str, most: usize) -> Result<Vec<u8>, FileCause>
-    ensures { IfOk result (λ bytes. length bytes.items ≤ most) }
-{
-    let file = File::open(rt, name)?;
-    let mut bytes = Vec::new(rt.alloc());
-    file.take((most as u64).saturating_add(1))
-        .read_to_end(&mut bytes)?;
-    if bytes.len() > most {
-        return Err(FileCause::TooLong(most));
-    }
-    Ok(bytes)
-}
-
-/// Writes a file.
-pub fn write_file(rt: &HostRuntime, name: &str, bytes: &[u8]) -> Result<(), ReadFault> {
-    fs::write(rt, name, bytes).map_err(|error| fault_of(rt.alloc(), name, FileCause::System(error)))
 }

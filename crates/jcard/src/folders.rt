@@ -1,15 +1,20 @@
-//! Packages in folders of component files, and certificates in files.
+//! Packages in folders of component files.
 
-ghost use Rattle.std.specs.Prelude.{⊤, ◌≡◌, ◌+◌, ◌<◌, ◌^◌};
-ghost use Rattle.jc_packages.specs.Source.{failures_in, failures_of};
+ghost use Rattle.std.specs.Prelude.{◌≡◌, map, option_map, IfOk, IfErr};
+ghost use Rattle.std.specs.List.{AllZip};
+ghost use Rattle.std.specs.Path.{path_join};
+ghost use Rattle.jcard.specs.Files.{IsFaultAt, OfFile};
+ghost use Rattle.jcard.specs.Files.Entry.{folder as a_folder};
+ghost use Rattle.jcard.specs.Folders.{AreJoined, FailsFirst, IsComponent, IsComponentFault, IsComponentIn, IsFolderFault, IsImage, IsNoComponent, IsNoFolder};
+ghost use Rattle.jcard.specs.PrivateFolders.{IsPutBehind};
 
-use crate::files::{
-    FileCause, FileFault, MOST_COMPONENT, MOST_FILE, ReadFault, bytes_within, fault_of,
-};
-use jc_packages::{PackageSource, SourceFault};
+use crate::files::{FileCause, Files, ReadFault, fault_of};
 use std::alloc::Global;
+use std::io;
 use std::path::Path;
-use std::{fs, io};
+
+/// The most bytes of a component's file: a tag, a size, and as many as that says.
+const MOST_COMPONENT: usize = 65538;
 
 /// The component files of a package, in the order in which they make an image.
 const COMPONENTS: [&str; 9] = [
@@ -24,113 +29,91 @@ const COMPONENTS: [&str; 9] = [
     "Descriptor.cap",
 ];
 
-/// The folders and files of the system. It keeps the last fault of a file. What they hold isn't known.
-#[derive(Drop)]
-pub struct Folders<'a> {
-    rt: &'a HostRuntime,
-    failures: u32,
-    fault: Option<FileFault>,
+/// The images of the packages in folders, in their order.
+pub fn images_in<F: Files>(
+    files: &F,
+    alloc: Global,
+    folders: &[&str],
+) -> Result<Vec<Vec<u8>>, ReadFault>
+    ensures images { IfOk result (λ images. AllZip (IsImage (F.holds files.now)) (map (λ name. name.now) folders.now) (map (λ image. image.items) images.items)) }
+    ensures faults { IfErr result (OfFile (FailsFirst (IsImage (F.holds files.now)) (IsFolderFault (F.holds files.now)) (map (λ name. name.now) folders.now))) }
+{
+    let mut images = Vec::new(alloc);
+    for folder in folders {
+        let image = image_in(files, alloc, folder)?;
+        images.push(image)?;
+    }
+    Ok(images)
 }
 
-impl<'a> Folders<'a> {
-    pub fn new(rt: &'a HostRuntime) -> Folders<'a>
-        ensures { result.failures ≡ 0 }
-    {
-        Folders {
-            rt,
-            failures: 0,
-            fault: None,
-        }
-    }
-
-    // Keeps the fault of a file, and counts it.
-    fn keep(&mut self, fault: ReadFault) -> SourceFault
-        requires { self.now.failures < 2 ^ 31 }
-        ensures { self.new.failures ≡ self.old.failures + failures_of result }
-    {
-        match fault {
-            ReadFault::File(fault) => {
-                self.fault = Some(fault);
-                self.failures += 1;
-                SourceFault::Failed
-            }
-            ReadFault::Memory => SourceFault::Memory,
-        }
-    }
-
-    // What was read, or why nothing was, which is kept.
-    fn counted(&mut self, read: Result<Vec<u8>, ReadFault>) -> Result<Vec<u8>, SourceFault>
-        requires { self.now.failures < 2 ^ 31 }
-        ensures { self.new.failures ≡ self.old.failures + failures_in result }
-    {
-        match read {
-            Ok(bytes) => Ok(bytes),
-            Err(fault) => Err(self.keep(fault)),
-        }
-    }
-
-    /// Why the last reading failed.
-    pub fn told(self, fault: SourceFault) -> ReadFault {
-        match (fault, self.fault) {
-            (SourceFault::Failed, Some(fault)) => ReadFault::File(fault),
-            (SourceFault::Failed, None) => ReadFault::Memory,
-            (SourceFault::Memory, _) => ReadFault::Memory,
-        }
-    }
-}
-
-impl<'a> PackageSource for Folders<'a> {
-    ghost failed = { λ s. s.failures };
-
-    ghost holds_image = { λ s name image. ⊤ };
-
-    ghost holds_certificate = { λ s name certificate. ⊤ };
-
-    fn image(&mut self, _alloc: Global, name: &str) -> Result<Vec<u8>, SourceFault> {
-        let read = image_in(self.rt, name);
-        self.counted(read)
-    }
-
-    fn certificate(&mut self, _alloc: Global, name: &str) -> Result<Vec<u8>, SourceFault> {
-        let read = file_within(self.rt, name, MOST_FILE);
-        self.counted(read)
-    }
-
-    fn failures(&self) -> u32 {
-        self.failures
-    }
-}
-
-/// The bytes of a file that has at most so many.
-pub fn file_within(rt: &HostRuntime, name: &str, most: usize) -> Result<Vec<u8>, ReadFault> {
-    bytes_within(rt, name, most).map_err(|cause| fault_of(rt.alloc(), name, cause))
-}
-
-// The image of the package in a folder.
-fn image_in(rt: &HostRuntime, folder: &str) -> Result<Vec<u8>, ReadFault> {
-    look_for_folder(rt, folder).map_err(|cause| fault_of(rt.alloc(), folder, cause))?;
-    let mut image = Vec::new(rt.alloc());
-    for name in COMPONENTS {
-        let path = Path::new(folder).join(rt.alloc(), name)?;
-        put_component(rt, path.as_str(), &mut image)?;
-    }
-    Ok(image)
+/// The image of the package in a folder: its component files that are there, one behind the other.
+pub fn image_in<F: Files>(files: &F, alloc: Global, folder: &str) -> Result<Vec<u8>, ReadFault>
+    ensures image { IfOk result (λ image. IsImage (F.holds files.now) folder.now image.items) }
+    ensures faults { IfErr result (OfFile (IsFolderFault (F.holds files.now) folder.now)) }
+{
+    look_for_folder(files, alloc, folder)?;
+    joined(files, alloc, folder, &COMPONENTS)
 }
 
 // Whether there is a folder.
-fn look_for_folder(rt: &HostRuntime, name: &str) -> Result<(), FileCause> {
-    if fs::metadata(rt, name)?.is_dir() {
-        Ok(())
-    } else {
-        Err(FileCause::NoFolder)
+fn look_for_folder<F: Files>(files: &F, alloc: Global, folder: &str) -> Result<(), ReadFault>
+    ensures there { IfOk result (λ u. F.holds files.now folder.now a_folder) }
+    ensures faults { IfErr result (OfFile (IsFaultAt folder.now (IsNoFolder (F.holds files.now folder.now)))) }
+{
+    match files.is_folder(folder) {
+        Ok(true) => Ok(()),
+        Ok(false) => Err(fault_of(alloc, folder, FileCause::NoFolder)),
+        Err(error) => Err(fault_of(alloc, folder, FileCause::System(error))),
     }
 }
 
-// Puts the bytes of a component's file behind those of an image, if the file is there.
-fn put_component(rt: &HostRuntime, name: &str, image: &mut Vec<u8>) -> Result<(), ReadFault> {
-    match bytes_within(rt, name, MOST_COMPONENT) {
-        Ok(bytes) => Ok(image.extend_from_slice(&bytes)?),
-        Err(FileCause::System(error)) if error.kind() == io::ErrorKind::NotFound => Ok(()),
-        Err(cause) => Err(fault_of(rt.alloc(), name, cause)),
+// The files in a folder with these names, one behind the other.
+fn joined<F: Files>(
+    files: &F,
+    alloc: Global,
+    folder: &str,
+    names: &[&str],
+) -> Result<Vec<u8>, ReadFault>
+    ensures joined { IfOk result (λ bytes. AreJoined (F.holds files.now) folder.now (map (λ name. name.now) names.now) bytes.items) }
+    ensures faults { IfErr result (OfFile (FailsFirst (IsComponentIn (F.holds files.now) folder.now) (IsComponentFault (F.holds files.now) folder.now) (map (λ name. name.now) names.now))) }
+{
+    let mut bytes = Vec::new(alloc);
+    for name in names {
+        put_component(files, alloc, folder, name, &mut bytes)?;
+    }
+    Ok(bytes)
+}
+
+// Puts the bytes of a component's file behind others, if the file is there.
+fn put_component<F: Files>(
+    files: &F,
+    alloc: Global,
+    folder: &str,
+    name: &str,
+    bytes: &mut Vec<u8>,
+) -> Result<(), ReadFault>
+    ensures put { IfOk result (λ u. IsPutBehind (F.holds files.now (path_join folder.now name.now)) bytes.old.items bytes.new.items) }
+    ensures faults { IfErr result (OfFile (IsComponentFault (F.holds files.now) folder.now name.now)) }
+{
+    let path = Path::new(folder).join(alloc, name)?;
+    match component_in(files, alloc, path.as_str())? {
+        Some(component) => Ok(bytes.extend_from_slice(&component)?),
+        None => Ok(()),
+    }
+}
+
+// The bytes of a component's file, if it is there.
+fn component_in<F: Files>(
+    files: &F,
+    alloc: Global,
+    path: &str,
+) -> Result<Option<Vec<u8>>, ReadFault>
+    ensures component { IfOk result (λ read. IsComponent (F.holds files.now path.now) (option_map (λ bytes. bytes.items) read)) }
+    ensures faults { IfErr result (OfFile (IsFaultAt path.now (IsNoComponent (F.holds files.now path.now)))) }
+{
+    match files.read(alloc, path, MOST_COMPONENT) {
+        Ok(bytes) => Ok(Some(bytes)),
+        Err(FileCause::System(error)) if error.kind() == io::ErrorKind::NotFound => Ok(None),
+        Err(cause) => Err(fault_of(alloc, path, cause)),
     }
 }

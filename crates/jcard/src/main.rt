@@ -7,6 +7,7 @@ mod exception;
 mod files;
 mod folders;
 mod frame;
+mod host_files;
 mod job;
 mod line;
 mod opcodes;
@@ -17,6 +18,7 @@ mod shorts;
 mod texts;
 mod verify_folders;
 
+use host_files::HostFiles;
 use saying::{Reply, Said, Status, Stream, remark_of, said_to, said_without_words};
 use std::process::ExitCode;
 use std::{env, io};
@@ -37,7 +39,7 @@ fn main(rt: HostRuntime) -> ExitCode {
 fn said_of(rt: &HostRuntime, words: &[String]) -> Said {
     match said_to(rt.alloc(), words) {
         Reply::Said(said) => said,
-        Reply::Verify(job) => said_of_job(rt, &job),
+        Reply::Verify(job) => said_of_job(&mut HostFiles::new(rt), rt.alloc(), &job),
     }
 }
 

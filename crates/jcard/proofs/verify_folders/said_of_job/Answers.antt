@@ -1,8 +1,9 @@
-use Rattle.jcard.specs.Saying.IsSaidOfJob.{unread, verified}
+use Rattle.jcard.specs.Saying.IsSaidOfJob.{done}
+use Rattle.jcard.proofs.Jobs.{said_undone}
 use Rattle.jcard.proofs.verify_folders.said_of_job.Goals as goal
 
 pub returns-in-Ok : goal.returns-in-Ok
-returns-in-Ok c = verified c.in-Ok.answer c.in-Ok.ensures c.said_of_verified.ensures
+returns-in-Ok g c = done c.in-Ok.answer c.in-Ok.ensures.done c.said_of_verified.ensures
 
 pub returns-in-Err : goal.returns-in-Err
-returns-in-Err c = unread c.in-Err.fault c.said_of_files.ensures
+returns-in-Err g c = said_undone _ _ _ _ c.in-Err.fault c.in-Err.ensures.faults c.said_of_files.ensures

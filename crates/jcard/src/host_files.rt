@@ -1,0 +1,52 @@
+//! The files of the system that the program runs on.
+
+ghost use Rattle.std.specs.Prelude.{⊤, ◌≡◌, ◌≤◌, length, IfOk, IfErr};
+
+use crate::files::{FileCause, Files};
+use std::alloc::Global;
+use std::fs::File;
+use std::io::Read;
+use std::{fs, io};
+
+/// The system's files. Nothing is known of what is under their paths, nor of what was written.
+#[derive(Drop)]
+pub struct HostFiles<'a> {
+    rt: &'a HostRuntime,
+}
+
+impl<'a> HostFiles<'a> {
+    pub fn new(rt: &'a HostRuntime) -> HostFiles<'a> {
+        HostFiles { rt }
+    }
+}
+
+impl<'a> Files for HostFiles<'a> {
+    ghost holds = { λ s path entry. ⊤ };
+
+    ghost has_written = { λ s written. ⊤ };
+
+    fn is_folder(&self, path: &str) -> io::Result<bool> {
+        Ok(fs::metadata(self.rt, path)?.is_dir())
+    }
+
+    fn read(&self, alloc: Global, path: &str, most: usize) -> Result<Vec<u8>, FileCause> {
+        let bytes = read_within(self.rt, alloc, path, most).map_err(FileCause::System)?;
+        if bytes.len() > most {
+            return Err(FileCause::TooLong(most));
+        }
+        Ok(bytes)
+    }
+
+    fn write(&mut self, path: &str, bytes: &[u8]) -> io::Result<()> {
+        fs::write(self.rt, path, bytes)
+    }
+}
+
+// The bytes of a file, but no more than one beyond a limit.
+fn read_within(rt: &HostRuntime, alloc: Global, path: &str, most: usize) -> io::Result<Vec<u8>> {
+    let file = File::open(rt, path)?;
+    let mut bytes = Vec::new(alloc);
+    file.take((most as u64).saturating_add(1))
+        .read_to_end(&mut bytes)?;
+    Ok(bytes)
+}

@@ -1,5 +1,5 @@
 -- What the examples of the defensive machine are run with: packages, objects, and natives that do next to nothing.
-use Rattle.std.specs.Prelude.{ℕ, ◌==◌, if◌then◌else◌, List, [], ◌∷◌, ◌++◌, map, Option, Some, None}
+use Rattle.std.specs.Prelude.{ℕ, true, ◌==◌, if◌then◌else◌, List, [], ◌∷◌, ◌++◌, map, Option, Some, None}
 use Rattle.jc_api.specs.Bound.{default_binding}
 use Rattle.jc_api.specs.declared.class.ApiClass.{ApiClass}
 use Rattle.jc_api.specs.declared.class.ApiClass.TheVariants.{ArithmeticException, ArrayStoreException, ClassCastException, ArrayIndexOutOfBoundsException, NegativeArraySizeException, NullPointerException, SecurityException, IsoException, SystemException, ApduException}
@@ -34,8 +34,11 @@ abbrev pub world_with : List Package → World
 world_with packages = record { shapes = api_world default_binding ++ map (λ (p : Package). p.shape) packages; bodies = map body_in packages }
 
 -- natives that give nothing, and keep all as it is
-abbrev pub quiet : World → NativeCall (Unit {0}) → NativeAnswer (Unit {0})
-quiet w call = record { touches = []; heap = call.heap; runtime = call.runtime; ends = Gives None }
+abbrev pub quiet : Natives (Unit {0})
+quiet = record {
+  answer = λ w call. record { touches = []; heap = call.heap; runtime = call.runtime; ends = Gives None };
+  fits = λ w heap runtime. true;
+}
 
 -- natives of which the one that asks for a shareable object has that of object 11 called, and that one is accessed
 abbrev pub asked_natives : ℕ → NativeCall (Unit {0}) → NativeAnswer (Unit {0})
@@ -48,8 +51,8 @@ asked_natives member call =
       ends = Gives (Some Null);
     } else record { touches = []; heap = call.heap; runtime = call.runtime; ends = Gives None }
 
-abbrev pub asking : World → NativeCall (Unit {0}) → NativeAnswer (Unit {0})
-asking w call = asked_natives call.member call
+abbrev pub asking : Natives (Unit {0})
+asking = record { answer = λ w call. asked_natives call.member call; fits = λ w heap runtime. true }
 
 abbrev pub bounds : Limits
 bounds = record { objects = 100; cells = 1000; frames = 4; frame_words = 100 }

@@ -1,6 +1,6 @@
 -- The law of native members: what a machine relies on, whatever they do (Java Card API Specification; Java Card Runtime Environment
 -- Specification, Applet Isolation and Object Sharing).
-use Rattle.std.specs.Prelude.{◌≡◌, ◌⊎◌, ℕ, List, ◌∷◌, length, Option, Some, None, true, false}
+use Rattle.std.specs.Prelude.{◌≡◌, ◌⊎◌, ℕ, ◌≤◌, List, length, Option, Some, None, true, false}
 use Rattle.std.specs.List.{AllByRecursion}
 use Rattle.jc_api.specs.Member.{ApiMember, member_of}
 use Rattle.jc_api.specs.declared.member.MemberKind.TheVariants.{Static, Virtual}
@@ -10,13 +10,13 @@ use Rattle.jc_classes.specs.declared.name.ClassName.TheVariants as classes
 use Rattle.jc_firewall.specs.Verdict.{runtime_context, verdict_of}
 use Rattle.jc_link.specs.Found.{is_same_return}
 use Rattle.jc_link.specs.Linked.{World}
-use Rattle.jc_store.specs.Heap.{Heap, Object, object_at}
+use Rattle.jc_store.specs.Heap.{Heap, Object, cells_in, object_at}
 use Rattle.jc_interp.specs.Accepted.{IsAccepted}
 use Rattle.jc_interp.specs.Calls.{native_may_begin, native_type, type_of_member}
 use Rattle.jc_interp.specs.Going.{facts_in}
 use Rattle.jc_interp.specs.Guarded.{AreGuarded, ChangesAccessed}
 use Rattle.jc_interp.specs.Lookup.{are_of_types, is_given, is_of_class, is_throwable}
-use Rattle.jc_interp.specs.Machine.{Callback, Calls, Gives, IsStuck, NativeAnswer, NativeCall, NativeEnd, Natives, ThrowsObject, Touch}
+use Rattle.jc_interp.specs.Machine.{Callback, Calls, Gives, IsStuck, Limits, NativeAnswer, NativeCall, NativeEnd, Natives, ThrowsObject, Touch}
 use Rattle.jc_interp.specs.Runtime.{HasRuntimeObjects, security_exception}
 use Rattle.jc_interp.specs.Typed.{HeapTyped}
 use Rattle.jc_interp.specs.Values.{TaggedValue}
@@ -55,12 +55,20 @@ pub record IsNativeTouch {C : Type 0} (w : World) (call : NativeCall C) (touch :
   pub found : object_at call.heap touch.object ≡ Some object
   pub verdict : touch.verdict ≡ verdict_of touch.access touch.active (facts_in w.shapes call.selected object None false)
 
--- its accesses are such; each is allowed, or it is refused at the last; and only objects change that it accessed, or made
+-- objects have room within limits
+pub record IsWithin (limits : Limits) (heap : Heap TaggedValue) : Type 0 where
+  pub objects : length heap ≤ limits.objects
+  pub cells : cells_in heap ≤ limits.cells
+
+-- its accesses are such; each is allowed, or it is refused at the last; only objects change that it accessed, or made; it makes none
+-- where there is no room; and a native member that makes a call has changed nothing
 pub record IsGuardedAnswer {C : Type 0} (w : World) (call : NativeCall C) (a : NativeAnswer C) : Type 0 where
   pub touches : AllByRecursion (IsNativeTouch w call) a.touches
   pub guarded : AreGuarded a.touches (IsRefused call a)
   pub kept : KeepsObjects call.heap a.heap
   pub changes : ChangesAccessed a.touches call.heap a.heap
+  pub room : IsWithin call.limits call.heap → IsWithin call.limits a.heap
+  pub calls : (callback : Callback) → a.ends ≡ Calls callback → IsUnchanged call a
 
 -- ---- types: of a call that is as it should be
 
@@ -77,13 +85,12 @@ pub record IsThrown (w : World) (heap : Heap TaggedValue) (number : ℕ) : Type 
   pub found : object_at heap number ≡ Some object
   pub throwable : is_throwable w.shapes object.kind.object ≡ true
 
--- a call that a native member makes: only a static one makes any, and it has changed nothing. It calls a virtual member of an object that
--- is there and of the member's class, on arguments of its types, and that gives what the native member is declared to give
+-- a call that a native member makes: only a static one makes any. It calls a virtual member of an object that is there and of the
+-- member's class, on arguments of its types, and that gives what the native member is declared to give
 pub record IsFitCallback {C : Type 0} (w : World) (call : NativeCall C) (a : NativeAnswer C) (given : Signature ClassName) (callback : Callback) : Type 0 where
   pub caller : ApiMember
   pub caller_is : member_of call.member ≡ Some caller
   pub static : caller.kind ≡ Static
-  pub unchanged : IsUnchanged call a
   pub member : ApiMember
   pub member_is : member_of callback.member ≡ Some member
   pub virtual : member.kind ≡ Virtual

@@ -159,7 +159,7 @@ probe_of offset = a_method offset 0 true (Reference object_ref ∷ []) 1 0 2
 abbrev pub probe_class : ClassShape
 probe_class = a_class 0 object_ref 0 [] [] [] (
     probe_of 200 ∷ probe_of 210 ∷ probe_of 220 ∷ a_method 230 0 true (Reference (Internal 0) ∷ []) 1 0 1 ∷ probe_of 240 ∷ probe_of 250
-    ∷ a_method 1 0 true [] 0 1 1 ∷ probes (10 ∷ 20 ∷ 30 ∷ 40 ∷ 50 ∷ 60 ∷ 70 ∷ 80 ∷ 100 ∷ 120 ∷ []))
+    ∷ a_method 1 0 true [] 0 1 1 ∷ a_method 130 0 true [] 0 0 0 ∷ probes (10 ∷ 20 ∷ 30 ∷ 40 ∷ 50 ∷ 60 ∷ 70 ∷ 80 ∷ 100 ∷ 120 ∷ 140 ∷ 160 ∷ 180 ∷ []))
 
 abbrev pub open_class : ClassShape
 open_class = a_class 30 object_ref 0 (300 ∷ []) [] [] (record {
@@ -172,7 +172,8 @@ open_class = a_class 30 object_ref 0 (300 ∷ []) [] [] (record {
 
 abbrev pub probe : Package
 probe = a_package 1 (default_framework ∷ default_lang ∷ []) [] (probe_class ∷ open_class ∷ [])
-    (Classref (Internal 0) ∷ VirtualMethodref (record { class = Internal 30; token = 1 }) ∷ StaticMethodref (places.Internal 230) ∷ [])
+    (Classref (Internal 0) ∷ VirtualMethodref (record { class = Internal 30; token = 1 }) ∷ StaticMethodref (places.Internal 230)
+    ∷ StaticMethodref (places.Internal 140) ∷ [])
     (code 1 (0x04 ∷ 0x04 ∷ 0x78 ∷ []) []  -- an operand more than the one that it may have
     ∷ code 10 (0x78 ∷ []) []  -- an operand is missing
     ∷ code 20 (0x1C ∷ 0x78 ∷ []) []  -- local 0 was never written
@@ -184,6 +185,12 @@ probe = a_package 1 (default_framework ∷ default_lang ∷ []) [] (probe_class 
     ∷ code 80 (0x11 ∷ 0x7F ∷ 0xFF ∷ 0x90 ∷ 12 ∷ 0x92 ∷ 0x78 ∷ []) []  -- an array that is too long for the card
     ∷ code 100 (0x04 ∷ 0x90 ∷ 11 ∷ 0x3D ∷ 0x03 ∷ 0x11 ∷ 0x12 ∷ 0xFF ∷ 0x38 ∷ 0x03 ∷ 0x25 ∷ 0x78 ∷ []) []  -- 12FF as a byte
     ∷ code 120 (0x02 ∷ 0x04 ∷ 0x51 ∷ 0x78 ∷ []) []  -- -1 shifted by one, zeros before it
+    ∷ code 130 (0x8D ∷ 0 ∷ 3 ∷ 0x7A ∷ 0x3B ∷ 0x7A ∷ [])  -- a call whose exception is caught, where no operand has room
+    (record { start = 132; active_length = 3; handler = 136; catch_type = 0 } ∷ [])
+    ∷ code 140 (0x04 ∷ 0x03 ∷ 0x47 ∷ 0x78 ∷ []) []  -- 1 / 0
+    ∷ code 160 (0x04 ∷ 0x03 ∷ 0x47 ∷ 0x78 ∷ 0x3B ∷ 0x04 ∷ 0x78 ∷ [])  -- 1 / 0, in the range of a handler of no class
+    (record { start = 162; active_length = 4; handler = 166; catch_type = 9 } ∷ [])
+    ∷ code 180 (0x03 ∷ 0x3B ∷ 0x04 ∷ 0x78 ∷ []) []  -- an operand is pushed, and taken away
     ∷ code 200 (0x18 ∷ 0x78 ∷ []) []  -- a short is given that is a reference
     ∷ code 210 (0x18 ∷ 0x03 ∷ 0x25 ∷ 0x78 ∷ []) []  -- a component of what is no array
     ∷ code 220 (0x18 ∷ 0x8D ∷ 0 ∷ 2 ∷ 0x78 ∷ []) []  -- an argument of another class

@@ -1,9 +1,10 @@
 -- What the examples of the defensive machine are run with: packages, objects, and natives that do next to nothing.
-use Rattle.std.specs.Prelude.{ℕ, ◌==◌, if◌then◌else◌, List, [], ◌∷◌, ◌++◌, map, Option, Some, None}
+use Rattle.std.specs.Prelude.{ℕ, Bool, true, false, ◌==◌, if◌then◌else◌, List, [], ◌∷◌, ◌++◌, length, map, Option, Some, None}
+use Rattle.std.specs.List.{list_all}
 use Rattle.jc_api.specs.Bound.{default_binding}
 use Rattle.jc_api.specs.declared.class.ApiClass.{ApiClass}
 use Rattle.jc_api.specs.declared.class.ApiClass.TheVariants.{ArithmeticException, ArrayStoreException, ClassCastException, ArrayIndexOutOfBoundsException, NegativeArraySizeException, NullPointerException, SecurityException, IsoException, SystemException, ApduException}
-use Rattle.jc_cap_desc.specs.Shape.{Package}
+use Rattle.jc_cap_desc.specs.Shape.{Package, Shape}
 use Rattle.jc_classes.specs.Api.{api_world}
 use Rattle.jc_classes.specs.declared.name.ClassName.TheVariants as classes
 use Rattle.jc_classes.specs.declared.name.MethodName.{MethodName}
@@ -14,14 +15,16 @@ use Rattle.jc_store.specs.Heap.{Heap, Object}
 use Rattle.jc_store.specs.declared.kind.Mark.{Mark}
 use Rattle.jc_store.specs.declared.kind.Mark.TheVariants.{Plain, TemporaryEntryPoint}
 use Rattle.jc_store.specs.declared.kind.ObjectType.{ObjectType}
-use Rattle.jc_store.specs.declared.kind.ObjectType.TheVariants.{Instance}
+use Rattle.jc_store.specs.declared.kind.ObjectType.TheVariants.{Instance, BooleanArray, ByteArray, ShortArray, ReferenceArray}
 use Rattle.jc_store.specs.declared.owner.Owner.{Owner}
 use Rattle.jc_firewall.specs.declared.access.Access.TheVariants.{InvokeVirtual}
 use Rattle.jc_firewall.specs.declared.access.Verdict.TheVariants.{Allowed}
-use Rattle.jc_interp.specs.Machine.{Calls, Gives, Limits, NativeAnswer, NativeCall, Natives, Surroundings, Touch}
-use Rattle.jc_interp.specs.Step.{CallEnd, Gave, RanOut, Start, Threw, WasStuck, runtime_call}
+use Rattle.jc_interp.specs.Lookup.{fields_of}
+use Rattle.jc_interp.specs.Machine.{Calls, Ends, Gives, Limits, Machine, NativeAnswer, NativeCall, Natives, Next, Outcome, Stuck, Surroundings, Throws, Touch, UsedUp}
+use Rattle.jc_interp.specs.Runtime.{RuntimeObject, runtime_objects}
+use Rattle.jc_interp.specs.Step.{defensive_step, CallEnd, Gave, RanOut, Start, Threw, WasStuck, runtime_call}
 use Rattle.jc_interp.specs.ExamplePackages.{probe}
-use Rattle.jc_interp.specs.Values.{Null, Ref, TaggedValue, Word}
+use Rattle.jc_interp.specs.Values.{Null, Ref, TaggedValue, Unset, Word}
 
 -- ---- worlds
 
@@ -34,8 +37,11 @@ abbrev pub world_with : List Package → World
 world_with packages = record { shapes = api_world default_binding ++ map (λ (p : Package). p.shape) packages; bodies = map body_in packages }
 
 -- natives that give nothing, and keep all as it is
-abbrev pub quiet : World → NativeCall (Unit {0}) → NativeAnswer (Unit {0})
-quiet w call = record { touches = []; heap = call.heap; runtime = call.runtime; ends = Gives None }
+abbrev pub quiet : Natives (Unit {0})
+quiet = record {
+  answer = λ w call. record { touches = []; heap = call.heap; runtime = call.runtime; ends = Gives None };
+  fits = λ w heap runtime. true;
+}
 
 -- natives of which the one that asks for a shareable object has that of object 11 called, and that one is accessed
 abbrev pub asked_natives : ℕ → NativeCall (Unit {0}) → NativeAnswer (Unit {0})
@@ -48,8 +54,8 @@ asked_natives member call =
       ends = Gives (Some Null);
     } else record { touches = []; heap = call.heap; runtime = call.runtime; ends = Gives None }
 
-abbrev pub asking : World → NativeCall (Unit {0}) → NativeAnswer (Unit {0})
-asking w call = asked_natives call.member call
+abbrev pub asking : Natives (Unit {0})
+asking = record { answer = λ w call. asked_natives call.member call; fits = λ w heap runtime. true }
 
 abbrev pub bounds : Limits
 bounds = record { objects = 100; cells = 1000; frames = 4; frame_words = 100 }
@@ -123,3 +129,49 @@ probed offset = run (probe ∷ []) 20 (start_of exceptions (owner 1 1) (Loaded 1
 
 abbrev pub probed_on : ℕ → ℕ → Shown
 probed_on class offset = run (probe ∷ []) 20 (start_of (with_served class) (owner 1 1) (Loaded 1 offset) (Ref 11 ∷ []))
+
+-- ---- machines that stand somewhere
+
+-- the probe's method at 180, behind its first instruction, with an operand
+abbrev pub behind_push : TaggedValue → Machine (Unit {0})
+behind_push v = record {
+  heap = exceptions;
+  statics = [] ∷ [];
+  runtime = tt;
+  top = record {
+    method = record { number = 1; offset = 180 };
+    pc = 1;
+    locals = Unset ∷ [];
+    operands = v ∷ [];
+    active = owner 1 1;
+    previous = None;
+  };
+  waiting = [];
+}
+
+-- whether a step is stuck
+abbrev pub is_stuck : Outcome (Unit {0}) → Bool
+is_stuck (Next m) = false
+is_stuck (Throws m object) = false
+is_stuck (Ends m value) = false
+is_stuck (UsedUp m) = false
+is_stuck Stuck = true
+
+unfoldable pub is_stuck_with : TaggedValue → Bool
+is_stuck_with v = is_stuck (defensive_step (around quiet (probe ∷ [])) (behind_push v)).outcome
+
+-- ---- the runtime's objects
+
+-- whether such an object has as many components as its class says, where the API's packages are loaded; an array may have any number
+abbrev pub has_its_size : List Shape → RuntimeObject → Bool
+has_its_size world wanted = of_type wanted.type
+  where
+    of_type : ObjectType → Bool
+    of_type (Instance c) = length (fields_of world c) == wanted.size
+    of_type BooleanArray = true
+    of_type ByteArray = true
+    of_type ShortArray = true
+    of_type (ReferenceArray c) = true
+
+unfoldable pub have_their_sizes : Bool
+have_their_sizes = list_all (has_its_size (api_world default_binding)) runtime_objects

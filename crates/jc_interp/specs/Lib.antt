@@ -1,5 +1,6 @@
 pub mod Values
 pub mod Machine
+pub mod Runtime
 pub mod Lookup
 pub mod Going
 pub mod Returns
@@ -10,6 +11,10 @@ pub mod Calls
 pub mod Objects
 pub mod Step
 pub mod Agree
+pub mod Accepted
 pub mod Typed
+pub mod Guarded
+pub mod Natives
+pub mod Following
 pub mod ExamplePackages
 pub mod Examples

@@ -1,15 +1,22 @@
 //! Examples of the defensive machine: what the prover computes of it.
 
-ghost use Rattle.std.specs.Prelude.{◌≡◌, [], ◌∷◌, ◌++◌, None, Some};
+ghost use Rattle.std.specs.Prelude.{◌≡◌, [], ◌∷◌, ◌++◌, List, None, Some, false, true};
 ghost use Rattle.jc_classes.specs.declared.name.ClassName.TheVariants as classes;
-ghost use Rattle.jc_classes.specs.declared.name.MethodName.TheVariants.{Loaded};
+ghost use Rattle.jc_cap_desc.specs.Shape.{Shape};
+ghost use Rattle.jc_classes.specs.declared.name.MethodName.TheVariants.{Api, Loaded};
 ghost use Rattle.jc_firewall.specs.declared.access.Access.TheVariants.{CheckCast, GetField, InvokeInterface, InvokeVirtual, LoadComponent, PutField, StoreComponent};
 ghost use Rattle.jc_firewall.specs.declared.access.Rule.TheVariants.{Fields};
 ghost use Rattle.jc_firewall.specs.declared.access.Verdict.TheVariants.{Allowed, AllowedSwitch, Denied};
 ghost use Rattle.jc_interp.specs.ExamplePackages.{asker, client, server};
-ghost use Rattle.jc_interp.specs.Examples.{a_value, an_object, asking, exceptions, owner, probed, probed_on, run, run_with, start_of, stuck, untouched, used_up, with_served};
-ghost use Rattle.jc_interp.specs.Values.{Null, Ref, Word};
+ghost use Rattle.jc_interp.specs.Examples.{a_value, an_object, asking, exceptions, have_their_sizes, is_stuck_with, owner, probed, probed_on, quiet, run, run_with, start_of, stuck, untouched, used_up, with_served};
+ghost use Rattle.jc_interp.specs.Machine.{NativeCall};
+ghost use Rattle.jc_interp.specs.Natives.{IsGuardedAnswer};
+ghost use Rattle.jc_interp.specs.Typed.{IsOperand};
+ghost use Rattle.jc_interp.specs.Values.{Null, Ref, TaggedValue, Unset, Word};
 ghost use Rattle.jc_link.specs.Applet.{applet};
+ghost use Rattle.jc_link.specs.Linked.{World};
+ghost use Rattle.jc_store.specs.Heap.{Heap};
+ghost use Rattle.jc_types.specs.declared.ty.Ty.{Ty};
 
 /// An applet is installed: its object is made, and registers itself. It does nothing.
 pub fn install_runs()
@@ -57,6 +64,38 @@ pub fn callback_runs()
         ≡ record { touches = record { active = 1; access = InvokeVirtual; object = 11; verdict = Allowed } ∷ []; end = a_value (Some (Word 1)) } }
 {}
 
+/// A call of the runtime's may begin with a native member. They do nothing.
+pub fn natives_run()
+    ensures deselect_gives_nothing { run (applet ∷ []) 10 (start_of (with_served 0) (owner 1 1) (Api 37) (Ref 11 ∷ []))
+        ≡ untouched (a_value None) }
+    ensures process_is_abstract { run (applet ∷ []) 10 (start_of (with_served 0) (owner 1 1) (Api 38) (Ref 11 ∷ Null ∷ []))
+        ≡ untouched stuck }
+    ensures a_result_is_missing { run (applet ∷ []) 10 (start_of (with_served 0) (owner 1 1) (Api 36) (Ref 11 ∷ []))
+        ≡ untouched stuck }
+    ensures no_applet { run (server ∷ []) 10 (start_of (with_served 10) (owner 1 1) (Api 37) (Ref 11 ∷ []))
+        ≡ untouched stuck }
+    ensures a_callback_of_no_applet { run_with asking (server ∷ applet ∷ asker ∷ []) 20
+        (start_of (with_served 10) (owner 3 1) (Loaded 3 1) []) ≡ untouched stuck }
+{}
+
+/// Each of the runtime's own objects has as many components as its class says. It does nothing.
+pub fn runtime_objects_fit()
+    ensures { have_their_sizes ≡ true }
+{}
+
+/// Natives that do nothing are guarded: they make no access, and no object changes. It does nothing.
+pub fn quiet_natives_are_guarded()
+    ensures { (w : World) (call : NativeCall (Unit {0})) → IsGuardedAnswer w call (quiet.answer w call) }
+{}
+
+/// Operands are written: what was never written is of no type as an operand, and leaves a step stuck. They do nothing.
+pub fn operands_are_written()
+    ensures a_word_is_dropped { is_stuck_with (Word 0) ≡ false }
+    ensures an_unset_operand_is_stuck { is_stuck_with Unset ≡ true }
+    ensures an_unset_operand_has_no_type { (world : List Shape) (heap : Heap TaggedValue) (type : Ty)
+        → IsOperand world heap Unset type → ⊥ }
+{}
+
 /// What would leave the machine stuck does so. They do nothing.
 pub fn stuck_runs()
     ensures an_operand_too_many { probed 1 ≡ untouched stuck }
@@ -69,6 +108,10 @@ pub fn stuck_runs()
     ensures no_array { probed_on 0 210 ≡ untouched stuck }
     ensures an_argument_of_another_class { probed_on 30 220 ≡ untouched stuck }
     ensures an_object_of_another_class { probed_on 0 240 ≡ untouched stuck }
+    ensures a_first_argument_of_another_class { probed_on 30 230 ≡ untouched stuck }
+    ensures a_first_argument_is_missing { probed 200 ≡ untouched stuck }
+    ensures no_room_for_what_is_caught { probed 130 ≡ untouched stuck }
+    ensures a_catch_type_is_missing { probed 160 ≡ untouched stuck }
     ensures an_abstract_method { probed_on 30 240 ≡ record { touches = record { active = 1; access = InvokeVirtual; object = 11; verdict = Allowed } ∷ []; end = stuck } }
 {}
 

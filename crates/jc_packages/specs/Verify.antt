@@ -59,7 +59,8 @@ pub record IsPackage (image : List ℕ) : Type 0 where
 
 -- where memory may be out: at an image that is a package, behind images that are put behind one another
 pub data MayBeShort : List Shape → List (List ℕ) → Type 0 where
-  here : (before : List Shape) (image : List ℕ) (images : List (List ℕ)) → IsPackage image → MayBeShort before (image ∷ images)
+  here : (before : List Shape) (image : List ℕ) (images : List (List ℕ)) → IsPackage image
+      → MayBeShort before (image ∷ images)
   later : (before : List Shape) (image : List ℕ) (images : List (List ℕ)) (p : Package) → IsFine before image p
       → length before < most_in_world → MayBeShort (grown before p.shape) images → MayBeShort before (image ∷ images)
 
@@ -88,8 +89,8 @@ pub record IsCertified (binding : Bound) (earlier : List (List ℕ)) (image byte
   pub after : IsLinkedAfter binding earlier image linked
   pub spelled : SpellCarrying linked bytes
 
--- no certificate carries a linked package: no states carry the method at an offset, of which the fault is told, and those before it
--- can be carried
+-- no certificate carries a linked package: no states carry the method at an offset, of which the fault is told, and
+-- those before it can be carried
 pub record IsCarriedByNone (l : Linked) (offset : ℕ) (fault : Fault) : Type 0 where
   pub uncarried : IsUncarried l offset fault
   pub none : IsPackageCarried l → ⊥
@@ -100,7 +101,7 @@ pub record IsUncertified (binding : Bound) (earlier : List (List ℕ)) (image : 
   pub after : IsLinkedAfter binding earlier image linked
   pub uncarried : IsCarriedByNone linked offset fault
 
--- the answer to a package behind earlier ones, under a binding; memory may be out for any answer but the refusals of reading the first
+-- the answer to a package behind earlier ones, under a binding
 abbrev pub IsVerified : Bound → List (List ℕ) → List ℕ → VerifyAnswer → Type 0
 IsVerified binding earlier image (Certificate bytes) = IsCertified binding earlier image bytes.items
 IsVerified binding earlier image (NoCertificate method fault) = IsUncertified binding earlier image method fault

@@ -19,12 +19,14 @@ use jc_link::{Linked, World, link_package};
 use jc_verify::{VerifyFault, infer};
 use std::alloc::Global;
 
-/// Puts a linked package behind the others of the world that it was bound to, if there is room; else the world is as it was.
+/// Puts a linked package behind the others of the world that it was bound to, if there is room. Else the world is as it
+/// was: `Full`, or `Memory` where no memory is left.
 pub fn put(world: &mut World, linked: Linked) -> Result<(), LoadFault>
     requires { IsBoundTo world.old linked }
     ensures put { IfOk result (λ u. world.new ≡ with_linked world.old linked) }
     ensures room { IfOk result (λ u. length world.old.shapes < most_in_world) }
-    ensures refused { IfErr result (λ fault. (fault ≡ Memory) ⊎ (fault ≡ Full) × (most_in_world ≤ length world.old.shapes)) }
+    ensures refused { IfErr result
+        (λ fault. (fault ≡ Memory) ⊎ (fault ≡ Full) × (most_in_world ≤ length world.old.shapes)) }
     ensures kept { IfErr result (λ fault. world.new ≡ world.old) }
 {
     if world.is_full() {
@@ -86,7 +88,8 @@ fn load(alloc: Global, world: &mut World, image: &[u8]) -> Result<(), Unlinked>
 
 // A world with the packages in images behind one another.
 fn load_all(alloc: Global, first: World, earlier: &[Vec<u8>]) -> Result<World, Unlinked>
-    ensures loaded { IfOk result (λ w. AreLoaded first.shapes (map (λ image. image.items) earlier.now) w.shapes) }
+    ensures loaded { IfOk result
+        (λ w. AreLoaded first.shapes (map (λ image. image.items) earlier.now) w.shapes) }
     ensures unloaded { IfErr result (AreUnloaded first.shapes (map (λ image. image.items) earlier.now)) }
 {
     let mut world = first;
@@ -104,7 +107,8 @@ fn first_world(
     binding: &Binding,
 ) -> Result<World, Unlinked>
     ensures made { IfOk result (λ w. w.shapes ≡ api_world binding.now) }
-    ensures stopped { IfErr result (IsStopped (api_world binding.now) (map (λ image. image.items) earlier.now ++ image.now ∷ [])) }
+    ensures stopped { IfErr result
+        (IsStopped (api_world binding.now) (map (λ image. image.items) earlier.now ++ image.now ∷ [])) }
 {
     match World::new(alloc, binding) {
         Ok(world) => Ok(world),
@@ -119,8 +123,10 @@ fn link_last(
     earlier: &[Vec<u8>],
     binding: &Binding,
 ) -> Result<Linked, Unlinked>
-    ensures linked { IfOk result (IsLinkedAfter binding.now (map (λ image. image.items) earlier.now) image.now) }
-    ensures stopped { IfErr result (IsStopped (api_world binding.now) (map (λ image. image.items) earlier.now ++ image.now ∷ [])) }
+    ensures linked { IfOk result
+        (IsLinkedAfter binding.now (map (λ image. image.items) earlier.now) image.now) }
+    ensures stopped { IfErr result
+        (IsStopped (api_world binding.now) (map (λ image. image.items) earlier.now ++ image.now ∷ [])) }
 {
     let first = first_world(alloc, image, earlier, binding)?;
     let world = load_all(alloc, first, earlier)?;

@@ -86,6 +86,7 @@ fn arrive(
         → MeetsUnlike (IsHeldAt flow.now.numbers.now places.old) pc state.now.types CertMismatch) }
     ensures reached { IfOk result (λ u. AreReached flow.now.linked.now flow.now.method.now places.new) }
 {
+    // Only its contract counts: a state has no more operands than it has room for.
     let _depth = state.depth();
     let linked = flow.linked;
     take_in(flow.alloc, &mut places[number], state, linked.table())

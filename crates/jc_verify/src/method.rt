@@ -62,6 +62,7 @@ pub(crate) fn states_of(
         → Tells (package_rules linked.now) method.now fault) }
 {
     first_fault_laws();
+    // It is read because that alone says that it is a byte.
     let _most = method.max_stack;
     let entries = entries_of(alloc, method)?;
     let mut numbered = number_places(alloc, method.code().len(), &entries)?;

@@ -1,6 +1,6 @@
 //! The places of a method, by ascending pc, and their numbers.
 
-ghost use Rattle.std.specs.Prelude.{◌≡◌, ◌<◌, ◌≤◌, ◌+◌, ◌^◌, ℕ, List, true, false, None, Some, length, slice_get, IfOk};
+ghost use Rattle.std.specs.Prelude.{◌≡◌, ◌<◌, ◌≤◌, ◌+◌, ◌^◌, ℕ, List, true, false, None, Some, length, slice_get, vec_len, vec_capacity, IfOk};
 ghost use Rattle.jc_base.specs.NumberSet.{has_number};
 ghost use Rattle.jc_types.specs.State.{StateWithRoom};
 ghost use Rattle.jc_verify.specs.PrivateCarrier.{HasPlace};
@@ -28,9 +28,12 @@ fn put_place(
     pc: u16,
 ) -> Result<(), AllocError>
     requires few { length places.old.items < 2 ^ 16 }
-    ensures { IfOk result (λ u. (entries : List ℕ) → has_number entries pc ≡ true → AreNumbered entries pc numbers.old.items places.old.items → AreNumbered entries (pc + 1) numbers.new.items places.new.items) }
+    requires room { vec_len numbers.old < vec_capacity numbers.old }
+    ensures put { IfOk result (λ u. (entries : List ℕ) → has_number entries pc ≡ true → AreNumbered entries pc numbers.old.items places.old.items → AreNumbered entries (pc + 1) numbers.new.items places.new.items) }
+    ensures len { vec_len numbers.new ≡ vec_len numbers.old + 1 }
+    ensures capacity { vec_capacity numbers.new ≡ vec_capacity numbers.old }
 {
-    numbers.push(Some(places.len() as u16))?;
+    numbers.push_reserved(Some(places.len() as u16));
     places.push(Place {
         pc,
         held: None,
@@ -40,11 +43,13 @@ fn put_place(
 }
 
 /// Says in the table that there is no place at a pc.
-fn put_none(numbers: &mut Vec<Option<u16>>) -> Result<(), AllocError>
-    ensures { IfOk result (λ u. (entries : List ℕ) (pc : ℕ) (places : Places) → has_number entries pc ≡ false → AreNumbered entries pc numbers.old.items places → AreNumbered entries (pc + 1) numbers.new.items places) }
+fn put_none(numbers: &mut Vec<Option<u16>>)
+    requires room { vec_len numbers.old < vec_capacity numbers.old }
+    ensures put { (entries : List ℕ) (pc : ℕ) (places : Places) → has_number entries pc ≡ false → AreNumbered entries pc numbers.old.items places → AreNumbered entries (pc + 1) numbers.new.items places }
+    ensures len { vec_len numbers.new ≡ vec_len numbers.old + 1 }
+    ensures capacity { vec_capacity numbers.new ≡ vec_capacity numbers.old }
 {
-    numbers.push(None)?;
-    Ok(())
+    numbers.push_reserved(None);
 }
 
 /// Puts the place at a pc behind the others, if it is one.
@@ -55,12 +60,16 @@ fn put_if(
     is_place: bool,
 ) -> Result<(), AllocError>
     requires few { length places.old.items < 2 ^ 16 }
-    ensures { IfOk result (λ u. (entries : List ℕ) → has_number entries pc ≡ is_place → AreNumbered entries pc numbers.old.items places.old.items → AreNumbered entries (pc + 1) numbers.new.items places.new.items) }
+    requires room { vec_len numbers.old < vec_capacity numbers.old }
+    ensures put { IfOk result (λ u. (entries : List ℕ) → has_number entries pc ≡ is_place → AreNumbered entries pc numbers.old.items places.old.items → AreNumbered entries (pc + 1) numbers.new.items places.new.items) }
+    ensures len { vec_len numbers.new ≡ vec_len numbers.old + 1 }
+    ensures capacity { vec_capacity numbers.new ≡ vec_capacity numbers.old }
 {
     if is_place {
         put_place(numbers, places, pc)
     } else {
-        put_none(numbers)
+        put_none(numbers);
+        Ok(())
     }
 }
 
@@ -79,6 +88,7 @@ pub(crate) fn number_places(
     ensures all { IfOk result (λ n. (pc : ℕ) → pc < count → has_number entries.now pc ≡ true → HasPlace n.numbers.items pc) }
     ensures few { IfOk result (λ n. length n.places.items ≤ count) }
     ensures ascend { IfOk result (λ n. AreAscending n.numbers.items) }
+    ensures room { IfOk result (λ n. vec_capacity n.numbers ≡ count) }
 {
     let mut numbers = Vec::with_capacity(alloc, count)?;
     let mut places = Vec::new(alloc);

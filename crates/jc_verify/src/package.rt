@@ -24,6 +24,7 @@ fn flow_laws(linked: &Linked)
     ensures laws { HasLaws linked.now }
     ensures fit { HasFitMethods linked.now }
 {
+    // Only their contracts count: what always holds of a table and of a linked package.
     let _count = linked.table().len();
     let _body = linked.body();
     types_name_classes(linked);

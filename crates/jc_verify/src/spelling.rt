@@ -1,6 +1,6 @@
 //! The states of a certificate, with the names of their classes.
 
-ghost use Rattle.std.specs.Prelude.{◌≡◌, ◌++◌, [], ◌∷◌, ℕ, Some, length, map, IfErr, IfNone, IfOk, IfSome};
+ghost use Rattle.std.specs.Prelude.{◌≡◌, ◌<◌, ◌≤◌, ◌+◌, ◌++◌, [], ◌∷◌, ℕ, Some, length, map, vec_len, vec_capacity, IfErr, IfNone, IfOk, IfSome};
 ghost use Rattle.std.specs.List.{AllByRecursion};
 ghost use Rattle.jc_base.specs.declared.reason.Reason.{Reason};
 ghost use Rattle.jc_cert.specs.Cert.{IsSpelledClass, IsStatedType, stated};
@@ -27,6 +27,7 @@ fn fitting(name: SpelledClass) -> SpelledClass
 {
     match name {
         SpelledClass::Other { package, .. } => {
+            // Only its contract counts: how long an AID is.
             package.len();
         }
         SpelledClass::Own { .. } | SpelledClass::Api(_) => {}
@@ -77,6 +78,7 @@ fn stated_types(
     ensures fit { IfOk result (λ o. IfSome o (λ stated. AllByRecursion IsStatedType stated.items)) }
     ensures len { IfOk result (λ o. IfSome o (λ stated. length stated.items ≡ length types.now)) }
     ensures none { IfOk result (λ o. IfNone o (AllByRecursion (TypeHasName table.now) types.now → ⊥)) }
+    ensures room { IfOk result (λ o. IfSome o (λ stated. length types.now ≤ vec_capacity stated)) }
 {
     let mut stated = Vec::with_capacity(alloc, types.len())?;
     for index in 0..types.len() {
@@ -121,6 +123,7 @@ pub(crate) fn stated_rows(
     requires built { IsBuilt table.now }
     ensures rows { IfOk result (λ rows. AreStateRows (class_of_name table.now) places.now (map stated rows.items)) }
     ensures refused { IfErr result (λ fault. (pc : ℕ) (reason : Reason) → fault ≡ Refused pc reason → HasUnnamed table.now places.now) }
+    ensures room { IfOk result (λ rows. vec_capacity rows ≡ length places.now) }
 {
     let mut rows = Vec::with_capacity(alloc, places.len())?;
     for index in 0..places.len() {
@@ -137,14 +140,17 @@ fn put_row(
     rows: &mut Vec<StateRow>,
 ) -> Result<(), WordFault>
     requires built { IsBuilt table.now }
+    requires room { vec_len rows.old < vec_capacity rows.old }
     ensures rows { IfOk result (λ u. (places : Places) → AreStateRows (class_of_name table.now) places (map stated rows.old.items) → AreStateRows (class_of_name table.now) (places ++ place.now ∷ []) (map stated rows.new.items)) }
     ensures refused { IfErr result (λ fault. (pc : ℕ) (reason : Reason) → fault ≡ Refused pc reason → IsUnnamedPlace table.now place.now) }
+    ensures len { vec_len rows.new ≤ vec_len rows.old + 1 }
+    ensures capacity { vec_capacity rows.new ≡ vec_capacity rows.old }
 {
     match &place.held {
         None => Ok(()),
         Some(held) => match stated_row(alloc, table, place.pc, held)? {
             Some(row) => {
-                rows.push(row)?;
+                rows.push_reserved(row);
                 Ok(())
             }
             None => Err(WordFault::Refused {

@@ -19,4 +19,5 @@ loop-index-preserved c =
           ∙ ap Some (sym (take_more c.args.types.now c.loop-index.index _ at));
       fit = subst (AllByRecursion IsStatedType) (sym items) (all_more IsStatedType c.loop-index.stated.items c.in-Some.ty c.loop-index.invariant.fit c.in-Some.ensures.fits);
       len = let k = length_more c.loop-index.stated.items c.in-Some.ty in let more = ap length items in omega (arith, more, k, c.loop-index.invariant.len);
+      room = let kept = c.in_ok-extend_from_slice.ensures.capacity in omega (arith, kept, c.loop-index.invariant.room);
     }

@@ -1,4 +1,4 @@
-use Rattle.std.proofs.Common.{◌≡◌, Some, length, take}
+use Rattle.std.proofs.Common.{◌≡◌, ◌≤◌, Some, length, take, vec_capacity}
 use Rattle.std.specs.List.{AllByRecursion}
 use Rattle.jc_cert.specs.Cert.{IsStatedType}
 use Rattle.jc_check.specs.Claim.{types_claimed}
@@ -10,4 +10,5 @@ invariant-loop-index l = record {
   claimed : types_claimed (class_of_name l.table) l.stated.items ≡ Some (take l.index l.types);
   fit : AllByRecursion IsStatedType l.stated.items;
   len : length l.stated.items ≡ l.index;
+  room : length l.types ≤ vec_capacity l.stated;
 }

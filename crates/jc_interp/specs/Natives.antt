@@ -1,6 +1,6 @@
 -- The law of native members: what a machine relies on, whatever they do (Java Card API Specification; Java Card
 -- Runtime Environment Specification, Applet Isolation and Object Sharing).
-use Rattle.std.specs.Prelude.{◌≡◌, ◌⊎◌, ℕ, ◌≤◌, List, length, Option, Some, None, true, false}
+use Rattle.std.specs.Prelude.{◌≡◌, ◌⊎◌, ℕ, ◌≤◌, length, Some, None, true, false}
 use Rattle.std.specs.List.{AllByRecursion}
 use Rattle.jc_api.specs.Member.{ApiMember, member_of}
 use Rattle.jc_api.specs.declared.member.MemberKind.TheVariants.{Static, Virtual}
@@ -44,7 +44,7 @@ pub record IsUnchanged {C : Type 0} (call : NativeCall C) (a : NativeAnswer C) :
   pub runtime : a.runtime ≡ call.runtime
 
 -- where an access is denied the security exception is thrown, and nothing has changed
-pub record IsRefused {C : Type 0} (call : NativeCall C) (a : NativeAnswer C) : Type 0 where
+pub record IsRefusedAnswer {C : Type 0} (call : NativeCall C) (a : NativeAnswer C) : Type 0 where
   pub unchanged : IsUnchanged call a
   pub throws : a.ends ≡ ThrowsObject security_exception
 
@@ -65,7 +65,7 @@ pub record IsWithin (limits : Limits) (heap : Heap TaggedValue) : Type 0 where
 -- it makes none where there is no room; and a native member that makes a call has changed nothing
 pub record IsGuardedAnswer {C : Type 0} (w : World) (call : NativeCall C) (a : NativeAnswer C) : Type 0 where
   pub touches : AllByRecursion (IsNativeTouch w call) a.touches
-  pub guarded : AreGuarded a.touches (IsRefused call a)
+  pub guarded : AreGuarded a.touches (IsRefusedAnswer call a)
   pub kept : KeepsObjects call.heap a.heap
   pub changes : ChangesAccessed a.touches call.heap a.heap
   pub room : IsWithin call.limits call.heap → IsWithin call.limits a.heap

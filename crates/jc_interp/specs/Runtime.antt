@@ -1,6 +1,6 @@
 -- The runtime's own objects, which it makes when a card is new, and keeps (Java Card Runtime Environment
 -- Specification, JCRE Entry Point Objects, Global Arrays; Java Card API Specification, AID, APDU, Applet.install).
-use Rattle.std.specs.Prelude.{◌≡◌, ℕ, List, [], ◌∷◌, ◌++◌, length, map, Some, None}
+use Rattle.std.specs.Prelude.{◌≡◌, ℕ, List, ◌∷◌, length, map, Some, None}
 use Rattle.std.specs.List.{AllByRecursion, range_with_len}
 use Rattle.jc_api.specs.declared.class.ApiClass.{ApiClass}
 use Rattle.jc_api.specs.declared.class.ApiClass.TheVariants.{ArithmeticException, ArrayStoreException, ClassCastException, ArrayIndexOutOfBoundsException, NegativeArraySizeException, NullPointerException, SecurityException, IsoException, SystemException, ApduException, Aid, Apdu}

@@ -1,5 +1,5 @@
 -- The worlds whose packages a machine runs: each loaded package was linked, and its code was checked.
-use Rattle.std.specs.Prelude.{◌≡◌, ℕ, suc, take, false, Option, Some, IsSome}
+use Rattle.std.specs.Prelude.{◌≡◌, ℕ, suc, take, false, Some, IsSome}
 use Rattle.jc_cap_method.specs.declared.header.MethodHeader.{MethodHeader}
 use Rattle.jc_check.specs.Checked.{IsPackageCarried, IsPackageTyped}
 use Rattle.jc_classes.specs.Members.{DeclaredMethod}

@@ -159,7 +159,8 @@ probe_of offset = a_method offset 0 true (Reference object_ref ∷ []) 1 0 2
 abbrev pub probe_class : ClassShape
 probe_class = a_class 0 object_ref 0 [] [] [] (
     probe_of 200 ∷ probe_of 210 ∷ probe_of 220 ∷ a_method 230 0 true (Reference (Internal 0) ∷ []) 1 0 1 ∷ probe_of 240 ∷ probe_of 250
-    ∷ a_method 1 0 true [] 0 1 1 ∷ a_method 130 0 true [] 0 0 0 ∷ probes (10 ∷ 20 ∷ 30 ∷ 40 ∷ 50 ∷ 60 ∷ 70 ∷ 80 ∷ 100 ∷ 120 ∷ 140 ∷ 160 ∷ 180 ∷ []))
+    ∷ a_method 1 0 true [] 0 1 1 ∷ a_method 130 0 true [] 0 0 0
+    ∷ probes (10 ∷ 20 ∷ 30 ∷ 40 ∷ 50 ∷ 60 ∷ 70 ∷ 80 ∷ 100 ∷ 120 ∷ 140 ∷ 160 ∷ 180 ∷ []))
 
 abbrev pub open_class : ClassShape
 open_class = a_class 30 object_ref 0 (300 ∷ []) [] [] (record {
@@ -172,8 +173,8 @@ open_class = a_class 30 object_ref 0 (300 ∷ []) [] [] (record {
 
 abbrev pub probe : Package
 probe = a_package 1 (default_framework ∷ default_lang ∷ []) [] (probe_class ∷ open_class ∷ [])
-    (Classref (Internal 0) ∷ VirtualMethodref (record { class = Internal 30; token = 1 }) ∷ StaticMethodref (places.Internal 230)
-    ∷ StaticMethodref (places.Internal 140) ∷ [])
+    (Classref (Internal 0) ∷ VirtualMethodref (record { class = Internal 30; token = 1 })
+    ∷ StaticMethodref (places.Internal 230) ∷ StaticMethodref (places.Internal 140) ∷ [])
     (code 1 (0x04 ∷ 0x04 ∷ 0x78 ∷ []) []  -- an operand more than the one that it may have
     ∷ code 10 (0x78 ∷ []) []  -- an operand is missing
     ∷ code 20 (0x1C ∷ 0x78 ∷ []) []  -- local 0 was never written

@@ -162,7 +162,8 @@ is_stuck_with v = is_stuck (defensive_step (around quiet (probe ∷ [])) (behind
 
 -- ---- the runtime's objects
 
--- whether such an object has as many components as its class says, where the API's packages are loaded; an array may have any number
+-- whether such an object has as many components as its class says, where the API's packages are loaded; an array may
+-- have any number
 abbrev pub has_its_size : List Shape → RuntimeObject → Bool
 has_its_size world wanted = of_type wanted.type
   where

@@ -1,4 +1,5 @@
--- What the firewall guards in a step, whatever runs: no access is made that it denies, and no component changes without one.
+-- What the firewall guards in a step, whatever runs: no access is made that it denies, and no component changes
+-- without one.
 use Rattle.std.specs.Prelude.{◌≡◌, ◌⊎◌, ℕ, ◌&&◌, Bool, true, false, not, List, [], ◌∷◌, Option, Some, None, slice_get}
 use Rattle.std.specs.List.{list_all}
 use Rattle.jc_firewall.specs.Verdict.{runtime_context}

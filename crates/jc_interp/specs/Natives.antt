@@ -1,6 +1,6 @@
--- The law of native members: what a machine relies on, whatever they do (Java Card API Specification; Java Card Runtime Environment
--- Specification, Applet Isolation and Object Sharing).
-use Rattle.std.specs.Prelude.{◌≡◌, ◌⊎◌, ℕ, ◌≤◌, List, length, Option, Some, None, true, false}
+-- The law of native members: what a machine relies on, whatever they do (Java Card API Specification; Java Card
+-- Runtime Environment Specification, Applet Isolation and Object Sharing).
+use Rattle.std.specs.Prelude.{◌≡◌, ◌⊎◌, ℕ, ◌≤◌, length, Some, None, true, false}
 use Rattle.std.specs.List.{AllByRecursion}
 use Rattle.jc_api.specs.Member.{ApiMember, member_of}
 use Rattle.jc_api.specs.declared.member.MemberKind.TheVariants.{Static, Virtual}
@@ -33,7 +33,8 @@ pub record IsStill (heap : Heap TaggedValue) (number : ℕ) (o : Object TaggedVa
 
 -- each object that was there is there still
 abbrev pub KeepsObjects : Heap TaggedValue → Heap TaggedValue → Type 0
-KeepsObjects before after = (number : ℕ) (o : Object TaggedValue) → object_at before number ≡ Some o → IsStill after number o
+KeepsObjects before after =
+    (number : ℕ) (o : Object TaggedValue) → object_at before number ≡ Some o → IsStill after number o
 
 -- ---- accesses: of any call
 
@@ -43,12 +44,12 @@ pub record IsUnchanged {C : Type 0} (call : NativeCall C) (a : NativeAnswer C) :
   pub runtime : a.runtime ≡ call.runtime
 
 -- where an access is denied the security exception is thrown, and nothing has changed
-pub record IsRefused {C : Type 0} (call : NativeCall C) (a : NativeAnswer C) : Type 0 where
+pub record IsRefusedAnswer {C : Type 0} (call : NativeCall C) (a : NativeAnswer C) : Type 0 where
   pub unchanged : IsUnchanged call a
   pub throws : a.ends ≡ ThrowsObject security_exception
 
--- an access of a native member: the caller's or the runtime's own, to an object that is there; its verdict is the firewall's, and no
--- reference is stored by it
+-- an access of a native member: the caller's or the runtime's own, to an object that is there; its verdict is the
+-- firewall's, and no reference is stored by it
 pub record IsNativeTouch {C : Type 0} (w : World) (call : NativeCall C) (touch : Touch) : Type 0 where
   pub active : (touch.active ≡ call.active.context) ⊎ (touch.active ≡ runtime_context)
   pub object : Object TaggedValue
@@ -60,11 +61,11 @@ pub record IsWithin (limits : Limits) (heap : Heap TaggedValue) : Type 0 where
   pub objects : length heap ≤ limits.objects
   pub cells : cells_in heap ≤ limits.cells
 
--- its accesses are such; each is allowed, or it is refused at the last; only objects change that it accessed, or made; it makes none
--- where there is no room; and a native member that makes a call has changed nothing
+-- its accesses are such; each is allowed, or it is refused at the last; only objects change that it accessed, or made;
+-- it makes none where there is no room; and a native member that makes a call has changed nothing
 pub record IsGuardedAnswer {C : Type 0} (w : World) (call : NativeCall C) (a : NativeAnswer C) : Type 0 where
   pub touches : AllByRecursion (IsNativeTouch w call) a.touches
-  pub guarded : AreGuarded a.touches (IsRefused call a)
+  pub guarded : AreGuarded a.touches (IsRefusedAnswer call a)
   pub kept : KeepsObjects call.heap a.heap
   pub changes : ChangesAccessed a.touches call.heap a.heap
   pub room : IsWithin call.limits call.heap → IsWithin call.limits a.heap
@@ -72,7 +73,8 @@ pub record IsGuardedAnswer {C : Type 0} (w : World) (call : NativeCall C) (a : N
 
 -- ---- types: of a call that is as it should be
 
--- it is of a native member on arguments of its types; the objects are typed, the runtime's own are there, and what it keeps fits them
+-- it is of a native member on arguments of its types; the objects are typed, the runtime's own are there, and what it
+-- keeps fits them
 pub record IsFitCall {C : Type 0} (natives : Natives C) (w : World) (call : NativeCall C) : Type 0 where
   pub begins : native_may_begin w.shapes call.heap call.member call.arguments ≡ true
   pub heap : HeapTyped w.shapes call.heap
@@ -85,9 +87,10 @@ pub record IsThrown (w : World) (heap : Heap TaggedValue) (number : ℕ) : Type 
   pub found : object_at heap number ≡ Some object
   pub throwable : is_throwable w.shapes object.kind.object ≡ true
 
--- a call that a native member makes: only a static one makes any. It calls a virtual member of an object that is there and of the
--- member's class, on arguments of its types, and that gives what the native member is declared to give
-pub record IsFitCallback {C : Type 0} (w : World) (call : NativeCall C) (a : NativeAnswer C) (given : Signature ClassName) (callback : Callback) : Type 0 where
+-- a call that a native member makes: only a static one makes any. It calls a virtual member of an object that is there
+-- and of the member's class, on arguments of its types, and that gives what the native member is declared to give
+pub record IsFitCallback {C : Type 0} (w : World) (call : NativeCall C) (a : NativeAnswer C)
+    (given : Signature ClassName) (callback : Callback) : Type 0 where
   pub caller : ApiMember
   pub caller_is : member_of call.member ≡ Some caller
   pub static : caller.kind ≡ Static
@@ -110,7 +113,8 @@ EndsFit w call a given (Calls callback) = IsFitCallback w call a given callback
 EndsFit w call a given IsStuck = ⊥
 
 -- the objects are typed behind it, and what the runtime keeps fits them; and it ends as it is declared to
-pub record IsFitAnswer {C : Type 0} (natives : Natives C) (w : World) (call : NativeCall C) (a : NativeAnswer C) : Type 0 where
+pub record IsFitAnswer {C : Type 0} (natives : Natives C) (w : World) (call : NativeCall C) (a : NativeAnswer C)
+    : Type 0 where
   pub heap : HeapTyped w.shapes a.heap
   pub fits : natives.fits w a.heap a.runtime ≡ true
   pub given : Signature ClassName
@@ -119,9 +123,11 @@ pub record IsFitAnswer {C : Type 0} (natives : Natives C) (w : World) (call : Na
 
 -- ---- the law
 
--- each answer is guarded; of a fit call in an accepted world it is fit; and what the runtime keeps fits as long as the objects stay
+-- each answer is guarded; of a fit call in an accepted world it is fit; and what the runtime keeps fits as long as the
+-- objects stay
 pub record IsLawful {C : Type 0} (natives : Natives C) : Type 0 where
   pub guarded : (w : World) (call : NativeCall C) → IsGuardedAnswer w call (natives.answer w call)
-  pub fit : (w : World) (call : NativeCall C) → IsAccepted w → IsFitCall natives w call → IsFitAnswer natives w call (natives.answer w call)
+  pub fit : (w : World) (call : NativeCall C) → IsAccepted w → IsFitCall natives w call
+      → IsFitAnswer natives w call (natives.answer w call)
   pub stable : (w : World) (before after : Heap TaggedValue) (kept : C) → KeepsObjects before after
       → natives.fits w before kept ≡ true → natives.fits w after kept ≡ true

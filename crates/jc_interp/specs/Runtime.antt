@@ -1,6 +1,6 @@
--- The runtime's own objects, which it makes when a card is new, and keeps (Java Card Runtime Environment Specification, JCRE Entry Point
--- Objects, Global Arrays; Java Card API Specification, AID, APDU, Applet.install).
-use Rattle.std.specs.Prelude.{◌≡◌, ℕ, List, [], ◌∷◌, ◌++◌, length, map, Some, None}
+-- The runtime's own objects, which it makes when a card is new, and keeps (Java Card Runtime Environment
+-- Specification, JCRE Entry Point Objects, Global Arrays; Java Card API Specification, AID, APDU, Applet.install).
+use Rattle.std.specs.Prelude.{◌≡◌, ℕ, List, ◌∷◌, length, map, Some, None}
 use Rattle.std.specs.List.{AllByRecursion, range_with_len}
 use Rattle.jc_api.specs.declared.class.ApiClass.{ApiClass}
 use Rattle.jc_api.specs.declared.class.ApiClass.TheVariants.{ArithmeticException, ArrayStoreException, ClassCastException, ArrayIndexOutOfBoundsException, NegativeArraySizeException, NullPointerException, SecurityException, IsoException, SystemException, ApduException, Aid, Apdu}
@@ -87,10 +87,12 @@ aid_object number = record { number = number; type = Instance (classes.Api Aid);
 abbrev pub runtime_objects : List RuntimeObject
 runtime_objects =
     temporary arithmetic_exception ArithmeticException 0 ∷ temporary array_store_exception ArrayStoreException 0
-    ∷ temporary class_cast_exception ClassCastException 0 ∷ temporary array_index_exception ArrayIndexOutOfBoundsException 0
-    ∷ temporary negative_size_exception NegativeArraySizeException 0 ∷ temporary null_pointer_exception NullPointerException 0
-    ∷ temporary security_exception SecurityException 0 ∷ temporary iso_exception IsoException 1
-    ∷ temporary system_exception SystemException 1 ∷ temporary apdu_exception ApduException 1 ∷ temporary apdu_object Apdu 0
+    ∷ temporary class_cast_exception ClassCastException 0
+    ∷ temporary array_index_exception ArrayIndexOutOfBoundsException 0
+    ∷ temporary negative_size_exception NegativeArraySizeException 0
+    ∷ temporary null_pointer_exception NullPointerException 0 ∷ temporary security_exception SecurityException 0
+    ∷ temporary iso_exception IsoException 1 ∷ temporary system_exception SystemException 1
+    ∷ temporary apdu_exception ApduException 1 ∷ temporary apdu_object Apdu 0
     ∷ global_bytes apdu_buffer 261 ∷ global_bytes install_array 127
     ∷ map aid_object (range_with_len first_aid_object most_instances)
 

@@ -69,9 +69,11 @@ abbrev pub is_cell : List Shape → Heap TaggedValue → Option (DeclaredType Cl
 is_cell world heap None v = is_word v
 is_cell world heap (Some declared) v = is_kept_as world heap declared v
 
--- components of booleans and bytes are low bytes; those of an array of references are null, or of its class or interface
+-- components of booleans and bytes are low bytes; those of an array of references are null, or of its class or
+-- interface
 abbrev pub CellsTyped : List Shape → Heap TaggedValue → List TaggedValue → ObjectType → Type 0
-CellsTyped world heap cells (Instance c) = Pointwise (λ v field. is_cell world heap field v ≡ true) cells (fields_of world c)
+CellsTyped world heap cells (Instance c) =
+    Pointwise (λ v field. is_cell world heap field v ≡ true) cells (fields_of world c)
 CellsTyped world heap cells BooleanArray = AllByRecursion (λ v. is_byte v ≡ true) cells
 CellsTyped world heap cells ByteArray = AllByRecursion (λ v. is_byte v ≡ true) cells
 CellsTyped world heap cells ShortArray = AllByRecursion (λ v. is_word v ≡ true) cells
@@ -105,8 +107,8 @@ pub record StaticsTyped (w : World) (heap : Heap TaggedValue) (statics : List (L
   pub count : length statics ≡ length w.bodies
   pub typed : (number : ℕ) (fields : List StaticValue) → of_package statics number ≡ Some fields
       → AllByRecursion (StaticTyped w.shapes heap (home_at number)) fields
-  pub present : (place : StaticPlace) (declared : DeclaredType ClassName) → static_type_of w.shapes place ≡ Some declared
-      → IsSome (static_at statics place.home place.offset)
+  pub present : (place : StaticPlace) (declared : DeclaredType ClassName)
+      → static_type_of w.shapes place ≡ Some declared → IsSome (static_at statics place.home place.offset)
 
 -- ---- frames
 
@@ -115,8 +117,8 @@ pub record HasShape (m : Method) (t : Types) : Type 0 where
   pub locals : length t.locals ≡ length m.arguments + m.max_locals
   pub operands : length t.operands ≤ m.max_stack
 
--- a frame's method as the check sees it, with a typing of it whose states are of the method's shape, and which has a state at the frame's
--- pc, of whose types the frame's locals are
+-- a frame's method as the check sees it, with a typing of it whose states are of the method's shape, and which has a
+-- state at the frame's pc, of whose types the frame's locals are
 pub record IsPlaced (w : World) (heap : Heap TaggedValue) (f : Frame) : Type 0 where
   pub body : LinkedBody
   pub loaded : body_at w f.method.number ≡ Some body
@@ -124,7 +126,8 @@ pub record IsPlaced (w : World) (heap : Heap TaggedValue) (f : Frame) : Type 0 w
   pub there : code_at w f.method ≡ Some code
   pub typing : Typing
   pub typed : IsTyping (package_rules (linked_as w f.method.number body)) (method_of (linked_as w f.method.number body) code) typing
-  pub shaped : (pc : ℕ) (t : Types) → typing pc ≡ Some t → HasShape (method_of (linked_as w f.method.number body) code) t
+  pub shaped : (pc : ℕ) (t : Types) → typing pc ≡ Some t
+      → HasShape (method_of (linked_as w f.method.number body) code) t
   pub state : Types
   pub stated : typing f.pc ≡ Some state
   pub locals_typed : HaveTypes w.shapes heap f.locals state.locals
@@ -150,8 +153,8 @@ IsEffect w f body code instr before after =
     let method = method_of linked code in
     (package_rules linked).effect method.max_stack method.returned instr.operation before ≡ Ok after
 
--- a frame that waits for a result stands at a call. What is left of its operands is of types that, with the result on top, are those of the
--- state after the call, which leads on to the pc behind it
+-- a frame that waits for a result stands at a call. What is left of its operands is of types that, with the result on
+-- top, are those of the state after the call, which leads on to the pc behind it
 pub record WaitsTyped (w : World) (heap : Heap TaggedValue) (result : Option Ty) (f : Frame) : Type 0 where
   pub placed : IsPlaced w heap f
   pub call : Instr
@@ -172,8 +175,8 @@ WaitTyped w heap result (f ∷ waiting) = WaitsTyped w heap result f × WaitType
 
 -- ---- machines
 
--- what it keeps beside its frames: the objects and the static fields are typed, the runtime's own objects are there, and what the runtime
--- keeps fits the objects
+-- what it keeps beside its frames: the objects and the static fields are typed, the runtime's own objects are there,
+-- and what the runtime keeps fits the objects
 pub record IsTypedBeside {C : Type 0} (s : Surroundings C) (m : Machine C) : Type 0 where
   pub heap : HeapTyped s.world.shapes m.heap
   pub statics : StaticsTyped s.world m.heap m.statics

@@ -68,8 +68,8 @@ pub fn callback_runs()
 pub fn natives_run()
     ensures deselect_gives_nothing { run (applet ∷ []) 10 (start_of (with_served 0) (owner 1 1) (Api 37) (Ref 11 ∷ []))
         ≡ untouched (a_value None) }
-    ensures process_is_abstract { run (applet ∷ []) 10 (start_of (with_served 0) (owner 1 1) (Api 38) (Ref 11 ∷ Null ∷ []))
-        ≡ untouched stuck }
+    ensures process_is_abstract { run (applet ∷ []) 10
+        (start_of (with_served 0) (owner 1 1) (Api 38) (Ref 11 ∷ Null ∷ [])) ≡ untouched stuck }
     ensures a_result_is_missing { run (applet ∷ []) 10 (start_of (with_served 0) (owner 1 1) (Api 36) (Ref 11 ∷ []))
         ≡ untouched stuck }
     ensures no_applet { run (server ∷ []) 10 (start_of (with_served 10) (owner 1 1) (Api 37) (Ref 11 ∷ []))

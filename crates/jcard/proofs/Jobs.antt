@@ -21,25 +21,33 @@ pub none_written : (has : List Written → Type 0) → IsWritten has has []
 none_written has before h = subst has (sym (append-nil before)) h
 
 -- one of the earlier folders is at fault
-pub earlier_unread : (holds : List ℕ → Entry → Type 0) (job : VerifyJob) (bound : Bound) (fault : ReadFault) → IsBindingFor holds job.binding bound
-    → OfFile (FailsFirst (IsImage holds) (IsFolderFault holds) (earlier_of job)) fault → OfFile (IsUnreadOf holds job) fault
+pub earlier_unread : (holds : List ℕ → Entry → Type 0) (job : VerifyJob) (bound : Bound) (fault : ReadFault)
+    → IsBindingFor holds job.binding bound
+    → OfFile (FailsFirst (IsImage holds) (IsFolderFault holds) (earlier_of job)) fault
+    → OfFile (IsUnreadOf holds job) fault
 earlier_unread holds job bound fault is =
-    of_file (FailsFirst (IsImage holds) (IsFolderFault holds) (earlier_of job)) (IsUnreadOf holds job) fault (λ f told. earlier bound is told)
+    of_file (FailsFirst (IsImage holds) (IsFolderFault holds) (earlier_of job)) (IsUnreadOf holds job) fault
+    (λ f told. earlier bound is told)
 
 -- the package's folder is at fault
-pub last_unread : (holds : List ℕ → Entry → Type 0) (job : VerifyJob) (bound : Bound) (images : List (List ℕ)) (fault : ReadFault) → IsBindingFor holds job.binding bound
-    → AllZip (IsImage holds) (earlier_of job) images → OfFile (IsFolderFault holds job.folder.now) fault → OfFile (IsUnreadOf holds job) fault
+pub last_unread : (holds : List ℕ → Entry → Type 0) (job : VerifyJob) (bound : Bound) (images : List (List ℕ))
+    (fault : ReadFault) → IsBindingFor holds job.binding bound
+    → AllZip (IsImage holds) (earlier_of job) images → OfFile (IsFolderFault holds job.folder.now) fault
+    → OfFile (IsUnreadOf holds job) fault
 last_unread holds job bound images fault is read =
     of_file (IsFolderFault holds job.folder.now) (IsUnreadOf holds job) fault (λ f told. last bound images is read told)
 
 -- a file isn't read, and nothing is written
-pub unread_undone : (holds : List ℕ → Entry → Type 0) (has : List Written → Type 0) (job : VerifyJob) (fault : ReadFault) → OfFile (IsUnreadOf holds job) fault
+pub unread_undone : (holds : List ℕ → Entry → Type 0) (has : List Written → Type 0) (job : VerifyJob)
+    (fault : ReadFault) → OfFile (IsUnreadOf holds job) fault
     → OfFile (IsUndone holds (IsWritten has has) job) fault
 unread_undone holds has job fault =
-    of_file (IsUnreadOf holds job) (IsUndone holds (IsWritten has has) job) fault (λ f told. unread told (none_written has))
+    of_file (IsUnreadOf holds job) (IsUndone holds (IsWritten has has) job) fault
+    (λ f told. unread told (none_written has))
 
 -- what is said where a job isn't done
-pub said_undone : (holds : List ℕ → Entry → Type 0) (wrote : List Written → Type 0) (job : VerifyJob) (said : Said) (fault : ReadFault) → OfFile (IsUndone holds wrote job) fault
+pub said_undone : (holds : List ℕ → Entry → Type 0) (wrote : List Written → Type 0) (job : VerifyJob) (said : Said)
+    (fault : ReadFault) → OfFile (IsUndone holds wrote job) fault
     → IsSaidOfFiles fault said → IsSaidOfJob holds wrote job said
 said_undone holds wrote job said (File fault) told says = undone fault told says
 said_undone holds wrote job said Memory told says = memory says

@@ -13,8 +13,9 @@ use Rattle.jcard.specs.declared.files.FileFault.{FileFault}
 
 -- the component files of a package, in the order in which they make an image
 abbrev pub components : List (List ℕ)
-components = codes "Header.cap" ∷ codes "Applet.cap" ∷ codes "Import.cap" ∷ codes "ConstantPool.cap" ∷ codes "Class.cap" ∷ codes "Method.cap"
-    ∷ codes "StaticField.cap" ∷ codes "Export.cap" ∷ codes "Descriptor.cap" ∷ []
+components =
+    codes "Header.cap" ∷ codes "Applet.cap" ∷ codes "Import.cap" ∷ codes "ConstantPool.cap" ∷ codes "Class.cap"
+    ∷ codes "Method.cap" ∷ codes "StaticField.cap" ∷ codes "Export.cap" ∷ codes "Descriptor.cap" ∷ []
 
 -- the most bytes of a component's file: a tag, a size of two bytes, and as many as that can say
 abbrev pub most_component : ℕ
@@ -54,9 +55,12 @@ IsNoFolder holds NotText = ⊥
 IsNoFolder holds (NoBinding fault) = ⊥
 
 -- the first fault of names that are read in their order: those before it are read
-pub data FailsFirst {A : Type 0} (IsRead : List ℕ → A → Type 0) (Fails : List ℕ → FileFault → Type 0) : List (List ℕ) → FileFault → Type 0 where
-  here : (name : List ℕ) (names : List (List ℕ)) (fault : FileFault) → Fails name fault → FailsFirst IsRead Fails (name ∷ names) fault
-  later : (name : List ℕ) (names : List (List ℕ)) (read : A) (fault : FileFault) → IsRead name read → FailsFirst IsRead Fails names fault
+pub data FailsFirst {A : Type 0} (IsRead : List ℕ → A → Type 0) (Fails : List ℕ → FileFault → Type 0)
+    : List (List ℕ) → FileFault → Type 0 where
+  here : (name : List ℕ) (names : List (List ℕ)) (fault : FileFault) → Fails name fault
+      → FailsFirst IsRead Fails (name ∷ names) fault
+  later : (name : List ℕ) (names : List (List ℕ)) (read : A) (fault : FileFault) → IsRead name read
+      → FailsFirst IsRead Fails names fault
       → FailsFirst IsRead Fails (name ∷ names) fault
 
 -- the file in a folder with a component's name has these bytes, or isn't there
@@ -65,10 +69,12 @@ IsComponentIn holds folder_path name = IsComponent (holds (path_join folder_path
 
 -- the fault of the file in a folder with a component's name
 abbrev pub IsComponentFault : (List ℕ → Entry → Type 0) → List ℕ → List ℕ → FileFault → Type 0
-IsComponentFault holds folder_path name = let path = path_join folder_path name in IsFaultAt path (IsNoComponent (holds path))
+IsComponentFault holds folder_path name =
+    let path = path_join folder_path name in IsFaultAt path (IsNoComponent (holds path))
 
 -- the files in a folder with these names make these bytes
-pub record AreJoined (holds : List ℕ → Entry → Type 0) (folder_path : List ℕ) (names : List (List ℕ)) (bytes : List ℕ) : Type 0 where
+pub record AreJoined (holds : List ℕ → Entry → Type 0) (folder_path : List ℕ) (names : List (List ℕ)) (bytes : List ℕ)
+    : Type 0 where
   pub files : List (Option (List ℕ))
   pub read : AllZip (IsComponentIn holds folder_path) names files
   pub joined : bytes ≡ image_of files
@@ -81,5 +87,6 @@ pub record IsImage (holds : List ℕ → Entry → Type 0) (folder_path image : 
 -- why a folder holds no image: there is none, or one of its files isn't read
 pub data IsFolderFault (holds : List ℕ → Entry → Type 0) (folder_path : List ℕ) (fault : FileFault) : Type 0 where
   no_folder : IsFaultAt folder_path (IsNoFolder (holds folder_path)) fault → IsFolderFault holds folder_path fault
-  component : holds folder_path folder → FailsFirst (IsComponentIn holds folder_path) (IsComponentFault holds folder_path) components fault
+  component : holds folder_path folder
+      → FailsFirst (IsComponentIn holds folder_path) (IsComponentFault holds folder_path) components fault
       → IsFolderFault holds folder_path fault

@@ -121,10 +121,12 @@ abbrev pub IsReply : List Text → Reply → Type 0
 IsReply words (replies.Said said) = IsSaid words said
 IsReply words (replies.Verify job) = IsJobFor words (Verify job)
 
--- what is said of the answer to a package: its line, or that memory was wanting
+-- what is said of the answer to a package: its line, or out of memory
 abbrev pub IsSaidOfVerified : VerifyAnswer → Said → Type 0
-IsSaidOfVerified (answers.Certificate bytes) said = (said.message ≡ Verified (answers.Certificate bytes)) × IsSuccess said
-IsSaidOfVerified (answers.NoCertificate method fault) said = (said.message ≡ Verified (answers.NoCertificate method fault)) × IsSuccess said
+IsSaidOfVerified (answers.Certificate bytes) said =
+    (said.message ≡ Verified (answers.Certificate bytes)) × IsSuccess said
+IsSaidOfVerified (answers.NoCertificate method fault) said =
+    (said.message ≡ Verified (answers.NoCertificate method fault)) × IsSuccess said
 IsSaidOfVerified (answers.Refused fault) said = (said.message ≡ Verified (answers.Refused fault)) × IsSuccess said
 IsSaidOfVerified answers.Memory said = (said.message ≡ Fault Memory) × IsFailure said
 
@@ -133,10 +135,14 @@ abbrev pub IsSaidOfFiles : ReadFault → Said → Type 0
 IsSaidOfFiles (reading.File fault) said = (said.message ≡ File fault) × IsFailure said
 IsSaidOfFiles reading.Memory said = (said.message ≡ Fault Memory) × IsFailure said
 
--- what is said of a package in a folder behind others: the answer to what the files hold, once it is written; or the file at fault; or out of memory
-pub data IsSaidOfJob (holds : List ℕ → Entry → Type 0) (wrote : List Written → Type 0) (job : VerifyJob) (said : Said) : Type 0 where
-  done : (answer : VerifyAnswer) → IsDone holds wrote job answer → IsSaidOfVerified answer said → IsSaidOfJob holds wrote job said
-  undone : (fault : FileFault) → IsUndone holds wrote job fault → IsSaidOfFiles (reading.File fault) said → IsSaidOfJob holds wrote job said
+-- what is said of a package in a folder behind others: the answer to what the files hold, once it is written; or the
+-- file at fault; or out of memory
+pub data IsSaidOfJob (holds : List ℕ → Entry → Type 0) (wrote : List Written → Type 0) (job : VerifyJob) (said : Said)
+    : Type 0 where
+  done : (answer : VerifyAnswer) → IsDone holds wrote job answer → IsSaidOfVerified answer said
+      → IsSaidOfJob holds wrote job said
+  undone : (fault : FileFault) → IsUndone holds wrote job fault → IsSaidOfFiles (reading.File fault) said
+      → IsSaidOfJob holds wrote job said
   memory : IsSaidOfFiles reading.Memory said → IsSaidOfJob holds wrote job said
 
 -- why there is no certificate, which is said beside the line of an answer
@@ -157,7 +163,9 @@ remark_of NotText = None
 
 -- its line: the method, the pc at which its inference ends, and the reason
 abbrev pub remark_line : Remark → List ℕ
-remark_line r = ((((codes "no certificate: method " ++ decimal r.method) ++ codes ", pc ") ++ decimal r.fault.pc) ++ codes ": ") ++ name_of r.fault.reason
+remark_line r =
+    ((((codes "no certificate: method " ++ decimal r.method) ++ codes ", pc ") ++ decimal r.fault.pc) ++ codes ": ")
+    ++ name_of r.fault.reason
 
 -- what is said where there are no words: memory was wanting, or else one of them isn't UTF-8
 pub record IsSaidWithoutWords (kind : ErrorKind) (said : Said) : Type 0 where

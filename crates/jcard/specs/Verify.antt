@@ -1,4 +1,5 @@
--- What is answered to a package in a folder behind others, what is written of it, and which file is at fault where nothing is answered.
+-- What is answered to a package in a folder behind others, what is written of it, and which file is at fault where
+-- nothing is answered.
 use Rattle.std.specs.Prelude.{◌≡◌, ℕ, ◌∷◌, [], List, Option, Some, None, map, Ok, Err}
 use Rattle.std.specs.Borrow.{Bor}
 use Rattle.std.specs.List.{AllZip}
@@ -8,7 +9,8 @@ use Rattle.jc_api.specs.Bound.{Bound, default_binding}
 use Rattle.jc_api.specs.declared.fault.BindingFault.{BindingFault}
 use Rattle.jc_packages.specs.Named.{AnswersNamed}
 use Rattle.jc_packages.specs.declared.verify_answer.VerifyAnswer.{VerifyAnswer}
-use Rattle.jc_packages.specs.declared.verify_answer.VerifyAnswer.TheVariants.{Certificate, NoCertificate, Refused, Memory}
+use Rattle.jc_packages.specs.declared.verify_answer.VerifyAnswer.TheVariants.{Certificate, NoCertificate, Refused}
+use Rattle.jc_packages.specs.declared.verify_answer.VerifyAnswer.TheVariants.{Memory}
 use Rattle.jcard.specs.Files.{Entry, IsContent, IsFaultAt, IsLonger, IsUnwritten, Written}
 use Rattle.jcard.specs.Files.Entry.{failing}
 use Rattle.jcard.specs.Folders.{FailsFirst, IsFolderFault, IsImage}
@@ -82,8 +84,10 @@ pub record IsAnswerOf (holds : List ℕ → Entry → Type 0) (job : VerifyJob) 
 -- which file of a job isn't read: the first, in the order of the binding, the earlier folders, the package's folder
 pub data IsUnreadOf (holds : List ℕ → Entry → Type 0) (job : VerifyJob) (fault : FileFault) : Type 0 where
   binding : IsBindingFault holds job.binding fault → IsUnreadOf holds job fault
-  earlier : (bound : Bound) → IsBindingFor holds job.binding bound → FailsFirst (IsImage holds) (IsFolderFault holds) (earlier_of job) fault → IsUnreadOf holds job fault
-  last : (bound : Bound) (images : List (List ℕ)) → IsBindingFor holds job.binding bound → AllZip (IsImage holds) (earlier_of job) images
+  earlier : (bound : Bound) → IsBindingFor holds job.binding bound
+      → FailsFirst (IsImage holds) (IsFolderFault holds) (earlier_of job) fault → IsUnreadOf holds job fault
+  last : (bound : Bound) (images : List (List ℕ)) → IsBindingFor holds job.binding bound
+      → AllZip (IsImage holds) (earlier_of job) images
       → IsFolderFault holds job.folder.now fault → IsUnreadOf holds job fault
 
 -- what is written of an answer: all bytes of the certificate to its file, and else nothing
@@ -101,11 +105,15 @@ IsUnwrittenOf holds path (Refused refusal) fault = ⊥
 IsUnwrittenOf holds path Memory fault = ⊥
 
 -- the answer to a job, of which all was written that is to be
-pub record IsDone (holds : List ℕ → Entry → Type 0) (wrote : List Written → Type 0) (job : VerifyJob) (answer : VerifyAnswer) : Type 0 where
+pub record IsDone (holds : List ℕ → Entry → Type 0) (wrote : List Written → Type 0) (job : VerifyJob)
+    (answer : VerifyAnswer) : Type 0 where
   pub answered : IsAnswerOf holds job answer
   pub written : wrote (written_of job.cert.now answer)
 
--- which file is at fault where nothing is answered: one isn't read, and nothing was written, or the certificate's isn't written
-pub data IsUndone (holds : List ℕ → Entry → Type 0) (wrote : List Written → Type 0) (job : VerifyJob) (fault : FileFault) : Type 0 where
+-- which file is at fault where nothing is answered: one isn't read, and nothing was written, or the certificate's
+-- isn't written
+pub data IsUndone (holds : List ℕ → Entry → Type 0) (wrote : List Written → Type 0) (job : VerifyJob)
+    (fault : FileFault) : Type 0 where
   unread : IsUnreadOf holds job fault → wrote [] → IsUndone holds wrote job fault
-  unwritten : (answer : VerifyAnswer) → IsAnswerOf holds job answer → IsUnwrittenOf holds job.cert.now answer fault → IsUndone holds wrote job fault
+  unwritten : (answer : VerifyAnswer) → IsAnswerOf holds job answer → IsUnwrittenOf holds job.cert.now answer fault
+      → IsUndone holds wrote job fault

@@ -85,7 +85,7 @@ impl<T: Drop> From<AllocFailed<T>> for ReadFault {
     }
 }
 
-/// The files of a system. Reading changes nothing. What is told of a path is told by the state in which it is asked for.
+/// The files of a system. Reading changes nothing.
 pub trait Files {
     // What the system tells of a path: what is there, or an error where it is looked at, read or written.
     ghost holds: { Self → List ℕ → Entry → Type 0 };
@@ -106,7 +106,9 @@ pub trait Files {
 
     /// Writes all of these bytes to the file under a path, and nothing else.
     fn write(&mut self, path: &str, bytes: &[u8]) -> io::Result<()>
-        ensures written { IfOk result (λ u. IsWritten (has_written self.old) (has_written self.new) (record { path = path.now; bytes = bytes.now } ∷ [])) }
+        ensures written { IfOk result
+            (λ u. IsWritten (has_written self.old) (has_written self.new)
+            (record { path = path.now; bytes = bytes.now } ∷ [])) }
         ensures failing { IfErr result (λ error. holds self.old path.now (failing error)) };
 }
 

@@ -5,7 +5,8 @@ ghost use Rattle.std.specs.List.{AllZip};
 ghost use Rattle.std.specs.Path.{path_join};
 ghost use Rattle.jcard.specs.Files.{IsFaultAt, OfFile};
 ghost use Rattle.jcard.specs.Files.Entry.{folder as a_folder};
-ghost use Rattle.jcard.specs.Folders.{AreJoined, FailsFirst, IsComponent, IsComponentFault, IsComponentIn, IsFolderFault, IsImage, IsNoComponent, IsNoFolder};
+ghost use Rattle.jcard.specs.Folders.{AreJoined, FailsFirst, IsComponent, IsComponentFault, IsComponentIn};
+ghost use Rattle.jcard.specs.Folders.{IsFolderFault, IsImage, IsNoComponent, IsNoFolder};
 ghost use Rattle.jcard.specs.PrivateFolders.{IsPutBehind};
 
 use crate::files::{FileCause, Files, ReadFault, fault_of};
@@ -35,8 +36,12 @@ pub fn images_in<F: Files>(
     alloc: Global,
     folders: &[&str],
 ) -> Result<Vec<Vec<u8>>, ReadFault>
-    ensures images { IfOk result (λ images. AllZip (IsImage (F.holds files.now)) (map (λ name. name.now) folders.now) (map (λ image. image.items) images.items)) }
-    ensures faults { IfErr result (OfFile (FailsFirst (IsImage (F.holds files.now)) (IsFolderFault (F.holds files.now)) (map (λ name. name.now) folders.now))) }
+    ensures images { IfOk result
+        (λ images. AllZip (IsImage (F.holds files.now)) (map (λ name. name.now) folders.now)
+        (map (λ image. image.items) images.items)) }
+    ensures faults { IfErr result
+        (OfFile (FailsFirst (IsImage (F.holds files.now)) (IsFolderFault (F.holds files.now))
+        (map (λ name. name.now) folders.now))) }
 {
     let mut images = Vec::new(alloc);
     for folder in folders {
@@ -74,8 +79,11 @@ fn joined<F: Files>(
     folder: &str,
     names: &[&str],
 ) -> Result<Vec<u8>, ReadFault>
-    ensures joined { IfOk result (λ bytes. AreJoined (F.holds files.now) folder.now (map (λ name. name.now) names.now) bytes.items) }
-    ensures faults { IfErr result (OfFile (FailsFirst (IsComponentIn (F.holds files.now) folder.now) (IsComponentFault (F.holds files.now) folder.now) (map (λ name. name.now) names.now))) }
+    ensures joined { IfOk result
+        (λ bytes. AreJoined (F.holds files.now) folder.now (map (λ name. name.now) names.now) bytes.items) }
+    ensures faults { IfErr result
+        (OfFile (FailsFirst (IsComponentIn (F.holds files.now) folder.now)
+        (IsComponentFault (F.holds files.now) folder.now) (map (λ name. name.now) names.now))) }
 {
     let mut bytes = Vec::new(alloc);
     for name in names {
@@ -92,7 +100,8 @@ fn put_component<F: Files>(
     name: &str,
     bytes: &mut Vec<u8>,
 ) -> Result<(), ReadFault>
-    ensures put { IfOk result (λ u. IsPutBehind (F.holds files.now (path_join folder.now name.now)) bytes.old.items bytes.new.items) }
+    ensures put { IfOk result
+        (λ u. IsPutBehind (F.holds files.now (path_join folder.now name.now)) bytes.old.items bytes.new.items) }
     ensures faults { IfErr result (OfFile (IsComponentFault (F.holds files.now) folder.now name.now)) }
 {
     let path = Path::new(folder).join(alloc, name)?;
@@ -108,7 +117,8 @@ fn component_in<F: Files>(
     alloc: Global,
     path: &str,
 ) -> Result<Option<Vec<u8>>, ReadFault>
-    ensures component { IfOk result (λ read. IsComponent (F.holds files.now path.now) (option_map (λ bytes. bytes.items) read)) }
+    ensures component { IfOk result
+        (λ read. IsComponent (F.holds files.now path.now) (option_map (λ bytes. bytes.items) read)) }
     ensures faults { IfErr result (OfFile (IsFaultAt path.now (IsNoComponent (F.holds files.now path.now)))) }
 {
     match files.read(alloc, path, MOST_COMPONENT) {

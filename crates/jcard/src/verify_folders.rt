@@ -3,7 +3,8 @@
 ghost use Rattle.std.specs.Prelude.{◌≡◌, [], Ok, IfOk, IfErr};
 ghost use Rattle.jcard.specs.Files.{IsFaultAt, IsWritten, OfFile};
 ghost use Rattle.jcard.specs.Saying.{IsSaidOfJob};
-ghost use Rattle.jcard.specs.Verify.{IsAnswerOf, HasBinding, IsBindingFault, IsBindingFor, IsDone, IsNoBinding, IsUnbound, IsUndone, IsUnreadOf, IsUnwrittenOf, SaysBinding, written_of};
+ghost use Rattle.jcard.specs.Verify.{IsAnswerOf, HasBinding, IsBindingFault, IsBindingFor, IsDone, IsNoBinding};
+ghost use Rattle.jcard.specs.Verify.{IsUnbound, IsUndone, IsUnreadOf, IsUnwrittenOf, SaysBinding, written_of};
 
 use crate::files::{FileCause, Files, ReadFault, fault_of};
 use crate::folders::{image_in, images_in};
@@ -18,7 +19,8 @@ const MOST_BINDING: usize = 1048576;
 
 /// What is said of a package. Its certificate is written first, if it gets one.
 pub fn said_of_job<F: Files>(files: &mut F, alloc: Global, job: &VerifyJob) -> Said
-    ensures { IsSaidOfJob (F.holds files.old) (IsWritten (F.has_written files.old) (F.has_written files.new)) job.now result }
+    ensures { IsSaidOfJob (F.holds files.old) (IsWritten (F.has_written files.old) (F.has_written files.new)) job.now
+        result }
 {
     match answer_to(files, alloc, job) {
         Ok(answer) => said_of_verified(answer),
@@ -32,15 +34,19 @@ fn answer_to<F: Files>(
     alloc: Global,
     job: &VerifyJob,
 ) -> Result<VerifyAnswer, ReadFault>
-    ensures done { IfOk result (IsDone (F.holds files.old) (IsWritten (F.has_written files.old) (F.has_written files.new)) job.now) }
-    ensures faults { IfErr result (OfFile (IsUndone (F.holds files.old) (IsWritten (F.has_written files.old) (F.has_written files.new)) job.now)) }
+    ensures done { IfOk result
+        (IsDone (F.holds files.old) (IsWritten (F.has_written files.old) (F.has_written files.new)) job.now) }
+    ensures faults { IfErr result
+        (OfFile (IsUndone (F.holds files.old) (IsWritten (F.has_written files.old) (F.has_written files.new))
+        job.now)) }
 {
     let answer = worked_out(&*files, alloc, job)?;
     write_answer(files, alloc, job.cert, &answer)?;
     Ok(answer)
 }
 
-// The answer to a package. Files are read before any is linked: the binding, the earlier folders in their order, the package's.
+// The answer to a package. All files are read before any package is linked: the binding, the earlier folders in their
+// order, the package's.
 fn worked_out<F: Files>(
     files: &F,
     alloc: Global,
@@ -62,7 +68,8 @@ fn write_answer<F: Files>(
     path: &str,
     answer: &VerifyAnswer,
 ) -> Result<(), ReadFault>
-    ensures written { IfOk result (λ u. IsWritten (F.has_written files.old) (F.has_written files.new) (written_of path.now answer.now)) }
+    ensures written { IfOk result
+        (λ u. IsWritten (F.has_written files.old) (F.has_written files.new) (written_of path.now answer.now)) }
     ensures faults { IfErr result (OfFile (IsUnwrittenOf (F.holds files.old) path.now answer.now)) }
 {
     match answer {

@@ -11,4 +11,5 @@ returns-clause-faults g c =
     let folder = c.args.folder.now in
     let first = FailsFirst (IsComponentIn holds folder) (IsComponentFault holds folder) components in
     IfErr-weaker c.joined.result (OfFile first) (OfFile (IsFolderFault holds folder))
-    (λ fault told. of_file first (IsFolderFault holds folder) fault (λ f failing. component c.in_ok-look_for_folder.ensures.there failing) told) c.joined.ensures.faults
+    (λ fault told. of_file first (IsFolderFault holds folder) fault
+    (λ f failing. component c.in_ok-look_for_folder.ensures.there failing) told) c.joined.ensures.faults

@@ -8,11 +8,13 @@ pub returns-in_err-image-clause-faults : goal.returns-in_err-image-clause-faults
 returns-in_err-image-clause-faults g c =
     let holds = g.F.Files.holds c.args.files.now in
     let told = err_from_is_err_and c.from_residual.result c.from_residual.ensures.1 in
-    let first = first_fault (IsImage holds) (IsFolderFault holds) c.args.folders.now c.loop-folder.folder-index (record { ref_ptr = (0, 0); now = [] })
+    let first = first_fault (IsImage holds) (IsFolderFault holds) c.args.folders.now c.loop-folder.folder-index
+    (record { ref_ptr = (0, 0); now = [] })
     _ c.in_err-image.field-0.0 c.loop-folder-test.true c.loop-folder.invariant c.in_err-image.ensures.faults in
     rw (told.1, told.2) first
 
 pub loop-folder-preserved : goal.loop-folder-preserved
 loop-folder-preserved g c =
-    image_further (IsImage (g.F.Files.holds c.args.files.now)) c.args.folders.now c.loop-folder.folder-index (record { ref_ptr = (0, 0); now = [] }) _ _ c.in_ok-image.image
+    image_further (IsImage (g.F.Files.holds c.args.files.now)) c.args.folders.now c.loop-folder.folder-index
+    (record { ref_ptr = (0, 0); now = [] }) _ _ c.in_ok-image.image
     c.loop-folder-test.true c.in_ok-image.ensures.image c.in_ok-push.ensures.items c.loop-folder.invariant

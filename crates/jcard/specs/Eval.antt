@@ -70,7 +70,7 @@ pub record IsAnswer (answer : EvalAnswer) (code bytes : List ℕ) (steps : ℕ) 
   pub value : (n : ℤ) → answer ≡ Value n → RunGives code bytes steps n
   pub throws : answer ≡ Throws → RunEnds code bytes steps (machine.Threw machine.ArithmeticException)
   pub steps_used_up : answer ≡ StepsUsedUp → RunEnds code bytes steps machine.UsedUp
-  -- and when each comes, unless memory was wanting: bytes that spell none, a certificate that doesn't carry the code,
+  -- and when each comes, unless memory is out: bytes that spell none, a certificate that doesn't carry the code,
   -- and one that does
   pub unspelled : SpellsNone bytes → answer ≢ Memory → answer ≡ BadCertificate
   pub uncarried : (rows : List Row) → SpellsCert bytes rows → (CertCarriesCode code rows → ⊥) → answer ≢ Memory → tells_fault answer ≡ true

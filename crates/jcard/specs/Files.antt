@@ -62,8 +62,8 @@ IsUnwritten holds (NoBinding fault) = ⊥
 -- the words of a cause, of which the system has some of its own
 abbrev pub cause_text : FileCause → Option (List ℕ)
 cause_text (System error) = None
-cause_text NoFolder = Some (codes "it is no folder")
-cause_text (TooLong most) = Some ((codes "it is of more than " ++ decimal most) ++ codes " bytes")
+cause_text NoFolder = Some (codes "it isn't a folder")
+cause_text (TooLong most) = Some ((codes "it has more than " ++ decimal most) ++ codes " bytes")
 cause_text NotText = Some (codes "it isn't UTF-8")
 cause_text (NoBinding fault) = Some (codes "it is no binding: " ++ words_of fault)
 

@@ -139,7 +139,7 @@ abbrev pub IsLineFault : List Text → LineFault → Type 0
 IsLineFault words (Line error) = IsLineError words error
 IsLineFault words Memory = ⊤
 
--- the fault that an error of clap's is: want of memory, or the line's own
+-- the fault that an error of clap's is: out of memory, or the line's own
 abbrev pub IsFaultFrom : Error → LineFault → Type 0
 IsFaultFrom error fault = ((kind_of error ≡ OutOfMemory) × (fault ≡ Memory)) ⊎ ((kind_of error ≢ OutOfMemory) × (fault ≡ Line error))
 

@@ -65,7 +65,7 @@ IsFailure said = (said.stream ≡ Errors) × (said.status ≡ Failure)
 abbrev pub IsMisuse : Said → Type 0
 IsMisuse said = (said.stream ≡ Errors) × (said.status ≡ Misuse)
 
--- an answer of `eval` to a job, which is never want of memory
+-- an answer of `eval` to a job, which is never *out of memory*
 abbrev pub AnswersJob : Job → EvalAnswer → Type 0
 AnswersJob (Eval code cert steps) answer = AnswersTexts code.now cert.now steps answer
 AnswersJob (Verify job) answer = ⊥
@@ -87,7 +87,7 @@ pub record HasTextFault (words : List Text) (fault : TextFault) : Type 0 where
   pub said : IsJobFor words job
   pub faulty : IsJobFault job fault
 
--- why the words have no answer; memory may be wanting for any
+-- why the words have no answer; memory may be out at any
 abbrev pub IsFaultOfLine : List Text → TextFault → Type 0
 IsFaultOfLine words (BadCode error) = HasTextFault words (BadCode error)
 IsFaultOfLine words LongCode = HasTextFault words LongCode
@@ -167,7 +167,7 @@ remark_line r =
     ((((codes "no certificate: method " ++ decimal r.method) ++ codes ", pc ") ++ decimal r.fault.pc) ++ codes ": ")
     ++ name_of r.fault.reason
 
--- what is said where there are no words: memory was wanting, or else one of them isn't UTF-8
+-- what is said where there are no words: memory is out, or else one of them isn't UTF-8
 pub record IsSaidWithoutWords (kind : ErrorKind) (said : Said) : Type 0 where
   pub memory : kind ≡ io.OutOfMemory → (said.message ≡ Fault Memory) × IsFailure said
   pub not_text : (kind ≡ io.OutOfMemory → ⊥) → (said.message ≡ NotText) × IsMisuse said

@@ -46,6 +46,6 @@ IsTextFault code cert Memory = ⊤
 -- what is said of it; the reader of hexadecimal has words of its own for what is wrong with it
 abbrev pub fault_line_of : TextFault → Option (List ℕ)
 fault_line_of (BadCode error) = None
-fault_line_of LongCode = Some ((codes "CODE is of more than " ++ decimal 65535) ++ codes " bytes")
+fault_line_of LongCode = Some ((codes "CODE has more than " ++ decimal 65535) ++ codes " bytes")
 fault_line_of (BadCert error) = None
 fault_line_of Memory = Some (codes "out of memory")

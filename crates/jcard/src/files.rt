@@ -13,7 +13,7 @@ use std::{fmt, io};
 pub enum FileCause {
     /// The system says what.
     System(io::Error),
-    /// It is no folder, and should be one.
+    /// It isn't a folder, and should be one.
     NoFolder,
     /// It has more bytes than it may have.
     TooLong(usize),
@@ -31,8 +31,8 @@ impl fmt::Display for FileCause {
     fn fmt<W: fmt::Write>(&self, f: &mut fmt::Formatter<W>) -> fmt::Result {
         match self {
             FileCause::System(error) => write!(f, "{error}"),
-            FileCause::NoFolder => write!(f, "it is no folder"),
-            FileCause::TooLong(most) => write!(f, "it is of more than {most} bytes"),
+            FileCause::NoFolder => write!(f, "it isn't a folder"),
+            FileCause::TooLong(most) => write!(f, "it has more than {most} bytes"),
             FileCause::NotText => write!(f, "it isn't UTF-8"),
             FileCause::NoBinding(fault) => write!(f, "it is no binding: {fault}"),
         }

@@ -66,7 +66,7 @@ fn card_command<'a>(alloc: Global) -> Result<Command<'a>, AllocError>
     ensures { IfOk result (λ c. app_of c ≡ card_app) }
 {
     Command::new(alloc, "jcard")
-        .about("Checks and runs the code of a Java Card")
+        .about("Verifies packages of a Java Card, and checks and runs code")
         .subcommand_required(true)
         .subcommand(eval_command(alloc)?)?
         .subcommand(verify_command(alloc)?)
@@ -106,13 +106,13 @@ fn verify_command<'a>(alloc: Global) -> Result<Command<'a>, AllocError>
         .required(true)
         .help("The file that the certificate is written to");
     let earlier = Arg::new(alloc, "EARLIER").action(ArgAction::Append).help(
-        "The folders of the packages before it, in the order in which they are linked",
+        "The folders of the packages that a card has before it, in the order in which it loaded them",
     );
     let binding = Arg::new(alloc, "binding")
         .long("binding")
         .value_name("FILE")
         .help(
-            "The names of the API's packages, classes and members, where they aren't the default ones",
+            "A file with the AIDs of the API's packages and the tokens of its classes and members",
         );
     Command::new(alloc, "verify")
         .about("Works out the certificate of a package")

@@ -17,7 +17,7 @@ pub const MOST_CODE: usize = 65535;
 pub enum TextFault {
     /// CODE isn't hexadecimal.
     BadCode(FromHexError),
-    /// CODE is of more than 65,535 bytes.
+    /// CODE has more than 65,535 bytes.
     LongCode,
     /// CERT isn't hexadecimal.
     BadCert(FromHexError),
@@ -33,7 +33,7 @@ impl fmt::Display for TextFault {
     fn fmt<W: fmt::Write>(&self, f: &mut fmt::Formatter<W>) -> fmt::Result {
         match self {
             TextFault::BadCode(error) => write!(f, "CODE isn't hexadecimal: {error}"),
-            TextFault::LongCode => write!(f, "CODE is of more than {MOST_CODE} bytes"),
+            TextFault::LongCode => write!(f, "CODE has more than {MOST_CODE} bytes"),
             TextFault::BadCert(error) => write!(f, "CERT isn't hexadecimal: {error}"),
             TextFault::Memory => write!(f, "out of memory"),
         }
@@ -71,7 +71,7 @@ fn code_of(alloc: Global, text: &str) -> Result<Vec<u8>, TextFault>
     Ok(code)
 }
 
-// Code is of more than 65,535 bytes.
+// Code has more than 65,535 bytes.
 #[derive(Drop)]
 struct LongCode;
 

@@ -5,7 +5,7 @@ use Rattle.jc_base.specs.declared.reason.Reason.{Reason}
 use Rattle.jc_base.specs.declared.reason.Reason.TheVariants.{NoTarget, WrongType}
 use Rattle.jc_base.specs.Results.{◌>>=◌}
 use Rattle.jc_code.specs.Listing.{PlacedInstr, begins}
-use Rattle.jc_classes.specs.declared.name.ClassName.{ClassName}
+use Rattle.jc_names.specs.declared.name.ClassName.{ClassName}
 use Rattle.jc_types.specs.State.{Types}
 use Rattle.jc_check.specs.Rules.{Rules}
 use Rattle.jc_check.specs.Method.{Handler}

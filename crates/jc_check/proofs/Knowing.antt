@@ -14,12 +14,13 @@ use Rattle.jc_cap_desc.specs.Shape.{MethodBody, Shape}
 use Rattle.jc_cap_method.specs.declared.header.MethodHeader.{MethodHeader}
 use Rattle.jc_classes.specs.Members.{DeclaredMethod}
 use Rattle.jc_classes.specs.Methods.{method_name}
-use Rattle.jc_classes.specs.Names.{is_same_name}
+use Rattle.jc_names.specs.Names.{is_same_name}
 use Rattle.jc_classes.specs.Subtype.{is_at_or_above, is_class_at, is_class_below}
 use Rattle.jc_classes.specs.Walk.{most_classes}
-use Rattle.jc_classes.specs.World.{home_of, superclass_of}
-use Rattle.jc_classes.specs.declared.name.ClassName.{ClassName}
-use Rattle.jc_classes.specs.declared.name.ClassName.TheVariants.{Api, Loaded}
+use Rattle.jc_names.specs.Names.{home_of}
+use Rattle.jc_classes.specs.World.{superclass_of}
+use Rattle.jc_names.specs.declared.name.ClassName.{ClassName}
+use Rattle.jc_names.specs.declared.name.ClassName.TheVariants.{Api, Loaded}
 use Rattle.jc_link.specs.Classes.{words_of}
 use Rattle.jc_link.specs.Found.{return_found, type_found, types_found}
 use Rattle.jc_link.specs.KnownTypes.{NameClasses, is_known_return, is_known_target, is_known_type}

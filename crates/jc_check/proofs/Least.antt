@@ -7,7 +7,7 @@ use Rattle.jc_base.specs.declared.fault.LoadFault.TheVariants.{Memory, MethodRef
 use Rattle.jc_cap_desc.specs.Shape.{MethodBody}
 use Rattle.jc_cert.specs.Cert.{Row, Stated}
 use Rattle.jc_classes.specs.Subtype.{IsOrder, is_class_below}
-use Rattle.jc_classes.specs.declared.name.ClassName.{ClassName}
+use Rattle.jc_names.specs.declared.name.ClassName.{ClassName}
 use Rattle.jc_code.specs.Listing.{ListingLaws}
 use Rattle.jc_link.specs.Linked.{Linked}
 use Rattle.jc_types.specs.State.{Types, types_below}

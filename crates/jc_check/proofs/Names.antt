@@ -13,9 +13,10 @@ use Rattle.jc_cert.specs.declared.stated_type.SpelledClass.{SpelledClass}
 use Rattle.jc_cert.specs.declared.stated_type.SpelledClass.TheVariants as spelled
 use Rattle.jc_classes.specs.Growth.{grown}
 use Rattle.jc_classes.specs.Subtype.{is_class_at}
-use Rattle.jc_classes.specs.World.{api_name, class_at, class_in, class_named, if_there, loaded_with, name_in, offset_of, package_at}
-use Rattle.jc_classes.specs.declared.name.ClassName.{ClassName}
-use Rattle.jc_classes.specs.declared.name.ClassName.TheVariants.{Api, Loaded}
+use Rattle.jc_names.specs.Names.{api_name, name_in, offset_of}
+use Rattle.jc_classes.specs.World.{class_at, class_in, class_named, if_there, loaded_with, package_at}
+use Rattle.jc_names.specs.declared.name.ClassName.{ClassName}
+use Rattle.jc_names.specs.declared.name.ClassName.TheVariants.{Api, Loaded}
 use Rattle.jc_link.specs.Built.{IsBuilt, api, loaded}
 use Rattle.jc_link.specs.Imports.{first_unmet, is_there_already}
 use Rattle.jc_link.specs.Pool.{first_mistyped, first_unresolved}

@@ -8,7 +8,7 @@ use Rattle.jc_base.specs.declared.reason.Reason.TheVariants.{CertMismatch, Falls
 use Rattle.jc_base.proofs.Binding.{bind_ok, guard_ok, the_ok, the_some, none_some, choice, chosen}
 use Rattle.jc_code.specs.Listing.{PlacedInstr, StandBetween, IsListing, placed_at, begins, ListingLaws}
 use Rattle.jc_code.specs.Targets.{targets_of, falls_of}
-use Rattle.jc_classes.specs.declared.name.ClassName.{ClassName}
+use Rattle.jc_names.specs.declared.name.ClassName.{ClassName}
 use Rattle.jc_types.specs.State.{Types, types_below}
 use Rattle.jc_cert.specs.Cert.{Stated}
 use Rattle.jc_check.specs.Rules.{Rules}

@@ -4,7 +4,7 @@ use Rattle.jc_cert.specs.Cert.{Stated}
 use Rattle.jc_cert.specs.declared.stated_type.SpelledClass.{SpelledClass}
 use Rattle.jc_cert.specs.declared.stated_type.StatedType.{StatedType}
 use Rattle.jc_cert.specs.declared.stated_type.StatedType.TheVariants as types
-use Rattle.jc_classes.specs.declared.name.ClassName.{ClassName}
+use Rattle.jc_names.specs.declared.name.ClassName.{ClassName}
 use Rattle.jc_types.specs.declared.ty.Ty.{Ty}
 use Rattle.jc_types.specs.declared.ty.Ty.TheVariants.{Top, Word, Null, Class, BooleanArray, ByteArray, ShortArray, ReferenceArray}
 use Rattle.jc_check.specs.Rules.{Rules}

@@ -7,7 +7,7 @@ use Rattle.jc_base.specs.declared.reason.Reason.TheVariants as reasons
 use Rattle.jc_base.specs.Results.{◌>>=◌}
 use Rattle.jc_code.specs.declared.fault.CodeFault.{CodeFault}
 use Rattle.jc_code.specs.declared.fault.CodeFault.TheVariants as faults
-use Rattle.jc_classes.specs.declared.name.ClassName.{ClassName}
+use Rattle.jc_names.specs.declared.name.ClassName.{ClassName}
 use Rattle.jc_code.specs.Listing.{PlacedInstr, IsListing, StopsAt, begins}
 use Rattle.jc_code.specs.Targets.{targets_of, falls_of}
 use Rattle.jc_types.specs.State.{Types, types_below}

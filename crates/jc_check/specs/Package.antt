@@ -11,8 +11,8 @@ use Rattle.jc_cert.specs.declared.stated_type.SpelledClass.TheVariants.{Own, Api
 use Rattle.jc_classes.specs.Members.{DeclaredMethod}
 use Rattle.jc_classes.specs.Subtype.{is_class_at, is_class_below}
 use Rattle.jc_classes.specs.World.{class_named, loaded_with}
-use Rattle.jc_classes.specs.declared.name.ClassName.{ClassName}
-use Rattle.jc_classes.specs.declared.name.ClassName.TheVariants as names
+use Rattle.jc_names.specs.declared.name.ClassName.{ClassName}
+use Rattle.jc_names.specs.declared.name.ClassName.TheVariants as names
 use Rattle.jc_code.specs.Instructions.{instr_at}
 use Rattle.jc_link.specs.Linked.{Linked}
 use Rattle.jc_link.specs.MemberType.{declared_type_of}

@@ -4,9 +4,9 @@ use Rattle.std.specs.Option.{option_map}
 use Rattle.jc_cap_desc.specs.Shape.{Shape}
 use Rattle.jc_cert.specs.declared.stated_type.SpelledClass.{SpelledClass}
 use Rattle.jc_cert.specs.declared.stated_type.SpelledClass.TheVariants as spelled
-use Rattle.jc_classes.specs.World.{home_of}
-use Rattle.jc_classes.specs.declared.name.ClassName.{ClassName}
-use Rattle.jc_classes.specs.declared.name.ClassName.TheVariants.{Api, Loaded}
+use Rattle.jc_names.specs.Names.{home_of}
+use Rattle.jc_names.specs.declared.name.ClassName.{ClassName}
+use Rattle.jc_names.specs.declared.name.ClassName.TheVariants.{Api, Loaded}
 
 abbrev pub spelled_name : List Shape → ClassName → Option SpelledClass
 spelled_name world (Api class) = Some (spelled.Api class)

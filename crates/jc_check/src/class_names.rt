@@ -8,7 +8,8 @@ ghost use Rattle.jc_check.specs.PrivateNames.{spelled_name};
 
 use jc_base::ClassRef;
 use jc_cert::SpelledClass;
-use jc_classes::{ClassName, ClassTable};
+use jc_classes::ClassTable;
+use jc_names::ClassName;
 
 /// A class, and no interface.
 fn if_class(table: &ClassTable, class: ClassName) -> Option<ClassName>

@@ -3,7 +3,7 @@
 ghost use Rattle.std.specs.Prelude.{◌≡◌};
 ghost use Rattle.jc_check.specs.Method.{covers};
 
-use jc_classes::ClassName;
+use jc_names::ClassName;
 use std::marker::Model;
 
 /// A handler: the first pc that it covers and how many it covers, the pc at which it goes on, and the class that it

@@ -4,7 +4,7 @@ ghost use Rattle.std.specs.Prelude.{◌≡◌, ◌+◌, ◌-◌, ◌<◌, ◌^�
 ghost use Rattle.std.specs.Option.{option_map_or};
 ghost use Rattle.jc_cap_desc.specs.Shape.{MethodBody};
 ghost use Rattle.jc_classes.specs.Subtype.{common_class, is_class_at};
-ghost use Rattle.jc_classes.specs.declared.name.ClassName.{ClassName};
+ghost use Rattle.jc_names.specs.declared.name.ClassName.{ClassName};
 ghost use Rattle.jc_code.specs.declared.instr.Operation.{Operation};
 ghost use Rattle.jc_link.specs.KnownTypes.{NameClasses};
 ghost use Rattle.jc_link.specs.Linked.{AreHeaded, IsResolved};

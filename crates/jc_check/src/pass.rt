@@ -17,7 +17,7 @@ use crate::method::Method;
 use crate::rules::CheckRules;
 use crate::table::mark_at;
 use jc_base::Reason;
-use jc_classes::ClassName;
+use jc_names::ClassName;
 use jc_code::{Instr, Targets};
 use jc_types::{State, Ty};
 

@@ -17,12 +17,13 @@ use Rattle.jc_api.specs.declared.class.ApiClass.TheVariants.{Object, Throwable, 
 use Rattle.jc_classes.proofs.Marking.{true_false}
 use Rattle.jc_classes.proofs.Passing.{some_of, package_there, IsPlaced, is_placed}
 use Rattle.jc_classes.specs.Limits.{IsSmall}
-use Rattle.jc_classes.specs.Names.{is_same_name}
+use Rattle.jc_names.specs.Names.{is_same_name}
 use Rattle.jc_classes.specs.PrivateSearch.{above, IsReached, start, next, place_in, place, IsMarked, IsClosure}
 use Rattle.jc_classes.specs.Subtype.{IsAmong, Lists, IsSubtype, same, object, by_superclass, by_interface}
-use Rattle.jc_classes.specs.World.{api_home, home_of, offset_of, package_at, class_in, class_at, class_spelled, if_there, class_named, superclass_ref, listed_refs, superclass_of, interfaces_of}
-use Rattle.jc_classes.specs.declared.name.ClassName.{ClassName}
-use Rattle.jc_classes.specs.declared.name.ClassName.TheVariants.{Api, Loaded}
+use Rattle.jc_names.specs.Names.{api_home, home_of, offset_of}
+use Rattle.jc_classes.specs.World.{package_at, class_in, class_at, class_spelled, if_there, class_named, superclass_ref, listed_refs, superclass_of, interfaces_of}
+use Rattle.jc_names.specs.declared.name.ClassName.{ClassName}
+use Rattle.jc_names.specs.declared.name.ClassName.TheVariants.{Api, Loaded}
 
 -- ---- one name
 

@@ -21,9 +21,10 @@ use Rattle.jc_classes.specs.PrivateSearch.{class_placed}
 use Rattle.jc_classes.specs.PrivateTables.{Tabled, IsTabled, IsTabledAbove, depth_above, index_at, table_in, table_of, AreTables, AreBefore, rows_so_far, table_so_far, AreInMaking, LacksTableAbove, IsSettled, empty_places, IsFurther, AreSettled, name_placed}
 use Rattle.jc_classes.specs.Subtype.{comes_to_end, has_whole_chain}
 use Rattle.jc_classes.specs.Walk.{most_classes}
-use Rattle.jc_classes.specs.World.{api_home, api_name, home_of, offset_of, name_in, class_in, package_at, class_at, superclass_of}
-use Rattle.jc_classes.specs.declared.name.ClassName.{ClassName}
-use Rattle.jc_classes.specs.declared.name.ClassName.TheVariants.{Api, Loaded}
+use Rattle.jc_names.specs.Names.{api_home, api_name, home_of, offset_of, name_in}
+use Rattle.jc_classes.specs.World.{class_in, package_at, class_at, superclass_of}
+use Rattle.jc_names.specs.declared.name.ClassName.{ClassName}
+use Rattle.jc_names.specs.declared.name.ClassName.TheVariants.{Api, Loaded}
 
 -- ---- options
 

@@ -20,12 +20,13 @@ use Rattle.jc_classes.specs.Members.{declared_in, method_home, method_offset, me
 use Rattle.jc_classes.specs.Methods.{has_method, method_name, method_there, entry_visit, table_visit, record_visit, virtual_method_of, is_this, row_for, indexes_visit, listing_visit, interface_visit, public_method_of, interface_method_of, package_visible, declared_above}
 use Rattle.jc_classes.specs.Subtype.{IsAmong, Lists, IsSubtype, Implements, same, object, by_superclass, by_interface, listed}
 use Rattle.jc_classes.specs.Walk.{found_from, walk, found, most_classes}
-use Rattle.jc_classes.specs.World.{api_home, api_name, home_of, offset_of, name_in, class_in, package_at, class_at, meets, import_of, exported_class, class_spelled, if_there, class_named, superclass_ref, listed_refs, superclass_of, interfaces_of}
-use Rattle.jc_classes.specs.declared.name.ClassName.{ClassName}
-use Rattle.jc_classes.specs.declared.name.MethodName.{MethodName}
+use Rattle.jc_names.specs.Names.{api_home, api_name, home_of, offset_of, name_in}
+use Rattle.jc_classes.specs.World.{class_in, package_at, class_at, meets, import_of, exported_class, class_spelled, if_there, class_named, superclass_ref, listed_refs, superclass_of, interfaces_of}
+use Rattle.jc_names.specs.declared.name.ClassName.{ClassName}
+use Rattle.jc_names.specs.declared.name.MethodName.{MethodName}
 use Rattle.jc_classes.specs.declared.walk.Visit.{Visit}
 use Rattle.jc_classes.specs.declared.walk.Visit.TheVariants.{Has, Nothing, Above}
-use Rattle.jc_classes.specs.declared.name.ClassName.TheVariants.{Api, Loaded}
+use Rattle.jc_names.specs.declared.name.ClassName.TheVariants.{Api, Loaded}
 
 -- ---- options and lists
 

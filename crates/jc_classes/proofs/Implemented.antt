@@ -15,11 +15,12 @@ use Rattle.jc_classes.proofs.Marking.{true_false}
 use Rattle.jc_classes.proofs.Passing.{some_of, is_placed, stands_there}
 use Rattle.jc_classes.specs.Limits.{IsSmall}
 use Rattle.jc_classes.specs.Methods.{is_this}
-use Rattle.jc_classes.specs.Names.{is_same_name}
+use Rattle.jc_names.specs.Names.{is_same_name}
 use Rattle.jc_classes.specs.PrivateSearch.{IsReached, start, next, class_placed, IsMarked, IsClosure, lists_this, IsListing}
 use Rattle.jc_classes.specs.Subtype.{IsAmong, Lists, Implements, listed, by_superclass, by_interface}
-use Rattle.jc_classes.specs.World.{home_of, class_at, class_named, listed_refs, superclass_of}
-use Rattle.jc_classes.specs.declared.name.ClassName.{ClassName}
+use Rattle.jc_names.specs.Names.{home_of}
+use Rattle.jc_classes.specs.World.{class_at, class_named, listed_refs, superclass_of}
+use Rattle.jc_names.specs.declared.name.ClassName.{ClassName}
 
 -- ---- a record's list
 

@@ -11,9 +11,10 @@ use Rattle.jc_classes.proofs.Marking.{true_false}
 use Rattle.jc_classes.specs.PrivateSearch.{IsOnWay}
 use Rattle.jc_classes.specs.Subtype.{IsSubtype, same, object, by_superclass, by_interface, is_class_at, is_interface_at, comes_to_end, IsOrderly, IsLeastAbove}
 use Rattle.jc_classes.specs.Walk.{most_classes}
-use Rattle.jc_classes.specs.World.{home_of, class_at, class_named, superclass_ref, superclass_of}
-use Rattle.jc_classes.specs.declared.name.ClassName.{ClassName}
-use Rattle.jc_classes.specs.declared.name.ClassName.TheVariants.{Api}
+use Rattle.jc_names.specs.Names.{home_of}
+use Rattle.jc_classes.specs.World.{class_at, class_named, superclass_ref, superclass_of}
+use Rattle.jc_names.specs.declared.name.ClassName.{ClassName}
+use Rattle.jc_names.specs.declared.name.ClassName.TheVariants.{Api}
 
 not_both : (world : List Shape) (c : ClassName) → is_interface_at world c ≡ true → is_class_at world c ≡ true → ⊥
 not_both world c i k = by_class (class_at world c) i k

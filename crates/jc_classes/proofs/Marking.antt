@@ -8,7 +8,7 @@ use Rattle.jc_base.specs.declared.class_ref.ClassRef.{ClassRef}
 use Rattle.jc_cap_desc.specs.Shape.{Shape}
 use Rattle.jc_classes.specs.PrivateSearch.{place, IsReached, IsMarked, IsSound, unmarked, all_places, AreMarked}
 use Rattle.jc_classes.specs.Subtype.{IsAmong}
-use Rattle.jc_classes.specs.declared.name.ClassName.{ClassName}
+use Rattle.jc_names.specs.declared.name.ClassName.{ClassName}
 
 pub places_are : all_places ≡ 65_536
 unfolding all_places

@@ -8,12 +8,12 @@ use Rattle.jc_classes.proofs.Below.{name_is, name_itself}
 use Rattle.jc_classes.proofs.Marking.{true_false}
 use Rattle.jc_classes.proofs.Superclasses.{met, above_it, above_more, found_by, ends_above, way_up, below_object, walked_up, itself, on_through, is_order}
 use Rattle.jc_classes.proofs.Walking.{most_is}
-use Rattle.jc_classes.specs.Names.{is_same_name}
+use Rattle.jc_names.specs.Names.{is_same_name}
 use Rattle.jc_classes.specs.Subtype.{comes_to_end, IsOrderly, IsClassLattice, is_at_or_above, is_class_below, common_within, common_class, above_within, classes_above}
 use Rattle.jc_classes.specs.Walk.{most_classes}
 use Rattle.jc_classes.specs.World.{superclass_of}
-use Rattle.jc_classes.specs.declared.name.ClassName.{ClassName}
-use Rattle.jc_classes.specs.declared.name.ClassName.TheVariants.{Api}
+use Rattle.jc_names.specs.declared.name.ClassName.{ClassName}
+use Rattle.jc_names.specs.declared.name.ClassName.TheVariants.{Api}
 
 -- ---- one class more
 

@@ -12,9 +12,10 @@ use Rattle.jc_classes.proofs.Marking.{true_false, either_false, keeps_both, same
 use Rattle.jc_classes.specs.Limits.{IsSmall}
 use Rattle.jc_classes.specs.PrivateSearch.{above, above_in, IsReached, start, next, place_in, place, class_placed, IsMarked, IsSound, AreMarked, ArePassed, IsClosure}
 use Rattle.jc_classes.specs.Subtype.{IsAmong}
-use Rattle.jc_classes.specs.World.{home_of, offset_of, package_at, class_in, class_at, class_named, superclass_ref, listed_refs, interfaces_of}
-use Rattle.jc_classes.specs.declared.name.ClassName.{ClassName}
-use Rattle.jc_classes.specs.declared.name.ClassName.TheVariants.{Api, Loaded}
+use Rattle.jc_names.specs.Names.{home_of, offset_of}
+use Rattle.jc_classes.specs.World.{package_at, class_in, class_at, class_named, superclass_ref, listed_refs, interfaces_of}
+use Rattle.jc_names.specs.declared.name.ClassName.{ClassName}
+use Rattle.jc_names.specs.declared.name.ClassName.TheVariants.{Api, Loaded}
 
 pub some_of : {A B : Type 0} (f : A → Option B) (o : Option A) (b : B) → option_and_then f o ≡ Some b → (a : A) × (o ≡ Some a) × (f a ≡ Some b)
 some_of f None b e = absurd (none_some b e)

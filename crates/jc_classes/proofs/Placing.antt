@@ -12,7 +12,7 @@ use Rattle.jc_classes.proofs.Passing.{position_is}
 use Rattle.jc_classes.specs.Members.{DeclaredMethod, declared_in, name_of}
 use Rattle.jc_classes.specs.Methods.{method_of_class}
 use Rattle.jc_classes.specs.PrivatePlaces.{place_at, PlacedMethod, placed, first_method, led_to, place_or, position_in}
-use Rattle.jc_classes.specs.declared.name.ClassName.{ClassName}
+use Rattle.jc_names.specs.declared.name.ClassName.{ClassName}
 use Rattle.jc_classes.specs.declared.shape.MethodPlace.{MethodPlace}
 
 -- ---- what a table leads to

@@ -3,10 +3,10 @@ use Rattle.std.proofs.Common.{◌≡◌, ℕ, zero, suc, ◌+◌, ◌≤◌, ◌
 use Rattle.jc_cap_desc.specs.Shape.{ClassShape, Shape}
 use Rattle.jc_classes.proofs.Below.{name_is}
 use Rattle.jc_classes.proofs.Walking.{behind, walk_behind}
-use Rattle.jc_classes.specs.Names.{is_same_name}
+use Rattle.jc_names.specs.Names.{is_same_name}
 use Rattle.jc_classes.specs.PrivateWalk.{step_of, IsOnWalk}
 use Rattle.jc_classes.specs.Walk.{walk}
-use Rattle.jc_classes.specs.declared.name.ClassName.{ClassName}
+use Rattle.jc_names.specs.declared.name.ClassName.{ClassName}
 use Rattle.jc_classes.specs.declared.walk.Step.{Step}
 use Rattle.jc_classes.specs.declared.walk.Step.TheVariants.{Gives, Ends, On}
 use Rattle.jc_classes.specs.declared.walk.Visit.{Visit}

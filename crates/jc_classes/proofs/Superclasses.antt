@@ -9,13 +9,13 @@ use Rattle.jc_classes.proofs.Least.{above_interface}
 use Rattle.jc_classes.proofs.Marking.{true_false}
 use Rattle.jc_classes.proofs.Rounds.{comes_round, keeps_on}
 use Rattle.jc_classes.proofs.Walking.{most_is}
-use Rattle.jc_classes.specs.Names.{is_same_name}
+use Rattle.jc_names.specs.Names.{is_same_name}
 use Rattle.jc_classes.specs.PrivateWalk.{IsOnWalk}
 use Rattle.jc_classes.specs.Subtype.{IsSubtype, same, object, by_superclass, by_interface, is_class_at, comes_to_end, IsOrderly, IsOrder, is_at_or_above, is_class_below}
 use Rattle.jc_classes.specs.Walk.{most_classes}
 use Rattle.jc_classes.specs.World.{superclass_of}
-use Rattle.jc_classes.specs.declared.name.ClassName.{ClassName}
-use Rattle.jc_classes.specs.declared.name.ClassName.TheVariants.{Api}
+use Rattle.jc_names.specs.declared.name.ClassName.{ClassName}
+use Rattle.jc_names.specs.declared.name.ClassName.TheVariants.{Api}
 
 -- ---- a walk of one class more
 

@@ -18,7 +18,7 @@ use Rattle.jc_classes.proofs.Marking.{true_false}
 use Rattle.jc_classes.proofs.Walking.{most_is}
 use Rattle.jc_classes.specs.Growth.{grown, IsWithin}
 use Rattle.jc_classes.specs.Limits.{IsSmall}
-use Rattle.jc_classes.specs.Names.{is_same_name}
+use Rattle.jc_names.specs.Names.{is_same_name}
 use Rattle.jc_classes.specs.PrivateSearch.{place_in, place}
 use Rattle.jc_classes.specs.Record.{interface_rows}
 use Rattle.jc_cap_class.specs.Component.{is_class}
@@ -27,9 +27,10 @@ use Rattle.jc_classes.specs.PrivatePlaces.{place_at}
 use Rattle.jc_classes.specs.PrivateTables.{Listed, Tabled, no_methods, row_at, entry_in, indexes_in, depth_above, entry_above, visible_above, listed_above, IsTabled, IsTabledAbove, entry_made, listed_row, index_at, table_in, table_of, AreTables, AreBefore}
 use Rattle.jc_classes.specs.Subtype.{comes_to_end, has_whole_chain}
 use Rattle.jc_classes.specs.Walk.{most_classes, found_from, walk, found}
-use Rattle.jc_classes.specs.World.{home_of, offset_of, package_at, class_at, class_named, superclass_ref, superclass_of}
-use Rattle.jc_classes.specs.declared.name.ClassName.{ClassName}
-use Rattle.jc_classes.specs.declared.name.MethodName.{MethodName}
+use Rattle.jc_names.specs.Names.{home_of, offset_of}
+use Rattle.jc_classes.specs.World.{package_at, class_at, class_named, superclass_ref, superclass_of}
+use Rattle.jc_names.specs.declared.name.ClassName.{ClassName}
+use Rattle.jc_names.specs.declared.name.MethodName.{MethodName}
 use Rattle.jc_classes.specs.declared.walk.Visit.{Visit}
 use Rattle.jc_classes.specs.declared.walk.Visit.TheVariants.{Above}
 

@@ -5,9 +5,10 @@ use Rattle.jc_cap_desc.specs.Shape.{Shape}
 use Rattle.jc_classes.specs.Members.{method_home, method_at}
 use Rattle.jc_classes.specs.Methods.{virtual_method_of, interface_method_of}
 use Rattle.jc_classes.specs.Subtype.{IsSubtype, Implements}
-use Rattle.jc_classes.specs.World.{home_of, class_at, class_named, superclass_of, interfaces_of}
-use Rattle.jc_classes.specs.declared.name.ClassName.{ClassName}
-use Rattle.jc_classes.specs.declared.name.MethodName.{MethodName}
+use Rattle.jc_names.specs.Names.{home_of}
+use Rattle.jc_classes.specs.World.{class_at, class_named, superclass_of, interfaces_of}
+use Rattle.jc_names.specs.declared.name.ClassName.{ClassName}
+use Rattle.jc_names.specs.declared.name.MethodName.{MethodName}
 
 -- a world with one more package
 abbrev pub grown : List Shape → Shape → List Shape

@@ -1,5 +1,4 @@
 pub mod World
-pub mod Names
 pub mod Walk
 pub mod Methods
 pub mod Subtype

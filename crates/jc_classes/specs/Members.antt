@@ -6,10 +6,10 @@ use Rattle.jc_cap_desc.specs.Shape.{ClassShape, MethodShape, Shape}
 use Rattle.jc_api.specs.Class.{package_of}
 use Rattle.jc_api.specs.Member.{member_of}
 use Rattle.jc_classes.specs.Methods.{method_of_class}
-use Rattle.jc_classes.specs.World.{api_home, name_in}
-use Rattle.jc_classes.specs.declared.name.ClassName.{ClassName}
-use Rattle.jc_classes.specs.declared.name.MethodName.{MethodName}
-use Rattle.jc_classes.specs.declared.name.MethodName.TheVariants.{Api, Loaded}
+use Rattle.jc_names.specs.Names.{api_home, name_in}
+use Rattle.jc_names.specs.declared.name.ClassName.{ClassName}
+use Rattle.jc_names.specs.declared.name.MethodName.{MethodName}
+use Rattle.jc_names.specs.declared.name.MethodName.TheVariants.{Api, Loaded}
 
 -- the name of a class of the package that stands there; no component has an offset from 65,536 on
 abbrev pub name_of : ℕ → ClassShape → Option ClassName

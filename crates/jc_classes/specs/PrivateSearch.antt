@@ -8,8 +8,9 @@ use Rattle.jc_cap_class.specs.declared.record.RecordBody.TheVariants.{Interface,
 use Rattle.jc_cap_desc.specs.Shape.{ClassShape, Shape}
 use Rattle.jc_classes.specs.Methods.{is_this}
 use Rattle.jc_classes.specs.Subtype.{IsAmong, IsSubtype, IsOrderly, is_class_at, comes_to_end}
-use Rattle.jc_classes.specs.World.{home_of, offset_of, package_at, class_named, superclass_ref, listed_refs, superclass_of, interfaces_of}
-use Rattle.jc_classes.specs.declared.name.ClassName.{ClassName}
+use Rattle.jc_names.specs.Names.{home_of, offset_of}
+use Rattle.jc_classes.specs.World.{package_at, class_named, superclass_ref, listed_refs, superclass_of, interfaces_of}
+use Rattle.jc_names.specs.declared.name.ClassName.{ClassName}
 
 -- the classes right above a class: its superclass and what it lists
 abbrev pub above : List Shape → ClassName → List ClassName

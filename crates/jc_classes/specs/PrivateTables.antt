@@ -7,14 +7,15 @@ use Rattle.jc_cap_class.specs.declared.record.RecordBody.{RecordBody}
 use Rattle.jc_cap_desc.specs.Shape.{Shape}
 use Rattle.jc_classes.specs.Limits.{IsSmall}
 use Rattle.jc_classes.specs.Methods.{record_visit, package_visible, virtual_method_of, interface_visit, indexes_visit, row_for}
-use Rattle.jc_classes.specs.Names.{is_same_name}
+use Rattle.jc_names.specs.Names.{is_same_name}
 use Rattle.jc_classes.specs.PrivatePlaces.{place_at}
 use Rattle.jc_classes.specs.PrivateSearch.{class_placed}
 use Rattle.jc_classes.specs.Subtype.{comes_to_end, has_whole_chain}
 use Rattle.jc_classes.specs.Walk.{found, found_from, most_classes}
-use Rattle.jc_classes.specs.World.{home_of, offset_of, name_in, package_at, class_named, superclass_of}
-use Rattle.jc_classes.specs.declared.name.ClassName.{ClassName}
-use Rattle.jc_classes.specs.declared.name.MethodName.{MethodName}
+use Rattle.jc_names.specs.Names.{home_of, offset_of, name_in}
+use Rattle.jc_classes.specs.World.{package_at, class_named, superclass_of}
+use Rattle.jc_names.specs.declared.name.ClassName.{ClassName}
+use Rattle.jc_names.specs.declared.name.MethodName.{MethodName}
 
 -- an interface, and under which virtual tokens a class has its methods
 pub record Listed : Type 0 where

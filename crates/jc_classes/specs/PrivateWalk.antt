@@ -3,7 +3,7 @@ use Rattle.std.specs.Prelude.{◌≡◌, ℕ, ◌+◌, Option, Some, None, List}
 use Rattle.std.specs.Option.{option_map_or}
 use Rattle.jc_cap_desc.specs.Shape.{ClassShape, Shape}
 use Rattle.jc_classes.specs.World.{class_at, superclass_of}
-use Rattle.jc_classes.specs.declared.name.ClassName.{ClassName}
+use Rattle.jc_names.specs.declared.name.ClassName.{ClassName}
 use Rattle.jc_classes.specs.declared.walk.Step.{Step}
 use Rattle.jc_classes.specs.declared.walk.Step.TheVariants.{Gives, Ends, On}
 use Rattle.jc_classes.specs.declared.walk.Visit.{Visit}

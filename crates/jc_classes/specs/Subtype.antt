@@ -5,11 +5,11 @@ use Rattle.std.specs.Option.{option_map_or}
 use Rattle.jc_cap_class.specs.Component.{is_class}
 use Rattle.jc_cap_desc.specs.Shape.{Shape}
 use Rattle.jc_api.specs.declared.class.ApiClass.TheVariants.{Object}
-use Rattle.jc_classes.specs.Names.{is_same_name}
+use Rattle.jc_names.specs.Names.{is_same_name}
 use Rattle.jc_classes.specs.Walk.{most_classes}
 use Rattle.jc_classes.specs.World.{class_at, superclass_of, interfaces_of}
-use Rattle.jc_classes.specs.declared.name.ClassName.{ClassName}
-use Rattle.jc_classes.specs.declared.name.ClassName.TheVariants.{Api}
+use Rattle.jc_names.specs.declared.name.ClassName.{ClassName}
+use Rattle.jc_names.specs.declared.name.ClassName.TheVariants.{Api}
 
 -- a class is among classes
 abbrev pub IsAmong : ClassName → List ClassName → Type 0

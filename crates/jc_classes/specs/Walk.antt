@@ -6,7 +6,7 @@ use Rattle.std.specs.Option.{option_and_then}
 use Rattle.jc_cap_desc.specs.Shape.{ClassShape, Shape}
 use Rattle.jc_classes.specs.Limits.{most_packages, most_classes_of_one}
 use Rattle.jc_classes.specs.World.{class_at, superclass_of}
-use Rattle.jc_classes.specs.declared.name.ClassName.{ClassName}
+use Rattle.jc_names.specs.declared.name.ClassName.{ClassName}
 use Rattle.jc_classes.specs.declared.walk.Visit.{Visit}
 use Rattle.jc_classes.specs.declared.walk.Visit.TheVariants.{Has, Nothing, Above}
 

@@ -1,7 +1,7 @@
 -- A world: the shapes of the API's two packages, and of the loaded packages in the order in which they were loaded. Where
 -- classes stand in it, and what references to classes lead to (Java Card Virtual Machine Specification, CAP file format:
 -- class_ref; Linking).
-use Rattle.std.specs.Prelude.{ℕ, zero, suc, ◌+◌, ◌-◌, ◌==◌, Bool, ◌&&◌, List, [], map, take, drop, Option, Some, None, is_some, slice_get, nat_lt, nat_le, bytes_eq, if◌then◌else◌}
+use Rattle.std.specs.Prelude.{ℕ, zero, suc, ◌+◌, ◌==◌, Bool, ◌&&◌, List, [], map, take, drop, Option, Some, None, is_some, slice_get, nat_le, bytes_eq, if◌then◌else◌}
 use Rattle.std.specs.List.{find, filter_map, position}
 use Rattle.std.specs.Option.{option_and_then, option_map, option_map_or}
 use Rattle.jc_base.specs.declared.class_ref.ClassRef.{ClassRef}
@@ -10,34 +10,10 @@ use Rattle.jc_base.specs.declared.package_info.PackageInfo.{PackageInfo}
 use Rattle.jc_cap_class.specs.declared.record.RecordBody.{RecordBody}
 use Rattle.jc_cap_class.specs.declared.record.RecordBody.TheVariants.{Interface, Class}
 use Rattle.jc_cap_desc.specs.Shape.{ClassShape, Shape}
-use Rattle.jc_api.specs.Class.{class_of, number_of, package_of}
-use Rattle.jc_api.specs.declared.class.ApiPackage.{ApiPackage}
-use Rattle.jc_api.specs.declared.class.ApiPackage.TheVariants.{Lang, Framework}
-use Rattle.jc_classes.specs.declared.name.ClassName.{ClassName}
-use Rattle.jc_classes.specs.declared.name.ClassName.TheVariants.{Api, Loaded}
-
--- where a package of the API stands in the world
-abbrev pub api_home : ApiPackage → ℕ
-api_home Lang = 0
-api_home Framework = 1
-
--- where a class's package stands in the world: the loaded ones behind those of the API
-abbrev pub home_of : ClassName → ℕ
-home_of (Api class) = api_home (package_of class)
-home_of (Loaded number offset) = suc number
-
--- where a class stands in its package: those of the API at their numbers
-abbrev pub offset_of : ClassName → ℕ
-offset_of (Api class) = number_of class
-offset_of (Loaded number offset) = offset
-
--- the class of the API with a number, if it is in the package that stands there
-abbrev pub api_name : ℕ → ℕ → Option ClassName
-api_name home number = option_and_then (λ class. if api_home (package_of class) == home then Some (Api class) else None) (class_of number)
-
--- the name of the class at an offset of the package that stands there
-abbrev pub name_in : ℕ → ℕ → Option ClassName
-name_in home offset = if nat_lt home 2 then api_name home offset else Some (Loaded (home - 1) offset)
+use Rattle.jc_api.specs.Class.{package_of}
+use Rattle.jc_names.specs.Names.{api_home, home_of, name_in, offset_of}
+use Rattle.jc_names.specs.declared.name.ClassName.{ClassName}
+use Rattle.jc_names.specs.declared.name.ClassName.TheVariants.{Api, Loaded}
 
 -- the class at an offset of a package
 abbrev pub class_in : ℕ → Shape → Option ClassShape

@@ -9,7 +9,7 @@ ghost use Rattle.jc_classes.specs.Walk.{found};
 ghost use Rattle.jc_classes.specs.World.{class_named};
 
 use crate::methods::PACKAGE_VISIBLE;
-use crate::name::{ClassName, MethodName};
+use jc_names::{ClassName, MethodName};
 use crate::shape::{Body, ImplementedInterface};
 use crate::table::ClassTable;
 use crate::walk::{MOST_CLASSES, Step, Visit, anchor_behind};

@@ -9,7 +9,7 @@ ghost use Rattle.jc_classes.specs.PrivateShape.{record_of};
 ghost use Rattle.jc_classes.specs.Subtype.{Implements};
 ghost use Rattle.jc_classes.specs.World.{class_named};
 
-use crate::name::ClassName;
+use jc_names::ClassName;
 use crate::search::PLACES;
 use crate::shape::{Body, ImplementedInterface};
 use crate::table::ClassTable;

@@ -6,9 +6,9 @@ ghost use Rattle.jc_classes.specs.PrivateTables.{depth_above, index_at, name_pla
 ghost use Rattle.jc_classes.specs.PrivateTables.{AreBefore, AreInMaking, AreSettled, AreTables};
 ghost use Rattle.jc_classes.specs.PrivateTables.{IsFurther, IsSettled, IsTabled, IsTabledAbove, IsWaiting, LacksTableAbove};
 ghost use Rattle.jc_classes.specs.Subtype.{has_whole_chain};
-ghost use Rattle.jc_classes.specs.World.{home_of};
+ghost use Rattle.jc_names.specs.Names.{home_of};
 
-use crate::name::{ClassName, name_in};
+use jc_names::{ClassName, name_in};
 use crate::shapes::Shapes;
 use crate::table::ClassTable;
 use crate::tables::{MethodTable, PackageTables};

@@ -3,7 +3,7 @@
 ghost use Rattle.std.specs.Prelude.{◌≡◌, ◌≤◌, IfSome};
 ghost use Rattle.jc_classes.specs.Members.{declared_in, name_of, method_home, method_offset, method_at};
 
-use crate::name::{ClassName, MethodName, api_home, name_in};
+use jc_names::{ClassName, MethodName, api_home, name_in};
 use crate::shape::{Class, Method, PackageShape};
 use crate::table::ClassTable;
 use jc_api::Member;

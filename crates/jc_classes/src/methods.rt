@@ -5,7 +5,7 @@ ghost use Rattle.jc_classes.specs.Methods.{has_method, method_name, method_there
 ghost use Rattle.jc_classes.specs.PrivateShape.{record_of};
 ghost use Rattle.jc_classes.specs.PrivateWalk.{step_of};
 
-use crate::name::{ClassName, MethodName};
+use jc_names::{ClassName, MethodName};
 use crate::shape::{Body, PackageShape, Table};
 use crate::shapes::Shapes;
 use crate::table::ClassTable;

@@ -8,7 +8,7 @@ ghost use Rattle.jc_classes.specs.PrivateSearch.{above_in, place_in, place, clas
 ghost use Rattle.jc_classes.specs.PrivateShape.{record_of};
 ghost use Rattle.jc_classes.specs.World.{class_named};
 
-use crate::name::ClassName;
+use jc_names::ClassName;
 use crate::places::place_at;
 use crate::shape::{Body, Class, ImplementedInterface, PackageShape};
 use crate::table::ClassTable;

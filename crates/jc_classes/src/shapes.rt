@@ -5,13 +5,14 @@ ghost use Rattle.std.specs.List.{position};
 ghost use Rattle.std.specs.Option.{option_map, option_map_or};
 ghost use Rattle.jc_cap_desc.specs.Shape.{Shape};
 ghost use Rattle.jc_classes.specs.Growth.{grown};
-ghost use Rattle.jc_classes.specs.World.{home_of, class_in, package_at, class_at, meets, import_of, loaded_with, exported_class, class_spelled, if_there, class_named, superclass_ref, superclass_of};
+ghost use Rattle.jc_names.specs.Names.{home_of};
+ghost use Rattle.jc_classes.specs.World.{class_in, package_at, class_at, meets, import_of, loaded_with, exported_class, class_spelled, if_there, class_named, superclass_ref, superclass_of};
 ghost use Rattle.jc_classes.specs.PrivateSearch.{class_placed};
 ghost use Rattle.jc_classes.specs.PrivateShape.{record_of};
 ghost use Rattle.jc_classes.specs.Limits.{IsSmall, most_packages, most_classes_of_one};
 
 use crate::copies::{Copied, all_copied};
-use crate::name::{ClassName, name_in};
+use jc_names::{ClassName, name_in};
 use crate::shape::{Body, Class, PackageShape};
 use jc_base::{Aid, ClassRef, PackageInfo};
 use std::alloc::{AllocError, Global};

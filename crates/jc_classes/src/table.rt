@@ -4,9 +4,10 @@ ghost use Rattle.std.specs.Prelude.{◌≡◌, ◌<◌, ◌≤◌, length, slice
 ghost use Rattle.std.specs.Option.{option_map, option_map_or};
 ghost use Rattle.jc_classes.specs.Limits.{IsSmall, most_packages, most_classes_of_one};
 ghost use Rattle.jc_classes.specs.PrivateSearch.{class_placed};
-ghost use Rattle.jc_classes.specs.World.{home_of, package_at, class_at, import_of, loaded_with, class_named, superclass_of};
+ghost use Rattle.jc_names.specs.Names.{home_of};
+ghost use Rattle.jc_classes.specs.World.{package_at, class_at, import_of, loaded_with, class_named, superclass_of};
 
-use crate::name::ClassName;
+use jc_names::ClassName;
 use crate::shape::{Class, PackageShape};
 use crate::shapes::Shapes;
 use crate::tables::PackageTables;

@@ -11,7 +11,7 @@ ghost use Rattle.jc_classes.specs.World.{class_at};
 
 use crate::copies::{Copied, all_copied, put_copies};
 use crate::methods::PACKAGE_VISIBLE;
-use crate::name::{ClassName, MethodName};
+use jc_names::{ClassName, MethodName};
 use crate::places::{make_room, place_at};
 use crate::shape::{Class, ImplementedInterface};
 use crate::shapes::Shapes;
@@ -30,7 +30,7 @@ pub(crate) struct MethodRow {
 
 impl Model for MethodRow {
     ghost use Rattle.std.specs.Prelude.{List, Option};
-    ghost use Rattle.jc_classes.specs.declared.name.MethodName.{MethodName};
+    ghost use Rattle.jc_names.specs.declared.name.MethodName.{MethodName};
 
     ghost Value = { List (Option MethodName) };
 

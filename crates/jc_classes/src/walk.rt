@@ -2,7 +2,7 @@
 
 ghost use Rattle.std.specs.Prelude.{◌≡◌, ◌⊎◌};
 
-use crate::name::ClassName;
+use jc_names::ClassName;
 
 /// How many classes and interfaces there are at most.
 pub(crate) const MOST_CLASSES: u16 = 17_085;

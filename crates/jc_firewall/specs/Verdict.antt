@@ -6,7 +6,7 @@ use Rattle.jc_store.specs.declared.kind.ClearingEvent.{ClearingEvent}
 use Rattle.jc_store.specs.declared.kind.ClearingEvent.TheVariants.{Reset, Deselect}
 use Rattle.jc_store.specs.declared.kind.Mark.{Mark}
 use Rattle.jc_store.specs.declared.kind.Mark.TheVariants.{Plain, PermanentEntryPoint, TemporaryEntryPoint, GlobalArray}
-use Rattle.jc_store.specs.declared.owner.Owner.{Owner}
+use Rattle.jc_names.specs.declared.owner.Owner.{Owner}
 use Rattle.jc_firewall.specs.declared.access.Access.{Access}
 use Rattle.jc_firewall.specs.declared.access.Access.TheVariants.{PutStaticReference, PutReferenceField, PutField, GetField, LoadComponent, StoreComponent, StoreReference, ArrayLength, InvokeVirtual, InvokeInterface, Throw, CheckCast, InstanceOf}
 use Rattle.jc_firewall.specs.declared.access.Facts.{Facts}

@@ -1,6 +1,6 @@
 //! What is known of a frame beside its words.
 
-use jc_store::Owner;
+use jc_names::Owner;
 
 /// A method of a loaded package: the package's number, from 1 on, and the offset of the method's header in the Method component.
 #[derive(Clone, Copy, Debug, PartialEq, Eq)]

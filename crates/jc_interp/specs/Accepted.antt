@@ -4,7 +4,8 @@ use Rattle.jc_cap_method.specs.declared.header.MethodHeader.{MethodHeader}
 use Rattle.jc_check.specs.Checked.{IsPackageCarried, IsPackageTyped}
 use Rattle.jc_classes.specs.Members.{DeclaredMethod}
 use Rattle.jc_link.specs.Linked.{IsWorld, Linked, LinkedBody, World}
-use Rattle.jc_interp.specs.Lookup.{body_at, code_at, declared_at, home_at}
+use Rattle.jc_names.specs.Names.{home_at}
+use Rattle.jc_interp.specs.Lookup.{body_at, code_at, declared_at}
 use Rattle.jc_interp.specs.Machine.{MethodPlace}
 
 -- a loaded package as it was linked: the last of the world of those before it

@@ -6,9 +6,9 @@ use Rattle.jc_api.specs.declared.class.ApiClass.{ApiClass}
 use Rattle.jc_api.specs.declared.class.ApiClass.TheVariants.{ArithmeticException, ArrayStoreException, ClassCastException, ArrayIndexOutOfBoundsException, NegativeArraySizeException, NullPointerException, SecurityException, IsoException, SystemException, ApduException}
 use Rattle.jc_cap_desc.specs.Shape.{Package, Shape}
 use Rattle.jc_classes.specs.Api.{api_world}
-use Rattle.jc_classes.specs.declared.name.ClassName.TheVariants as classes
-use Rattle.jc_classes.specs.declared.name.MethodName.{MethodName}
-use Rattle.jc_classes.specs.declared.name.MethodName.TheVariants.{Loaded}
+use Rattle.jc_names.specs.declared.name.ClassName.TheVariants as classes
+use Rattle.jc_names.specs.declared.name.MethodName.{MethodName}
+use Rattle.jc_names.specs.declared.name.MethodName.TheVariants.{Loaded}
 use Rattle.jc_link.specs.Kept.{kept_of}
 use Rattle.jc_link.specs.Linked.{LinkedBody, World}
 use Rattle.jc_store.specs.Heap.{Heap, Object}
@@ -16,7 +16,7 @@ use Rattle.jc_store.specs.declared.kind.Mark.{Mark}
 use Rattle.jc_store.specs.declared.kind.Mark.TheVariants.{Plain, TemporaryEntryPoint}
 use Rattle.jc_store.specs.declared.kind.ObjectType.{ObjectType}
 use Rattle.jc_store.specs.declared.kind.ObjectType.TheVariants.{Instance, BooleanArray, ByteArray, ShortArray, ReferenceArray}
-use Rattle.jc_store.specs.declared.owner.Owner.{Owner}
+use Rattle.jc_names.specs.declared.owner.Owner.{Owner}
 use Rattle.jc_firewall.specs.declared.access.Access.TheVariants.{InvokeVirtual}
 use Rattle.jc_firewall.specs.declared.access.Verdict.TheVariants.{Allowed}
 use Rattle.jc_interp.specs.Lookup.{fields_of}
@@ -24,7 +24,7 @@ use Rattle.jc_interp.specs.Machine.{Calls, Ends, Gives, Limits, Machine, NativeA
 use Rattle.jc_interp.specs.Runtime.{RuntimeObject, runtime_objects}
 use Rattle.jc_interp.specs.Step.{defensive_step, CallEnd, Gave, RanOut, Start, Threw, WasStuck, runtime_call}
 use Rattle.jc_interp.specs.ExamplePackages.{probe}
-use Rattle.jc_interp.specs.Values.{Null, Ref, TaggedValue, Unset, Word}
+use Rattle.jc_words.specs.Values.{Null, Ref, TaggedValue, Unset, Word}
 
 -- ---- worlds
 

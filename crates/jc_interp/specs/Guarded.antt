@@ -10,7 +10,7 @@ use Rattle.jc_store.specs.declared.kind.Mark.TheVariants.{Plain}
 use Rattle.jc_interp.specs.Machine.{Ends, Machine, Next, Outcome, Stepped, Stuck, Surroundings, Throws, Touch, UsedUp}
 use Rattle.jc_interp.specs.Runtime.{security_exception}
 use Rattle.jc_interp.specs.Step.{defensive_step, settled}
-use Rattle.jc_interp.specs.Values.{TaggedValue}
+use Rattle.jc_words.specs.Values.{TaggedValue}
 
 -- ---- accesses
 

@@ -1,4 +1,3 @@
-pub mod Values
 pub mod Machine
 pub mod Runtime
 pub mod Lookup

@@ -5,8 +5,8 @@ use Rattle.std.specs.List.{AllByRecursion}
 use Rattle.jc_api.specs.Member.{ApiMember, member_of}
 use Rattle.jc_api.specs.declared.member.MemberKind.TheVariants.{Static, Virtual}
 use Rattle.jc_base.specs.Signature.{Signature}
-use Rattle.jc_classes.specs.declared.name.ClassName.{ClassName}
-use Rattle.jc_classes.specs.declared.name.ClassName.TheVariants as classes
+use Rattle.jc_names.specs.declared.name.ClassName.{ClassName}
+use Rattle.jc_names.specs.declared.name.ClassName.TheVariants as classes
 use Rattle.jc_firewall.specs.Verdict.{runtime_context, verdict_of}
 use Rattle.jc_link.specs.Found.{is_same_return}
 use Rattle.jc_link.specs.Linked.{World}
@@ -19,7 +19,7 @@ use Rattle.jc_interp.specs.Lookup.{are_of_types, is_given, is_of_class, is_throw
 use Rattle.jc_interp.specs.Machine.{Callback, Calls, Gives, IsStuck, Limits, NativeAnswer, NativeCall, NativeEnd, Natives, ThrowsObject, Touch}
 use Rattle.jc_interp.specs.Runtime.{HasRuntimeObjects, security_exception}
 use Rattle.jc_interp.specs.Typed.{HeapTyped}
-use Rattle.jc_interp.specs.Values.{TaggedValue}
+use Rattle.jc_words.specs.Values.{TaggedValue}
 
 -- ---- objects stay
 

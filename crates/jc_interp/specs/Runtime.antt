@@ -4,14 +4,14 @@ use Rattle.std.specs.Prelude.{◌≡◌, ℕ, List, ◌∷◌, length, map, Some
 use Rattle.std.specs.List.{AllByRecursion, range_with_len}
 use Rattle.jc_api.specs.declared.class.ApiClass.{ApiClass}
 use Rattle.jc_api.specs.declared.class.ApiClass.TheVariants.{ArithmeticException, ArrayStoreException, ClassCastException, ArrayIndexOutOfBoundsException, NegativeArraySizeException, NullPointerException, SecurityException, IsoException, SystemException, ApduException, Aid, Apdu}
-use Rattle.jc_classes.specs.declared.name.ClassName.TheVariants as classes
+use Rattle.jc_names.specs.declared.name.ClassName.TheVariants as classes
 use Rattle.jc_firewall.specs.Verdict as firewall
 use Rattle.jc_store.specs.Heap.{Heap, Object, object_at}
 use Rattle.jc_store.specs.declared.kind.Mark.{Mark}
 use Rattle.jc_store.specs.declared.kind.Mark.TheVariants.{GlobalArray, PermanentEntryPoint, TemporaryEntryPoint}
 use Rattle.jc_store.specs.declared.kind.ObjectType.{ObjectType}
 use Rattle.jc_store.specs.declared.kind.ObjectType.TheVariants.{ByteArray, Instance}
-use Rattle.jc_interp.specs.Values.{TaggedValue}
+use Rattle.jc_words.specs.Values.{TaggedValue}
 
 -- ---- their numbers
 

@@ -8,7 +8,7 @@ use Rattle.jc_check.specs.Method.{Method}
 use Rattle.jc_check.specs.Package.{method_of, package_rules}
 use Rattle.jc_check.specs.Typing.{IsTyping, Leads, Typing}
 use Rattle.jc_classes.specs.Subtype.{is_class_below}
-use Rattle.jc_classes.specs.declared.name.ClassName.{ClassName}
+use Rattle.jc_names.specs.declared.name.ClassName.{ClassName}
 use Rattle.jc_code.specs.declared.instr.Instr.{Instr}
 use Rattle.jc_code.specs.declared.instr.Operation.TheVariants.{Object as OnObjects}
 use Rattle.jc_code.specs.declared.object.Invocation.{Invocation}
@@ -29,11 +29,12 @@ use Rattle.jc_types.specs.declared.ty.Ty.TheVariants as types
 use Rattle.jc_interp.specs.Accepted.{linked_as}
 use Rattle.jc_interp.specs.Agree.{Pointwise}
 use Rattle.jc_interp.specs.Fields.{static_at}
-use Rattle.jc_interp.specs.Lookup.{body_at, code_at, component_class, declared_at, fields_of, home_at, instruction_at, is_array, is_boolean_array, is_byte, is_byte_array, is_instance, is_kept_as, is_of_class, is_short_array, is_word, leads_to, of_package}
+use Rattle.jc_names.specs.Names.{home_at}
+use Rattle.jc_interp.specs.Lookup.{body_at, code_at, component_class, declared_at, fields_of, instruction_at, is_array, is_boolean_array, is_byte, is_byte_array, is_instance, is_kept_as, is_of_class, is_short_array, is_word, leads_to, of_package}
 use Rattle.jc_interp.specs.Machine.{Frame, Machine, StaticValue, Surroundings}
 use Rattle.jc_interp.specs.Objects.{is_null}
 use Rattle.jc_interp.specs.Runtime.{HasRuntimeObjects}
-use Rattle.jc_interp.specs.Values.{TaggedValue, is_written}
+use Rattle.jc_words.specs.Values.{TaggedValue, is_written}
 
 -- ---- values
 

@@ -1,9 +1,9 @@
 //! Examples of the defensive machine: what the prover computes of it.
 
 ghost use Rattle.std.specs.Prelude.{◌≡◌, [], ◌∷◌, ◌++◌, List, None, Some, false, true};
-ghost use Rattle.jc_classes.specs.declared.name.ClassName.TheVariants as classes;
+ghost use Rattle.jc_names.specs.declared.name.ClassName.TheVariants as classes;
 ghost use Rattle.jc_cap_desc.specs.Shape.{Shape};
-ghost use Rattle.jc_classes.specs.declared.name.MethodName.TheVariants.{Api, Loaded};
+ghost use Rattle.jc_names.specs.declared.name.MethodName.TheVariants.{Api, Loaded};
 ghost use Rattle.jc_firewall.specs.declared.access.Access.TheVariants.{CheckCast, GetField, InvokeInterface, InvokeVirtual, LoadComponent, PutField, StoreComponent};
 ghost use Rattle.jc_firewall.specs.declared.access.Rule.TheVariants.{Fields};
 ghost use Rattle.jc_firewall.specs.declared.access.Verdict.TheVariants.{Allowed, AllowedSwitch, Denied};
@@ -12,7 +12,7 @@ ghost use Rattle.jc_interp.specs.Examples.{a_value, an_object, asking, exception
 ghost use Rattle.jc_interp.specs.Machine.{NativeCall};
 ghost use Rattle.jc_interp.specs.Natives.{IsGuardedAnswer};
 ghost use Rattle.jc_interp.specs.Typed.{IsOperand};
-ghost use Rattle.jc_interp.specs.Values.{Null, Ref, TaggedValue, Unset, Word};
+ghost use Rattle.jc_words.specs.Values.{Null, Ref, TaggedValue, Unset, Word};
 ghost use Rattle.jc_link.specs.Applet.{applet};
 ghost use Rattle.jc_link.specs.Linked.{World};
 ghost use Rattle.jc_store.specs.Heap.{Heap};

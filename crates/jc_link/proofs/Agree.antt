@@ -7,7 +7,7 @@ use Rattle.jc_base.specs.Signature.{Signature}
 use Rattle.jc_base.specs.declared.declared_type.DeclaredType.{DeclaredType}
 use Rattle.jc_base.specs.declared.declared_type.ReturnType.{ReturnType}
 use Rattle.jc_base.specs.declared.declared_type.ReturnType.TheVariants.{Value}
-use Rattle.jc_classes.specs.declared.name.ClassName.{ClassName}
+use Rattle.jc_names.specs.declared.name.ClassName.{ClassName}
 use Rattle.jc_link.specs.Found.{type_found, return_found, types_found, signature_found, is_same_type, are_same_types, is_same_return, is_same_signature, agree}
 use Rattle.jc_link.specs.MemberType.{as_member}
 use Rattle.jc_link.specs.PrivateAgree.{type_agrees, types_agree, return_agrees, signature_agrees}

@@ -20,8 +20,9 @@ use Rattle.jc_api.specs.declared.class.ApiPackage.TheVariants.{Lang, Framework}
 use Rattle.jc_classes.specs.Api.{api_shape, api_world, class_in_api, class_shape_of, class_with, export_of, export_row, last_class, last_member, no_table, public_table, room_to, spelled_in}
 use Rattle.jc_classes.specs.Members.{name_of}
 use Rattle.jc_classes.specs.World as World
-use Rattle.jc_classes.specs.World.{api_home, class_at, class_in, class_named, class_spelled, exported_class, if_there, import_of, meets, name_in, superclass_ref}
-use Rattle.jc_classes.specs.declared.name.ClassName.TheVariants.{Api}
+use Rattle.jc_names.specs.Names.{api_home, name_in}
+use Rattle.jc_classes.specs.World.{class_at, class_in, class_named, class_spelled, exported_class, if_there, import_of, meets, superclass_ref}
+use Rattle.jc_names.specs.declared.name.ClassName.TheVariants.{Api}
 use Rattle.jc_link.proofs.ApiLists.{all_numbered, each_there, number_has, number_there, numbered_there, numbered_within, those_found, within_room}
 use Rattle.jc_link.proofs.GrownParts.{mapped, none_some, some_of, the_some}
 use Rattle.jc_link.proofs.SameNames.{numbered_again, same_number}

@@ -27,10 +27,11 @@ use Rattle.jc_classes.specs.Record.{interface_rows, package_entries, public_entr
 use Rattle.jc_classes.specs.Subtype.{is_class_at, is_interface_at, is_at_or_above}
 use Rattle.jc_classes.specs.Walk.{most_classes}
 use Rattle.jc_classes.specs.World as World
-use Rattle.jc_classes.specs.World.{api_home, class_named, listed_refs}
-use Rattle.jc_classes.specs.declared.name.ClassName.TheVariants as Names
-use Rattle.jc_classes.specs.declared.name.MethodName.{MethodName}
-use Rattle.jc_classes.specs.declared.name.MethodName.TheVariants.{Api, Loaded}
+use Rattle.jc_names.specs.Names.{api_home}
+use Rattle.jc_classes.specs.World.{class_named, listed_refs}
+use Rattle.jc_names.specs.declared.name.ClassName.TheVariants as Names
+use Rattle.jc_names.specs.declared.name.MethodName.{MethodName}
+use Rattle.jc_names.specs.declared.name.MethodName.TheVariants.{Api, Loaded}
 use Rattle.jc_link.proofs.ApiClasses.{class_itself, class_there, each_class, named_again, same_class, shape_is, super_before, superclass_is}
 use Rattle.jc_link.proofs.ApiLists.{each_from, none_anywhere, none_of, those_from}
 use Rattle.jc_link.proofs.ApiMembers.{class_body, each_member, member_there, types_known, words_right}

@@ -24,10 +24,10 @@ use Rattle.jc_api.specs.declared.class.ApiPackage.{ApiPackage}
 use Rattle.jc_classes.specs.Api.{api_shape, api_world, class_in_api, class_shape_of, declared_by, is_static, last_class, last_member, method_in, method_of, nargs_of, no_table, public_table, record_in, spelled_in, those_to}
 use Rattle.jc_classes.specs.Members.{DeclaredMethod, declared_in, method_at, name_of}
 use Rattle.jc_classes.specs.Methods.{has_method, method_of_class}
-use Rattle.jc_classes.specs.World.{api_home}
-use Rattle.jc_classes.specs.declared.name.ClassName.{ClassName}
-use Rattle.jc_classes.specs.declared.name.ClassName.TheVariants as Names
-use Rattle.jc_classes.specs.declared.name.MethodName.TheVariants.{Api}
+use Rattle.jc_names.specs.Names.{api_home}
+use Rattle.jc_names.specs.declared.name.ClassName.{ClassName}
+use Rattle.jc_names.specs.declared.name.ClassName.TheVariants as Names
+use Rattle.jc_names.specs.declared.name.MethodName.TheVariants.{Api}
 use Rattle.jc_link.proofs.ApiClasses.{class_itself, in_range, is_seen, named, named_again, number_is, package_there, same_class, shape_is, shape_there}
 use Rattle.jc_link.proofs.ApiLists.{all_numbered, any_found, none_of, numbered_within, those_found, those_from}
 use Rattle.jc_link.proofs.GrownParts.{chosen_of, mapped, none_some, some_of, the_some}

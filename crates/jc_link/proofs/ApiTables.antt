@@ -19,11 +19,11 @@ use Rattle.jc_classes.specs.Api.{api_shape, api_world, class_in_api, each_below,
 use Rattle.jc_classes.specs.Methods.{declared_above, entry_visit, has_method, method_there, record_visit, table_visit, virtual_method_of, virtual_visit}
 use Rattle.jc_classes.specs.Walk.{found_from, most_classes, walk}
 use Rattle.jc_classes.specs.World as World
-use Rattle.jc_classes.specs.World.{api_home}
-use Rattle.jc_classes.specs.declared.name.ClassName.{ClassName}
-use Rattle.jc_classes.specs.declared.name.ClassName.TheVariants as Names
-use Rattle.jc_classes.specs.declared.name.MethodName.{MethodName}
-use Rattle.jc_classes.specs.declared.name.MethodName.TheVariants.{Api}
+use Rattle.jc_names.specs.Names.{api_home}
+use Rattle.jc_names.specs.declared.name.ClassName.{ClassName}
+use Rattle.jc_names.specs.declared.name.ClassName.TheVariants as Names
+use Rattle.jc_names.specs.declared.name.MethodName.{MethodName}
+use Rattle.jc_names.specs.declared.name.MethodName.TheVariants.{Api}
 use Rattle.jc_link.proofs.ApiClasses.{above_itself, above_super, class_there, in_range, interface_alone, not_above, same_class, super_before, superclass_is}
 use Rattle.jc_link.proofs.ApiLists.{each_is, each_there, number_has, within_room}
 use Rattle.jc_link.proofs.ApiMembers.{has_member, member_range}

@@ -10,12 +10,12 @@ use Rattle.jc_cap_pool.specs.declared.entry.PoolEntry.{PoolEntry}
 use Rattle.jc_classes.specs.Growth.{grown, IsWithin, KeepsLookups}
 use Rattle.jc_classes.specs.Members.{DeclaredMethod, method_at}
 use Rattle.jc_classes.specs.Methods.{declared_above, method_name}
-use Rattle.jc_classes.specs.Names.{is_same_name}
+use Rattle.jc_names.specs.Names.{is_same_name}
 use Rattle.jc_classes.specs.Record.{package_entries, public_entries}
 use Rattle.jc_classes.specs.Subtype.{is_class_at, is_interface_at, is_at_or_above}
 use Rattle.jc_classes.specs.Walk.{most_classes}
 use Rattle.jc_classes.specs.World.{class_named, listed_refs, superclass_of}
-use Rattle.jc_classes.specs.declared.name.ClassName.{ClassName}
+use Rattle.jc_names.specs.declared.name.ClassName.{ClassName}
 use Rattle.jc_link.proofs.GrownParts.{then_same, or_same, any_same, find_same, position_same, either_same}
 use Rattle.jc_link.proofs.GrownWithin.{named_within, superclass_within, method_name_within}
 use Rattle.jc_link.proofs.GrownNames.{is_class_stays, is_interface_stays, member_type_stays, field_type_stays, method_stays, import_stays, names_stay, named_there, named_type_stays}

@@ -18,9 +18,10 @@ use Rattle.jc_classes.specs.Members.{DeclaredMethod, name_of}
 use Rattle.jc_classes.specs.Methods.{package_visible, public_method_of, record_visit, virtual_method_of, virtual_visit}
 use Rattle.jc_classes.specs.Record.{interface_rows}
 use Rattle.jc_classes.specs.Walk.{found_from, most_classes, walk}
-use Rattle.jc_classes.specs.World.{class_at, class_named, home_of, superclass_of}
-use Rattle.jc_classes.specs.declared.name.ClassName.{ClassName}
-use Rattle.jc_classes.specs.declared.name.MethodName.{MethodName}
+use Rattle.jc_names.specs.Names.{home_of}
+use Rattle.jc_classes.specs.World.{class_at, class_named, superclass_of}
+use Rattle.jc_names.specs.declared.name.ClassName.{ClassName}
+use Rattle.jc_names.specs.declared.name.MethodName.{MethodName}
 use Rattle.jc_link.proofs.GrownParts.{some_of, chosen_of, then_same, or_same, any_same, find_same, either_same}
 use Rattle.jc_link.proofs.GrownWithin.{class_home, named_within, superclass_within, IsMethodWithin, virtual_within, by_other}
 use Rattle.jc_link.proofs.GrownNames.{member_type_stays, method_stays, method_type_stays, concrete_stays, above_stays, above_within, names_stay, targets_stay}

@@ -20,10 +20,11 @@ use Rattle.jc_classes.specs.Methods.{method_name, virtual_method_of}
 use Rattle.jc_classes.specs.Record.{declared_size}
 use Rattle.jc_classes.specs.Subtype.{is_class_at, is_interface_at}
 use Rattle.jc_classes.specs.Walk.{most_classes}
-use Rattle.jc_classes.specs.World.{home_of, class_at, meets, import_of, class_named, superclass_of}
-use Rattle.jc_classes.specs.declared.name.ClassName.{ClassName}
-use Rattle.jc_classes.specs.declared.name.ClassName.TheVariants.{Api}
-use Rattle.jc_classes.specs.declared.name.MethodName.{MethodName}
+use Rattle.jc_names.specs.Names.{home_of}
+use Rattle.jc_classes.specs.World.{class_at, meets, import_of, class_named, superclass_of}
+use Rattle.jc_names.specs.declared.name.ClassName.{ClassName}
+use Rattle.jc_names.specs.declared.name.ClassName.TheVariants.{Api}
+use Rattle.jc_names.specs.declared.name.MethodName.{MethodName}
 use Rattle.jc_link.proofs.GrownParts.{the_some, some_of, mapped, chosen_of, then_same, map_same, or_same, get_before}
 use Rattle.jc_link.proofs.GrownWithin.{import_before, named_within, superclass_within, IsMethodWithin, method_name_within, declared_within, virtual_within}
 use Rattle.jc_link.specs.Found.{type_found, signature_found}

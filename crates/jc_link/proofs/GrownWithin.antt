@@ -19,11 +19,12 @@ use Rattle.jc_classes.specs.Growth.{IsWithin}
 use Rattle.jc_classes.specs.Members.{DeclaredMethod, name_of, declared_in, method_home, method_offset, method_at}
 use Rattle.jc_classes.specs.Methods.{method_of_class, has_method, method_name, method_there, entry_visit, table_visit, record_visit, virtual_method_of, virtual_visit, package_visible, declared_above}
 use Rattle.jc_classes.specs.Walk.{found_from, walk, most_classes}
-use Rattle.jc_classes.specs.World.{api_home, api_name, home_of, name_in, class_at, meets, import_of, exported_class, class_spelled, if_there, class_named, superclass_ref, superclass_of}
-use Rattle.jc_classes.specs.declared.name.ClassName.{ClassName}
-use Rattle.jc_classes.specs.declared.name.ClassName.TheVariants.{Api, Loaded}
-use Rattle.jc_classes.specs.declared.name.MethodName.{MethodName}
-use Rattle.jc_classes.specs.declared.name.MethodName.TheVariants as Method
+use Rattle.jc_names.specs.Names.{api_home, api_name, home_of, name_in}
+use Rattle.jc_classes.specs.World.{class_at, meets, import_of, exported_class, class_spelled, if_there, class_named, superclass_ref, superclass_of}
+use Rattle.jc_names.specs.declared.name.ClassName.{ClassName}
+use Rattle.jc_names.specs.declared.name.ClassName.TheVariants.{Api, Loaded}
+use Rattle.jc_names.specs.declared.name.MethodName.{MethodName}
+use Rattle.jc_names.specs.declared.name.MethodName.TheVariants as Method
 use Rattle.jc_link.proofs.GrownParts.{the_some, none_some, some_of, mapped, chosen_of, position_below}
 use Rattle.jc_link.specs.Growth.{HasApi}
 

@@ -13,7 +13,7 @@ use Rattle.jc_classes.specs.Members.{DeclaredMethod, method_at}
 use Rattle.jc_classes.specs.Methods.{method_name, virtual_method_of}
 use Rattle.jc_classes.specs.Subtype.{is_class_at}
 use Rattle.jc_classes.specs.World.{class_named}
-use Rattle.jc_classes.specs.declared.name.MethodName.{MethodName}
+use Rattle.jc_names.specs.declared.name.MethodName.{MethodName}
 use Rattle.jc_link.proofs.GrownParts.{some_of, mapped, chosen_of, the_some, none_some}
 use Rattle.jc_link.proofs.Nones.{left_false, right_false, not_false, there_some, true_false}
 use Rattle.jc_link.specs.Built.{IsBuilt}

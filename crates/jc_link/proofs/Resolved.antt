@@ -11,8 +11,8 @@ use Rattle.jc_cap_desc.specs.Shape.{ClassShape, StandApart, HaveHeaders, MethodS
 use Rattle.jc_classes.specs.Growth.{grown}
 use Rattle.jc_classes.specs.Members.{DeclaredMethod, declared_in, method_at, name_of}
 use Rattle.jc_classes.specs.Methods.{method_name, method_of_class}
-use Rattle.jc_classes.specs.declared.name.ClassName.{ClassName}
-use Rattle.jc_classes.specs.declared.name.MethodName.TheVariants.{Api, Loaded}
+use Rattle.jc_names.specs.declared.name.ClassName.{ClassName}
+use Rattle.jc_names.specs.declared.name.MethodName.TheVariants.{Api, Loaded}
 use Rattle.jc_link.proofs.GrownHeirs.{length_more}
 use Rattle.jc_link.proofs.GrownParts.{the_some, none_some, get_before, some_of, chosen_of, chosen_true}
 use Rattle.jc_link.proofs.Nones.{found_at}

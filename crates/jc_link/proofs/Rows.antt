@@ -4,10 +4,11 @@ use Rattle.std.proofs.lemmas.List.Folds.{list_any-append}
 use Rattle.std.specs.List.{list_any}
 use Rattle.std.specs.Option.{option_map_or}
 use Rattle.jc_cap_desc.specs.Shape.{ClassShape, Shape}
-use Rattle.jc_classes.specs.Names.{is_same_name}
+use Rattle.jc_names.specs.Names.{is_same_name}
 use Rattle.jc_classes.specs.Record.{interface_rows}
-use Rattle.jc_classes.specs.World.{class_at, home_of, superclass_of}
-use Rattle.jc_classes.specs.declared.name.ClassName.{ClassName}
+use Rattle.jc_names.specs.Names.{home_of}
+use Rattle.jc_classes.specs.World.{class_at, superclass_of}
+use Rattle.jc_names.specs.declared.name.ClassName.{ClassName}
 use Rattle.jc_link.specs.Inherited.{ListedRow, rows_of, rows_along}
 use Rattle.jc_link.specs.PrivateRows.{IsOnRows}
 use Rattle.jc_link.proofs.Listed.{list_any_map}

@@ -4,9 +4,9 @@ use Rattle.std.proofs.lemmas.Bool.{eqb-true, eq-eqb}
 use Rattle.jc_api.specs.Class.{class_of, number_of}
 use Rattle.jc_api.specs.declared.class.ApiClass.{ApiClass}
 use Rattle.jc_api.specs.declared.class.ApiClass.TheVariants.{Object, Throwable, Exception, RuntimeException, ArithmeticException, ArrayStoreException, ClassCastException, IndexOutOfBoundsException, ArrayIndexOutOfBoundsException, NegativeArraySizeException, NullPointerException, SecurityException, Shareable, CardRuntimeException, IsoException, SystemException, ApduException, Aid, Apdu, Applet, JcSystem, Util}
-use Rattle.jc_classes.specs.Names.{is_same_name}
-use Rattle.jc_classes.specs.declared.name.ClassName.{ClassName}
-use Rattle.jc_classes.specs.declared.name.ClassName.TheVariants.{Api, Loaded}
+use Rattle.jc_names.specs.Names.{is_same_name}
+use Rattle.jc_names.specs.declared.name.ClassName.{ClassName}
+use Rattle.jc_names.specs.declared.name.ClassName.TheVariants.{Api, Loaded}
 use Rattle.jc_link.proofs.GrownParts.{the_some}
 use Rattle.jc_link.proofs.Nones.{true_false, left_true, right_true}
 

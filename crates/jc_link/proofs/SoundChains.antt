@@ -17,12 +17,13 @@ use Rattle.jc_api.specs.declared.class.ApiClass.TheVariants.{Object}
 use Rattle.jc_api.specs.declared.class.ApiPackage.{ApiPackage}
 use Rattle.jc_api.specs.declared.class.ApiPackage.TheVariants.{Lang, Framework}
 use Rattle.jc_classes.specs.Limits.{IsSmall}
-use Rattle.jc_classes.specs.Names.{is_same_name}
+use Rattle.jc_names.specs.Names.{is_same_name}
 use Rattle.jc_classes.specs.Subtype.{comes_to_end, IsAmong, Lists, is_class_at, is_interface_at, is_at_or_above}
 use Rattle.jc_classes.specs.Walk.{found_from, most_classes, walk}
-use Rattle.jc_classes.specs.World.{api_home, class_at, class_in, class_named, home_of, if_there, listed_refs, class_spelled, offset_of, package_at, superclass_of, superclass_ref}
-use Rattle.jc_classes.specs.declared.name.ClassName.{ClassName}
-use Rattle.jc_classes.specs.declared.name.ClassName.TheVariants.{Api, Loaded}
+use Rattle.jc_names.specs.Names.{api_home, home_of, offset_of}
+use Rattle.jc_classes.specs.World.{class_at, class_in, class_named, if_there, listed_refs, class_spelled, package_at, superclass_of, superclass_ref}
+use Rattle.jc_names.specs.declared.name.ClassName.{ClassName}
+use Rattle.jc_names.specs.declared.name.ClassName.TheVariants.{Api, Loaded}
 use Rattle.jc_link.proofs.GrownParts.{the_some, none_some, some_of, then_same, or_same}
 use Rattle.jc_link.proofs.Nones.{true_false, left_false, right_false, then_false, not_false, found_passes}
 use Rattle.jc_link.proofs.SameNames.{same_name, same_number, name_itself}

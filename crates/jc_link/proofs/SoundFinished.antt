@@ -12,9 +12,10 @@ use Rattle.jc_classes.specs.Members.{DeclaredMethod}
 use Rattle.jc_classes.specs.Methods.{indexes_visit, interface_visit, is_this, listing_visit, package_visible, public_method_of, row_for, virtual_method_of}
 use Rattle.jc_classes.specs.Record.{interface_rows}
 use Rattle.jc_classes.specs.Walk.{found, found_from, walk, most_classes}
-use Rattle.jc_classes.specs.World.{class_at, class_named, home_of, superclass_of}
-use Rattle.jc_classes.specs.declared.name.ClassName.{ClassName}
-use Rattle.jc_classes.specs.declared.name.MethodName.{MethodName}
+use Rattle.jc_names.specs.Names.{home_of}
+use Rattle.jc_classes.specs.World.{class_at, class_named, superclass_of}
+use Rattle.jc_names.specs.declared.name.ClassName.{ClassName}
+use Rattle.jc_names.specs.declared.name.MethodName.{MethodName}
 use Rattle.jc_link.proofs.GrownParts.{some_of, the_some, none_some}
 use Rattle.jc_link.proofs.Nones.{true_false, left_false, right_false, neither, then_false, not_false, there_some, none_at, none_found, none_in_range, found_passes}
 use Rattle.jc_link.proofs.SameNames.{same_name}

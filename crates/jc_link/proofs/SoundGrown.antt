@@ -11,9 +11,10 @@ use Rattle.jc_api.specs.NoClash.{HasNoClash}
 use Rattle.jc_classes.specs.Api.{api_world}
 use Rattle.jc_classes.specs.Growth.{grown, IsWithin, KeepsLookups}
 use Rattle.jc_classes.specs.Members.{name_of}
-use Rattle.jc_classes.specs.World.{api_home, api_name, class_in, home_of, name_in, offset_of, package_at}
-use Rattle.jc_classes.specs.declared.name.ClassName.{ClassName}
-use Rattle.jc_classes.specs.declared.name.ClassName.TheVariants.{Api, Loaded}
+use Rattle.jc_names.specs.Names.{api_home, api_name, home_of, name_in, offset_of}
+use Rattle.jc_classes.specs.World.{class_in, package_at}
+use Rattle.jc_names.specs.declared.name.ClassName.{ClassName}
+use Rattle.jc_names.specs.declared.name.ClassName.TheVariants.{Api, Loaded}
 use Rattle.jc_link.proofs.GrownClasses.{superclass_stays, round_stays, interfaces_stay, unknown_type_stays, bad_entries_stay}
 use Rattle.jc_link.proofs.GrownHeirs.{length_more, loses_stays, overrides_stay, unfinished_stays}
 use Rattle.jc_link.proofs.GrownNames.{packages_stay}

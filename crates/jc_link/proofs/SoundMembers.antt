@@ -14,9 +14,10 @@ use Rattle.jc_classes.specs.Members.{DeclaredMethod, declared_in, method_at, met
 use Rattle.jc_classes.specs.Methods.{method_of_class}
 use Rattle.jc_classes.specs.Record.{declared_size}
 use Rattle.jc_classes.specs.Walk.{most_classes}
-use Rattle.jc_classes.specs.World.{class_at, home_of, superclass_of}
-use Rattle.jc_classes.specs.declared.name.ClassName.{ClassName}
-use Rattle.jc_classes.specs.declared.name.MethodName.{MethodName}
+use Rattle.jc_names.specs.Names.{home_of}
+use Rattle.jc_classes.specs.World.{class_at, superclass_of}
+use Rattle.jc_names.specs.declared.name.ClassName.{ClassName}
+use Rattle.jc_names.specs.declared.name.MethodName.{MethodName}
 use Rattle.jc_link.proofs.GrownParts.{some_of, the_some, none_some, chosen_of, chosen_true}
 use Rattle.jc_link.proofs.GrownWithin.{class_home}
 use Rattle.jc_link.proofs.Nones.{true_false, left_false, right_false, not_false, some_there, none_at, found_at, found_passes}

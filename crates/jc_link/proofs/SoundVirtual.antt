@@ -14,10 +14,11 @@ use Rattle.jc_classes.specs.Methods.{has_method, method_name, method_there, decl
 use Rattle.jc_classes.specs.Record.{public_entries, package_entries}
 use Rattle.jc_classes.specs.Subtype.{comes_to_end, is_at_or_above}
 use Rattle.jc_classes.specs.Walk.{found_from, walk, most_classes}
-use Rattle.jc_classes.specs.World.{class_at, class_named, home_of, superclass_of, superclass_ref}
-use Rattle.jc_classes.specs.declared.name.ClassName.{ClassName}
-use Rattle.jc_classes.specs.declared.name.MethodName.{MethodName}
-use Rattle.jc_classes.specs.declared.name.MethodName.TheVariants.{Api, Loaded}
+use Rattle.jc_names.specs.Names.{home_of}
+use Rattle.jc_classes.specs.World.{class_at, class_named, superclass_of, superclass_ref}
+use Rattle.jc_names.specs.declared.name.ClassName.{ClassName}
+use Rattle.jc_names.specs.declared.name.MethodName.{MethodName}
+use Rattle.jc_names.specs.declared.name.MethodName.TheVariants.{Api, Loaded}
 use Rattle.jc_link.proofs.GrownParts.{some_of, the_some, none_some}
 use Rattle.jc_link.proofs.GrownWithin.{by_other}
 use Rattle.jc_link.proofs.Nones.{true_false, left_false, right_false, then_false, left_true, right_true, not_false, not_true, there_some, none_at, none_in_range}

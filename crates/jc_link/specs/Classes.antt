@@ -14,7 +14,7 @@ use Rattle.jc_classes.specs.Record.{declared_size, package_entries, public_entri
 use Rattle.jc_classes.specs.Subtype.{is_at_or_above, is_class_at, is_interface_at}
 use Rattle.jc_classes.specs.Walk.{most_classes}
 use Rattle.jc_classes.specs.World.{class_named, listed_refs, superclass_of}
-use Rattle.jc_classes.specs.declared.name.ClassName.{ClassName}
+use Rattle.jc_names.specs.declared.name.ClassName.{ClassName}
 use Rattle.jc_link.specs.MemberType.{field_type_of, member_type_of}
 
 -- a class whose superclass is missing, isn't named, or is an interface

@@ -6,8 +6,8 @@ use Rattle.jc_base.specs.declared.declared_type.DeclaredType.{DeclaredType}
 use Rattle.jc_base.specs.declared.declared_type.DeclaredType.TheVariants.{Boolean, Byte, Short, Reference, BooleanArray, ByteArray, ShortArray, ReferenceArray}
 use Rattle.jc_base.specs.declared.declared_type.ReturnType.{ReturnType}
 use Rattle.jc_base.specs.declared.declared_type.ReturnType.TheVariants.{Void, Value}
-use Rattle.jc_classes.specs.Names.{is_same_name}
-use Rattle.jc_classes.specs.declared.name.ClassName.{ClassName}
+use Rattle.jc_names.specs.Names.{is_same_name}
+use Rattle.jc_names.specs.declared.name.ClassName.{ClassName}
 
 -- a type with its class found, if it is
 abbrev pub type_found : {C D : Type 0} → (C → Option D) → DeclaredType C → Option (DeclaredType D)

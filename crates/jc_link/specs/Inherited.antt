@@ -11,10 +11,11 @@ use Rattle.jc_classes.specs.Members.{method_at}
 use Rattle.jc_classes.specs.Methods.{public_method_of, virtual_method_of}
 use Rattle.jc_classes.specs.Record.{interface_rows}
 use Rattle.jc_classes.specs.Walk.{most_classes}
-use Rattle.jc_classes.specs.World.{class_at, class_named, home_of, superclass_of}
-use Rattle.jc_classes.specs.declared.name.ClassName.{ClassName}
-use Rattle.jc_classes.specs.declared.name.MethodName.{MethodName}
-use Rattle.jc_classes.specs.declared.name.MethodName.TheVariants.{Api, Loaded}
+use Rattle.jc_names.specs.Names.{home_of}
+use Rattle.jc_classes.specs.World.{class_at, class_named, superclass_of}
+use Rattle.jc_names.specs.declared.name.ClassName.{ClassName}
+use Rattle.jc_names.specs.declared.name.MethodName.{MethodName}
+use Rattle.jc_names.specs.declared.name.MethodName.TheVariants.{Api, Loaded}
 use Rattle.jc_link.specs.MemberType.{have_same_type, member_type_of, method_type_of}
 use Rattle.jc_link.specs.Named.{is_abstract_method, is_concrete, method_above}
 

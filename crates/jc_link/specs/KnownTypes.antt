@@ -14,9 +14,9 @@ use Rattle.jc_api.specs.declared.class.ApiClass.TheVariants.{Object, Throwable}
 use Rattle.jc_classes.specs.Members.{DeclaredMethod, method_at}
 use Rattle.jc_classes.specs.Subtype.{common_class, is_class_at}
 use Rattle.jc_classes.specs.World.{superclass_of}
-use Rattle.jc_classes.specs.declared.name.ClassName.{ClassName}
-use Rattle.jc_classes.specs.declared.name.ClassName.TheVariants.{Api}
-use Rattle.jc_classes.specs.declared.name.MethodName.{MethodName}
+use Rattle.jc_names.specs.declared.name.ClassName.{ClassName}
+use Rattle.jc_names.specs.declared.name.ClassName.TheVariants.{Api}
+use Rattle.jc_names.specs.declared.name.MethodName.{MethodName}
 use Rattle.jc_link.specs.Found.{class_in}
 use Rattle.jc_link.specs.MemberType.{counted, member_type_of}
 use Rattle.jc_link.specs.Target.{pool_target_of}

@@ -16,8 +16,8 @@ use Rattle.jc_classes.specs.Methods.{method_name, virtual_method_of}
 use Rattle.jc_classes.specs.Record.{declared_size}
 use Rattle.jc_classes.specs.Subtype.{is_class_at}
 use Rattle.jc_classes.specs.World.{class_at, class_named, import_of, superclass_of}
-use Rattle.jc_classes.specs.declared.name.ClassName.{ClassName}
-use Rattle.jc_classes.specs.declared.name.MethodName.{MethodName}
+use Rattle.jc_names.specs.declared.name.ClassName.{ClassName}
+use Rattle.jc_names.specs.declared.name.MethodName.{MethodName}
 use Rattle.jc_link.specs.declared.named.Named.{Named}
 use Rattle.jc_link.specs.declared.named.Named.TheVariants as Names
 use Rattle.jc_link.specs.declared.named.StaticPlace.{StaticPlace}

@@ -3,9 +3,10 @@ use Rattle.std.specs.Prelude.{◌≡◌, ◌⊎◌, ℕ, false, List, Some, None
 use Rattle.jc_cap_desc.specs.Shape.{ClassShape, Shape}
 use Rattle.jc_api.specs.declared.class.ApiClass.TheVariants.{Object}
 use Rattle.jc_classes.specs.Members.{name_of}
-use Rattle.jc_classes.specs.World.{class_at, home_of, superclass_of}
-use Rattle.jc_classes.specs.declared.name.ClassName.{ClassName}
-use Rattle.jc_classes.specs.declared.name.ClassName.TheVariants.{Api}
+use Rattle.jc_names.specs.Names.{home_of}
+use Rattle.jc_classes.specs.World.{class_at, superclass_of}
+use Rattle.jc_names.specs.declared.name.ClassName.{ClassName}
+use Rattle.jc_names.specs.declared.name.ClassName.TheVariants.{Api}
 use Rattle.jc_link.specs.Classes.{lacks_superclass, leads_round, lists_no_interface, has_unknown_type, has_field_past_size, has_bad_entry, has_other_nargs}
 use Rattle.jc_link.specs.Inherited.{loses_method, overrides_with_another_type, is_unfinished}
 

@@ -2,7 +2,7 @@
 use Rattle.std.specs.Prelude.{◌≡◌, ℕ, ◌+◌, Bool, List}
 use Rattle.std.specs.List.{list_any}
 use Rattle.jc_cap_desc.specs.Shape.{Shape}
-use Rattle.jc_classes.specs.declared.name.ClassName.{ClassName}
+use Rattle.jc_names.specs.declared.name.ClassName.{ClassName}
 use Rattle.jc_link.specs.Inherited.{ListedRow, rows_along}
 
 -- a class on the way up, with so many classes to go: what a test says of the rows from here is the whole answer, and of the

@@ -11,10 +11,11 @@ use Rattle.jc_classes.specs.Members.{DeclaredMethod, method_at}
 use Rattle.jc_classes.specs.Methods.{interface_method_of, interface_visit, virtual_method_of}
 use Rattle.jc_classes.specs.Subtype.{is_class_at, IsOrderly}
 use Rattle.jc_classes.specs.Walk.{found, most_classes}
-use Rattle.jc_classes.specs.World.{class_at, home_of, superclass_of}
-use Rattle.jc_classes.specs.declared.name.ClassName.{ClassName}
-use Rattle.jc_classes.specs.declared.name.ClassName.TheVariants.{Api}
-use Rattle.jc_classes.specs.declared.name.MethodName.{MethodName}
+use Rattle.jc_names.specs.Names.{home_of}
+use Rattle.jc_classes.specs.World.{class_at, superclass_of}
+use Rattle.jc_names.specs.declared.name.ClassName.{ClassName}
+use Rattle.jc_names.specs.declared.name.ClassName.TheVariants.{Api}
+use Rattle.jc_names.specs.declared.name.MethodName.{MethodName}
 use Rattle.jc_link.specs.Classes.{words_of}
 use Rattle.jc_link.specs.MemberType.{declared_type_of, member_type_of, method_type_of}
 use Rattle.jc_link.specs.Named.{cells_above, instance_field_at, is_concrete, size_of, static_field_at}

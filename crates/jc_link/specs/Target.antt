@@ -7,9 +7,9 @@ use Rattle.jc_cap_desc.specs.Shape.{Shape}
 use Rattle.jc_cap_pool.specs.declared.entry.PoolEntry.{PoolEntry}
 use Rattle.jc_classes.specs.Members.{DeclaredMethod, method_at}
 use Rattle.jc_classes.specs.Walk.{most_classes}
-use Rattle.jc_classes.specs.World.{home_of}
-use Rattle.jc_classes.specs.declared.name.ClassName.{ClassName}
-use Rattle.jc_classes.specs.declared.name.MethodName.{MethodName}
+use Rattle.jc_names.specs.Names.{home_of}
+use Rattle.jc_names.specs.declared.name.ClassName.{ClassName}
+use Rattle.jc_names.specs.declared.name.MethodName.{MethodName}
 use Rattle.jc_link.specs.MemberType.{as_member, declared_type_of, field_type_of, method_type_of}
 use Rattle.jc_link.specs.Named.{cells_above, instance_field_at, named_by, static_field_at}
 use Rattle.jc_link.specs.declared.named.Named.{Named}

@@ -8,7 +8,7 @@ use Rattle.jc_base.specs.declared.fault.LoadFault.TheVariants.{MissingImport, Un
 use Rattle.jc_cap_desc.specs.Shape.{ClassShape, Package, Shape}
 use Rattle.jc_classes.specs.Growth.{grown}
 use Rattle.jc_classes.specs.Members.{name_of}
-use Rattle.jc_classes.specs.declared.name.ClassName.{ClassName}
+use Rattle.jc_names.specs.declared.name.ClassName.{ClassName}
 use Rattle.jc_link.specs.Classes.{has_bad_entry, has_field_past_size, has_field_twice, has_other_nargs, has_unknown_type, lacks_superclass, leads_round, lists_no_interface}
 use Rattle.jc_link.specs.Imports.{first_unmet, is_there_already}
 use Rattle.jc_link.specs.Inherited.{is_unfinished, loses_method, overrides_with_another_type}

@@ -12,7 +12,8 @@ ghost use Rattle.jc_link.specs.Classes.{lacks_superclass, leads_round, lists_no_
 use crate::types::{is_known_field, is_known_method};
 use jc_base::ClassRef;
 use jc_cap_desc::FieldPlace;
-use jc_classes::{Class, ClassName, ClassTable, DeclaredMethod, Field, Method, method_name};
+use jc_classes::{Class, ClassTable, DeclaredMethod, Field, Method, method_name};
+use jc_names::ClassName;
 
 /// How many classes and interfaces there are at most.
 pub(crate) const MOST_CLASSES: u16 = 17_085;

@@ -12,7 +12,8 @@ ghost use Rattle.jc_link.specs.Named.{is_instance_field, is_static_field, instan
 use crate::classes::MOST_CLASSES;
 use crate::named::StaticPlace;
 use jc_cap_desc::FieldPlace;
-use jc_classes::{Class, ClassName, ClassTable, Field, PackageShape};
+use jc_classes::{Class, ClassTable, Field, PackageShape};
+use jc_names::ClassName;
 
 /// Whether this is the place of a field of objects, under a token.
 fn is_instance_field(token: u8, place: FieldPlace) -> bool

@@ -8,9 +8,8 @@ ghost use Rattle.jc_link.specs.Inherited.{loses_at, loses_method, is_same_method
 use crate::classes::MOST_CLASSES;
 use crate::pool::{is_abstract_method, is_concrete, method_above};
 use crate::types::{implements_type, is_known_method, same_method_type};
-use jc_classes::{
-    Class, ClassName, ClassTable, ImplementedInterface, Method, MethodName, anchor_behind,
-};
+use jc_classes::{Class, ClassTable, ImplementedInterface, Method, anchor_behind};
+use jc_names::{ClassName, MethodName};
 
 /// Tokens from here on are package-visible.
 const PACKAGE_VISIBLE: u8 = 128;

@@ -1,6 +1,6 @@
 //! What entries of the constant pool name.
 
-use jc_classes::{ClassName, MethodName};
+use jc_names::{ClassName, MethodName};
 
 /// Where a static member stands.
 #[derive(Clone, Copy)]

@@ -10,7 +10,8 @@ use crate::fields::{instance_field_at, static_field_at};
 use crate::named::{Named, StaticPlace};
 use jc_cap_desc::Package;
 use jc_cap_pool::{MemberRef, PoolEntry, StaticRef};
-use jc_classes::{ClassName, ClassTable, Export, Method, MethodName, method_name};
+use jc_classes::{ClassTable, Export, Method, method_name};
+use jc_names::{ClassName, MethodName};
 
 /// What a package exports under a class token.
 fn export_at(table: &ClassTable, there: usize, class: u8) -> Option<&Export>

@@ -16,7 +16,8 @@ use crate::types::{return_agrees, type_agrees};
 use jc_base::{ClassRef, DeclaredType, ReturnType};
 use jc_cap_desc::Package;
 use jc_cap_pool::{Descriptor, Parameters, PoolEntry};
-use jc_classes::{ClassName, ClassTable, MethodName};
+use jc_classes::ClassTable;
+use jc_names::{ClassName, MethodName};
 
 /// Whether the types that an entry states are those of parameters, as two packages spell them.
 fn parameters_agree(

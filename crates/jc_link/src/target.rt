@@ -15,7 +15,8 @@ use crate::types::{return_found, type_found};
 use jc_base::{ClassRef, DeclaredType, ReturnType};
 use jc_cap_desc::Package;
 use jc_cap_pool::PoolEntry;
-use jc_classes::{ClassName, ClassTable, Method, MethodName};
+use jc_classes::{ClassTable, Method};
+use jc_names::{ClassName, MethodName};
 use std::alloc::{AllocError, Global};
 use std::marker::Model;
 
@@ -29,7 +30,7 @@ pub struct MemberType {
 
 impl Model for MemberType {
     ghost use Rattle.jc_base.specs.Signature.{Signature};
-    ghost use Rattle.jc_classes.specs.declared.name.ClassName.{ClassName};
+    ghost use Rattle.jc_names.specs.declared.name.ClassName.{ClassName};
 
     ghost Value = { Signature ClassName };
 

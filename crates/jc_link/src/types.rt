@@ -9,7 +9,8 @@ ghost use Rattle.jc_link.specs.PrivateAgree.{type_agrees, types_agree, return_ag
 
 use jc_api::ApiClass;
 use jc_base::{ClassRef, DeclaredType, ReturnType};
-use jc_classes::{ClassName, ClassTable, DeclaredMethod, Field, Method, MethodName};
+use jc_classes::{ClassTable, DeclaredMethod, Field, Method};
+use jc_names::{ClassName, MethodName};
 
 /// A class as it counts in types: an interface as Object.
 pub fn counted(table: &ClassTable, class: ClassName) -> ClassName

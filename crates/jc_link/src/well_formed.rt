@@ -10,7 +10,8 @@ use crate::classes::{
     lacks_superclass, leads_round, lists_no_interface,
 };
 use crate::inherited::{is_unfinished, loses_method, overrides_with_another_type};
-use jc_classes::{Class, ClassName, ClassTable, PackageShape};
+use jc_classes::{Class, ClassTable, PackageShape};
+use jc_names::ClassName;
 
 /// Whether something is wrong with a class by itself.
 fn is_bad_alone(table: &ClassTable, home: usize, class: ClassName, found: &Class) -> bool

@@ -35,8 +35,9 @@ use Rattle.jc_code.specs.declared.object.TestedType.TheVariants as Tested
 use Rattle.jc_code.specs.declared.object.WordKind.{WordKind}
 use Rattle.jc_code.specs.declared.object.WordKind.TheVariants as Kinds
 use Rattle.jc_classes.specs.Subtype.{is_class_at, is_class_below}
-use Rattle.jc_classes.specs.World.{class_at, home_of}
-use Rattle.jc_classes.specs.declared.name.ClassName.{ClassName}
+use Rattle.jc_names.specs.Names.{home_of}
+use Rattle.jc_classes.specs.World.{class_at}
+use Rattle.jc_names.specs.declared.name.ClassName.{ClassName}
 use Rattle.jc_link.specs.KnownTypes.{is_known_return, is_known_signature, is_known_target, is_known_type}
 use Rattle.jc_link.specs.MemberType.{counted, member_type_of}
 use Rattle.jc_link.specs.declared.target.PoolTarget.{PoolTarget}

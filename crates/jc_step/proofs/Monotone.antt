@@ -9,7 +9,7 @@ use Rattle.jc_code.specs.declared.instr.Shuffle.TheVariants.{Pop, Duplicate, Swa
 use Rattle.jc_code.specs.declared.instr.WordOperation.{WordOperation}
 use Rattle.jc_code.specs.declared.instr.WordOperation.TheVariants.{Nop, Push, Load, Store, Increment, Shuffle, Binary, Unary, Branch, StableSwitch, LookupSwitch, ReturnWord}
 use Rattle.jc_classes.specs.Subtype.{is_class_below}
-use Rattle.jc_classes.specs.declared.name.ClassName.{ClassName}
+use Rattle.jc_names.specs.declared.name.ClassName.{ClassName}
 use Rattle.jc_types.specs.declared.ty.Ty.{Ty}
 use Rattle.jc_types.specs.Changes.{with_operands, drop_types, duplicate_types, swap_types}
 use Rattle.jc_types.specs.State.{Types, all_below, types_below}

@@ -1,6 +1,6 @@
 -- Demands, and what is given, under the order of types: one lemma for each kind.
 use Rattle.std.proofs.Common.{◌≡◌, ℕ, zero, suc, List, [], ◌∷◌, Bool, true, false, ◌&&◌, ◌||◌, is_some, slice_get, unwrap_or, refl}
-use Rattle.jc_classes.specs.declared.name.ClassName.{ClassName}
+use Rattle.jc_names.specs.declared.name.ClassName.{ClassName}
 use Rattle.jc_types.specs.declared.ty.Ty.{Ty}
 use Rattle.jc_types.specs.declared.ty.Ty.TheVariants.{Top, Word, Null, Class, BooleanArray, ByteArray, ShortArray, ReferenceArray}
 use Rattle.jc_types.specs.State.{Types, all_below, types_below}

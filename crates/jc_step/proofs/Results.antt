@@ -6,8 +6,8 @@ use Rattle.jc_base.specs.declared.declared_type.DeclaredType.{DeclaredType}
 use Rattle.jc_base.specs.declared.declared_type.ReturnType.{ReturnType}
 use Rattle.jc_cap_desc.specs.Shape.{Shape}
 use Rattle.jc_classes.specs.Members.{DeclaredMethod}
-use Rattle.jc_classes.specs.World.{home_of}
-use Rattle.jc_classes.specs.declared.name.ClassName.{ClassName}
+use Rattle.jc_names.specs.Names.{home_of}
+use Rattle.jc_names.specs.declared.name.ClassName.{ClassName}
 use Rattle.jc_link.specs.Found.{types_found, return_found}
 use Rattle.jc_link.specs.MemberType.{type_class, member_type_of}
 use Rattle.jc_step.specs.Method.{returned_type, result_of}

@@ -9,8 +9,9 @@ use Rattle.jc_base.specs.declared.declared_type.DeclaredType.{DeclaredType}
 use Rattle.jc_base.specs.declared.declared_type.ReturnType.{ReturnType}
 use Rattle.jc_cap_class.specs.Component.{is_class}
 use Rattle.jc_cap_desc.specs.Shape.{ClassShape, MethodShape, Shape}
-use Rattle.jc_classes.specs.World.{class_at, home_of}
-use Rattle.jc_classes.specs.declared.name.ClassName.{ClassName}
+use Rattle.jc_names.specs.Names.{home_of}
+use Rattle.jc_classes.specs.World.{class_at}
+use Rattle.jc_names.specs.declared.name.ClassName.{ClassName}
 use Rattle.jc_link.specs.Found.{type_found, types_found, return_found}
 use Rattle.jc_link.specs.MemberType.{type_class, member_type_of}
 use Rattle.jc_step.specs.Coded.{argument, argument_found, argument_spelled}

@@ -3,8 +3,8 @@ use Rattle.std.specs.Prelude.{ℕ, List, [], ◌∷◌, map, Option, Some, None}
 use Rattle.jc_base.specs.declared.class_ref.ClassRef.{ClassRef}
 use Rattle.jc_base.specs.declared.declared_type.DeclaredType.{DeclaredType}
 use Rattle.jc_cap_desc.specs.Shape.{Shape}
-use Rattle.jc_classes.specs.World.{home_of}
-use Rattle.jc_classes.specs.declared.name.ClassName.{ClassName}
+use Rattle.jc_names.specs.Names.{home_of}
+use Rattle.jc_names.specs.declared.name.ClassName.{ClassName}
 use Rattle.jc_link.specs.Found.{type_found}
 use Rattle.jc_link.specs.MemberType.{type_class}
 use Rattle.jc_types.specs.declared.ty.Ty.TheVariants.{Top}

@@ -2,7 +2,7 @@
 -- of the world.
 use Rattle.std.specs.Prelude.{◌≡◌, ℕ, Bool, true, Some, Result, Ok, slice_get}
 use Rattle.jc_base.specs.declared.reason.Reason.{Reason}
-use Rattle.jc_classes.specs.declared.name.ClassName.{ClassName}
+use Rattle.jc_names.specs.declared.name.ClassName.{ClassName}
 use Rattle.jc_link.specs.KnownTypes.{NameClasses, is_known_target}
 use Rattle.jc_link.specs.declared.target.PoolTarget.{PoolTarget}
 use Rattle.jc_types.specs.State.{Types, types_below}

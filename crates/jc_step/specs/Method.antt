@@ -6,7 +6,7 @@ use Rattle.jc_base.specs.declared.declared_type.ReturnType.TheVariants.{Void, Va
 use Rattle.jc_cap_desc.specs.Shape.{Shape}
 use Rattle.jc_classes.specs.Members.{DeclaredMethod, method_at}
 use Rattle.jc_classes.specs.Methods.{method_name}
-use Rattle.jc_classes.specs.declared.name.ClassName.{ClassName}
+use Rattle.jc_names.specs.declared.name.ClassName.{ClassName}
 use Rattle.jc_link.specs.Linked.{Linked}
 use Rattle.jc_link.specs.MemberType.{declared_type_of}
 use Rattle.jc_types.specs.declared.ty.Ty.{Ty}

@@ -6,7 +6,7 @@ use Rattle.std.specs.Prelude.{ℕ, ◌+◌, ◌-◌, List, [], ◌∷◌, length
 use Rattle.std.specs.Option.{option_map_or}
 use Rattle.jc_base.specs.declared.reason.Reason.{Reason}
 use Rattle.jc_base.specs.declared.reason.Reason.TheVariants.{BadOperand, BadLocal, StackUnder, WrongType, StackOver}
-use Rattle.jc_classes.specs.declared.name.ClassName.{ClassName}
+use Rattle.jc_names.specs.declared.name.ClassName.{ClassName}
 use Rattle.jc_types.specs.declared.ty.Ty.{Ty}
 use Rattle.jc_types.specs.declared.ty.Ty.TheVariants.{Top, Null, Class}
 use Rattle.jc_types.specs.Ty.{class_of_components, class_of_objects, is_below, is_boolean_array, is_byte_array, is_null, is_short_array}

@@ -6,7 +6,8 @@ ghost use Rattle.jc_step.specs.Coded.{argument, argument_spelled, demands_of};
 
 use crate::row::{Demand, Given, Place};
 use jc_base::{ClassRef, DeclaredType};
-use jc_classes::{ClassName, ClassTable};
+use jc_classes::ClassTable;
+use jc_names::ClassName;
 use jc_link::type_found;
 use jc_types::{Classes, Ty, is_below};
 

@@ -3,7 +3,7 @@
 ghost use Rattle.std.specs.Prelude.{◌≡◌, ℕ, Bool, true, Option, Ok};
 ghost use Rattle.jc_base.specs.declared.declared_type.DeclaredType.{DeclaredType};
 ghost use Rattle.jc_classes.specs.Subtype.{IsOrder, is_class_at, is_class_below};
-ghost use Rattle.jc_classes.specs.declared.name.ClassName.{ClassName};
+ghost use Rattle.jc_names.specs.declared.name.ClassName.{ClassName};
 ghost use Rattle.jc_code.specs.declared.instr.Operation.{Operation};
 ghost use Rattle.jc_code.specs.declared.instr.WordOperation.{WordOperation};
 ghost use Rattle.jc_link.specs.KnownTypes.{is_known_type};

@@ -19,7 +19,8 @@ use crate::setting::Setting;
 use crate::words::{WORD, reads, takes, writes};
 use jc_api::ApiClass;
 use jc_base::Reason;
-use jc_classes::{ClassName, ClassTable};
+use jc_classes::ClassTable;
+use jc_names::ClassName;
 use jc_code::{
     Creation, FieldAccess, Form, ObjectOperation, ReferenceCondition, TestedType, WordKind,
 };

@@ -5,7 +5,7 @@ use Rattle.std.specs.Option.{option_map_or}
 use Rattle.jc_store.specs.declared.kind.ClearingEvent.{ClearingEvent}
 use Rattle.jc_store.specs.declared.kind.ClearingEvent.TheVariants.{Reset, Deselect}
 use Rattle.jc_store.specs.declared.kind.Kind.{Kind}
-use Rattle.jc_store.specs.declared.owner.Owner.{Owner}
+use Rattle.jc_names.specs.declared.owner.Owner.{Owner}
 
 -- what it is, whose it is, and its components: the fields of an instance, those of the topmost class first, or the elements of an array
 pub record Object (V : Type 0) : Type 0 where

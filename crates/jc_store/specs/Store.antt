@@ -2,7 +2,7 @@
 use Rattle.std.specs.Prelude.{◌≡◌, ◌⊎◌, ℕ, ◌+◌, ◌<◌, ◌≤◌, length, replicate, Some}
 use Rattle.jc_store.specs.Heap.{Heap, Object, cells_in, object_at}
 use Rattle.jc_store.specs.declared.kind.Kind.{Kind}
-use Rattle.jc_store.specs.declared.owner.Owner.{Owner}
+use Rattle.jc_names.specs.declared.owner.Owner.{Owner}
 
 -- its objects, and the most objects and cells that it may have
 pub record Store : Type 0 where

@@ -3,7 +3,7 @@
 ghost use Rattle.std.specs.Prelude.{◌≡◌, ◌+◌, ◌-◌, ◌<◌, ◌≤◌, Some, length, slice_get};
 
 use crate::kind::Kind;
-use crate::owner::Owner;
+use jc_names::Owner;
 
 /// An object: what it is, whose it is, where its components begin among the cells, and how many it has.
 #[derive(Clone, Copy)]

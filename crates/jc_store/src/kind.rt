@@ -1,6 +1,6 @@
 //! Kinds of objects.
 
-use jc_classes::ClassName;
+use jc_names::ClassName;
 
 /// What an object is an instance of.
 #[derive(Clone, Copy, Debug, PartialEq, Eq)]

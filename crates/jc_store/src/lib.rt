@@ -4,9 +4,7 @@
 mod clearing;
 mod header;
 mod kind;
-mod owner;
 mod store;
 
 pub use kind::{ClearingEvent, Kind, Mark, ObjectType};
-pub use owner::Owner;
 pub use store::Store;

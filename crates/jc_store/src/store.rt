@@ -8,7 +8,7 @@ ghost use Rattle.jc_store.specs.PrivateLaid.{HasRoom};
 use crate::clearing::clear_objects;
 use crate::header::{Header, cell_at, header_at};
 use crate::kind::{ClearingEvent, Kind};
-use crate::owner::Owner;
+use jc_names::Owner;
 use std::alloc::{AllocError, Global};
 use std::marker::Model;
 

@@ -3,7 +3,7 @@ use Rattle.std.proofs.Common.{ℕ, ◌+◌, ◌*◌, ◌≤◌, Bool, List, [], 
 use Rattle.std.proofs.lemmas.List.Sums.{sum_by-cons}
 use Rattle.std.specs.List.{sum_by}
 use Rattle.jc_classes.specs.Subtype.{IsClassLattice}
-use Rattle.jc_classes.specs.declared.name.ClassName.{ClassName}
+use Rattle.jc_names.specs.declared.name.ClassName.{ClassName}
 use Rattle.jc_types.specs.declared.ty.Ty.{Ty}
 use Rattle.jc_types.specs.Ty.{height_of}
 use Rattle.jc_types.specs.PrivateHeight.{height_at_most}

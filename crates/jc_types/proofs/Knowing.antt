@@ -3,8 +3,8 @@ use Rattle.std.proofs.Common.{◌≡◌, ℕ, zero, suc, ◌&&◌, Bool, true, f
 use Rattle.std.proofs.lemmas.List.Folds.{list_all-append}
 use Rattle.std.specs.List.{list_all}
 use Rattle.jc_api.specs.declared.class.ApiClass.TheVariants.{Object}
-use Rattle.jc_classes.specs.declared.name.ClassName.{ClassName}
-use Rattle.jc_classes.specs.declared.name.ClassName.TheVariants.{Api}
+use Rattle.jc_names.specs.declared.name.ClassName.{ClassName}
+use Rattle.jc_names.specs.declared.name.ClassName.TheVariants.{Api}
 use Rattle.jc_types.specs.Known.{AreKnown, is_known}
 use Rattle.jc_types.specs.State.{Types, entry_types, joined_all, joined_types}
 use Rattle.jc_types.specs.Ty.{is_reference, is_word, join_of}

@@ -4,7 +4,7 @@ use Rattle.std.proofs.lemmas.Bool.{le-ltb}
 use Rattle.std.proofs.lemmas.List.{length-reverse, length-take-le, drop-take}
 use Rattle.jc_base.specs.declared.reason.Reason.TheVariants.{WrongType}
 use Rattle.jc_base.proofs.StackViews.{dropped, topmost}
-use Rattle.jc_classes.specs.declared.name.ClassName.{ClassName}
+use Rattle.jc_names.specs.declared.name.ClassName.{ClassName}
 use Rattle.jc_types.specs.declared.ty.Ty.{Ty}
 use Rattle.jc_types.specs.State.{Types, all_below}
 use Rattle.jc_types.specs.Changes.{with_operands, drop_types, take_types}

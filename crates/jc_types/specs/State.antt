@@ -2,7 +2,7 @@
 -- and of the operand stack at each instruction).
 use Rattle.std.specs.Prelude.{◌≡◌, ℕ, ◌+◌, ◌==◌, List, [], ◌∷◌, ◌++◌, length, replicate, reverse, Bool, true, false, ◌&&◌}
 use Rattle.std.specs.List.{sum_by}
-use Rattle.jc_classes.specs.declared.name.ClassName.{ClassName}
+use Rattle.jc_names.specs.declared.name.ClassName.{ClassName}
 use Rattle.jc_types.specs.declared.ty.Ty.{Ty}
 use Rattle.jc_types.specs.declared.ty.Ty.TheVariants.{Top}
 use Rattle.jc_types.specs.Ty.{is_below, join_of, height_of}

@@ -2,10 +2,11 @@
 
 ghost use Rattle.std.specs.Prelude.{◌≡◌, Bool, []};
 ghost use Rattle.jc_classes.specs.Subtype.{is_class_below};
-ghost use Rattle.jc_classes.specs.declared.name.ClassName.{ClassName};
+ghost use Rattle.jc_names.specs.declared.name.ClassName.{ClassName};
 
 use jc_api::ApiClass;
-use jc_classes::{ClassName, ClassTable};
+use jc_classes::ClassTable;
+use jc_names::ClassName;
 
 /// Classes in an order: those of a table, or none.
 pub trait Classes {

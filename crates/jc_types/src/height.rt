@@ -8,7 +8,8 @@ ghost use Rattle.jc_types.specs.Ty.{height_of};
 
 use crate::ty::Ty;
 use jc_api::ApiClass;
-use jc_classes::{ClassName, ClassTable};
+use jc_classes::ClassTable;
+use jc_names::ClassName;
 
 /// How many classes and interfaces there are at most.
 const MOST_CLASSES: u32 = 17_085;

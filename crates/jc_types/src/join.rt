@@ -7,7 +7,8 @@ ghost use Rattle.jc_types.specs.State.{joined_all};
 
 use crate::ty::Ty;
 use jc_api::ApiClass;
-use jc_classes::{ClassName, ClassTable};
+use jc_classes::ClassTable;
+use jc_names::ClassName;
 
 /// Any object.
 const OBJECT: Ty = Ty::Class(ClassName::Api(ApiClass::Object));

@@ -3,8 +3,8 @@
 ghost use Rattle.std.specs.Prelude.{◌≡◌, ℕ, Bool, true, List};
 ghost use Rattle.std.specs.List.{list_all};
 ghost use Rattle.jc_api.specs.declared.class.ApiClass.TheVariants.{Object};
-ghost use Rattle.jc_classes.specs.declared.name.ClassName.{ClassName};
-ghost use Rattle.jc_classes.specs.declared.name.ClassName.TheVariants.{Api};
+ghost use Rattle.jc_names.specs.declared.name.ClassName.{ClassName};
+ghost use Rattle.jc_names.specs.declared.name.ClassName.TheVariants.{Api};
 ghost use Rattle.jc_types.specs.Known.{AreKnown, is_known};
 ghost use Rattle.jc_types.specs.State.{Types, entry_types, joined_types};
 ghost use Rattle.jc_types.specs.declared.ty.Ty.{Ty};

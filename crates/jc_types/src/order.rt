@@ -6,7 +6,7 @@ ghost use Rattle.jc_types.specs.Ty.{is_below};
 
 use crate::classes::Classes;
 use crate::ty::Ty;
-use jc_classes::ClassName;
+use jc_names::ClassName;
 
 /// Whether there is a class, and it is the other one or lies below it.
 fn is_some_below<C: Classes>(class: Option<ClassName>, above: ClassName, classes: &C) -> bool

@@ -5,7 +5,7 @@ ghost use Rattle.jc_types.specs.Ty.{type_of_declared, class_of_objects, class_of
 
 use jc_api::ApiClass;
 use jc_base::DeclaredType;
-use jc_classes::ClassName;
+use jc_names::ClassName;
 
 /// What is above all classes and interfaces.
 const OBJECT: ClassName = ClassName::Api(ApiClass::Object);

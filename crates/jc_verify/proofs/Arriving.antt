@@ -9,7 +9,7 @@ use Rattle.jc_check.specs.Package.{package_rules}
 use Rattle.jc_check.specs.Typing.{Leads}
 use Rattle.jc_classes.specs.Subtype.{classes_above, is_class_below}
 use Rattle.jc_classes.specs.Walk.{most_classes}
-use Rattle.jc_classes.specs.declared.name.ClassName.{ClassName}
+use Rattle.jc_names.specs.declared.name.ClassName.{ClassName}
 use Rattle.jc_link.specs.Linked.{Linked}
 use Rattle.jc_types.specs.State.{StateWithRoom, Types, all_below, height_of_types, types_below}
 use Rattle.jc_types.specs.Ty.{is_below}

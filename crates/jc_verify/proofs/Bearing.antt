@@ -9,7 +9,7 @@ use Rattle.jc_base.specs.NumberSet.{has_number}
 use Rattle.jc_cert.specs.Cert.{Row, Stated}
 use Rattle.jc_cert.specs.declared.stated_type.SpelledClass.{SpelledClass}
 use Rattle.jc_cert.specs.declared.stated_type.StatedType.{StatedType}
-use Rattle.jc_classes.specs.declared.name.ClassName.{ClassName}
+use Rattle.jc_names.specs.declared.name.ClassName.{ClassName}
 use Rattle.jc_code.specs.Instructions.{instr_at}
 use Rattle.jc_code.specs.Listing.{IsListing, PlacedInstr, begins, placed_at}
 use Rattle.jc_code.specs.Targets.{falls_of, targets_of}

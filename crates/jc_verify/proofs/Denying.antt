@@ -5,7 +5,7 @@ use Rattle.std.proofs.lemmas.Option.{none-some}
 use Rattle.jc_base.proofs.Binding.{ok_err}
 use Rattle.jc_base.specs.declared.reason.Reason.{Reason}
 use Rattle.jc_classes.specs.Subtype.{is_class_below}
-use Rattle.jc_classes.specs.declared.name.ClassName.{ClassName}
+use Rattle.jc_names.specs.declared.name.ClassName.{ClassName}
 use Rattle.jc_code.specs.declared.instr.Instr.{Instr}
 use Rattle.jc_link.specs.Linked.{Linked}
 use Rattle.jc_types.specs.State.{Types}

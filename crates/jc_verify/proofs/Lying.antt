@@ -12,7 +12,7 @@ use Rattle.jc_check.specs.Method.{Handler, Method, caught_types}
 use Rattle.jc_check.specs.Package.{package_rules}
 use Rattle.jc_check.specs.Typing.{BranchLeads, CatchLeads, HandlerLeads, IsFine, Leads, Typing}
 use Rattle.jc_classes.specs.Subtype.{is_class_below}
-use Rattle.jc_classes.specs.declared.name.ClassName.{ClassName}
+use Rattle.jc_names.specs.declared.name.ClassName.{ClassName}
 use Rattle.jc_link.specs.Linked.{Linked}
 use Rattle.jc_types.specs.State.{StateWithRoom, Types, all_below, has_shape_of, types_below}
 use Rattle.jc_types.specs.declared.ty.Ty.TheVariants.{Class}

@@ -3,7 +3,7 @@ use Rattle.std.proofs.Common.{◌≡◌, ℕ, suc, ◌+◌, ◌<◌, ◌≤◌, 
 use Rattle.std.specs.List.{AllByRecursion}
 use Rattle.jc_cert.specs.Cert.{PcsAscend, Stated}
 use Rattle.jc_cert.specs.declared.stated_type.SpelledClass.{SpelledClass}
-use Rattle.jc_classes.specs.declared.name.ClassName.{ClassName}
+use Rattle.jc_names.specs.declared.name.ClassName.{ClassName}
 use Rattle.jc_link.specs.Linked.{Linked}
 use Rattle.jc_types.specs.State.{StateWithRoom}
 use Rattle.jc_check.specs.Method.{Method}

@@ -2,7 +2,7 @@
 use Rattle.std.specs.Prelude.{◌≡◌, ⊤, ℕ, true, List, reverse, Some, Ok, Contains, slice_get}
 use Rattle.std.specs.List.{AllByRecursion}
 use Rattle.jc_cap_desc.specs.Shape.{Shape}
-use Rattle.jc_classes.specs.declared.name.ClassName.{ClassName}
+use Rattle.jc_names.specs.declared.name.ClassName.{ClassName}
 use Rattle.jc_classes.specs.Subtype.{is_class_at, is_class_below}
 use Rattle.jc_code.specs.declared.instr.Operation.{Operation}
 use Rattle.jc_link.specs.Linked.{Linked}

@@ -3,7 +3,7 @@ use Rattle.std.specs.Prelude.{◌≡◌, ℕ, List, [], ◌∷◌, length, rever
 use Rattle.std.specs.List.{AllByRecursion}
 use Rattle.jc_cert.specs.Cert.{IsStatedType, Stated}
 use Rattle.jc_cert.specs.declared.stated_type.SpelledClass.{SpelledClass}
-use Rattle.jc_classes.specs.declared.name.ClassName.{ClassName}
+use Rattle.jc_names.specs.declared.name.ClassName.{ClassName}
 use Rattle.jc_types.specs.State.{StateWithRoom, Types}
 use Rattle.jc_check.specs.Claim.{types_claimed}
 use Rattle.jc_verify.specs.PrivateFlow.{Places}

@@ -16,7 +16,8 @@ use crate::place::Place;
 use jc_base::Reason;
 use jc_cert::{SpelledClass, StateRow, StatedType};
 use jc_check::{WordFault, name_of_class};
-use jc_classes::{ClassName, ClassTable};
+use jc_classes::ClassTable;
+use jc_names::ClassName;
 use jc_types::{State, Ty};
 use std::alloc::{AllocError, Global};
 

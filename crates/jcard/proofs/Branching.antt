@@ -15,8 +15,10 @@ use Rattle.jc_check.specs.Method.{Method}
 use Rattle.jc_check.specs.Rules.{word_rules}
 use Rattle.jc_check.specs.Typing.{Typing, BranchLeads}
 use Rattle.std.specs.Ordering.{int_eq}
-use Rattle.jcard.specs.Shorts.{short, holds}
-use Rattle.jcard.specs.Tagged.{TaggedValue, Frame, goes, jumps, stable_offset, lookup_offset, act_word}
+use Rattle.jc_words.specs.Shorts.{short, holds}
+use Rattle.jc_words.specs.Values.{TaggedValue}
+use Rattle.jc_words.specs.Shorts.{stable_offset, lookup_offset}
+use Rattle.jcard.specs.Tagged.{Frame, goes, jumps, act_word}
 use Rattle.jcard.specs.PrivateWords.{UntaggedFrame, continues, pc_of}
 use Rattle.jcard.specs.PrivateAgree.{Pointwise, HasType, Simulates}
 use Rattle.jcard.specs.PrivateEffect.{parts_of}

@@ -12,7 +12,7 @@ use Rattle.jc_base.proofs.Binding.{both_true}
 use Rattle.jc_code.specs.declared.instr.When.TheVariants.{Always, Zero, Compare}
 use Rattle.jc_code.specs.declared.instr.WordOperation.{WordOperation}
 use Rattle.jc_code.specs.declared.instr.WordOperation.TheVariants.{Nop, Push, Load, Store, Increment, Shuffle, Binary, Unary, Branch, StableSwitch, LookupSwitch, ReturnWord}
-use Rattle.jc_classes.specs.declared.name.ClassName.{ClassName}
+use Rattle.jc_names.specs.declared.name.ClassName.{ClassName}
 use Rattle.jc_types.specs.declared.ty.Ty.{Ty}
 use Rattle.jc_types.specs.declared.ty.Ty.TheVariants.{Top, Word}
 use Rattle.jc_types.specs.Changes.{with_operands, with_local, local_type, set_local_type, push_type, take_types}

@@ -10,7 +10,8 @@ use Rattle.jcard.specs.declared.answer.EvalAnswer.{EvalAnswer}
 use Rattle.jcard.specs.declared.answer.EvalAnswer.TheVariants.{Value, Throws, Refused, BadCertificate, StepsUsedUp, Memory}
 use Rattle.jcard.specs.declared.run.Ending.{Ending}
 use Rattle.jcard.specs.declared.run.Ending.TheVariants as endings
-use Rattle.jcard.specs.Tagged.{Word, Ref, Null, Unset, RunEnd, Gave, Threw, UsedUp, IsStuck, ArithmeticException, runtime_call, first_frame}
+use Rattle.jc_words.specs.Values.{Word, Ref, Null, Unset}
+use Rattle.jcard.specs.Tagged.{RunEnd, Gave, Threw, UsedUp, IsStuck, ArithmeticException, runtime_call, first_frame}
 use Rattle.jcard.specs.PrivateRuns.{EndsAs}
 use Rattle.jcard.specs.Eval.{SpellsCert, SpellsNone, HasFirstFault, RunEnds, RunGives, IsAnswer, tells_fault, tells_end}
 use Rattle.jcard.specs.PrivateEval.{answer_to}

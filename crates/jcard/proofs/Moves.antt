@@ -18,8 +18,9 @@ use Rattle.jc_types.specs.Changes.{with_operands, push_type, take_types, drop_ty
 use Rattle.jc_check.specs.Method.{Method}
 use Rattle.jc_check.specs.Rules.{word_rules}
 use Rattle.jc_check.specs.Typing.{Typing, Leads}
-use Rattle.jcard.specs.Shorts.{binary_of, unary_of}
-use Rattle.jcard.specs.Tagged.{TaggedValue, Word, Frame, goes, pushed, on_result, returns_word, act_word}
+use Rattle.jc_words.specs.Shorts.{binary_of, unary_of}
+use Rattle.jc_words.specs.Values.{TaggedValue, Word}
+use Rattle.jcard.specs.Tagged.{Frame, goes, pushed, on_result, returns_word, act_word}
 use Rattle.jcard.specs.PrivateWords.{UntaggedFrame, continues, result_of, moved, Yields}
 use Rattle.jcard.specs.PrivateAgree.{Pointwise, WithoutTag, HasType, IsOperand, Simulates}
 use Rattle.jcard.specs.PrivateEffect.{fits_result, parts_of}

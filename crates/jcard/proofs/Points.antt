@@ -9,7 +9,7 @@ use Rattle.jc_types.specs.Ty.{is_below, is_null, is_word}
 use Rattle.jc_types.specs.State.{all_below}
 use Rattle.jc_base.proofs.Binding.{both_true}
 use Rattle.jc_check.specs.Rules.{word_rules}
-use Rattle.jcard.specs.Tagged.{TaggedValue, Word, Ref, Null, Unset, all_written}
+use Rattle.jc_words.specs.Values.{TaggedValue, Word, Ref, Null, Unset, all_written}
 use Rattle.jcard.specs.PrivateAgree.{Pointwise, HasType, IsWord, IsReference, IsOperand}
 
 pub point_length : {A B : Type 0} (R : A → B → Type 0) (xs : List A) (ys : List B) → Pointwise R xs ys → length xs ≡ length ys

@@ -22,7 +22,8 @@ use Rattle.jcard.specs.declared.run.Step.{Step}
 use Rattle.jcard.specs.declared.run.Step.TheVariants as went
 use Rattle.jcard.specs.declared.run.Ending.{Ending}
 use Rattle.jcard.specs.declared.run.Ending.TheVariants as endings
-use Rattle.jcard.specs.Tagged.{Word, Ref, Null, Unset, Frame, Outcome, Next, Throws, Returns, Stuck, defensive_step, RunEnd, run_on, runtime_call, first_frame}
+use Rattle.jc_words.specs.Values.{Word, Ref, Null, Unset}
+use Rattle.jcard.specs.Tagged.{Frame, Outcome, Next, Throws, Returns, Stuck, defensive_step, RunEnd, run_on, runtime_call, first_frame}
 use Rattle.jcard.specs.PrivateWords.{UntaggedFrame, UntaggedOutcome, Continues, Raises, Yields, ReadyAny, do_any}
 use Rattle.jcard.specs.PrivateAgree.{Agree, WellTyped, Simulates}
 use Rattle.jcard.specs.PrivateRuns.{Ended, ReadyFor, Performed, Follows, FollowsEach, EndsAs, CanRun}

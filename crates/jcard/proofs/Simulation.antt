@@ -19,8 +19,9 @@ use Rattle.jc_types.specs.Changes.{local_type, set_local_type, push_type, take_t
 use Rattle.jc_check.specs.Method.{Method}
 use Rattle.jc_check.specs.Rules.{word_rules}
 use Rattle.jc_check.specs.Typing.{Typing, Leads, BranchLeads}
-use Rattle.jcard.specs.Shorts.{word_of, incremented}
-use Rattle.jcard.specs.Tagged.{TaggedValue, Word, Frame, goes, jumps, pushed, act_word}
+use Rattle.jc_words.specs.Shorts.{word_of, incremented}
+use Rattle.jc_words.specs.Values.{TaggedValue, Word}
+use Rattle.jcard.specs.Tagged.{Frame, goes, jumps, pushed, act_word}
 use Rattle.jcard.specs.PrivateWords.{UntaggedFrame, continues, pc_of, do_operation, IsPc, Ready}
 use Rattle.jcard.specs.PrivateAgree.{Pointwise, WithoutTag, HasType, IsOperand, Simulates}
 use Rattle.jcard.specs.PrivateEffect.{fits, parts_of}

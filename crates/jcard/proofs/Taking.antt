@@ -12,7 +12,7 @@ use Rattle.jc_types.specs.State.{Types}
 use Rattle.jc_base.proofs.Binding.{both_true}
 use Rattle.jc_types.specs.Changes.{with_operands, local_or_fault, local_type, push_type, take_types}
 use Rattle.jc_check.specs.Rules.{word_rules}
-use Rattle.jcard.specs.Tagged.{TaggedValue, Word}
+use Rattle.jc_words.specs.Values.{TaggedValue, Word}
 use Rattle.jcard.specs.PrivateAgree.{Pointwise, WithoutTag, HasType, IsOperand}
 use Rattle.jcard.specs.PrivateEffect.{fits}
 use Rattle.jcard.proofs.Points.{as_word, point_get}

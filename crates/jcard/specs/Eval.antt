@@ -11,8 +11,9 @@ use Rattle.jc_check.specs.Carried.{CertCarriesCode}
 use Rattle.jc_check.specs.FirstFault.{fault_at, IsFirstFaultOf}
 use Rattle.jcard.specs.declared.answer.EvalAnswer.{EvalAnswer}
 use Rattle.jcard.specs.declared.answer.EvalAnswer.TheVariants.{Value, Throws, Refused, BadCertificate, StepsUsedUp, Memory}
-use Rattle.jcard.specs.Shorts.{short}
+use Rattle.jc_words.specs.Shorts.{short}
 use Rattle.jcard.specs.Tagged as machine
+use Rattle.jc_words.specs.Values.{Word}
 
 -- the bytes spell a certificate of these rows
 pub record SpellsCert (bytes : List ℕ) (rows : List Row) : Type 0 where
@@ -42,7 +43,7 @@ pub record RunEnds (code bytes : List ℕ) (steps : ℕ) (end : machine.RunEnd) 
 pub record RunGives (code bytes : List ℕ) (steps : ℕ) (n : ℤ) : Type 0 where
   pub word : ℕ
   pub is : n ≡ short word
-  pub ends : RunEnds code bytes steps (machine.Gave (machine.Word word))
+  pub ends : RunEnds code bytes steps (machine.Gave (Word word))
 
 -- an answer tells a fault of the code
 abbrev pub tells_fault : EvalAnswer → Bool

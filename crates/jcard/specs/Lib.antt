@@ -9,7 +9,6 @@ pub mod Verify
 pub mod Files
 pub mod Saying
 pub mod PrivateSaying
-pub mod Shorts
 pub mod Tagged
 pub mod PrivateWords
 pub mod PrivateAgree

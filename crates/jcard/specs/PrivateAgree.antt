@@ -4,7 +4,8 @@ use Rattle.jc_types.specs.declared.ty.Ty.{Ty}
 use Rattle.jc_types.specs.declared.ty.Ty.TheVariants as types
 use Rattle.jc_types.specs.State.{Types}
 use Rattle.jc_check.specs.Typing.{Typing}
-use Rattle.jcard.specs.Tagged.{TaggedValue, Word, Ref, Null, Unset, Frame, Outcome, Next, Throws, Returns, is_written}
+use Rattle.jc_words.specs.Values.{TaggedValue, Word, Ref, Null, Unset, is_written}
+use Rattle.jcard.specs.Tagged.{Frame, Outcome, Next, Throws, Returns}
 use Rattle.jcard.specs.PrivateWords.{UntaggedFrame, UntaggedOutcome, Continues, Raises, Yields}
 
 -- lists of one length, related point by point

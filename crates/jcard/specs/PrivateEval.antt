@@ -4,7 +4,7 @@ use Rattle.jcard.specs.declared.answer.EvalAnswer.TheVariants.{Value, Throws, St
 use Rattle.jcard.specs.declared.run.Ending.{Ending}
 use Rattle.jcard.specs.declared.run.Ending.TheVariants as endings
 use Rattle.jcard.specs.declared.exception.Exception.TheVariants.{ArithmeticException}
-use Rattle.jcard.specs.Shorts.{short}
+use Rattle.jc_words.specs.Shorts.{short}
 
 abbrev pub answer_to : Ending → EvalAnswer
 answer_to (endings.Gave word) = Value (short word)

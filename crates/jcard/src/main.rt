@@ -14,7 +14,6 @@ mod opcodes;
 mod perform;
 mod run;
 mod saying;
-mod shorts;
 mod texts;
 mod verify_folders;
 

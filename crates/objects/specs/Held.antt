@@ -4,7 +4,7 @@ use Rattle.std.specs.Option.{option_and_then, option_map}
 use Rattle.jc_store.specs.Heap.{object_at}
 use Rattle.jc_store.specs.Store.{Store}
 use Rattle.jc_store.specs.declared.kind.Kind.{Kind}
-use Rattle.jc_store.specs.declared.owner.Owner.{Owner}
+use Rattle.jc_names.specs.declared.owner.Owner.{Owner}
 
 -- an object's component at an index, if there are both
 abbrev pub component : Store → ℕ → ℕ → Option ℕ

@@ -3,7 +3,7 @@ use Rattle.std.specs.Prelude.{◌≡◌, ℕ}
 use Rattle.jc_store.specs.Heap.{next_number, with_new}
 use Rattle.jc_store.specs.Store.{Store, IsFull, fresh, with_objects}
 use Rattle.jc_store.specs.declared.kind.Kind.{Kind}
-use Rattle.jc_store.specs.declared.owner.Owner.{Owner}
+use Rattle.jc_names.specs.declared.owner.Owner.{Owner}
 use Rattle.objects.specs.declared.answer.Answer.{Answer}
 use Rattle.objects.specs.declared.answer.Answer.TheVariants.{Full, Number}
 

@@ -1,7 +1,7 @@
 use Rattle.std.proofs.Common.{◌≡◌, Option, Some, ap, inl, refl}
 use Rattle.jc_store.specs.Heap.{Object, object_at}
 use Rattle.jc_interp.specs.Guarded.{allowed}
-use Rattle.jc_interp.specs.Values.{TaggedValue}
+use Rattle.jc_words.specs.Values.{TaggedValue}
 use Rattle.jc_interp.proofs.examples.quiet_natives_are_guarded.Goals as goal
 
 pub returns : goal.returns

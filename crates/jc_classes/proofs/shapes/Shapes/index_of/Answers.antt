@@ -2,7 +2,7 @@ use Rattle.std.proofs.Common.{◌==◌, ap, ◌∙◌}
 use Rattle.std.specs.List.{position}
 use Rattle.std.specs.Option.{option_and_then}
 use Rattle.jc_cap_desc.specs.Shape.{ClassShape, Shape}
-use Rattle.jc_classes.specs.World.{offset_of}
+use Rattle.jc_names.specs.Names.{offset_of}
 use Rattle.jc_classes.proofs.shapes.Shapes.index_of.Goals as goal
 
 pub returns : goal.returns

@@ -3,7 +3,7 @@ use Rattle.std.specs.Option.{option_map}
 use Rattle.jc_classes.proofs.Tabling.{each_pushed}
 use Rattle.jc_classes.specs.PrivatePlaces.{place_at}
 use Rattle.jc_classes.specs.PrivateTables.{entry_made}
-use Rattle.jc_classes.specs.declared.name.MethodName.{MethodName}
+use Rattle.jc_names.specs.declared.name.MethodName.{MethodName}
 use Rattle.jc_classes.proofs.shapes.Shapes.methods_made.Goals as goal
 
 pub loop-i-preserved : goal.loop-i-preserved

@@ -1,7 +1,7 @@
 //! Arithmetic on words of 16 bits, as shorts.
 
 ghost use Rattle.std.specs.Prelude.{◌≡◌, ◌<◌, Some};
-ghost use Rattle.jcard.specs.Shorts.{binary_of, distance, holds, incremented, low_half, unary_of};
+ghost use Rattle.jc_words.specs.Shorts.{binary_of, distance, holds, incremented, low_half, unary_of};
 
 use jc_code::{BinaryOperator, Condition, UnaryOperator};
 
@@ -81,7 +81,7 @@ fn shift_right_unsigned(a: u16, b: u16) -> u16
 
 /// What is made of two words, the deeper one first. `None` is a division by 0.
 #[inline(always)]
-pub(crate) fn binary(operator: BinaryOperator, a: u16, b: u16) -> Option<u16>
+pub fn binary(operator: BinaryOperator, a: u16, b: u16) -> Option<u16>
     ensures { result ≡ binary_of operator a b }
 {
     match operator {
@@ -113,7 +113,7 @@ pub(crate) fn binary(operator: BinaryOperator, a: u16, b: u16) -> Option<u16>
 
 /// What is made of one word.
 #[inline(always)]
-pub(crate) fn unary(operator: UnaryOperator, a: u16) -> u16
+pub fn unary(operator: UnaryOperator, a: u16) -> u16
     ensures { result ≡ unary_of operator a }
 {
     match operator {
@@ -124,7 +124,7 @@ pub(crate) fn unary(operator: UnaryOperator, a: u16) -> u16
 
 /// A word and a constant.
 #[inline(always)]
-pub(crate) fn incremented(a: u16, by: i16) -> u16
+pub fn incremented(a: u16, by: i16) -> u16
     ensures { result ≡ incremented a by }
 {
     a.cast_signed().wrapping_add(by).cast_unsigned()
@@ -132,7 +132,7 @@ pub(crate) fn incremented(a: u16, by: i16) -> u16
 
 /// Whether two words compare so as shorts.
 #[inline(always)]
-pub(crate) fn compares(condition: Condition, a: u16, b: u16) -> bool
+pub fn compares(condition: Condition, a: u16, b: u16) -> bool
     ensures { result ≡ holds condition a b }
 {
     let (x, y) = (a.cast_signed(), b.cast_signed());

@@ -1,6 +1,5 @@
--- Values with tags, and words as shorts and bytes (Java Card Virtual Machine Specification, Data Types and Values).
-use Rattle.std.specs.Prelude.{ℕ, ℤ, ◌%◌, Bool, true, false, ◌&&◌, List, [], ◌∷◌, Option, Some, None}
-use Rattle.std.specs.Int.{w8, w16, cast_signed, cast_unsigned}
+-- Values with tags (Java Card Virtual Machine Specification, Data Types and Values).
+use Rattle.std.specs.Prelude.{ℕ, Bool, true, false, ◌&&◌, List, [], ◌∷◌, Option, Some, None}
 
 -- a word of 16 bits, a reference by the object's number, null, or a local that was never written
 pub data TaggedValue : Type 0 where
@@ -8,20 +7,6 @@ pub data TaggedValue : Type 0 where
   Ref : (object : ℕ) → TaggedValue
   Null : TaggedValue
   Unset : TaggedValue
-
--- the short that a word's 16 bits are, and the 16 bits of a short
-abbrev pub short : ℕ → ℤ
-short word = cast_signed w16 word
-
-abbrev pub word_of : ℤ → ℕ
-word_of n = cast_unsigned w16 n
-
--- the low byte of a word, and a byte with its sign as a word
-abbrev pub low_byte : ℕ → ℕ
-low_byte word = word % 256
-
-abbrev pub signed_byte : ℕ → ℕ
-signed_byte byte = word_of (cast_signed w8 (low_byte byte))
 
 -- a local that was never written has no value
 abbrev pub is_written : TaggedValue → Bool

@@ -1,8 +1,7 @@
 //! Names of classes and methods.
 
 ghost use Rattle.std.specs.Prelude.{◌≡◌, ◌≤◌};
-ghost use Rattle.jc_classes.specs.Names.{is_same_name};
-ghost use Rattle.jc_classes.specs.World.{api_home, api_name, home_of, offset_of, name_in};
+ghost use Rattle.jc_names.specs.Names.{api_home, api_name, home_of, is_same_name, name_in, offset_of};
 
 use jc_api::{ApiClass, ApiPackage};
 
@@ -25,8 +24,8 @@ pub enum MethodName {
     Loaded { package: u8, offset: u16 },
 }
 
-/// Where a package of the API stands among the packages.
-pub(crate) fn api_home(package: ApiPackage) -> usize
+/// Where a package of the API stands in a world: 0 or 1.
+pub fn api_home(package: ApiPackage) -> usize
     ensures { result ≡ api_home «package» }
 {
     match package {
@@ -36,7 +35,7 @@ pub(crate) fn api_home(package: ApiPackage) -> usize
 }
 
 impl ClassName {
-    /// Where the class's package stands among the packages.
+    /// Where the class's package stands in a world, from 0 to 256.
     pub fn home(self) -> usize
         ensures home { result ≡ home_of self }
         ensures most { result ≤ 256 }
@@ -89,8 +88,9 @@ fn api_name(home: usize, number: u16) -> Option<ClassName>
     }
 }
 
-/// The name of the class at an offset of the package that stands there.
-pub(crate) fn name_in(home: usize, offset: u16) -> Option<ClassName>
+/// The name of the class at an offset of the package that stands there, from 0 to 256; of the API's only its classes' numbers are
+/// offsets.
+pub fn name_in(home: usize, offset: u16) -> Option<ClassName>
     requires { home ≤ 256 }
     ensures { result ≡ name_in home offset }
 {

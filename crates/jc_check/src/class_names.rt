@@ -9,7 +9,7 @@ ghost use Rattle.jc_check.specs.PrivateNames.{spelled_name};
 use jc_base::ClassRef;
 use jc_cert::SpelledClass;
 use jc_classes::ClassTable;
-use jc_names::ClassName;
+use jc_names::{ClassName, PackagePlace};
 
 /// A class, and no interface.
 fn if_class(table: &ClassTable, class: ClassName) -> Option<ClassName>
@@ -20,8 +20,7 @@ fn if_class(table: &ClassTable, class: ClassName) -> Option<ClassName>
 }
 
 /// The class whose record stands at an offset of the package that stands there.
-fn class_with_record(table: &ClassTable, home: usize, offset: u16) -> Option<ClassName>
-    requires { home ≤ 256 }
+fn class_with_record(table: &ClassTable, home: PackagePlace, offset: u16) -> Option<ClassName>
     ensures { result ≡ class_with_record table.now home offset }
 {
     let class = table.class_named(home, ClassRef::Internal { offset })?;
@@ -33,7 +32,7 @@ fn class_with_record(table: &ClassTable, home: usize, offset: u16) -> Option<Cla
 pub fn class_of_name(table: &ClassTable, name: SpelledClass) -> Option<ClassName>
     ensures { result ≡ class_of_name table.now name }
 {
-    let home = table.len().saturating_sub(1);
+    let home = table.last();
     match name {
         SpelledClass::Own { offset } => class_with_record(table, home, offset),
         SpelledClass::Api(class) => if_class(table, ClassName::Api(class)),
@@ -52,7 +51,7 @@ fn spelled_name(table: &ClassTable, class: ClassName) -> Option<SpelledClass>
         ClassName::Api(class) => Some(SpelledClass::Api(class)),
         ClassName::Loaded { offset, .. } => {
             let home = class.home();
-            if home + 1 == table.len() {
+            if home.index() + 1 == table.len() {
                 return Some(SpelledClass::Own { offset });
             }
             let package = table.shape(home)?.package();

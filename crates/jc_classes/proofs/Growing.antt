@@ -16,7 +16,8 @@ use Rattle.jc_api.specs.Class.{class_of, package_of}
 use Rattle.jc_api.specs.declared.class.ApiClass.{ApiClass}
 use Rattle.jc_classes.proofs.Passing.{some_of, position_is}
 use Rattle.jc_classes.specs.Growth.{grown, IsWithin, KeepsLookups}
-use Rattle.jc_classes.specs.Members.{declared_in, method_home, method_offset, method_at}
+use Rattle.jc_names.specs.Names.{method_home, method_offset}
+use Rattle.jc_classes.specs.Members.{declared_in, method_at}
 use Rattle.jc_classes.specs.Methods.{has_method, method_name, method_there, entry_visit, table_visit, record_visit, virtual_method_of, is_this, row_for, indexes_visit, listing_visit, interface_visit, public_method_of, interface_method_of, package_visible, declared_above}
 use Rattle.jc_classes.specs.Subtype.{IsAmong, Lists, IsSubtype, Implements, same, object, by_superclass, by_interface, listed}
 use Rattle.jc_classes.specs.Walk.{found_from, walk, found, most_classes}

@@ -6,7 +6,6 @@ use Rattle.std.proofs.lemmas.Bool.{leb-true, cases_lt, lt-ltb, le-ltb}
 use Rattle.std.proofs.lemmas.List.{map-append}
 use Rattle.std.proofs.lemmas.List.Elements.{filter_map-append}
 use Rattle.std.proofs.lemmas.List.Folds.{find-append}
-use Rattle.std.proofs.lemmas.Option.{slice_get_past}
 use Rattle.jc_base.proofs.Binding.{both_true, the_some}
 use Rattle.jc_api.specs.Bound.{Bound}
 use Rattle.jc_api.specs.Member.{ApiMember, members, member_of, shown}
@@ -127,11 +126,3 @@ few_classes bound which = let h = those_few (class_shape_of bound which) last_cl
 
 pub few_methods : (bound : Bound) (class : ApiClass) (n : ℕ) → n ≤ last_member → length (those_to n (method_of bound class)) < 2 ^ 16
 few_methods bound class n within = let h = those_few (method_of bound class) n in omega (arith, h, within)
-
--- no member has a number past a byte
-pub member_past : (n : ℕ) → 256 ≤ n → member_of n ≡ None
-member_past zero h = refl
-member_past (suc n) h = slice_get_past members n (le-suc h)
-  where
-    le-suc : 256 ≤ suc n → length members ≤ n
-    le-suc h = omega arith

@@ -2,7 +2,8 @@
 use Rattle.std.specs.Prelude.{◌≡◌, ◌↔◌, ℕ, ◌<◌, List, [], ◌∷◌, ◌++◌, length, Some}
 use Rattle.jc_base.specs.declared.class_ref.ClassRef.{ClassRef}
 use Rattle.jc_cap_desc.specs.Shape.{Shape}
-use Rattle.jc_classes.specs.Members.{method_home, method_at}
+use Rattle.jc_names.specs.Names.{method_home}
+use Rattle.jc_classes.specs.Members.{method_at}
 use Rattle.jc_classes.specs.Methods.{virtual_method_of, interface_method_of}
 use Rattle.jc_classes.specs.Subtype.{IsSubtype, Implements}
 use Rattle.jc_names.specs.Names.{home_of}

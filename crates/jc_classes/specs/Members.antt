@@ -1,15 +1,12 @@
 -- Methods where they are declared (Java Card Virtual Machine Specification, Descriptor component: method_descriptor_info).
-use Rattle.std.specs.Prelude.{ℕ, zero, suc, List, Option, Some, None, slice_get, is_some, nat_lt, if◌then◌else◌}
+use Rattle.std.specs.Prelude.{ℕ, List, Option, None, slice_get, is_some, nat_lt, if◌then◌else◌}
 use Rattle.std.specs.List.{find}
 use Rattle.std.specs.Option.{option_and_then, option_map}
 use Rattle.jc_cap_desc.specs.Shape.{ClassShape, MethodShape, Shape}
-use Rattle.jc_api.specs.Class.{package_of}
-use Rattle.jc_api.specs.Member.{member_of}
 use Rattle.jc_classes.specs.Methods.{method_of_class}
-use Rattle.jc_names.specs.Names.{api_home, name_in}
+use Rattle.jc_names.specs.Names.{method_home, method_offset, name_in}
 use Rattle.jc_names.specs.declared.name.ClassName.{ClassName}
 use Rattle.jc_names.specs.declared.name.MethodName.{MethodName}
-use Rattle.jc_names.specs.declared.name.MethodName.TheVariants.{Api, Loaded}
 
 -- the name of a class of the package that stands there; no component has an offset from 65,536 on
 abbrev pub name_of : ℕ → ClassShape → Option ClassName
@@ -25,17 +22,6 @@ abbrev pub declared_in : ℕ → ℕ → Shape → Option DeclaredMethod
 declared_in home offset shape =
     option_and_then (λ k. option_and_then (λ class. option_map (λ m. record { class = class; method = m }) (method_of_class offset k)) (name_of home k))
     (find (λ k. is_some (method_of_class offset k)) shape.classes)
-
--- where a method's package stands in the world
-abbrev pub method_home : MethodName → Option ℕ
-method_home (Api member) = option_map (λ m. api_home (package_of m.class)) (member_of member)
-method_home (Loaded zero offset) = None
-method_home (Loaded (suc n) offset) = Some (suc (suc n))
-
--- where a method stands in its package
-abbrev pub method_offset : MethodName → ℕ
-method_offset (Api member) = member
-method_offset (Loaded number offset) = offset
 
 -- the method that has a name
 abbrev pub method_at : List Shape → MethodName → Option DeclaredMethod

@@ -9,7 +9,7 @@ ghost use Rattle.jc_classes.specs.Walk.{found};
 ghost use Rattle.jc_classes.specs.World.{class_named};
 
 use crate::methods::PACKAGE_VISIBLE;
-use jc_names::{ClassName, MethodName};
+use jc_names::{ClassName, MethodName, PackagePlace};
 use crate::shape::{Body, ImplementedInterface};
 use crate::table::ClassTable;
 use crate::walk::{MOST_CLASSES, Step, Visit, anchor_behind};
@@ -17,8 +17,7 @@ use jc_base::ClassRef;
 
 impl ClassTable {
     /// Whether a reference, as it is spelled in the package that stands there, names a class.
-    pub(crate) fn names(&self, class: ClassName, home: usize, reference: ClassRef) -> bool
-        requires { home ≤ 256 }
+    pub(crate) fn names(&self, class: ClassName, home: PackagePlace, reference: ClassRef) -> bool
         ensures { result ≡ is_this class (class_named self.now home reference) }
     {
         match self.class_named(home, reference) {
@@ -31,10 +30,9 @@ impl ClassTable {
     fn row_for<'a>(
         &self,
         interface: ClassName,
-        home: usize,
+        home: PackagePlace,
         rows: &'a [ImplementedInterface],
     ) -> Option<&'a ImplementedInterface>
-        requires { home ≤ 256 }
         ensures { option_map (λ row. row.now) result ≡ row_for self.now interface home rows.now }
     {
         rows.iter()
@@ -45,10 +43,9 @@ impl ClassTable {
     fn listing_visit<'a>(
         &self,
         interface: ClassName,
-        home: usize,
+        home: PackagePlace,
         body: &'a Body,
     ) -> Visit<&'a ImplementedInterface>
-        requires { home ≤ 256 }
         ensures { visit_map (λ row. row.now.indexes) result ≡ listing_visit self.now interface home (record_of body.now) }
     {
         match body {
@@ -118,7 +115,7 @@ impl ClassTable {
     pub fn virtual_method(&self, class: ClassName, token: u8, asker: u8) -> Option<MethodName>
         ensures { result ≡ virtual_method_of self.now class token (asker + 1) }
     {
-        self.virtual_method_for(class, token, usize::from(asker) + 1)
+        self.virtual_method_for(class, token, PackagePlace::of_loaded(asker).index())
     }
 
     /// The method of an object's class that the token of an interface's method leads to (Java Card Virtual Machine

@@ -9,7 +9,7 @@ ghost use Rattle.jc_classes.specs.PrivateShape.{record_of};
 ghost use Rattle.jc_classes.specs.Subtype.{Implements};
 ghost use Rattle.jc_classes.specs.World.{class_named};
 
-use jc_names::ClassName;
+use jc_names::{ClassName, PackagePlace};
 use crate::search::PLACES;
 use crate::shape::{Body, ImplementedInterface};
 use crate::table::ClassTable;
@@ -18,8 +18,7 @@ use jc_cap_class::Superinterface;
 
 impl ClassTable {
     /// Whether an interface is among those that another one extends.
-    fn extends(&self, home: usize, list: &[Superinterface], interface: ClassName) -> bool
-        requires { home ≤ 256 }
+    fn extends(&self, home: PackagePlace, list: &[Superinterface], interface: ClassName) -> bool
         ensures { result ≡ list_any (λ i. is_this interface (class_named self.now home i.interface)) list.now }
     {
         list.iter()
@@ -27,8 +26,7 @@ impl ClassTable {
     }
 
     /// Whether an interface is among those that a class implements.
-    fn has_row(&self, home: usize, list: &[ImplementedInterface], interface: ClassName) -> bool
-        requires { home ≤ 256 }
+    fn has_row(&self, home: PackagePlace, list: &[ImplementedInterface], interface: ClassName) -> bool
         ensures { result ≡ list_any (λ i. is_this interface (class_named self.now home i.interface)) list.now }
     {
         list.iter()
@@ -36,8 +34,7 @@ impl ClassTable {
     }
 
     /// Whether a record lists an interface.
-    fn lists(&self, home: usize, body: &Body, interface: ClassName) -> bool
-        requires { home ≤ 256 }
+    fn lists(&self, home: PackagePlace, body: &Body, interface: ClassName) -> bool
         ensures { result ≡ lists_this self.now home interface (record_of body.now) }
     {
         match body {
@@ -47,7 +44,7 @@ impl ClassTable {
     }
 
     /// Whether the class with an index is marked, and lists an interface.
-    fn lists_at(&self, home: usize, index: usize, marks: &NumberSet, interface: ClassName) -> bool
+    fn lists_at(&self, home: PackagePlace, index: usize, marks: &NumberSet, interface: ClassName) -> bool
         requires home { home < most_packages }
         requires index { index < 256 }
         ensures { IsTrue result ↔ IsListing self.now marks.now interface home index }
@@ -55,14 +52,14 @@ impl ClassTable {
         let Some(class) = self.class_placed(home, index) else {
             return false;
         };
-        if !marks.contains((PLACES * home + index) as u16) {
+        if !marks.contains((PLACES * home.index() + index) as u16) {
             return false;
         }
         self.lists(home, &class.body, interface)
     }
 
     /// Whether a marked class of the package that stands there lists an interface.
-    fn package_lists(&self, home: usize, marks: &NumberSet, interface: ClassName) -> bool
+    fn package_lists(&self, home: PackagePlace, marks: &NumberSet, interface: ClassName) -> bool
         requires { home < most_packages }
         ensures { IsTrue result ↔ ((index : ℕ) × IsListing self.now marks.now interface home index) }
     {
@@ -80,7 +77,7 @@ impl ClassTable {
         ensures { IsTrue result ↔ ((home : ℕ) × (index : ℕ) × IsListing self.now marks.now interface home index) }
     {
         for home in 0..self.len() {
-            if self.package_lists(home, marks, interface) {
+            if self.package_lists(PackagePlace::new(home), marks, interface) {
                 return true;
             }
         }

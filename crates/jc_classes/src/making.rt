@@ -8,7 +8,7 @@ ghost use Rattle.jc_classes.specs.PrivateTables.{IsFurther, IsSettled, IsTabled,
 ghost use Rattle.jc_classes.specs.Subtype.{has_whole_chain};
 ghost use Rattle.jc_names.specs.Names.{home_of};
 
-use jc_names::{ClassName, name_in};
+use jc_names::{ClassName, PackagePlace, name_in};
 use crate::shapes::Shapes;
 use crate::table::ClassTable;
 use crate::tables::{MethodTable, PackageTables};
@@ -40,7 +40,7 @@ impl Shapes {
         ensures { option_map (λ t. t.now) result ≡ table_of self.now tables.now class }
     {
         let index = self.index_of(class)?;
-        tables.get(class.home())?.at(index)
+        tables.get(class.home().index())?.at(index)
     }
 
     /// The table of a class, if it is made: of one of the packages before, or of the last one.
@@ -53,7 +53,7 @@ impl Shapes {
         ensures { option_map (λ t. t.now) result ≡ table_so_far self.now tables.now made.now class }
     {
         let index = self.index_of(class)?;
-        match tables.get(class.home()) {
+        match tables.get(class.home().index()) {
             Some(rows) => rows.at(index),
             None => made.at(index),
         }
@@ -138,8 +138,7 @@ impl Shapes {
     }
 
     /// The name of the class with an index of the package that stands there.
-    fn name_placed(&self, home: usize, index: usize) -> Option<ClassName>
-        requires { home ≤ 256 }
+    fn name_placed(&self, home: PackagePlace, index: usize) -> Option<ClassName>
         ensures { result ≡ name_placed self.now home index }
     {
         let found = self.class_placed(home, index)?;
@@ -159,7 +158,7 @@ impl Shapes {
         ensures further { IfOk result (λ changed. IsFurther self.now tables.now made.old made.new changed) }
         ensures settled { IfOk result (λ b. b ≡ false → AreSettled self.now tables.now made.new index (index + 1)) }
     {
-        match self.name_placed(tables.len(), index) {
+        match self.name_placed(PackagePlace::new(tables.len()), index) {
             Some(class) => self.fill_class(alloc, tables, made, class),
             None => Ok(false),
         }
@@ -215,7 +214,7 @@ impl Shapes {
         requires { AreBefore self.now tables.now }
         ensures { IfOk result (λ made. AreTables self.now (tables.now ++ made ∷ [])) }
     {
-        let last = self.len() - 1;
+        let last = PackagePlace::new(self.len() - 1);
         let count = self.class_count(last);
         let mut made = PackageTables::new(alloc, count)?;
         self.fill_all(alloc, tables, &mut made, count)?;

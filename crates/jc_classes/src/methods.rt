@@ -5,7 +5,7 @@ ghost use Rattle.jc_classes.specs.Methods.{has_method, method_name, method_there
 ghost use Rattle.jc_classes.specs.PrivateShape.{record_of};
 ghost use Rattle.jc_classes.specs.PrivateWalk.{step_of};
 
-use jc_names::{ClassName, MethodName};
+use jc_names::{ClassName, MethodName, PackagePlace};
 use crate::shape::{Body, PackageShape, Table};
 use crate::shapes::Shapes;
 use crate::table::ClassTable;
@@ -17,17 +17,12 @@ pub(crate) const PACKAGE_VISIBLE: u8 = 128;
 const DECLARED_ABOVE: u16 = 0xFFFF;
 
 /// The name of the method at an offset of the package that stands there.
-pub fn method_name(home: usize, offset: u16) -> MethodName
-    requires { home ≤ 256 }
+pub fn method_name(home: PackagePlace, offset: u16) -> MethodName
     ensures { result ≡ method_name home offset }
 {
-    if home < 2 {
-        MethodName::Api { member: offset }
-    } else {
-        MethodName::Loaded {
-            package: (home - 1) as u8,
-            offset,
-        }
+    match home.number() {
+        None => MethodName::Api { member: offset },
+        Some(package) => MethodName::Loaded { package, offset },
     }
 }
 
@@ -43,8 +38,7 @@ impl PackageShape {
 
 impl Shapes {
     /// The method that stands there, if one does.
-    fn method_there(&self, home: usize, offset: u16) -> Visit<MethodName>
-        requires { home ≤ 256 }
+    fn method_there(&self, home: PackagePlace, offset: u16) -> Visit<MethodName>
         ensures { result ≡ method_there self.now home offset }
     {
         match self.shape(home) {
@@ -54,8 +48,7 @@ impl Shapes {
     }
 
     /// An entry of a table.
-    fn entry_visit(&self, home: usize, entry: Option<u16>) -> Visit<MethodName>
-        requires { home ≤ 256 }
+    fn entry_visit(&self, home: PackagePlace, entry: Option<u16>) -> Visit<MethodName>
         ensures { result ≡ entry_visit self.now home entry }
     {
         match entry {
@@ -66,8 +59,7 @@ impl Shapes {
     }
 
     /// A table at a token.
-    fn table_visit(&self, home: usize, table: &Table, token: u8) -> Visit<MethodName>
-        requires { home ≤ 256 }
+    fn table_visit(&self, home: PackagePlace, table: &Table, token: u8) -> Visit<MethodName>
         ensures { result ≡ table_visit self.now home table.now token }
     {
         if token < table.base || table.methods.len() == 0 {
@@ -82,10 +74,9 @@ impl Shapes {
         &self,
         asker: usize,
         token: u8,
-        home: usize,
+        home: PackagePlace,
         body: &Body,
     ) -> Visit<MethodName>
-        requires { home ≤ 256 }
         ensures { result ≡ record_visit self.now asker token home (record_of body.now) }
     {
         match body {
@@ -93,7 +84,7 @@ impl Shapes {
             Body::Class(class) => {
                 if token < PACKAGE_VISIBLE {
                     self.table_visit(home, &class.public_methods, token)
-                } else if home == asker {
+                } else if home.index() == asker {
                     self.table_visit(home, &class.package_methods, token - PACKAGE_VISIBLE)
                 } else {
                     Visit::Above

@@ -8,7 +8,7 @@ ghost use Rattle.jc_classes.specs.PrivateSearch.{above_in, place_in, place, clas
 ghost use Rattle.jc_classes.specs.PrivateShape.{record_of};
 ghost use Rattle.jc_classes.specs.World.{class_named};
 
-use jc_names::ClassName;
+use jc_names::{ClassName, PackagePlace};
 use crate::places::place_at;
 use crate::shape::{Body, Class, ImplementedInterface, PackageShape};
 use crate::table::ClassTable;
@@ -37,13 +37,13 @@ impl PackageShape {
     }
 
     /// The number of the class at an offset among all, where the package stands there.
-    fn place_in(&self, home: usize, offset: u16) -> Option<u16>
+    fn place_in(&self, home: PackagePlace, offset: u16) -> Option<u16>
         requires few { length self.now.classes ≤ most_classes_of_one }
         requires home { home < most_packages }
         ensures { result ≡ place_in home offset self.now }
     {
         let index = self.index_of(offset)?;
-        Some((PLACES * home + index) as u16)
+        Some((PLACES * home.index() + index) as u16)
     }
 }
 
@@ -80,8 +80,7 @@ impl ClassTable {
     }
 
     /// Marks the class that a reference names.
-    fn mark_named(&self, home: usize, reference: ClassRef, marks: &mut NumberSet) -> bool
-        requires { home ≤ 256 }
+    fn mark_named(&self, home: PackagePlace, reference: ClassRef, marks: &mut NumberSet) -> bool
         ensures { AreMarked self.now (cons_option (class_named self.now home reference) []) marks.old marks.new result }
     {
         match self.class_named(home, reference) {
@@ -93,11 +92,10 @@ impl ClassTable {
     /// Marks the interfaces that an interface extends.
     fn mark_superinterfaces(
         &self,
-        home: usize,
+        home: PackagePlace,
         list: &[Superinterface],
         marks: &mut NumberSet,
     ) -> bool
-        requires { home ≤ 256 }
         ensures { AreMarked self.now (filter_map (class_named self.now home) (map (λ i. i.interface) list.now)) marks.old marks.new result }
     {
         let mut changed = false;
@@ -110,11 +108,10 @@ impl ClassTable {
     /// Marks the interfaces that a class implements.
     fn mark_implemented(
         &self,
-        home: usize,
+        home: PackagePlace,
         list: &[ImplementedInterface],
         marks: &mut NumberSet,
     ) -> bool
-        requires { home ≤ 256 }
         ensures { AreMarked self.now (filter_map (class_named self.now home) (map (λ i. i.interface) list.now)) marks.old marks.new result }
     {
         let mut changed = false;
@@ -127,11 +124,10 @@ impl ClassTable {
     /// Marks the superclass that a record names.
     fn mark_superclass(
         &self,
-        home: usize,
+        home: PackagePlace,
         superclass: Option<ClassRef>,
         marks: &mut NumberSet,
     ) -> bool
-        requires { home ≤ 256 }
         ensures { AreMarked self.now (cons_option (option_and_then (class_named self.now home) superclass) []) marks.old marks.new result }
     {
         match superclass {
@@ -141,8 +137,7 @@ impl ClassTable {
     }
 
     /// Marks all classes right above one with this record, of the package that stands there.
-    fn mark_above(&self, home: usize, body: &Body, marks: &mut NumberSet) -> bool
-        requires { home ≤ 256 }
+    fn mark_above(&self, home: PackagePlace, body: &Body, marks: &mut NumberSet) -> bool
         ensures { AreMarked self.now (above_in self.now home (record_of body.now)) marks.old marks.new result }
     {
         match body {
@@ -156,7 +151,7 @@ impl ClassTable {
     }
 
     /// Marks all classes right above the one with an index, if that is marked.
-    fn pass_class(&self, home: usize, index: usize, marks: &mut NumberSet) -> bool
+    fn pass_class(&self, home: PackagePlace, index: usize, marks: &mut NumberSet) -> bool
         requires small { IsSmall self.now }
         requires home { home < most_packages }
         requires index { index < 256 }
@@ -165,14 +160,14 @@ impl ClassTable {
         let Some(class) = self.class_placed(home, index) else {
             return false;
         };
-        if !marks.contains((PLACES * home + index) as u16) {
+        if !marks.contains((PLACES * home.index() + index) as u16) {
             return false;
         }
         self.mark_above(home, &class.body, marks)
     }
 
     /// Marks all classes right above the marked ones of the package that stands there.
-    fn pass_package(&self, home: usize, marks: &mut NumberSet) -> bool
+    fn pass_package(&self, home: PackagePlace, marks: &mut NumberSet) -> bool
         requires small { IsSmall self.now }
         requires home { home < most_packages }
         ensures { ArePassed self.now (256 * home) (256 * home + 256) marks.old marks.new result }
@@ -192,7 +187,7 @@ impl ClassTable {
     {
         let mut changed = false;
         for home in 0..self.len() {
-            changed |= self.pass_package(home, marks);
+            changed |= self.pass_package(PackagePlace::new(home), marks);
         }
         changed
     }

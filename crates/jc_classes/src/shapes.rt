@@ -12,7 +12,7 @@ ghost use Rattle.jc_classes.specs.PrivateShape.{record_of};
 ghost use Rattle.jc_classes.specs.Limits.{IsSmall, most_packages, most_classes_of_one};
 
 use crate::copies::{Copied, all_copied};
-use jc_names::{ClassName, name_in};
+use jc_names::{ClassName, PackagePlace, name_in};
 use crate::shape::{Body, Class, PackageShape};
 use jc_base::{Aid, ClassRef, PackageInfo};
 use std::alloc::{AllocError, Global};
@@ -135,12 +135,12 @@ impl Shapes {
     }
 
     /// The package that stands there.
-    pub(crate) fn shape(&self, home: usize) -> Option<&PackageShape>
+    pub(crate) fn shape(&self, home: PackagePlace) -> Option<&PackageShape>
         ensures found { option_map (λ s. s.now) result ≡ slice_get self.now home }
         ensures few { IfSome result (λ s. length s.now.classes ≤ most_classes_of_one) }
         ensures home { IfSome result (λ s. home < most_packages) }
     {
-        self.packages.get(home)
+        self.packages.get(home.index())
     }
 
     /// The package of a class.
@@ -164,39 +164,38 @@ impl Shapes {
     }
 
     /// Where the package stands that meets the import with a token: among those before, the first.
-    pub(crate) fn import_of(&self, home: usize, token: u8) -> Option<usize>
+    pub(crate) fn import_of(&self, home: PackagePlace, token: u8) -> Option<PackagePlace>
         ensures found { result ≡ import_of self.now home token }
         ensures before { IfSome result (λ there. there < home) }
     {
-        let shape = self.packages.get(home)?;
+        let shape = self.packages.get(home.index())?;
         let wanted = shape.imports.get(usize::from(token))?;
-        first_that_meets(&self.packages[..home], wanted)
+        let there = first_that_meets(&self.packages[..home.index()], wanted)?;
+        Some(PackagePlace::new(there))
     }
 
     /// Where the loaded package with an AID stands, of those before a place.
-    pub(crate) fn loaded_with(&self, home: usize, aid: &Aid) -> Option<usize>
+    pub(crate) fn loaded_with(&self, home: PackagePlace, aid: &Aid) -> Option<PackagePlace>
         requires { home ≤ length self.now }
         ensures found { result ≡ loaded_with self.now home aid.now }
         ensures before { IfSome result (λ there. there < home) }
     {
-        let loaded = self.packages[..home].get(2..)?;
+        let loaded = self.packages[..home.index()].get(2..)?;
         let number = first_with(loaded, aid)?;
-        Some(2 + number)
+        Some(PackagePlace::new(2 + number))
     }
 
     /// The class that a package exports under a token.
-    fn exported_class(&self, home: usize, token: u8) -> Option<ClassName>
-        requires { home ≤ 256 }
+    fn exported_class(&self, home: PackagePlace, token: u8) -> Option<ClassName>
         ensures { result ≡ exported_class self.now home token }
     {
-        let shape = self.packages.get(home)?;
+        let shape = self.packages.get(home.index())?;
         let row = shape.exports.get(usize::from(token))?;
         name_in(home, row.class)
     }
 
     /// What a reference spells in the package that stands there.
-    fn class_spelled(&self, home: usize, reference: ClassRef) -> Option<ClassName>
-        requires { home ≤ 256 }
+    fn class_spelled(&self, home: PackagePlace, reference: ClassRef) -> Option<ClassName>
         ensures { result ≡ class_spelled self.now home reference }
     {
         match reference {
@@ -220,8 +219,7 @@ impl Shapes {
     }
 
     /// The class that a reference of the package that stands there finds.
-    pub(crate) fn class_named(&self, home: usize, reference: ClassRef) -> Option<ClassName>
-        requires { home ≤ 256 }
+    pub(crate) fn class_named(&self, home: PackagePlace, reference: ClassRef) -> Option<ClassName>
         ensures { result ≡ class_named self.now home reference }
     {
         let class = self.class_spelled(home, reference)?;
@@ -238,14 +236,14 @@ impl Shapes {
     }
 
     /// The class with an index in the package that stands there.
-    pub(crate) fn class_placed(&self, home: usize, index: usize) -> Option<&Class>
+    pub(crate) fn class_placed(&self, home: PackagePlace, index: usize) -> Option<&Class>
         ensures { option_map (λ k. k.now) result ≡ class_placed self.now home index }
     {
         self.shape(home)?.class_with(index)
     }
 
     /// How many classes the package has that stands there.
-    pub(crate) fn class_count(&self, home: usize) -> usize
+    pub(crate) fn class_count(&self, home: PackagePlace) -> usize
         ensures count { result ≡ option_map_or (λ s. length s.classes) (slice_get self.now home) 0 }
         ensures few { result ≤ most_classes_of_one }
     {

@@ -1,13 +1,13 @@
 //! The table of a world's classes.
 
-ghost use Rattle.std.specs.Prelude.{◌≡◌, ◌<◌, ◌≤◌, length, slice_get, IfSome};
+ghost use Rattle.std.specs.Prelude.{◌≡◌, ◌-◌, ◌<◌, ◌≤◌, length, slice_get, IfSome};
 ghost use Rattle.std.specs.Option.{option_map, option_map_or};
 ghost use Rattle.jc_classes.specs.Limits.{IsSmall, most_packages, most_classes_of_one};
 ghost use Rattle.jc_classes.specs.PrivateSearch.{class_placed};
 ghost use Rattle.jc_names.specs.Names.{home_of};
 ghost use Rattle.jc_classes.specs.World.{package_at, class_at, import_of, loaded_with, class_named, superclass_of};
 
-use jc_names::ClassName;
+use jc_names::{ClassName, PackagePlace};
 use crate::shape::{Class, PackageShape};
 use crate::shapes::Shapes;
 use crate::tables::PackageTables;
@@ -44,8 +44,15 @@ impl ClassTable {
         self.shapes.len()
     }
 
+    /// Where the last package stands.
+    pub fn last(&self) -> PackagePlace
+        ensures { result ≡ length self.now - 1 }
+    {
+        PackagePlace::new(self.len().saturating_sub(1))
+    }
+
     /// The package that stands there.
-    pub fn shape(&self, home: usize) -> Option<&PackageShape>
+    pub fn shape(&self, home: PackagePlace) -> Option<&PackageShape>
         ensures found { option_map (λ s. s.now) result ≡ slice_get self.now home }
         ensures few { IfSome result (λ s. length s.now.classes ≤ most_classes_of_one) }
         ensures home { IfSome result (λ s. home < most_packages) }
@@ -70,7 +77,7 @@ impl ClassTable {
     }
 
     /// Where the package stands that meets the import with a token: among those before, the first.
-    pub fn import_of(&self, home: usize, token: u8) -> Option<usize>
+    pub fn import_of(&self, home: PackagePlace, token: u8) -> Option<PackagePlace>
         ensures found { result ≡ import_of self.now home token }
         ensures before { IfSome result (λ there. there < home) }
     {
@@ -78,7 +85,7 @@ impl ClassTable {
     }
 
     /// Where the loaded package with an AID stands, of those before a place.
-    pub fn loaded_with(&self, home: usize, aid: &Aid) -> Option<usize>
+    pub fn loaded_with(&self, home: PackagePlace, aid: &Aid) -> Option<PackagePlace>
         requires { home ≤ length self.now }
         ensures found { result ≡ loaded_with self.now home aid.now }
         ensures before { IfSome result (λ there. there < home) }
@@ -87,8 +94,7 @@ impl ClassTable {
     }
 
     /// The class that a reference of the package that stands there finds.
-    pub fn class_named(&self, home: usize, reference: ClassRef) -> Option<ClassName>
-        requires { home ≤ 256 }
+    pub fn class_named(&self, home: PackagePlace, reference: ClassRef) -> Option<ClassName>
         ensures { result ≡ class_named self.now home reference }
     {
         self.shapes.class_named(home, reference)
@@ -102,14 +108,14 @@ impl ClassTable {
     }
 
     /// The class with an index in the package that stands there.
-    pub(crate) fn class_placed(&self, home: usize, index: usize) -> Option<&Class>
+    pub(crate) fn class_placed(&self, home: PackagePlace, index: usize) -> Option<&Class>
         ensures { option_map (λ k. k.now) result ≡ class_placed self.now home index }
     {
         self.shapes.class_placed(home, index)
     }
 
     /// How many classes the package has that stands there.
-    pub(crate) fn class_count(&self, home: usize) -> usize
+    pub(crate) fn class_count(&self, home: PackagePlace) -> usize
         ensures count { result ≡ option_map_or (λ s. length s.classes) (slice_get self.now home) 0 }
         ensures few { result ≤ most_classes_of_one }
     {

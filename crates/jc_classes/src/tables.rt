@@ -11,7 +11,7 @@ ghost use Rattle.jc_classes.specs.World.{class_at};
 
 use crate::copies::{Copied, all_copied, put_copies};
 use crate::methods::PACKAGE_VISIBLE;
-use jc_names::{ClassName, MethodName};
+use jc_names::{ClassName, MethodName, PackagePlace};
 use crate::places::{make_room, place_at};
 use crate::shape::{Class, ImplementedInterface};
 use crate::shapes::Shapes;
@@ -226,14 +226,13 @@ fn trim(methods: &mut Vec<Option<MethodName>>)
 }
 
 /// For how many packages that may ask a class's table has a row.
-fn askers(above: Option<&MethodTable>, home: usize) -> usize
-    requires { home ≤ 256 }
+fn askers(above: Option<&MethodTable>, home: PackagePlace) -> usize
     ensures home { home < result }
     ensures above { length (visible_above (option_map (λ t. t.now) above.entry)) ≤ result }
 {
     match above {
-        Some(table) if table.visible.len() > home => table.visible.len(),
-        _ => home + 1,
+        Some(table) if table.visible.len() > home.index() => table.visible.len(),
+        _ => home.index() + 1,
     }
 }
 
@@ -242,12 +241,11 @@ impl Shapes {
     fn entry_made(
         &self,
         above: Option<&MethodTable>,
-        home: usize,
+        home: PackagePlace,
         found: &Class,
         token: u8,
         asker: usize,
     ) -> Option<MethodName>
-        requires { home ≤ 256 }
         ensures { result ≡ entry_made self.now (option_map (λ t. t.now) above.entry) home found.now.body token asker }
     {
         match self.record_visit(asker, token, home, &found.body) {
@@ -265,12 +263,11 @@ impl Shapes {
         &self,
         alloc: Global,
         above: Option<&MethodTable>,
-        home: usize,
+        home: PackagePlace,
         found: &Class,
         first: u8,
         asker: usize,
     ) -> Result<Vec<Option<MethodName>>, AllocError>
-        requires home { home ≤ 256 }
         requires first { first ≤ 128 }
         ensures { IfOk result (λ made. (i : ℕ) → i < 128 → place_at made.items i ≡ entry_made self.now (option_map (λ t. t.now) above.entry) home found.now.body (first + i) asker) }
     {
@@ -286,12 +283,11 @@ impl Shapes {
         &self,
         alloc: Global,
         above: Option<&MethodTable>,
-        home: usize,
+        home: PackagePlace,
         found: &Class,
         first: u8,
         asker: usize,
     ) -> Result<MethodRow, AllocError>
-        requires home { home ≤ 256 }
         requires first { first ≤ 128 }
         ensures { IfOk result (λ made. (i : ℕ) → i < 128 → place_at made i ≡ entry_made self.now (option_map (λ t. t.now) above.entry) home found.now.body (first + i) asker) }
     {
@@ -306,10 +302,9 @@ impl Shapes {
         &self,
         alloc: Global,
         above: Option<&MethodTable>,
-        home: usize,
+        home: PackagePlace,
         found: &Class,
     ) -> Result<Vec<MethodRow>, AllocError>
-        requires { home ≤ 256 }
         ensures { IfOk result (λ made. (asker i : ℕ) → i < 128 → place_at (row_at made.items asker) i ≡ entry_made self.now (option_map (λ t. t.now) above.entry) home found.now.body (128 + i) asker) }
     {
         let mut rows = Vec::new(alloc);
@@ -323,11 +318,10 @@ impl Shapes {
     fn put_listed(
         &self,
         alloc: Global,
-        home: usize,
+        home: PackagePlace,
         row: &ImplementedInterface,
         listed: &mut Vec<ListedInterface>,
     ) -> Result<(), AllocError>
-        requires { home ≤ 256 }
         ensures { IfOk result (λ u. listed.new.items ≡ listed.old.items ++ option_to_list (listed_row self.now home row.now)) }
     {
         if let Some(interface) = self.class_named(home, row.interface) {
@@ -342,10 +336,9 @@ impl Shapes {
     fn own_listed(
         &self,
         alloc: Global,
-        home: usize,
+        home: PackagePlace,
         rows: &[ImplementedInterface],
     ) -> Result<Vec<ListedInterface>, AllocError>
-        requires { home ≤ 256 }
         ensures { IfOk result (λ made. made.items ≡ filter_map (listed_row self.now home) rows.now) }
     {
         let mut listed = Vec::new(alloc);
@@ -360,10 +353,9 @@ impl Shapes {
         &self,
         alloc: Global,
         above: Option<&MethodTable>,
-        home: usize,
+        home: PackagePlace,
         rows: &[ImplementedInterface],
     ) -> Result<Vec<ListedInterface>, AllocError>
-        requires { home ≤ 256 }
         ensures { IfOk result (λ made. made.items ≡ filter_map (listed_row self.now home) rows.now ++ listed_above (option_map (λ t. t.now) above.entry)) }
     {
         let mut listed = self.own_listed(alloc, home, rows)?;

@@ -15,7 +15,8 @@ use Rattle.jc_cap_pool.specs.declared.entry.StaticRef.{StaticRef}
 use Rattle.jc_cap_pool.specs.declared.entry.StaticRef.TheVariants.{Internal, External}
 use Rattle.jc_api.specs.declared.class.ApiClass.TheVariants.{Object}
 use Rattle.jc_classes.specs.Growth.{grown, IsWithin, KeepsLookups}
-use Rattle.jc_classes.specs.Members.{DeclaredMethod, declared_in, method_home, method_offset, method_at}
+use Rattle.jc_names.specs.Names.{method_home, method_offset}
+use Rattle.jc_classes.specs.Members.{DeclaredMethod, declared_in, method_at}
 use Rattle.jc_classes.specs.Methods.{method_name, virtual_method_of}
 use Rattle.jc_classes.specs.Record.{declared_size}
 use Rattle.jc_classes.specs.Subtype.{is_class_at, is_interface_at}

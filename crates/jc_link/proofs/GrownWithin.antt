@@ -16,7 +16,8 @@ use Rattle.jc_api.specs.declared.class.ApiClass.{ApiClass}
 use Rattle.jc_api.specs.declared.class.ApiPackage.{ApiPackage}
 use Rattle.jc_api.specs.declared.class.ApiPackage.TheVariants.{Lang, Framework}
 use Rattle.jc_classes.specs.Growth.{IsWithin}
-use Rattle.jc_classes.specs.Members.{DeclaredMethod, name_of, declared_in, method_home, method_offset, method_at}
+use Rattle.jc_names.specs.Names.{method_home, method_offset}
+use Rattle.jc_classes.specs.Members.{DeclaredMethod, name_of, declared_in, method_at}
 use Rattle.jc_classes.specs.Methods.{method_of_class, has_method, method_name, method_there, entry_visit, table_visit, record_visit, virtual_method_of, virtual_visit, package_visible, declared_above}
 use Rattle.jc_classes.specs.Walk.{found_from, walk, most_classes}
 use Rattle.jc_names.specs.Names.{api_home, api_name, home_of, name_in}

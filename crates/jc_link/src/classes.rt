@@ -13,7 +13,7 @@ use crate::types::{is_known_field, is_known_method};
 use jc_base::ClassRef;
 use jc_cap_desc::FieldPlace;
 use jc_classes::{Class, ClassTable, DeclaredMethod, Field, Method, method_name};
-use jc_names::ClassName;
+use jc_names::{ClassName, PackagePlace};
 
 /// How many classes and interfaces there are at most.
 pub(crate) const MOST_CLASSES: u16 = 17_085;
@@ -64,8 +64,7 @@ pub(crate) fn leads_round(table: &ClassTable, class: ClassName) -> bool
 }
 
 /// Whether a reference of the package that stands there doesn't find an interface.
-fn finds_no_interface(table: &ClassTable, home: usize, reference: ClassRef) -> bool
-    requires { home ≤ 256 }
+fn finds_no_interface(table: &ClassTable, home: PackagePlace, reference: ClassRef) -> bool
     ensures { result ≡ not (option_map_or (is_interface_at table.now) (class_named table.now home reference) false) }
 {
     match table.class_named(home, reference) {
@@ -75,8 +74,7 @@ fn finds_no_interface(table: &ClassTable, home: usize, reference: ClassRef) -> b
 }
 
 /// Whether one of the interfaces that an interface extends is none.
-fn extends_no_interface(table: &ClassTable, home: usize, found: &Class) -> bool
-    requires { home ≤ 256 }
+fn extends_no_interface(table: &ClassTable, home: PackagePlace, found: &Class) -> bool
     ensures { result ≡ list_any (λ i. not (option_map_or (is_interface_at table.now) (class_named table.now home i.interface) false)) (superinterfaces found.now.body) }
 {
     found
@@ -86,8 +84,7 @@ fn extends_no_interface(table: &ClassTable, home: usize, found: &Class) -> bool
 }
 
 /// Whether one of the interfaces that a class implements is none.
-fn implements_no_interface(table: &ClassTable, home: usize, found: &Class) -> bool
-    requires { home ≤ 256 }
+fn implements_no_interface(table: &ClassTable, home: PackagePlace, found: &Class) -> bool
     ensures { result ≡ list_any (λ i. not (option_map_or (is_interface_at table.now) (class_named table.now home i.interface) false)) (interface_rows found.now.body) }
 {
     found
@@ -98,8 +95,7 @@ fn implements_no_interface(table: &ClassTable, home: usize, found: &Class) -> bo
 
 /// Whether it lists what is missing, or a class in place of an interface.
 #[tactic(auto, using(crate::proofs::Listed::listed_either_way))]
-pub(crate) fn lists_no_interface(table: &ClassTable, home: usize, found: &Class) -> bool
-    requires { home ≤ 256 }
+pub(crate) fn lists_no_interface(table: &ClassTable, home: PackagePlace, found: &Class) -> bool
     ensures { result ≡ lists_no_interface table.now home found.now }
 {
     extends_no_interface(table, home, found) || implements_no_interface(table, home, found)
@@ -113,8 +109,7 @@ fn is_inherited(table: &ClassTable, class: ClassName, declared: &DeclaredMethod)
 }
 
 /// Whether an entry of a table is no offset of such a method.
-fn is_bad_entry(table: &ClassTable, home: usize, class: ClassName, entry: u16) -> bool
-    requires { home ≤ 256 }
+fn is_bad_entry(table: &ClassTable, home: PackagePlace, class: ClassName, entry: u16) -> bool
     ensures { result ≡ is_bad_entry table.now home class entry }
 {
     if entry == DECLARED_ABOVE {
@@ -127,8 +122,7 @@ fn is_bad_entry(table: &ClassTable, home: usize, class: ClassName, entry: u16) -
 }
 
 /// Whether one of some entries is none.
-fn is_bad_table(table: &ClassTable, home: usize, class: ClassName, entries: &[u16]) -> bool
-    requires { home ≤ 256 }
+fn is_bad_table(table: &ClassTable, home: PackagePlace, class: ClassName, entries: &[u16]) -> bool
     ensures { result ≡ list_any (is_bad_entry table.now home class) entries.now }
 {
     entries
@@ -139,11 +133,10 @@ fn is_bad_table(table: &ClassTable, home: usize, class: ClassName, entries: &[u1
 /// Whether one of its two tables of virtual methods has such an entry.
 pub(crate) fn has_bad_entry(
     table: &ClassTable,
-    home: usize,
+    home: PackagePlace,
     class: ClassName,
     found: &Class,
 ) -> bool
-    requires { home ≤ 256 }
     ensures { result ≡ has_bad_entry table.now home class found.now }
 {
     is_bad_table(table, home, class, found.public_entries())
@@ -151,8 +144,7 @@ pub(crate) fn has_bad_entry(
 }
 
 /// Whether the type of a field names neither a class nor an interface.
-fn has_unknown_field(table: &ClassTable, home: usize, found: &Class) -> bool
-    requires { home ≤ 256 }
+fn has_unknown_field(table: &ClassTable, home: PackagePlace, found: &Class) -> bool
     ensures { result ≡ list_any (λ f. not (is_some (field_type_of table.now home f))) found.now.fields }
 {
     found
@@ -162,8 +154,7 @@ fn has_unknown_field(table: &ClassTable, home: usize, found: &Class) -> bool
 }
 
 /// Whether the type of a method names what is neither a class nor an interface.
-fn has_unknown_method(table: &ClassTable, home: usize, found: &Class) -> bool
-    requires { home ≤ 256 }
+fn has_unknown_method(table: &ClassTable, home: PackagePlace, found: &Class) -> bool
     ensures { result ≡ list_any (λ m. not (is_some (member_type_of table.now home m.signature))) found.now.methods }
 {
     found
@@ -173,8 +164,7 @@ fn has_unknown_method(table: &ClassTable, home: usize, found: &Class) -> bool
 }
 
 /// Whether a type of its fields or methods names what is neither a class nor an interface.
-pub(crate) fn has_unknown_type(table: &ClassTable, home: usize, found: &Class) -> bool
-    requires { home ≤ 256 }
+pub(crate) fn has_unknown_type(table: &ClassTable, home: PackagePlace, found: &Class) -> bool
     ensures { result ≡ has_unknown_type table.now home found.now }
 {
     has_unknown_field(table, home, found) || has_unknown_method(table, home, found)

@@ -6,16 +6,17 @@ ghost use Rattle.std.specs.Option.{option_map_or};
 ghost use Rattle.jc_link.specs.Imports.{is_unmet, first_unmet, is_there_already};
 
 use jc_classes::{ClassTable, PackageShape};
+use jc_names::PackagePlace;
 
 /// Whether no package before the one that stands there meets an import.
-fn is_unmet(table: &ClassTable, home: usize, token: u8) -> bool
+fn is_unmet(table: &ClassTable, home: PackagePlace, token: u8) -> bool
     ensures { result ≡ is_unmet table.now home token }
 {
     table.import_of(home, token).is_none()
 }
 
 /// The first import of the package that stands there that no package before it meets. A byte counts a package's imports.
-pub(crate) fn first_unmet(table: &ClassTable, home: usize, shape: &PackageShape) -> Option<u8>
+pub(crate) fn first_unmet(table: &ClassTable, home: PackagePlace, shape: &PackageShape) -> Option<u8>
     requires { length shape.now.imports ≤ 255 }
     ensures { result ≡ first_unmet table.now home shape.now }
 {
@@ -24,7 +25,7 @@ pub(crate) fn first_unmet(table: &ClassTable, home: usize, shape: &PackageShape)
 }
 
 /// Whether a package stands there that has the AID of another one.
-fn has_aid_of(table: &ClassTable, home: usize, shape: &PackageShape) -> bool
+fn has_aid_of(table: &ClassTable, home: PackagePlace, shape: &PackageShape) -> bool
     ensures { result ≡ option_map_or (λ other. bytes_eq other.«package».aid shape.now.«package».aid) (slice_get table.now home) false }
 {
     match table.shape(home) {
@@ -34,16 +35,21 @@ fn has_aid_of(table: &ClassTable, home: usize, shape: &PackageShape) -> bool
 }
 
 /// Whether one of so many places has a package with the AID of another one.
-fn any_has_aid_of(table: &ClassTable, count: usize, shape: &PackageShape) -> bool
+fn any_has_aid_of(table: &ClassTable, count: PackagePlace, shape: &PackageShape) -> bool
     ensures { result ≡ list_any (λ home. option_map_or (λ other. bytes_eq other.«package».aid shape.now.«package».aid) (slice_get table.now home) false) (range_with_len 0 count) }
 {
-    (0..count).any(|home| has_aid_of(table, home, shape))
+    for home in 0..count.index() {
+        if has_aid_of(table, PackagePlace::new(home), shape) {
+            return true;
+        }
+    }
+    false
 }
 
 /// Whether one of the packages before a place has the AID of another one.
 #[tactic(auto, using(crate::proofs::Places::any_place))]
-pub(crate) fn is_there_already(table: &ClassTable, count: usize, shape: &PackageShape) -> bool
-    ensures { result ≡ is_there_already (take count table.now) shape.now }
+pub(crate) fn is_there_already(table: &ClassTable, home: PackagePlace, shape: &PackageShape) -> bool
+    ensures { result ≡ is_there_already (take home table.now) shape.now }
 {
-    any_has_aid_of(table, count, shape)
+    any_has_aid_of(table, home, shape)
 }

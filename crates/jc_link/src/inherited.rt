@@ -9,21 +9,21 @@ use crate::classes::MOST_CLASSES;
 use crate::pool::{is_abstract_method, is_concrete, method_above};
 use crate::types::{implements_type, is_known_method, same_method_type};
 use jc_classes::{Class, ClassTable, ImplementedInterface, Method, anchor_behind};
-use jc_names::{ClassName, MethodName};
+use jc_names::{ClassName, MethodName, PackagePlace};
 
 /// Tokens from here on are package-visible.
 const PACKAGE_VISIBLE: u8 = 128;
 
 /// Whether the superclass finds a method at a token, and the class none.
-fn loses_at(table: &ClassTable, home: usize, class: ClassName, token: u8) -> bool
+fn loses_at(table: &ClassTable, home: PackagePlace, class: ClassName, token: u8) -> bool
     ensures { result ≡ loses_at table.now home class token }
 {
     method_above(table, home, class, token).is_some()
-        && table.virtual_method_for(class, token, home).is_none()
+        && table.virtual_method_for(class, token, home.index()).is_none()
 }
 
 /// Whether the superclass finds a method at some token, and the class none.
-pub(crate) fn loses_method(table: &ClassTable, home: usize, class: ClassName) -> bool
+pub(crate) fn loses_method(table: &ClassTable, home: PackagePlace, class: ClassName) -> bool
     ensures { result ≡ loses_method table.now home class }
 {
     for token in 0..256u16 {
@@ -60,10 +60,10 @@ fn is_other_type(table: &ClassTable, method: MethodName, above: MethodName) -> b
 }
 
 /// Whether the class and its superclass find methods of different types at a token.
-fn retypes_at(table: &ClassTable, home: usize, class: ClassName, token: u8) -> bool
+fn retypes_at(table: &ClassTable, home: PackagePlace, class: ClassName, token: u8) -> bool
     ensures { result ≡ retypes_at table.now home class token }
 {
-    let Some(method) = table.virtual_method_for(class, token, home) else {
+    let Some(method) = table.virtual_method_for(class, token, home.index()) else {
         return false;
     };
     match method_above(table, home, class, token) {
@@ -73,7 +73,7 @@ fn retypes_at(table: &ClassTable, home: usize, class: ClassName, token: u8) -> b
 }
 
 /// Whether the class and its superclass find methods of different types at some token.
-pub(crate) fn overrides_with_another_type(table: &ClassTable, home: usize, class: ClassName) -> bool
+pub(crate) fn overrides_with_another_type(table: &ClassTable, home: PackagePlace, class: ClassName) -> bool
     ensures { result ≡ overrides_with_another_type table.now home class }
 {
     for token in 0..256u16 {
@@ -172,10 +172,9 @@ fn is_unimplemented(
     table: &ClassTable,
     class: ClassName,
     indexes: &[u8],
-    home: usize,
+    home: PackagePlace,
     method: &Method,
 ) -> bool
-    requires { home ≤ 256 }
     ensures { result ≡ is_unimplemented table.now class indexes.now home method.now }
 {
     if !is_known_method(table, home, method) {
@@ -190,10 +189,9 @@ fn lacks_one_of(
     table: &ClassTable,
     class: ClassName,
     indexes: &[u8],
-    home: usize,
+    home: PackagePlace,
     methods: &[Method],
 ) -> bool
-    requires { home ≤ 256 }
     ensures { result ≡ list_any (is_unimplemented table.now class indexes.now home) methods.now }
 {
     methods.iter().any(|method| is_unimplemented(table, class, indexes, home, method))
@@ -222,8 +220,7 @@ fn misses_one(table: &ClassTable, class: ClassName, indexes: &[u8]) -> bool
 }
 
 /// Whether a class doesn't keep a row of the package that stands there.
-fn breaks_row(table: &ClassTable, class: ClassName, home: usize, row: &ImplementedInterface) -> bool
-    requires { home ≤ 256 }
+fn breaks_row(table: &ClassTable, class: ClassName, home: PackagePlace, row: &ImplementedInterface) -> bool
     ensures { result ≡ breaks_row table.now class (record { home = home; row = row.now }) }
 {
     if misses_one(table, class, row.indexes()) {
@@ -239,10 +236,9 @@ fn breaks_row(table: &ClassTable, class: ClassName, home: usize, row: &Implement
 fn breaks_one_of(
     table: &ClassTable,
     class: ClassName,
-    home: usize,
+    home: PackagePlace,
     rows: &[ImplementedInterface],
 ) -> bool
-    requires { home ≤ 256 }
     ensures { result ≡ list_any (λ row. breaks_row table.now class (record { home = home; row = row })) rows.now }
 {
     rows.iter().any(|row| breaks_row(table, class, home, row))

@@ -26,16 +26,16 @@ use crate::world::{Linked, LinkedBody, World};
 use jc_base::{LoadFault, Parts};
 use jc_cap_desc::{Package, read_package};
 use jc_classes::{ClassTable, PackageShape};
+use jc_names::PackagePlace;
 use std::alloc::{AllocError, Global};
 
 /// What is wrong with the classes or the static fields of the package that stands there, or that it is there already.
 fn class_fault(
     table: &ClassTable,
-    home: usize,
+    home: PackagePlace,
     shape: &PackageShape,
     linked: &Package,
 ) -> Option<LoadFault>
-    requires { home ≤ 256 }
     ensures { result ≡ class_fault table.now home shape.now linked.now.body }
 {
     if let Some(offset) = first_bad_class(table, home, shape) {
@@ -51,8 +51,7 @@ fn class_fault(
 }
 
 /// What is wrong with the entries of the pool of the package that stands there.
-fn pool_fault(table: &ClassTable, home: usize, linked: &Package) -> Option<LoadFault>
-    requires { home ≤ 256 }
+fn pool_fault(table: &ClassTable, home: PackagePlace, linked: &Package) -> Option<LoadFault>
     ensures { result ≡ pool_fault table.now home linked.now.body }
 {
     if let Some(index) = first_unresolved(table, home, linked) {
@@ -67,11 +66,10 @@ fn pool_fault(table: &ClassTable, home: usize, linked: &Package) -> Option<LoadF
 /// Why the package that stands there isn't well-formed.
 fn linking_fault(
     table: &ClassTable,
-    home: usize,
+    home: PackagePlace,
     shape: &PackageShape,
     linked: &Package,
 ) -> Option<LoadFault>
-    requires most { home ≤ 256 }
     requires same { shape.now ≡ linked.now.shape }
     ensures { result ≡ linking_fault table.now home linked.now }
 {
@@ -103,10 +101,9 @@ fn with_package(
 fn linked_body(
     alloc: Global,
     table: &ClassTable,
-    home: usize,
+    home: PackagePlace,
     linked: &Package,
 ) -> Result<LinkedBody, AllocError>
-    requires most { home ≤ 256 }
     requires lead { LeadSomewhere table.now home linked.now.body.pool }
     ensures kept { IfOk result (λ body. body.kept ≡ kept_of linked.now.body) }
     ensures targets { IfOk result (λ body. map Some body.targets ≡ pool_targets table.now home linked.now.body.pool) }
@@ -145,7 +142,8 @@ fn bound(
     ensures { IfOk result (λ l. IsLinked world.now.shapes linked.now l) }
 {
     leads(world, &table, linked);
-    let body = linked_body(alloc, &table, world.len(), linked)?;
+    let home = PackagePlace::new(world.len());
+    let body = linked_body(alloc, &table, home, linked)?;
     Ok(Linked { table, body })
 }
 
@@ -161,7 +159,7 @@ pub fn link_package(alloc: Global, read: &Package, world: &World) -> Result<Link
     let Ok(table) = with_package(alloc, world.table(), read) else {
         return Err(LoadFault::Memory);
     };
-    let home = world.table().len();
+    let home = PackagePlace::new(world.table().len());
     let Some(shape) = table.shape(home) else {
         return Err(LoadFault::Memory);
     };

@@ -1,12 +1,12 @@
 //! What entries of the constant pool name.
 
-use jc_names::{ClassName, MethodName};
+use jc_names::{ClassName, MethodName, PackagePlace};
 
 /// Where a static member stands.
 #[derive(Clone, Copy)]
 pub struct StaticPlace {
     /// Where its package stands among the packages of the world, those of the API first.
-    pub home: usize,
+    pub home: PackagePlace,
     /// Where it stands in the package's static image, or in its Method component.
     pub offset: u16,
 }

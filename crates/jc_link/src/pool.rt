@@ -11,10 +11,10 @@ use crate::named::{Named, StaticPlace};
 use jc_cap_desc::Package;
 use jc_cap_pool::{MemberRef, PoolEntry, StaticRef};
 use jc_classes::{ClassTable, Export, Method, method_name};
-use jc_names::{ClassName, MethodName};
+use jc_names::{ClassName, MethodName, PackagePlace};
 
 /// What a package exports under a class token.
-fn export_at(table: &ClassTable, there: usize, class: u8) -> Option<&Export>
+fn export_at(table: &ClassTable, there: PackagePlace, class: u8) -> Option<&Export>
     ensures { option_map (λ e. e.now) result ≡ option_and_then (λ shape. slice_get shape.exports class) (slice_get table.now there) }
 {
     let shape = table.shape(there)?;
@@ -22,8 +22,7 @@ fn export_at(table: &ClassTable, there: usize, class: u8) -> Option<&Export>
 }
 
 /// Where a static field stands that an entry of the package that stands there refers to.
-fn static_field_place(table: &ClassTable, home: usize, reference: StaticRef) -> Option<StaticPlace>
-    requires { home ≤ 256 }
+fn static_field_place(table: &ClassTable, home: PackagePlace, reference: StaticRef) -> Option<StaticPlace>
     ensures { result ≡ static_place (λ row. row.fields) table.now home reference }
 {
     match reference {
@@ -45,10 +44,8 @@ fn static_field_place(table: &ClassTable, home: usize, reference: StaticRef) -> 
 }
 
 /// Where a static method or a constructor stands that an entry of the package that stands there refers to.
-fn static_method_place(table: &ClassTable, home: usize, reference: StaticRef) -> Option<StaticPlace>
-    requires { home ≤ 256 }
-    ensures found { result ≡ static_place (λ row. row.methods) table.now home reference }
-    ensures most { IfSome result (λ place. place.home ≤ 256) }
+fn static_method_place(table: &ClassTable, home: PackagePlace, reference: StaticRef) -> Option<StaticPlace>
+    ensures { result ≡ static_place (λ row. row.methods) table.now home reference }
 {
     match reference {
         StaticRef::Internal { offset } => Some(StaticPlace { home, offset }),
@@ -97,13 +94,13 @@ fn named_field(table: &ClassTable, class: ClassName, token: u8) -> Option<Named>
 }
 
 /// A virtual method of a class, which is no interface, looked up for the package that stands there.
-fn named_virtual(table: &ClassTable, home: usize, class: ClassName, token: u8) -> Option<Named>
+fn named_virtual(table: &ClassTable, home: PackagePlace, class: ClassName, token: u8) -> Option<Named>
     ensures { result ≡ named_virtual table.now home token class }
 {
     if !is_class_at(table, class) {
         return None;
     }
-    let method = table.virtual_method_for(class, token, home)?;
+    let method = table.virtual_method_for(class, token, home.index())?;
     Some(Named::VirtualMethod {
         class,
         token,
@@ -114,18 +111,18 @@ fn named_virtual(table: &ClassTable, home: usize, class: ClassName, token: u8) -
 /// The virtual method of the superclass of a class, looked up for the package that stands there.
 pub(crate) fn method_above(
     table: &ClassTable,
-    home: usize,
+    home: PackagePlace,
     class: ClassName,
     token: u8,
 ) -> Option<MethodName>
     ensures { result ≡ method_above table.now home token class }
 {
     let above = table.superclass_of(class)?;
-    table.virtual_method_for(above, token, home)
+    table.virtual_method_for(above, token, home.index())
 }
 
 /// A method, not abstract, of the superclass of a class, looked up for the package that stands there.
-fn named_above(table: &ClassTable, home: usize, class: ClassName, token: u8) -> Option<Named>
+fn named_above(table: &ClassTable, home: PackagePlace, class: ClassName, token: u8) -> Option<Named>
     ensures { result ≡ named_above table.now home token class }
 {
     if !is_class_at(table, class) {
@@ -148,7 +145,6 @@ fn named_static_field(table: &ClassTable, place: StaticPlace) -> Option<Named>
 
 /// A static method or a constructor, not abstract.
 fn named_static_method(table: &ClassTable, place: StaticPlace) -> Option<Named>
-    requires { place.home ≤ 256 }
     ensures { result ≡ named_static_method table.now place }
 {
     let method = method_name(place.home, place.offset);
@@ -159,8 +155,7 @@ fn named_static_method(table: &ClassTable, place: StaticPlace) -> Option<Named>
 }
 
 /// What an entry of the package that stands there names.
-pub(crate) fn named_by(table: &ClassTable, home: usize, entry: PoolEntry) -> Option<Named>
-    requires { home ≤ 256 }
+pub(crate) fn named_by(table: &ClassTable, home: PackagePlace, entry: PoolEntry) -> Option<Named>
     ensures { result ≡ named_by table.now home entry }
 {
     match entry {
@@ -189,8 +184,7 @@ pub(crate) fn named_by(table: &ClassTable, home: usize, entry: PoolEntry) -> Opt
 }
 
 /// Whether the entry at an index is there, and names nothing.
-fn is_unresolved_at(table: &ClassTable, home: usize, linked: &Package, index: u16) -> bool
-    requires { home ≤ 256 }
+fn is_unresolved_at(table: &ClassTable, home: PackagePlace, linked: &Package, index: u16) -> bool
     ensures { result ≡ option_map_or (is_unresolved table.now home) (slice_get linked.now.body.pool index) false }
 {
     match linked.pool().at(index) {
@@ -200,8 +194,7 @@ fn is_unresolved_at(table: &ClassTable, home: usize, linked: &Package, index: u1
 }
 
 /// The index of the first entry among so many of the package that stands there that names nothing.
-fn first_unresolved_of(table: &ClassTable, home: usize, linked: &Package, count: u16) -> Option<u16>
-    requires { home ≤ 256 }
+fn first_unresolved_of(table: &ClassTable, home: PackagePlace, linked: &Package, count: u16) -> Option<u16>
     ensures { count ≡ length linked.now.body.pool → result ≡ first_unresolved table.now home linked.now.body.pool }
 {
     for index in 0..count {
@@ -213,8 +206,7 @@ fn first_unresolved_of(table: &ClassTable, home: usize, linked: &Package, count:
 }
 
 /// The index of the first entry of the package that stands there that names nothing.
-pub(crate) fn first_unresolved(table: &ClassTable, home: usize, linked: &Package) -> Option<u16>
-    requires { home ≤ 256 }
+pub(crate) fn first_unresolved(table: &ClassTable, home: PackagePlace, linked: &Package) -> Option<u16>
     ensures { result ≡ first_unresolved table.now home linked.now.body.pool }
 {
     first_unresolved_of(table, home, linked, linked.pool().count())

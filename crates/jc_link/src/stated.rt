@@ -17,18 +17,16 @@ use jc_base::{ClassRef, DeclaredType, ReturnType};
 use jc_cap_desc::Package;
 use jc_cap_pool::{Descriptor, Parameters, PoolEntry};
 use jc_classes::ClassTable;
-use jc_names::{ClassName, MethodName};
+use jc_names::{ClassName, MethodName, PackagePlace};
 
 /// Whether the types that an entry states are those of parameters, as two packages spell them.
 fn parameters_agree(
     table: &ClassTable,
-    home: usize,
+    home: PackagePlace,
     stated: &Parameters,
-    there: usize,
+    there: PackagePlace,
     others: &[DeclaredType<ClassRef>],
 ) -> bool
-    requires home { home ≤ 256 }
-    requires there { there ≤ 256 }
     ensures { result ≡ types_agree (type_class table.now home) (type_class table.now there) stated.now others.now }
 {
     let mut left = stated.again();
@@ -46,14 +44,12 @@ fn parameters_agree(
 /// Whether the type that an entry states is that of a member, as two packages spell them.
 fn stated_agrees(
     table: &ClassTable,
-    home: usize,
+    home: PackagePlace,
     stated: &Descriptor,
-    there: usize,
+    there: PackagePlace,
     parameters: &[DeclaredType<ClassRef>],
     given: ReturnType<ClassRef>,
 ) -> bool
-    requires home { home ≤ 256 }
-    requires there { there ≤ 256 }
     ensures { result ≡ signature_agrees (type_class table.now home) (type_class table.now there) stated.now (record { parameters = parameters.now; result = given }) }
 {
     parameters_agree(table, home, &stated.parameters(), there, parameters)
@@ -64,13 +60,11 @@ fn stated_agrees(
 #[tactic(auto, using(crate::proofs::Agree::field_agrees_is))]
 fn is_field_type(
     table: &ClassTable,
-    home: usize,
+    home: PackagePlace,
     stated: &Descriptor,
-    there: usize,
+    there: PackagePlace,
     declared: DeclaredType<ClassRef>,
 ) -> bool
-    requires home { home ≤ 256 }
-    requires there { there ≤ 256 }
     ensures { result ≡ have_same_type (member_type_of table.now home stated.now) (option_map as_member (type_found (type_class table.now there) declared)) }
 {
     stated_agrees(table, home, stated, there, &[], ReturnType::Value(declared))
@@ -80,12 +74,11 @@ fn is_field_type(
 #[tactic(auto, using(crate::proofs::Agree::agree_none))]
 fn is_instance_type(
     table: &ClassTable,
-    home: usize,
+    home: PackagePlace,
     stated: &Descriptor,
     class: ClassName,
     token: u8,
 ) -> bool
-    requires { home ≤ 256 }
     ensures { result ≡ have_same_type (member_type_of table.now home stated.now) (option_map as_member (instance_type_of table.now class token)) }
 {
     match instance_field_at(table, class, token) {
@@ -96,8 +89,7 @@ fn is_instance_type(
 
 /// Whether the type that an entry states is that of a static field.
 #[tactic(auto, using(crate::proofs::Agree::agree_none))]
-fn is_static_type(table: &ClassTable, home: usize, stated: &Descriptor, place: StaticPlace) -> bool
-    requires { home ≤ 256 }
+fn is_static_type(table: &ClassTable, home: PackagePlace, stated: &Descriptor, place: StaticPlace) -> bool
     ensures { result ≡ have_same_type (member_type_of table.now home stated.now) (option_map as_member (static_type_of table.now place)) }
 {
     match static_field_at(table, place) {
@@ -108,8 +100,7 @@ fn is_static_type(table: &ClassTable, home: usize, stated: &Descriptor, place: S
 
 /// Whether the type that an entry states is that of a method.
 #[tactic(auto, using(crate::proofs::Agree::agree_none, crate::proofs::Agree::signature_agrees_is))]
-fn is_method_type(table: &ClassTable, home: usize, stated: &Descriptor, method: MethodName) -> bool
-    requires { home ≤ 256 }
+fn is_method_type(table: &ClassTable, home: PackagePlace, stated: &Descriptor, method: MethodName) -> bool
     ensures { result ≡ have_same_type (member_type_of table.now home stated.now) (method_type_of table.now method) }
 {
     match table.method_at(method) {
@@ -127,8 +118,7 @@ fn is_method_type(table: &ClassTable, home: usize, stated: &Descriptor, method: 
 
 /// Whether the type that an entry states is that of the member that is named.
 #[tactic(auto, using(crate::proofs::Agree::agree_none))]
-fn is_type_of(table: &ClassTable, home: usize, stated: &Descriptor, named: Named) -> bool
-    requires { home ≤ 256 }
+fn is_type_of(table: &ClassTable, home: PackagePlace, stated: &Descriptor, named: Named) -> bool
     ensures { result ≡ have_same_type (member_type_of table.now home stated.now) (named_type_of table.now named) }
 {
     match named {
@@ -159,8 +149,7 @@ fn is_member(entry: PoolEntry) -> bool
 
 /// Whether an entry names a member of the type that it states.
 #[tactic(auto, using(crate::proofs::Agree::agree_none))]
-fn has_stated_type(table: &ClassTable, home: usize, entry: PoolEntry, stated: &Descriptor) -> bool
-    requires { home ≤ 256 }
+fn has_stated_type(table: &ClassTable, home: PackagePlace, entry: PoolEntry, stated: &Descriptor) -> bool
     ensures { result ≡ have_same_type (member_type_of table.now home stated.now) (option_and_then (named_type_of table.now) (named_by table.now home entry)) }
 {
     match named_by(table, home, entry) {
@@ -170,16 +159,14 @@ fn has_stated_type(table: &ClassTable, home: usize, entry: PoolEntry, stated: &D
 }
 
 /// Whether an entry states another type than that of the member that it names.
-fn is_mistyped(table: &ClassTable, home: usize, entry: PoolEntry, stated: &Descriptor) -> bool
-    requires { home ≤ 256 }
+fn is_mistyped(table: &ClassTable, home: PackagePlace, entry: PoolEntry, stated: &Descriptor) -> bool
     ensures { result ≡ is_mistyped table.now home entry (Some stated.now) }
 {
     is_member(entry) && !has_stated_type(table, home, entry, stated)
 }
 
 /// Whether the entry at an index is there, and states another type than that of the member that it names.
-fn is_mistyped_at(table: &ClassTable, home: usize, linked: &Package, index: u16) -> bool
-    requires { home ≤ 256 }
+fn is_mistyped_at(table: &ClassTable, home: PackagePlace, linked: &Package, index: u16) -> bool
     ensures { result ≡ is_mistyped_at table.now home linked.now.body index }
 {
     let Some(entry) = linked.pool().at(index) else {
@@ -193,8 +180,7 @@ fn is_mistyped_at(table: &ClassTable, home: usize, linked: &Package, index: u16)
 
 /// The index of the first entry among so many of the package that stands there that states another type than that of the
 /// member that it names.
-fn first_mistyped_of(table: &ClassTable, home: usize, linked: &Package, count: u16) -> Option<u16>
-    requires { home ≤ 256 }
+fn first_mistyped_of(table: &ClassTable, home: PackagePlace, linked: &Package, count: u16) -> Option<u16>
     ensures { count ≡ length linked.now.body.pool → result ≡ first_mistyped table.now home linked.now.body }
 {
     for index in 0..count {
@@ -207,8 +193,7 @@ fn first_mistyped_of(table: &ClassTable, home: usize, linked: &Package, count: u
 
 /// The index of the first entry of the package that stands there that states another type than that of the member that it
 /// names.
-pub(crate) fn first_mistyped(table: &ClassTable, home: usize, linked: &Package) -> Option<u16>
-    requires { home ≤ 256 }
+pub(crate) fn first_mistyped(table: &ClassTable, home: PackagePlace, linked: &Package) -> Option<u16>
     ensures { result ≡ first_mistyped table.now home linked.now.body }
 {
     first_mistyped_of(table, home, linked, linked.pool().count())

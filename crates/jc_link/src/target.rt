@@ -16,7 +16,7 @@ use jc_base::{ClassRef, DeclaredType, ReturnType};
 use jc_cap_desc::Package;
 use jc_cap_pool::PoolEntry;
 use jc_classes::{ClassTable, Method};
-use jc_names::{ClassName, MethodName};
+use jc_names::{ClassName, MethodName, PackagePlace};
 use std::alloc::{AllocError, Global};
 use std::marker::Model;
 
@@ -78,10 +78,9 @@ pub enum PoolTarget {
 fn types_found(
     alloc: Global,
     table: &ClassTable,
-    home: usize,
+    home: PackagePlace,
     types: &[DeclaredType<ClassRef>],
 ) -> Result<Option<Vec<DeclaredType<ClassName>>>, AllocError>
-    requires { home ≤ 256 }
     ensures { IfOk result (λ found. option_map (λ types. types.items) found ≡ types_found (type_class table.now home) types.now) }
 {
     let mut found = Vec::new(alloc);
@@ -98,10 +97,9 @@ fn types_found(
 pub fn member_type(
     alloc: Global,
     table: &ClassTable,
-    home: usize,
+    home: PackagePlace,
     method: &Method,
 ) -> Result<Option<MemberType>, AllocError>
-    requires { home ≤ 256 }
     ensures { IfOk result (λ type. type ≡ member_type_of table.now home method.now.signature) }
 {
     let Some(parameters) = types_found(alloc, table, home, method.parameters())? else {
@@ -252,10 +250,9 @@ pub(crate) fn target_of(
 fn pool_target_of(
     alloc: Global,
     table: &ClassTable,
-    home: usize,
+    home: PackagePlace,
     entry: PoolEntry,
 ) -> Result<Option<PoolTarget>, AllocError>
-    requires { home ≤ 256 }
     ensures { IfOk result (λ target. target ≡ pool_target_of table.now home entry) }
 {
     match named_by(table, home, entry) {
@@ -268,10 +265,9 @@ fn pool_target_of(
 pub(crate) fn pool_targets(
     alloc: Global,
     table: &ClassTable,
-    home: usize,
+    home: PackagePlace,
     linked: &Package,
 ) -> Result<Vec<PoolTarget>, AllocError>
-    requires most { home ≤ 256 }
     requires lead { LeadSomewhere table.now home linked.now.body.pool }
     ensures { IfOk result (λ targets. map Some targets.items ≡ pool_targets table.now home linked.now.body.pool) }
 {

@@ -10,7 +10,7 @@ ghost use Rattle.jc_link.specs.PrivateAgree.{type_agrees, types_agree, return_ag
 use jc_api::ApiClass;
 use jc_base::{ClassRef, DeclaredType, ReturnType};
 use jc_classes::{ClassTable, DeclaredMethod, Field, Method};
-use jc_names::{ClassName, MethodName};
+use jc_names::{ClassName, MethodName, PackagePlace};
 
 /// A class as it counts in types: an interface as Object.
 pub fn counted(table: &ClassTable, class: ClassName) -> ClassName
@@ -23,8 +23,7 @@ pub fn counted(table: &ClassTable, class: ClassName) -> ClassName
 }
 
 /// The class that a reference of the package that stands there stands for in a type.
-pub(crate) fn type_class(table: &ClassTable, home: usize, reference: ClassRef) -> Option<ClassName>
-    requires { home ≤ 256 }
+pub(crate) fn type_class(table: &ClassTable, home: PackagePlace, reference: ClassRef) -> Option<ClassName>
     ensures { result ≡ type_class table.now home reference }
 {
     let class = table.class_named(home, reference)?;
@@ -34,10 +33,9 @@ pub(crate) fn type_class(table: &ClassTable, home: usize, reference: ClassRef) -
 /// A type with its class found, if it is.
 pub fn type_found(
     table: &ClassTable,
-    home: usize,
+    home: PackagePlace,
     declared: DeclaredType<ClassRef>,
 ) -> Option<DeclaredType<ClassName>>
-    requires { home ≤ 256 }
     ensures { result ≡ type_found (type_class table.now home) declared }
 {
     match declared {
@@ -59,10 +57,9 @@ pub fn type_found(
 /// A result with its class found, if it is.
 pub fn return_found(
     table: &ClassTable,
-    home: usize,
+    home: PackagePlace,
     declared: ReturnType<ClassRef>,
 ) -> Option<ReturnType<ClassName>>
-    requires { home ≤ 256 }
     ensures { result ≡ return_found (type_class table.now home) declared }
 {
     match declared {
@@ -104,13 +101,11 @@ pub(crate) fn is_same_return(one: ReturnType<ClassName>, other: ReturnType<Class
 /// Whether two types that are spelled in two packages are found, and are one.
 pub(crate) fn type_agrees(
     table: &ClassTable,
-    home: usize,
+    home: PackagePlace,
     one: DeclaredType<ClassRef>,
-    there: usize,
+    there: PackagePlace,
     other: DeclaredType<ClassRef>,
 ) -> bool
-    requires home { home ≤ 256 }
-    requires there { there ≤ 256 }
     ensures { result ≡ type_agrees (type_class table.now home) (type_class table.now there) one other }
 {
     match (
@@ -125,13 +120,11 @@ pub(crate) fn type_agrees(
 /// Whether two results that are spelled in two packages are found, and are one.
 pub(crate) fn return_agrees(
     table: &ClassTable,
-    home: usize,
+    home: PackagePlace,
     one: ReturnType<ClassRef>,
-    there: usize,
+    there: PackagePlace,
     other: ReturnType<ClassRef>,
 ) -> bool
-    requires home { home ≤ 256 }
-    requires there { there ≤ 256 }
     ensures { result ≡ return_agrees (type_class table.now home) (type_class table.now there) one other }
 {
     match (
@@ -146,13 +139,11 @@ pub(crate) fn return_agrees(
 /// Whether two lists of types that are spelled in two packages are found, and are one.
 fn types_agree(
     table: &ClassTable,
-    home: usize,
+    home: PackagePlace,
     types: &[DeclaredType<ClassRef>],
-    there: usize,
+    there: PackagePlace,
     others: &[DeclaredType<ClassRef>],
 ) -> bool
-    requires home { home ≤ 256 }
-    requires there { there ≤ 256 }
     ensures { result ≡ types_agree (type_class table.now home) (type_class table.now there) types.now others.now }
 {
     if types.len() != others.len() {
@@ -170,13 +161,11 @@ fn types_agree(
 #[tactic(auto, using(crate::proofs::Agree::signature_agrees_is))]
 fn same_spelled_type(
     table: &ClassTable,
-    home: usize,
+    home: PackagePlace,
     one: &Method,
-    there: usize,
+    there: PackagePlace,
     other: &Method,
 ) -> bool
-    requires home { home ≤ 256 }
-    requires there { there ≤ 256 }
     ensures { result ≡ have_same_type (member_type_of table.now home one.now.signature) (member_type_of table.now there other.now.signature) }
 {
     types_agree(table, home, one.parameters(), there, other.parameters())
@@ -184,16 +173,14 @@ fn same_spelled_type(
 }
 
 /// Whether the class of a field's type is there.
-pub(crate) fn is_known_field(table: &ClassTable, home: usize, field: &Field) -> bool
-    requires { home ≤ 256 }
+pub(crate) fn is_known_field(table: &ClassTable, home: PackagePlace, field: &Field) -> bool
     ensures { result ≡ is_some (field_type_of table.now home field.now) }
 {
     type_found(table, home, field.declared_type()).is_some()
 }
 
 /// Whether the classes of types are there.
-fn are_known_types(table: &ClassTable, home: usize, types: &[DeclaredType<ClassRef>]) -> bool
-    requires { home ≤ 256 }
+fn are_known_types(table: &ClassTable, home: PackagePlace, types: &[DeclaredType<ClassRef>]) -> bool
     ensures { result ≡ list_all (λ t. is_some (type_found (type_class table.now home) t)) types.now }
 {
     types
@@ -203,8 +190,7 @@ fn are_known_types(table: &ClassTable, home: usize, types: &[DeclaredType<ClassR
 
 /// Whether the classes of a method's type are there.
 #[tactic(auto, using(crate::proofs::Agree::signature_there))]
-pub fn is_known_method(table: &ClassTable, home: usize, method: &Method) -> bool
-    requires { home ≤ 256 }
+pub fn is_known_method(table: &ClassTable, home: PackagePlace, method: &Method) -> bool
     ensures { result ≡ is_some (member_type_of table.now home method.now.signature) }
 {
     are_known_types(table, home, method.parameters())
@@ -243,11 +229,10 @@ pub(crate) fn same_method_type(table: &ClassTable, one: MethodName, other: Metho
 #[tactic(auto, using(crate::proofs::Agree::agree_none))]
 pub(crate) fn implements_type(
     table: &ClassTable,
-    home: usize,
+    home: PackagePlace,
     spelled: &Method,
     method: Option<MethodName>,
 ) -> bool
-    requires { home ≤ 256 }
     ensures { result ≡ have_same_type (member_type_of table.now home spelled.now.signature) (option_and_then (method_type_of table.now) method) }
 {
     let Some(name) = method else {

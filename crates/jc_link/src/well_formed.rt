@@ -11,11 +11,10 @@ use crate::classes::{
 };
 use crate::inherited::{is_unfinished, loses_method, overrides_with_another_type};
 use jc_classes::{Class, ClassTable, PackageShape};
-use jc_names::ClassName;
+use jc_names::{ClassName, PackagePlace};
 
 /// Whether something is wrong with a class by itself.
-fn is_bad_alone(table: &ClassTable, home: usize, class: ClassName, found: &Class) -> bool
-    requires { home ≤ 256 }
+fn is_bad_alone(table: &ClassTable, home: PackagePlace, class: ClassName, found: &Class) -> bool
     ensures { result ≡ is_bad_alone table.now home class found.now }
 {
     lacks_superclass(table, class, found)
@@ -29,7 +28,7 @@ fn is_bad_alone(table: &ClassTable, home: usize, class: ClassName, found: &Class
 }
 
 /// Whether something is wrong with a class by what it inherits.
-fn is_bad_heir(table: &ClassTable, home: usize, class: ClassName, found: &Class) -> bool
+fn is_bad_heir(table: &ClassTable, home: PackagePlace, class: ClassName, found: &Class) -> bool
     ensures { result ≡ is_bad_heir table.now home class found.now }
 {
     loses_method(table, home, class)
@@ -38,8 +37,7 @@ fn is_bad_heir(table: &ClassTable, home: usize, class: ClassName, found: &Class)
 }
 
 /// Whether a class of the package that stands there isn't well-formed. One that has no name isn't.
-fn is_bad_class(table: &ClassTable, home: usize, found: &Class) -> bool
-    requires { home ≤ 256 }
+fn is_bad_class(table: &ClassTable, home: PackagePlace, found: &Class) -> bool
     ensures { result ≡ is_bad_class table.now home found.now }
 {
     match found.name(home) {
@@ -51,8 +49,7 @@ fn is_bad_class(table: &ClassTable, home: usize, found: &Class) -> bool
 }
 
 /// The first class of the package that stands there that isn't well-formed.
-fn bad_class<'t>(table: &ClassTable, home: usize, shape: &'t PackageShape) -> Option<&'t Class>
-    requires { home ≤ 256 }
+fn bad_class<'t>(table: &ClassTable, home: PackagePlace, shape: &'t PackageShape) -> Option<&'t Class>
     ensures { option_map (λ k. k.now) result ≡ find (is_bad_class table.now home) shape.now.classes }
 {
     shape
@@ -62,8 +59,7 @@ fn bad_class<'t>(table: &ClassTable, home: usize, shape: &'t PackageShape) -> Op
 }
 
 /// Where the first class stands of the package that stands there that isn't well-formed.
-pub(crate) fn first_bad_class(table: &ClassTable, home: usize, shape: &PackageShape) -> Option<u16>
-    requires { home ≤ 256 }
+pub(crate) fn first_bad_class(table: &ClassTable, home: PackagePlace, shape: &PackageShape) -> Option<u16>
     ensures { result ≡ first_bad_class table.now home shape.now }
 {
     let found = bad_class(table, home, shape)?;

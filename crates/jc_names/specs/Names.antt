@@ -1,12 +1,15 @@
 -- Names of classes and methods, which each has once in a world of packages, and where they stand there (Java Card Virtual Machine
 -- Specification, CAP file format: class_ref; Linking).
 use Rattle.std.specs.Prelude.{ℕ, zero, suc, ◌-◌, ◌==◌, Bool, false, ◌&&◌, Option, Some, None, nat_lt, if◌then◌else◌}
-use Rattle.std.specs.Option.{option_and_then}
+use Rattle.std.specs.Option.{option_and_then, option_map}
 use Rattle.jc_api.specs.Class.{class_of, number_of, package_of}
+use Rattle.jc_api.specs.Member.{member_of}
 use Rattle.jc_api.specs.declared.class.ApiPackage.{ApiPackage}
 use Rattle.jc_api.specs.declared.class.ApiPackage.TheVariants.{Lang, Framework}
 use Rattle.jc_names.specs.declared.name.ClassName.{ClassName}
 use Rattle.jc_names.specs.declared.name.ClassName.TheVariants.{Api, Loaded}
+use Rattle.jc_names.specs.declared.name.MethodName.{MethodName}
+use Rattle.jc_names.specs.declared.name.MethodName.TheVariants as methods
 
 -- ---- packages: those of the API stand first in a world, and the loaded ones behind them, with numbers from 1 on
 
@@ -20,9 +23,7 @@ abbrev pub home_at : ℕ → ℕ
 home_at number = suc number
 
 abbrev pub number_at : ℕ → Option ℕ
-number_at zero = None
-number_at (suc zero) = None
-number_at (suc (suc n)) = Some (suc n)
+number_at home = if nat_lt home 2 then None else Some (home - 1)
 
 -- ---- classes
 
@@ -51,3 +52,16 @@ is_same_name (Api a) (Api b) = number_of a == number_of b
 is_same_name (Loaded p m) (Loaded q n) = p == q && m == n
 is_same_name (Api a) (Loaded q n) = false
 is_same_name (Loaded p m) (Api b) = false
+
+-- ---- methods
+
+-- where a method's package stands, if there is one
+abbrev pub method_home : MethodName → Option ℕ
+method_home (methods.Api member) = option_map (λ m. api_home (package_of m.class)) (member_of member)
+method_home (methods.Loaded zero offset) = None
+method_home (methods.Loaded (suc n) offset) = Some (suc (suc n))
+
+-- where a method stands in its package
+abbrev pub method_offset : MethodName → ℕ
+method_offset (methods.Api member) = member
+method_offset (methods.Loaded number offset) = offset

@@ -3,6 +3,8 @@
 
 mod name;
 mod owner;
+mod place;
 
-pub use name::{ClassName, MethodName, api_home, name_in};
+pub use name::{ClassName, MethodName, name_in};
 pub use owner::Owner;
+pub use place::PackagePlace;

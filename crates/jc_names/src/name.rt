@@ -1,9 +1,10 @@
 //! Names of classes and methods.
 
-ghost use Rattle.std.specs.Prelude.{◌≡◌, ◌≤◌};
-ghost use Rattle.jc_names.specs.Names.{api_home, api_name, home_of, is_same_name, name_in, offset_of};
+ghost use Rattle.std.specs.Prelude.{◌≡◌};
+ghost use Rattle.jc_names.specs.Names.{api_name, home_of, is_same_name, method_home, method_offset, name_in, offset_of};
 
-use jc_api::{ApiClass, ApiPackage};
+use crate::place::PackagePlace;
+use jc_api::{ApiClass, Member};
 
 /// A class or interface of a world: it has one name everywhere.
 #[derive(Clone, Copy, Debug, PartialEq, Eq)]
@@ -24,25 +25,14 @@ pub enum MethodName {
     Loaded { package: u8, offset: u16 },
 }
 
-/// Where a package of the API stands in a world: 0 or 1.
-pub fn api_home(package: ApiPackage) -> usize
-    ensures { result ≡ api_home «package» }
-{
-    match package {
-        ApiPackage::Lang => 0,
-        ApiPackage::Framework => 1,
-    }
-}
-
 impl ClassName {
-    /// Where the class's package stands in a world, from 0 to 256.
-    pub fn home(self) -> usize
-        ensures home { result ≡ home_of self }
-        ensures most { result ≤ 256 }
+    /// Where the class's package stands in a world.
+    pub fn home(self) -> PackagePlace
+        ensures { result ≡ home_of self }
     {
         match self {
-            ClassName::Api(class) => api_home(class.package()),
-            ClassName::Loaded { package, .. } => usize::from(package) + 1,
+            ClassName::Api(class) => PackagePlace::of_api(class.package()),
+            ClassName::Loaded { package, .. } => PackagePlace::of_loaded(package),
         }
     }
 
@@ -75,30 +65,53 @@ impl ClassName {
     }
 }
 
+impl MethodName {
+    /// Where the method's package stands in a world, if there is one.
+    #[tactic(auto, using(crate::proofs::Numbering::member_past))]
+    pub fn home(self) -> Option<PackagePlace>
+        ensures { result ≡ method_home self }
+    {
+        match self {
+            MethodName::Api { member } => {
+                let number = u8::try_from(member).ok()?;
+                let found = Member::from_number(number)?;
+                Some(PackagePlace::of_api(found.class.package()))
+            }
+            MethodName::Loaded { package: 0, .. } => None,
+            MethodName::Loaded { package, .. } => Some(PackagePlace::of_loaded(package)),
+        }
+    }
+
+    /// Where the method stands in its package.
+    pub fn offset(self) -> u16
+        ensures { result ≡ method_offset self }
+    {
+        match self {
+            MethodName::Api { member } => member,
+            MethodName::Loaded { offset, .. } => offset,
+        }
+    }
+}
+
 /// The class of the API with a number, if it is in the package that stands there.
-fn api_name(home: usize, number: u16) -> Option<ClassName>
+fn api_name(home: PackagePlace, number: u16) -> Option<ClassName>
     ensures { result ≡ api_name home number }
 {
     let number = u8::try_from(number).ok()?;
     let class = ApiClass::from_number(number)?;
-    if api_home(class.package()) == home {
+    if PackagePlace::of_api(class.package()).index() == home.index() {
         Some(ClassName::Api(class))
     } else {
         None
     }
 }
 
-/// The name of the class at an offset of the package that stands there, from 0 to 256; of the API's only its classes' numbers are
-/// offsets.
-pub fn name_in(home: usize, offset: u16) -> Option<ClassName>
-    requires { home ≤ 256 }
+/// The name of the class at an offset of the package that stands there; an offset of the API's packages is the number of a class.
+pub fn name_in(home: PackagePlace, offset: u16) -> Option<ClassName>
     ensures { result ≡ name_in home offset }
 {
-    if home < 2 {
-        return api_name(home, offset);
+    match home.number() {
+        None => api_name(home, offset),
+        Some(package) => Some(ClassName::Loaded { package, offset }),
     }
-    Some(ClassName::Loaded {
-        package: (home - 1) as u8,
-        offset,
-    })
 }

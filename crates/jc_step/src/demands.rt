@@ -7,7 +7,7 @@ ghost use Rattle.jc_step.specs.Coded.{argument, argument_spelled, demands_of};
 use crate::row::{Demand, Given, Place};
 use jc_base::{ClassRef, DeclaredType};
 use jc_classes::ClassTable;
-use jc_names::ClassName;
+use jc_names::{ClassName, PackagePlace};
 use jc_link::type_found;
 use jc_types::{Classes, Ty, is_below};
 
@@ -111,12 +111,11 @@ fn arguments_meet<C: Classes>(
 /// Whether a type lies below what is spelled in the package that stands there.
 fn spelled_meets<C: Classes>(
     table: &ClassTable,
-    home: usize,
+    home: PackagePlace,
     spelled: DeclaredType<ClassRef>,
     ty: Ty,
     classes: &C,
 ) -> bool
-    requires { home ≤ 256 }
     ensures { result ≡ rows.meets (C.lies_below classes.now) (argument_spelled table.now home spelled) ty }
 {
     match type_found(table, home, spelled) {
@@ -128,12 +127,11 @@ fn spelled_meets<C: Classes>(
 /// Whether types lie below what is spelled in the package that stands there.
 fn all_spelled_meet<C: Classes>(
     table: &ClassTable,
-    home: usize,
+    home: PackagePlace,
     parameters: &[DeclaredType<ClassRef>],
     types: &[Ty],
     classes: &C,
 ) -> bool
-    requires home { home ≤ 256 }
     requires count { length parameters.now ≡ length types.now }
     ensures { result ≡ rows.all_meet (C.lies_below classes.now) (map (argument_spelled table.now home) parameters.now) types.now }
 {

@@ -72,8 +72,7 @@ pub fn own_method(linked: &Linked, offset: u16) -> Option<DeclaredMethod<'_>>
     ensures { result ≡ own_method linked.now offset }
 {
     let table = linked.table();
-    let home = table.len().saturating_sub(1);
-    table.method_at(method_name(home, offset))
+    table.method_at(method_name(table.last(), offset))
 }
 
 /// Puts the types behind an instruction of a method of a linked package in place of those before it. The method is given by

@@ -9,11 +9,11 @@ ghost use Rattle.jc_classes.specs.Walk.{found};
 ghost use Rattle.jc_classes.specs.World.{class_named};
 
 use crate::methods::PACKAGE_VISIBLE;
-use jc_names::{ClassName, MethodName, PackagePlace};
 use crate::shape::{Body, ImplementedInterface};
 use crate::table::ClassTable;
 use crate::walk::{MOST_CLASSES, Step, Visit, anchor_behind};
 use jc_base::ClassRef;
+use jc_names::{ClassName, MethodName, PackagePlace};
 
 impl ClassTable {
     /// Whether a reference, as it is spelled in the package that stands there, names a class.

@@ -9,12 +9,12 @@ ghost use Rattle.jc_classes.specs.PrivateShape.{record_of};
 ghost use Rattle.jc_classes.specs.Subtype.{Implements};
 ghost use Rattle.jc_classes.specs.World.{class_named};
 
-use jc_names::{ClassName, PackagePlace};
 use crate::search::PLACES;
 use crate::shape::{Body, ImplementedInterface};
 use crate::table::ClassTable;
 use jc_base::NumberSet;
 use jc_cap_class::Superinterface;
+use jc_names::{ClassName, PackagePlace};
 
 impl ClassTable {
     /// Whether an interface is among those that another one extends.
@@ -26,7 +26,12 @@ impl ClassTable {
     }
 
     /// Whether an interface is among those that a class implements.
-    fn has_row(&self, home: PackagePlace, list: &[ImplementedInterface], interface: ClassName) -> bool
+    fn has_row(
+        &self,
+        home: PackagePlace,
+        list: &[ImplementedInterface],
+        interface: ClassName,
+    ) -> bool
         ensures { result ≡ list_any (λ i. is_this interface (class_named self.now home i.interface)) list.now }
     {
         list.iter()
@@ -44,7 +49,13 @@ impl ClassTable {
     }
 
     /// Whether the class with an index is marked, and lists an interface.
-    fn lists_at(&self, home: PackagePlace, index: usize, marks: &NumberSet, interface: ClassName) -> bool
+    fn lists_at(
+        &self,
+        home: PackagePlace,
+        index: usize,
+        marks: &NumberSet,
+        interface: ClassName,
+    ) -> bool
         requires home { home < most_packages }
         requires index { index < 256 }
         ensures { IsTrue result ↔ IsListing self.now marks.now interface home index }

@@ -8,11 +8,11 @@ ghost use Rattle.jc_classes.specs.PrivateTables.{IsFurther, IsSettled, IsTabled,
 ghost use Rattle.jc_classes.specs.Subtype.{has_whole_chain};
 ghost use Rattle.jc_names.specs.Names.{home_of};
 
-use jc_names::{ClassName, PackagePlace, name_in};
 use crate::shapes::Shapes;
 use crate::table::ClassTable;
 use crate::tables::{MethodTable, PackageTables};
 use crate::walk::MOST_CLASSES;
+use jc_names::{ClassName, PackagePlace, name_in};
 use std::alloc::{AllocError, Global};
 
 impl ClassTable {

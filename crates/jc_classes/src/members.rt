@@ -4,9 +4,9 @@ ghost use Rattle.std.specs.Prelude.{◌≡◌, ◌≤◌, IfSome};
 ghost use Rattle.jc_names.specs.Names.{method_home, method_offset};
 ghost use Rattle.jc_classes.specs.Members.{declared_in, name_of, method_at};
 
-use jc_names::{ClassName, MethodName, PackagePlace, name_in};
 use crate::shape::{Class, Method, PackageShape};
 use crate::table::ClassTable;
+use jc_names::{ClassName, MethodName, PackagePlace, name_in};
 use std::marker::Model;
 
 /// A method with its class.

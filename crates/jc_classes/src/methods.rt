@@ -5,11 +5,11 @@ ghost use Rattle.jc_classes.specs.Methods.{has_method, method_name, method_there
 ghost use Rattle.jc_classes.specs.PrivateShape.{record_of};
 ghost use Rattle.jc_classes.specs.PrivateWalk.{step_of};
 
-use jc_names::{ClassName, MethodName, PackagePlace};
 use crate::shape::{Body, PackageShape, Table};
 use crate::shapes::Shapes;
 use crate::table::ClassTable;
 use crate::walk::{MOST_CLASSES, Step, Visit, anchor_behind};
+use jc_names::{ClassName, MethodName, PackagePlace};
 
 /// Tokens from here on are package-visible.
 pub(crate) const PACKAGE_VISIBLE: u8 = 128;

@@ -8,12 +8,12 @@ ghost use Rattle.jc_classes.specs.PrivateSearch.{above_in, place_in, place, clas
 ghost use Rattle.jc_classes.specs.PrivateShape.{record_of};
 ghost use Rattle.jc_classes.specs.World.{class_named};
 
-use jc_names::{ClassName, PackagePlace};
 use crate::places::place_at;
 use crate::shape::{Body, Class, ImplementedInterface, PackageShape};
 use crate::table::ClassTable;
 use jc_base::{ClassRef, NumberSet};
 use jc_cap_class::Superinterface;
+use jc_names::{ClassName, PackagePlace};
 
 /// How many places there are for the classes of one package.
 pub(crate) const PLACES: usize = 256;

@@ -12,9 +12,9 @@ ghost use Rattle.jc_classes.specs.PrivateShape.{record_of};
 ghost use Rattle.jc_classes.specs.Limits.{IsSmall, most_packages, most_classes_of_one};
 
 use crate::copies::{Copied, all_copied};
-use jc_names::{ClassName, PackagePlace, name_in};
 use crate::shape::{Body, Class, PackageShape};
 use jc_base::{Aid, ClassRef, PackageInfo};
+use jc_names::{ClassName, PackagePlace, name_in};
 use std::alloc::{AllocError, Global};
 use std::marker::Model;
 

@@ -6,10 +6,10 @@ ghost use Rattle.jc_classes.specs.Subtype.{IsSubtype, IsOrderly, IsLeastAbove, I
 ghost use Rattle.jc_classes.specs.Walk.{most_classes};
 ghost use Rattle.jc_classes.specs.World.{superclass_of};
 
-use jc_names::ClassName;
 use crate::table::ClassTable;
 use crate::walk::{MOST_CLASSES, anchor_behind};
 use jc_api::ApiClass;
+use jc_names::ClassName;
 
 /// What is above all classes and interfaces.
 const OBJECT: ClassName = ClassName::Api(ApiClass::Object);

@@ -7,11 +7,11 @@ ghost use Rattle.jc_classes.specs.PrivateSearch.{class_placed};
 ghost use Rattle.jc_names.specs.Names.{home_of};
 ghost use Rattle.jc_classes.specs.World.{package_at, class_at, import_of, loaded_with, class_named, superclass_of};
 
-use jc_names::{ClassName, PackagePlace};
 use crate::shape::{Class, PackageShape};
 use crate::shapes::Shapes;
 use crate::tables::PackageTables;
 use jc_base::{Aid, ClassRef};
+use jc_names::{ClassName, PackagePlace};
 use std::marker::Model;
 
 /// The classes of a world: of the API's two packages, and of the loaded packages in the order in which they were put in.

@@ -11,11 +11,11 @@ ghost use Rattle.jc_classes.specs.World.{class_at};
 
 use crate::copies::{Copied, all_copied, put_copies};
 use crate::methods::PACKAGE_VISIBLE;
-use jc_names::{ClassName, MethodName, PackagePlace};
 use crate::places::{make_room, place_at};
 use crate::shape::{Class, ImplementedInterface};
 use crate::shapes::Shapes;
 use crate::walk::Visit;
+use jc_names::{ClassName, MethodName, PackagePlace};
 use std::alloc::{AllocError, Global};
 use std::marker::Model;
 

@@ -20,6 +20,8 @@ impl Model for PackagePlace {
     ghost view = { λ p. p.index };
 
     ghost invariant = { λ p. p.index ≤ 256 };
+
+    ghost inverse = { λ index. record { index = index } };
 }
 
 impl PackagePlace {

@@ -16,7 +16,11 @@ fn is_unmet(table: &ClassTable, home: PackagePlace, token: u8) -> bool
 }
 
 /// The first import of the package that stands there that no package before it meets. A byte counts a package's imports.
-pub(crate) fn first_unmet(table: &ClassTable, home: PackagePlace, shape: &PackageShape) -> Option<u8>
+pub(crate) fn first_unmet(
+    table: &ClassTable,
+    home: PackagePlace,
+    shape: &PackageShape,
+) -> Option<u8>
     requires { length shape.now.imports ≤ 255 }
     ensures { result ≡ first_unmet table.now home shape.now }
 {
@@ -24,26 +28,26 @@ pub(crate) fn first_unmet(table: &ClassTable, home: PackagePlace, shape: &Packag
     (0..count).find(|token| is_unmet(table, home, *token))
 }
 
-/// Whether a package stands there that has the AID of another one.
-fn has_aid_of(table: &ClassTable, home: PackagePlace, shape: &PackageShape) -> bool
-    ensures { result ≡ option_map_or (λ other. bytes_eq other.«package».aid shape.now.«package».aid) (slice_get table.now home) false }
+/// Whether the package with an index has the AID of another one.
+fn has_aid_of(table: &ClassTable, index: usize, shape: &PackageShape) -> bool
+    ensures { result ≡ option_map_or (λ other. bytes_eq other.«package».aid shape.now.«package».aid)
+        (slice_get table.now index) false }
 {
-    match table.shape(home) {
+    if index >= table.len() {
+        return false;
+    }
+    match table.shape(PackagePlace::new(index)) {
         Some(other) => other.package().aid == shape.package().aid,
         None => false,
     }
 }
 
-/// Whether one of so many places has a package with the AID of another one.
-fn any_has_aid_of(table: &ClassTable, count: PackagePlace, shape: &PackageShape) -> bool
-    ensures { result ≡ list_any (λ home. option_map_or (λ other. bytes_eq other.«package».aid shape.now.«package».aid) (slice_get table.now home) false) (range_with_len 0 count) }
+/// Whether one of so many packages has the AID of another one.
+fn any_has_aid_of(table: &ClassTable, count: usize, shape: &PackageShape) -> bool
+    ensures { result ≡ list_any (λ home. option_map_or (λ other. bytes_eq other.«package».aid shape.now.«package».aid)
+        (slice_get table.now home) false) (range_with_len 0 count) }
 {
-    for home in 0..count.index() {
-        if has_aid_of(table, PackagePlace::new(home), shape) {
-            return true;
-        }
-    }
-    false
+    (0..count).any(|index| has_aid_of(table, index, shape))
 }
 
 /// Whether one of the packages before a place has the AID of another one.
@@ -51,5 +55,5 @@ fn any_has_aid_of(table: &ClassTable, count: PackagePlace, shape: &PackageShape)
 pub(crate) fn is_there_already(table: &ClassTable, home: PackagePlace, shape: &PackageShape) -> bool
     ensures { result ≡ is_there_already (take home table.now) shape.now }
 {
-    any_has_aid_of(table, home, shape)
+    any_has_aid_of(table, home.index(), shape)
 }

@@ -19,7 +19,9 @@ fn loses_at(table: &ClassTable, home: PackagePlace, class: ClassName, token: u8)
     ensures { result ≡ loses_at table.now home class token }
 {
     method_above(table, home, class, token).is_some()
-        && table.virtual_method_for(class, token, home.index()).is_none()
+        && table
+            .virtual_method_for(class, token, home.index())
+            .is_none()
 }
 
 /// Whether the superclass finds a method at some token, and the class none.
@@ -73,7 +75,11 @@ fn retypes_at(table: &ClassTable, home: PackagePlace, class: ClassName, token: u
 }
 
 /// Whether the class and its superclass find methods of different types at some token.
-pub(crate) fn overrides_with_another_type(table: &ClassTable, home: PackagePlace, class: ClassName) -> bool
+pub(crate) fn overrides_with_another_type(
+    table: &ClassTable,
+    home: PackagePlace,
+    class: ClassName,
+) -> bool
     ensures { result ≡ overrides_with_another_type table.now home class }
 {
     for token in 0..256u16 {
@@ -220,7 +226,12 @@ fn misses_one(table: &ClassTable, class: ClassName, indexes: &[u8]) -> bool
 }
 
 /// Whether a class doesn't keep a row of the package that stands there.
-fn breaks_row(table: &ClassTable, class: ClassName, home: PackagePlace, row: &ImplementedInterface) -> bool
+fn breaks_row(
+    table: &ClassTable,
+    class: ClassName,
+    home: PackagePlace,
+    row: &ImplementedInterface,
+) -> bool
     ensures { result ≡ breaks_row table.now class (record { home = home; row = row.now }) }
 {
     if misses_one(table, class, row.indexes()) {

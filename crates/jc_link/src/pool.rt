@@ -22,7 +22,11 @@ fn export_at(table: &ClassTable, there: PackagePlace, class: u8) -> Option<&Expo
 }
 
 /// Where a static field stands that an entry of the package that stands there refers to.
-fn static_field_place(table: &ClassTable, home: PackagePlace, reference: StaticRef) -> Option<StaticPlace>
+fn static_field_place(
+    table: &ClassTable,
+    home: PackagePlace,
+    reference: StaticRef,
+) -> Option<StaticPlace>
     ensures { result ≡ static_place (λ row. row.fields) table.now home reference }
 {
     match reference {
@@ -44,7 +48,11 @@ fn static_field_place(table: &ClassTable, home: PackagePlace, reference: StaticR
 }
 
 /// Where a static method or a constructor stands that an entry of the package that stands there refers to.
-fn static_method_place(table: &ClassTable, home: PackagePlace, reference: StaticRef) -> Option<StaticPlace>
+fn static_method_place(
+    table: &ClassTable,
+    home: PackagePlace,
+    reference: StaticRef,
+) -> Option<StaticPlace>
     ensures { result ≡ static_place (λ row. row.methods) table.now home reference }
 {
     match reference {
@@ -94,7 +102,12 @@ fn named_field(table: &ClassTable, class: ClassName, token: u8) -> Option<Named>
 }
 
 /// A virtual method of a class, which is no interface, looked up for the package that stands there.
-fn named_virtual(table: &ClassTable, home: PackagePlace, class: ClassName, token: u8) -> Option<Named>
+fn named_virtual(
+    table: &ClassTable,
+    home: PackagePlace,
+    class: ClassName,
+    token: u8,
+) -> Option<Named>
     ensures { result ≡ named_virtual table.now home token class }
 {
     if !is_class_at(table, class) {
@@ -194,7 +207,12 @@ fn is_unresolved_at(table: &ClassTable, home: PackagePlace, linked: &Package, in
 }
 
 /// The index of the first entry among so many of the package that stands there that names nothing.
-fn first_unresolved_of(table: &ClassTable, home: PackagePlace, linked: &Package, count: u16) -> Option<u16>
+fn first_unresolved_of(
+    table: &ClassTable,
+    home: PackagePlace,
+    linked: &Package,
+    count: u16,
+) -> Option<u16>
     ensures { count ≡ length linked.now.body.pool → result ≡ first_unresolved table.now home linked.now.body.pool }
 {
     for index in 0..count {
@@ -206,7 +224,11 @@ fn first_unresolved_of(table: &ClassTable, home: PackagePlace, linked: &Package,
 }
 
 /// The index of the first entry of the package that stands there that names nothing.
-pub(crate) fn first_unresolved(table: &ClassTable, home: PackagePlace, linked: &Package) -> Option<u16>
+pub(crate) fn first_unresolved(
+    table: &ClassTable,
+    home: PackagePlace,
+    linked: &Package,
+) -> Option<u16>
     ensures { result ≡ first_unresolved table.now home linked.now.body.pool }
 {
     first_unresolved_of(table, home, linked, linked.pool().count())

@@ -89,7 +89,12 @@ fn is_instance_type(
 
 /// Whether the type that an entry states is that of a static field.
 #[tactic(auto, using(crate::proofs::Agree::agree_none))]
-fn is_static_type(table: &ClassTable, home: PackagePlace, stated: &Descriptor, place: StaticPlace) -> bool
+fn is_static_type(
+    table: &ClassTable,
+    home: PackagePlace,
+    stated: &Descriptor,
+    place: StaticPlace,
+) -> bool
     ensures { result ≡ have_same_type (member_type_of table.now home stated.now) (option_map as_member (static_type_of table.now place)) }
 {
     match static_field_at(table, place) {
@@ -100,7 +105,12 @@ fn is_static_type(table: &ClassTable, home: PackagePlace, stated: &Descriptor, p
 
 /// Whether the type that an entry states is that of a method.
 #[tactic(auto, using(crate::proofs::Agree::agree_none, crate::proofs::Agree::signature_agrees_is))]
-fn is_method_type(table: &ClassTable, home: PackagePlace, stated: &Descriptor, method: MethodName) -> bool
+fn is_method_type(
+    table: &ClassTable,
+    home: PackagePlace,
+    stated: &Descriptor,
+    method: MethodName,
+) -> bool
     ensures { result ≡ have_same_type (member_type_of table.now home stated.now) (method_type_of table.now method) }
 {
     match table.method_at(method) {
@@ -149,7 +159,12 @@ fn is_member(entry: PoolEntry) -> bool
 
 /// Whether an entry names a member of the type that it states.
 #[tactic(auto, using(crate::proofs::Agree::agree_none))]
-fn has_stated_type(table: &ClassTable, home: PackagePlace, entry: PoolEntry, stated: &Descriptor) -> bool
+fn has_stated_type(
+    table: &ClassTable,
+    home: PackagePlace,
+    entry: PoolEntry,
+    stated: &Descriptor,
+) -> bool
     ensures { result ≡ have_same_type (member_type_of table.now home stated.now) (option_and_then (named_type_of table.now) (named_by table.now home entry)) }
 {
     match named_by(table, home, entry) {
@@ -159,7 +174,12 @@ fn has_stated_type(table: &ClassTable, home: PackagePlace, entry: PoolEntry, sta
 }
 
 /// Whether an entry states another type than that of the member that it names.
-fn is_mistyped(table: &ClassTable, home: PackagePlace, entry: PoolEntry, stated: &Descriptor) -> bool
+fn is_mistyped(
+    table: &ClassTable,
+    home: PackagePlace,
+    entry: PoolEntry,
+    stated: &Descriptor,
+) -> bool
     ensures { result ≡ is_mistyped table.now home entry (Some stated.now) }
 {
     is_member(entry) && !has_stated_type(table, home, entry, stated)
@@ -180,7 +200,12 @@ fn is_mistyped_at(table: &ClassTable, home: PackagePlace, linked: &Package, inde
 
 /// The index of the first entry among so many of the package that stands there that states another type than that of the
 /// member that it names.
-fn first_mistyped_of(table: &ClassTable, home: PackagePlace, linked: &Package, count: u16) -> Option<u16>
+fn first_mistyped_of(
+    table: &ClassTable,
+    home: PackagePlace,
+    linked: &Package,
+    count: u16,
+) -> Option<u16>
     ensures { count ≡ length linked.now.body.pool → result ≡ first_mistyped table.now home linked.now.body }
 {
     for index in 0..count {
@@ -193,7 +218,11 @@ fn first_mistyped_of(table: &ClassTable, home: PackagePlace, linked: &Package, c
 
 /// The index of the first entry of the package that stands there that states another type than that of the member that it
 /// names.
-pub(crate) fn first_mistyped(table: &ClassTable, home: PackagePlace, linked: &Package) -> Option<u16>
+pub(crate) fn first_mistyped(
+    table: &ClassTable,
+    home: PackagePlace,
+    linked: &Package,
+) -> Option<u16>
     ensures { result ≡ first_mistyped table.now home linked.now.body }
 {
     first_mistyped_of(table, home, linked, linked.pool().count())

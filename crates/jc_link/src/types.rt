@@ -23,7 +23,11 @@ pub fn counted(table: &ClassTable, class: ClassName) -> ClassName
 }
 
 /// The class that a reference of the package that stands there stands for in a type.
-pub(crate) fn type_class(table: &ClassTable, home: PackagePlace, reference: ClassRef) -> Option<ClassName>
+pub(crate) fn type_class(
+    table: &ClassTable,
+    home: PackagePlace,
+    reference: ClassRef,
+) -> Option<ClassName>
     ensures { result ≡ type_class table.now home reference }
 {
     let class = table.class_named(home, reference)?;

@@ -49,7 +49,11 @@ fn is_bad_class(table: &ClassTable, home: PackagePlace, found: &Class) -> bool
 }
 
 /// The first class of the package that stands there that isn't well-formed.
-fn bad_class<'t>(table: &ClassTable, home: PackagePlace, shape: &'t PackageShape) -> Option<&'t Class>
+fn bad_class<'t>(
+    table: &ClassTable,
+    home: PackagePlace,
+    shape: &'t PackageShape,
+) -> Option<&'t Class>
     ensures { option_map (λ k. k.now) result ≡ find (is_bad_class table.now home) shape.now.classes }
 {
     shape
@@ -59,7 +63,11 @@ fn bad_class<'t>(table: &ClassTable, home: PackagePlace, shape: &'t PackageShape
 }
 
 /// Where the first class stands of the package that stands there that isn't well-formed.
-pub(crate) fn first_bad_class(table: &ClassTable, home: PackagePlace, shape: &PackageShape) -> Option<u16>
+pub(crate) fn first_bad_class(
+    table: &ClassTable,
+    home: PackagePlace,
+    shape: &PackageShape,
+) -> Option<u16>
     ensures { result ≡ first_bad_class table.now home shape.now }
 {
     let found = bad_class(table, home, shape)?;

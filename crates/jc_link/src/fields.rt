@@ -1,7 +1,6 @@
 //! Fields, and the cells of objects.
 
-ghost use Rattle.std.specs.Prelude.{◌≡◌, ◌<◌, ◌≤◌, IfSome};
-ghost use Rattle.jc_classes.specs.Limits.{most_packages};
+ghost use Rattle.std.specs.Prelude.{◌≡◌, ◌≤◌};
 ghost use Rattle.std.specs.List.{find};
 ghost use Rattle.std.specs.Option.{option_map, option_map_or};
 ghost use Rattle.jc_classes.specs.Record.{declared_size};
@@ -10,10 +9,9 @@ ghost use Rattle.jc_classes.specs.World.{class_at};
 ghost use Rattle.jc_link.specs.Named.{is_instance_field, is_static_field, instance_field_in, instance_field_at, static_field_in, static_field_at, cells_above};
 
 use crate::classes::MOST_CLASSES;
-use crate::named::StaticPlace;
 use jc_cap_desc::FieldPlace;
 use jc_classes::{Class, ClassTable, Field, PackageShape};
-use jc_names::ClassName;
+use jc_names::{ClassName, PackagePlace};
 
 /// Whether this is the place of a field of objects, under a token.
 fn is_instance_field(token: u8, place: FieldPlace) -> bool
@@ -72,13 +70,12 @@ fn static_field_in(shape: &PackageShape, offset: u16) -> Option<&Field>
     None
 }
 
-/// The static field that stands there.
-pub(crate) fn static_field_at(table: &ClassTable, place: StaticPlace) -> Option<&Field>
-    ensures found { option_map (λ f. f.now) result ≡ static_field_at table.now place }
-    ensures home { IfSome result (λ f. place.home < most_packages) }
+/// The static field at an offset of the static image of the package that stands there.
+pub(crate) fn static_field_at(table: &ClassTable, home: PackagePlace, offset: u16) -> Option<&Field>
+    ensures { option_map (λ f. f.now) result ≡ static_field_at table.now (record { home = home; offset = offset }) }
 {
-    let shape = table.shape(place.home)?;
-    static_field_in(shape, place.offset)
+    let shape = table.shape(home)?;
+    static_field_in(shape, offset)
 }
 
 /// How many cells of an object a class itself declares; none where it isn't there.

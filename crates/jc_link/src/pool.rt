@@ -152,8 +152,9 @@ fn named_above(table: &ClassTable, home: PackagePlace, class: ClassName, token: 
 fn named_static_field(table: &ClassTable, place: StaticPlace) -> Option<Named>
     ensures { result ≡ named_static_field table.now place }
 {
-    let _found = static_field_at(table, place)?;
-    Some(Named::StaticField(place))
+    let StaticPlace { home, offset } = place;
+    let _found = static_field_at(table, home, offset)?;
+    Some(Named::StaticField(StaticPlace { home, offset }))
 }
 
 /// A static method or a constructor, not abstract.

@@ -97,8 +97,12 @@ fn is_static_type(
 ) -> bool
     ensures { result ≡ have_same_type (member_type_of table.now home stated.now) (option_map as_member (static_type_of table.now place)) }
 {
-    match static_field_at(table, place) {
-        Some(field) => is_field_type(table, home, stated, place.home, field.declared_type()),
+    let StaticPlace {
+        home: there,
+        offset,
+    } = place;
+    match static_field_at(table, there, offset) {
+        Some(field) => is_field_type(table, home, stated, there, field.declared_type()),
         None => false,
     }
 }

@@ -134,11 +134,15 @@ fn instance_type(table: &ClassTable, class: ClassName, token: u8) -> Option<Decl
 }
 
 /// The type of a static field.
-fn static_type(table: &ClassTable, place: StaticPlace) -> Option<DeclaredType<ClassName>>
-    ensures { result ≡ static_type_of table.now place }
+fn static_type(
+    table: &ClassTable,
+    home: PackagePlace,
+    offset: u16,
+) -> Option<DeclaredType<ClassName>>
+    ensures { result ≡ static_type_of table.now (record { home = home; offset = offset }) }
 {
-    let field = static_field_at(table, place)?;
-    type_found(table, place.home, field.declared_type())
+    let field = static_field_at(table, home, offset)?;
+    type_found(table, home, field.declared_type())
 }
 
 /// A field of objects, with its cell and its type.
@@ -158,8 +162,12 @@ fn instance_target(table: &ClassTable, class: ClassName, token: u8) -> Option<Po
 fn static_target(table: &ClassTable, place: StaticPlace) -> Option<PoolTarget>
     ensures { result ≡ target_of table.now (Names.StaticField place) }
 {
-    let declared = static_type(table, place)?;
-    Some(PoolTarget::StaticField { place, declared })
+    let StaticPlace { home, offset } = place;
+    let declared = static_type(table, home, offset)?;
+    Some(PoolTarget::StaticField {
+        place: StaticPlace { home, offset },
+        declared,
+    })
 }
 
 /// A virtual method, with its type.

@@ -1,13 +1,13 @@
 -- The methods of a loaded package, as they are looked up in the world: each is one of a class of the package, each of
 -- those is found, and so headers and code are those of the package.
-use Rattle.std.proofs.Common.{◌≡◌, ℕ, suc, ◌-◌, ◌<◌, ◌≤◌, ◌==◌, Bool, true, false, cond, refl, sym, ap, ◌∙◌, subst}
+use Rattle.std.proofs.Common.{◌≡◌, ℕ, suc, ◌-◌, ◌≤◌, ◌==◌, Bool, true, false, cond, refl, sym, ap, ◌∙◌, subst}
 use Rattle.std.proofs.Common.{arith, List, length, Option, Some, None, is_some, nat_lt, slice_get}
 use Rattle.std.proofs.lemmas.Bool.{eq-eqb, eqb-true, le-ltb}
 use Rattle.std.specs.List.{find}
 use Rattle.std.specs.Option.{option_and_then, option_map, option_map_or}
 use Rattle.jc_cap_class.specs.Component.{is_class}
 use Rattle.jc_cap_desc.specs.Across.{is_install_signature}
-use Rattle.jc_cap_desc.specs.Shape.{ClassShape, HaveBodies, HaveHeaders, IsConcrete, IsOfClass, MethodBody, MethodShape}
+use Rattle.jc_cap_desc.specs.Shape.{ClassShape, HaveBodies, HaveHeaders, IsConcrete, IsOfClass, MethodShape}
 use Rattle.jc_cap_desc.specs.Shape.{HasBody, InstallMethods, Package, Shape}
 use Rattle.jc_classes.specs.Growth.{grown}
 use Rattle.jc_classes.specs.Members.{DeclaredMethod, declared_in, method_at, name_of}

@@ -1,5 +1,6 @@
 -- The pool of each package of a world is resolved, and stays so as packages come.
-use Rattle.std.proofs.Common.{◌≡◌, ℕ, zero, suc, ◌+◌, ◌-◌, ◌<◌, ◌≤◌, Bool, true, false, cond, List, [], ◌∷◌, ◌++◌, map, length, take, Some, None, refl, ap, sym, ◌∙◌, subst, arith, nat_lt, ◌==◌, Option, is_some, slice_get}
+use Rattle.std.proofs.Common.{◌≡◌, ℕ, zero, suc, ◌+◌, ◌-◌, ◌<◌, ◌≤◌, Bool, true, false, List, [], ◌∷◌, ◌++◌, map}
+use Rattle.std.proofs.Common.{length, take, Some, refl, ap, sym, ◌∙◌, subst, arith, nat_lt, slice_get}
 use Rattle.std.proofs.Math.Path.{fun_ext}
 use Rattle.std.proofs.Math.Seq.{take-length}
 use Rattle.std.proofs.lemmas.Bool.{ltb-true, ltb-false}
@@ -12,7 +13,8 @@ use Rattle.jc_link.proofs.OwnMethods.{all_named, coded_at, declared_at, headed_a
 use Rattle.jc_link.specs.Built.{IsBuilt}
 use Rattle.jc_link.specs.Growth.{HasApi, KeepsLinking}
 use Rattle.jc_link.specs.Kept.{kept_of}
-use Rattle.jc_link.specs.Linked.{IsBoundTo, IsKnown, IsLast, IsResolved, IsWorld, Linked, LinkedBody, World, with_linked}
+use Rattle.jc_link.specs.Linked.{IsBoundTo, IsKnown, IsLast, IsResolved, IsWorld, Linked, LinkedBody, World}
+use Rattle.jc_link.specs.Linked.{with_linked}
 use Rattle.jc_link.specs.WellFormed.{IsWellFormed}
 use Rattle.jc_link.specs.Target.{pool_targets}
 
@@ -33,8 +35,8 @@ before_end before shape = take-append-le (length before) before (shape ∷ []) (
 
 -- what is known of a package where it stands, in a world with it at the end
 known_at_end : (before : List Shape) (p : Package) (b : LinkedBody) → HasApi before → IsWellFormed before p → b.kept ≡ kept_of p.body
-    → map Some b.targets ≡ pool_targets (grown before p.shape) (length before) p.body.pool → StandApart p.body.methods → HaveHeaders p.shape
-    → HaveBodies p → InstallMethods p → IsKnown (grown before p.shape) (length before) b
+    → map Some b.targets ≡ pool_targets (grown before p.shape) (length before) p.body.pool → StandApart p.body.methods
+    → HaveHeaders p.shape → HaveBodies p → InstallMethods p → IsKnown (grown before p.shape) (length before) b
 known_at_end before p b api fine kept targets apart have bodies installs = record {
   loaded = record {
     «package» = p;
@@ -57,12 +59,13 @@ known_at_end before p b api fine kept targets apart have bodies installs = recor
 
 -- a package that is bound is the last of its world
 pub is_last : (before world : List Shape) (p : Package) (b : LinkedBody) → IsBuilt world → world ≡ grown before p.shape → IsWellFormed before p → b.kept ≡ kept_of p.body
-    → map Some b.targets ≡ pool_targets world (length before) p.body.pool → StandApart p.body.methods → HasApi before → HaveHeaders p.shape
-    → HaveBodies p → InstallMethods p → IsLast (record { world = world; body = b })
+    → map Some b.targets ≡ pool_targets world (length before) p.body.pool → StandApart p.body.methods → HasApi before
+    → HaveHeaders p.shape → HaveBodies p → InstallMethods p → IsLast (record { world = world; body = b })
 is_last before world p b built is fine kept targets apart api have bodies installs =
     let more = ap (λ w. length w) is ∙ length_more before p.shape in
     let home : length before ≡ length world - 1 = omega (arith, more) in
-    let known = known_at_end before p b api fine kept (targets ∙ ap (λ w. pool_targets w (length before) p.body.pool) is) apart have bodies installs in
+    let targets_there = targets ∙ ap (λ w. pool_targets w (length before) p.body.pool) is in
+    let known = known_at_end before p b api fine kept targets_there apart have bodies installs in
     record { built = built; known = subst (λ h. IsKnown world h b) home (subst (λ w. IsKnown w (length before) b) (sym is) known) }
 
 -- a pool that is resolved in a world is in the world with a package more
@@ -76,7 +79,8 @@ still_known : (world : List Shape) (more : Shape) (home : ℕ) (b : LinkedBody) 
     → IsKnown world home b → IsKnown (grown world more) home b
 still_known world more home b keeps api loaded h known =
     let was = known.loaded in
-    let there : slice_get (grown world more) home ≡ Some (was.«package»).shape = get_before world more home h ∙ was.there in
+    let there : slice_get (grown world more) home ≡ Some (was.«package»).shape
+    = get_before world more home h ∙ was.there in
     let names = all_named (take home world) was.«package» was.fine in
     record {
       loaded = record {

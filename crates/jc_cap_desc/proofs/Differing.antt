@@ -8,41 +8,33 @@ use Rattle.std.specs.Result.{result_ok}
 use Rattle.jc_base.specs.Parts.{Infos}
 use Rattle.jc_base.specs.Cursor.{Read, field, next_u1}
 use Rattle.jc_base.specs.Rows.{part, repeat}
-use Rattle.jc_base.specs.Tag.{descriptor_tag, method_tag}
+use Rattle.jc_base.specs.Tag.{method_tag}
 use Rattle.jc_base.specs.declared.fault.LoadFault.{LoadFault}
-use Rattle.jc_base.specs.declared.placed_rows.Placed.{Placed}
 use Rattle.jc_base.proofs.Binding.{bind_ok, the_ok, the_some, none_some, both_true}
-use Rattle.jc_cap_class.specs.declared.record.Record.{Record}
-use Rattle.jc_cap_data.specs.Applets.{applets_of}
-use Rattle.jc_cap_data.specs.declared.applets.Applet.{Applet}
 use Rattle.jc_cap_method.specs.Component.{Method, Methods, method_at, methods_of}
 use Rattle.jc_cap_method.specs.Handler.{next_handler}
 use Rattle.jc_cap_method.specs.Header.{next_header}
 use Rattle.jc_cap_method.specs.declared.header.MethodHeader.{MethodHeader}
 use Rattle.jc_cap_method.specs.declared.handler.Handler.{Handler}
-use Rattle.jc_cap_pool.specs.Pool.{pool_of}
-use Rattle.jc_cap_pool.specs.declared.entry.PoolEntry.{PoolEntry}
-use Rattle.jc_cap_desc.proofs.Few.{is_fine, none_told}
 use Rattle.jc_cap_desc.proofs.Reading.{read_of}
-use Rattle.jc_cap_desc.specs.Across.{are_distinct, class_methods, has_code, is_among, methods_differ, rows_match}
-use Rattle.jc_cap_desc.specs.Package.{told, unless, pool_fault, methods_fault, applets_fault, classes_fault, across_fault, package_of}
+use Rattle.jc_cap_desc.specs.Across.{are_distinct, class_methods, has_code, is_among}
+use Rattle.jc_cap_desc.specs.Package.{package_of}
 use Rattle.jc_cap_desc.specs.Shape.{StandApart, MethodBody, Package, body_of_method}
 use Rattle.jc_cap_desc.specs.declared.class_row.MethodRow.{MethodRow}
-use Rattle.jc_cap_desc.specs.declared.component.DescriptorInfo.{DescriptorInfo}
 
-or_left : (a b : Bool) → a ≡ true → (a || b) ≡ true
+pub or_left : (a b : Bool) → a ≡ true → (a || b) ≡ true
 or_left true b e = refl
 or_left false b e = absurd cc
 
-or_right : (a b : Bool) → b ≡ true → (a || b) ≡ true
+pub or_right : (a b : Bool) → b ≡ true → (a || b) ≡ true
 or_right true b e = refl
 or_right false b e = e
 
-is_not : (a b : Bool) → (not a && b) ≡ true → (a ≡ false) × (b ≡ true)
+pub is_not : (a b : Bool) → (not a && b) ≡ true → (a ≡ false) × (b ≡ true)
 is_not true b e = absurd cc
 is_not false b e = (refl, e)
 
-clash : (a : Bool) → a ≡ true → a ≡ false → ⊥
+pub clash : (a : Bool) → a ≡ true → a ≡ false → ⊥
 clash true e f = absurd cc
 clash false e f = absurd cc
 
@@ -80,10 +72,10 @@ module _ {A B : Type 0} (f : A → Option B) (number : A → ℕ) (its : B → �
       by_first (Some a) is apart rest (suc n) (suc k) at there = ap suc (rest n k at there same)
 
 -- a method with code has the offset of its row
-abbrev made : MethodRow → Method → List Handler → MethodBody
+abbrev pub made : MethodRow → Method → List Handler → MethodBody
 made m found handlers = record { offset = m.offset; code_offset = found.code_offset; code = take m.bytecode_count found.code; handlers = handlers }
 
-body_offset : (methods : Methods) (m : MethodRow) (b : MethodBody) → body_of_method methods m ≡ Some b → b.offset ≡ m.offset
+pub body_offset : (methods : Methods) (m : MethodRow) (b : MethodBody) → body_of_method methods m ≡ Some b → b.offset ≡ m.offset
 body_offset methods m b e = by_parts (has_code m) (method_at m.offset methods) (part m.handler_index m.handler_count methods.handlers) e
   where
     by_parts : (coded : Bool) (o : Option Method) (p : Option (List Handler)) → cond coded (option_and_then (λ found. option_map (made m found) p) o) None ≡ Some b → b.offset ≡ m.offset
@@ -91,16 +83,6 @@ body_offset methods m b e = by_parts (has_code m) (method_at m.offset methods) (
     by_parts true (Some found) None e = absurd (none_some b e)
     by_parts true None p e = absurd (none_some b e)
     by_parts false o p e = absurd (none_some b e)
-
--- no two methods of classes have one offset, where nothing is told
-across_differ : (info : DescriptorInfo) (records : List (Placed Record)) (pool : Option (List PoolEntry)) (applets : Option (Option (List Applet))) (methods : Option Methods)
-    → across_fault (Some info) (Some records) pool applets methods ≡ None → methods_differ records info.classes ≡ true
-across_differ info records pool applets methods e =
-    let last = unless (rows_match records info.classes && methods_differ records info.classes) descriptor_tag in
-    let classes = (none_told (pool_fault pool info) (classes_fault (Some records) info applets methods) e).1 in
-    let methods_fine = (none_told (applets_fault records info applets) (told (methods_fault records info methods) last) classes).1 in
-    let behind = (none_told (methods_fault records info methods) last methods_fine).1 in
-    (both_true (rows_match records info.classes) (methods_differ records info.classes) (is_fine (rows_match records info.classes && methods_differ records info.classes) descriptor_tag behind)).1
 
 -- what is made of some elements has what each that is made has
 all_made : {A B : Type 0} (f : A → Option B) (P : B → Type 0) → ((a : A) (b : B) → f a ≡ Some b → P b)
@@ -156,14 +138,16 @@ body_within methods m b e = by_parts (has_code m) (method_at m.offset methods) r
 pub stand_apart_in : (infos : Infos) (r : Result Package LoadFault) → r ≡ package_of infos → length infos.method < 2 ^ 16 → IfOk r (λ p. StandApart p.body.methods)
 stand_apart_in infos (Err fault) e short = tt
 stand_apart_in infos (Ok p) e short =
-    let read = read_of infos p e in
-    let r = read.0 in
-    let apart = across_differ r.info r.records (result_ok (pool_of infos.constant_pool)) (result_ok (applets_of infos.applet)) (Some r.methods) read.1 in
-    let distinct = (both_true (are_distinct (map (λ m. m.offset) (class_methods r.records r.info.classes))) _ apart).0 in
+    let fine = read_of infos p e in
+    let r = fine.read in
     let rows = class_methods r.records r.info.classes in
-    let short_info : length r.methods.info < 2 ^ 16 = subst (λ info. length info < 2 ^ 16) (info_kept infos.method r.methods r.are_methods) short in
-    let within : (m : MethodRow) (b : MethodBody) → body_of_method r.methods m ≡ Some b → suc b.offset < 2 ^ 16 = λ m b made. omega (arith, body_within r.methods m b made, short_info) in
+    let distinct = (both_true (are_distinct (map (λ m. m.offset) rows)) _ (fine.tested).differ).0 in
+    let info = info_kept infos.method r.methods r.are_methods in
+    let short_info : length r.methods.info < 2 ^ 16 = subst (λ info. length info < 2 ^ 16) info short in
+    let within : (m : MethodRow) (b : MethodBody) → body_of_method r.methods m ≡ Some b → suc b.offset < 2 ^ 16
+    = λ m b made. omega (arith, body_within r.methods m b made, short_info) in
     subst StandApart r.bodies (record {
-      differ = differ_where_distinct (body_of_method r.methods) (λ m. m.offset) (λ b. b.offset) (body_offset r.methods) rows distinct;
+      differ = differ_where_distinct (body_of_method r.methods) (λ m. m.offset) (λ b. b.offset)
+          (body_offset r.methods) rows distinct;
       within = all_made (body_of_method r.methods) (λ b. suc b.offset < 2 ^ 16) within rows;
     })

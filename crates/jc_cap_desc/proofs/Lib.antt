@@ -4,7 +4,13 @@ pub mod Indexing
 pub mod Installing
 mod FreshNumbers
 mod Joined
-mod Reading
-pub mod Differing
-pub mod Headed
 pub mod Typing
+mod Lists
+mod Tested
+mod Reading
+mod Differing
+mod Rowed
+mod Headed
+mod Bodied
+mod Whole
+pub mod ReadLaws

@@ -38,7 +38,7 @@ row_typed types p (first ∷ rows) row typed e = by_test (p first) e (row_typed 
     by_test true e rest = ap (λ (r : ClassRow). methods_are_typed types r.methods) (sym (the_some first row e)) ∙ (first_typed types first rows typed).0
     by_test false e rest = rest e
 
-abbrev the_method : MethodRow → Option MethodHeader → Signature ClassRef → MethodShape
+abbrev pub the_method : MethodRow → Option MethodHeader → Signature ClassRef → MethodShape
 the_method m header signature = record { token = m.token; is_static = m.is_static; offset = m.offset; header = header; signature = signature }
 
 -- as many methods as rows

@@ -12,4 +12,5 @@ pub mod PrivateMethods
 pub mod Shape
 pub mod PrivateShape
 pub mod Package
+pub mod Whole
 pub mod PrivatePackage

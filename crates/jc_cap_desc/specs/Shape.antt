@@ -1,6 +1,6 @@
 -- The record of a package, in two halves: its shape, which look-ups, subtypes and types of members are about, and its
 -- body, which is what its methods are made of.
-use Rattle.std.specs.Prelude.{◌≡◌, ℕ, suc, ◌^◌, ◌<◌, ◌==◌, Bool, true, List, map, take, Option, Some, None, is_some, slice_get, if◌then◌else◌}
+use Rattle.std.specs.Prelude.{◌≡◌, ℕ, suc, ◌^◌, ◌<◌, ◌==◌, Bool, true, false, List, map, take, Option, Some, None, is_some, slice_get, if◌then◌else◌}
 use Rattle.std.specs.List.{filter_map, find}
 use Rattle.std.specs.Option.{option_map, option_and_then}
 use Rattle.jc_base.specs.PlacedRows.{row_at}
@@ -21,7 +21,7 @@ use Rattle.jc_cap_method.specs.declared.handler.Handler.{Handler}
 use Rattle.jc_cap_method.specs.declared.header.MethodHeader.{MethodHeader}
 use Rattle.jc_cap_pool.specs.declared.entry.PoolEntry.{PoolEntry}
 use Rattle.jc_cap_desc.specs.Types.{type_of_field, no_type}
-use Rattle.jc_cap_desc.specs.Across.{class_methods, has_code, is_row_of}
+use Rattle.jc_cap_desc.specs.Across.{class_methods, has_code, is_install_signature, is_row_of}
 use Rattle.jc_cap_desc.specs.declared.class_row.ClassRow.{ClassRow}
 use Rattle.jc_cap_desc.specs.declared.class_row.FieldPlace.{FieldPlace}
 use Rattle.jc_cap_desc.specs.declared.class_row.FieldRow.{FieldRow}
@@ -89,6 +89,56 @@ pub record Body : Type 0 where
 pub record Package : Type 0 where
   pub shape : Shape
   pub body : Body
+
+-- a method of a class, and where it stands in the shape. An interface's methods have neither header nor code
+pub record IsOfClass (shape : Shape) (m : MethodShape) : Type 0 where
+  pub class : ClassShape
+  pub class_place : ℕ
+  pub class_there : slice_get shape.classes class_place ≡ Some class
+  pub class_is : is_class class.body ≡ true
+  pub place : ℕ
+  pub there : slice_get class.methods place ≡ Some m
+
+-- a method with a header that isn't an abstract method's
+pub record IsConcrete (m : MethodShape) : Type 0 where
+  pub header : MethodHeader
+  pub there : m.header ≡ Some header
+  pub concrete : header.is_abstract ≡ false
+
+-- at an offset stands a method of a class that isn't abstract
+pub record HasConcrete (shape : Shape) (offset : ℕ) : Type 0 where
+  pub method : MethodShape
+  pub of_class : IsOfClass shape method
+  pub offset_is : method.offset ≡ offset
+  pub concrete : IsConcrete method
+
+-- the method at an offset has code
+pub record HasBody (methods : List MethodBody) (offset : ℕ) : Type 0 where
+  pub body : MethodBody
+  pub place : ℕ
+  pub there : slice_get methods place ≡ Some body
+  pub offset_is : body.offset ≡ offset
+
+-- what a package declares and its code fit together: each method with code is declared by a class and isn't abstract;
+-- each method of a class that isn't abstract has code; and methods of classes at one offset are one
+pub record HaveBodies (p : Package) : Type 0 where
+  pub declared : (n : ℕ) (b : MethodBody) → slice_get p.body.methods n ≡ Some b → HasConcrete p.shape b.offset
+  pub coded : (m : MethodShape) → IsOfClass p.shape m → IsConcrete m → HasBody p.body.methods m.offset
+  pub differ : (m n : MethodShape) → IsOfClass p.shape m → IsOfClass p.shape n → m.offset ≡ n.offset → m ≡ n
+
+-- at an offset stands a static method of a class, with code, that takes and gives what an install method does
+pub record HasInstallMethod (p : Package) (offset : ℕ) : Type 0 where
+  pub method : MethodShape
+  pub of_class : IsOfClass p.shape method
+  pub offset_is : method.offset ≡ offset
+  pub static : method.is_static ≡ true
+  pub installs : is_install_signature method.signature ≡ true
+  pub coded : HasBody p.body.methods offset
+
+-- each applet names an install method
+abbrev pub InstallMethods : Package → Type 0
+InstallMethods p = (applets : List Applet) (n : ℕ) (a : Applet) → p.body.applets ≡ Some applets
+    → slice_get applets n ≡ Some a → HasInstallMethod p a.install
 
 -- a field's row, whose type is there
 abbrev pub field_shape : List (Placed (Signature ClassRef)) → FieldRow → Option FieldShape

@@ -3,7 +3,8 @@
 ghost use Rattle.std.specs.Prelude.{◌≡◌, ◌<◌, ◌≤◌, ◌^◌, IfOk, length, slice_get};
 ghost use Rattle.std.specs.Option.{option_and_then};
 ghost use Rattle.jc_cap_desc.specs.Package.{layout_in, package_fault, package_of};
-ghost use Rattle.jc_cap_desc.specs.Shape.{StandApart, HaveHeaders};
+ghost use Rattle.jc_cap_desc.specs.Shape.{StandApart, HaveBodies, HaveHeaders, InstallMethods};
+ghost use Rattle.jc_cap_desc.specs.Whole.{HasWholeOf};
 ghost use Rattle.jc_cap_desc.specs.PrivatePackage.{records_in, components_in, class_fault_in, component_fault_in, HasFewRows, HasFewRecords, HasFewImports, HasTypes, joined};
 
 use crate::bodies::MethodBodies;
@@ -279,11 +280,14 @@ fn package_in<'a>(parts: &Parts<'a>) -> Result<Package<'a>, LoadFault>
 
 /// Reads a whole package of an image: all components, and then what they say of one another. Of several refusals the
 /// one with the smallest number is told, and of `Malformed` the one with the least tag.
-#[tactic(auto, using(crate::proofs::Differing::stand_apart_in, crate::proofs::Headed::headed_in))]
+#[tactic(auto, using(crate::proofs::ReadLaws::read_laws))]
 pub fn read_package<'a>(parts: &Parts<'a>) -> Result<Package<'a>, LoadFault>
     ensures package { result ≡ package_of parts.now }
     ensures apart { IfOk result (λ p. StandApart p.body.methods) }
     ensures headers { IfOk result (λ p. HaveHeaders p.shape) }
+    ensures bodies { IfOk result HaveBodies }
+    ensures installs { IfOk result InstallMethods }
+    ensures whole { IfOk result (HasWholeOf parts.now) }
 {
     package_in(parts)
 }

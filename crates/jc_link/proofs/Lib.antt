@@ -22,8 +22,9 @@ pub mod GrownWithin
 pub mod GrownNames
 pub mod GrownClasses
 pub mod GrownHeirs
-pub mod Resolved
 pub mod SoundGrown
+pub mod OwnMethods
+pub mod Resolved
 pub mod ApiLists
 pub mod ApiClasses
 pub mod ApiMembers

@@ -1,25 +1,20 @@
 -- The pool of each package of a world is resolved, and stays so as packages come.
-use Rattle.std.proofs.Common.{◌≡◌, ℕ, zero, suc, ◌+◌, ◌-◌, ◌<◌, ◌≤◌, Bool, true, false, cond, List, [], ◌∷◌, ◌++◌, map, length, take, Some, None, refl, ap, sym, ◌∙◌, subst, arith, nat_lt, ◌==◌, Option, is_some, slice_get}
+use Rattle.std.proofs.Common.{◌≡◌, ℕ, zero, suc, ◌+◌, ◌-◌, ◌<◌, ◌≤◌, Bool, true, false, List, [], ◌∷◌, ◌++◌, map}
+use Rattle.std.proofs.Common.{length, take, Some, refl, ap, sym, ◌∙◌, subst, arith, nat_lt, slice_get}
 use Rattle.std.proofs.Math.Path.{fun_ext}
 use Rattle.std.proofs.Math.Seq.{take-length}
-use Rattle.std.proofs.lemmas.Bool.{le-ltb, ltb-true, ltb-false}
+use Rattle.std.proofs.lemmas.Bool.{ltb-true, ltb-false}
 use Rattle.std.proofs.lemmas.List.{take-append-le}
-use Rattle.std.specs.List.{find}
-use Rattle.std.specs.Option.{option_and_then, option_map}
-use Rattle.jc_cap_class.specs.Component.{is_class}
-use Rattle.jc_cap_desc.specs.Shape.{ClassShape, StandApart, HaveHeaders, MethodShape, Package, Shape}
+use Rattle.jc_cap_desc.specs.Shape.{HaveBodies, HaveHeaders, InstallMethods, Package, Shape, StandApart}
 use Rattle.jc_classes.specs.Growth.{grown}
-use Rattle.jc_classes.specs.Members.{DeclaredMethod, declared_in, method_at, name_of}
-use Rattle.jc_classes.specs.Methods.{method_name, method_of_class}
-use Rattle.jc_names.specs.declared.name.ClassName.{ClassName}
-use Rattle.jc_names.specs.declared.name.MethodName.TheVariants.{Api, Loaded}
 use Rattle.jc_link.proofs.GrownHeirs.{length_more}
-use Rattle.jc_link.proofs.GrownParts.{the_some, none_some, get_before, some_of, chosen_of, chosen_true}
-use Rattle.jc_link.proofs.Nones.{found_at}
+use Rattle.jc_link.proofs.GrownParts.{the_some, none_some, get_before}
+use Rattle.jc_link.proofs.OwnMethods.{all_named, coded_at, declared_at, headed_at, installable_at}
 use Rattle.jc_link.specs.Built.{IsBuilt}
 use Rattle.jc_link.specs.Growth.{HasApi, KeepsLinking}
 use Rattle.jc_link.specs.Kept.{kept_of}
-use Rattle.jc_link.specs.Linked.{AreHeaded, IsBoundTo, IsKnown, IsLast, IsResolved, IsWorld, Linked, LinkedBody, World, with_linked}
+use Rattle.jc_link.specs.Linked.{IsBoundTo, IsKnown, IsLast, IsResolved, IsWorld, Linked, LinkedBody, World}
+use Rattle.jc_link.specs.Linked.{with_linked}
 use Rattle.jc_link.specs.WellFormed.{IsWellFormed}
 use Rattle.jc_link.specs.Target.{pool_targets}
 
@@ -29,33 +24,6 @@ behind_last [] y z zero h e = (refl, the_some y z e)
 behind_last [] y z (suc n) h e = absurd (none_some z e)
 behind_last (x ∷ xs) y z zero h e = absurd (omega arith)
 behind_last (x ∷ xs) y z (suc n) h e = let rest = behind_last xs y z n (omega arith) e in (ap suc rest.0, rest.1)
-
--- the methods of classes of a loaded package have headers in its world, as they have in the package
-headed_at : (world : List Shape) (home : ℕ) (shape : Shape) → 2 ≤ home → slice_get world home ≡ Some shape → HaveHeaders shape → AreHeaded world home
-headed_at world home shape api at have offset d e =
-    let two : home ≡ suc (suc (home - 2)) = omega (arith, api) in
-    by_home (home - 2) two (ap (λ n. method_at world (method_name n offset)) (sym two) ∙ e)
-  where
-    its_header : (there : Shape) (k : ClassShape) (n : ℕ) → shape ≡ there → slice_get there.classes n ≡ Some k → method_of_class offset k ≡ Some d.method → is_some d.method.header ≡ true
-    its_header there k n same at is =
-        let row = found_at (λ m. m.offset == offset) k.methods d.method (chosen_of (is_class k.body) (find (λ m. m.offset == offset) k.methods) d.method is) in
-        have n row.0 k d.method (ap (λ (s : Shape). slice_get s.classes n) same ∙ at) (chosen_true (is_class k.body) (find (λ m. m.offset == offset) k.methods) d.method is) row.1
-
-    its_method : (c : ClassName) (o : Option MethodShape) → option_map (λ m. record { class = c; method = m }) o ≡ Some d → o ≡ Some d.method
-    its_method c None f = absurd (none_some d f)
-    its_method c (Some m) f = ap (λ (d : DeclaredMethod). Some d.method) (the_some _ d f)
-
-    by_home : (n : ℕ) → home ≡ suc (suc n) → method_at world (method_name (suc (suc n)) offset) ≡ Some d → is_some d.method.header ≡ true
-    by_home n two e =
-        let one : suc (suc n) - 1 ≡ suc n = omega arith in
-        let named : method_name (suc (suc n)) offset ≡ Loaded (suc n) offset
-        = ap (λ b. cond b (Api offset) (Loaded (suc (suc n) - 1) offset)) (le-ltb (suc (suc n)) 2 (omega arith)) ∙ ap (λ i. Loaded i offset) one in
-        let there = some_of (declared_in (suc (suc n)) offset) (slice_get world (suc (suc n))) d (ap (method_at world) (sym named) ∙ e) in
-        let same : shape ≡ there.0 = the_some shape there.0 (sym at ∙ ap (slice_get world) two ∙ there.1) in
-        let k = some_of (λ k. option_and_then (λ class. option_map (λ m. record { class = class; method = m }) (method_of_class offset k)) (name_of (suc (suc n)) k)) (find (λ k. is_some (method_of_class offset k)) (there.0).classes) d there.2 in
-        let name = some_of (λ class. option_map (λ m. record { class = class; method = m }) (method_of_class offset k.0)) (name_of (suc (suc n)) k.0) d k.2 in
-        let place = found_at (λ k. is_some (method_of_class offset k)) (there.0).classes k.0 k.1 in
-        its_header there.0 k.0 place.0 same place.1 (its_method name.0 (method_of_class offset k.0) name.2)
 
 -- what stands at the end of a world, and what stands before it
 at_end : (before : List Shape) (shape : Shape) → slice_get (grown before shape) (length before) ≡ Some shape
@@ -67,9 +35,9 @@ before_end before shape = take-append-le (length before) before (shape ∷ []) (
 
 -- what is known of a package where it stands, in a world with it at the end
 known_at_end : (before : List Shape) (p : Package) (b : LinkedBody) → HasApi before → IsWellFormed before p → b.kept ≡ kept_of p.body
-    → map Some b.targets ≡ pool_targets (grown before p.shape) (length before) p.body.pool → StandApart p.body.methods → HaveHeaders p.shape
-    → IsKnown (grown before p.shape) (length before) b
-known_at_end before p b api fine kept targets apart have = record {
+    → map Some b.targets ≡ pool_targets (grown before p.shape) (length before) p.body.pool → StandApart p.body.methods
+    → HaveHeaders p.shape → HaveBodies p → InstallMethods p → IsKnown (grown before p.shape) (length before) b
+known_at_end before p b api fine kept targets apart have bodies installs = record {
   loaded = record {
     «package» = p;
     there = at_end before p.shape;
@@ -77,19 +45,27 @@ known_at_end before p b api fine kept targets apart have = record {
     kept_is = kept;
     apart = apart;
     headers = have;
+    bodies = bodies;
+    installs = installs;
   };
   resolved = targets ∙ ap (λ pool. pool_targets (grown before p.shape) (length before) pool) (sym (ap (λ k. k.pool) kept));
   headed = headed_at (grown before p.shape) (length before) p.shape api (at_end before p.shape) have;
+  coded = coded_at (grown before p.shape) (length before) p api (at_end before p.shape) bodies b.kept kept;
+  declared = declared_at (grown before p.shape) (length before) p api (at_end before p.shape) bodies b.kept kept
+      (all_named before p fine);
+  installs = installable_at (grown before p.shape) (length before) p api (at_end before p.shape) bodies b.kept kept
+      (all_named before p fine) installs;
 }
 
 -- a package that is bound is the last of its world
 pub is_last : (before world : List Shape) (p : Package) (b : LinkedBody) → IsBuilt world → world ≡ grown before p.shape → IsWellFormed before p → b.kept ≡ kept_of p.body
-    → map Some b.targets ≡ pool_targets world (length before) p.body.pool → StandApart p.body.methods → HasApi before → HaveHeaders p.shape
-    → IsLast (record { world = world; body = b })
-is_last before world p b built is fine kept targets apart api have =
+    → map Some b.targets ≡ pool_targets world (length before) p.body.pool → StandApart p.body.methods → HasApi before
+    → HaveHeaders p.shape → HaveBodies p → InstallMethods p → IsLast (record { world = world; body = b })
+is_last before world p b built is fine kept targets apart api have bodies installs =
     let more = ap (λ w. length w) is ∙ length_more before p.shape in
     let home : length before ≡ length world - 1 = omega (arith, more) in
-    let known = known_at_end before p b api fine kept (targets ∙ ap (λ w. pool_targets w (length before) p.body.pool) is) apart have in
+    let targets_there = targets ∙ ap (λ w. pool_targets w (length before) p.body.pool) is in
+    let known = known_at_end before p b api fine kept targets_there apart have bodies installs in
     record { built = built; known = subst (λ h. IsKnown world h b) home (subst (λ w. IsKnown w (length before) b) (sym is) known) }
 
 -- a pool that is resolved in a world is in the world with a package more
@@ -103,7 +79,9 @@ still_known : (world : List Shape) (more : Shape) (home : ℕ) (b : LinkedBody) 
     → IsKnown world home b → IsKnown (grown world more) home b
 still_known world more home b keeps api loaded h known =
     let was = known.loaded in
-    let there : slice_get (grown world more) home ≡ Some (was.«package»).shape = get_before world more home h ∙ was.there in
+    let there : slice_get (grown world more) home ≡ Some (was.«package»).shape
+    = get_before world more home h ∙ was.there in
+    let names = all_named (take home world) was.«package» was.fine in
     record {
       loaded = record {
         «package» = was.«package»;
@@ -112,9 +90,15 @@ still_known world more home b keeps api loaded h known =
         kept_is = was.kept_is;
         apart = was.apart;
         headers = was.headers;
+        bodies = was.bodies;
+        installs = was.installs;
       };
       resolved = still_resolved world more home b keeps api h known.resolved;
       headed = headed_at (grown world more) home (was.«package»).shape loaded there was.headers;
+      coded = coded_at (grown world more) home was.«package» loaded there was.bodies b.kept was.kept_is;
+      declared = declared_at (grown world more) home was.«package» loaded there was.bodies b.kept was.kept_is names;
+      installs = installable_at (grown world more) home was.«package» loaded there was.bodies b.kept was.kept_is names
+          was.installs;
     }
 
 module _ (keeps : (world : List Shape) (more : Shape) → KeepsLinking world more) (w : World) (l : Linked) (is : IsWorld w) (last : IsLast l) (bound : IsBoundTo w l) where

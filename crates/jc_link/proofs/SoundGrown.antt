@@ -138,7 +138,8 @@ module _ (world : List Shape) (home : ℕ) where
         fit = fit_alone c k (class_home home k c named) (left_false (is_bad_alone world home c k) (is_bad_heir world home c k) e) (right_false (is_bad_alone world home c k) (is_bad_heir world home c k) e);
       }
 
-none_bad : (before : List Shape) (p : Package) → IsWellFormed before p → find (is_bad_class (grown before p.shape) (length before)) p.shape.classes ≡ None
+pub none_bad : (before : List Shape) (p : Package) → IsWellFormed before p
+    → find (is_bad_class (grown before p.shape) (length before)) p.shape.classes ≡ None
 none_bad before p well =
     let world : List Shape = grown before p.shape in
     let home : ℕ = length before in

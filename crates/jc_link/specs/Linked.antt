@@ -3,8 +3,11 @@ use Rattle.std.specs.Prelude.{◌≡◌, ◌⊎◌, ℕ, ◌+◌, ◌-◌, List,
 use Rattle.jc_base.specs.declared.fault.LoadFault.{LoadFault}
 use Rattle.jc_base.specs.declared.fault.LoadFault.TheVariants.{Memory}
 use Rattle.jc_base.specs.Parts.{Infos}
+use Rattle.jc_cap_data.specs.declared.applets.Applet.{Applet}
+use Rattle.jc_cap_desc.specs.Across.{is_install_signature}
 use Rattle.jc_cap_desc.specs.Package.{package_of}
-use Rattle.jc_cap_desc.specs.Shape.{HaveHeaders, Package, Shape, StandApart}
+use Rattle.jc_cap_desc.specs.Shape.{HasBody, HaveBodies, HaveHeaders, InstallMethods, IsConcrete, MethodBody}
+use Rattle.jc_cap_desc.specs.Shape.{Package, Shape, StandApart}
 use Rattle.jc_classes.specs.Growth.{grown}
 use Rattle.jc_classes.specs.Members.{DeclaredMethod, method_at}
 use Rattle.jc_classes.specs.Methods.{method_name}
@@ -41,6 +44,36 @@ IsResolved world home body = map Some body.targets ≡ pool_targets world home b
 abbrev pub AreHeaded : List Shape → ℕ → Type 0
 AreHeaded world home = (offset : ℕ) (d : DeclaredMethod) → method_at world (method_name home offset) ≡ Some d → is_some d.method.header ≡ true
 
+-- each method of a class of the package that stands there, unless it is abstract, has code
+abbrev pub AreCoded : List Shape → ℕ → List MethodBody → Type 0
+AreCoded world home methods = (offset : ℕ) (d : DeclaredMethod) → method_at world (method_name home offset) ≡ Some d
+    → IsConcrete d.method → HasBody methods offset
+
+-- a method that isn't abstract is declared at an offset of the package that stands there
+pub record HasDeclared (world : List Shape) (home offset : ℕ) : Type 0 where
+  pub declared : DeclaredMethod
+  pub there : method_at world (method_name home offset) ≡ Some declared
+  pub concrete : IsConcrete declared.method
+
+-- each method with code is declared by a class of the package that stands there
+abbrev pub AreDeclared : List Shape → ℕ → List MethodBody → Type 0
+AreDeclared world home methods = (n : ℕ) (b : MethodBody) → slice_get methods n ≡ Some b
+    → HasDeclared world home b.offset
+
+-- a static method with code is declared at an offset of the package that stands there, and takes and gives what an
+-- install method does
+pub record HasInstall (world : List Shape) (home : ℕ) (methods : List MethodBody) (offset : ℕ) : Type 0 where
+  pub declared : DeclaredMethod
+  pub there : method_at world (method_name home offset) ≡ Some declared
+  pub static : declared.method.is_static ≡ true
+  pub installs : is_install_signature declared.method.signature ≡ true
+  pub coded : HasBody methods offset
+
+-- each applet of the package that stands there names such a method
+abbrev pub AreInstallable : List Shape → ℕ → Kept → Type 0
+AreInstallable world home kept = (applets : List Applet) (n : ℕ) (a : Applet) → kept.applets ≡ Some applets
+    → slice_get applets n ≡ Some a → HasInstall world home kept.methods a.install
+
 -- a loaded package where it stands, with what is kept of it: it was read of an image, and it is well-formed in the world of those
 -- before it. So each fact of linking holds of it: its pool's types, its static image, its classes
 pub record IsLoadedAt (world : List Shape) (home : ℕ) (kept : Kept) : Type 0 where
@@ -50,13 +83,18 @@ pub record IsLoadedAt (world : List Shape) (home : ℕ) (kept : Kept) : Type 0 w
   pub kept_is : kept ≡ kept_of «package».body
   pub apart : StandApart «package».body.methods
   pub headers : HaveHeaders «package».shape
+  pub bodies : HaveBodies «package»
+  pub installs : InstallMethods «package»
 
--- what is known of a loaded package where it stands: it was read and linked there, its pool is resolved, and its classes' methods
--- have headers
+-- what is known of a loaded package where it stands: it was read and linked there; its pool is resolved; its classes'
+-- methods have headers and, unless they are abstract, code; what has code is one of them; its applets can be installed
 pub record IsKnown (world : List Shape) (home : ℕ) (body : LinkedBody) : Type 0 where
   pub loaded : IsLoadedAt world home body.kept
   pub resolved : IsResolved world home body
   pub headed : AreHeaded world home
+  pub coded : AreCoded world home body.kept.methods
+  pub declared : AreDeclared world home body.kept.methods
+  pub installs : AreInstallable world home body.kept
 
 -- what each linked package is: it is the last of a world that is built of well-formed packages
 pub record IsLast (l : Linked) : Type 0 where

@@ -2,7 +2,7 @@
 
 ghost use Rattle.std.specs.Prelude.{◌≡◌, ◌<◌, ◌≤◌, map, length, Some, Ok, IfOk, IfErr};
 ghost use Rattle.jc_cap_desc.specs.Package.{package_of};
-ghost use Rattle.jc_cap_desc.specs.Shape.{StandApart, HaveHeaders};
+ghost use Rattle.jc_cap_desc.specs.Shape.{StandApart, HaveBodies, HaveHeaders, InstallMethods};
 ghost use Rattle.jc_classes.specs.Growth.{grown};
 ghost use Rattle.jc_classes.specs.Limits.{most_packages};
 ghost use Rattle.jc_link.specs.Built.{IsBuilt};
@@ -139,6 +139,8 @@ fn bound(
     requires fine { IsWellFormed world.now.shapes linked.now }
     requires apart { StandApart linked.now.body.methods }
     requires headers { HaveHeaders linked.now.shape }
+    requires bodies { HaveBodies linked.now }
+    requires installs { InstallMethods linked.now }
     ensures { IfOk result (λ l. IsLinked world.now.shapes linked.now l) }
 {
     leads(world, &table, linked);
@@ -152,6 +154,8 @@ fn bound(
 pub fn link_package(alloc: Global, read: &Package, world: &World) -> Result<Linked, LoadFault>
     requires apart { StandApart read.now.body.methods }
     requires headers { HaveHeaders read.now.shape }
+    requires bodies { HaveBodies read.now }
+    requires installs { InstallMethods read.now }
     ensures bound { IfOk result (IsBoundTo world.now) }
     ensures linked { IfOk result (IsLinked world.now.shapes read.now) }
     ensures refused { IfErr result (IsRefusal world.now.shapes (Ok read.now)) }

@@ -2,7 +2,7 @@
 
 ghost use Rattle.std.specs.Prelude.{◌≡◌, ◌⊎◌, ◌<◌, ◌≤◌, [], ◌∷◌, ◌++◌, List, Some, map, length, slice_get, IfOk, IfErr};
 ghost use Rattle.jc_base.specs.declared.fault.LoadFault.TheVariants.{Full, Memory};
-ghost use Rattle.jc_cap_desc.specs.Shape.{HaveHeaders, Shape, StandApart};
+ghost use Rattle.jc_cap_desc.specs.Shape.{HaveBodies, HaveHeaders, InstallMethods, Shape, StandApart};
 ghost use Rattle.jc_classes.specs.Api.{api_world};
 ghost use Rattle.jc_check.specs.Checked.{CarriesPackage};
 ghost use Rattle.jc_link.specs.Linked.{IsBoundTo, Linked as LinkedPackage, most_in_world, with_linked};
@@ -40,6 +40,8 @@ fn read_image<'a>(image: &'a [u8]) -> Result<Package<'a>, LoadFault>
     ensures read { IsReadAs image.now result }
     ensures apart { IfOk result (λ p. StandApart p.body.methods) }
     ensures headers { IfOk result (λ p. HaveHeaders p.shape) }
+    ensures bodies { IfOk result HaveBodies }
+    ensures installs { IfOk result InstallMethods }
 {
     let parts = cut(image)?;
     read_package(&parts)

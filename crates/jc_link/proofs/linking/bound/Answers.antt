@@ -9,4 +9,4 @@ invariant_of-result c =
     let body = c.in_ok-body.body in
     let targets = subst (λ home. map Some body.targets ≡ pool_targets c.args.table home linked.body.pool) c.len.ensures.count c.in_ok-body.ensures.targets in
     is_last c.args.world.now.shapes c.args.table linked body c.leads.ensures.built c.requires.table c.requires.fine c.in_ok-body.ensures.kept targets c.requires.apart c.leads.ensures.api
-    c.requires.headers
+    c.requires.headers c.requires.bodies c.requires.installs

@@ -1,0 +1,49 @@
+-- A package that was read leaves nothing out of what its components say of classes, fields, methods and code (Java Card
+-- Virtual Machine Specification, CAP file format: Class component; Descriptor component; Method component).
+use Rattle.std.specs.Prelude.{◌≡◌, ℕ, true, List, map, Option, Some, Ok, slice_get}
+use Rattle.std.specs.List.{filter, find}
+use Rattle.jc_base.specs.Parts.{Infos}
+use Rattle.jc_base.specs.declared.placed_rows.Placed.{Placed}
+use Rattle.jc_cap_class.specs.Component.{classes_of}
+use Rattle.jc_cap_class.specs.declared.record.Record.{Record}
+use Rattle.jc_cap_head.specs.Header.{Heading, header_of}
+use Rattle.jc_cap_method.specs.Component.{Methods, methods_of}
+use Rattle.jc_cap_desc.specs.Across.{class_methods, has_code, is_row_of, rows_match}
+use Rattle.jc_cap_desc.specs.Shape.{ClassShape, Package, body_of_method, class_shape, field_shape, headers_of}
+use Rattle.jc_cap_desc.specs.Shape.{method_shape}
+use Rattle.jc_cap_desc.specs.Types.{descriptor_of}
+use Rattle.jc_cap_desc.specs.declared.class_row.ClassRow.{ClassRow}
+use Rattle.jc_cap_desc.specs.declared.component.DescriptorInfo.{DescriptorInfo}
+
+-- each of some elements gives one of others, in their order, and there are no more
+abbrev pub AllGive : {A B : Type 0} → (A → Option B) → List A → List B → Type 0
+AllGive f xs ys = map f xs ≡ map Some ys
+
+-- a class has each field and each method of its record's row
+pub record HasWholeRow (info : DescriptorInfo) (bodies : Methods) (r : Placed Record) (k : ClassShape) : Type 0 where
+  pub row : ClassRow
+  pub its : find (is_row_of r.offset) info.classes ≡ Some row
+  pub fields : AllGive (field_shape info.types) row.fields k.fields
+  pub methods : AllGive (method_shape info.types (headers_of bodies r.row.body)) row.methods k.methods
+
+-- each record has one row and each row a record; each record is a class of the package, which has all of its row; and
+-- each method of a class with code is a body of the package
+pub record IsWhole (records : List (Placed Record)) (info : DescriptorInfo) (methods : Methods)
+    (p : Package) : Type 0 where
+  pub matched : rows_match records info.classes ≡ true
+  pub classes : AllGive (class_shape info methods) records p.shape.classes
+  pub rows : (n : ℕ) (r : Placed Record) (k : ClassShape) → slice_get records n ≡ Some r
+      → slice_get p.shape.classes n ≡ Some k → HasWholeRow info methods r k
+  pub bodies : AllGive (body_of_method methods) (filter has_code (class_methods records info.classes)) p.body.methods
+
+-- that of the records, the rows and the methods of an image
+pub record HasWholeOf (infos : Infos) (p : Package) : Type 0 where
+  pub heading : Heading
+  pub records : List (Placed Record)
+  pub info : DescriptorInfo
+  pub methods : Methods
+  pub is_heading : header_of infos.header ≡ Ok heading
+  pub are_records : classes_of heading.format infos.class ≡ Ok records
+  pub is_info : descriptor_of infos.descriptor ≡ Ok info
+  pub are_methods : methods_of infos.method ≡ Ok methods
+  pub whole : IsWhole records info methods p

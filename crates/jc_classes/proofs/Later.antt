@@ -1,8 +1,8 @@
 -- Many packages behind the others are seen by none of them.
-use Rattle.std.proofs.Common.{◌≡◌, ℕ, zero, suc, ◌+◌, ◌-◌, ◌<◌, ◌≤◌, ◌||◌, Bool, true, false, not, cond, nat_lt, List, [], ◌∷◌, ◌++◌, length, take, drop, Option, Some, None, inl, inr, refl, sym, ap, subst, ◌∙◌, arith, is_some, slice_get, append_assoc, append-nil, length-append, take-append-drop}
-use Rattle.std.proofs.lemmas.Bool.{ltb-false}
+use Rattle.std.proofs.Common.{◌≡◌, ◌⊎◌, ℕ, zero, suc, ◌+◌, ◌-◌, ◌<◌, ◌≤◌, ◌||◌, Bool, true, false, not, cond, nat_lt, List, [], ◌∷◌, ◌++◌, length, take, drop, Option, Some, None, inl, inr, refl, sym, ap, subst, ◌∙◌, arith, is_some, slice_get, append_assoc, append-nil, length-append, take-append-drop}
+use Rattle.std.proofs.lemmas.Bool.{cases_lt, ltb-false}
 use Rattle.std.proofs.lemmas.Option.{slice_get_within}
-use Rattle.std.specs.List.{find, list_any}
+use Rattle.std.specs.List.{filter_map, find, list_any}
 use Rattle.std.specs.Option.{option_and_then, option_map, option_map_or}
 use Rattle.jc_base.proofs.Binding.{none_some, the_some}
 use Rattle.jc_cap_class.specs.Component.{is_class}
@@ -10,17 +10,20 @@ use Rattle.jc_cap_desc.specs.Shape.{ClassShape, MethodShape, Shape}
 use Rattle.jc_api.specs.Class.{package_of}
 use Rattle.jc_api.specs.Member.{ApiMember, member_of}
 use Rattle.jc_api.specs.declared.class.ApiClass.TheVariants.{Object}
-use Rattle.jc_classes.proofs.Below.{api_low}
+use Rattle.jc_classes.proofs.Below.{api_low, name_itself}
 use Rattle.jc_classes.proofs.Growing.{adding_keeps, get_before, listed_within, name_home, superclass_within}
 use Rattle.jc_classes.proofs.Passing.{some_of, package_there}
+use Rattle.jc_classes.proofs.Superclasses.{above_more, below_object, met, walked_up}
+use Rattle.jc_classes.proofs.Walking.{most_is}
+use Rattle.jc_classes.proofs.Ways.{below_is_found, found_is}
 use Rattle.jc_classes.specs.Growth.{grown, IsMethodWithin, IsWithin, KeepsAllLookups, LiesWithin, StandWithin}
 use Rattle.jc_classes.specs.Limits.{IsSmall}
 use Rattle.jc_classes.specs.Members.{DeclaredMethod, declared_in, method_at, method_home, method_offset, name_of}
 use Rattle.jc_classes.specs.Methods.{method_name, method_of_class}
 use Rattle.jc_classes.specs.Names.{is_same_name}
-use Rattle.jc_classes.specs.Subtype.{IsAmong, is_at_or_above, is_class_below, is_subtype, is_subtype_within}
+use Rattle.jc_classes.specs.Subtype.{IsAmong, IsSubtype, by_interface, by_superclass, is_at_or_above, is_class_below, is_subtype, is_subtype_within, object, same}
 use Rattle.jc_classes.specs.Walk.{most_classes}
-use Rattle.jc_classes.specs.World.{api_home, class_at, class_in, home_of, interfaces_of, name_in, offset_of, package_at, superclass_of}
+use Rattle.jc_classes.specs.World.{api_home, class_at, class_in, class_named, home_of, interfaces_of, listed_refs, name_in, offset_of, package_at, superclass_of, superclass_ref}
 use Rattle.jc_classes.specs.declared.name.ClassName.{ClassName}
 use Rattle.jc_classes.specs.declared.name.ClassName.TheVariants.{Api}
 use Rattle.jc_classes.specs.declared.name.MethodName.{MethodName}
@@ -159,6 +162,63 @@ module _ (before after : List Shape)
     found_subtype_stays : (c d : ClassName) → IsWithin before c → is_subtype after c d ≡ is_subtype before c d
     found_subtype_stays c d w = ap (λ b. is_same_name (Api Object) d || b) (subtype_stays most_classes c d w)
 
+-- ---- what is of no package of the earlier world has nothing above it there
+
+module _ (world : List Shape) (c : ClassName) (past : length world ≤ home_of c) where
+  nothing_there : class_at world c ≡ None
+  nothing_there = by_class (class_at world c) refl
+    where
+      by_class : (o : Option ClassShape) → class_at world c ≡ o → o ≡ None
+      by_class None e = refl
+      by_class (Some k) e = absurd (omega (arith, past, class_within world c k e))
+
+  no_superclass : superclass_of world c ≡ None
+  no_superclass =
+      ap (λ (o : Option ClassShape).
+      option_and_then (class_named world (home_of c)) (option_and_then (λ (k : ClassShape). superclass_ref k.body) o))
+      nothing_there
+
+  no_interfaces : interfaces_of world c ≡ []
+  no_interfaces =
+      ap (λ (o : Option ClassShape).
+      option_map_or (λ k. filter_map (class_named world (home_of c)) (listed_refs k.body)) o []) nothing_there
+
+  alone : (d : ClassName) → IsSubtype world c d → (Api Object ≡ d) ⊎ (c ≡ d)
+  alone d s = by_way c d s no_superclass no_interfaces
+    where
+      by_way : (c d : ClassName) → IsSubtype world c d → superclass_of world c ≡ None → interfaces_of world c ≡ []
+          → (Api Object ≡ d) ⊎ (c ≡ d)
+      by_way _ _ (same c) none empty = inr refl
+      by_way _ _ (object c) none empty = inl refl
+      by_way _ _ (by_superclass c d e up r) none empty = absurd (none_some d (sym none ∙ up))
+      by_way _ _ (by_interface c i e m r) none empty = absurd (subst (IsAmong i) empty m)
+
+  stays_below : (later : List Shape) (d : ClassName) → IsSubtype world c d → is_class_below later c d ≡ true
+  stays_below later d s = by_way (alone d s)
+    where
+      by_way : (Api Object ≡ d) ⊎ (c ≡ d) → is_class_below later c d ≡ true
+      by_way (inl one) = below_object later c d one
+      by_way (inr one) =
+          let first = met later d c 0 (ap (is_same_name c) (sym one) ∙ name_itself c) in
+          walked_up later c d (above_more later 1 most_classes d c (omega (arith, most_is)) first)
+
+module _ (before later : List Shape) where
+  still_below : ((c d : ClassName) → IsWithin before c → is_class_below later c d ≡ is_class_below before c d)
+      → (c d : ClassName) → is_class_below before c d ≡ true → is_class_below later c d ≡ true
+  still_below order c d e = by_place (cases_lt (home_of c) (length before))
+    where
+      by_place : (home_of c < length before) ⊎ (length before ≤ home_of c) → is_class_below later c d ≡ true
+      by_place (inl w) = order c d w ∙ e
+      by_place (inr past) = stays_below before c past later d (found_is before c d (below_is_found before c d e))
+
+  still_found : ((c d : ClassName) → IsWithin before c → is_subtype later c d ≡ is_subtype before c d)
+      → (c d : ClassName) → is_subtype before c d ≡ true → is_subtype later c d ≡ true
+  still_found found c d e = by_place (cases_lt (home_of c) (length before))
+    where
+      by_place : (home_of c < length before) ⊎ (length before ≤ home_of c) → is_subtype later c d ≡ true
+      by_place (inl w) = found c d w ∙ e
+      by_place (inr past) = below_is_found later c d (stays_below before c past later d (found_is before c d e))
+
 -- ---- one package more, and one behind the other
 
 method_stays : (before after : List Shape) (m : MethodName)
@@ -177,6 +237,8 @@ method_stays before after m keeps w = by_home (method_home m) refl
 one_more : (before : List Shape) (more : Shape) → KeepsAllLookups before (grown before more)
 one_more before more =
     let one = adding_keeps before more in
+    let order = order_stays before (grown before more) one.superclasses in
+    let found = found_subtype_stays before (grown before more) one.superclasses one.interfaces in
     record {
       count = omega (arith, length-append before (more ∷ []));
       packages = λ home h. get_before before more home h;
@@ -190,8 +252,10 @@ one_more before more =
       interfaces = one.interfaces;
       virtual_methods = one.virtual_methods;
       interface_methods = one.interface_methods;
-      order = order_stays before (grown before more) one.superclasses;
-      found_subtypes = found_subtype_stays before (grown before more) one.superclasses one.interfaces;
+      order = order;
+      still_below = still_below before (grown before more) order;
+      found_subtypes = found;
+      still_found = still_found before (grown before more) found;
       subtypes = one.subtypes;
       implementations = one.implementations;
       methods = λ m w. method_stays before (grown before more) m (one.methods m) w;
@@ -210,7 +274,9 @@ no_more world = record {
   virtual_methods = λ c token asker w. refl;
   interface_methods = λ c interface token w. refl;
   order = λ c d w. refl;
+  still_below = λ c d e. e;
   found_subtypes = λ c d w. refl;
+  still_found = λ c d e. e;
   subtypes = λ c d w. (λ s. s, λ s. s);
   implementations = λ c i w. (λ s. s, λ s. s);
   methods = λ m w. refl;
@@ -236,7 +302,9 @@ module _ (first middle last : List Shape) (f : KeepsAllLookups first middle) (g 
         λ c interface token w. g.interface_methods c interface token (further c w)
         ∙ f.interface_methods c interface token w;
     order = λ c d w. g.order c d (further c w) ∙ f.order c d w;
+    still_below = λ c d e. g.still_below c d (f.still_below c d e);
     found_subtypes = λ c d w. g.found_subtypes c d (further c w) ∙ f.found_subtypes c d w;
+    still_found = λ c d e. g.still_found c d (f.still_found c d e);
     subtypes = λ c d w.
         let p = f.subtypes c d w in
         let q = g.subtypes c d (further c w) in (λ s. p.0 (q.0 s), λ s. q.1 (p.1 s));

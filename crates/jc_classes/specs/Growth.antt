@@ -1,5 +1,5 @@
 -- A world that grows: packages behind the others change nothing of what is looked up in those before them.
-use Rattle.std.specs.Prelude.{◌≡◌, ◌↔◌, ℕ, ◌<◌, ◌≤◌, List, [], ◌∷◌, ◌++◌, length, take, slice_get, Some}
+use Rattle.std.specs.Prelude.{◌≡◌, ◌↔◌, ℕ, ◌<◌, ◌≤◌, List, [], ◌∷◌, ◌++◌, length, take, slice_get, true, Some}
 use Rattle.jc_base.specs.declared.class_ref.ClassRef.{ClassRef}
 use Rattle.jc_cap_desc.specs.Shape.{ClassShape, Shape}
 use Rattle.jc_classes.specs.Members.{DeclaredMethod, method_home, method_at}
@@ -39,7 +39,8 @@ IsMethodWithin world m = (home : ℕ) → method_home m ≡ Some home → home <
 abbrev pub LiesWithin : List Shape → List Shape → Type 0
 LiesWithin before after = take (length before) after ≡ before
 
--- what is looked up from packages of the earlier world is the same in the later one
+-- what is looked up from packages of the earlier world is the same in the later one; and all that is below a class stays
+-- below it
 pub record KeepsAllLookups (before after : List Shape) : Type 0 where
   pub count : length before ≤ length after
   pub packages : (home : ℕ) → home < length before → slice_get after home ≡ slice_get before home
@@ -55,7 +56,9 @@ pub record KeepsAllLookups (before after : List Shape) : Type 0 where
   pub interface_methods : (c interface : ClassName) (token : ℕ) → IsWithin before c
       → interface_method_of after c interface token ≡ interface_method_of before c interface token
   pub order : (c d : ClassName) → IsWithin before c → is_class_below after c d ≡ is_class_below before c d
+  pub still_below : (c d : ClassName) → is_class_below before c d ≡ true → is_class_below after c d ≡ true
   pub found_subtypes : (c d : ClassName) → IsWithin before c → is_subtype after c d ≡ is_subtype before c d
+  pub still_found : (c d : ClassName) → is_subtype before c d ≡ true → is_subtype after c d ≡ true
   pub subtypes : (c d : ClassName) → IsWithin before c → IsSubtype after c d ↔ IsSubtype before c d
   pub implementations : (c i : ClassName) → IsWithin before c → Implements after c i ↔ Implements before c i
   pub methods : (m : MethodName) → IsMethodWithin before m → method_at after m ≡ method_at before m

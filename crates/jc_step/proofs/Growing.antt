@@ -38,13 +38,14 @@ use Rattle.jc_link.specs.MemberType.{counted, member_type_of}
 use Rattle.jc_link.specs.declared.target.PoolTarget.{PoolTarget}
 use Rattle.jc_link.specs.declared.target.PoolTarget.TheVariants as To
 use Rattle.jc_types.specs.Known.{AreKnown, is_known}
-use Rattle.jc_types.specs.State.{Types}
+use Rattle.jc_types.specs.State.{Types, all_below, types_below}
 use Rattle.jc_types.specs.Ty.{is_below}
 use Rattle.jc_types.specs.declared.ty.Ty.{Ty}
 use Rattle.jc_types.specs.declared.ty.Ty.TheVariants.{Top, Word, Null, Class, BooleanArray, ByteArray, ShortArray, ReferenceArray}
 use Rattle.jc_step.proofs.Knowing.{entry_class, local_known, reverse_known, take_known}
+use Rattle.jc_step.proofs.Order.{and_true, both}
 use Rattle.jc_step.specs.Effect.{effect_of}
-use Rattle.jc_step.specs.Growth.{KeepsAllMembers, KeepsOwnMethods, in_world}
+use Rattle.jc_step.specs.Growth.{KeepsAllMembers, KeepsAllOrders, KeepsOwnMethods, in_world}
 use Rattle.jc_step.specs.Laws.{NamesKnown}
 use Rattle.jc_step.specs.Method.{own_method, result_of, returned_type}
 use Rattle.jc_step.specs.Objects.{Setting, class_of_entry, class_target, creation_row, has_objects, if_form, interface_method_type, interface_row, interface_target_row, invocation_row, object_row, tested_type}
@@ -67,10 +68,6 @@ map_same : {A B : Type 0} (f g : A → B) (o : Option A) → ((a : A) → o ≡ 
     → option_map f o ≡ option_map g o
 map_same f g None h = refl
 map_same f g (Some a) h = ap Some (h a refl)
-
-each : (a b : Bool) → (a && b) ≡ true → (a ≡ true) × (b ≡ true)
-each true b e = (refl, e)
-each false b e = absurd cc
 
 -- ---- classes and methods of the earlier world
 
@@ -170,7 +167,7 @@ module _ (known : ClassName → Bool) (one other : ClassName → ClassName → B
   all_meet_same [] (t ∷ ts) h = refl
   all_meet_same (d ∷ demands) [] h = refl
   all_meet_same (d ∷ demands) (t ∷ ts) h =
-      let two = each (is_known known t) (list_all (is_known known) ts) h in
+      let two = both (is_known known t) (list_all (is_known known) ts) h in
       ap (λ b. b && all_meet one demands ts) (meets_same d t two.0)
       ∙ ap (λ b. meets other d t && b) (all_meet_same demands ts two.1)
 
@@ -216,6 +213,62 @@ module _ (known : ClassName → Bool) (one other : ClassName → ClassName → B
   word_same most returned (Words.StableSwitch default low offsets) s have = applied_same most _ s have
   word_same most returned (Words.LookupSwitch default cases) s have = applied_same most _ s have
   word_same most returned Words.ReturnWord s have = applied_same most _ s have
+
+-- ---- an order of classes with more below others
+
+module _ (one other : ClassName → ClassName → Bool) (more : (c d : ClassName) → one c d ≡ true → other c d ≡ true) where
+  class_up : (t : Ty) (d : ClassName) → is_below one t (Class d) ≡ true → is_below other t (Class d) ≡ true
+  class_up Top d h = h
+  class_up Word d h = h
+  class_up Null d h = h
+  class_up (Class c) d h = more c d h
+  class_up BooleanArray d h = more (Api Object) d h
+  class_up ByteArray d h = more (Api Object) d h
+  class_up ShortArray d h = more (Api Object) d h
+  class_up (ReferenceArray c) d h = more (Api Object) d h
+
+  array_up : (t : Ty) (d : ClassName) → is_below one t (ReferenceArray d) ≡ true
+      → is_below other t (ReferenceArray d) ≡ true
+  array_up Top d h = h
+  array_up Word d h = h
+  array_up Null d h = h
+  array_up (Class c) d h = h
+  array_up BooleanArray d h = h
+  array_up ByteArray d h = h
+  array_up ShortArray d h = h
+  array_up (ReferenceArray c) d h = more c d h
+
+  type_up : (t u : Ty) → is_below one t u ≡ true → is_below other t u ≡ true
+  type_up t Top h = h
+  type_up t Word h = h
+  type_up t Null h = h
+  type_up t (Class d) h = class_up t d h
+  type_up t BooleanArray h = h
+  type_up t ByteArray h = h
+  type_up t ShortArray h = h
+  type_up t (ReferenceArray d) h = array_up t d h
+
+  all_up : (ts us : List Ty) → all_below one ts us ≡ true → all_below other ts us ≡ true
+  all_up [] [] h = h
+  all_up [] (u ∷ us) h = h
+  all_up (t ∷ ts) [] h = h
+  all_up (t ∷ ts) (u ∷ us) h =
+      let two = both (is_below one t u) (all_below one ts us) h in
+      and_true (is_below other t u) (all_below other ts us) (type_up t u two.0) (all_up ts us two.1)
+
+  state_up : (s t : Types) → types_below one s t ≡ true → types_below other s t ≡ true
+  state_up s t h =
+      let two = both (all_below one s.locals t.locals) (all_below one s.operands t.operands) h in
+      and_true (all_below other s.locals t.locals) (all_below other s.operands t.operands)
+      (all_up s.locals t.locals two.0) (all_up s.operands t.operands two.1)
+
+pub orders_stay : (before later : List Shape)
+    → ((c d : ClassName) → is_class_below before c d ≡ true → is_class_below later c d ≡ true)
+    → KeepsAllOrders before later
+orders_stay before later more = record {
+  types = type_up (is_class_below before) (is_class_below later) more;
+  states = state_up (is_class_below before) (is_class_below later) more;
+}
 
 -- ---- effects
 

@@ -1,12 +1,16 @@
 -- A world that grows: packages behind the others change nothing of what instructions of those before them do.
-use Rattle.std.specs.Prelude.{◌≡◌, ℕ, ◌-◌, List, length}
+use Rattle.std.specs.Prelude.{◌≡◌, ℕ, ◌-◌, true, List, length}
 use Rattle.std.specs.Option.{option_and_then}
 use Rattle.jc_cap_desc.specs.Shape.{Shape}
 use Rattle.jc_classes.specs.Growth.{IsWithin}
 use Rattle.jc_classes.specs.Members.{DeclaredMethod, method_at}
 use Rattle.jc_classes.specs.Methods.{method_name}
+use Rattle.jc_classes.specs.Subtype.{is_class_below}
 use Rattle.jc_classes.specs.declared.name.ClassName.{ClassName}
 use Rattle.jc_link.specs.Linked.{Linked}
+use Rattle.jc_types.specs.State.{Types, types_below}
+use Rattle.jc_types.specs.Ty.{is_below}
+use Rattle.jc_types.specs.declared.ty.Ty.{Ty}
 use Rattle.jc_step.specs.Method.{own_method, result_of, setting_of}
 use Rattle.jc_step.specs.Objects.{Setting, has_objects, interface_method_type}
 
@@ -20,6 +24,12 @@ pub record KeepsAllMembers (before after : List Shape) : Type 0 where
   pub interface_types : (c : ClassName) (token : ℕ) → IsWithin before c
       → interface_method_type after c token ≡ interface_method_type before c token
   pub results : (d : DeclaredMethod) → IsWithin before d.class → result_of after d ≡ result_of before d
+
+-- types and states that lie below others lie below them in the later world too, whatever they name
+pub record KeepsAllOrders (before after : List Shape) : Type 0 where
+  pub types : (t u : Ty) → is_below (is_class_below before) t u ≡ true → is_below (is_class_below after) t u ≡ true
+  pub states : (s t : Types) → types_below (is_class_below before) s t ≡ true
+      → types_below (is_class_below after) s t ≡ true
 
 -- the methods of a linked package are found in a later world, and give what they are read against
 pub record KeepsOwnMethods (l : Linked) (after : List Shape) : Type 0 where

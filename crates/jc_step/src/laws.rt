@@ -20,7 +20,7 @@ ghost use Rattle.jc_types.specs.State.{Types};
 ghost use Rattle.jc_types.specs.Ty.{type_of_declared};
 ghost use Rattle.jc_types.specs.declared.ty.Ty.{Ty};
 ghost use Rattle.jc_step.specs.Effect.{effect_of};
-ghost use Rattle.jc_step.specs.Growth.{KeepsAllMembers, KeepsOwnMethods, in_world};
+ghost use Rattle.jc_step.specs.Growth.{KeepsAllMembers, KeepsAllOrders, KeepsOwnMethods, in_world};
 ghost use Rattle.jc_step.specs.Laws.{IsMonotone, NamesKnown};
 ghost use Rattle.jc_step.specs.Objects.{Setting, has_objects};
 ghost use Rattle.jc_step.specs.Row.{Row, applied};
@@ -48,10 +48,11 @@ pub fn effects_name_classes()
 {}
 
 /// Packages that are put behind the others of a world change nothing of what instructions do in methods of those before
-/// them: which classes have objects, the types of interfaces' methods, the methods of a package with their results, and
-/// the effects on types that name classes of the earlier world. It does nothing.
+/// them: which classes have objects, the types of interfaces' methods, which types lie below which, the methods of a
+/// package with their results, and the effects on types that name classes of the earlier world. It does nothing.
 pub fn growing_keeps_effects()
     ensures members { (before after : List Shape) → LiesWithin before after → KeepsAllMembers before after }
+    ensures orders { (before after : List Shape) → LiesWithin before after → KeepsAllOrders before after }
     ensures methods { (l : Linked) (after : List Shape) → LiesWithin l.world after → HasApi l.world
         → KeepsOwnMethods l after }
     ensures effects { (set : Setting) (after : List Shape) → LiesWithin set.world after → NamesKnown set

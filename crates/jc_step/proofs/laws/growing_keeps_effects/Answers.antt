@@ -1,10 +1,14 @@
-use Rattle.jc_step.proofs.Growing.{effect_stays, members_stay, own_methods_stay}
+use Rattle.jc_step.proofs.Growing.{effect_stays, members_stay, orders_stay, own_methods_stay}
 use Rattle.jc_step.proofs.laws.growing_keeps_effects.Goals as goal
 
 pub returns-clause-members : goal.returns-clause-members
 returns-clause-members c = λ before later lies.
     members_stay before later (c.growing_keeps_lookups.ensures.kept before later lies)
     (c.growing_keeps_linking.ensures.kept before later lies)
+
+pub returns-clause-orders : goal.returns-clause-orders
+returns-clause-orders c = λ before later lies.
+    orders_stay before later (c.growing_keeps_lookups.ensures.kept before later lies).still_below
 
 pub returns-clause-methods : goal.returns-clause-methods
 returns-clause-methods c = λ l later lies has.

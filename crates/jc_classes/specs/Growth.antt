@@ -39,7 +39,7 @@ IsMethodWithin world m = (home : ℕ) → method_home m ≡ Some home → home <
 abbrev pub LiesWithin : List Shape → List Shape → Type 0
 LiesWithin before after = take (length before) after ≡ before
 
--- what is looked up from packages of the earlier world is the same in the later one; and all that is below a class stays
+-- what is looked up from packages of the earlier world is the same in the later one; and what is below a class stays
 -- below it
 pub record KeepsAllLookups (before after : List Shape) : Type 0 where
   pub count : length before ≤ length after

@@ -56,7 +56,8 @@ whole_there world c e = some_there (class_at world c) (both_true (is_some (class
 whole_ends : (world : List Shape) (c : ClassName) → has_whole_chain world c ≡ true → comes_to_end world most_classes c ≡ true
 whole_ends world c e = (both_true (is_some (class_at world c)) (comes_to_end world most_classes c) e).1
 
-there_index : (world : List Shape) (c : ClassName) (k : ClassShape) → class_at world c ≡ Some k → (i : ℕ) × (index_at world c ≡ Some i)
+pub there_index : (world : List Shape) (c : ClassName) (k : ClassShape) → class_at world c ≡ Some k
+    → (i : ℕ) × (index_at world c ≡ Some i)
 there_index world c k e =
     let a = some_of (class_in (offset_of c)) (package_at world c) k e in
     let p = position_if_found (λ (q : ClassShape). q.offset == offset_of c) (a.0).classes k a.2 in
@@ -69,13 +70,13 @@ no_index world c none whole =
     none_some i.0 (sym none ∙ i.1)
 
 -- which class of its package, and its name
-record IsIndex (world : List Shape) (c : ClassName) (i : ℕ) : Type 0 where
-  shape : Shape
-  home : package_at world c ≡ Some shape
-  there : slice_get world (home_of c) ≡ Some shape
-  within : i < length shape.classes
+pub record IsIndex (world : List Shape) (c : ClassName) (i : ℕ) : Type 0 where
+  pub shape : Shape
+  pub home : package_at world c ≡ Some shape
+  pub there : slice_get world (home_of c) ≡ Some shape
+  pub within : i < length shape.classes
 
-is_index : (world : List Shape) (c : ClassName) (i : ℕ) → index_at world c ≡ Some i → IsIndex world c i
+pub is_index : (world : List Shape) (c : ClassName) (i : ℕ) → index_at world c ≡ Some i → IsIndex world c i
 is_index world c i e =
     let a = some_of (λ (s : Shape). position (λ (q : ClassShape). q.offset == offset_of c) s.classes) (package_at world c) i e in
     record {

@@ -111,7 +111,7 @@ among_named world home (ref ∷ refs) c h m = by_name (class_named world home re
     by_name (Some d) k others (inl e) = subst (IsWithin world) e (k d refl)
     by_name (Some d) k others (inr m) = others m
 
-listed_within : (world : List Shape) (c i : ClassName) → IsWithin world c → Lists world c i → IsWithin world i
+pub listed_within : (world : List Shape) (c i : ClassName) → IsWithin world c → Lists world c i → IsWithin world i
 listed_within world c i h m = by_class (class_at world c) m
   where
     by_class : (o : Option ClassShape) → IsAmong i (option_map_or (λ k. filter_map (class_named world (home_of c)) (listed_refs k.body)) o []) → IsWithin world i

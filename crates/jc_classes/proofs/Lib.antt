@@ -1,5 +1,6 @@
 mod Copied
 mod Growing
+mod Later
 mod Numbering
 mod Small
 mod Placing
@@ -14,3 +15,4 @@ mod Least
 mod Superclasses
 mod Meeting
 mod Implemented
+mod Ways

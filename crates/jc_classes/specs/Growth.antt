@@ -1,11 +1,11 @@
--- A world that grows: a package behind the others changes nothing of what is looked up in those before it.
-use Rattle.std.specs.Prelude.{◌≡◌, ◌↔◌, ℕ, ◌<◌, List, [], ◌∷◌, ◌++◌, length, Some}
+-- A world that grows: packages behind the others change nothing of what is looked up in those before them.
+use Rattle.std.specs.Prelude.{◌≡◌, ◌↔◌, ℕ, ◌<◌, ◌≤◌, List, [], ◌∷◌, ◌++◌, length, take, slice_get, true, Some}
 use Rattle.jc_base.specs.declared.class_ref.ClassRef.{ClassRef}
-use Rattle.jc_cap_desc.specs.Shape.{Shape}
+use Rattle.jc_cap_desc.specs.Shape.{ClassShape, Shape}
 use Rattle.jc_names.specs.Names.{method_home}
-use Rattle.jc_classes.specs.Members.{method_at}
-use Rattle.jc_classes.specs.Methods.{virtual_method_of, interface_method_of}
-use Rattle.jc_classes.specs.Subtype.{IsSubtype, Implements}
+use Rattle.jc_classes.specs.Members.{DeclaredMethod, method_at}
+use Rattle.jc_classes.specs.Methods.{interface_method_of, method_name, virtual_method_of}
+use Rattle.jc_classes.specs.Subtype.{IsSubtype, Implements, is_class_at, is_class_below, is_interface_at, is_subtype}
 use Rattle.jc_names.specs.Names.{home_of}
 use Rattle.jc_classes.specs.World.{class_at, class_named, superclass_of, interfaces_of}
 use Rattle.jc_names.specs.declared.name.ClassName.{ClassName}
@@ -30,3 +30,46 @@ pub record KeepsLookups (world : List Shape) (more : Shape) : Type 0 where
   pub subtypes : (c d : ClassName) → IsWithin world c → IsSubtype (grown world more) c d ↔ IsSubtype world c d
   pub implementations : (c i : ClassName) → IsWithin world c → Implements (grown world more) c i ↔ Implements world c i
   pub methods : (m : MethodName) (home : ℕ) → method_home m ≡ Some home → home < length world → method_at (grown world more) m ≡ method_at world m
+
+-- ---- many packages at once
+
+-- the package of a method, if it has one, is in a world
+abbrev pub IsMethodWithin : List Shape → MethodName → Type 0
+IsMethodWithin world m = (home : ℕ) → method_home m ≡ Some home → home < length world
+
+-- a world lies within a later one: its packages are the first of that
+abbrev pub LiesWithin : List Shape → List Shape → Type 0
+LiesWithin before after = take (length before) after ≡ before
+
+-- what is looked up from packages of the earlier world is the same in the later one; and what is below a class stays
+-- below it
+pub record KeepsAllLookups (before after : List Shape) : Type 0 where
+  pub count : length before ≤ length after
+  pub packages : (home : ℕ) → home < length before → slice_get after home ≡ slice_get before home
+  pub classes : (c : ClassName) → IsWithin before c → class_at after c ≡ class_at before c
+  pub are_classes : (c : ClassName) → IsWithin before c → is_class_at after c ≡ is_class_at before c
+  pub are_interfaces : (c : ClassName) → IsWithin before c → is_interface_at after c ≡ is_interface_at before c
+  pub references : (home : ℕ) (ref : ClassRef) → home < length before
+      → class_named after home ref ≡ class_named before home ref
+  pub superclasses : (c : ClassName) → IsWithin before c → superclass_of after c ≡ superclass_of before c
+  pub interfaces : (c : ClassName) → IsWithin before c → interfaces_of after c ≡ interfaces_of before c
+  pub virtual_methods : (c : ClassName) (token asker : ℕ) → IsWithin before c
+      → virtual_method_of after c token asker ≡ virtual_method_of before c token asker
+  pub interface_methods : (c interface : ClassName) (token : ℕ) → IsWithin before c
+      → interface_method_of after c interface token ≡ interface_method_of before c interface token
+  pub order : (c d : ClassName) → IsWithin before c → is_class_below after c d ≡ is_class_below before c d
+  pub still_below : (c d : ClassName) → is_class_below before c d ≡ true → is_class_below after c d ≡ true
+  pub found_subtypes : (c d : ClassName) → IsWithin before c → is_subtype after c d ≡ is_subtype before c d
+  pub still_found : (c d : ClassName) → is_subtype before c d ≡ true → is_subtype after c d ≡ true
+  pub subtypes : (c d : ClassName) → IsWithin before c → IsSubtype after c d ↔ IsSubtype before c d
+  pub implementations : (c i : ClassName) → IsWithin before c → Implements after c i ↔ Implements before c i
+  pub methods : (m : MethodName) → IsMethodWithin before m → method_at after m ≡ method_at before m
+
+-- what is there is of a package of the world: classes, methods, and the classes that declare these. So is the method at
+-- an offset of a package of the world, where the API's two packages are there
+pub record StandWithin (world : List Shape) : Type 0 where
+  pub classes : (c : ClassName) (k : ClassShape) → class_at world c ≡ Some k → IsWithin world c
+  pub methods : (m : MethodName) (d : DeclaredMethod) → method_at world m ≡ Some d → IsMethodWithin world m
+  pub declared : (m : MethodName) (d : DeclaredMethod) → method_at world m ≡ Some d → IsWithin world d.class
+  pub names : (home offset : ℕ) → 2 ≤ length world → home < length world
+      → IsMethodWithin world (method_name home offset)

@@ -1,5 +1,5 @@
 -- Private. What is above a class, as a search marks it.
-use Rattle.std.specs.Prelude.{◌≡◌, ℕ, zero, suc, ◌+◌, ◌*◌, ◌<◌, ◌≤◌, ◌==◌, Bool, true, false, List, Option, Some, slice_get, if◌then◌else◌}
+use Rattle.std.specs.Prelude.{◌≡◌, ℕ, zero, suc, ◌+◌, ◌*◌, ◌<◌, ◌≤◌, ◌==◌, Bool, true, false, List, [], ◌∷◌, Option, Some, slice_get, if◌then◌else◌}
 use Rattle.std.specs.List.{filter_map, cons_option, list_any, position}
 use Rattle.std.specs.Option.{option_map, option_and_then}
 use Rattle.jc_base.specs.NumberSet.{has_number}
@@ -25,6 +25,12 @@ above_in world home body =
 pub data IsReached (world : List Shape) (from : ClassName) : ClassName → Type 0 where
   start : IsReached world from from
   next : (c d : ClassName) → IsReached world from c → IsAmong d (above world c) → IsReached world from d
+
+-- a way up from a class to another one: the classes on it, both among them
+pub data IsWay (world : List Shape) (to : ClassName) : ClassName → List ClassName → Type 0 where
+  arrives : IsWay world to to (to ∷ [])
+  goes : (c d : ClassName) (way : List ClassName) → IsAmong d (above world c) → IsWay world to d way
+      → IsWay world to c (c ∷ way)
 
 -- the number of a class among all, 256 for each package
 abbrev pub place_in : ℕ → ℕ → Shape → Option ℕ

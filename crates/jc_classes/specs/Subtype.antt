@@ -1,6 +1,7 @@
 -- Which class is below which (Java Card Virtual Machine Specification, Verification types; Java Language Specification,
 -- Subtyping).
 use Rattle.std.specs.Prelude.{◌≡◌, ◌≢◌, ◌⊎◌, ℕ, zero, suc, ◌<◌, ◌≤◌, Bool, true, false, not, ◌&&◌, ◌||◌, Some, is_some, List, [], ◌∷◌, if◌then◌else◌}
+use Rattle.std.specs.List.{list_any}
 use Rattle.std.specs.Option.{option_map_or}
 use Rattle.jc_cap_class.specs.Component.{is_class}
 use Rattle.jc_cap_desc.specs.Shape.{Shape}
@@ -69,6 +70,19 @@ is_at_or_above world (suc n) d c = is_same_name c d || option_map_or (is_at_or_a
 -- whether a class is another one, or a superclass of it leads there; Object is above all
 abbrev pub is_class_below : List Shape → ClassName → ClassName → Bool
 is_class_below world c d = is_same_name (Api Object) d || is_at_or_above world most_classes d c
+
+-- whether a class or an interface is another one or below it, within so many steps: its superclass is, or an interface
+-- that it lists
+abbrev pub is_subtype_within : List Shape → ℕ → ClassName → ClassName → Bool
+is_subtype_within world zero c d = false
+is_subtype_within world (suc n) c d =
+    is_same_name c d || option_map_or (λ e. is_subtype_within world n e d) (superclass_of world c) false
+    || list_any (λ e. is_subtype_within world n e d) (interfaces_of world c)
+
+-- whether a class or an interface is another one or below it; all are below Object. A shortest way up meets no class
+-- twice, also where superclasses or interfaces lead round: so these steps find all in a world of no more classes
+abbrev pub is_subtype : List Shape → ClassName → ClassName → Bool
+is_subtype world c d = is_same_name (Api Object) d || is_subtype_within world most_classes c d
 
 -- an order of classes: each is below itself, two that are below one another are one, and what is below a class is below all
 -- that this class is below

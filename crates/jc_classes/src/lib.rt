@@ -21,10 +21,10 @@ mod table;
 mod tables;
 mod walk;
 
-pub use growth::adding_keeps_lookups;
+pub use growth::{adding_keeps_lookups, growing_keeps_lookups};
 pub use members::DeclaredMethod;
 pub use methods::method_name;
 pub use shape::{Class, Export, Field, ImplementedInterface, Method, PackageShape};
-pub use subtypes::superclass_laws;
+pub use subtypes::{found_subtypes_are_subtypes, superclass_laws};
 pub use table::ClassTable;
 pub use walk::anchor_behind;

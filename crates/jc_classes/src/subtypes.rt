@@ -1,8 +1,9 @@
 //! Which class is below which.
 
-ghost use Rattle.std.specs.Prelude.{◌≡◌, ◌⊎◌, ◌↔◌, true, IsTrue, List};
+ghost use Rattle.std.specs.Prelude.{◌≡◌, ◌⊎◌, ◌↔◌, true, IsTrue, None, List};
 ghost use Rattle.jc_cap_desc.specs.Shape.{Shape};
-ghost use Rattle.jc_classes.specs.Subtype.{IsSubtype, IsOrderly, IsLeastAbove, IsOrder, IsClassLattice, is_at_or_above, is_class_at, is_class_below, common_class, classes_above};
+ghost use Rattle.jc_classes.specs.Limits.{IsSmall};
+ghost use Rattle.jc_classes.specs.Subtype.{IsSubtype, IsOrderly, IsLeastAbove, IsOrder, IsClassLattice, is_at_or_above, is_class_at, is_class_below, is_subtype, common_class, classes_above};
 ghost use Rattle.jc_classes.specs.Walk.{most_classes};
 ghost use Rattle.jc_classes.specs.World.{superclass_of};
 
@@ -147,3 +148,18 @@ pub fn superclass_laws()
     ensures order { (world : List Shape) → IsOrderly world → superclass_of world (ClassName.Api ApiClass.Object) ≡ None → IsOrder (is_class_below world) }
     ensures lattice { (world : List Shape) → IsOrderly world → superclass_of world (ClassName.Api ApiClass.Object) ≡ None → IsClassLattice (is_class_below world) (common_class world) (classes_above world) most_classes }
 {}
+
+/// What the steps of `is_subtype` find is a subtype, and in a world of no more classes than there may be they find all.
+/// What is below another class along superclasses is found so; and where classes are in order and Object has no
+/// superclass, of a class the steps find nothing else.
+pub fn found_subtypes_are_subtypes()
+    ensures found { (world : List Shape) (c d : ClassName) → is_subtype world c d ≡ true → IsSubtype world c d }
+    ensures all { (world : List Shape) → IsSmall world → (c d : ClassName)
+        → IsSubtype world c d → is_subtype world c d ≡ true }
+    ensures below { (world : List Shape) (c d : ClassName) → is_class_below world c d ≡ true
+        → is_subtype world c d ≡ true }
+    ensures classes { (world : List Shape) → IsOrderly world → superclass_of world (ClassName.Api ApiClass.Object)
+        ≡ None → (c d : ClassName) → is_class_at world d ≡ true → is_subtype world c d ≡ is_class_below world c d }
+{
+    superclass_laws();
+}

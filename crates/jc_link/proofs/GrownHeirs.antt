@@ -13,7 +13,7 @@ use Rattle.jc_cap_class.specs.Interfaces.{Implemented}
 use Rattle.jc_cap_class.specs.declared.record.RecordBody.{RecordBody}
 use Rattle.jc_cap_class.specs.declared.record.RecordBody.TheVariants.{Interface, Class}
 use Rattle.jc_cap_desc.specs.Shape.{ClassShape, MethodShape, Package, Shape}
-use Rattle.jc_classes.specs.Growth.{grown, IsWithin, KeepsLookups}
+use Rattle.jc_classes.specs.Growth.{grown, IsMethodWithin, IsWithin, KeepsLookups}
 use Rattle.jc_classes.specs.Members.{DeclaredMethod, name_of}
 use Rattle.jc_classes.specs.Methods.{package_visible, public_method_of, record_visit, virtual_method_of, virtual_visit}
 use Rattle.jc_classes.specs.Record.{interface_rows}
@@ -23,7 +23,7 @@ use Rattle.jc_classes.specs.World.{class_at, class_named, superclass_of}
 use Rattle.jc_names.specs.declared.name.ClassName.{ClassName}
 use Rattle.jc_names.specs.declared.name.MethodName.{MethodName}
 use Rattle.jc_link.proofs.GrownParts.{some_of, chosen_of, then_same, or_same, any_same, find_same, either_same}
-use Rattle.jc_link.proofs.GrownWithin.{class_home, named_within, superclass_within, IsMethodWithin, virtual_within, by_other}
+use Rattle.jc_link.proofs.GrownWithin.{class_home, named_within, superclass_within, virtual_within, by_other}
 use Rattle.jc_link.proofs.GrownNames.{member_type_stays, method_stays, method_type_stays, concrete_stays, above_stays, above_within, names_stay, targets_stay}
 use Rattle.jc_link.proofs.GrownClasses.{unmet_stays, unresolved_stays, mistyped_stays, bad_alone_stays}
 use Rattle.jc_link.proofs.Tokens.{all_package}

@@ -14,7 +14,7 @@ use Rattle.jc_cap_pool.specs.declared.entry.PoolEntry.TheVariants.{Classref, Ins
 use Rattle.jc_cap_pool.specs.declared.entry.StaticRef.{StaticRef}
 use Rattle.jc_cap_pool.specs.declared.entry.StaticRef.TheVariants.{Internal, External}
 use Rattle.jc_api.specs.declared.class.ApiClass.TheVariants.{Object}
-use Rattle.jc_classes.specs.Growth.{grown, IsWithin, KeepsLookups}
+use Rattle.jc_classes.specs.Growth.{grown, IsMethodWithin, IsWithin, KeepsLookups}
 use Rattle.jc_names.specs.Names.{method_home, method_offset}
 use Rattle.jc_classes.specs.Members.{DeclaredMethod, declared_in, method_at}
 use Rattle.jc_classes.specs.Methods.{method_name, virtual_method_of}
@@ -27,7 +27,7 @@ use Rattle.jc_names.specs.declared.name.ClassName.{ClassName}
 use Rattle.jc_names.specs.declared.name.ClassName.TheVariants.{Api}
 use Rattle.jc_names.specs.declared.name.MethodName.{MethodName}
 use Rattle.jc_link.proofs.GrownParts.{the_some, some_of, mapped, chosen_of, then_same, map_same, or_same, get_before}
-use Rattle.jc_link.proofs.GrownWithin.{import_before, named_within, superclass_within, IsMethodWithin, method_name_within, declared_within, virtual_within}
+use Rattle.jc_link.proofs.GrownWithin.{import_before, named_within, superclass_within, method_name_within, declared_within, virtual_within}
 use Rattle.jc_link.specs.Found.{type_found, signature_found}
 use Rattle.jc_link.specs.Growth.{HasApi}
 use Rattle.jc_link.specs.MemberType.{as_member, counted, type_class, member_type_of, field_type_of, declared_type_of, method_type_of}
@@ -59,7 +59,7 @@ module _ (world : List Shape) (more : Shape) (keeps : KeepsLookups world more) w
   pub is_interface_stays : (c : ClassName) → IsWithin world c → is_interface_at (grown world more) c ≡ is_interface_at world c
   is_interface_stays c h = ap (λ (o : Option ClassShape). option_map_or (λ k. not (is_class k.body)) o false) (keeps.classes c h)
 
-  counted_stays : (c : ClassName) → IsWithin world c → counted (grown world more) c ≡ counted world c
+  pub counted_stays : (c : ClassName) → IsWithin world c → counted (grown world more) c ≡ counted world c
   counted_stays c h = ap (λ b. cond b (Api Object) c) (is_interface_stays c h)
 
   type_class_stays : (home : ℕ) (ref : ClassRef) → home < length world → type_class (grown world more) home ref ≡ type_class world home ref
@@ -225,12 +225,14 @@ module _ (world : List Shape) (more : Shape) (keeps : KeepsLookups world more) w
 
   -- ---- what is led to
 
-  instance_type_stays : (c : ClassName) (token : ℕ) → IsWithin world c → instance_type_of (grown world more) c token ≡ instance_type_of world c token
+  pub instance_type_stays : (c : ClassName) (token : ℕ) → IsWithin world c
+      → instance_type_of (grown world more) c token ≡ instance_type_of world c token
   instance_type_stays c token h =
       ap (option_and_then (field_type_of (grown world more) (home_of c))) (instance_field_stays c token h)
       ∙ then_same (field_type_of (grown world more) (home_of c)) (field_type_of world (home_of c)) (instance_field_at world c token) (λ f e. field_type_stays (home_of c) f h)
 
-  static_type_stays : (place : StaticPlace) → place.home < length world → static_type_of (grown world more) place ≡ static_type_of world place
+  pub static_type_stays : (place : StaticPlace) → place.home < length world
+      → static_type_of (grown world more) place ≡ static_type_of world place
   static_type_stays place h =
       ap (option_and_then (field_type_of (grown world more) place.home)) (static_field_stays place h)
       ∙ then_same (field_type_of (grown world more) place.home) (field_type_of world place.home) (static_field_at world place) (λ f e. field_type_stays place.home f h)

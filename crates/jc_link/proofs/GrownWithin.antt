@@ -15,7 +15,7 @@ use Rattle.jc_api.specs.Member.{member_of}
 use Rattle.jc_api.specs.declared.class.ApiClass.{ApiClass}
 use Rattle.jc_api.specs.declared.class.ApiPackage.{ApiPackage}
 use Rattle.jc_api.specs.declared.class.ApiPackage.TheVariants.{Lang, Framework}
-use Rattle.jc_classes.specs.Growth.{IsWithin}
+use Rattle.jc_classes.specs.Growth.{IsMethodWithin, IsWithin}
 use Rattle.jc_names.specs.Names.{method_home, method_offset}
 use Rattle.jc_classes.specs.Members.{DeclaredMethod, name_of, declared_in, method_at}
 use Rattle.jc_classes.specs.Methods.{method_of_class, has_method, method_name, method_there, entry_visit, table_visit, record_visit, virtual_method_of, virtual_visit, package_visible, declared_above}
@@ -82,10 +82,6 @@ superclass_within world c d h e =
     named_within world (home_of c) a.0 d h a.2
 
 -- ---- methods
-
--- the package of a method, if it has one, is in a world
-abbrev pub IsMethodWithin : List Shape → MethodName → Type 0
-IsMethodWithin world m = (home : ℕ) → method_home m ≡ Some home → home < length world
 
 api_home_small : (p : ApiPackage) → api_home p < 2
 api_home_small Lang = omega arith

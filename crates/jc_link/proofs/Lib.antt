@@ -33,3 +33,5 @@ pub mod ApiFit
 pub mod Soundness
 pub mod Applet
 pub mod Naming
+pub mod Later
+pub mod ApiThere

@@ -1,14 +1,18 @@
--- A world that grows: a package behind the others changes nothing of what is said of those before it.
+-- A world that grows: packages behind the others change nothing of what is said of those before them.
 use Rattle.std.specs.Prelude.{◌≡◌, ℕ, ◌<◌, ◌≤◌, List, length}
 use Rattle.jc_base.specs.Signature.{Signature}
 use Rattle.jc_base.specs.declared.class_ref.ClassRef.{ClassRef}
-use Rattle.jc_cap_desc.specs.Shape.{Package, Shape}
+use Rattle.jc_cap_desc.specs.Shape.{FieldShape, Package, Shape}
 use Rattle.jc_cap_pool.specs.declared.entry.PoolEntry.{PoolEntry}
-use Rattle.jc_classes.specs.Growth.{grown}
-use Rattle.jc_link.specs.MemberType.{member_type_of}
-use Rattle.jc_link.specs.Named.{named_by}
-use Rattle.jc_link.specs.Target.{pool_target_of}
+use Rattle.jc_classes.specs.Growth.{grown, IsMethodWithin, IsWithin}
+use Rattle.jc_classes.specs.Members.{DeclaredMethod}
+use Rattle.jc_names.specs.declared.name.ClassName.{ClassName}
+use Rattle.jc_names.specs.declared.name.MethodName.{MethodName}
+use Rattle.jc_link.specs.MemberType.{counted, declared_type_of, field_type_of, member_type_of, method_type_of}
+use Rattle.jc_link.specs.Named.{cells_above, named_by, size_of}
+use Rattle.jc_link.specs.Target.{instance_type_of, pool_target_of, static_type_of}
 use Rattle.jc_link.specs.WellFormed.{linking_fault}
+use Rattle.jc_link.specs.declared.named.StaticPlace.{StaticPlace}
 
 -- the two packages of the API are there, so that one behind them doesn't stand where a package of the API belongs
 abbrev pub HasApi : List Shape → Type 0
@@ -20,3 +24,26 @@ pub record KeepsLinking (world : List Shape) (more : Shape) : Type 0 where
   pub names : (home : ℕ) (entry : PoolEntry) → HasApi world → home < length world → named_by (grown world more) home entry ≡ named_by world home entry
   pub targets : (home : ℕ) (entry : PoolEntry) → HasApi world → home < length world → pool_target_of (grown world more) home entry ≡ pool_target_of world home entry
   pub faults : (home : ℕ) (p : Package) → HasApi world → home < length world → linking_fault (grown world more) home p ≡ linking_fault world home p
+
+-- what is said of packages of the earlier world, and of their classes, methods and fields, is the same in the later one
+pub record KeepsAllLinking (before after : List Shape) : Type 0 where
+  pub counts : (c : ClassName) → IsWithin before c → counted after c ≡ counted before c
+  pub types : (home : ℕ) (s : Signature ClassRef) → home < length before
+      → member_type_of after home s ≡ member_type_of before home s
+  pub field_types : (home : ℕ) (f : FieldShape) → home < length before
+      → field_type_of after home f ≡ field_type_of before home f
+  pub declared_types : (d : DeclaredMethod) → IsWithin before d.class
+      → declared_type_of after d ≡ declared_type_of before d
+  pub method_types : (m : MethodName) → IsMethodWithin before m → method_type_of after m ≡ method_type_of before m
+  pub instance_types : (c : ClassName) (token : ℕ) → IsWithin before c
+      → instance_type_of after c token ≡ instance_type_of before c token
+  pub static_types : (place : StaticPlace) → place.home < length before
+      → static_type_of after place ≡ static_type_of before place
+  pub sizes : (c : ClassName) → IsWithin before c → size_of after c ≡ size_of before c
+  pub cells : (steps : ℕ) (c : ClassName) → IsWithin before c → cells_above after steps c ≡ cells_above before steps c
+  pub names : (home : ℕ) (entry : PoolEntry) → HasApi before → home < length before
+      → named_by after home entry ≡ named_by before home entry
+  pub targets : (home : ℕ) (entry : PoolEntry) → HasApi before → home < length before
+      → pool_target_of after home entry ≡ pool_target_of before home entry
+  pub faults : (home : ℕ) (p : Package) → HasApi before → home < length before
+      → linking_fault after home p ≡ linking_fault before home p

@@ -21,3 +21,4 @@ pub mod Sound
 pub mod Applet
 pub mod PrivateFit
 pub mod KnownTypes
+pub mod ApiClasses

@@ -1,13 +1,16 @@
 //! What holds of worlds.
 
-ghost use Rattle.std.specs.Prelude.{List};
+ghost use Rattle.std.specs.Prelude.{ℕ, ◌≤◌, List, take};
 ghost use Rattle.jc_cap_desc.specs.Shape.{Shape};
 ghost use Rattle.jc_api.specs.Bound.{default_binding};
+ghost use Rattle.jc_api.specs.declared.class.ApiClass.{ApiClass};
 ghost use Rattle.jc_classes.specs.Api.{api_world};
+ghost use Rattle.jc_classes.specs.Growth.{LiesWithin};
 ghost use Rattle.jc_classes.specs.Limits.{IsSmall};
+ghost use Rattle.jc_link.specs.ApiClasses.{StandsThere};
 ghost use Rattle.jc_link.specs.Applet.{applet};
 ghost use Rattle.jc_link.specs.Built.{IsBuilt};
-ghost use Rattle.jc_link.specs.Growth.{KeepsLinking};
+ghost use Rattle.jc_link.specs.Growth.{HasApi, KeepsAllLinking, KeepsLinking};
 ghost use Rattle.jc_link.specs.KnownTypes.{NameClasses};
 ghost use Rattle.jc_link.specs.Sound.{IsSound};
 ghost use Rattle.jc_link.specs.WellFormed.{IsWellFormed};
@@ -19,6 +22,16 @@ use jc_classes::adding_keeps_lookups;
 #[tactic(auto, using(crate::proofs::GrownHeirs::linking_stays))]
 pub fn adding_keeps_linking()
     ensures { (world : List Shape) (more : Shape) → KeepsLinking world more }
+{
+    adding_keeps_lookups();
+}
+
+/// Nor do many packages. A world that is built has the packages of the API, and its first packages, those among them,
+/// are a world that is built.
+pub fn growing_keeps_linking()
+    ensures kept { (before after : List Shape) → LiesWithin before after → KeepsAllLinking before after }
+    ensures api { (world : List Shape) → IsBuilt world → HasApi world }
+    ensures first { (world : List Shape) (count : ℕ) → IsBuilt world → 2 ≤ count → IsBuilt (take count world) }
 {
     adding_keeps_lookups();
 }
@@ -36,6 +49,14 @@ pub fn built_worlds_name_classes()
 {
     adding_keeps_lookups();
     built_worlds_are_sound();
+}
+
+/// In a world that is built each class of the API stands as the API's tables say: whether it is an interface or
+/// abstract, what is above it, and how many cells its objects have.
+pub fn built_worlds_have_the_api()
+    ensures { (world : List Shape) → IsBuilt world → (c : ApiClass) → StandsThere world c }
+{
+    adding_keeps_lookups();
 }
 
 /// A package with an applet is well-formed behind the API's packages.

@@ -97,7 +97,7 @@ module _ (known : ClassName → Bool) where
   append_known : (xs ys : List Ty) → all_known xs ≡ true → all_known ys ≡ true → all_known (xs ++ ys) ≡ true
   append_known xs ys h k = list_all-append (is_known known) xs ys ∙ both (all_known xs) (all_known ys) h k
 
-  take_known : (n : ℕ) (xs : List Ty) → all_known xs ≡ true → all_known (take n xs) ≡ true
+  pub take_known : (n : ℕ) (xs : List Ty) → all_known xs ≡ true → all_known (take n xs) ≡ true
   take_known zero xs h = refl
   take_known (suc n) [] h = refl
   take_known (suc n) (x ∷ xs) h =
@@ -108,7 +108,7 @@ module _ (known : ClassName → Bool) where
   drop_known (suc n) [] h = refl
   drop_known (suc n) (x ∷ xs) h = drop_known n xs (each (is_known known x) (all_known xs) h).1
 
-  reverse_known : (xs : List Ty) → all_known xs ≡ true → all_known (reverse xs) ≡ true
+  pub reverse_known : (xs : List Ty) → all_known xs ≡ true → all_known (reverse xs) ≡ true
   reverse_known [] h = refl
   reverse_known (x ∷ xs) h =
       let two = each (is_known known x) (all_known xs) h in
@@ -153,7 +153,8 @@ module _ (known : ClassName → Bool) where
   given_known (OfOperand k) local taken g l t = at_known taken k t
   given_known (ComponentOf k) local taken g l t = component_known (unwrap_or (slice_get taken k) Top) (at_known taken k t)
 
-  local_known : (place : Place) (locals : List Ty) → all_known locals ≡ true → is_known known (local_of place locals) ≡ true
+  pub local_known : (place : Place) (locals : List Ty) → all_known locals ≡ true
+      → is_known known (local_of place locals) ≡ true
   local_known Nowhere locals h = refl
   local_known (At index demand) locals h = at_known locals index h
 
@@ -380,7 +381,8 @@ module _ (set : Setting) (names : NamesKnown set) where
   class_there (Some (To.SuperMethod class method signature)) h c e = none_some c e
   class_there (Some (To.StaticMethod class method is_static signature)) h c e = none_some c e
 
-  entry_class : (index : ℕ) (c : ClassName) → class_of_entry set index ≡ Some c → is_class_at set.world (counted set.world c) ≡ true
+  pub entry_class : (index : ℕ) (c : ClassName) → class_of_entry set index ≡ Some c
+      → is_class_at set.world (counted set.world c) ≡ true
   entry_class index c e = class_there (slice_get set.targets index) (target_there index) c e
 
   made_class : (c : ClassName) → has_objects set.world c ≡ true → is_class_at set.world c ≡ true

@@ -5,3 +5,4 @@ mod Order
 mod Lower
 mod Monotone
 pub mod Knowing
+mod Growing

@@ -4,4 +4,5 @@ pub mod Objects
 pub mod Effect
 pub mod Method
 pub mod Laws
+pub mod Growth
 pub mod Coded

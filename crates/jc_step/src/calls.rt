@@ -17,9 +17,9 @@ use crate::setting::Setting;
 use crate::words::takes;
 use jc_base::ReturnType;
 use jc_classes::{Class, ClassTable, Method};
-use jc_names::ClassName;
 use jc_code::Invocation;
 use jc_link::{MemberType, PoolTarget, is_known_method, return_found};
+use jc_names::ClassName;
 use jc_types::Ty;
 
 /// What a call puts.

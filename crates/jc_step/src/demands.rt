@@ -7,8 +7,8 @@ ghost use Rattle.jc_step.specs.Coded.{argument, argument_spelled, demands_of};
 use crate::row::{Demand, Given, Place};
 use jc_base::{ClassRef, DeclaredType};
 use jc_classes::ClassTable;
-use jc_names::{ClassName, PackagePlace};
 use jc_link::type_found;
+use jc_names::{ClassName, PackagePlace};
 use jc_types::{Classes, Ty, is_below};
 
 /// What operands have to be, the deepest first.

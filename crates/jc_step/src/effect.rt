@@ -10,9 +10,9 @@ use crate::setting::Setting;
 use crate::words::transfer_word;
 use jc_base::{Reason, ReturnType};
 use jc_classes::{ClassTable, DeclaredMethod, method_name};
-use jc_names::ClassName;
 use jc_code::{Instr, Operation};
 use jc_link::{Linked, is_known_method, return_found};
+use jc_names::ClassName;
 use jc_types::{State, Ty};
 use std::marker::Model;
 

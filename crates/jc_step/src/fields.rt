@@ -10,9 +10,9 @@ use crate::demands::Wanted;
 use crate::row::{Demand, Given};
 use crate::words::{reads, takes};
 use jc_base::DeclaredType;
-use jc_names::ClassName;
 use jc_code::{FieldAccess, FieldAction, Form, Holder};
 use jc_link::PoolTarget;
+use jc_names::ClassName;
 use jc_types::Ty;
 
 /// Whether the instructions of a form are for fields of a type.

@@ -20,11 +20,11 @@ use crate::words::{WORD, reads, takes, writes};
 use jc_api::ApiClass;
 use jc_base::Reason;
 use jc_classes::ClassTable;
-use jc_names::ClassName;
 use jc_code::{
     Creation, FieldAccess, Form, ObjectOperation, ReferenceCondition, TestedType, WordKind,
 };
 use jc_link::{PoolTarget, counted};
+use jc_names::ClassName;
 use jc_types::{State, Ty};
 
 /// What is above all classes and interfaces.

@@ -1,5 +1,6 @@
 -- What a member of the API is declared to give, in a world, is what its row in the API's table says.
-use Rattle.std.proofs.Common.{◌≡◌, ℕ, zero, suc, ◌+◌, ◌==◌, ◌++◌, Bool, true, false, cond, List, [], ◌∷◌, Option, Some, None, refl, sym, ap, subst, ◌∙◌, is_some, slice_get}
+use Rattle.std.proofs.Common.{◌≡◌, ℕ, zero, suc, ◌+◌, ◌==◌, ◌++◌, Bool, true, false, cond, List, [], ◌∷◌, Option, Some}
+use Rattle.std.proofs.Common.{None, refl, sym, ap, subst, ◌∙◌, is_some, slice_get}
 use Rattle.std.proofs.lemmas.Bool.{eqb-true}
 use Rattle.std.proofs.lemmas.Option.{none-some, same_Some}
 use Rattle.std.specs.List.{cons_option, filter_map, find, range_with_len}
@@ -14,12 +15,13 @@ use Rattle.jc_api.specs.declared.class.ApiPackage.TheVariants.{Lang, Framework}
 use Rattle.jc_base.specs.Signature.{Signature, return_map, type_map}
 use Rattle.jc_base.specs.declared.class_ref.ClassRef.{ClassRef}
 use Rattle.jc_base.specs.declared.declared_type.DeclaredType.{DeclaredType}
-use Rattle.jc_base.specs.declared.declared_type.DeclaredType.TheVariants.{Boolean, Byte, Short, Reference, BooleanArray, ByteArray, ShortArray, ReferenceArray}
+use Rattle.jc_base.specs.declared.declared_type.DeclaredType.TheVariants as types
 use Rattle.jc_base.specs.declared.declared_type.ReturnType.{ReturnType}
 use Rattle.jc_base.specs.declared.declared_type.ReturnType.TheVariants.{Void, Value}
 use Rattle.jc_cap_class.specs.Component.{is_class}
 use Rattle.jc_cap_desc.specs.Shape.{ClassShape, MethodShape, Shape}
-use Rattle.jc_classes.specs.Api.{api_shape, api_world, class_in_api, class_shape_of, class_with, declared_by, last_class, last_member, method_in, method_of, record_in, spelled_in, those_to}
+use Rattle.jc_classes.specs.Api.{api_shape, api_world, class_in_api, class_shape_of, class_with, declared_by, last_class}
+use Rattle.jc_classes.specs.Api.{last_member, method_in, method_of, record_in, spelled_in, those_to}
 use Rattle.jc_classes.specs.Members.{DeclaredMethod, declared_in, method_at, name_of}
 use Rattle.jc_classes.specs.Methods.{method_of_class}
 use Rattle.jc_classes.specs.World.{api_home, home_of}
@@ -98,6 +100,9 @@ stands_at n x = x.offset == n
 abbrev declared : ClassName → MethodShape → DeclaredMethod
 declared class m = record { class = class; method = m }
 
+abbrev declared_of : ℕ → ℕ → ClassShape → Option DeclaredMethod
+declared_of home n k = option_and_then (λ class. option_map (declared class) (method_of_class n k)) (name_of home k)
+
 module _ (bound : Bound) where
   declared_member : (c : ApiClass) (n : ℕ) (x : MethodShape) → method_of bound c n ≡ Some x → IsMember bound n x
   declared_member c n x e =
@@ -129,8 +134,7 @@ module _ (bound : Bound) where
   in_package : (which : ApiPackage) (home n : ℕ) (d : DeclaredMethod)
       → declared_in home n (api_shape bound which) ≡ Some d → IsMember bound n d.method
   in_package which home n d e =
-      let a = bound_some
-      (λ (k : ClassShape). option_and_then (λ class. option_map (declared class) (method_of_class n k)) (name_of home k))
+      let a = bound_some (declared_of home n)
       (find (has_method n) (those_to last_class (class_shape_of bound which))) d e in
       let b = bound_some (λ class. option_map (declared class) (method_of_class n a.0)) (name_of home a.0) d a.2 in
       let m = mapped_some (declared b.0) (method_of_class n a.0) d b.2 in
@@ -169,29 +173,31 @@ member_at world h n d e =
     let m = mapped_some (λ (m : ApiMember). api_home (package_of m.class)) (member_of n) a.0 a.1 in
     by_home (package_of (m.0).class) a.0 b.0 m.2 b.1 b.2
   where
-    by_home : (which : ApiPackage) (home : ℕ) (shape : Shape) → api_home which ≡ home → slice_get world home ≡ Some shape
-        → declared_in home n shape ≡ Some d → IsMember h.bound n d.method
+    by_home : (which : ApiPackage) (home : ℕ) (shape : Shape) → api_home which ≡ home
+        → slice_get world home ≡ Some shape → declared_in home n shape ≡ Some d → IsMember h.bound n d.method
     by_home which home shape at got e =
-        in_package h.bound which home n d (ap (declared_in home n) (same_Some _ _ (sym (h.there which) ∙ ap (slice_get world) at ∙ got)) ∙ e)
+        let same = same_Some (api_shape h.bound which) shape (sym (h.there which) ∙ ap (slice_get world) at ∙ got) in
+        in_package h.bound which home n d (ap (declared_in home n) same ∙ e)
 
 -- ---- what is given
 
-module _ (world : List Shape) (heap : Heap TaggedValue) (spell : ApiClass → ClassRef) (class_of : ClassRef → Option ClassName) where
+module _ (world : List Shape) (heap : Heap TaggedValue)
+    (spell : ApiClass → ClassRef) (class_of : ClassRef → Option ClassName) where
   abbrev Takes : TaggedValue → DeclaredType ClassName → Type 0
   Takes v type = is_of_type world heap type v ≡ true
 
-  zero_fits : (t : DeclaredType ApiClass) (type : DeclaredType ClassName) → type_found class_of (type_map spell t) ≡ Some type
-      → Takes (zero_of t) type
-  zero_fits Boolean type e = subst (Takes (Word 0)) (same_Some Boolean type e) refl
-  zero_fits Byte type e = subst (Takes (Word 0)) (same_Some Byte type e) refl
-  zero_fits Short type e = subst (Takes (Word 0)) (same_Some Short type e) refl
-  zero_fits (Reference c) type e =
-      subst (Takes Null) (mapped_some Reference (class_of (spell c)) type e).2 refl
-  zero_fits BooleanArray type e = subst (Takes Null) (same_Some BooleanArray type e) refl
-  zero_fits ByteArray type e = subst (Takes Null) (same_Some ByteArray type e) refl
-  zero_fits ShortArray type e = subst (Takes Null) (same_Some ShortArray type e) refl
-  zero_fits (ReferenceArray c) type e =
-      subst (Takes Null) (mapped_some ReferenceArray (class_of (spell c)) type e).2 refl
+  zero_fits : (t : DeclaredType ApiClass) (type : DeclaredType ClassName)
+      → type_found class_of (type_map spell t) ≡ Some type → Takes (zero_of t) type
+  zero_fits types.Boolean type e = subst (Takes (Word 0)) (same_Some types.Boolean type e) refl
+  zero_fits types.Byte type e = subst (Takes (Word 0)) (same_Some types.Byte type e) refl
+  zero_fits types.Short type e = subst (Takes (Word 0)) (same_Some types.Short type e) refl
+  zero_fits (types.Reference c) type e =
+      subst (Takes Null) (mapped_some types.Reference (class_of (spell c)) type e).2 refl
+  zero_fits types.BooleanArray type e = subst (Takes Null) (same_Some types.BooleanArray type e) refl
+  zero_fits types.ByteArray type e = subst (Takes Null) (same_Some types.ByteArray type e) refl
+  zero_fits types.ShortArray type e = subst (Takes Null) (same_Some types.ShortArray type e) refl
+  zero_fits (types.ReferenceArray c) type e =
+      subst (Takes Null) (mapped_some types.ReferenceArray (class_of (spell c)) type e).2 refl
 
   abbrev IsGiven : Option TaggedValue → ReturnType ClassName → Type 0
   IsGiven value type = is_given world heap type value ≡ true
@@ -203,29 +209,35 @@ module _ (world : List Shape) (heap : Heap TaggedValue) (spell : ApiClass → Cl
       let a = mapped_some Value (type_found class_of (type_map spell t)) type e in
       subst (IsGiven (Some (zero_of t))) a.2 (zero_fits t a.0 a.1)
 
+abbrev signature : List (DeclaredType ClassName) → ReturnType ClassName → Signature ClassName
+signature parameters result = record { parameters = parameters; result = result }
+
 -- the result of a signature whose classes were found
 result_found : (class_of : ClassRef → Option ClassName) (s : Signature ClassRef) (found : Signature ClassName)
     → signature_found class_of s ≡ Some found → return_found class_of s.result ≡ Some found.result
 result_found class_of s found e =
-    let a = bound_some
-    (λ parameters. option_map (λ result. record { parameters = parameters; result = result }) (return_found class_of s.result))
+    let a = bound_some (λ parameters. option_map (signature parameters) (return_found class_of s.result))
     (types_found class_of s.parameters) found e in
-    let b = mapped_some (λ result. record { parameters = a.0; result = result }) (return_found class_of s.result) found a.2 in
+    let b = mapped_some (signature a.0) (return_found class_of s.result) found a.2 in
     b.1 ∙ ap (λ (f : Signature ClassName). Some f.result) b.2
 
+abbrev idle_of : ApiMember → Option TaggedValue
+idle_of m = idle_value m.signature.result
+
 -- what idle natives give for a member is of the type that it is declared to give
-pub idle_fits : (world : List Shape) (heap : Heap TaggedValue) (n : ℕ) (d : DeclaredMethod) (given : Signature ClassName)
-    → IsBuilt world → method_at world (Api n) ≡ Some d → declared_type_of world d ≡ Some given
-    → is_given world heap given.result (idle_result n) ≡ true
+pub idle_fits : (world : List Shape) (heap : Heap TaggedValue) (n : ℕ) (d : DeclaredMethod)
+    (given : Signature ClassName) → IsBuilt world → method_at world (Api n) ≡ Some d
+    → declared_type_of world d ≡ Some given → is_given world heap given.result (idle_result n) ≡ true
 idle_fits world heap n d given built at declared =
     let h = has_api world built in
     let m = member_at world h n d at in
     by_member h.bound m.member (sym (ap (λ (x : MethodShape). x.signature) m.shown)) m.is
   where
-    by_member : (bound : Bound) (m : ApiMember) → d.method.signature ≡ (method_in bound n m).signature → member_of n ≡ Some m
-        → is_given world heap given.result (idle_result n) ≡ true
+    by_member : (bound : Bound) (m : ApiMember) → d.method.signature ≡ (method_in bound n m).signature
+        → member_of n ≡ Some m → is_given world heap given.result (idle_result n) ≡ true
     by_member bound m spelled is =
         let find = type_class world (home_of d.class) in
-        let result = result_found find (method_in bound n m).signature given (ap (signature_found find) (sym spelled) ∙ declared) in
-        ap (λ o. is_given world heap given.result (option_and_then (λ (m : ApiMember). idle_value m.signature.result) o)) is
+        let same = ap (signature_found find) (sym spelled) ∙ declared in
+        let result = result_found find (method_in bound n m).signature given same in
+        ap (λ o. is_given world heap given.result (option_and_then idle_of o)) is
         ∙ value_fits world heap (spelled_in bound (package_of m.class)) find m.signature.result given.result result

@@ -1,7 +1,9 @@
 -- Native members that do nothing keep the law of native members.
 use Rattle.std.proofs.Common.{◌≡◌, ◌&&◌, Bool, true, false, cond, Option, Some, None, refl, ap, inl, ◌∙◌}
 use Rattle.std.specs.Option.{option_and_then, option_map_or}
-use Rattle.jc_classes.specs.Members.{method_at}
+use Rattle.jc_base.specs.Signature.{Signature}
+use Rattle.jc_classes.specs.Members.{DeclaredMethod, method_at}
+use Rattle.jc_classes.specs.declared.name.ClassName.{ClassName}
 use Rattle.jc_classes.specs.declared.name.MethodName.TheVariants.{Api}
 use Rattle.jc_link.specs.Linked.{World}
 use Rattle.jc_link.specs.MemberType.{declared_type_of}
@@ -36,17 +38,23 @@ idle_is_guarded w call = record {
   calls = λ callback e. absurd cc;
 }
 
+-- a method may begin with the arguments of a call; and these are of the types of a signature
+abbrev may_begin : World → NativeCall (Unit {0}) → DeclaredMethod → Bool
+may_begin w call d = may_begin_with w.shapes call.heap d call.arguments
+
+abbrev takes : World → NativeCall (Unit {0}) → DeclaredMethod → Signature ClassName → Bool
+takes w call d signature =
+    cond d.method.is_static (are_of_types w.shapes call.heap signature.parameters call.arguments)
+    (are_of_instance w.shapes call.heap d.class signature.parameters call.arguments)
+
 -- what is given is of the declared type
 idle_is_fit : (w : World) (call : NativeCall (Unit {0})) → IsAccepted w → IsFitCall idle w call
     → IsFitAnswer idle w call (idle.answer w call)
 idle_is_fit w call accepted fit =
     let begins = both (is_concrete w.shapes (Api call.member))
-    (option_map_or (λ d. may_begin_with w.shapes call.heap d call.arguments) (method_at w.shapes (Api call.member)) false) fit.begins in
-    let d = passed_some (λ d. may_begin_with w.shapes call.heap d call.arguments) (method_at w.shapes (Api call.member)) begins.1 in
-    let given = passed_some
-    (λ signature. cond (d.0).method.is_static (are_of_types w.shapes call.heap signature.parameters call.arguments)
-    (are_of_instance w.shapes call.heap (d.0).class signature.parameters call.arguments)) (declared_type_of w.shapes d.0) d.2 in
-    record {
+    (option_map_or (may_begin w call) (method_at w.shapes (Api call.member)) false) fit.begins in
+    let d = passed_some (may_begin w call) (method_at w.shapes (Api call.member)) begins.1 in
+    let given = passed_some (takes w call d.0) (declared_type_of w.shapes d.0) d.2 in record {
       heap = fit.heap;
       fits = refl;
       given = given.0;

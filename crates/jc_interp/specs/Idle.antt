@@ -5,7 +5,7 @@ use Rattle.std.specs.Option.{option_and_then}
 use Rattle.jc_api.specs.Member.{ApiMember, member_of}
 use Rattle.jc_api.specs.declared.class.ApiClass.{ApiClass}
 use Rattle.jc_base.specs.declared.declared_type.DeclaredType.{DeclaredType}
-use Rattle.jc_base.specs.declared.declared_type.DeclaredType.TheVariants.{Boolean, Byte, Short, Reference, BooleanArray, ByteArray, ShortArray, ReferenceArray}
+use Rattle.jc_base.specs.declared.declared_type.DeclaredType.TheVariants as types
 use Rattle.jc_base.specs.declared.declared_type.ReturnType.{ReturnType}
 use Rattle.jc_base.specs.declared.declared_type.ReturnType.TheVariants.{Void, Value}
 use Rattle.jc_interp.specs.Machine.{Gives, Natives}
@@ -13,14 +13,14 @@ use Rattle.jc_interp.specs.Values.{Null, TaggedValue, Word}
 
 -- the 0 of a type
 abbrev pub zero_of : DeclaredType ApiClass → TaggedValue
-zero_of Boolean = Word 0
-zero_of Byte = Word 0
-zero_of Short = Word 0
-zero_of (Reference c) = Null
-zero_of BooleanArray = Null
-zero_of ByteArray = Null
-zero_of ShortArray = Null
-zero_of (ReferenceArray c) = Null
+zero_of types.Boolean = Word 0
+zero_of types.Byte = Word 0
+zero_of types.Short = Word 0
+zero_of (types.Reference c) = Null
+zero_of types.BooleanArray = Null
+zero_of types.ByteArray = Null
+zero_of types.ShortArray = Null
+zero_of (types.ReferenceArray c) = Null
 
 -- what is given where this is declared
 abbrev pub idle_value : ReturnType ApiClass → Option TaggedValue

@@ -5,7 +5,8 @@ use Rattle.jc_store.specs.Store.{Store}
 use Rattle.jc_interp.specs.Accepted.{IsAccepted}
 use Rattle.jc_interp.specs.Agree.{HeapReads, Pointwise, Reads}
 use Rattle.jc_interp.specs.Following.{ReadsResult}
-use Rattle.jc_interp.specs.Machine.{Callback, Calls, Gives, IsStuck, NativeAnswer, NativeCall, NativeEnd, Natives, ThrowsObject}
+use Rattle.jc_interp.specs.Machine.{Callback, NativeAnswer, NativeCall, Natives}
+use Rattle.jc_interp.specs.Machine.{Calls, Gives, IsStuck, NativeEnd, ThrowsObject}
 use Rattle.jc_interp.specs.Natives.{IsFitCall}
 use Rattle.jc_interp.specs.declared.natives.WordCall.{WordCall}
 use Rattle.jc_interp.specs.declared.natives.WordCallback.{WordCallback}
@@ -50,7 +51,7 @@ ReadsEnd (CallsBack word) (Gives value) = ⊥
 ReadsEnd (CallsBack word) (ThrowsObject object) = ⊥
 ReadsEnd (CallsBack word) IsStuck = ⊥
 
--- the objects, what the runtime keeps and the end are those of an answer without their tags. Its accesses leave no trace
+-- the objects, what the runtime keeps and the end are those of an answer without tags. Its accesses leave no trace
 pub record AnswerAgrees {C : Type 0} (state : WordState C) (outcome : WordOutcome) (a : NativeAnswer C) : Type 0 where
   pub heap : HeapReads state.store.objects a.heap
   pub runtime : state.runtime ≡ a.runtime

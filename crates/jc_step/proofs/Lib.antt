@@ -4,4 +4,5 @@ mod Results
 mod Order
 mod Lower
 mod Monotone
+mod Shapes
 pub mod Knowing

@@ -12,7 +12,7 @@ ghost use Rattle.jc_types.specs.State.{Types};
 ghost use Rattle.jc_types.specs.Ty.{type_of_declared};
 ghost use Rattle.jc_types.specs.declared.ty.Ty.{Ty};
 ghost use Rattle.jc_step.specs.Effect.{effect_of};
-ghost use Rattle.jc_step.specs.Laws.{IsMonotone, NamesKnown};
+ghost use Rattle.jc_step.specs.Laws.{IsMonotone, KeepsShape, NamesKnown};
 ghost use Rattle.jc_step.specs.Objects.{Setting};
 ghost use Rattle.jc_step.specs.Row.{Row, applied};
 ghost use Rattle.jc_step.specs.Words.{word_effect};
@@ -34,4 +34,13 @@ pub fn effects_are_monotone()
 pub fn effects_name_classes()
     ensures effects { (set : Setting) → NamesKnown set → (most : ℕ) (operation : Operation) (s t : Types) → effect_of set most operation s ≡ Ok t → AreKnown (is_class_at set.world) s → AreKnown (is_class_at set.world) t }
     ensures types { (known : ClassName → Bool) (t : DeclaredType ClassName) → is_known_type known t ≡ true → is_known known (type_of_declared t) ≡ true }
+{}
+
+/// An effect keeps how many locals there are, and leaves no more operands than a method may have where there were no
+/// more: of operations on words, and of all operations read against a setting. It does nothing.
+pub fn effects_keep_shapes()
+    ensures words { (below : ClassName → ClassName → Bool) (most : ℕ) (returned : Option Ty)
+        (operation : WordOperation) → KeepsShape most (word_effect below most returned operation) }
+    ensures effects { (set : Setting) (most : ℕ) (operation : Operation)
+        → KeepsShape most (effect_of set most operation) }
 {}

@@ -16,7 +16,7 @@ pub use applying::{Row, apply};
 pub use demands::Wanted;
 pub use effect::{own_method, result_of, transfer, transfer_in};
 pub use jc_base::Reason;
-pub use laws::{effects_are_monotone, effects_name_classes};
+pub use laws::{effects_are_monotone, effects_keep_shapes, effects_name_classes};
 pub use row::{Demand, Given, Place};
 pub use setting::Setting;
 pub use words::transfer_word;

@@ -3,6 +3,7 @@
 
 mod examples;
 mod idle;
+mod laws;
 mod natives;
 
 pub use examples::{
@@ -10,4 +11,5 @@ pub use examples::{
     stuck_runs, throws_run,
 };
 pub use idle::IdleNatives;
+pub use laws::accepted_methods_are_typed;
 pub use natives::{MOST_ARGUMENTS, Natives, WordCall, WordCallback, WordOutcome};

@@ -20,6 +20,7 @@ use Rattle.jc_check.specs.PrivateFirst.{LeastOf}
 use Rattle.jc_check.specs.Rules.{Rules}
 use Rattle.jc_check.specs.declared.fault.Fault.{Fault}
 use Rattle.jc_check.specs.declared.fault.MethodFault.{MethodFault}
+use Rattle.jc_check.proofs.Shaped.{KeepShapes, shaped}
 use Rattle.jc_check.proofs.Typed.{typed}
 
 module _ (l : Linked) (rows : List Row) where
@@ -84,7 +85,13 @@ module _ (l : Linked) (rows : List Row) where
   -- ---- it is well typed
 
   pub carried_typed : IsOrder (is_class_below l.world) → ((below : ClassName → ClassName → Bool) → IsOrder below → (s : Types) → types_below below s s ≡ true)
-      → CarriesPackage l rows → IsPackageTyped l
-  carried_typed order self carries = record {
-    each = λ n b e. let c = carries.methods n b e in record { typing = c.typing; typed = typed (package_rules l) (self (is_class_below l.world) order) (method_of l b) (stated_for rows b.offset) c };
+      → ListingLaws (package_rules l).decoder → KeepShapes (package_rules l) → CarriesPackage l rows → IsPackageTyped l
+  carried_typed order self laws keeps carries = record {
+    each = λ n b e.
+        let c = carries.methods n b e in
+        let below = self (is_class_below l.world) order in record {
+          typing = c.typing;
+          typed = typed (package_rules l) below (method_of l b) (stated_for rows b.offset) c;
+          shaped = shaped (package_rules l) laws keeps (method_of l b) (stated_for rows b.offset) c;
+        };
   }

@@ -9,6 +9,7 @@ mod Walking
 mod Sound
 mod Complete
 mod NoClasses
+mod Shaped
 mod Typed
 mod Verdicts
 mod Rows

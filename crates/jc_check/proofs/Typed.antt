@@ -1,7 +1,7 @@
 -- A method that is carried is well typed.
 use Rattle.std.proofs.Common.{◌≡◌, ℕ, ℤ, List, [], ◌∷◌, Option, Some, None, Bool, true, false, refl}
 use Rattle.std.specs.List.{AllByRecursion}
-use Rattle.jc_code.specs.Listing.{PlacedInstr}
+use Rattle.jc_code.specs.Listing.{ListingLaws, PlacedInstr}
 use Rattle.jc_code.specs.Targets.{targets_of, falls_of}
 use Rattle.jc_check.proofs.Listings.{placed_begins}
 use Rattle.jc_types.specs.State.{Types, types_below}
@@ -11,6 +11,7 @@ use Rattle.jc_check.specs.Method.{Handler, Method, entry_of, word_method}
 use Rattle.jc_check.specs.Claim.{Claim}
 use Rattle.jc_check.specs.Typing.{Typing, Leads, BranchLeads, HandlerLeads, IsTyping, IsWellTyped}
 use Rattle.jc_check.specs.Carried.{state_at, Arrives, GoesOn, GoesOnIf, IsHandled, Carries}
+use Rattle.jc_check.proofs.Shaped.{KeepShapes, shaped}
 
 leads : (rules : Rules) (self : (s : Types) → types_below rules.below s s ≡ true) (claims : List Claim) (typing : Typing) (t : Types) (pc : ℕ) (o : Option Types) → state_at claims pc ≡ o → ((q : ℕ) (s : Types) → state_at claims q ≡ Some s → typing q ≡ Some s) → GoesOn rules o (typing pc) t → Leads rules typing t pc
 leads rules self claims typing t pc None e stated h = record { state = t; typed = h; below = self t }
@@ -51,5 +52,11 @@ typed rules self m states c = record {
       };
 }
 
-pub well_typed : (self : (s : Types) → types_below word_rules.below s s ≡ true) (code : List ℕ) (states : List Stated) → Carries word_rules (word_method code) states → IsWellTyped code
-well_typed self code states c = record { typing = c.typing; typed = typed word_rules self (word_method code) states c }
+pub well_typed : (self : (s : Types) → types_below word_rules.below s s ≡ true) → ListingLaws word_rules.decoder
+    → KeepShapes word_rules → (code : List ℕ) (states : List Stated) → Carries word_rules (word_method code) states
+    → IsWellTyped code
+well_typed self laws keeps code states c = record {
+  typing = c.typing;
+  typed = typed word_rules self (word_method code) states c;
+  shaped = shaped word_rules laws keeps (word_method code) states c;
+}

@@ -11,7 +11,7 @@ use Rattle.jc_link.specs.Linked.{Linked}
 use Rattle.jc_check.specs.Carried.{Carries}
 use Rattle.jc_check.specs.FirstFault.{IsFirstFault}
 use Rattle.jc_check.specs.Package.{method_of, package_rules}
-use Rattle.jc_check.specs.Typing.{Typing, IsTyping}
+use Rattle.jc_check.specs.Typing.{Typing, IsShaped, IsTyping}
 use Rattle.jc_check.specs.declared.fault.Fault.{Fault}
 
 -- the states that a certificate has for the method at an offset
@@ -58,10 +58,11 @@ pub record IsPackageCarried (l : Linked) : Type 0 where
   pub cert : IsCert rows
   pub carried : CarriesPackage l rows
 
--- a method with code is well typed
+-- a method with code is well typed, by a typing of its shape
 pub record IsMethodTyped (l : Linked) (b : MethodBody) : Type 0 where
   pub typing : Typing
   pub typed : IsTyping (package_rules l) (method_of l b) typing
+  pub shaped : IsShaped (method_of l b) typing
 
 -- each method with code is well typed
 pub record IsPackageTyped (l : Linked) : Type 0 where

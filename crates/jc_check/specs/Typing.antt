@@ -1,6 +1,6 @@
 -- Well-typed methods (Java Card Virtual Machine Specification, verification of CAP files: the state of the locals and
 -- of the operand stack at each instruction).
-use Rattle.std.specs.Prelude.{◌≡◌, ℕ, ℤ, pos, List, Option, Some, true}
+use Rattle.std.specs.Prelude.{◌≡◌, ℕ, ℤ, ◌+◌, ◌≤◌, pos, List, length, Option, Some, true}
 use Rattle.std.specs.List.{AllByRecursion}
 use Rattle.std.specs.Prelude.{Ok}
 use Rattle.jc_names.specs.declared.name.ClassName.{ClassName}
@@ -57,7 +57,17 @@ pub record IsTyping (rules : Rules) (m : Method) (typing : Typing) : Type 0 wher
   pub entry : Leads rules typing (entry_of m) 0
   pub each : (pc : ℕ) (s : Types) → typing pc ≡ Some s → IsFineAt rules m typing listing pc s
 
--- code alone that is well typed
+-- types of a method's shape: they have as many locals as the method, and no more operands than that may have
+pub record HasShape (m : Method) (t : Types) : Type 0 where
+  pub locals : length t.locals ≡ length m.arguments + m.max_locals
+  pub operands : length t.operands ≤ m.max_stack
+
+-- each state of a typing is of a method's shape
+abbrev pub IsShaped : Method → Typing → Type 0
+IsShaped m typing = (pc : ℕ) (t : Types) → typing pc ≡ Some t → HasShape m t
+
+-- code alone that is well typed, by a typing of its shape
 pub record IsWellTyped (code : List ℕ) : Type 0 where
   pub typing : Typing
   pub typed : IsTyping word_rules (word_method code) typing
+  pub shaped : IsShaped (word_method code) typing

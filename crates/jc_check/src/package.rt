@@ -14,6 +14,7 @@ use jc_base::{LoadFault, Reason};
 use jc_cert::{Cert, MethodRow};
 use jc_code::listing_laws;
 use jc_link::{Linked, MethodCode, built_worlds_are_sound};
+use jc_step::effects_keep_shapes;
 use jc_types::order_laws;
 use std::alloc::Global;
 use std::marker::Model;
@@ -177,6 +178,8 @@ fn carried_is_typed(linked: &Linked)
     let _count = linked.table().len();
     built_worlds_are_sound();
     order_laws();
+    listing_laws();
+    effects_keep_shapes();
 }
 
 /// Checks that a certificate carries a linked package. The first refusal is told: of rows of the certificate for offsets at

@@ -16,6 +16,7 @@ use crate::rules::WordRules;
 use jc_base::Reason;
 use jc_cert::{Cert, StateRow};
 use jc_code::listing_laws;
+use jc_step::effects_keep_shapes;
 use jc_types::order_laws;
 use std::alloc::Global;
 use std::marker::Model;
@@ -83,6 +84,7 @@ pub fn check_words<'a>(
     first_fault_laws();
     listing_laws();
     order_laws();
+    effects_keep_shapes();
     let Some(states) = states_for(cert) else {
         return Err(WordFault::Refused {
             pc: 0,

@@ -1,0 +1,2 @@
+mod ApiResults
+mod IdleLaw

@@ -15,5 +15,7 @@ pub mod Typed
 pub mod Guarded
 pub mod Natives
 pub mod Following
+pub mod WordNatives
+pub mod Idle
 pub mod ExamplePackages
 pub mod Examples

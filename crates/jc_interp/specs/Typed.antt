@@ -1,12 +1,11 @@
 -- When a defensive machine is well typed: what it holds is of the types by which its code was checked, and of declared types elsewhere.
-use Rattle.std.specs.Prelude.{⊤, ◌≡◌, ℕ, ◌+◌, ◌<◌, ◌≤◌, Bool, true, false, List, [], ◌∷◌, length, Option, Some, None, IsSome, Ok}
+use Rattle.std.specs.Prelude.{⊤, ◌≡◌, ℕ, ◌<◌, Bool, true, false, List, [], ◌∷◌, length, Option, Some, None, IsSome, Ok}
 use Rattle.std.specs.List.{AllByRecursion}
 use Rattle.std.specs.Option.{option_and_then, option_map_or}
 use Rattle.jc_base.specs.declared.declared_type.DeclaredType.{DeclaredType}
 use Rattle.jc_cap_desc.specs.Shape.{MethodBody, Shape}
-use Rattle.jc_check.specs.Method.{Method}
 use Rattle.jc_check.specs.Package.{method_of, package_rules}
-use Rattle.jc_check.specs.Typing.{IsTyping, Leads, Typing}
+use Rattle.jc_check.specs.Typing.{IsShaped, IsTyping, Leads, Typing}
 use Rattle.jc_classes.specs.Subtype.{is_class_below}
 use Rattle.jc_names.specs.declared.name.ClassName.{ClassName}
 use Rattle.jc_code.specs.declared.instr.Instr.{Instr}
@@ -113,11 +112,6 @@ pub record StaticsTyped (w : World) (heap : Heap TaggedValue) (statics : List (L
 
 -- ---- frames
 
--- a state of a method's shape: it has as many locals as the method, and no more operands than that may have
-pub record HasShape (m : Method) (t : Types) : Type 0 where
-  pub locals : length t.locals ≡ length m.arguments + m.max_locals
-  pub operands : length t.operands ≤ m.max_stack
-
 -- a frame's method as the check sees it, with a typing of it whose states are of the method's shape, and which has a
 -- state at the frame's pc, of whose types the frame's locals are
 pub record IsPlaced (w : World) (heap : Heap TaggedValue) (f : Frame) : Type 0 where
@@ -127,8 +121,7 @@ pub record IsPlaced (w : World) (heap : Heap TaggedValue) (f : Frame) : Type 0 w
   pub there : code_at w f.method ≡ Some code
   pub typing : Typing
   pub typed : IsTyping (package_rules (linked_as w f.method.number body)) (method_of (linked_as w f.method.number body) code) typing
-  pub shaped : (pc : ℕ) (t : Types) → typing pc ≡ Some t
-      → HasShape (method_of (linked_as w f.method.number body) code) t
+  pub shaped : IsShaped (method_of (linked_as w f.method.number body) code) typing
   pub state : Types
   pub stated : typing f.pc ≡ Some state
   pub locals_typed : HaveTypes w.shapes heap f.locals state.locals

@@ -8,13 +8,11 @@ ghost use Rattle.jc_firewall.specs.declared.access.Access.TheVariants.{CheckCast
 ghost use Rattle.jc_firewall.specs.declared.access.Rule.TheVariants.{Fields};
 ghost use Rattle.jc_firewall.specs.declared.access.Verdict.TheVariants.{Allowed, AllowedSwitch, Denied};
 ghost use Rattle.jc_interp.specs.ExamplePackages.{asker, client, server};
-ghost use Rattle.jc_interp.specs.Examples.{a_value, an_object, asking, exceptions, have_their_sizes, is_stuck_with, owner, probed, probed_on, quiet, run, run_with, start_of, stuck, untouched, used_up, with_served};
-ghost use Rattle.jc_interp.specs.Machine.{NativeCall};
-ghost use Rattle.jc_interp.specs.Natives.{IsGuardedAnswer};
+ghost use Rattle.jc_interp.specs.Examples.{a_value, an_object, asking, exceptions, have_their_sizes, is_stuck_with, owner, probed, probed_on, run, run_with, start_of, stuck, untouched, used_up, with_served};
+ghost use Rattle.jc_interp.specs.Idle.{idle};
 ghost use Rattle.jc_interp.specs.Typed.{IsOperand};
 ghost use Rattle.jc_words.specs.Values.{Null, Ref, TaggedValue, Unset, Word};
 ghost use Rattle.jc_link.specs.Applet.{applet};
-ghost use Rattle.jc_link.specs.Linked.{World};
 ghost use Rattle.jc_store.specs.Heap.{Heap};
 ghost use Rattle.jc_types.specs.declared.ty.Ty.{Ty};
 
@@ -72,6 +70,8 @@ pub fn natives_run()
         (start_of (with_served 0) (owner 1 1) (Api 38) (Ref 11 ∷ Null ∷ [])) ≡ untouched stuck }
     ensures a_result_is_missing { run (applet ∷ []) 10 (start_of (with_served 0) (owner 1 1) (Api 36) (Ref 11 ∷ []))
         ≡ untouched stuck }
+    ensures idle_natives_give_zero { run_with idle (applet ∷ []) 10
+        (start_of (with_served 0) (owner 1 1) (Api 36) (Ref 11 ∷ [])) ≡ untouched (a_value (Some (Word 0))) }
     ensures no_applet { run (server ∷ []) 10 (start_of (with_served 10) (owner 1 1) (Api 37) (Ref 11 ∷ []))
         ≡ untouched stuck }
     ensures a_callback_of_no_applet { run_with asking (server ∷ applet ∷ asker ∷ []) 20
@@ -81,11 +81,6 @@ pub fn natives_run()
 /// Each of the runtime's own objects has as many components as its class says. It does nothing.
 pub fn runtime_objects_fit()
     ensures { have_their_sizes ≡ true }
-{}
-
-/// Natives that do nothing are guarded: they make no access, and no object changes. It does nothing.
-pub fn quiet_natives_are_guarded()
-    ensures { (w : World) (call : NativeCall (Unit {0})) → IsGuardedAnswer w call (quiet.answer w call) }
 {}
 
 /// Operands are written: what was never written is of no type as an operand, and leaves a step stuck. They do nothing.

@@ -1,9 +1,15 @@
-//! The interpreter: the defensive machine by which it is judged.
+//! The interpreter: the defensive machine by which it is judged, and the contract of the native members that it calls.
 #![tactic(auto)]
 
 mod examples;
+mod idle;
+mod laws;
+mod natives;
 
 pub use examples::{
-    callback_runs, calls_run, install_runs, natives_run, operands_are_written,
-    quiet_natives_are_guarded, runtime_objects_fit, stuck_runs, throws_run,
+    callback_runs, calls_run, install_runs, natives_run, operands_are_written, runtime_objects_fit,
+    stuck_runs, throws_run,
 };
+pub use idle::IdleNatives;
+pub use laws::accepted_methods_are_typed;
+pub use natives::{MOST_ARGUMENTS, Natives, WordCall, WordCallback, WordOutcome};

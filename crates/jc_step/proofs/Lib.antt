@@ -4,5 +4,6 @@ mod Results
 mod Order
 mod Lower
 mod Monotone
+mod Shapes
 pub mod Knowing
 mod Growing

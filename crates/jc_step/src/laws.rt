@@ -21,7 +21,7 @@ ghost use Rattle.jc_types.specs.Ty.{type_of_declared};
 ghost use Rattle.jc_types.specs.declared.ty.Ty.{Ty};
 ghost use Rattle.jc_step.specs.Effect.{effect_of};
 ghost use Rattle.jc_step.specs.Growth.{KeepsAllMembers, KeepsAllOrders, KeepsOwnMethods, in_world};
-ghost use Rattle.jc_step.specs.Laws.{IsMonotone, NamesKnown};
+ghost use Rattle.jc_step.specs.Laws.{IsMonotone, KeepsShape, NamesKnown};
 ghost use Rattle.jc_step.specs.Objects.{Setting, has_objects};
 ghost use Rattle.jc_step.specs.Row.{Row, applied};
 ghost use Rattle.jc_step.specs.Words.{word_effect};
@@ -71,3 +71,12 @@ pub fn api_classes_have_objects()
 {
     built_worlds_have_the_api();
 }
+
+/// An effect keeps how many locals there are, and leaves no more operands than a method may have where there were no
+/// more: of operations on words, and of all operations read against a setting. It does nothing.
+pub fn effects_keep_shapes()
+    ensures words { (below : ClassName → ClassName → Bool) (most : ℕ) (returned : Option Ty)
+        (operation : WordOperation) → KeepsShape most (word_effect below most returned operation) }
+    ensures effects { (set : Setting) (most : ℕ) (operation : Operation)
+        → KeepsShape most (effect_of set most operation) }
+{}

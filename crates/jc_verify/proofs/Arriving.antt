@@ -6,7 +6,7 @@ use Rattle.std.proofs.lemmas.Bool.{cases_eq}
 use Rattle.std.proofs.lemmas.Option.{none-some, same_Some, slice_get_within}
 use Rattle.jc_check.specs.Method.{Method}
 use Rattle.jc_check.specs.Package.{package_rules}
-use Rattle.jc_check.specs.Typing.{Leads}
+use Rattle.jc_check.specs.Typing.{HasShape, Leads}
 use Rattle.jc_classes.specs.Subtype.{classes_above, is_class_below}
 use Rattle.jc_classes.specs.Walk.{most_classes}
 use Rattle.jc_names.specs.declared.name.ClassName.{ClassName}
@@ -14,7 +14,7 @@ use Rattle.jc_link.specs.Linked.{Linked}
 use Rattle.jc_types.specs.State.{StateWithRoom, Types, all_below, height_of_types, types_below}
 use Rattle.jc_types.specs.Ty.{is_below}
 use Rattle.jc_types.specs.declared.ty.Ty.{Ty}
-use Rattle.jc_verify.specs.PrivateFlow.{AreShaped, Grown, HasLaws, HasRoom, HasShape, IsNumbered, Places, Risen, below_in, held_at, height_in, most_height, number_at, types_held}
+use Rattle.jc_verify.specs.PrivateFlow.{AreShaped, Grown, HasLaws, HasRoom, IsNumbered, Places, Risen, below_in, held_at, height_in, most_height, number_at, types_held}
 use Rattle.jc_verify.specs.PrivatePlaces.{HoldsAbove, IsStep}
 use Rattle.jc_verify.specs.declared.place.Place.{Place}
 use Rattle.jc_verify.proofs.Growing.{leads_on}

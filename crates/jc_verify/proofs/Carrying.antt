@@ -19,13 +19,13 @@ use Rattle.jc_check.specs.Method.{Handler, Method, caught_types, covers, entry_o
 use Rattle.jc_check.specs.Package.{class_of_name, package_rules}
 use Rattle.jc_check.specs.declared.fault.Fault.{Fault}
 use Rattle.jc_check.specs.Rules.{Rules}
-use Rattle.jc_check.specs.Typing.{BranchLeads, HandlerLeads, IsFine, IsTyping, Leads, Typing}
+use Rattle.jc_check.specs.Typing.{BranchLeads, HandlerLeads, HasShape, IsFine, IsTyping, Leads, Typing}
 use Rattle.jc_verify.specs.Inferred.{LiesBelow}
 use Rattle.jc_link.specs.Linked.{Linked}
 use Rattle.jc_types.specs.State.{StateWithRoom, Types}
 use Rattle.jc_types.specs.declared.ty.Ty.{Ty}
 use Rattle.jc_verify.specs.PrivateFlow as flow
-use Rattle.jc_verify.specs.PrivateFlow.{AreShaped, HasLaws, HasShape, IsClosed, IsNumbered, IsUnder, IsUpper, IsVisited, Places, held_at, number_at, types_held, ends, goes_on}
+use Rattle.jc_verify.specs.PrivateFlow.{AreShaped, HasLaws, IsClosed, IsNumbered, IsUnder, IsUpper, IsVisited, Places, held_at, number_at, types_held, ends, goes_on}
 use Rattle.jc_verify.specs.PrivateSettled.{AreAllClosed, IsEntryMet}
 use Rattle.jc_verify.specs.PrivateStated.{AreStateRows, IsStateRow, RowIf}
 use Rattle.jc_verify.specs.declared.place.Place.{Place}

@@ -7,10 +7,10 @@ use Rattle.jc_code.specs.Listing.{PlacedInstr}
 use Rattle.jc_code.specs.Targets.{targets_of}
 use Rattle.jc_check.specs.Method.{Handler, Method}
 use Rattle.jc_check.specs.Package.{package_rules}
-use Rattle.jc_check.specs.Typing.{BranchLeads, HandlerLeads, Leads, Typing}
+use Rattle.jc_check.specs.Typing.{BranchLeads, HandlerLeads, HasShape, Leads, Typing}
 use Rattle.jc_link.specs.Linked.{Linked}
 use Rattle.jc_types.specs.State.{StateWithRoom, Types}
-use Rattle.jc_verify.specs.PrivateFlow.{AreShaped, Grown, HasLaws, HasShape, IsClosed, IsNumbered, IsUnder, IsUpper, IsVisited, Places, Risen, held_at, height_in, left_in, most_height, number_at, types_held, below_in, ends, meets, goes_on}
+use Rattle.jc_verify.specs.PrivateFlow.{AreShaped, Grown, HasLaws, IsClosed, IsNumbered, IsUnder, IsUpper, IsVisited, Places, Risen, held_at, height_in, left_in, most_height, number_at, types_held, below_in, ends, meets, goes_on}
 use Rattle.jc_verify.specs.PrivateTold.{AreReached, Reaches}
 use Rattle.jc_verify.specs.PrivatePlaces.{IsStep, left_of}
 use Rattle.jc_verify.specs.PrivateSettled.{IsFollowed, IsSettled, IsSwept, settled_place}

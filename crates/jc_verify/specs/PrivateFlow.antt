@@ -16,7 +16,7 @@ use Rattle.jc_types.specs.State.{StateWithRoom, Types, height_of_types, types_be
 use Rattle.jc_check.specs.Method.{Method, entry_of}
 use Rattle.jc_check.specs.Package.{package_rules}
 use Rattle.jc_check.specs.Rules.{Rules}
-use Rattle.jc_check.specs.Typing.{BranchLeads, HandlerLeads, IsFine, Leads, Typing}
+use Rattle.jc_check.specs.Typing.{BranchLeads, HandlerLeads, HasShape, IsFine, Leads, Typing}
 use Rattle.jc_verify.specs.PrivatePlaces.{AreSteps, all_left}
 use Rattle.jc_verify.specs.declared.place.Place.{Place}
 
@@ -40,11 +40,6 @@ pub record IsNumbered (numbers : List (Option ℕ)) (places : Places) : Type 0 w
   pub within : (pc n : ℕ) → number_at numbers pc ≡ Some n → n < length places
   pub known : (n : ℕ) (p : Place StateWithRoom) → slice_get places n ≡ Some p → number_at numbers p.pc ≡ Some n
   pub found : (pc n : ℕ) (p : Place StateWithRoom) → number_at numbers pc ≡ Some n → slice_get places n ≡ Some p → p.pc ≡ pc
-
--- types in the shape of a method
-pub record HasShape (m : Method) (t : Types) : Type 0 where
-  pub locals : length t.locals ≡ length m.arguments + m.max_locals
-  pub operands : length t.operands ≤ m.max_stack
 
 -- what is held is in the shape of a method
 abbrev pub AreShaped : Method → Places → Type 0

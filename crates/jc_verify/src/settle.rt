@@ -3,13 +3,13 @@
 ghost use Rattle.std.specs.Prelude.{◌≡◌, ◌⊎◌, ◌<◌, ◌≤◌, ◌^◌, ℕ, true, false, Some, None, length, slice_get, IfErr, IfNone, IfOk, IfSome};
 ghost use Rattle.jc_base.specs.declared.reason.Reason.{Reason};
 ghost use Rattle.jc_check.specs.Method.{entry_of};
-ghost use Rattle.jc_check.specs.Typing.{Typing};
+ghost use Rattle.jc_check.specs.Typing.{HasShape, Typing};
 ghost use Rattle.jc_check.specs.declared.fault.WordFault.TheVariants.{Refused};
 ghost use Rattle.jc_types.specs.State.{StateWithRoom};
 ghost use Rattle.jc_verify.specs.PrivateTold.{AreReached, IsGroundOf, Tells};
 ghost use Rattle.jc_check.specs.Package.{package_rules};
 ghost use Rattle.jc_verify.specs.PrivateCarrier.{IsCarrier};
-ghost use Rattle.jc_verify.specs.PrivateFlow.{AreShaped, Grown, HasLaws, HasRoom, HasShape, IsNumbered, IsUnder, IsUpper, Places, Risen, types_held};
+ghost use Rattle.jc_verify.specs.PrivateFlow.{AreShaped, Grown, HasLaws, HasRoom, IsNumbered, IsUnder, IsUpper, Places, Risen, types_held};
 ghost use Rattle.jc_verify.specs.declared.place.Place.{Place as PlaceOf};
 ghost use Rattle.jc_verify.specs.PrivateSettled.{AreAllClosed, IsEntryMet, IsFilled, IsFollowed, IsSettled, IsSwept, settled_place};
 

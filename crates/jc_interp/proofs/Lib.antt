@@ -1,2 +1,3 @@
 mod ApiResults
+mod HavingCode
 mod IdleLaw

@@ -22,8 +22,7 @@ abbrev pub HaveCode : World → Type 0
 HaveCode w = (place : MethodPlace) (d : DeclaredMethod) (header : MethodHeader) → declared_at w place ≡ Some d
     → d.method.header ≡ Some header → header.is_abstract ≡ false → IsSome (code_at w place)
 
--- the packages are linked, each loaded one is accepted, and methods have code
+-- the packages are linked, and each loaded one is accepted
 pub record IsAccepted (w : World) : Type 0 where
   pub world : IsWorld w
   pub packages : (number : ℕ) (body : LinkedBody) → body_at w number ≡ Some body → IsAcceptedPackage w number body
-  pub coded : HaveCode w

@@ -11,5 +11,5 @@ pub use examples::{
     stuck_runs, throws_run,
 };
 pub use idle::IdleNatives;
-pub use laws::accepted_methods_are_typed;
+pub use laws::{accepted_methods_are_typed, methods_have_code};
 pub use natives::{MOST_ARGUMENTS, Natives, WordCall, WordCallback, WordOutcome};

@@ -6,4 +6,5 @@ mod Lower
 mod Monotone
 mod Shapes
 pub mod Knowing
+mod OwnMethods
 mod Growing

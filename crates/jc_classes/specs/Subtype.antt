@@ -51,7 +51,7 @@ comes_to_end world (suc n) c = option_map_or (comes_to_end world n) (superclass_
 abbrev pub has_whole_chain : List Shape → ClassName → Bool
 has_whole_chain world c = is_some (class_at world c) && comes_to_end world most_classes c
 
--- no class's superclasses lead round, and what is listed as an interface is one
+-- no superclass chain has a cycle, and what is listed as an interface is one
 pub record IsOrderly (world : List Shape) : Type 0 where
   pub ends : (c : ClassName) → comes_to_end world most_classes c ≡ true
   pub interfaces : (c i : ClassName) → Lists world c i → is_interface_at world i ≡ true
@@ -80,7 +80,7 @@ is_subtype_within world (suc n) c d =
     || list_any (λ e. is_subtype_within world n e d) (interfaces_of world c)
 
 -- whether a class or an interface is another one or below it; all are below Object. A shortest way up meets no class
--- twice, also where superclasses or interfaces lead round: so these steps find all in a world of no more classes
+-- twice, also where a chain has a cycle: so these steps find all in a world of no more classes
 abbrev pub is_subtype : List Shape → ClassName → ClassName → Bool
 is_subtype world c d = is_same_name (Api Object) d || is_subtype_within world most_classes c d
 

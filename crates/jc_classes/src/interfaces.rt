@@ -111,7 +111,7 @@ impl ClassTable {
 
     /// The virtual method of a class at a token (Java Card Virtual Machine Specification, Linking). A token from 128 on is
     /// package-visible, and is looked up for the loaded package with the number `asker`, from 1 on: classes of other
-    /// packages are passed over. `None` where there is none, or where superclasses lead round.
+    /// packages are passed over. `None` where there is none, or where the superclass chain has a cycle.
     pub fn virtual_method(&self, class: ClassName, token: u8, asker: u8) -> Option<MethodName>
         ensures { result ≡ virtual_method_of self.now class token (asker + 1) }
     {

@@ -16,8 +16,8 @@ use jc_names::ClassName;
 const OBJECT: ClassName = ClassName::Api(ApiClass::Object);
 
 impl ClassTable {
-    /// Whether a class is another one or a superclass of it. Superclasses may lead round: where the walk comes again to a
-    /// class that it remembers, the other one isn't above.
+    /// Whether a class is another one or a superclass of it. The superclass chain may have a cycle: where the walk comes
+    /// again to a class that it remembers, the other one isn't above.
     pub fn is_at_or_above(&self, above: ClassName, class: ClassName) -> bool
         ensures { result ≡ is_at_or_above self.now most_classes above class }
     {
@@ -49,7 +49,7 @@ impl ClassTable {
 
     /// Whether a class or interface is another one or below it (Java Card Virtual Machine Specification, Verification
     /// types): Object is above all, and else its superclass and the interfaces that it lists are above it, and what is
-    /// above these. Superclasses and interfaces may lead round.
+    /// above these. There may be cycles of superclasses and interfaces.
     pub fn is_subclass(&self, class: ClassName, above: ClassName) -> bool
         ensures { IsTrue result ↔ IsSubtype self.now class above }
     {

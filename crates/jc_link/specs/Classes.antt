@@ -21,7 +21,7 @@ use Rattle.jc_link.specs.MemberType.{field_type_of, member_type_of}
 abbrev pub lacks_superclass : List Shape → ClassName → ClassShape → Bool
 lacks_superclass world c k = is_class k.body && not (option_map_or (is_class_at world) (superclass_of world c) false)
 
--- a class whose superclasses lead round to itself
+-- a class whose superclass chain has a cycle through it
 abbrev pub leads_round : List Shape → ClassName → Bool
 leads_round world c = option_map_or (is_at_or_above world most_classes c) (superclass_of world c) false
 

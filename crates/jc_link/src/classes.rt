@@ -53,7 +53,7 @@ pub(crate) fn lacks_superclass(table: &ClassTable, class: ClassName, found: &Cla
     }
 }
 
-/// Whether the superclasses of a class lead round to it.
+/// Whether the superclass chain of a class has a cycle through it.
 pub(crate) fn leads_round(table: &ClassTable, class: ClassName) -> bool
     ensures { result ≡ leads_round table.now class }
 {

@@ -183,7 +183,7 @@ impl Lattice for State {
 
 /// The order of states, point by point, is a partial order beside an order of classes; beside a lattice of classes each two
 /// states of one shape have a least one above both, and the heights of states fall upward and are bounded. The classes of a table
-/// are such a lattice where no class's superclasses lead round to it, every listed interface is an interface, and Object has no
+/// are such a lattice where no superclass chain has a cycle, every listed interface is an interface, and Object has no
 /// superclass. It does nothing.
 pub fn order_laws()
     ensures tables { (world : List Shape) → IsOrderly world → superclass_of world (Api Object) ≡ None → IsOrder (is_class_below world) }

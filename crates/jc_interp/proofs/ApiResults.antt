@@ -1,13 +1,13 @@
 -- What a member of the API is declared to give, in a world, is what its row in the API's table says.
 use Rattle.std.proofs.Common.{◌≡◌, ℕ, zero, suc, ◌+◌, ◌==◌, ◌++◌, Bool, true, false, cond, List, [], ◌∷◌, Option, Some}
-use Rattle.std.proofs.Common.{None, refl, sym, ap, subst, ◌∙◌, is_some, slice_get}
+use Rattle.std.proofs.Common.{None, refl, sym, ap, subst, ◌∙◌, is_some, slice_get, ◌≤◌, length, arith}
 use Rattle.std.proofs.lemmas.Bool.{eqb-true}
-use Rattle.std.proofs.lemmas.Option.{none-some, same_Some}
+use Rattle.std.proofs.lemmas.Option.{none-some, same_Some, slice_get_past}
 use Rattle.std.specs.List.{cons_option, filter_map, find, range_with_len}
 use Rattle.std.specs.Option.{option_and_then, option_map, option_map_or}
 use Rattle.jc_api.specs.Bound.{Bound}
 use Rattle.jc_api.specs.Class.{package_of}
-use Rattle.jc_api.specs.Member.{ApiMember, member_of}
+use Rattle.jc_api.specs.Member.{ApiMember, member_of, members}
 use Rattle.jc_api.specs.Token.{is_same_class}
 use Rattle.jc_api.specs.declared.class.ApiClass.{ApiClass}
 use Rattle.jc_api.specs.declared.class.ApiPackage.{ApiPackage}
@@ -83,6 +83,14 @@ unfolding those_to
 found_among p f last x e = found_from p f 1 last x e
 
 -- ---- members where they are declared
+
+-- no member has a number past a byte
+pub member_past : (n : ℕ) → 256 ≤ n → member_of n ≡ None
+member_past zero h = refl
+member_past (suc n) h = slice_get_past members n (few h)
+  where
+    few : 256 ≤ suc n → length members ≤ n
+    few h = omega arith
 
 -- a method is that of the member with a number
 record IsMember (bound : Bound) (n : ℕ) (x : MethodShape) : Type 0 where

@@ -3,8 +3,9 @@
 ghost use Rattle.jc_interp.specs.Following.{ReadsResult};
 ghost use Rattle.jc_interp.specs.Idle.{idle_result, idle_value};
 
+use crate::member::member_with;
 use crate::natives::{Natives, WordCall, WordOutcome};
-use jc_api::{ApiClass, Member};
+use jc_api::ApiClass;
 use jc_base::ReturnType;
 use jc_link::World;
 use jc_store::Store;
@@ -25,10 +26,10 @@ fn idle_word(declared: ReturnType<ApiClass>) -> Option<u16>
 }
 
 // What a member gives, by its number.
-fn idle_result(member: u8) -> Option<u16>
+fn idle_result(member: u16) -> Option<u16>
     ensures { ReadsResult result (idle_result member) }
 {
-    match Member::from_number(member) {
+    match member_with(member) {
         Some(member) => idle_word(member.result),
         None => None,
     }

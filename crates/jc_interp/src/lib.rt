@@ -4,6 +4,7 @@
 mod examples;
 mod idle;
 mod laws;
+mod member;
 mod natives;
 
 pub use examples::{

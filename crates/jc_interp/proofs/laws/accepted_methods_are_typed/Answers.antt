@@ -1,4 +1,5 @@
-use Rattle.std.proofs.Common.{◌≡◌, ℕ, zero, suc, ◌==◌, Bool, true, false, cond, List, [], ◌∷◌, Some, sym, ap, ◌∙◌, slice_get}
+use Rattle.std.proofs.Common.{◌≡◌, ℕ, zero, suc, ◌==◌, Bool, true, false, cond, List, [], ◌∷◌, Some, sym, ap, ◌∙◌}
+use Rattle.std.proofs.Common.{slice_get}
 use Rattle.std.proofs.lemmas.Option.{none-some}
 use Rattle.std.specs.List.{find}
 use Rattle.std.specs.Option.{option_and_then}

@@ -3,6 +3,7 @@ use jc_api::Binding;
 use jc_base::cut;
 use jc_cap_desc::read_package;
 use jc_classes::*;
+use jc_names::{ClassName, MethodName};
 use std::test::*;
 
 const APPLET: ClassName = ClassName::Loaded {

@@ -1,10 +1,9 @@
 -- Images that are linked one behind the other.
-use Rattle.std.proofs.Common.{◌≡◌, ◌⊎◌, ◌≤◌, ◌∙◌, sym, ap, subst, refl, ℕ, List, [], ◌∷◌, ◌++◌, ◌+◌, ◌<◌, length, drop, get_or, map, slice_get, Some, Vec, Global, inl, inr}
+use Rattle.std.proofs.Common.{◌≡◌, ◌≤◌, ◌∙◌, sym, ap, subst, refl, ℕ, List, [], ◌∷◌, ◌++◌, ◌+◌, ◌<◌, length, drop, get_or, map, slice_get, Some, Vec, Global, inl, inr}
 use Rattle.std.proofs.lemmas.List.{drop_all, drop_more}
 use Rattle.jc_api.specs.Bound.{Bound}
 use Rattle.jc_base.proofs.Binding.{the_some}
 use Rattle.jc_base.specs.declared.fault.LoadFault.{LoadFault}
-use Rattle.jc_base.specs.declared.fault.LoadFault.TheVariants as faults
 use Rattle.jc_cap_desc.specs.Shape.{Shape}
 use Rattle.jc_check.specs.Checked.{stated_for}
 use Rattle.jc_check.specs.declared.fault.Fault.{Fault}

@@ -1,5 +1,5 @@
 -- What `verify` answers to a package behind others, under a binding: a certificate that carries it, or that none does, or the first refusal.
-use Rattle.std.specs.Prelude.{⊤, ◌≡◌, ℕ, ◌<◌, ◌≤◌, List, [], ◌∷◌, ◌++◌, length, Some, Result, Ok}
+use Rattle.std.specs.Prelude.{◌≡◌, ℕ, ◌<◌, ◌≤◌, List, [], ◌∷◌, ◌++◌, length, Some, Result, Ok}
 use Rattle.jc_api.specs.Bound.{Bound}
 use Rattle.jc_base.specs.Cutting.{Piece, Splits, answer}
 use Rattle.jc_base.specs.Results.{◌>>=◌}

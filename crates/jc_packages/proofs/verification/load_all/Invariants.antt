@@ -1,5 +1,4 @@
 use Rattle.std.proofs.Common.{drop, map}
-use Rattle.jc_classes.specs.Api.{api_world}
 use Rattle.jc_packages.specs.PrivateVerify.{Leads}
 use Rattle.jc_packages.proofs.verification.load_all.Given as goal
 

@@ -10,7 +10,6 @@ use Rattle.jc_store.specs.declared.header.Head.{Head}
 use Rattle.jc_store.specs.declared.header.Rest.{Rest}
 use Rattle.jc_store.specs.declared.kind.ClearingEvent.{ClearingEvent}
 use Rattle.jc_store.specs.declared.kind.ClearingEvent.TheVariants.{Reset, Deselect}
-use Rattle.jc_store.specs.declared.kind.Kind.{Kind}
 use Rattle.jc_store.proofs.Blanking.{next_within}
 use Rattle.jc_store.proofs.Held.{cell_of, cells_used, found, kept_laid, left_for, no_room, object_put, objects_more, one_more, put_in, room_there, sized, viewed, within_cells}
 
@@ -48,11 +47,13 @@ joined_of (h ∷ headers) = ap (λ hs. h ∷ hs) (joined_of headers)
 rows_of : (heads : List Head) (rests : List Rest) (headers : List Header) → heads ≡ null_head ∷ map head_of headers → rests ≡ map rest_of headers
     → (headers_of heads rests ≡ headers) × AreRows heads rests
 rows_of heads rests headers hs rs =
-    let are : headers_of heads rests ≡ headers = ap (λ x. headers_of x rests) hs ∙ ap (λ x. headers_of (null_head ∷ map head_of headers) x) rs ∙ joined_of headers in
-    (are, record {
-      heads_are = hs ∙ ap (λ (xs : List Header). null_head ∷ map head_of xs) (sym are);
-      rests_are = rs ∙ ap (map rest_of) (sym are);
-    })
+    let are : headers_of heads rests ≡ headers = ap (λ x. headers_of x rests) hs ∙ ap (λ x. headers_of (null_head ∷ map head_of headers) x) rs ∙ joined_of headers in (
+      are,
+      record {
+        heads_are = hs ∙ ap (λ (xs : List Header). null_head ∷ map head_of xs) (sym are);
+        rests_are = rs ∙ ap (map rest_of) (sym are);
+      },
+    )
 
 -- the rows of one object more
 rows_more : (heads more_heads : List Head) (rests more_rests : List Rest) (h : Header) → AreRows heads rests → more_heads ≡ heads ++ head_of h ∷ [] → more_rests ≡ rests ++ rest_of h ∷ []
@@ -74,6 +75,10 @@ head_mapped headers (suc n) h some e = let pre : suc n - 1 ≡ n = omega arith i
 class_mapped : (headers : List Header) (number : ℕ) (h : Header) → 0 < number → slice_get headers (number - 1) ≡ Some h → class_number_at (classes_in headers) number ≡ Some h.class
 class_mapped headers zero h some e = absurd (omega (arith, some))
 class_mapped headers (suc n) h some e = let pre : suc n - 1 ≡ n = omega arith in mapped (λ (x : Header). x.class) headers n h (ap (slice_get headers) (sym pre) ∙ e)
+
+last_class : (headers : List Header) (h : Header) → slice_get (classes_in (headers ++ h ∷ [])) (length headers) ≡ Some h.class
+last_class [] h = refl
+last_class (g ∷ headers) h = last_class headers h
 
 some_at : (rests : List Rest) (n : ℕ) → n < length rests → (rest : Rest) × (slice_get rests n ≡ Some rest)
 some_at [] n low = absurd (omega (arith, low))
@@ -180,7 +185,7 @@ module _ {heads : List Head} {rests : List Rest} {cells : List ℕ} {s : Sizes} 
   null_fast : (number : ℕ) (lent : List Head) (head : Head) → number ≡ 0 → lent ≡ heads → slice_get lent number ≡ Some head → head.fast ≡ 255
   null_fast number lent head null same at =
       let read : slice_get (null_head ∷ map head_of (headers_of heads rests)) 0 ≡ Some head =
-          ap (λ (xs : List Head). slice_get xs 0) (sym (same ∙ stored.rows.heads_are)) ∙ ap (slice_get lent) (sym null) ∙ at in
+      ap (λ (xs : List Head). slice_get xs 0) (sym (same ∙ stored.rows.heads_are)) ∙ ap (slice_get lent) (sym null) ∙ at in
       ap (λ (x : Head). x.fast) (sym (same_Some null_head head read))
 
   pub own : (number context : ℕ) (lent : List Head) (head : Head) → IsReference now number → lent ≡ heads → slice_get lent number ≡ Some head → head.fast ≡ context → context < 255
@@ -256,7 +261,7 @@ module _ {heads : List Head} {rests : List Rest} {cells : List ℕ} {s : Sizes} 
   pub stored_more : (h : Header) (more_heads : List Head) (more_rests : List Rest) (count head_room counted room : ℕ) → h.start ≡ s.used → HasRoom now h.len
       → more_heads ≡ heads ++ head_of h ∷ [] → more_rests ≡ rests ++ rest_of h ∷ [] → count ≡ s.heads + 1 → head_room ≡ s.head_room → counted ≡ s.headers + 1 → room ≡ s.room
       → IsStored more_heads more_rests cells
-        (record { heads = count; head_room = head_room; headers = counted; room = room; cells = s.cells; used = s.used + h.len; most_objects = s.most_objects; most_cells = s.most_cells })
+      (record { heads = count; head_room = head_room; headers = counted; room = room; cells = s.cells; used = s.used + h.len; most_objects = s.most_objects; most_cells = s.most_cells })
   stored_more h more_heads more_rests count head_room counted room start has_room hs rs counts head_grows rest_counts grows =
       let rows = rows_more heads more_heads rests more_rests h stored.rows hs rs in
       let n = stored.head_count in let r = stored.head_reserved in
@@ -279,9 +284,20 @@ module _ {heads : List Head} {rests : List Rest} {cells : List ℕ} {s : Sizes} 
       let rows = rows_more heads more_heads rests more_rests h stored.rows hs rs in
       let objects = objects_more (headers_of heads rests) cells s stored.laid h (headers_of more_heads more_rests) start (room_left h.len has_room).1 rows.0 in
       let classes : classes_in (headers_of more_heads more_rests) ≡ classes_in (headers_of heads rests) ++ h.class ∷ [] =
-          ap classes_in rows.0 ∙ map-append (λ (x : Header). x.class) (headers_of heads rests) (h ∷ []) in
+      ap classes_in rows.0 ∙ map-append (λ (x : Header). x.class) (headers_of heads rests) (h ∷ []) in
       ap (λ os. record { objects = os; classes = classes_in (headers_of more_heads more_rests); most_objects = t.most_objects; most_cells = t.most_cells }) objects
       ∙ ap (λ cs. record { objects = objects_in cells (headers_of heads rests) ++ fresh h.kind h.owner h.len ∷ []; classes = cs; most_objects = t.most_objects; most_cells = t.most_cells }) classes
       ∙ ap (λ k. record { objects = objects_in cells (headers_of heads rests) ++ fresh h.kind h.owner h.len ∷ []; classes = classes_in (headers_of heads rests) ++ h.class ∷ []; most_objects = k; most_cells = t.most_cells }) most_objects
       ∙ ap (λ k. record { objects = objects_in cells (headers_of heads rests) ++ fresh h.kind h.owner h.len ∷ []; classes = classes_in (headers_of heads rests) ++ h.class ∷ []; most_objects = s.most_objects; most_cells = k }) most_cells
       ∙ ap (λ (x : Store). with_made x (fresh h.kind h.owner h.len) h.class) view
+
+  -- the number of its class stands at its number
+  pub numbered : (h : Header) (more_heads : List Head) (more_rests : List Rest) (number : ℕ) → more_heads ≡ heads ++ head_of h ∷ [] → more_rests ≡ rests ++ rest_of h ∷ []
+      → number ≡ s.headers + 1 → class_number_at (classes_in (headers_of more_heads more_rests)) number ≡ Some h.class
+  numbered h more_heads more_rests number hs rs is =
+      let rows = rows_more heads more_heads rests more_rests h stored.rows hs rs in
+      let n = stored.laid.header_count in
+      let next : number ≡ suc (length (headers_of heads rests)) = omega (arith, is, n) in
+      ap (λ k. class_number_at (classes_in (headers_of more_heads more_rests)) k) next
+      ∙ ap (λ (xs : List Header). slice_get (classes_in xs) (length (headers_of heads rests))) rows.0
+      ∙ last_class (headers_of heads rests) h

@@ -45,13 +45,7 @@ fn clear_object(head: Head, cells: &mut [u16])
 }
 
 /// Puts 0 into the components of an object, if an event clears it.
-fn clear_if(
-    head: Head,
-    rest: Rest,
-    cells: &mut [u16],
-    event: ClearingEvent,
-    context: Option<u8>,
-)
+fn clear_if(head: Head, rest: Rest, cells: &mut [u16], event: ClearingEvent, context: Option<u8>)
     requires within { head.start + head.len ≤ length cells.old }
     ensures { (headers : List Header) (n : ℕ) (before : List ℕ) → AreWithin headers (length cells.old) → slice_get headers n ≡ Some (header_in head rest)
         → AreCleared headers event context n before cells.old → AreCleared headers event context (n + 1) before cells.new }

@@ -62,6 +62,7 @@ impl Store {
     pub fn make(&mut self, kind: Kind, owner: Owner, len: usize, class: u16) -> Option<u16>
         ensures number { IfSome result (λ number. number ≡ next_number self.old.objects) }
         ensures made { IfSome result (λ number. self.new ≡ with_made self.old (fresh kind owner len) class) }
+        ensures numbered { IfSome result (λ number. class_number_at self.new.classes number ≡ Some class) }
         ensures room { IfSome result (λ number. IsFull self.old len → ⊥) }
         ensures full { IfNone result (IsFull self.old len) }
         ensures kept { IfNone result (self.new ≡ self.old) }

@@ -26,7 +26,7 @@ loop-place-preserved c =
     c.clear_if.ensures (headers_of c.args.heads.now c.args.rests.now) c.loop-place.place c.args.cells.now
     (within_still (headers_of c.args.heads.now c.args.rests.now) c.args.event c.args.context c.loop-place.place c.args.cells.now c.loop-place.cells c.requires.within c.loop-place.invariant)
     (header_at c.args.heads.now c.args.rests.now c.loop-place.place _ _ (slice_get-get_or c.args.heads.now (c.loop-place.place + 1) _ (omega (arith, low, k, m)))
-      (slice_get-get_or c.args.rests.now c.loop-place.place _ low))
+    (slice_get-get_or c.args.rests.now c.loop-place.place _ low))
     c.loop-place.invariant
 
 pub returns-clause-cleared : goal.returns-clause-cleared

@@ -1,6 +1,4 @@
 use Rattle.std.proofs.Common.{ap, ◌∙◌, ◌+◌}
-use Rattle.jc_store.specs.Heap.{cells_in}
-use Rattle.jc_store.specs.Store.{Store}
 use Rattle.jc_store.proofs.Rows.{cells_counted}
 use Rattle.jc_store.proofs.store.Store.cells_used.Goals as goal
 

@@ -4,14 +4,11 @@ use Rattle.std.proofs.lemmas.Bool.{eq-eqb, eqb-true}
 use Rattle.std.specs.Option.{option_map_or}
 use Rattle.jc_store.specs.declared.kind.ClearingEvent.{ClearingEvent}
 use Rattle.jc_store.specs.declared.kind.ClearingEvent.TheVariants.{Reset, Deselect}
-use Rattle.jc_store.specs.Store.{Store}
-use Rattle.jc_firewall.specs.Own.{IsOwnAccess, OwnIsAllowed}
-use Rattle.jc_firewall.specs.Verdict.{Row, allowed_if, is_deselect, is_entry_point, is_global_array, is_never_stored, is_out_of_selection, is_own, row_of, runtime, runtime_context, stores_reference, switched_if, verdict_for_runtime, verdict_in, verdict_of}
+use Rattle.jc_firewall.specs.Own.{OwnIsAllowed}
+use Rattle.jc_firewall.specs.Verdict.{Row, allowed_if, is_deselect, is_entry_point, is_global_array, is_never_stored, is_out_of_selection, is_own, row_of, runtime, runtime_context, stores_reference, switched_if, verdict_for_runtime, verdict_in}
 use Rattle.jc_firewall.specs.Verdict.Row.{casts, components, fields, interface_calls, shared_calls, shared_casts, static_fields, throws, virtual_calls}
-use Rattle.jc_firewall.specs.declared.access.Access.{Access}
 use Rattle.jc_firewall.specs.declared.access.Facts.{Facts}
 use Rattle.jc_firewall.specs.declared.access.Rule.TheVariants.{Storing, Components, Fields, Calls, SharedCalls, Throws, Casts, SharedCasts, Selection}
-use Rattle.jc_firewall.specs.declared.access.Verdict.{Verdict}
 use Rattle.jc_firewall.specs.declared.access.Verdict.TheVariants.{Allowed, Denied}
 
 differ : (a b : ℕ) → (a ≡ b → ⊥) → (a == b) ≡ false

@@ -140,7 +140,7 @@ fn turns_in_frames(frames: &mut Frames, count: u32) -> u16 {
 fn in_store(alloc: Global, count: u32) -> Result<u16, AllocError> {
     let mut store = Store::new(alloc, OBJECTS, CELLS)?;
     for _ in 0..OBJECTS {
-        let _ = store.make(ARRAY, Owner::RUNTIME, usize::from(LEN));
+        let _ = store.make(ARRAY, Owner::RUNTIME, usize::from(LEN), 0);
     }
     if !is_filled(&store) {
         return Ok(0);

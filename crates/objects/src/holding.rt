@@ -84,11 +84,11 @@ fn kind_of(store: &Store, number: u16) -> Option<Kind>
     }
 }
 
-/// Makes an object, if there is room for it.
+/// Makes an object, if there is room for it. Lines don't name classes, so the number of its class is 0.
 fn made(store: &mut Store, kind: Kind, owner: Owner, len: usize) -> Answer
     ensures { IsMade store.old kind owner len store.new result }
 {
-    match store.make(kind, owner, len) {
+    match store.make(kind, owner, len, 0) {
         Some(number) => Answer::Number(number),
         None => Answer::Full,
     }

@@ -9,7 +9,8 @@ use Rattle.jc_store.specs.declared.kind.ClearingEvent.TheVariants.{Reset, Desele
 use Rattle.jc_store.specs.declared.kind.Kind.{Kind}
 use Rattle.jc_names.specs.declared.owner.Owner.{Owner}
 
--- an object without its components: what it is, whose it is, the number of its class, where its components begin, and how many it has
+-- an object without its components: what it is, whose it is, the number of its class, where its components begin, and
+-- how many it has
 pub record Header : Type 0 where
   pub kind : Kind
   pub owner : Owner
@@ -35,7 +36,13 @@ abbrev pub null_head : Head
 null_head = record { start = 0; len = 0; class = 0; fast = 255 }
 
 abbrev pub header_in : Head → Rest → Header
-header_in head rest = record { kind = rest.kind; owner = rest.owner; class = head.class; start = head.start; len = head.len }
+header_in head rest = record {
+  kind = rest.kind;
+  owner = rest.owner;
+  class = head.class;
+  start = head.start;
+  len = head.len;
+}
 
 -- rows joined
 abbrev pub joined : List Head → List Rest → List Header
@@ -72,8 +79,8 @@ abbrev pub AreLaid : ℕ → List Header → ℕ → Type 0
 AreLaid start [] end = end ≡ start
 AreLaid start (h ∷ headers) end = (h.start ≡ start) × AreLaid (start + h.len) headers end
 
--- how much of a store is used: the lengths of its arrays, and how many rows of each kind there is room for; the cell behind the last
--- component; and the most objects and cells
+-- how much of a store is used: the lengths of its arrays, and how many rows of each kind there is room for; the cell
+-- behind the last component; and the most objects and cells
 pub record Sizes : Type 0 where
   pub heads : ℕ
   pub head_room : ℕ

@@ -5,8 +5,8 @@ use Rattle.jc_store.specs.declared.kind.ClearingEvent.TheVariants.{Deselect}
 use Rattle.jc_store.specs.declared.kind.Kind.{Kind}
 use Rattle.jc_names.specs.declared.owner.Owner.{Owner}
 
--- its objects; a number for each of them, in their order, that its maker handed in for its class; and the most objects and cells
--- that it may have
+-- its objects; a number for each of them, in their order, that its maker handed in for its class; and the most objects
+-- and cells that it may have
 pub record Store : Type 0 where
   pub objects : Heap ℕ
   pub classes : List ℕ
@@ -19,7 +19,12 @@ fresh kind owner len = record { kind = kind; owner = owner; cells = replicate le
 
 -- a store with other objects in the same room
 abbrev pub with_objects : Store → Heap ℕ → Store
-with_objects s objects = record { objects = objects; classes = s.classes; most_objects = s.most_objects; most_cells = s.most_cells }
+with_objects s objects = record {
+  objects = objects;
+  classes = s.classes;
+  most_objects = s.most_objects;
+  most_cells = s.most_cells;
+}
 
 -- a store with one object more, and the number of its class behind those of the others
 abbrev pub with_made : Store → Object ℕ → ℕ → Store

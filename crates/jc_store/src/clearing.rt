@@ -21,7 +21,8 @@ fn is_same_event(event: ClearingEvent, other: ClearingEvent) -> bool
 
 /// Whether an event clears an object: of one context, or of all.
 fn is_cleared(rest: Rest, event: ClearingEvent, context: Option<u8>) -> bool
-    ensures { (cells : List ℕ) (head : HeadOf) → result ≡ is_cleared_by event context (object_in cells (header_in head rest)) }
+    ensures { (cells : List ℕ) (head : HeadOf)
+        → result ≡ is_cleared_by event context (object_in cells (header_in head rest)) }
 {
     let is_its = match rest.kind.clears {
         Some(its) => is_same_event(event, its),
@@ -47,8 +48,9 @@ fn clear_object(head: Head, cells: &mut [u16])
 /// Puts 0 into the components of an object, if an event clears it.
 fn clear_if(head: Head, rest: Rest, cells: &mut [u16], event: ClearingEvent, context: Option<u8>)
     requires within { head.start + head.len ≤ length cells.old }
-    ensures { (headers : List Header) (n : ℕ) (before : List ℕ) → AreWithin headers (length cells.old) → slice_get headers n ≡ Some (header_in head rest)
-        → AreCleared headers event context n before cells.old → AreCleared headers event context (n + 1) before cells.new }
+    ensures { (headers : List Header) (n : ℕ) (before : List ℕ) → AreWithin headers (length cells.old)
+        → slice_get headers n ≡ Some (header_in head rest) → AreCleared headers event context n before cells.old
+        → AreCleared headers event context (n + 1) before cells.new }
 {
     if is_cleared(rest, event, context) {
         clear_object(head, cells);
@@ -65,9 +67,11 @@ pub(crate) fn clear_objects(
 )
     requires rows { AreRows heads.now rests.now }
     requires within { AreWithin (headers_of heads.now rests.now) (length cells.old) }
-    ensures cleared { objects_in cells.new (headers_of heads.now rests.now) ≡ cleared (λ kind. 0) event context (objects_in cells.old (headers_of heads.now rests.now)) }
+    ensures cleared { objects_in cells.new (headers_of heads.now rests.now)
+        ≡ cleared (λ kind. 0) event context (objects_in cells.old (headers_of heads.now rests.now)) }
     ensures len { length cells.new ≡ length cells.old }
-    ensures behind { (end : ℕ) → AreLaid 0 (headers_of heads.now rests.now) end → drop end cells.new ≡ drop end cells.old }
+    ensures behind { (end : ℕ) → AreLaid 0 (headers_of heads.now rests.now) end
+        → drop end cells.new ≡ drop end cells.old }
 {
     for place in 0..rests.len() {
         clear_if(heads[place + 1], rests[place], cells, event, context);

@@ -9,8 +9,8 @@ use jc_names::Owner;
 /// The context that no object is the own one of.
 const NONE: u8 = 255;
 
-/// What each access asks of an object, in eight bytes: where its components begin among the cells, and how many it has; the number of
-/// its class; and the context to which each access to it is allowed.
+/// What each access asks of an object, in eight bytes: where its components begin among the cells, and how many it has;
+/// the number of its class; and the context to which each access to it is allowed.
 #[derive(Clone, Copy)]
 pub(crate) struct Head {
     pub(crate) start: u16,
@@ -36,7 +36,8 @@ pub(crate) struct Rest {
     pub(crate) owner: Owner,
 }
 
-/// The context to which each access to an object is allowed: its owner's. It is none where the object is cleared on deselect.
+/// The context to which each access to an object is allowed: its owner's. It is none where the object is cleared on
+/// deselect.
 #[inline]
 pub(crate) fn fast_of(clears: Option<ClearingEvent>, owner: Owner) -> u8
     ensures { result ≡ fast_in clears owner }

@@ -31,16 +31,31 @@ impl Model for Store {
 
     ghost Value = { Objects };
 
-    ghost view = { λ s. record { objects = objects_in s.cells.items (headers_of s.heads.items s.rests.items); classes = classes_in (headers_of s.heads.items s.rests.items); most_objects = s.most_objects; most_cells = s.most_cells } };
+    ghost view = { λ s. record {
+      objects = objects_in s.cells.items (headers_of s.heads.items s.rests.items);
+      classes = classes_in (headers_of s.heads.items s.rests.items);
+      most_objects = s.most_objects;
+      most_cells = s.most_cells;
+    } };
 
-    ghost invariant = { λ s. IsStored s.heads.items s.rests.items s.cells.items (record { heads = vec_len s.heads; head_room = vec_capacity s.heads; headers = vec_len s.rests; room = vec_capacity s.rests; cells = vec_len s.cells; used = s.used; most_objects = s.most_objects; most_cells = s.most_cells }) };
+    ghost invariant = { λ s. IsStored s.heads.items s.rests.items s.cells.items (record {
+      heads = vec_len s.heads;
+      head_room = vec_capacity s.heads;
+      headers = vec_len s.rests;
+      room = vec_capacity s.rests;
+      cells = vec_len s.cells;
+      used = s.used;
+      most_objects = s.most_objects;
+      most_cells = s.most_cells;
+    }) };
 }
 
 impl Store {
     /// A store without an object, with room for so many objects, and for so many cells: an object takes one, and one for each of its
     /// components.
     pub fn new(alloc: Global, objects: u16, cells: u16) -> Result<Store, AllocError>
-        ensures { IfOk result (λ s. s ≡ record { objects = []; classes = []; most_objects = objects; most_cells = cells }) }
+        ensures { IfOk result (λ s.
+            s ≡ record { objects = []; classes = []; most_objects = objects; most_cells = cells }) }
     {
         let mut heads = Vec::with_capacity(alloc, usize::from(objects) + 1)?;
         heads.push_reserved(Head::NULL);
@@ -56,8 +71,8 @@ impl Store {
         })
     }
 
-    /// Makes an object whose components are 0, if there is room for it. The answer is its number. The number that is handed in for
-    /// its class is kept; what it means is the caller's matter.
+    /// Makes an object whose components are 0, if there is room for it. The answer is its number. The number that is handed
+    /// in for its class is kept; what it means is the caller's matter.
     #[inline]
     pub fn make(&mut self, kind: Kind, owner: Owner, len: usize, class: u16) -> Option<u16>
         ensures number { IfSome result (λ number. number ≡ next_number self.old.objects) }
@@ -120,8 +135,9 @@ impl Store {
         head_at(&self.heads, number).class
     }
 
-    /// Whether an object is a context's own: its owner's context is that one, and it isn't cleared on deselect. So each access to it is
-    /// allowed to that context. Null is no context's own. No context is 255.
+    /// Whether an object is a context's own: its owner's context is that one, and it isn't cleared on deselect. So each
+    /// access to it is allowed to that context. Null is no context's own. No context is 255: a yes for that one says
+    /// nothing.
     #[inline]
     pub fn is_own(&self, number: u16, context: u8) -> bool
         requires there { IsReference self.now number }

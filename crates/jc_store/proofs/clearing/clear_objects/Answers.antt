@@ -7,25 +7,31 @@ use Rattle.jc_store.proofs.Rows.{count_of, header_at, heads_count, lies_within}
 use Rattle.jc_store.proofs.clearing.clear_objects.Goals as goal
 
 pub loop-place-init : goal.loop-place-init
-loop-place-init c = none_cleared (headers_of c.args.heads.now c.args.rests.now) c.args.event c.args.context c.args.cells.now
+loop-place-init c = none_cleared
+    (headers_of c.args.heads.now c.args.rests.now) c.args.event c.args.context c.args.cells.now
 
 pub clear_if-requires : goal.clear_if-requires
 clear_if-requires c =
     let low = c.loop-place-test.true in
-    let k = count_of c.args.heads.now c.args.rests.now c.requires.rows in let m = heads_count c.args.heads.now c.args.rests.now c.requires.rows in
+    let k = count_of c.args.heads.now c.args.rests.now c.requires.rows in
+    let m = heads_count c.args.heads.now c.args.rests.now c.requires.rows in
     record {
       within = lies_within c.args.heads.now c.args.rests.now (length c.loop-place.cells) c.loop-place.place _
-          (within_still (headers_of c.args.heads.now c.args.rests.now) c.args.event c.args.context c.loop-place.place c.args.cells.now c.loop-place.cells c.requires.within c.loop-place.invariant)
+          (within_still (headers_of c.args.heads.now c.args.rests.now) c.args.event c.args.context c.loop-place.place
+          c.args.cells.now c.loop-place.cells c.requires.within c.loop-place.invariant)
           low (slice_get-get_or c.args.heads.now (c.loop-place.place + 1) _ (omega (arith, low, k, m)));
     }
 
 pub loop-place-preserved : goal.loop-place-preserved
 loop-place-preserved c =
     let low = c.loop-place-test.true in
-    let k = count_of c.args.heads.now c.args.rests.now c.requires.rows in let m = heads_count c.args.heads.now c.args.rests.now c.requires.rows in
+    let k = count_of c.args.heads.now c.args.rests.now c.requires.rows in
+    let m = heads_count c.args.heads.now c.args.rests.now c.requires.rows in
     c.clear_if.ensures (headers_of c.args.heads.now c.args.rests.now) c.loop-place.place c.args.cells.now
-    (within_still (headers_of c.args.heads.now c.args.rests.now) c.args.event c.args.context c.loop-place.place c.args.cells.now c.loop-place.cells c.requires.within c.loop-place.invariant)
-    (header_at c.args.heads.now c.args.rests.now c.loop-place.place _ _ (slice_get-get_or c.args.heads.now (c.loop-place.place + 1) _ (omega (arith, low, k, m)))
+    (within_still (headers_of c.args.heads.now c.args.rests.now) c.args.event c.args.context c.loop-place.place
+    c.args.cells.now c.loop-place.cells c.requires.within c.loop-place.invariant)
+    (header_at c.args.heads.now c.args.rests.now c.loop-place.place _ _
+    (slice_get-get_or c.args.heads.now (c.loop-place.place + 1) _ (omega (arith, low, k, m)))
     (slice_get-get_or c.args.rests.now c.loop-place.place _ low))
     c.loop-place.invariant
 
@@ -35,7 +41,9 @@ returns-clause-cleared c =
     let k = count_of c.args.heads.now c.args.rests.now c.requires.rows in
     let past = c.loop-place-test.false in
     c.loop-place.invariant.objects
-    ∙ all_cleared c.args.event c.args.context (objects_in c.args.cells.now (headers_of c.args.heads.now c.args.rests.now)) c.loop-place.place (omega (arith, n, k, past))
+    ∙ all_cleared c.args.event c.args.context
+    (objects_in c.args.cells.now (headers_of c.args.heads.now c.args.rests.now)) c.loop-place.place
+    (omega (arith, n, k, past))
 
 pub returns-clause-behind : goal.returns-clause-behind
 returns-clause-behind c = c.loop-place.invariant.behind

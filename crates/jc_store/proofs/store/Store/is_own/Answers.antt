@@ -4,10 +4,12 @@ use Rattle.jc_store.proofs.store.Store.is_own.Goals as goal
 
 pub returns-clause-own : goal.returns-clause-own
 returns-clause-own c is below =
-    own c.self.invariant c.self.view_is c.args.number c.args.context c.deref.result.now c.head_at.result c.requires.there c.deref.ensures.value c.head_at.ensures
+    own c.self.invariant c.self.view_is c.args.number c.args.context c.deref.result.now c.head_at.result
+    c.requires.there c.deref.ensures.value c.head_at.ensures
     (eqb-true c.head_at.result.fast c.args.context is) below
 
 pub returns-clause-other : goal.returns-clause-other
 returns-clause-other c is =
-    not_own c.self.invariant c.self.view_is c.args.number c.args.context c.deref.result.now c.head_at.result c.deref.ensures.value c.head_at.ensures
+    not_own c.self.invariant c.self.view_is c.args.number c.args.context c.deref.result.now c.head_at.result
+    c.deref.ensures.value c.head_at.ensures
     (eqb-false c.head_at.result.fast c.args.context is)

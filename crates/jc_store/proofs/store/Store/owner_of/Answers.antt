@@ -3,4 +3,5 @@ use Rattle.jc_store.proofs.store.Store.owner_of.Goals as goal
 
 pub returns : goal.returns
 returns c object at =
-    (its_rest c.self.invariant c.self.view_is c.args.number object c.deref.result.now c.rest_at.result at c.deref.ensures.value c.rest_at.ensures).1
+    (its_rest c.self.invariant c.self.view_is c.args.number object c.deref.result.now c.rest_at.result at
+    c.deref.ensures.value c.rest_at.ensures).1

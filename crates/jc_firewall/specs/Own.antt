@@ -7,8 +7,8 @@ use Rattle.jc_firewall.specs.declared.access.Access.{Access}
 use Rattle.jc_firewall.specs.declared.access.Verdict.TheVariants.{Allowed}
 use Rattle.jc_firewall.specs.declared.access.Facts.{Facts}
 
--- an applet's access to an object that is its context's own, by the facts of that object; and nothing is stored that may
--- not be
+-- an applet's access to an object that is its context's own, by the facts of that object; and nothing is stored that
+-- may not be
 pub record IsOwnAccess (s : Store) (number active : ℕ) (access : Access) (f : Facts) : Type 0 where
   pub own : IsOwn s number active
   pub of_applet : active ≡ runtime_context → ⊥

@@ -33,7 +33,12 @@ module _ (headers : List Header) (cells : List ℕ) (now : Store) (view : object
 
 -- the store that lies so
 abbrev pub viewed : List Header → List ℕ → Sizes → Store
-viewed headers cells s = record { objects = objects_in cells headers; classes = classes_in headers; most_objects = s.most_objects; most_cells = s.most_cells }
+viewed headers cells s = record {
+  objects = objects_in cells headers;
+  classes = classes_in headers;
+  most_objects = s.most_objects;
+  most_cells = s.most_cells;
+}
 
 -- the store as it lies
 module _ (headers : List Header) (cells : List ℕ) (s : Sizes) (laid : IsLaid headers cells s) where
@@ -94,9 +99,19 @@ module _ (headers : List Header) (cells : List ℕ) (s : Sizes) (laid : IsLaid h
       (omega (arith, o, n, m, r), omega (arith, c, d, k, q))
 
   -- one object more
-  pub one_more : (h : Header) (items : List Header) (heads head_room count room : ℕ) → h.start ≡ s.used → (length headers < s.most_objects) × (s.used + length headers + 1 + h.len ≤ s.most_cells)
+  pub one_more : (h : Header) (items : List Header) (heads head_room count room : ℕ) → h.start ≡ s.used
+      → (length headers < s.most_objects) × (s.used + length headers + 1 + h.len ≤ s.most_cells)
       → items ≡ headers ++ h ∷ [] → count ≡ s.headers + 1 → room ≡ s.room
-      → IsLaid items cells (record { heads = heads; head_room = head_room; headers = count; room = room; cells = s.cells; used = s.used + h.len; most_objects = s.most_objects; most_cells = s.most_cells })
+      → IsLaid items cells (record {
+        heads = heads;
+        head_room = head_room;
+        headers = count;
+        room = room;
+        cells = s.cells;
+        used = s.used + h.len;
+        most_objects = s.most_objects;
+        most_cells = s.most_cells;
+      })
   one_more h items heads head_room count room start left are counts grows =
       let l : length items ≡ length headers + 1 = ap (λ (xs : List Header). length xs) are ∙ length_more headers h in
       let n = laid.header_count in let r = laid.reserved in

@@ -5,8 +5,8 @@ ghost use Rattle.objects.specs.Filled.{IsFilled};
 
 use crate::holding::has_cell;
 use jc_frames::{CodePlace, FrameHeader, FrameSize, Frames};
-use jc_store::{Kind, Mark, ObjectType, Store};
 use jc_names::Owner;
+use jc_store::{Kind, Mark, ObjectType, Store};
 use std::alloc::{AllocError, Global};
 
 /// How many objects there are, with how many components each, and how many they have in all.

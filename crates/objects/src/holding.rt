@@ -9,8 +9,8 @@ ghost use Rattle.objects.specs.declared.answer.Answer.TheVariants.{Cleared};
 
 use crate::answer::Answer;
 use crate::words;
-use jc_store::{ClearingEvent, Kind, Store};
 use jc_names::Owner;
+use jc_store::{ClearingEvent, Kind, Store};
 
 /// Whether an object with a number is there.
 fn is_there(store: &Store, number: u16) -> bool

@@ -1,7 +1,7 @@
 //! Accesses to objects, and the verdicts on them.
 
-use jc_store::{ClearingEvent, Mark};
 use jc_names::Owner;
+use jc_store::{ClearingEvent, Mark};
 
 /// What is done to an object.
 #[derive(Clone, Copy, Debug, PartialEq, Eq)]

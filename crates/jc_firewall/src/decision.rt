@@ -7,8 +7,8 @@ ghost use Rattle.jc_firewall.specs.declared.access.Access.TheVariants.{CheckCast
 ghost use Rattle.jc_firewall.specs.Verdict.Row.{components, fields, interface_calls, shared_calls, shared_casts, throws, virtual_calls};
 
 use crate::access::{Access, Facts, Rule, Verdict};
-use jc_store::{ClearingEvent, Mark};
 use jc_names::Owner;
+use jc_store::{ClearingEvent, Mark};
 
 fn is_own(active: u8, facts: &Facts) -> bool
     ensures { result ≡ is_own active facts.now }

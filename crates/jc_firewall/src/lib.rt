@@ -3,6 +3,8 @@
 
 mod access;
 mod decision;
+mod law;
 
 pub use access::{Access, Facts, Rule, Verdict};
 pub use decision::decide;
+pub use law::own_is_allowed;

@@ -6,8 +6,7 @@ use Rattle.std.proofs.lemmas.List.Edits.{sets-eq}
 use Rattle.std.proofs.lemmas.Option.{none-some, same_Some}
 use Rattle.std.proofs.lemmas.Simd.{splat_is_map}
 use Rattle.jc_store.specs.Heap.{Heap, Object, blanked, cleared, is_cleared_by, with_cell}
-use Rattle.jc_store.specs.PrivateLaid.{AreCleared, AreLaid, AreWithin, first_cleared, if_cleared, object_in, objects_in, zeroed}
-use Rattle.jc_store.specs.declared.header.Header.{Header}
+use Rattle.jc_store.specs.PrivateLaid.{AreCleared, AreLaid, AreWithin, Header, first_cleared, if_cleared, object_in, objects_in, zeroed}
 use Rattle.jc_store.specs.declared.kind.ClearingEvent.{ClearingEvent}
 use Rattle.jc_store.proofs.Laid.{made_of, put_there, seen_within}
 use Rattle.jc_store.proofs.Making.{has_length, lies_before}

@@ -3,9 +3,8 @@ use Rattle.std.proofs.Common.{◌≡◌, ◌⊎◌, inl, inr, ℕ, zero, suc, �
 use Rattle.std.proofs.lemmas.List.{drop-drop, drop-replicate, drop-set-lt, length-map, length-set, map-append}
 use Rattle.std.proofs.lemmas.Option.{none-some, same_Some, slice_get_within}
 use Rattle.jc_store.specs.Heap.{Heap, Object, cells_in, object_at, with_cell, with_object}
-use Rattle.jc_store.specs.PrivateLaid.{HasRoom, IsLaid, Sizes, object_in, objects_in}
+use Rattle.jc_store.specs.PrivateLaid.{HasRoom, Header, IsLaid, Sizes, classes_in, object_in, objects_in}
 use Rattle.jc_store.specs.Store.{IsFull, Store, fresh}
-use Rattle.jc_store.specs.declared.header.Header.{Header}
 use Rattle.jc_store.proofs.Laid.{made_of, put_there}
 use Rattle.jc_store.proofs.Making.{blank_there, cells_counted, has_length, laid_more, lies_before}
 
@@ -32,12 +31,14 @@ module _ (headers : List Header) (cells : List ℕ) (now : Store) (view : object
       let within = slice_get_within headers n h.0 h.1 in
       record { header = h.0; at = ap (slice_get headers) pre ∙ h.1; is = h.2; some = omega arith; there = omega (arith, within) }
 
-  -- a header that was found in what was lent is that of the object
-  pub its_header : (number : ℕ) (object : Object ℕ) (lent : List Header) (h : Header) → object_at now.objects number ≡ Some object → lent ≡ headers → slice_get lent (number - 1) ≡ Some h
-      → object_in cells h ≡ object
-  its_header number object lent h e same at =
-      let f = found number object e in
-      ap (object_in cells) (same_Some h f.header (sym at ∙ ap (λ xs. slice_get xs (number - 1)) same ∙ f.at)) ∙ f.is
+-- the store that lies so
+abbrev pub viewed : List Header → List ℕ → Sizes → Store
+viewed headers cells s = record {
+  objects = objects_in cells headers;
+  classes = classes_in headers;
+  most_objects = s.most_objects;
+  most_cells = s.most_cells;
+}
 
 -- the store as it lies
 module _ (headers : List Header) (cells : List ℕ) (s : Sizes) (laid : IsLaid headers cells s) where
@@ -67,14 +68,14 @@ module _ (headers : List Header) (cells : List ℕ) (s : Sizes) (laid : IsLaid h
   put_in number index word h at within = put_there cells word index 0 s.used headers number h laid.laid at within
 
   -- what numbers say of the room that is left
-  pub is_room : (now : Store) (len : ℕ) → record { objects = objects_in cells headers; most_objects = s.most_objects; most_cells = s.most_cells } ≡ now
+  pub room_there : (now : Store) (len : ℕ) → viewed headers cells s ≡ now
       → length headers < s.most_objects → len < s.most_cells - s.used - length headers → HasRoom now len
-  is_room now len view few fits =
+  room_there now len view few fits =
       let n : length (objects_in cells headers) ≡ length headers = length-map headers (object_in cells) in
       let k = counted in let w = laid.within in
       subst (λ (x : Store). HasRoom x len) view (record { objects = omega (arith, n, few); cells = omega (arith, k, w, fits) })
 
-  pub no_room : (now : Store) (len : ℕ) → record { objects = objects_in cells headers; most_objects = s.most_objects; most_cells = s.most_cells } ≡ now
+  pub no_room : (now : Store) (len : ℕ) → viewed headers cells s ≡ now
       → (s.most_objects ≤ length headers) ⊎ (s.most_cells - s.used - length headers ≤ len) → IsFull now len
   no_room now len view h =
       subst (λ (x : Store). IsFull x len) view (which h)
@@ -85,7 +86,7 @@ module _ (headers : List Header) (cells : List ℕ) (s : Sizes) (laid : IsLaid h
       which (inr fits) = inr (let k = counted in let w = laid.within in omega (arith, k, w, fits))
 
   -- there is room for one object more, by numbers
-  pub left_for : (now : Store) (len : ℕ) → record { objects = objects_in cells headers; most_objects = s.most_objects; most_cells = s.most_cells } ≡ now → HasRoom now len
+  pub left_for : (now : Store) (len : ℕ) → viewed headers cells s ≡ now → HasRoom now len
       → (length headers < s.most_objects) × (s.used + length headers + 1 + len ≤ s.most_cells)
   left_for now len view room =
       let o : length (objects_in cells headers) ≡ length now.objects = ap (λ (x : Store). length x.objects) view in
@@ -98,10 +99,20 @@ module _ (headers : List Header) (cells : List ℕ) (s : Sizes) (laid : IsLaid h
       (omega (arith, o, n, m, r), omega (arith, c, d, k, q))
 
   -- one object more
-  pub one_more : (h : Header) (items : List Header) (count room : ℕ) → h.start ≡ s.used → (length headers < s.most_objects) × (s.used + length headers + 1 + h.len ≤ s.most_cells)
+  pub one_more : (h : Header) (items : List Header) (heads head_room count room : ℕ) → h.start ≡ s.used
+      → (length headers < s.most_objects) × (s.used + length headers + 1 + h.len ≤ s.most_cells)
       → items ≡ headers ++ h ∷ [] → count ≡ s.headers + 1 → room ≡ s.room
-      → IsLaid items cells (record { headers = count; room = room; cells = s.cells; used = s.used + h.len; most_objects = s.most_objects; most_cells = s.most_cells })
-  one_more h items count room start left are counts grows =
+      → IsLaid items cells (record {
+        heads = heads;
+        head_room = head_room;
+        headers = count;
+        room = room;
+        cells = s.cells;
+        used = s.used + h.len;
+        most_objects = s.most_objects;
+        most_cells = s.most_cells;
+      })
+  one_more h items heads head_room count room start left are counts grows =
       let l : length items ≡ length headers + 1 = ap (λ (xs : List Header). length xs) are ∙ length_more headers h in
       let n = laid.header_count in let r = laid.reserved in
       let fits = left.1 in let few = left.0 in

@@ -4,8 +4,7 @@ use Rattle.std.proofs.lemmas.List.{drop-set-add, drop-set-lt, take-set-le}
 use Rattle.std.proofs.lemmas.Option.{none-some, same_Some}
 use Rattle.std.proofs.Math.Seq.{take-set-lt}
 use Rattle.jc_store.specs.Heap.{Object, with_cell}
-use Rattle.jc_store.specs.PrivateLaid.{AreLaid, object_in, objects_in}
-use Rattle.jc_store.specs.declared.header.Header.{Header}
+use Rattle.jc_store.specs.PrivateLaid.{AreLaid, Header, object_in, objects_in}
 
 -- the object whose components are these
 abbrev pub made_of : Header → List ℕ → Object ℕ

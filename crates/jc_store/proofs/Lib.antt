@@ -2,3 +2,4 @@ mod Laid
 mod Making
 mod Held
 mod Blanking
+mod Rows

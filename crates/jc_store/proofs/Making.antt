@@ -3,8 +3,7 @@ use Rattle.std.proofs.Common.{◌≡◌, ℕ, zero, suc, ◌+◌, ◌-◌, ◌�
 use Rattle.std.proofs.lemmas.List.{length-drop, length-take-le, take-replicate}
 use Rattle.std.proofs.lemmas.Option.{none-some, same_Some}
 use Rattle.jc_store.specs.Heap.{cells_in}
-use Rattle.jc_store.specs.PrivateLaid.{AreLaid, object_in, objects_in}
-use Rattle.jc_store.specs.declared.header.Header.{Header}
+use Rattle.jc_store.specs.PrivateLaid.{AreLaid, Header, object_in, objects_in}
 
 -- the last ends at or behind the first begins
 pub ends_behind : (start end : ℕ) (headers : List Header) → AreLaid start headers end → start ≤ end

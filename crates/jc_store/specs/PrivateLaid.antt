@@ -1,9 +1,70 @@
--- Private. Objects laid one behind the other over one array of cells.
-use Rattle.std.specs.Prelude.{◌≡◌, ℕ, zero, suc, ◌+◌, ◌-◌, ◌<◌, ◌≤◌, ◌^◌, List, Option, if◌then◌else◌, [], ◌∷◌, ◌++◌, length, map, take, drop, replicate, slice_range}
+-- Private. Objects laid one behind the other over one array of cells, and two rows for each of them.
+use Rattle.std.specs.Prelude.{◌≡◌, ℕ, zero, suc, ◌+◌, ◌-◌, ◌<◌, ◌≤◌, ◌^◌, List, Option, None, Some, if◌then◌else◌, [], ◌∷◌, ◌++◌, length, map, take, drop, replicate, slice_range}
 use Rattle.jc_store.specs.Heap.{Heap, Object, blanked, cells_in, is_cleared_by}
 use Rattle.jc_store.specs.Store.{Store}
-use Rattle.jc_store.specs.declared.header.Header.{Header}
+use Rattle.jc_store.specs.declared.header.Head.{Head}
+use Rattle.jc_store.specs.declared.header.Rest.{Rest}
 use Rattle.jc_store.specs.declared.kind.ClearingEvent.{ClearingEvent}
+use Rattle.jc_store.specs.declared.kind.ClearingEvent.TheVariants.{Reset, Deselect}
+use Rattle.jc_store.specs.declared.kind.Kind.{Kind}
+use Rattle.jc_names.specs.declared.owner.Owner.{Owner}
+
+-- an object without its components: what it is, whose it is, the number of its class, where its components begin, and
+-- how many it has
+pub record Header : Type 0 where
+  pub kind : Kind
+  pub owner : Owner
+  pub class : ℕ
+  pub start : ℕ
+  pub len : ℕ
+
+-- ---- its two rows
+
+-- the context to which each access is allowed: the owner's, and none where it is cleared on deselect
+abbrev pub fast_in : Option ClearingEvent → Owner → ℕ
+fast_in None owner = owner.context
+fast_in (Some Reset) owner = owner.context
+fast_in (Some Deselect) owner = 255
+
+abbrev pub head_of : Header → Head
+head_of h = record { start = h.start; len = h.len; class = h.class; fast = fast_in h.kind.clears h.owner }
+
+abbrev pub rest_of : Header → Rest
+rest_of h = record { kind = h.kind; owner = h.owner }
+
+abbrev pub null_head : Head
+null_head = record { start = 0; len = 0; class = 0; fast = 255 }
+
+abbrev pub header_in : Head → Rest → Header
+header_in head rest = record {
+  kind = rest.kind;
+  owner = rest.owner;
+  class = head.class;
+  start = head.start;
+  len = head.len;
+}
+
+-- rows joined
+abbrev pub joined : List Head → List Rest → List Header
+joined [] rests = []
+joined (head ∷ heads) [] = []
+joined (head ∷ heads) (rest ∷ rests) = header_in head rest ∷ joined heads rests
+
+-- the first head is that of null
+abbrev pub headers_of : List Head → List Rest → List Header
+headers_of [] rests = []
+headers_of (null ∷ heads) rests = joined heads rests
+
+-- the rows are those of headers
+pub record AreRows (heads : List Head) (rests : List Rest) : Type 0 where
+  pub heads_are : heads ≡ null_head ∷ map head_of (headers_of heads rests)
+  pub rests_are : rests ≡ map rest_of (headers_of heads rests)
+
+-- the numbers of their classes
+abbrev pub classes_in : List Header → List ℕ
+classes_in headers = map (λ (h : Header). h.class) headers
+
+-- ---- their components
 
 -- the object that a header is of
 abbrev pub object_in : List ℕ → Header → Object ℕ
@@ -18,9 +79,11 @@ abbrev pub AreLaid : ℕ → List Header → ℕ → Type 0
 AreLaid start [] end = end ≡ start
 AreLaid start (h ∷ headers) end = (h.start ≡ start) × AreLaid (start + h.len) headers end
 
--- how much of a store is used: the lengths of its arrays, and how many headers there is room for; the cell behind the last component; and
--- the most objects and cells
+-- how much of a store is used: the lengths of its arrays, and how many rows of each kind there is room for; the cell
+-- behind the last component; and the most objects and cells
 pub record Sizes : Type 0 where
+  pub heads : ℕ
+  pub head_room : ℕ
   pub headers : ℕ
   pub room : ℕ
   pub cells : ℕ
@@ -41,6 +104,13 @@ pub record IsLaid (headers : List Header) (cells : List ℕ) (s : Sizes) : Type 
   pub reserved : s.room ≡ s.most_objects
   pub few_objects : s.most_objects < 2 ^ 16
   pub few_cells : s.most_cells < 2 ^ 16
+
+-- and their rows are such, with room for exactly the most
+pub record IsStored (heads : List Head) (rests : List Rest) (cells : List ℕ) (s : Sizes) : Type 0 where
+  pub rows : AreRows heads rests
+  pub laid : IsLaid (headers_of heads rests) cells s
+  pub head_count : s.heads ≡ length heads
+  pub head_reserved : s.head_room ≡ s.most_objects + 1
 
 -- so many cells hold all of them
 pub record AreWithin (headers : List Header) (count : ℕ) : Type 0 where

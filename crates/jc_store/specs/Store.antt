@@ -1,12 +1,15 @@
 -- What a store is: the heap in words, and how much was reserved for it.
-use Rattle.std.specs.Prelude.{◌≡◌, ◌⊎◌, ℕ, ◌+◌, ◌<◌, ◌≤◌, length, replicate, Some}
-use Rattle.jc_store.specs.Heap.{Heap, Object, cells_in, object_at}
+use Rattle.std.specs.Prelude.{◌≡◌, ◌⊎◌, ℕ, zero, suc, ◌+◌, ◌<◌, ◌≤◌, List, [], ◌∷◌, ◌++◌, length, replicate, slice_get, Option, None, Some}
+use Rattle.jc_store.specs.Heap.{Heap, Object, cells_in, object_at, with_new}
+use Rattle.jc_store.specs.declared.kind.ClearingEvent.TheVariants.{Deselect}
 use Rattle.jc_store.specs.declared.kind.Kind.{Kind}
 use Rattle.jc_names.specs.declared.owner.Owner.{Owner}
 
--- its objects, and the most objects and cells that it may have
+-- its objects; a number for each of them, in their order, that its maker handed in for its class; and the most objects
+-- and cells that it may have
 pub record Store : Type 0 where
   pub objects : Heap ℕ
+  pub classes : List ℕ
   pub most_objects : ℕ
   pub most_cells : ℕ
 
@@ -16,7 +19,26 @@ fresh kind owner len = record { kind = kind; owner = owner; cells = replicate le
 
 -- a store with other objects in the same room
 abbrev pub with_objects : Store → Heap ℕ → Store
-with_objects s objects = record { objects = objects; most_objects = s.most_objects; most_cells = s.most_cells }
+with_objects s objects = record {
+  objects = objects;
+  classes = s.classes;
+  most_objects = s.most_objects;
+  most_cells = s.most_cells;
+}
+
+-- a store with one object more, and the number of its class behind those of the others
+abbrev pub with_made : Store → Object ℕ → ℕ → Store
+with_made s object class = record {
+  objects = with_new s.objects object;
+  classes = s.classes ++ class ∷ [];
+  most_objects = s.most_objects;
+  most_cells = s.most_cells;
+}
+
+-- the number that was handed in for the class of the object with a number
+abbrev pub class_number_at : List ℕ → ℕ → Option ℕ
+class_number_at classes zero = None
+class_number_at classes (suc n) = slice_get classes n
 
 -- there is no room for one object more with so many components
 abbrev pub IsFull : Store → ℕ → Type 0
@@ -32,3 +54,14 @@ pub record HasCell (s : Store) (number index : ℕ) : Type 0 where
   pub object : Object ℕ
   pub is : object_at s.objects number ≡ Some object
   pub within : index < length object.cells
+
+-- a number is that of null or of an object that is there
+abbrev pub IsReference : Store → ℕ → Type 0
+IsReference s number = (number ≡ 0) ⊎ IsThere s number
+
+-- it is there, its owner's context is this one, and it isn't cleared on deselect
+pub record IsOwn (s : Store) (number context : ℕ) : Type 0 where
+  pub object : Object ℕ
+  pub is : object_at s.objects number ≡ Some object
+  pub owned : object.owner.context ≡ context
+  pub stays : object.kind.clears ≡ Some Deselect → ⊥

@@ -1,34 +1,77 @@
-//! Where objects lie among the cells.
+//! What is kept of each object beside its components.
 
 ghost use Rattle.std.specs.Prelude.{◌≡◌, ◌+◌, ◌-◌, ◌<◌, ◌≤◌, Some, length, slice_get};
+ghost use Rattle.jc_store.specs.PrivateLaid.{fast_in};
 
-use crate::kind::Kind;
+use crate::kind::{ClearingEvent, Kind};
 use jc_names::Owner;
 
-/// An object: what it is, whose it is, where its components begin among the cells, and how many it has.
+/// The context that no object is the own one of.
+const NONE: u8 = 255;
+
+/// What each access asks of an object, in eight bytes: where its components begin among the cells, and how many it has;
+/// the number of its class; and the context to which each access to it is allowed.
 #[derive(Clone, Copy)]
-pub(crate) struct Header {
-    pub(crate) kind: Kind,
-    pub(crate) owner: Owner,
+pub(crate) struct Head {
     pub(crate) start: u16,
     pub(crate) len: u16,
+    pub(crate) class: u16,
+    pub(crate) fast: u8,
 }
 
-/// The header of the object with a number.
+impl Head {
+    /// The head of number 0, which stands for null.
+    pub(crate) const NULL: Head = Head {
+        start: 0,
+        len: 0,
+        class: 0,
+        fast: NONE,
+    };
+}
+
+/// The rest: what an object is, and whose it is.
+#[derive(Clone, Copy)]
+pub(crate) struct Rest {
+    pub(crate) kind: Kind,
+    pub(crate) owner: Owner,
+}
+
+/// The context to which each access to an object is allowed: its owner's. It is none where the object is cleared on
+/// deselect.
 #[inline]
-pub(crate) fn header_at(headers: &[Header], number: u16) -> Header
-    requires some { 0 < number }
-    requires there { number ≤ length headers.now }
-    ensures { slice_get headers.now (number - 1) ≡ Some result }
+pub(crate) fn fast_of(clears: Option<ClearingEvent>, owner: Owner) -> u8
+    ensures { result ≡ fast_in clears owner }
 {
-    headers[usize::from(number) - 1]
+    match clears {
+        Some(ClearingEvent::Deselect) => NONE,
+        Some(ClearingEvent::Reset) | None => owner.context,
+    }
+}
+
+/// The head with a number.
+#[inline]
+pub(crate) fn head_at(heads: &[Head], number: u16) -> Head
+    requires there { number < length heads.now }
+    ensures { slice_get heads.now number ≡ Some result }
+{
+    heads[usize::from(number)]
+}
+
+/// The rest of what is kept of the object with a number.
+#[inline]
+pub(crate) fn rest_at(rests: &[Rest], number: u16) -> Rest
+    requires some { 0 < number }
+    requires there { number ≤ length rests.now }
+    ensures { slice_get rests.now (number - 1) ≡ Some result }
+{
+    rests[usize::from(number) - 1]
 }
 
 /// What the component of an object at an index holds.
 #[inline]
-pub(crate) fn cell_at(cells: &[u16], header: Header, index: u16) -> u16
-    requires within { header.start + index < length cells.now }
-    ensures { slice_get cells.now (header.start + index) ≡ Some result }
+pub(crate) fn cell_at(cells: &[u16], head: Head, index: u16) -> u16
+    requires within { head.start + index < length cells.now }
+    ensures { slice_get cells.now (head.start + index) ≡ Some result }
 {
-    cells[usize::from(header.start) + usize::from(index)]
+    cells[usize::from(head.start) + usize::from(index)]
 }

@@ -1,12 +1,12 @@
 //! The store: the objects on a card.
 
-ghost use Rattle.std.specs.Prelude.{◌≡◌, ℕ, true, false, [], Some, length, slice_get, IfOk, IfSome, IfNone};
-ghost use Rattle.jc_store.specs.Heap.{Object, cells_in, cleared, next_number, object_at, with_cell, with_new, with_object};
-ghost use Rattle.jc_store.specs.Store.{HasCell, IsFull, IsThere, fresh, with_objects};
+ghost use Rattle.std.specs.Prelude.{◌≡◌, ◌<◌, ℕ, true, false, [], Some, length, slice_get, IfOk, IfSome, IfNone};
+ghost use Rattle.jc_store.specs.Heap.{Object, cells_in, cleared, next_number, object_at, with_cell, with_object};
+ghost use Rattle.jc_store.specs.Store.{HasCell, IsFull, IsOwn, IsReference, IsThere, class_number_at, fresh, with_made, with_objects};
 ghost use Rattle.jc_store.specs.PrivateLaid.{HasRoom};
 
 use crate::clearing::clear_objects;
-use crate::header::{Header, cell_at, header_at};
+use crate::header::{Head, Rest, cell_at, fast_of, head_at, rest_at};
 use crate::kind::{ClearingEvent, Kind};
 use jc_names::Owner;
 use std::alloc::{AllocError, Global};
@@ -16,7 +16,8 @@ use std::marker::Model;
 /// call takes memory.
 #[derive(Drop)]
 pub struct Store {
-    headers: Vec<Header>,
+    heads: Vec<Head>,
+    rests: Vec<Rest>,
     cells: Vec<u16>,
     used: u16,
     most_objects: u16,
@@ -25,26 +26,44 @@ pub struct Store {
 
 impl Model for Store {
     ghost use Rattle.std.specs.Prelude.{vec_capacity, vec_len};
-    ghost use Rattle.jc_store.specs.PrivateLaid.{IsLaid, objects_in};
+    ghost use Rattle.jc_store.specs.PrivateLaid.{IsStored, classes_in, headers_of, objects_in};
     ghost use Rattle.jc_store.specs.Store.{Store as Objects};
 
     ghost Value = { Objects };
 
-    ghost view = { λ s. record { objects = objects_in s.cells.items s.headers.items; most_objects = s.most_objects; most_cells = s.most_cells } };
+    ghost view = { λ s. record {
+      objects = objects_in s.cells.items (headers_of s.heads.items s.rests.items);
+      classes = classes_in (headers_of s.heads.items s.rests.items);
+      most_objects = s.most_objects;
+      most_cells = s.most_cells;
+    } };
 
-    ghost invariant = { λ s. IsLaid s.headers.items s.cells.items (record { headers = vec_len s.headers; room = vec_capacity s.headers; cells = vec_len s.cells; used = s.used; most_objects = s.most_objects; most_cells = s.most_cells }) };
+    ghost invariant = { λ s. IsStored s.heads.items s.rests.items s.cells.items (record {
+      heads = vec_len s.heads;
+      head_room = vec_capacity s.heads;
+      headers = vec_len s.rests;
+      room = vec_capacity s.rests;
+      cells = vec_len s.cells;
+      used = s.used;
+      most_objects = s.most_objects;
+      most_cells = s.most_cells;
+    }) };
 }
 
 impl Store {
     /// A store without an object, with room for so many objects, and for so many cells: an object takes one, and one for each of its
     /// components.
     pub fn new(alloc: Global, objects: u16, cells: u16) -> Result<Store, AllocError>
-        ensures { IfOk result (λ s. s ≡ record { objects = []; most_objects = objects; most_cells = cells }) }
+        ensures { IfOk result (λ s.
+            s ≡ record { objects = []; classes = []; most_objects = objects; most_cells = cells }) }
     {
-        let headers = Vec::with_capacity(alloc, usize::from(objects))?;
+        let mut heads = Vec::with_capacity(alloc, usize::from(objects) + 1)?;
+        heads.push_reserved(Head::NULL);
+        let rests = Vec::with_capacity(alloc, usize::from(objects))?;
         let words = vec![in alloc; 0; usize::from(cells)]?;
         Ok(Store {
-            headers,
+            heads,
+            rests,
             cells: words,
             used: 0,
             most_objects: objects,
@@ -52,11 +71,13 @@ impl Store {
         })
     }
 
-    /// Makes an object whose components are 0, if there is room for it. The answer is its number.
+    /// Makes an object whose components are 0, if there is room for it. The answer is its number. The number that is
+    /// handed in for its class is kept; what it means is the caller's matter.
     #[inline]
-    pub fn make(&mut self, kind: Kind, owner: Owner, len: usize) -> Option<u16>
+    pub fn make(&mut self, kind: Kind, owner: Owner, len: usize, class: u16) -> Option<u16>
         ensures number { IfSome result (λ number. number ≡ next_number self.old.objects) }
-        ensures made { IfSome result (λ number. self.new ≡ with_objects self.old (with_new self.old.objects (fresh kind owner len))) }
+        ensures made { IfSome result (λ number. self.new ≡ with_made self.old (fresh kind owner len) class) }
+        ensures numbered { IfSome result (λ number. class_number_at self.new.classes number ≡ Some class) }
         ensures room { IfSome result (λ number. IsFull self.old len → ⊥) }
         ensures full { IfNone result (IsFull self.old len) }
         ensures kept { IfNone result (self.new ≡ self.old) }
@@ -64,15 +85,16 @@ impl Store {
         if !self.has_room(len) {
             return None;
         }
-        let header = Header {
-            kind,
-            owner,
+        let head = Head {
             start: self.used,
             len: len as u16,
+            class,
+            fast: fast_of(kind.clears, owner),
         };
-        self.headers.push_reserved(header);
+        self.heads.push_reserved(head);
+        self.rests.push_reserved(Rest { kind, owner });
         self.used += len as u16;
-        Some(self.headers.len() as u16)
+        Some(self.rests.len() as u16)
     }
 
     // Whether there is room for one object more with so many components.
@@ -81,7 +103,7 @@ impl Store {
         ensures room { result ≡ true → HasRoom self.now len }
         ensures full { result ≡ false → IsFull self.now len }
     {
-        let objects = self.headers.len();
+        let objects = self.rests.len();
         let left = usize::from(self.most_cells) - usize::from(self.used) - objects;
         objects < usize::from(self.most_objects) && len < left
     }
@@ -92,7 +114,7 @@ impl Store {
         requires there { IsThere self.now number }
         ensures { (object : Object ℕ) → object_at self.now.objects number ≡ Some object → result ≡ object.kind }
     {
-        header_at(&self.headers, number).kind
+        rest_at(&self.rests, number).kind
     }
 
     /// Whose an object is.
@@ -101,7 +123,28 @@ impl Store {
         requires there { IsThere self.now number }
         ensures { (object : Object ℕ) → object_at self.now.objects number ≡ Some object → result ≡ object.owner }
     {
-        header_at(&self.headers, number).owner
+        rest_at(&self.rests, number).owner
+    }
+
+    /// The number that was handed in for an object's class.
+    #[inline]
+    pub fn class_number(&self, number: u16) -> u16
+        requires there { IsThere self.now number }
+        ensures { class_number_at self.now.classes number ≡ Some result }
+    {
+        head_at(&self.heads, number).class
+    }
+
+    /// Whether an object is a context's own: its owner's context is that one, and it isn't cleared on deselect. So each
+    /// access to it is allowed to that context. Null is no context's own. No context is 255: a yes for that one says
+    /// nothing.
+    #[inline]
+    pub fn is_own(&self, number: u16, context: u8) -> bool
+        requires there { IsReference self.now number }
+        ensures own { result ≡ true → context < 255 → IsOwn self.now number context }
+        ensures other { result ≡ false → IsOwn self.now number context → ⊥ }
+    {
+        head_at(&self.heads, number).fast == context
     }
 
     /// How many components an object has.
@@ -110,7 +153,7 @@ impl Store {
         requires there { IsThere self.now number }
         ensures { (object : Object ℕ) → object_at self.now.objects number ≡ Some object → result ≡ length object.cells }
     {
-        header_at(&self.headers, number).len
+        head_at(&self.heads, number).len
     }
 
     /// What the component of an object at an index holds.
@@ -119,8 +162,8 @@ impl Store {
         requires there { HasCell self.now number index }
         ensures { (object : Object ℕ) → object_at self.now.objects number ≡ Some object → slice_get object.cells index ≡ Some result }
     {
-        let header = header_at(&self.headers, number);
-        cell_at(&self.cells, header, index)
+        let head = head_at(&self.heads, number);
+        cell_at(&self.cells, head, index)
     }
 
     /// Puts a word into the component of an object at an index.
@@ -130,16 +173,17 @@ impl Store {
         ensures { (object : Object ℕ) → object_at self.old.objects number ≡ Some object
             → self.new ≡ with_objects self.old (with_object self.old.objects number (with_cell object index word)) }
     {
-        let header = header_at(&self.headers, number);
-        self.cells[usize::from(header.start) + usize::from(index)] = word;
+        let head = head_at(&self.heads, number);
+        self.cells[usize::from(head.start) + usize::from(index)] = word;
     }
 
-    /// How many objects there are.
+    /// How many objects there are. Each has a number for its class.
     #[inline]
     pub fn objects_used(&self) -> u16
-        ensures { result ≡ length self.now.objects }
+        ensures objects { result ≡ length self.now.objects }
+        ensures classes { result ≡ length self.now.classes }
     {
-        self.headers.len() as u16
+        self.rests.len() as u16
     }
 
     /// How many cells they take: one each, and one for each of their components.
@@ -147,13 +191,13 @@ impl Store {
     pub fn cells_used(&self) -> u16
         ensures { result ≡ cells_in self.now.objects }
     {
-        self.used + self.headers.len() as u16
+        self.used + self.rests.len() as u16
     }
 
     /// Clears the transient arrays of an event: those of a context, or all. Their components are 0 then.
     pub fn clear(&mut self, event: ClearingEvent, context: Option<u8>)
         ensures { self.new ≡ with_objects self.old (cleared (λ kind. 0) event context self.old.objects) }
     {
-        clear_objects(&self.headers, &mut self.cells, event, context);
+        clear_objects(&self.heads, &self.rests, &mut self.cells, event, context);
     }
 }

@@ -2,8 +2,8 @@
 
 use jc_firewall::{Rule, Verdict};
 use jc_frames::FrameHeader;
-use jc_store::{ClearingEvent, Kind, Mark, ObjectType};
 use jc_names::Owner;
+use jc_store::{ClearingEvent, Kind, Mark, ObjectType};
 use std::fmt;
 
 /// What is answered to a line.

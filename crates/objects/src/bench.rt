@@ -5,8 +5,8 @@ ghost use Rattle.objects.specs.Filled.{IsFilled};
 
 use crate::holding::has_cell;
 use jc_frames::{CodePlace, FrameHeader, FrameSize, Frames};
-use jc_store::{Kind, Mark, ObjectType, Store};
 use jc_names::Owner;
+use jc_store::{Kind, Mark, ObjectType, Store};
 use std::alloc::{AllocError, Global};
 
 /// How many objects there are, with how many components each, and how many they have in all.
@@ -140,7 +140,7 @@ fn turns_in_frames(frames: &mut Frames, count: u32) -> u16 {
 fn in_store(alloc: Global, count: u32) -> Result<u16, AllocError> {
     let mut store = Store::new(alloc, OBJECTS, CELLS)?;
     for _ in 0..OBJECTS {
-        let _ = store.make(ARRAY, Owner::RUNTIME, usize::from(LEN));
+        let _ = store.make(ARRAY, Owner::RUNTIME, usize::from(LEN), 0);
     }
     if !is_filled(&store) {
         return Ok(0);

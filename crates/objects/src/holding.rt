@@ -9,8 +9,8 @@ ghost use Rattle.objects.specs.declared.answer.Answer.TheVariants.{Cleared};
 
 use crate::answer::Answer;
 use crate::words;
-use jc_store::{ClearingEvent, Kind, Store};
 use jc_names::Owner;
+use jc_store::{ClearingEvent, Kind, Store};
 
 /// Whether an object with a number is there.
 fn is_there(store: &Store, number: u16) -> bool
@@ -84,11 +84,11 @@ fn kind_of(store: &Store, number: u16) -> Option<Kind>
     }
 }
 
-/// Makes an object, if there is room for it.
+/// Makes an object, if there is room for it. Lines don't name classes, so the number of its class is 0.
 fn made(store: &mut Store, kind: Kind, owner: Owner, len: usize) -> Answer
     ensures { IsMade store.old kind owner len store.new result }
 {
-    match store.make(kind, owner, len) {
+    match store.make(kind, owner, len, 0) {
         Some(number) => Answer::Number(number),
         None => Answer::Full,
     }

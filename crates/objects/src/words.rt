@@ -1,9 +1,8 @@
 //! What words say.
 
-use jc_names::ClassName;
 use jc_firewall::Access;
+use jc_names::{ClassName, Owner};
 use jc_store::{ClearingEvent, Kind, Mark, ObjectType};
-use jc_names::Owner;
 
 /// The class of all instances, and of the elements of all arrays of references.
 const CLASS: ClassName = ClassName::Loaded {

@@ -1,0 +1,4 @@
+mod Catching
+mod Known
+mod Laying
+mod Numbering

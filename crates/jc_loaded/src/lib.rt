@@ -1,0 +1,13 @@
+//! What a machine runs of loaded packages, one step from a name to what it names.
+#![tactic(auto)]
+
+mod handler;
+mod laid;
+mod loading;
+mod methods;
+mod numbers;
+mod row;
+
+pub use handler::{Caught, LoadedHandler};
+pub use methods::{MethodNumber, Methods};
+pub use row::LoadedMethod;

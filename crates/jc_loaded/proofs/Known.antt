@@ -17,7 +17,8 @@ named (suc n) offset some =
     ap (λ b. cond b (Api offset) (Loaded (suc (suc n) - 1) offset)) (le-ltb (suc (suc n)) 2 (omega arith))
     ∙ ap (λ i. Loaded i offset) one
 
-pub have_headers : (world : List Shape) (number : ℕ) (body : LinkedBody) → IsKnown world (home_at number) body → 1 ≤ number
+pub have_headers : (world : List Shape) (number : ℕ) (body : LinkedBody) → IsKnown world (home_at number) body
+    → 1 ≤ number
     → HaveHeaders world number body.kept.methods
 have_headers world number body known some n b at =
     let found = known.declared n b at in

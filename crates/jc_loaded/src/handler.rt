@@ -74,7 +74,8 @@ fn pc_behind(offset: u16, length: u16, code_offset: usize) -> u32
 /// A handler of a method of a package whose pool is resolved.
 #[tactic(auto, using(crate::proofs::Catching::caught_there))]
 fn loaded_handler(body: &LinkedBody, code_offset: usize, row: &Handler) -> LoadedHandler
-    ensures { (world : List Shape) (number : ℕ) → IsResolved world (home_at number) body.now → result ≡ loaded_handler world number body.now code_offset row.now }
+    ensures { (world : List Shape) (number : ℕ) → IsResolved world (home_at number) body.now
+        → result ≡ loaded_handler world number body.now code_offset row.now }
 {
     LoadedHandler {
         start: pc_at(row.start, code_offset),

@@ -35,7 +35,8 @@ fn put_method(
 ) -> Result<(), AllocError>
     requires resolved { IsResolved table.now (home_at «package») body.now }
     requires headed { is_some (header_at table.now «package» method.now.offset) ≡ true }
-    ensures { IfOk result (λ u. map Some laid.new ≡ map Some laid.old ++ loaded_method table.now «package» body.now method.now ∷ []) }
+    ensures { IfOk result (λ u. map Some laid.new
+        ≡ map Some laid.old ++ loaded_method table.now «package» body.now method.now ∷ []) }
 {
     let handlers = loaded_handlers(alloc, body, method.code_offset, &method.handlers)?;
     let header = header_at(table, package, method.offset).unwrap();
@@ -53,7 +54,8 @@ fn put_methods(
 ) -> Result<(), AllocError>
     requires resolved { IsResolved table.now (home_at «package») body.now }
     requires headed { HaveHeaders table.now «package» methods.now }
-    ensures { IfOk result (λ u. map Some laid.new ≡ map Some laid.old ++ map (loaded_method table.now «package» body.now) methods.now) }
+    ensures { IfOk result (λ u. map Some laid.new
+        ≡ map Some laid.old ++ map (loaded_method table.now «package» body.now) methods.now) }
 {
     for method in methods {
         put_method(alloc, laid, table, package, body, method)?;

@@ -36,7 +36,8 @@ fn make_room(places: &mut Vec<Option<u32>>, offset: usize) -> Result<(), AllocEr
 /// Puts a number at an offset, where none is there.
 fn put_first(places: &mut Vec<Option<u32>>, offset: usize, number: u32) -> Result<(), AllocError>
     ensures { IfOk result (λ u. (i : ℕ) → place_at places.new.items i
-        ≡ (if offset == i then option_or (place_at places.old.items i) (Some number) else place_at places.old.items i)) }
+        ≡ (if offset == i then option_or (place_at places.old.items i) (Some number)
+        else place_at places.old.items i)) }
 {
     make_room(places, offset)?;
     if places[offset].is_none() {
@@ -104,7 +105,8 @@ fn put_number(
     number: u32,
 ) -> Result<(), AllocError>
     ensures { IfOk result (λ u. (p i : ℕ) → number_in tables.new.items p i
-        ≡ (if «package» == p && offset == i then option_or (number_in tables.old.items p i) (Some number) else number_in tables.old.items p i)) }
+        ≡ (if «package» == p && offset == i then option_or (number_in tables.old.items p i) (Some number)
+        else number_in tables.old.items p i)) }
 {
     make_package(alloc, tables, package)?;
     tables[package].put(offset, number)?;

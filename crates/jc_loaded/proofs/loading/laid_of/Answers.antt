@@ -7,6 +7,8 @@ pub put_package-requires-clause-known : goal.put_package-requires-clause-known
 put_package-requires-clause-known c =
     let at = c.loop-at.at in
     let body = c.index-bodies-at.result in
-    let there = slice_get-get_or c.bodies-bodies.result.now at body (omega (arith, c.loop-at-test.true, c.loop-at.auto.at-end)) ∙ sym (ap Some c.index-bodies-at.is) in
-    let known = c.bodies-bodies.ensures.world.known at body (ap (λ bs. slice_get bs at) (sym c.bodies-bodies.ensures.bodies) ∙ there) in
+    let there = slice_get-get_or c.bodies-bodies.result.now at body
+    (omega (arith, c.loop-at-test.true, c.loop-at.auto.at-end)) ∙ sym (ap Some c.index-bodies-at.is) in
+    let known = c.bodies-bodies.ensures.world.known at body
+    (ap (λ bs. slice_get bs at) (sym c.bodies-bodies.ensures.bodies) ∙ there) in
     rw c.table-table.ensures.table (subst (λ h. IsKnown c.args.world.now.shapes h body) (omega arith) known)

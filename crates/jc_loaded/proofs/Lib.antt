@@ -2,3 +2,4 @@ mod Catching
 mod Known
 mod Laying
 mod Numbering
+mod Entering

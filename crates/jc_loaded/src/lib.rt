@@ -1,6 +1,8 @@
 //! What a machine runs of loaded packages, one step from a name to what it names.
 #![tactic(auto)]
 
+mod entries;
+mod entry;
 mod handler;
 mod laid;
 mod loading;
@@ -8,6 +10,8 @@ mod methods;
 mod numbers;
 mod row;
 
+pub use entries::Entries;
+pub use entry::Entry;
 pub use handler::{Caught, LoadedHandler};
 pub use methods::{MethodNumber, Methods};
 pub use row::LoadedMethod;

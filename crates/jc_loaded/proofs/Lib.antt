@@ -3,3 +3,5 @@ mod Known
 mod Laying
 mod Numbering
 mod Entering
+mod Finding
+mod Covering

@@ -3,7 +3,7 @@
 ghost use Rattle.std.specs.Prelude.{◌≡◌, ℕ, ◌-◌, ◌+◌, List, map, IfOk};
 ghost use Rattle.jc_cap_desc.specs.Shape.{Shape};
 ghost use Rattle.jc_link.specs.Linked.{IsResolved};
-ghost use Rattle.jc_loaded.specs.Methods.{caught_by, loaded_handler};
+ghost use Rattle.jc_loaded.specs.Methods.{covers, loaded_handler};
 ghost use Rattle.jc_loaded.specs.PrivateLaid.{caught_in};
 ghost use Rattle.jc_names.specs.Names.{home_at};
 
@@ -33,6 +33,16 @@ pub struct LoadedHandler {
     /// Where the method goes on.
     pub goes_on: u16,
     pub caught: Caught,
+}
+
+impl LoadedHandler {
+    /// Whether it covers a pc.
+    #[inline]
+    pub fn covers(self, pc: u16) -> bool
+        ensures { result ≡ covers self pc }
+    {
+        self.start <= pc && u32::from(pc) < self.end
+    }
 }
 
 /// The index of the constant pool that stands for all that may be thrown.

@@ -1,0 +1,7 @@
+mod Catching
+mod Known
+mod Laying
+mod Numbering
+mod Entering
+mod Finding
+mod Covering

@@ -1,0 +1,4 @@
+pub mod Methods
+pub mod PrivateLaid
+pub mod Entries
+pub mod PrivateEntries

@@ -7,9 +7,9 @@ use crate::rules::CheckRules;
 use jc_base::Reason;
 use jc_cert::SpelledClass;
 use jc_classes::ClassTable;
-use jc_names::ClassName;
 use jc_code::{CodeFault, Instr, Operation, decode, listing_laws};
 use jc_link::Linked;
+use jc_names::ClassName;
 use jc_step::{Setting, transfer_in};
 use jc_types::{State, Ty};
 

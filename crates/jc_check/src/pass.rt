@@ -17,8 +17,8 @@ use crate::method::Method;
 use crate::rules::CheckRules;
 use crate::table::mark_at;
 use jc_base::Reason;
-use jc_names::ClassName;
 use jc_code::{Instr, Targets};
+use jc_names::ClassName;
 use jc_types::{State, Ty};
 
 /// What the pass goes by: the rules, the method, the table of its marks, and what the certificate claims.

@@ -72,8 +72,8 @@ have_code w is place d header at its concrete = by_number place.number at
         let name : method_name (suc (suc n)) place.offset ≡ Loaded (suc n) place.offset
         = named n in
         let its_code = known.coded place.offset d
-            (ap (λ h. method_at w.shapes (method_name h place.offset)) two ∙ ap (method_at w.shapes) name ∙ at)
-            (record { header = header; there = its; concrete = concrete }) in
+        (ap (λ h. method_at w.shapes (method_name h place.offset)) two ∙ ap (method_at w.shapes) name ∙ at)
+        (record { header = header; there = its; concrete = concrete }) in
         subst (λ o. IsSome (option_and_then (λ (b : LinkedBody). find (λ x. x.offset == place.offset) b.kept.methods) o))
         (sym body.1)
         (found (body.0).kept.methods place.offset its_code.place its_code.body its_code.there its_code.offset_is)

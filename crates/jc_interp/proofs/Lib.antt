@@ -1,3 +1,5 @@
+mod Accepting
 mod ApiResults
 mod HavingCode
 mod IdleLaw
+mod Staying

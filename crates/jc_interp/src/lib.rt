@@ -12,5 +12,7 @@ pub use examples::{
     stuck_runs, throws_run,
 };
 pub use idle::IdleNatives;
-pub use laws::{accepted_methods_are_typed, methods_have_code};
+pub use laws::{
+    accepted_methods_are_typed, accepted_worlds_grow, methods_have_code, runtime_objects_stay,
+};
 pub use natives::{MOST_ARGUMENTS, Natives, WordCall, WordCallback, WordOutcome};

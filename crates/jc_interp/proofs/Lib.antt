@@ -2,4 +2,5 @@ mod Accepting
 mod ApiResults
 mod HavingCode
 mod IdleLaw
+mod NewMachines
 mod Staying

@@ -1,5 +1,6 @@
 mod Accepting
 mod ApiResults
+mod FirstFrame
 mod HavingCode
 mod IdleLaw
 mod NewMachines

@@ -1,7 +1,7 @@
 -- A machine with the runtime's own objects alone is well typed beside its frames.
 use Rattle.std.proofs.Common.{◌≡◌, ℕ, zero, suc, ◌+◌, ◌==◌, ◌&&◌, not, Bool, true, false, List, [], ◌∷◌, ◌++◌}
 use Rattle.std.proofs.Common.{Option, Some, None, length, map, replicate, slice_get, nat_lt, refl, sym, ap, ◌∙◌, subst}
-use Rattle.std.proofs.Common.{arith, length-append, ltb-true, eqb-true}
+use Rattle.std.proofs.Common.{arith, ◌<◌, length-append, ltb-true, eqb-true}
 use Rattle.std.proofs.lemmas.List.{length-map, length-replicate}
 use Rattle.std.proofs.lemmas.List.FromFn.{length-range_with_len}
 use Rattle.std.proofs.lemmas.Option.{none-some}
@@ -29,7 +29,7 @@ use Rattle.jc_store.specs.declared.kind.ObjectType.TheVariants.{Instance, Boolea
 use Rattle.jc_store.specs.declared.kind.ObjectType.TheVariants.{ReferenceArray}
 use Rattle.jc_interp.specs.Accepted.{api_alone}
 use Rattle.jc_interp.specs.Agree.{Pointwise}
-use Rattle.jc_interp.specs.Lookup.{fields_within, is_byte, of_package, own_fields}
+use Rattle.jc_interp.specs.Lookup.{fields_of, fields_within, is_byte, of_package, own_fields}
 use Rattle.jc_interp.specs.Machine.{Frame, StaticValue}
 use Rattle.jc_interp.specs.Runtime.{HasRuntimeObject, HasRuntimeObjects, RuntimeObject, runtime_objects}
 use Rattle.jc_interp.specs.Typed.{HeapTyped, IsTypedBeside, ObjectTyped, StaticsTyped, is_cell}
@@ -98,31 +98,26 @@ zeros_are_bytes : (n : ℕ) → AllByRecursion (λ v. is_byte v ≡ true) (repli
 zeros_are_bytes zero = tt
 zeros_are_bytes (suc n) = (refl, zeros_are_bytes n)
 
--- of an object of the runtime's: its class has objects, with so many cells; an array is of bytes, and has no more
--- components than a word counts
-abbrev fits_as : ObjectType → ℕ → Bool
-fits_as (Instance (Api c)) size =
-    (not (tables.is_interface c) && not (tables.is_abstract c)) && cells_within most_classes c == size
-fits_as (Instance (Loaded number offset)) size = false
-fits_as BooleanArray size = false
-fits_as ByteArray size = nat_lt size 65536
-fits_as ShortArray size = false
-fits_as (ReferenceArray c) size = false
+-- what holds where each passes a test
+passed : {A : Type 0} (P : A → Type 0) (test : A → Bool) → ((x : A) → test x ≡ true → P x) → (xs : List A)
+    → list_all test xs ≡ true → AllByRecursion P xs
+passed P test each [] e = tt
+passed P test each (x ∷ xs) e =
+    let b = both (test x) (list_all test xs) e in (each x b.0, passed P test each xs b.1)
 
-abbrev fits : RuntimeObject → Bool
-fits wanted = fits_as wanted.type wanted.size
+-- an object of so many cells may be of a type: its class has objects, of so many cells, none of them a field's; an
+-- array is of bytes, and has no more components than a word counts
+abbrev FitsIn : List Shape → ObjectType → ℕ → Type 0
+FitsIn world (Instance c) size = (has_objects world c ≡ true) × AreBlank (fields_of world c) size
+FitsIn world BooleanArray size = ⊥
+FitsIn world ByteArray size = size < 65536
+FitsIn world ShortArray size = ⊥
+FitsIn world (ReferenceArray c) size = ⊥
 
-all_fit : list_all fits runtime_objects ≡ true
-unfolding most_classes
-all_fit = refl
+abbrev FitIn : List Shape → Type 0
+FitIn world = AllByRecursion (λ (x : RuntimeObject). FitsIn world x.type x.size) runtime_objects
 
--- an object of the runtime's, by its type
-abbrev of_type : ℕ → Mark → ℕ → ObjectType → RuntimeObject
-of_type number mark size type = record { number = number; type = type; mark = mark; size = size }
-
-module _ (world : List Shape) (there : (c : ApiClass) → StandsThere world c)
-    (have : (c : ApiClass) → has_objects world (Api c) ≡ (not (tables.is_interface c) && not (tables.is_abstract c)))
-    (heap : Heap TaggedValue) where
+module _ (world : List Shape) (heap : Heap TaggedValue) where
   zeros_fit : (n : ℕ) (fields : Fields) → AllByRecursion (λ f. f ≡ None) fields → length fields ≡ n
       → Pointwise (λ v field. is_cell world heap field v ≡ true) (replicate n (Word 0)) fields
   zeros_fit zero [] blank e = tt
@@ -131,36 +126,114 @@ module _ (world : List Shape) (there : (c : ApiClass) → StandsThere world c)
   zeros_fit zero (f ∷ fields) blank e = absurd (omega (arith, e))
   zeros_fit (suc n) [] blank e = absurd (omega (arith, e))
 
-  by_type : (number : ℕ) (mark : Mark) (size : ℕ) (type : ObjectType) → fits_as type size ≡ true
-      → ObjectTyped world heap (made (of_type number mark size type))
-  by_type number mark size (Instance (Api c)) e =
-      let b = both (not (tables.is_interface c) && not (tables.is_abstract c)) (cells_within most_classes c == size) e in
-      let fields = all_blank world there most_classes c in record {
-        made = have c ∙ b.0;
-        cells = zeros_fit size (fields_within world most_classes (Api c)) fields.blank
-            (fields.counted ∙ eqb-true (cells_within most_classes c) size b.1);
-        counted = λ is. absurd cc;
-      }
-  by_type number mark size (Instance (Loaded home offset)) e = absurd cc
-  by_type number mark size BooleanArray e = absurd cc
-  by_type number mark size ByteArray e =
-      let few = ltb-true size 65536 e in
+  by_type : (number : ℕ) (mark : Mark) (size : ℕ) (type : ObjectType) → FitsIn world type size
+      → ObjectTyped world heap (made (record { number = number; type = type; mark = mark; size = size }))
+  by_type number mark size (Instance c) fits = record {
+    made = fits.0;
+    cells = zeros_fit size (fields_of world c) (fits.1).blank (fits.1).counted;
+    counted = λ is. absurd cc;
+  }
+  by_type number mark size BooleanArray fits = absurd fits
+  by_type number mark size ByteArray fits =
       let count = length-replicate size (Word 0) in
-      record { made = refl; cells = zeros_are_bytes size; counted = λ is. omega (arith, few, count) }
-  by_type number mark size ShortArray e = absurd cc
-  by_type number mark size (ReferenceArray c) e = absurd cc
+      record { made = refl; cells = zeros_are_bytes size; counted = λ is. omega (arith, fits, count) }
+  by_type number mark size ShortArray fits = absurd fits
+  by_type number mark size (ReferenceArray c) fits = absurd fits
 
-  typed_each : (xs : List RuntimeObject) → list_all fits xs ≡ true
+  typed_each : (xs : List RuntimeObject) → AllByRecursion (λ (x : RuntimeObject). FitsIn world x.type x.size) xs
       → AllByRecursion (ObjectTyped world heap) (map made xs)
-  typed_each [] e = tt
-  typed_each (x ∷ xs) e =
-      let b = both (fits x) (list_all fits xs) e in
-      (by_type x.number x.mark x.size x.type b.0, typed_each xs b.1)
+  typed_each [] fit = tt
+  typed_each (x ∷ xs) fit = (by_type x.number x.mark x.size x.type fit.0, typed_each xs fit.1)
 
-pub new_heap_typed : (world : List Shape) → ((c : ApiClass) → StandsThere world c)
-    → ((c : ApiClass) → has_objects world (Api c) ≡ (not (tables.is_interface c) && not (tables.is_abstract c)))
-    → HeapTyped world new_heap
-new_heap_typed world there have = typed_each world there have new_heap runtime_objects all_fit
+-- where they fit they are typed
+new_heap_fits : (world : List Shape) → FitIn world → HeapTyped world new_heap
+new_heap_fits world fit = typed_each world new_heap runtime_objects fit
+
+-- ---- they fit by the API's tables, in each world in which the API's classes stand
+
+abbrev fits_api : ObjectType → ℕ → Bool
+fits_api (Instance (Api c)) size =
+    (not (tables.is_interface c) && not (tables.is_abstract c)) && cells_within most_classes c == size
+fits_api (Instance (Loaded number offset)) size = false
+fits_api BooleanArray size = false
+fits_api ByteArray size = nat_lt size 65536
+fits_api ShortArray size = false
+fits_api (ReferenceArray c) size = false
+
+all_fit_api : list_all (λ (x : RuntimeObject). fits_api x.type x.size) runtime_objects ≡ true
+unfolding most_classes
+all_fit_api = refl
+
+abbrev HaveObjects : List Shape → Type 0
+HaveObjects world =
+    (c : ApiClass) → has_objects world (Api c) ≡ (not (tables.is_interface c) && not (tables.is_abstract c))
+
+module _ (world : List Shape) (there : (c : ApiClass) → StandsThere world c) (have : HaveObjects world) where
+  fits_by_tables : (type : ObjectType) (size : ℕ) → fits_api type size ≡ true → FitsIn world type size
+  fits_by_tables (Instance (Api c)) size e =
+      let b = both (not (tables.is_interface c) && not (tables.is_abstract c)) (cells_within most_classes c == size) e in
+      let fields = all_blank world there most_classes c in (
+        have c ∙ b.0,
+        record {
+          blank = fields.blank;
+          counted = fields.counted ∙ eqb-true (cells_within most_classes c) size b.1;
+        },
+      )
+  fits_by_tables (Instance (Loaded home offset)) size e = absurd cc
+  fits_by_tables BooleanArray size e = absurd cc
+  fits_by_tables ByteArray size e = ltb-true size 65536 e
+  fits_by_tables ShortArray size e = absurd cc
+  fits_by_tables (ReferenceArray c) size e = absurd cc
+
+  pub new_heap_typed : HeapTyped world new_heap
+  new_heap_typed =
+      new_heap_fits world
+      (passed (λ (x : RuntimeObject). FitsIn world x.type x.size) (λ (x : RuntimeObject). fits_api x.type x.size)
+      (λ x. fits_by_tables x.type x.size) runtime_objects all_fit_api)
+
+-- ---- they fit by computing, in a world that is given
+
+abbrev is_blank : Option (DeclaredType ClassName) → Bool
+is_blank None = true
+is_blank (Some declared) = false
+
+abbrev is_fit_in : List Shape → ObjectType → ℕ → Bool
+is_fit_in world (Instance c) size =
+    has_objects world c && (list_all is_blank (fields_of world c) && length (fields_of world c) == size)
+is_fit_in world BooleanArray size = false
+is_fit_in world ByteArray size = nat_lt size 65536
+is_fit_in world ShortArray size = false
+is_fit_in world (ReferenceArray c) size = false
+
+-- all of them
+abbrev pub all_fit_in : List Shape → Bool
+all_fit_in world = list_all (λ (x : RuntimeObject). is_fit_in world x.type x.size) runtime_objects
+
+blank_is : (f : Option (DeclaredType ClassName)) → is_blank f ≡ true → f ≡ None
+blank_is None e = refl
+blank_is (Some declared) e = absurd cc
+
+fits_by_computing : (world : List Shape) (type : ObjectType) (size : ℕ) → is_fit_in world type size ≡ true
+    → FitsIn world type size
+fits_by_computing world (Instance c) size e =
+    let a = both (has_objects world c) (list_all is_blank (fields_of world c) && length (fields_of world c) == size) e in
+    let b = both (list_all is_blank (fields_of world c)) (length (fields_of world c) == size) a.1 in (
+      a.0,
+      record {
+        blank = passed (λ f. f ≡ None) is_blank blank_is (fields_of world c) b.0;
+        counted = eqb-true (length (fields_of world c)) size b.1;
+      },
+    )
+fits_by_computing world BooleanArray size e = absurd cc
+fits_by_computing world ByteArray size e = ltb-true size 65536 e
+fits_by_computing world ShortArray size e = absurd cc
+fits_by_computing world (ReferenceArray c) size e = absurd cc
+
+pub computed_heap_typed : (world : List Shape) → all_fit_in world ≡ true → HeapTyped world new_heap
+computed_heap_typed world e =
+    new_heap_fits world
+    (passed (λ (x : RuntimeObject). FitsIn world x.type x.size) (λ (x : RuntimeObject). is_fit_in world x.type x.size)
+    (λ x. fits_by_computing world x.type x.size) runtime_objects e)
 
 -- ---- they are there
 

@@ -22,8 +22,9 @@ ghost use Rattle.jc_interp.specs.Accepted.{api_alone};
 ghost use Rattle.jc_interp.specs.Following.{MayRun};
 ghost use Rattle.jc_interp.specs.Machine.{Frame};
 ghost use Rattle.jc_interp.specs.Runtime.{HasRuntimeObjects};
-ghost use Rattle.jc_interp.specs.Typed.{HeapTyped, IsTypedBeside};
-ghost use Rattle.jc_interp.specs.TypedExamples.{idle_in, new_heap, new_machine};
+ghost use Rattle.jc_interp.specs.Typed.{HeapTyped, IsTyped, IsTypedBeside};
+ghost use Rattle.jc_interp.specs.TypedExamples.{applet_body, applet_world, idle_in, install_frame, new_heap, new_machine};
+ghost use Rattle.jc_link.specs.Linked.{IsResolved};
 
 use jc_link::built_worlds_have_the_api;
 use jc_step::api_classes_have_objects;
@@ -149,3 +150,10 @@ pub fn new_machines_are_typed()
     built_worlds_have_the_api();
     api_classes_have_objects();
 }
+
+/// A machine that was just made and begins an applet's install is well typed, in a world with the applet's package,
+/// whose pool is resolved. It does nothing.
+pub fn first_frames_are_typed()
+    ensures resolved { IsResolved applet_world.shapes 2 applet_body }
+    ensures typed { IsTyped (idle_in applet_world) (new_machine ([] ∷ []) install_frame) }
+{}

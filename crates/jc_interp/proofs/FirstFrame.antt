@@ -116,7 +116,8 @@ abbrev IsFineHere : ℕ → Types → Type 0
 IsFineHere pc s = IsFineAt rules install typing listing pc s
 
 fine_made : IsFineHere 0 empty
-unfolding effect_of object_row applied after placed_at most_classes those_to each_below room_to number_to is_at_or_above chain
+unfolding effect_of object_row applied after placed_at most_classes those_to each_below room_to number_to
+    is_at_or_above chain
 fine_made = record {
   instr = makes;
   stands = refl;
@@ -130,7 +131,8 @@ fine_made = record {
 }
 
 fine_registered : IsFineHere 3 with_applet
-unfolding effect_of object_row applied after placed_at most_classes those_to each_below room_to number_to is_at_or_above chain
+unfolding effect_of object_row applied after placed_at most_classes those_to each_below room_to number_to
+    is_at_or_above chain
 fine_registered = record {
   instr = registers;
   stands = refl;
@@ -144,7 +146,8 @@ fine_registered = record {
 }
 
 fine_returned : IsFineHere 6 empty
-unfolding effect_of object_row applied after placed_at most_classes those_to each_below room_to number_to is_at_or_above chain
+unfolding effect_of object_row applied after placed_at most_classes those_to each_below room_to number_to
+    is_at_or_above chain
 fine_returned = record {
   instr = returns_nothing;
   stands = refl;
@@ -152,7 +155,11 @@ fine_returned = record {
 }
 
 install_typed : IsTyping rules install typing
-unfolding next_stable_switch next_lookup_switch next_wide_increment when_of next_wide_branch next_control next_branch operator_of next_arithmetic next_shuffle next_local next_constant next_word_operation next_operation instr_at word_kind_of next_tested_type next_creation next_interface next_invocation narrow_field_of wide_field_of next_narrow_field next_field reference_condition_of next_wide_condition next_condition next_array next_reference most_classes those_to each_below room_to number_to is_at_or_above chain
+unfolding next_stable_switch next_lookup_switch next_wide_increment when_of next_wide_branch next_control
+    next_branch operator_of next_arithmetic next_shuffle next_local next_constant next_word_operation next_operation
+    instr_at word_kind_of next_tested_type next_creation next_interface next_invocation narrow_field_of wide_field_of
+    next_narrow_field next_field reference_condition_of next_wide_condition next_condition next_array next_reference
+    most_classes those_to each_below room_to number_to is_at_or_above chain
 install_typed = record {
   listing = listing;
   whole = (refl, refl, (refl, refl, (refl, refl, refl)));
@@ -202,7 +209,8 @@ applet_statics = record {
   count = refl;
   typed = by_number;
   present = λ place declared e. absurd (none-some declared
-      (sym (ap (option_and_then (field_type_of applet_world.shapes place.home)) (no_static place.home place.offset)) ∙ e));
+      (sym (ap (option_and_then (field_type_of applet_world.shapes place.home)) (no_static place.home place.offset))
+      ∙ e));
 }
   where
     by_number : (number : ℕ) (fields : List StaticValue) → of_package ([] ∷ []) number ≡ Some fields

@@ -87,7 +87,8 @@ module _ (world : List Shape) (there : (c : ApiClass) → StandsThere world c) w
   all_blank zero c = record { blank = tt; counted = refl }
   all_blank (suc n) c =
       let above = subst
-      (λ o. AreBlank (option_map_or (fields_within world n) o []) (option_map_or (cells_within n) (tables.superclass_of c) 0))
+      (λ o. AreBlank (option_map_or (fields_within world n) o [])
+      (option_map_or (cells_within n) (tables.superclass_of c) 0))
       (sym (there c).superclass) (blank_above n (all_blank n) (tables.superclass_of c)) in
       joined (option_map_or (fields_within world n) (superclass_of world (Api c)) []) (own_fields world (Api c))
       (option_map_or (cells_within n) (tables.superclass_of c) 0) (tables.size_of c) above (own_blank c)
@@ -171,7 +172,8 @@ HaveObjects world =
 module _ (world : List Shape) (there : (c : ApiClass) → StandsThere world c) (have : HaveObjects world) where
   fits_by_tables : (type : ObjectType) (size : ℕ) → fits_api type size ≡ true → FitsIn world type size
   fits_by_tables (Instance (Api c)) size e =
-      let b = both (not (tables.is_interface c) && not (tables.is_abstract c)) (cells_within most_classes c == size) e in
+      let b = both (not (tables.is_interface c) && not (tables.is_abstract c))
+      (cells_within most_classes c == size) e in
       let fields = all_blank world there most_classes c in (
         have c ∙ b.0,
         record {
@@ -216,7 +218,8 @@ blank_is (Some declared) e = absurd cc
 fits_by_computing : (world : List Shape) (type : ObjectType) (size : ℕ) → is_fit_in world type size ≡ true
     → FitsIn world type size
 fits_by_computing world (Instance c) size e =
-    let a = both (has_objects world c) (list_all is_blank (fields_of world c) && length (fields_of world c) == size) e in
+    let a = both (has_objects world c)
+    (list_all is_blank (fields_of world c) && length (fields_of world c) == size) e in
     let b = both (list_all is_blank (fields_of world c)) (length (fields_of world c) == size) a.1 in (
       a.0,
       record {

@@ -23,7 +23,8 @@ ghost use Rattle.jc_interp.specs.Following.{MayRun};
 ghost use Rattle.jc_interp.specs.Machine.{Frame};
 ghost use Rattle.jc_interp.specs.Runtime.{HasRuntimeObjects};
 ghost use Rattle.jc_interp.specs.Typed.{HeapTyped, IsTyped, IsTypedBeside};
-ghost use Rattle.jc_interp.specs.TypedExamples.{applet_body, applet_world, idle_in, install_frame, new_heap, new_machine};
+ghost use Rattle.jc_interp.specs.TypedExamples.{applet_body, applet_world, idle_in, install_frame};
+ghost use Rattle.jc_interp.specs.TypedExamples.{new_heap, new_machine};
 ghost use Rattle.jc_link.specs.Linked.{IsResolved};
 
 use jc_link::built_worlds_have_the_api;

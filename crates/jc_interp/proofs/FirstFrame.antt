@@ -49,48 +49,48 @@ applet_resolved = refl
 
 -- ---- install, as the check sees it
 
-abbrev applet_linked : Linked
+abbrev pub applet_linked : Linked
 applet_linked = linked_as applet_world 1 applet_body
 
-abbrev rules : Rules
+abbrev pub rules : Rules
 rules = package_rules applet_linked
 
-abbrev install_code : MethodBody
+abbrev pub install_code : MethodBody
 install_code =
     record { offset = 1; code_offset = 3; code = 0x8F ∷ 0 ∷ 0 ∷ 0x8B ∷ 0 ∷ 1 ∷ 0x7A ∷ []; handlers = [] }
 
-abbrev install : Method
+abbrev pub install : Method
 install = method_of applet_linked install_code
 
 -- its instructions: the applet is made, it is registered, and install returns
-abbrev makes : PlacedInstr
+abbrev pub makes : PlacedInstr
 makes = record { pc = 0; instr = record { operation = OnObjects (Create (creations.Object 0)); next_pc = 3 } }
 
-abbrev registers : PlacedInstr
+abbrev pub registers : PlacedInstr
 registers = record { pc = 3; instr = record { operation = OnObjects (Invoke (Virtual 1)); next_pc = 6 } }
 
-abbrev returns_nothing : PlacedInstr
+abbrev pub returns_nothing : PlacedInstr
 returns_nothing = record { pc = 6; instr = record { operation = OnObjects ReturnVoid; next_pc = 7 } }
 
-abbrev listing : List PlacedInstr
+abbrev pub listing : List PlacedInstr
 listing = makes ∷ registers ∷ returns_nothing ∷ []
 
 -- its states: without an operand, and with the applet that was made
-abbrev arguments : List Ty
+abbrev pub arguments : List Ty
 arguments = types.ByteArray ∷ types.Word ∷ types.Word ∷ []
 
-abbrev empty : Types
+abbrev pub empty : Types
 empty = record { locals = arguments; operands = [] }
 
-abbrev with_applet : Types
+abbrev pub with_applet : Types
 with_applet = record { locals = arguments; operands = types.Class (Loaded 1 0) ∷ [] }
 
-abbrev typing : Typing
+abbrev pub typing : Typing
 typing pc =
     if pc == 0 then Some empty else if pc == 3 then Some with_applet else if pc == 6 then Some empty else None
 
 -- what holds of the three states holds of each that the typing has
-by_state : (P : ℕ → Types → Type 0) → P 0 empty → P 3 with_applet → P 6 empty → (pc : ℕ) (t : Types)
+pub by_state : (P : ℕ → Types → Type 0) → P 0 empty → P 3 with_applet → P 6 empty → (pc : ℕ) (t : Types)
     → typing pc ≡ Some t → P pc t
 by_state P a b c pc t e = first (pc == 0) refl e
   where
@@ -154,7 +154,7 @@ fine_returned = record {
   fine = record { handled = tt; after = empty; effect = refl; branches = tt; falls = λ e. absurd cc };
 }
 
-install_typed : IsTyping rules install typing
+pub install_typed : IsTyping rules install typing
 unfolding next_stable_switch next_lookup_switch next_wide_increment when_of next_wide_branch next_control
     next_branch operator_of next_arithmetic next_shuffle next_local next_constant next_word_operation next_operation
     instr_at word_kind_of next_tested_type next_creation next_interface next_invocation narrow_field_of wide_field_of
@@ -167,7 +167,7 @@ install_typed = record {
   each = by_state IsFineHere fine_made fine_registered fine_returned;
 }
 
-install_shaped : IsShaped install typing
+pub install_shaped : IsShaped install typing
 unfolding most_classes those_to each_below room_to number_to is_at_or_above chain
 install_shaped =
     by_state (λ pc t. HasShape install t) (record { locals = refl; operands = omega arith })

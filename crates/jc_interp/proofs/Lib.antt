@@ -1,5 +1,7 @@
 mod Accepting
 mod ApiResults
+mod AppletCarried
+mod AppletKnown
 mod FirstFrame
 mod HavingCode
 mod IdleLaw

@@ -15,7 +15,7 @@ ghost use Rattle.jc_words.specs.Values.{Null, Ref, TaggedValue, Unset, Word};
 ghost use Rattle.jc_link.specs.Applet.{applet};
 ghost use Rattle.jc_store.specs.Heap.{Heap};
 ghost use Rattle.jc_types.specs.declared.ty.Ty.{Ty};
-ghost use Rattle.jc_api.specs.Bound.{Bound};
+ghost use Rattle.jc_api.specs.Bound.{Bound, default_binding};
 ghost use Rattle.jc_api.specs.NoClash.{HasNoClash};
 ghost use Rattle.jc_link.specs.Built.{IsBuilt};
 ghost use Rattle.jc_interp.specs.Accepted.{api_alone};
@@ -27,7 +27,7 @@ ghost use Rattle.jc_interp.specs.TypedExamples.{applet_body, applet_world, idle_
 ghost use Rattle.jc_interp.specs.TypedExamples.{new_heap, new_machine};
 ghost use Rattle.jc_link.specs.Linked.{IsResolved};
 
-use jc_link::built_worlds_have_the_api;
+use jc_link::{an_applet_is_well_formed, built_worlds_have_the_api};
 use jc_step::api_classes_have_objects;
 
 /// An applet is installed: its object is made, and registers itself. It does nothing.
@@ -157,4 +157,7 @@ pub fn new_machines_are_typed()
 pub fn first_frames_are_typed()
     ensures resolved { IsResolved applet_world.shapes 2 applet_body }
     ensures typed { IsTyped (idle_in applet_world) (new_machine ([] ∷ []) install_frame) }
-{}
+    ensures runs { HasNoClash default_binding → MayRun (idle_in applet_world) }
+{
+    an_applet_is_well_formed();
+}

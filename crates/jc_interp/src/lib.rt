@@ -8,8 +8,8 @@ mod member;
 mod natives;
 
 pub use examples::{
-    callback_runs, calls_run, install_runs, natives_run, new_machines_are_typed,
-    operands_are_written, runtime_objects_fit, stuck_runs, throws_run,
+    callback_runs, calls_run, first_frames_are_typed, install_runs, natives_run,
+    new_machines_are_typed, operands_are_written, runtime_objects_fit, stuck_runs, throws_run,
 };
 pub use idle::IdleNatives;
 pub use laws::{

@@ -42,7 +42,7 @@ pub bound_some : {A B : Type 0} (f : A → Option B) (o : Option A) (y : B) → 
 bound_some f None y e = absurd (none-some y e)
 bound_some f (Some x) y e = (x, refl, e)
 
-mapped_some : {A B : Type 0} (f : A → B) (o : Option A) (y : B) → option_map f o ≡ Some y
+pub mapped_some : {A B : Type 0} (f : A → B) (o : Option A) (y : B) → option_map f o ≡ Some y
     → (x : A) × (o ≡ Some x) × (f x ≡ y)
 mapped_some f None y e = absurd (none-some y e)
 mapped_some f (Some x) y e = (x, refl, same_Some (f x) y e)

@@ -1,3 +1,9 @@
+mod Accepting
 mod ApiResults
+mod AppletCarried
+mod AppletKnown
+mod FirstFrame
 mod HavingCode
 mod IdleLaw
+mod NewMachines
+mod Staying

@@ -1,12 +1,18 @@
 -- The worlds whose packages a machine runs: each loaded package was linked, and its code was checked.
-use Rattle.std.specs.Prelude.{◌≡◌, ℕ, suc, take, false, Some, IsSome}
+use Rattle.std.specs.Prelude.{◌≡◌, ℕ, suc, [], take, false, Some, IsSome}
+use Rattle.jc_api.specs.Bound.{Bound}
 use Rattle.jc_cap_method.specs.declared.header.MethodHeader.{MethodHeader}
 use Rattle.jc_check.specs.Checked.{IsPackageCarried, IsPackageTyped}
+use Rattle.jc_classes.specs.Api.{api_world}
 use Rattle.jc_classes.specs.Members.{DeclaredMethod}
 use Rattle.jc_link.specs.Linked.{IsWorld, Linked, LinkedBody, World}
 use Rattle.jc_names.specs.Names.{home_at}
 use Rattle.jc_interp.specs.Lookup.{body_at, code_at, declared_at}
 use Rattle.jc_interp.specs.Machine.{MethodPlace}
+
+-- the world of the API's packages alone
+abbrev pub api_alone : Bound → World
+api_alone bound = record { shapes = api_world bound; bodies = [] }
 
 -- a loaded package as it was linked: the last of the world of those before it
 abbrev pub linked_as : World → ℕ → LinkedBody → Linked

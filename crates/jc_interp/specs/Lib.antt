@@ -19,3 +19,4 @@ pub mod WordNatives
 pub mod Idle
 pub mod ExamplePackages
 pub mod Examples
+pub mod TypedExamples

@@ -15,6 +15,20 @@ ghost use Rattle.jc_words.specs.Values.{Null, Ref, TaggedValue, Unset, Word};
 ghost use Rattle.jc_link.specs.Applet.{applet};
 ghost use Rattle.jc_store.specs.Heap.{Heap};
 ghost use Rattle.jc_types.specs.declared.ty.Ty.{Ty};
+ghost use Rattle.jc_api.specs.Bound.{Bound, default_binding};
+ghost use Rattle.jc_api.specs.NoClash.{HasNoClash};
+ghost use Rattle.jc_link.specs.Built.{IsBuilt};
+ghost use Rattle.jc_interp.specs.Accepted.{api_alone};
+ghost use Rattle.jc_interp.specs.Following.{MayRun};
+ghost use Rattle.jc_interp.specs.Machine.{Frame};
+ghost use Rattle.jc_interp.specs.Runtime.{HasRuntimeObjects};
+ghost use Rattle.jc_interp.specs.Typed.{HeapTyped, IsTyped, IsTypedBeside};
+ghost use Rattle.jc_interp.specs.TypedExamples.{applet_body, applet_world, idle_in, install_frame};
+ghost use Rattle.jc_interp.specs.TypedExamples.{new_heap, new_machine};
+ghost use Rattle.jc_link.specs.Linked.{IsResolved};
+
+use jc_link::{an_applet_is_well_formed, built_worlds_have_the_api};
+use jc_step::api_classes_have_objects;
 
 /// An applet is installed: its object is made, and registers itself. It does nothing.
 pub fn install_runs()
@@ -123,3 +137,27 @@ pub fn throws_run()
     ensures a_cast_passes { probed_on 0 250 ≡ record { touches = record { active = 1; access = CheckCast; object = 11; verdict = Allowed } ∷ []; end = a_value (Some (Word 1)) } }
     ensures a_cast_fails { probed_on 30 250 ≡ record { touches = record { active = 1; access = CheckCast; object = 11; verdict = Allowed } ∷ []; end = an_object 3 } }
 {}
+
+/// A machine that was just made, with the runtime's own objects alone: these are there, and are typed in each world
+/// that is built; and in the world of the API alone the machine is well typed beside whatever frame it has, and may run
+/// with native members that do nothing. It does nothing.
+pub fn new_machines_are_typed()
+    ensures there { HasRuntimeObjects new_heap }
+    ensures objects { (world : List Shape) → IsBuilt world → HeapTyped world new_heap }
+    ensures beside { (bound : Bound) → HasNoClash bound → (frame : Frame)
+        → IsTypedBeside (idle_in (api_alone bound)) (new_machine [] frame) }
+    ensures runs { (bound : Bound) → HasNoClash bound → MayRun (idle_in (api_alone bound)) }
+{
+    built_worlds_have_the_api();
+    api_classes_have_objects();
+}
+
+/// A machine that was just made and begins an applet's install is well typed, in a world with the applet's package,
+/// whose pool is resolved. It does nothing.
+pub fn first_frames_are_typed()
+    ensures resolved { IsResolved applet_world.shapes 2 applet_body }
+    ensures typed { IsTyped (idle_in applet_world) (new_machine ([] ∷ []) install_frame) }
+    ensures runs { HasNoClash default_binding → MayRun (idle_in applet_world) }
+{
+    an_applet_is_well_formed();
+}

@@ -24,7 +24,7 @@ api_is_accepted bound apart = record {
 }
 
 -- what stands in a list with one more at its end stood there, or is the last
-placed : {A : Type 0} (xs : List A) (y x : A) (n : ℕ) → slice_get (xs ++ y ∷ []) n ≡ Some x
+pub placed : {A : Type 0} (xs : List A) (y x : A) (n : ℕ) → slice_get (xs ++ y ∷ []) n ≡ Some x
     → ((slice_get xs n ≡ Some x) × (n < length xs)) ⊎ ((n ≡ length xs) × (y ≡ x))
 placed [] y x zero e = inr (refl, same_Some y x e)
 placed [] y x (suc n) e = absurd (none-some x e)

@@ -3,6 +3,7 @@ mod ApiResults
 mod AppletCarried
 mod AppletKnown
 mod FirstFrame
+mod GrownWorlds
 mod HavingCode
 mod IdleLaw
 mod NewMachines

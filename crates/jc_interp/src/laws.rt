@@ -10,9 +10,12 @@ ghost use Rattle.jc_interp.specs.Lookup.{body_at, code_at};
 ghost use Rattle.jc_interp.specs.Machine.{MethodPlace};
 ghost use Rattle.jc_interp.specs.Natives.{KeepsObjects};
 ghost use Rattle.jc_interp.specs.Runtime.{HasRuntimeObjects};
-ghost use Rattle.jc_link.specs.Linked.{IsBoundTo, IsWorld, Linked, LinkedBody, World, with_linked};
+ghost use Rattle.jc_link.specs.Linked.{IsBoundTo, IsLast, IsWorld, Linked, LinkedBody, World, with_linked};
 ghost use Rattle.jc_store.specs.Heap.{Heap};
 ghost use Rattle.jc_words.specs.Values.{TaggedValue};
+
+use jc_classes::growing_keeps_lookups;
+use jc_link::growing_keeps_linking;
 
 /// In a world each method of a loaded package's classes that isn't abstract has code. It does nothing.
 #[tactic(auto, using(crate::proofs::HavingCode::have_code))]
@@ -27,14 +30,16 @@ pub fn accepted_methods_are_typed()
         → IsMethodTyped (linked_as w place.number body) code }
 {}
 
-/// The world of the API alone is accepted. So is an accepted world with a package behind it that was bound to it as it
-/// stands, that some certificate carries, and whose methods are well typed. That it is a world with that package isn't
-/// shown here: it is what `World::bodies` says of the world that `World::add` leaves. It does nothing.
+/// The world of the API alone is accepted. So is an accepted world with a linked package behind it that was bound to it
+/// as it stands, that some certificate carries, and whose methods are well typed. It does nothing.
 pub fn accepted_worlds_grow()
     ensures api { (bound : Bound) → HasNoClash bound → IsAccepted (api_alone bound) }
-    ensures grown { (w : World) (l : Linked) → IsAccepted w → IsBoundTo w l → IsWorld (with_linked w l)
-        → IsPackageCarried l → IsPackageTyped l → IsAccepted (with_linked w l) }
-{}
+    ensures grown { (w : World) (l : Linked) → IsAccepted w → IsBoundTo w l → IsLast l → IsPackageCarried l
+        → IsPackageTyped l → IsAccepted (with_linked w l) }
+{
+    growing_keeps_lookups();
+    growing_keeps_linking();
+}
 
 /// Where each object stays, as it does behind a native member, the runtime's own objects stay. It does nothing.
 pub fn runtime_objects_stay()

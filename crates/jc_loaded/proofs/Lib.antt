@@ -5,3 +5,4 @@ mod Numbering
 mod Entering
 mod Finding
 mod Covering
+mod Naming

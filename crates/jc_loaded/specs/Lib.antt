@@ -2,3 +2,5 @@ pub mod Methods
 pub mod PrivateLaid
 pub mod Entries
 pub mod PrivateEntries
+pub mod Classes
+pub mod PrivateClasses

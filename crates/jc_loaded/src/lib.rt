@@ -1,6 +1,7 @@
 //! What a machine runs of loaded packages, one step from a name to what it names.
 #![tactic(auto)]
 
+mod classes;
 mod entries;
 mod entry;
 mod handler;
@@ -11,6 +12,7 @@ mod methods;
 mod numbers;
 mod row;
 
+pub use classes::{ClassNumber, Classes};
 pub use entries::Entries;
 pub use entry::Entry;
 pub use handler::{Caught, LoadedHandler};

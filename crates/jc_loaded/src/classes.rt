@@ -194,6 +194,13 @@ impl Classes {
         self.names.len() == 0
     }
 
+    /// The names of all.
+    pub fn names(&self) -> &[ClassName]
+        ensures { result.now ≡ self.now }
+    {
+        &self.names
+    }
+
     /// The name of the class with a number.
     #[inline]
     pub fn name(&self, number: ClassNumber) -> ClassName

@@ -11,6 +11,7 @@ mod loading;
 mod methods;
 mod numbers;
 mod row;
+mod superclasses;
 
 pub use classes::{ClassNumber, Classes};
 pub use entries::Entries;
@@ -19,3 +20,4 @@ pub use handler::{Caught, LoadedHandler};
 pub use laws::{loaded_handlers_cover_the_same, loaded_methods_are_found};
 pub use methods::{MethodNumber, Methods};
 pub use row::LoadedMethod;
+pub use superclasses::Superclasses;

@@ -6,3 +6,4 @@ mod Entering
 mod Finding
 mod Covering
 mod Naming
+mod Calling

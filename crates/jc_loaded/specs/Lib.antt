@@ -4,3 +4,5 @@ pub mod Entries
 pub mod PrivateEntries
 pub mod Classes
 pub mod PrivateClasses
+pub mod Called
+pub mod PrivateCalled

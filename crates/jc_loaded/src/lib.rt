@@ -12,6 +12,7 @@ mod methods;
 mod numbers;
 mod row;
 mod superclasses;
+mod virtuals;
 
 pub use classes::{ClassNumber, Classes};
 pub use entries::Entries;
@@ -21,3 +22,4 @@ pub use laws::{loaded_handlers_cover_the_same, loaded_methods_are_found};
 pub use methods::{MethodNumber, Methods};
 pub use row::LoadedMethod;
 pub use superclasses::Superclasses;
+pub use virtuals::{Called, VirtualMethods};

@@ -7,3 +7,4 @@ mod Finding
 mod Covering
 mod Naming
 mod Calling
+mod Above

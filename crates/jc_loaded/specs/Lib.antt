@@ -6,3 +6,5 @@ pub mod Classes
 pub mod PrivateClasses
 pub mod Called
 pub mod PrivateCalled
+pub mod Supertypes
+pub mod PrivateSupertypes

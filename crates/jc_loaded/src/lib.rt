@@ -12,6 +12,7 @@ mod methods;
 mod numbers;
 mod row;
 mod superclasses;
+mod supertypes;
 mod virtuals;
 
 pub use classes::{ClassNumber, Classes};
@@ -22,4 +23,5 @@ pub use laws::{loaded_handlers_cover_the_same, loaded_methods_are_found};
 pub use methods::{MethodNumber, Methods};
 pub use row::LoadedMethod;
 pub use superclasses::Superclasses;
+pub use supertypes::Supertypes;
 pub use virtuals::{Called, VirtualMethods};

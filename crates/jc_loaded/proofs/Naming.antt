@@ -1,8 +1,7 @@
 -- Names of classes by number, and numbers by name.
-use Rattle.std.proofs.Common.{◌≡◌, ◌≢◌, ◌⊎◌, inl, inr, ℕ, zero, suc, ◌+◌, ◌<◌, ◌≤◌, ◌==◌, ◌&&◌, Bool, true, false}
-use Rattle.std.proofs.Common.{cond, List, [], ◌∷◌}
-use Rattle.std.proofs.Common.{◌++◌, length, take, drop, Option, Some, None, slice_get, get_or, unwrap_or, nat_lt, refl}
-use Rattle.std.proofs.Common.{sym, ap, ◌∙◌, arith}
+use Rattle.std.proofs.Common.{◌*◌, length-append, ◌≡◌, ◌≢◌, ◌⊎◌, inl, inr, ℕ, zero, suc, ◌+◌, ◌<◌, ◌≤◌, ◌==◌, ◌&&◌}
+use Rattle.std.proofs.Common.{Bool, true, false, cond, List, [], ◌∷◌, ◌++◌, length, take, drop, Option, Some, None}
+use Rattle.std.proofs.Common.{slice_get, get_or, unwrap_or, nat_lt, refl, sym, ap, ◌∙◌, arith}
 use Rattle.std.proofs.Math.Path.{fun_ext}
 use Rattle.std.proofs.lemmas.Bool.{ltb-true, ne_eqb}
 use Rattle.std.proofs.lemmas.Bool.Decides.{eqb_tells}
@@ -15,7 +14,9 @@ use Rattle.jc_api.specs.Class.{number_of}
 use Rattle.jc_names.specs.Names.{is_same_name, offset_of}
 use Rattle.jc_names.specs.declared.name.ClassName.{ClassName}
 use Rattle.jc_names.specs.declared.name.ClassName.TheVariants.{Api, Loaded}
-use Rattle.jc_loaded.specs.Classes.{class_number, names_from, names_in}
+use Rattle.jc_classes.specs.Limits.{IsSmall}
+use Rattle.jc_classes.specs.Members.{name_of}
+use Rattle.jc_loaded.specs.Classes.{class_names, class_number, names_from, names_in}
 use Rattle.jc_loaded.specs.PrivateClasses.{AreClassNumbers, AreNumbered, is_placed, table_of}
 use Rattle.jc_loaded.specs.PrivateLaid.{number_in}
 use Rattle.jc_loaded.proofs.Numbering.{first_more, or_none, take_one}
@@ -82,6 +83,33 @@ package_more shapes so_far total home all less =
     let one : home + 1 ≡ suc home = omega arith in
     ap (λ k. (so_far ++ option_map_or (names_in home) (slice_get shapes home) []) ++ names_from k (drop k shapes)) one
     ∙ one_package shapes so_far total home home all less
+
+-- ---- how many there are
+
+fewer : {A B : Type 0} (h : A → Option B) (xs : List A) → length (filter_map h xs) ≤ length xs
+fewer h [] = omega arith
+fewer h (x ∷ xs) = by_first (h x) (fewer h xs)
+  where
+    by_first : (o : Option _) → length (filter_map h xs) ≤ length xs
+        → length (cons_option o (filter_map h xs)) ≤ suc (length xs)
+    by_first None rest = omega (arith, rest)
+    by_first (Some b) rest = omega (arith, rest)
+
+names_few : (shapes : List Shape) (home : ℕ)
+    → ((i : ℕ) (shape : Shape) → slice_get shapes i ≡ Some shape → length shape.classes ≤ 255)
+    → length (names_from home shapes) ≤ 255 * length shapes
+names_few [] home few = omega arith
+names_few (s ∷ shapes) home few =
+    let a = length-append (names_in home s) (names_from (suc home) shapes) in
+    let b = fewer (name_of home) s.classes in let c = few zero s refl in
+    let d = names_few shapes (suc home) (λ i. few (suc i)) in
+    omega (arith, a, b, c, d)
+
+pub few_names : (world : List Shape) (names : List ClassName) → names ≡ class_names world → IsSmall world
+    → length names < 0x10000
+few_names world names are small =
+    let a = names_few world 0 small.classes in let b = small.packages in let c = ap (λ ns. length ns) are in
+    omega (arith, a, b, c)
 
 -- ---- numbers
 

@@ -3,6 +3,7 @@
 ghost use Rattle.std.specs.Prelude.{◌≡◌, ℕ, ◌<◌, ◌==◌, ◌&&◌, ◌++◌, [], length, slice_get, Some, if◌then◌else◌, IfOk};
 ghost use Rattle.std.specs.List.{filter_map};
 ghost use Rattle.std.specs.Option.{option_map_or, option_or, option_to_list};
+ghost use Rattle.jc_classes.specs.Limits.{IsSmall};
 ghost use Rattle.jc_classes.specs.Members.{name_of};
 ghost use Rattle.jc_loaded.specs.Classes.{class_names, class_number, names_in};
 ghost use Rattle.jc_loaded.specs.PrivateClasses.{AreClassNumbers, table_of};
@@ -15,9 +16,6 @@ use jc_link::World;
 use jc_names::{ClassName, PackagePlace};
 use std::alloc::{AllocError, Global};
 use std::marker::Model;
-
-/// How many classes have a number.
-const MOST_NUMBERS: usize = 0xFFFF;
 
 /// The number of a class or an interface of a world: its place among all of them.
 #[derive(Clone, Copy, Debug)]
@@ -110,7 +108,8 @@ fn put_package(
 /// The names of the classes of all packages.
 #[tactic(auto, using(crate::proofs::Naming::package_more))]
 fn names_of(alloc: Global, table: &ClassTable) -> Result<Vec<ClassName>, AllocError>
-    ensures { IfOk result (λ names. names.items ≡ class_names table.now) }
+    ensures names { IfOk result (λ names. names.items ≡ class_names table.now) }
+    ensures small { IsSmall table.now }
 {
     let mut names = Vec::new(alloc);
     for at in 0..table.len() {
@@ -168,13 +167,11 @@ impl Model for Classes {
 
 impl Classes {
     /// The classes of a world: for each package, in their order, those of its records.
+    #[tactic(auto, using(crate::proofs::Naming::few_names))]
     pub fn new(alloc: Global, world: &World) -> Result<Classes, AllocError>
         ensures { IfOk result (λ classes. classes ≡ class_names world.now.shapes) }
     {
         let names = names_of(alloc, world.table())?;
-        if names.len() > MOST_NUMBERS {
-            return Err(AllocError);
-        }
         let numbers = class_numbers_of(alloc, &names)?;
         Ok(Classes { names, numbers })
     }
@@ -196,7 +193,8 @@ impl Classes {
 
     /// The names of all.
     pub fn names(&self) -> &[ClassName]
-        ensures { result.now ≡ self.now }
+        ensures names { result.now ≡ self.now }
+        ensures few { length self.now < 0x10000 }
     {
         &self.names
     }

@@ -1,6 +1,7 @@
 //! What the classes of a world are below, by number.
 
 ghost use Rattle.std.specs.Prelude.{◌≡◌, ◌<◌, ◌==◌, ◌++◌, length, map, IfOk};
+ghost use Rattle.jc_classes.specs.Limits.{IsSmall};
 ghost use Rattle.jc_classes.specs.Subtype.{is_subtype};
 ghost use Rattle.jc_loaded.specs.PrivateSupertypes.{places_above, taken_if};
 ghost use Rattle.jc_loaded.specs.Supertypes.{AreSupertypes, has_number, is_listed};
@@ -39,10 +40,10 @@ impl NumberList {
 /// Whether a class is another one or below it.
 #[tactic(auto, using(crate::proofs::Above::same_answer))]
 fn is_subtype(table: &ClassTable, class: ClassName, above: ClassName) -> bool
+    requires small { IsSmall table.now }
     ensures { result ≡ is_subtype table.now class above }
 {
     found_subtypes_are_subtypes();
-    let _ = table.len();
     table.is_subclass(class, above)
 }
 
@@ -64,6 +65,7 @@ fn list_of(
     names: &[ClassName],
     class: ClassName,
 ) -> Result<NumberList, AllocError>
+    requires small { IsSmall table.now }
     requires few { length names.now < 0x10000 }
     ensures { IfOk result (λ list. list ≡ places_above table.now names.now class) }
 {
@@ -81,6 +83,7 @@ fn lists_of(
     all: &[ClassName],
     names: &[ClassName],
 ) -> Result<Vec<NumberList>, AllocError>
+    requires small { IsSmall table.now }
     requires few { length all.now < 0x10000 }
     ensures { IfOk result (λ lists. lists.items ≡ map (places_above table.now all.now) names.now) }
 {
@@ -112,8 +115,10 @@ impl Supertypes {
         ensures above { IfOk result (λ lists. AreSupertypes world.now.shapes classes.now lists) }
         ensures count { IfOk result (λ lists. length lists ≡ length classes.now) }
     {
-        let _ = classes.len();
-        let lists = lists_of(alloc, world.table(), classes.names(), classes.names())?;
+        let table = world.table();
+        // Only its contract counts: what always holds of a table.
+        let _count = table.len();
+        let lists = lists_of(alloc, table, classes.names(), classes.names())?;
         Ok(Supertypes { lists })
     }
 

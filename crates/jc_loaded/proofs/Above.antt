@@ -1,12 +1,16 @@
 -- The places of what classes are below.
 use Rattle.std.proofs.Common.{◌≡◌, ◌≢◌, ℕ, zero, suc, ◌+◌, ◌<◌, ◌||◌, Bool, true, false}
 use Rattle.std.proofs.Common.{List, [], ◌∷◌, ◌++◌, length, drop, map, Some, slice_get, get_or, unwrap_or}
-use Rattle.std.proofs.Common.{refl, sym, ap, ◌∙◌, arith, ◌↔◌}
+use Rattle.std.proofs.Common.{None, refl, sym, ap, ◌∙◌, arith, ◌↔◌}
 use Rattle.std.proofs.lemmas.Bool.{eq-eqb, ne_eqb}
 use Rattle.std.proofs.lemmas.Option.{slice_get-map}
 use Rattle.std.specs.Option.{option_map}
 use Rattle.jc_cap_desc.specs.Shape.{Shape}
-use Rattle.jc_classes.specs.Subtype.{is_subtype}
+use Rattle.jc_api.specs.declared.class.ApiClass.TheVariants.{Object}
+use Rattle.jc_classes.specs.Subtype.{IsOrderly, is_subtype}
+use Rattle.jc_classes.specs.World.{superclass_of}
+use Rattle.jc_link.specs.Sound.{IsSound}
+use Rattle.jc_names.specs.declared.name.ClassName.TheVariants.{Api}
 use Rattle.jc_names.specs.declared.name.ClassName.{ClassName}
 use Rattle.jc_loaded.specs.PrivateSupertypes.{places_above, places_from, taken_if}
 use Rattle.jc_loaded.specs.Supertypes.{AreSupertypes, has_number, is_listed}
@@ -88,3 +92,11 @@ pub same_answer : (a b : Bool) (P : Type 0) → (a ≡ true ↔ P) → (b ≡ tr
 same_answer true b P one found all = sym (all (one.0 refl))
 same_answer false true P one found all = one.1 (found refl)
 same_answer false false P one found all = refl
+
+-- ---- superclasses of a world
+
+pub orderly : (world : List Shape) → IsSound world → IsOrderly world
+orderly world sound = sound.superclasses.orderly
+
+pub top : (world : List Shape) → IsSound world → superclass_of world (Api Object) ≡ None
+top world sound = sound.superclasses.top

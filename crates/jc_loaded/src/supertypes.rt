@@ -2,13 +2,14 @@
 
 ghost use Rattle.std.specs.Prelude.{◌≡◌, ◌<◌, ◌==◌, ◌++◌, length, map, IfOk};
 ghost use Rattle.jc_classes.specs.Limits.{IsSmall};
-ghost use Rattle.jc_classes.specs.Subtype.{is_subtype};
+ghost use Rattle.jc_classes.specs.Subtype.{is_class_at, is_subtype};
+ghost use Rattle.jc_link.specs.Sound.{IsSound};
 ghost use Rattle.jc_loaded.specs.PrivateSupertypes.{places_above, taken_if};
 ghost use Rattle.jc_loaded.specs.Supertypes.{AreSupertypes, has_number, is_listed};
 
 use crate::classes::{ClassNumber, Classes};
 use jc_classes::{ClassTable, found_subtypes_are_subtypes};
-use jc_link::World;
+use jc_link::{World, built_worlds_are_sound};
 use jc_names::ClassName;
 use std::alloc::{AllocError, Global};
 use std::marker::Model;
@@ -37,14 +38,30 @@ impl NumberList {
     }
 }
 
-/// Whether a class is another one or below it.
-#[tactic(auto, using(crate::proofs::Above::same_answer))]
+/// Whether a class stands there, and not an interface.
+fn is_class_at(table: &ClassTable, class: ClassName) -> bool
+    ensures { result ≡ is_class_at table.now class }
+{
+    match table.class_at(class) {
+        Some(found) => found.is_class(),
+        None => false,
+    }
+}
+
+/// Whether a class is another one or below it. Below a class it is along superclasses, and they are walked; for an
+/// interface all classes are passed over.
+#[tactic(auto, using(crate::proofs::Above::same_answer, crate::proofs::Above::orderly, crate::proofs::Above::top))]
 fn is_subtype(table: &ClassTable, class: ClassName, above: ClassName) -> bool
     requires small { IsSmall table.now }
+    requires sound { IsSound table.now }
     ensures { result ≡ is_subtype table.now class above }
 {
     found_subtypes_are_subtypes();
-    table.is_subclass(class, above)
+    if is_class_at(table, above) {
+        table.is_class_below(class, above)
+    } else {
+        table.is_subclass(class, above)
+    }
 }
 
 /// Puts a number behind others, if it is to be taken.
@@ -66,6 +83,7 @@ fn list_of(
     class: ClassName,
 ) -> Result<NumberList, AllocError>
     requires small { IsSmall table.now }
+    requires sound { IsSound table.now }
     requires few { length names.now < 0x10000 }
     ensures { IfOk result (λ list. list ≡ places_above table.now names.now class) }
 {
@@ -84,6 +102,7 @@ fn lists_of(
     names: &[ClassName],
 ) -> Result<Vec<NumberList>, AllocError>
     requires small { IsSmall table.now }
+    requires sound { IsSound table.now }
     requires few { length all.now < 0x10000 }
     ensures { IfOk result (λ lists. lists.items ≡ map (places_above table.now all.now) names.now) }
 {
@@ -118,6 +137,7 @@ impl Supertypes {
         let table = world.table();
         // Only its contract counts: what always holds of a table.
         let _count = table.len();
+        built_worlds_are_sound();
         let lists = lists_of(alloc, table, classes.names(), classes.names())?;
         Ok(Supertypes { lists })
     }

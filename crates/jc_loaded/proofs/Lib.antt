@@ -5,3 +5,6 @@ mod Numbering
 mod Entering
 mod Finding
 mod Covering
+mod Naming
+mod Calling
+mod Above

@@ -35,12 +35,13 @@ first_more p xs y =
 
 -- ---- tables of numbers
 
-take_one : {A : Type 0} (xs : List A) (n : ℕ) (x : A) → slice_get xs n ≡ Some x → take (suc n) xs ≡ take n xs ++ x ∷ []
+pub take_one : {A : Type 0} (xs : List A) (n : ℕ) (x : A) → slice_get xs n ≡ Some x
+    → take (suc n) xs ≡ take n xs ++ x ∷ []
 take_one [] n x at = absurd cc
 take_one (y ∷ xs) zero x at = ap (λ k. unwrap_or k y ∷ []) at
 take_one (y ∷ xs) (suc n) x at = ap (λ ys. y ∷ ys) (take_one xs n x at)
 
-or_none : {A : Type 0} (o : Option A) → o ≡ option_or o None
+pub or_none : {A : Type 0} (o : Option A) → o ≡ option_or o None
 or_none None = refl
 or_none (Some x) = refl
 

@@ -97,7 +97,7 @@ fn make_package(
 }
 
 /// Puts a number at an offset of a package, where none is there.
-fn put_number(
+pub(crate) fn put_number(
     alloc: Global,
     tables: &mut Vec<OffsetTable>,
     package: usize,

@@ -1,5 +1,0 @@
-use Rattle.jc_interp.proofs.IdleLaw.{idle_is_lawful}
-use Rattle.jc_interp.proofs.idle.IdleNativesNatives.law.Goals as goal
-
-pub returns : goal.returns
-returns c = idle_is_lawful

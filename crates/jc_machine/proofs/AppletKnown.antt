@@ -1,0 +1,272 @@
+-- An applet's package behind the API's packages is what is known of a loaded package.
+use Rattle.std.proofs.Common.{◌≡◌, ℕ, zero, suc, ◌+◌, ◌<◌, ◌^◌, ◌==◌, Bool, true, false, cond, List, [], ◌∷◌}
+use Rattle.std.proofs.Common.{Option, Some}
+use Rattle.std.proofs.Common.{None, is_some, slice_get, refl, ap, ◌∙◌, subst, arith, eqb-true}
+use Rattle.std.proofs.lemmas.Option.{none-some, same_Some}
+use Rattle.std.specs.List.{find}
+use Rattle.std.specs.Option.{option_and_then, option_map}
+use Rattle.jc_api.specs.Bound.{default_binding}
+use Rattle.jc_api.specs.NoClash.{HasNoClash}
+use Rattle.jc_base.specs.declared.class_ref.ClassRef.TheVariants.{External}
+use Rattle.jc_base.specs.declared.declared_type.DeclaredType.TheVariants.{Byte, Short, Reference, ByteArray}
+use Rattle.jc_base.specs.declared.declared_type.ReturnType.TheVariants.{Void}
+use Rattle.jc_cap_class.specs.declared.record.RecordBody.TheVariants as Record
+use Rattle.jc_cap_data.specs.declared.applets.Applet.{Applet}
+use Rattle.jc_cap_desc.specs.Shape.{ClassShape, HasBody, HasConcrete, HasInstallMethod, HaveBodies, HaveHeaders}
+use Rattle.jc_cap_desc.specs.Shape.{InstallMethods, IsConcrete, IsOfClass, MethodBody, MethodShape, StandApart}
+use Rattle.jc_classes.specs.Api.{api_world}
+use Rattle.jc_classes.specs.Members.{DeclaredMethod, method_at, name_of}
+use Rattle.jc_classes.specs.Methods.{method_name, method_of_class}
+use Rattle.jc_link.specs.Applet.{applet}
+use Rattle.jc_link.specs.Built.IsBuilt.{api, loaded}
+use Rattle.jc_link.specs.Linked.{AreCoded, AreDeclared, AreHeaded, AreInstallable, HasDeclared, HasInstall}
+use Rattle.jc_link.specs.Linked.{IsKnown, IsLoadedAt, IsWorld, LinkedBody}
+use Rattle.jc_link.specs.WellFormed.{IsWellFormed}
+use Rattle.jc_names.specs.declared.name.ClassName.{ClassName}
+use Rattle.jc_names.specs.declared.name.ClassName.TheVariants.{Loaded}
+use Rattle.jc_machine.specs.TypedExamples.{applet_body, applet_world}
+use Rattle.jc_machine.proofs.ApiResults.{bound_some, mapped_some}
+use Rattle.jc_machine.proofs.FirstFrame.{applet_resolved, install_code}
+
+-- ---- its parts
+
+abbrev pub process_code : MethodBody
+process_code = record { offset = 10; code_offset = 12; code = 0x7A ∷ []; handlers = [] }
+
+abbrev bodies : List MethodBody
+bodies = install_code ∷ process_code ∷ []
+
+abbrev install_shape : MethodShape
+install_shape = record {
+  token = 0xFF;
+  is_static = true;
+  offset = 1;
+  header = Some (record { is_abstract = false; max_stack = 1; nargs = 3; max_locals = 0 });
+  signature = record { parameters = ByteArray ∷ Short ∷ Byte ∷ []; result = Void };
+}
+
+abbrev process_shape : MethodShape
+process_shape = record {
+  token = 5;
+  is_static = false;
+  offset = 10;
+  header = Some (record { is_abstract = false; max_stack = 0; nargs = 2; max_locals = 0 });
+  signature = record { parameters = Reference (External 0 6) ∷ []; result = Void };
+}
+
+abbrev applet_class : ClassShape
+applet_class = record {
+  offset = 0;
+  body = Record.Class (record {
+    superclass = Some (External 0 7);
+    declared_size = 0;
+    public_methods = record { base = 5; methods = 10 ∷ 0xFFFF ∷ 0xFFFF ∷ [] };
+    package_methods = record { base = 0; methods = [] };
+    interfaces = [];
+  });
+  is_abstract = false;
+  fields = [];
+  methods = install_shape ∷ process_shape ∷ [];
+}
+
+abbrev the_applet : Applet
+the_applet = record { aid = 0xF0 ∷ 1 ∷ 2 ∷ 3 ∷ 4 ∷ 1 ∷ []; install = 1 }
+
+-- what holds of both of two holds of each
+each_of_two : {A : Type 0} (P : ℕ → A → Type 0) (one other : A) → P 0 one → P 1 other → (n : ℕ) (x : A)
+    → slice_get (one ∷ other ∷ []) n ≡ Some x → P n x
+each_of_two P one other a b zero x e = subst (P 0) (same_Some one x e) a
+each_of_two P one other a b (suc zero) x e = subst (P 1) (same_Some other x e) b
+each_of_two P one other a b (suc (suc n)) x e = absurd (none-some x e)
+
+pub each_body : (P : ℕ → MethodBody → Type 0) → P 0 install_code → P 1 process_code → (n : ℕ) (b : MethodBody)
+    → slice_get bodies n ≡ Some b → P n b
+each_body P a b = each_of_two P install_code process_code a b
+
+each_of_class : (P : MethodShape → Type 0) → P install_shape → P process_shape → (m : MethodShape)
+    → IsOfClass applet.shape m → P m
+each_of_class P a b m h = by_place h.class_place h.class h.class_there h.there
+  where
+    by_place : (n : ℕ) (k : ClassShape) → slice_get (applet_class ∷ []) n ≡ Some k
+        → slice_get k.methods h.place ≡ Some m → P m
+    by_place zero k at there =
+        each_of_two (λ n m. P m) install_shape process_shape a b h.place m
+        (ap (λ (k : ClassShape). slice_get k.methods h.place) (same_Some applet_class k at) ∙ there)
+    by_place (suc n) k at there = absurd (none-some k at)
+
+-- ---- it was read
+
+install_concrete : IsConcrete install_shape
+install_concrete = record {
+  header = record { is_abstract = false; max_stack = 1; nargs = 3; max_locals = 0 };
+  there = refl;
+  concrete = refl;
+}
+
+process_concrete : IsConcrete process_shape
+process_concrete = record {
+  header = record { is_abstract = false; max_stack = 0; nargs = 2; max_locals = 0 };
+  there = refl;
+  concrete = refl;
+}
+
+install_of_class : IsOfClass applet.shape install_shape
+install_of_class =
+    record { class = applet_class; class_place = 0; class_there = refl; class_is = refl; place = 0; there = refl }
+
+process_of_class : IsOfClass applet.shape process_shape
+process_of_class =
+    record { class = applet_class; class_place = 0; class_there = refl; class_is = refl; place = 1; there = refl }
+
+install_has_body : HasBody bodies 1
+install_has_body = record { body = install_code; place = 0; there = refl; offset_is = refl }
+
+process_has_body : HasBody bodies 10
+process_has_body = record { body = process_code; place = 1; there = refl; offset_is = refl }
+
+apart : StandApart bodies
+apart = record {
+  differ = λ n k b c at there.
+      each_body (λ n b. b.offset ≡ c.offset → n ≡ k)
+      (each_body (λ k c. 1 ≡ c.offset → 0 ≡ k) (λ e. refl) (λ e. absurd (omega (arith, e))) k c there)
+      (each_body (λ k c. 10 ≡ c.offset → 1 ≡ k) (λ e. absurd (omega (arith, e))) (λ e. refl) k c there) n b at;
+  within = each_body (λ n b. suc b.offset < 2 ^ 16) (omega arith) (omega arith);
+}
+
+headers : HaveHeaders applet.shape
+headers zero i k m at is there =
+    each_of_two (λ n (m : MethodShape). is_some m.header ≡ true) install_shape process_shape refl refl i m
+    (ap (λ (k : ClassShape). slice_get k.methods i) (same_Some applet_class k at) ∙ there)
+headers (suc n) i k m at is there = absurd (none-some k at)
+
+have_bodies : HaveBodies applet
+have_bodies = record {
+  declared = each_body (λ n b. HasConcrete applet.shape b.offset)
+      (record { method = install_shape; of_class = install_of_class; offset_is = refl; concrete = install_concrete })
+      (record { method = process_shape; of_class = process_of_class; offset_is = refl; concrete = process_concrete });
+  coded = each_of_class (λ m. IsConcrete m → HasBody bodies m.offset) (λ c. install_has_body) (λ c. process_has_body);
+  differ = λ m n of_class also.
+      each_of_class (λ m. m.offset ≡ n.offset → m ≡ n)
+      (each_of_class (λ n. 1 ≡ n.offset → install_shape ≡ n) (λ e. refl) (λ e. absurd (omega (arith, e))) n also)
+      (each_of_class (λ n. 10 ≡ n.offset → process_shape ≡ n) (λ e. absurd (omega (arith, e))) (λ e. refl) n also)
+      m of_class;
+}
+
+-- of the one applet
+of_the_applet : (P : Applet → Type 0) → P the_applet → (applets : List Applet) (n : ℕ) (a : Applet)
+    → Some (the_applet ∷ []) ≡ Some applets → slice_get applets n ≡ Some a → P a
+of_the_applet P here applets n a e at =
+    by_place n (ap (λ applets. slice_get applets n) (same_Some (the_applet ∷ []) applets e) ∙ at)
+  where
+    by_place : (n : ℕ) → slice_get (the_applet ∷ []) n ≡ Some a → P a
+    by_place zero e = subst P (same_Some the_applet a e) here
+    by_place (suc n) e = absurd (none-some a e)
+
+installs : InstallMethods applet
+installs = of_the_applet (λ a. HasInstallMethod applet a.install) (record {
+  method = install_shape;
+  of_class = install_of_class;
+  offset_is = refl;
+  static = refl;
+  installs = refl;
+  coded = install_has_body;
+})
+
+-- ---- its methods where it stands
+
+abbrev declared : MethodShape → DeclaredMethod
+declared m = record { class = Loaded 1 0; method = m }
+
+only : {A : Type 0} (x y : A) (b : Bool) → cond b (Some x) None ≡ Some y → x ≡ y
+only x y true e = same_Some x y e
+only x y false e = absurd (none-some y e)
+
+abbrev declared_of : ℕ → ClassShape → Option DeclaredMethod
+declared_of offset k =
+    option_and_then
+    (λ (class : ClassName).
+    option_map (λ (m : MethodShape). record { class = class; method = m }) (method_of_class offset k)) (name_of 2 k)
+
+each_declared : (P : ℕ → DeclaredMethod → Type 0) → P 1 (declared install_shape) → P 10 (declared process_shape)
+    → (offset : ℕ) (d : DeclaredMethod) → method_at applet_world.shapes (method_name 2 offset) ≡ Some d → P offset d
+each_declared P a b offset d e =
+    let found = bound_some (declared_of offset)
+    (find (λ k. is_some (method_of_class offset k)) (applet_class ∷ [])) d e in
+    let is = only applet_class found.0 (is_some (method_of_class offset applet_class)) found.1 in
+    let here = mapped_some declared (method_of_class offset applet_class) d (ap (declared_of offset) is ∙ found.2) in
+    first here.0 here.2 (1 == offset) refl here.1
+  where
+    moved : (at : ℕ) (x m : MethodShape) → (at == offset) ≡ true → Some x ≡ Some m → declared m ≡ d
+        → P at (declared x) → P offset d
+    moved at x m there same is h =
+        subst (λ n. P n d) (eqb-true at offset there)
+        (subst (P at) (ap declared (same_Some x m same) ∙ is) h)
+
+    second : (m : MethodShape) → declared m ≡ d → (t : Bool) → (10 == offset) ≡ t
+        → cond t (Some process_shape) None ≡ Some m → P offset d
+    second m is true at e = moved 10 process_shape m at e is b
+    second m is false at e = absurd (none-some m e)
+
+    first : (m : MethodShape) → declared m ≡ d → (t : Bool) → (1 == offset) ≡ t
+        → cond t (Some install_shape) (cond (10 == offset) (Some process_shape) None) ≡ Some m → P offset d
+    first m is true at e = moved 1 install_shape m at e is a
+    first m is false at e = second m is (10 == offset) refl e
+
+headed : AreHeaded applet_world.shapes 2
+headed = each_declared (λ offset d. is_some d.method.header ≡ true) refl refl
+
+coded : AreCoded applet_world.shapes 2 bodies
+coded =
+    each_declared (λ offset d. IsConcrete d.method → HasBody bodies offset) (λ c. install_has_body)
+    (λ c. process_has_body)
+
+are_declared : AreDeclared applet_world.shapes 2 bodies
+are_declared = each_body (λ n b. HasDeclared applet_world.shapes 2 b.offset)
+    (record { declared = declared install_shape; there = refl; concrete = install_concrete })
+    (record { declared = declared process_shape; there = refl; concrete = process_concrete })
+
+installable : AreInstallable applet_world.shapes 2 applet_body.kept
+installable = of_the_applet (λ a. HasInstall applet_world.shapes 2 bodies a.install) (record {
+  declared = declared install_shape;
+  there = refl;
+  static = refl;
+  installs = refl;
+  coded = install_has_body;
+})
+
+-- ---- it is known
+
+module _ (fine : IsWellFormed (api_world default_binding) applet) where
+  was_loaded : IsLoadedAt applet_world.shapes 2 applet_body.kept
+  was_loaded = record {
+    «package» = applet;
+    there = refl;
+    fine = fine;
+    kept_is = refl;
+    apart = apart;
+    headers = headers;
+    bodies = have_bodies;
+    installs = installs;
+  }
+
+  known : IsKnown applet_world.shapes 2 applet_body
+  known = record {
+    loaded = was_loaded;
+    resolved = applet_resolved;
+    headed = headed;
+    coded = coded;
+    declared = are_declared;
+    installs = installable;
+  }
+
+  pub applet_is_world : HasNoClash default_binding → IsWorld applet_world
+  applet_is_world clear = record {
+    built = loaded (api_world default_binding) applet (api default_binding clear) fine;
+    count = refl;
+    known = by_place;
+  }
+    where
+      by_place : (n : ℕ) (body : LinkedBody) → slice_get applet_world.bodies n ≡ Some body
+          → IsKnown applet_world.shapes (2 + n) body
+      by_place zero body e = subst (IsKnown applet_world.shapes 2) (same_Some applet_body body e) known
+      by_place (suc n) body e = absurd (none-some body e)

@@ -1,0 +1,34 @@
+-- The worlds whose packages a machine runs: each loaded package was linked, and its code was checked.
+use Rattle.std.specs.Prelude.{◌≡◌, ℕ, suc, [], take, false, Some, IsSome}
+use Rattle.jc_api.specs.Bound.{Bound}
+use Rattle.jc_cap_method.specs.declared.header.MethodHeader.{MethodHeader}
+use Rattle.jc_check.specs.Checked.{IsPackageCarried, IsPackageTyped}
+use Rattle.jc_classes.specs.Api.{api_world}
+use Rattle.jc_classes.specs.Members.{DeclaredMethod}
+use Rattle.jc_link.specs.Linked.{IsWorld, Linked, LinkedBody, World}
+use Rattle.jc_names.specs.Names.{home_at}
+use Rattle.jc_machine.specs.Lookup.{body_at, code_at, declared_at}
+use Rattle.jc_machine.specs.Machine.{MethodPlace}
+
+-- the world of the API's packages alone
+abbrev pub api_alone : Bound → World
+api_alone bound = record { shapes = api_world bound; bodies = [] }
+
+-- a loaded package as it was linked: the last of the world of those before it
+abbrev pub linked_as : World → ℕ → LinkedBody → Linked
+linked_as w number body = record { world = take (suc (home_at number)) w.shapes; body = body }
+
+-- a loaded package that some certificate carries, and whose methods with code are well typed, as it was linked
+pub record IsAcceptedPackage (w : World) (number : ℕ) (body : LinkedBody) : Type 0 where
+  pub carried : IsPackageCarried (linked_as w number body)
+  pub typed : IsPackageTyped (linked_as w number body)
+
+-- each method of a loaded package's classes that isn't abstract has code
+abbrev pub HaveCode : World → Type 0
+HaveCode w = (place : MethodPlace) (d : DeclaredMethod) (header : MethodHeader) → declared_at w place ≡ Some d
+    → d.method.header ≡ Some header → header.is_abstract ≡ false → IsSome (code_at w place)
+
+-- the packages are linked, and each loaded one is accepted
+pub record IsAccepted (w : World) : Type 0 where
+  pub world : IsWorld w
+  pub packages : (number : ℕ) (body : LinkedBody) → body_at w number ≡ Some body → IsAcceptedPackage w number body

@@ -1,0 +1,178 @@
+-- What the examples of the defensive machine are run with: packages, objects, and natives that do next to nothing.
+use Rattle.std.specs.Prelude.{ℕ, Bool, true, false, ◌==◌, if◌then◌else◌, List, [], ◌∷◌, ◌++◌, length, map, Option, Some, None}
+use Rattle.std.specs.List.{list_all}
+use Rattle.jc_api.specs.Bound.{default_binding}
+use Rattle.jc_api.specs.declared.class.ApiClass.{ApiClass}
+use Rattle.jc_api.specs.declared.class.ApiClass.TheVariants.{ArithmeticException, ArrayStoreException, ClassCastException, ArrayIndexOutOfBoundsException, NegativeArraySizeException, NullPointerException, SecurityException, IsoException, SystemException, ApduException}
+use Rattle.jc_cap_desc.specs.Shape.{Package, Shape}
+use Rattle.jc_classes.specs.Api.{api_world}
+use Rattle.jc_names.specs.declared.name.ClassName.TheVariants as classes
+use Rattle.jc_names.specs.declared.name.MethodName.{MethodName}
+use Rattle.jc_names.specs.declared.name.MethodName.TheVariants.{Loaded}
+use Rattle.jc_link.specs.Kept.{kept_of}
+use Rattle.jc_link.specs.Linked.{LinkedBody, World}
+use Rattle.jc_store.specs.Heap.{Heap, Object}
+use Rattle.jc_store.specs.declared.kind.Mark.{Mark}
+use Rattle.jc_store.specs.declared.kind.Mark.TheVariants.{Plain, TemporaryEntryPoint}
+use Rattle.jc_store.specs.declared.kind.ObjectType.{ObjectType}
+use Rattle.jc_store.specs.declared.kind.ObjectType.TheVariants.{Instance, BooleanArray, ByteArray, ShortArray, ReferenceArray}
+use Rattle.jc_names.specs.declared.owner.Owner.{Owner}
+use Rattle.jc_firewall.specs.declared.access.Access.TheVariants.{InvokeVirtual}
+use Rattle.jc_firewall.specs.declared.access.Verdict.TheVariants.{Allowed}
+use Rattle.jc_machine.specs.Lookup.{fields_of}
+use Rattle.jc_machine.specs.Machine.{Calls, Ends, Gives, Limits, Machine, NativeAnswer, NativeCall, Natives, Next, Outcome, Stuck, Surroundings, Throws, Touch, UsedUp}
+use Rattle.jc_machine.specs.Runtime.{RuntimeObject, runtime_objects}
+use Rattle.jc_machine.specs.Step.{defensive_step, CallEnd, Gave, RanOut, Start, Threw, WasStuck, runtime_call}
+use Rattle.jc_machine.specs.ExamplePackages.{probe}
+use Rattle.jc_words.specs.Values.{Null, Ref, TaggedValue, Unset, Word}
+
+-- ---- worlds
+
+-- a package as the machine looks things up in it
+abbrev pub body_in : Package → LinkedBody
+body_in p = record { kept = kept_of p.body; targets = [] }
+
+-- packages behind those of the API
+abbrev pub world_with : List Package → World
+world_with packages = record { shapes = api_world default_binding ++ map (λ (p : Package). p.shape) packages; bodies = map body_in packages }
+
+-- natives that give nothing, and keep all as it is
+abbrev pub quiet : Natives (Unit {0})
+quiet = record {
+  answer = λ w call. record { touches = []; heap = call.heap; runtime = call.runtime; ends = Gives None };
+  fits = λ w heap runtime. true;
+}
+
+-- natives of which the one that asks for a shareable object has that of object 11 called, and that one is accessed
+abbrev pub asked_natives : ℕ → NativeCall (Unit {0}) → NativeAnswer (Unit {0})
+asked_natives member call =
+    if member == 44 then record { touches = []; heap = call.heap; runtime = call.runtime; ends = Calls (record { member = 40; object = 11; arguments = Null ∷ Word 0 ∷ [] }) }
+    else if member == 40 then record {
+      touches = record { active = call.active.context; access = InvokeVirtual; object = 11; verdict = Allowed } ∷ [];
+      heap = call.heap;
+      runtime = call.runtime;
+      ends = Gives (Some Null);
+    } else record { touches = []; heap = call.heap; runtime = call.runtime; ends = Gives None }
+
+abbrev pub asking : Natives (Unit {0})
+asking = record { answer = λ w call. asked_natives call.member call; fits = λ w heap runtime. true }
+
+abbrev pub bounds : Limits
+bounds = record { objects = 100; cells = 1000; frames = 4; frame_words = 100 }
+
+abbrev pub around : Natives (Unit {0}) → List Package → Surroundings (Unit {0})
+around natives packages = record { world = world_with packages; natives = natives; limits = bounds; selected = None }
+
+-- ---- objects
+
+abbrev pub owner : ℕ → ℕ → Owner
+owner context instance = record { context = context; instance = instance }
+
+abbrev pub object : ObjectType → Mark → Owner → List TaggedValue → Object TaggedValue
+object type mark of cells = record { kind = record { object = type; mark = mark; clears = None }; owner = of; cells = cells }
+
+abbrev pub exception : ApiClass → List TaggedValue → Object TaggedValue
+exception class cells = object (Instance (classes.Api class)) TemporaryEntryPoint (owner 0 0) cells
+
+-- the exceptions of the runtime, 1 to 10
+abbrev pub exceptions : Heap TaggedValue
+exceptions =
+    exception ArithmeticException [] ∷ exception ArrayStoreException [] ∷ exception ClassCastException []
+    ∷ exception ArrayIndexOutOfBoundsException [] ∷ exception NegativeArraySizeException [] ∷ exception NullPointerException []
+    ∷ exception SecurityException [] ∷ exception IsoException (Word 0 ∷ []) ∷ exception SystemException (Word 0 ∷ []) ∷ exception ApduException (Word 0 ∷ []) ∷ []
+
+-- ---- runs
+
+abbrev pub start_of : Heap TaggedValue → Owner → MethodName → List TaggedValue → Start (Unit {0})
+start_of heap of method arguments = record { heap = heap; statics = [] ∷ [] ∷ []; runtime = tt; owner = of; method = method; arguments = arguments }
+
+-- how a call ends
+pub data End : Type 0 where
+  a_value : Option TaggedValue → End
+  an_object : ℕ → End
+  used_up : End
+  stuck : End
+
+abbrev pub end_of : CallEnd (Unit {0}) → End
+end_of (Gave m value) = a_value value
+end_of (Threw m object) = an_object object
+end_of (RanOut m) = used_up
+end_of WasStuck = stuck
+
+-- what is shown of a call: its accesses, and its end
+pub record Shown : Type 0 where
+  pub touches : List Touch
+  pub end : End
+
+unfoldable pub run_with : Natives (Unit {0}) → List Package → ℕ → Start (Unit {0}) → Shown
+run_with natives packages steps start = let called = runtime_call (around natives packages) steps start in record { touches = called.touches; end = end_of called.ends }
+
+abbrev pub run : List Package → ℕ → Start (Unit {0}) → Shown
+run packages steps start = run_with quiet packages steps start
+
+-- ---- objects of the server, of its own, behind the runtime's
+
+abbrev pub served : ℕ → Object TaggedValue
+served offset = object (Instance (classes.Loaded 1 offset)) Plain (owner 1 1) (Word 7 ∷ [])
+
+-- the runtime's, and an object of the class at an offset of the server, which is number 11
+abbrev pub with_served : ℕ → Heap TaggedValue
+with_served offset = exceptions ++ served offset ∷ []
+
+-- what is shown where nothing was accessed
+abbrev pub untouched : End → Shown
+untouched end = record { touches = []; end = end }
+
+-- a probe without an argument, and one on an object of the class at an offset
+abbrev pub probed : ℕ → Shown
+probed offset = run (probe ∷ []) 20 (start_of exceptions (owner 1 1) (Loaded 1 offset) [])
+
+abbrev pub probed_on : ℕ → ℕ → Shown
+probed_on class offset = run (probe ∷ []) 20 (start_of (with_served class) (owner 1 1) (Loaded 1 offset) (Ref 11 ∷ []))
+
+-- ---- machines that stand somewhere
+
+-- the probe's method at 180, behind its first instruction, with an operand
+abbrev pub behind_push : TaggedValue → Machine (Unit {0})
+behind_push v = record {
+  heap = exceptions;
+  statics = [] ∷ [];
+  runtime = tt;
+  top = record {
+    method = record { number = 1; offset = 180 };
+    pc = 1;
+    locals = Unset ∷ [];
+    operands = v ∷ [];
+    active = owner 1 1;
+    previous = None;
+  };
+  waiting = [];
+}
+
+-- whether a step is stuck
+abbrev pub is_stuck : Outcome (Unit {0}) → Bool
+is_stuck (Next m) = false
+is_stuck (Throws m object) = false
+is_stuck (Ends m value) = false
+is_stuck (UsedUp m) = false
+is_stuck Stuck = true
+
+unfoldable pub is_stuck_with : TaggedValue → Bool
+is_stuck_with v = is_stuck (defensive_step (around quiet (probe ∷ [])) (behind_push v)).outcome
+
+-- ---- the runtime's objects
+
+-- whether such an object has as many components as its class says, where the API's packages are loaded; an array may
+-- have any number
+abbrev pub has_its_size : List Shape → RuntimeObject → Bool
+has_its_size world wanted = of_type wanted.type
+  where
+    of_type : ObjectType → Bool
+    of_type (Instance c) = length (fields_of world c) == wanted.size
+    of_type BooleanArray = true
+    of_type ByteArray = true
+    of_type ShortArray = true
+    of_type (ReferenceArray c) = true
+
+unfoldable pub have_their_sizes : Bool
+have_their_sizes = list_all (has_its_size (api_world default_binding)) runtime_objects

@@ -1,0 +1,71 @@
+-- What the firewall guards in a step, whatever runs: no access is made that it denies, and no component changes
+-- without one.
+use Rattle.std.specs.Prelude.{◌≡◌, ◌⊎◌, ℕ, ◌&&◌, Bool, true, false, not, List, [], ◌∷◌, Option, Some, None, slice_get}
+use Rattle.std.specs.List.{list_all}
+use Rattle.jc_firewall.specs.Verdict.{runtime_context}
+use Rattle.jc_firewall.specs.declared.access.Verdict.{Verdict}
+use Rattle.jc_firewall.specs.declared.access.Verdict.TheVariants.{Allowed, AllowedSwitch, Denied}
+use Rattle.jc_store.specs.Heap.{Heap, Object, object_at}
+use Rattle.jc_store.specs.declared.kind.Mark.TheVariants.{Plain}
+use Rattle.jc_machine.specs.Machine.{Ends, Machine, Next, Outcome, Stepped, Stuck, Surroundings, Throws, Touch, UsedUp}
+use Rattle.jc_machine.specs.Runtime.{security_exception}
+use Rattle.jc_machine.specs.Step.{defensive_step, settled}
+use Rattle.jc_words.specs.Values.{TaggedValue}
+
+-- ---- accesses
+
+abbrev pub is_allowed : Verdict → Bool
+is_allowed Allowed = true
+is_allowed (AllowedSwitch owner) = true
+is_allowed (Denied rule) = false
+
+-- each access is allowed
+abbrev pub are_allowed : List Touch → Bool
+are_allowed touches = list_all (λ (t : Touch). is_allowed t.verdict) touches
+
+-- the last access is denied, and each before it is allowed
+abbrev pub is_last_denied : List Touch → Bool
+is_last_denied [] = false
+is_last_denied (t ∷ []) = not (is_allowed t.verdict)
+is_last_denied (t ∷ u ∷ touches) = is_allowed t.verdict && is_last_denied (u ∷ touches)
+
+-- each access is allowed, or the last is denied, and then this holds
+pub data AreGuarded (touches : List Touch) (Refused : Type 0) : Type 0 where
+  allowed : are_allowed touches ≡ true → AreGuarded touches Refused
+  denied : is_last_denied touches ≡ true → Refused → AreGuarded touches Refused
+
+-- ---- what changes
+
+-- an object stands in the list as one to which access was allowed; a plain one in its own context, or to the runtime
+pub record IsAccessed (touches : List Touch) (number : ℕ) (object : Object TaggedValue) : Type 0 where
+  pub place : ℕ
+  pub touch : Touch
+  pub listed : slice_get touches place ≡ Some touch
+  pub is : touch.object ≡ number
+  pub allowed : is_allowed touch.verdict ≡ true
+  pub own : object.kind.mark ≡ Plain → (touch.active ≡ object.owner.context) ⊎ (touch.active ≡ runtime_context)
+
+-- of the objects that were there components change only of those that were accessed; a new object may hold anything
+abbrev pub ChangesAccessed : List Touch → Heap TaggedValue → Heap TaggedValue → Type 0
+ChangesAccessed touches before after = (number : ℕ) (o p : Object TaggedValue) → object_at before number ≡ Some o
+    → object_at after number ≡ Some p → (p.cells ≡ o.cells) ⊎ IsAccessed touches number o
+
+-- ---- a step
+
+-- the machine that a step leaves, if it isn't stuck
+abbrev pub machine_of : {C : Type 0} → Outcome C → Option (Machine C)
+machine_of (Next m) = Some m
+machine_of (Throws m object) = Some m
+machine_of (Ends m value) = Some m
+machine_of (UsedUp m) = Some m
+machine_of Stuck = None
+
+-- the security exception is thrown, from the machine as it was
+abbrev pub IsRefused : {C : Type 0} → Surroundings C → Machine C → Stepped C → Type 0
+IsRefused s m stepped = stepped.outcome ≡ settled s (Throws m security_exception)
+
+-- the law of accesses, of one step
+pub record IsGuarded {C : Type 0} (s : Surroundings C) (m : Machine C) : Type 0 where
+  pub accesses : AreGuarded (defensive_step s m).touches (IsRefused s m (defensive_step s m))
+  pub changes : (after : Machine C) → machine_of (defensive_step s m).outcome ≡ Some after
+      → ChangesAccessed (defensive_step s m).touches m.heap after.heap

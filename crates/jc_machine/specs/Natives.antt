@@ -1,0 +1,133 @@
+-- The law of native members: what a machine relies on, whatever they do (Java Card API Specification; Java Card
+-- Runtime Environment Specification, Applet Isolation and Object Sharing).
+use Rattle.std.specs.Prelude.{◌≡◌, ◌⊎◌, ℕ, ◌≤◌, length, Some, None, true, false}
+use Rattle.std.specs.List.{AllByRecursion}
+use Rattle.jc_api.specs.Member.{ApiMember, member_of}
+use Rattle.jc_api.specs.declared.member.MemberKind.TheVariants.{Static, Virtual}
+use Rattle.jc_base.specs.Signature.{Signature}
+use Rattle.jc_names.specs.declared.name.ClassName.{ClassName}
+use Rattle.jc_names.specs.declared.name.ClassName.TheVariants as classes
+use Rattle.jc_firewall.specs.Verdict.{runtime_context, verdict_of}
+use Rattle.jc_link.specs.Found.{is_same_return}
+use Rattle.jc_link.specs.Linked.{World}
+use Rattle.jc_store.specs.Heap.{Heap, Object, cells_in, object_at}
+use Rattle.jc_machine.specs.Accepted.{IsAccepted}
+use Rattle.jc_machine.specs.Calls.{native_may_begin, native_type, type_of_member}
+use Rattle.jc_machine.specs.Going.{facts_in}
+use Rattle.jc_machine.specs.Guarded.{AreGuarded, ChangesAccessed}
+use Rattle.jc_machine.specs.Lookup.{are_of_types, is_given, is_of_class, is_throwable}
+use Rattle.jc_machine.specs.Machine.{Callback, Calls, Gives, IsStuck, Limits, NativeAnswer, NativeCall, NativeEnd, Natives, ThrowsObject, Touch}
+use Rattle.jc_machine.specs.Runtime.{HasRuntimeObjects, security_exception}
+use Rattle.jc_machine.specs.Typed.{HeapTyped}
+use Rattle.jc_words.specs.Values.{TaggedValue}
+
+-- ---- objects stay
+
+-- an object is there, and is what it was: of the same kind, of the same owner, with as many components
+pub record IsStill (heap : Heap TaggedValue) (number : ℕ) (o : Object TaggedValue) : Type 0 where
+  pub object : Object TaggedValue
+  pub found : object_at heap number ≡ Some object
+  pub kind : object.kind ≡ o.kind
+  pub owner : object.owner ≡ o.owner
+  pub size : length object.cells ≡ length o.cells
+
+-- each object that was there is there still
+abbrev pub KeepsObjects : Heap TaggedValue → Heap TaggedValue → Type 0
+KeepsObjects before after =
+    (number : ℕ) (o : Object TaggedValue) → object_at before number ≡ Some o → IsStill after number o
+
+-- ---- accesses: of any call
+
+-- nothing changed
+pub record IsUnchanged {C : Type 0} (call : NativeCall C) (a : NativeAnswer C) : Type 0 where
+  pub heap : a.heap ≡ call.heap
+  pub runtime : a.runtime ≡ call.runtime
+
+-- where an access is denied the security exception is thrown, and nothing has changed
+pub record IsRefusedAnswer {C : Type 0} (call : NativeCall C) (a : NativeAnswer C) : Type 0 where
+  pub unchanged : IsUnchanged call a
+  pub throws : a.ends ≡ ThrowsObject security_exception
+
+-- an access of a native member: the caller's or the runtime's own, to an object that is there; its verdict is the
+-- firewall's, and no reference is stored by it
+pub record IsNativeTouch {C : Type 0} (w : World) (call : NativeCall C) (touch : Touch) : Type 0 where
+  pub active : (touch.active ≡ call.active.context) ⊎ (touch.active ≡ runtime_context)
+  pub object : Object TaggedValue
+  pub found : object_at call.heap touch.object ≡ Some object
+  pub verdict : touch.verdict ≡ verdict_of touch.access touch.active (facts_in w.shapes call.selected object None false)
+
+-- objects have room within limits
+pub record IsWithin (limits : Limits) (heap : Heap TaggedValue) : Type 0 where
+  pub objects : length heap ≤ limits.objects
+  pub cells : cells_in heap ≤ limits.cells
+
+-- its accesses are such; each is allowed, or it is refused at the last; only objects change that it accessed, or made;
+-- it makes none where there is no room; and a native member that makes a call has changed nothing
+pub record IsGuardedAnswer {C : Type 0} (w : World) (call : NativeCall C) (a : NativeAnswer C) : Type 0 where
+  pub touches : AllByRecursion (IsNativeTouch w call) a.touches
+  pub guarded : AreGuarded a.touches (IsRefusedAnswer call a)
+  pub kept : KeepsObjects call.heap a.heap
+  pub changes : ChangesAccessed a.touches call.heap a.heap
+  pub room : IsWithin call.limits call.heap → IsWithin call.limits a.heap
+  pub calls : (callback : Callback) → a.ends ≡ Calls callback → IsUnchanged call a
+
+-- ---- types: of a call that is as it should be
+
+-- it is of a native member on arguments of its types; the objects are typed, the runtime's own are there, and what it
+-- keeps fits them
+pub record IsFitCall {C : Type 0} (natives : Natives C) (w : World) (call : NativeCall C) : Type 0 where
+  pub begins : native_may_begin w.shapes call.heap call.member call.arguments ≡ true
+  pub heap : HeapTyped w.shapes call.heap
+  pub runtime_objects : HasRuntimeObjects call.heap
+  pub fits : natives.fits w call.heap call.runtime ≡ true
+
+-- an object that is thrown is there, and may be thrown
+pub record IsThrown (w : World) (heap : Heap TaggedValue) (number : ℕ) : Type 0 where
+  pub object : Object TaggedValue
+  pub found : object_at heap number ≡ Some object
+  pub throwable : is_throwable w.shapes object.kind.object ≡ true
+
+-- a call that a native member makes: only a static one makes any. It calls a virtual member of an object that is there
+-- and of the member's class, on arguments of its types, and that gives what the native member is declared to give
+pub record IsFitCallback {C : Type 0} (w : World) (call : NativeCall C) (a : NativeAnswer C)
+    (given : Signature ClassName) (callback : Callback) : Type 0 where
+  pub caller : ApiMember
+  pub caller_is : member_of call.member ≡ Some caller
+  pub static : caller.kind ≡ Static
+  pub member : ApiMember
+  pub member_is : member_of callback.member ≡ Some member
+  pub virtual : member.kind ≡ Virtual
+  pub object : Object TaggedValue
+  pub there : object_at a.heap callback.object ≡ Some object
+  pub below : is_of_class w.shapes (classes.Api member.class) object.kind.object ≡ true
+  pub signature : Signature ClassName
+  pub declared : type_of_member w.shapes callback.member ≡ Some signature
+  pub arguments : are_of_types w.shapes a.heap signature.parameters callback.arguments ≡ true
+  pub result : is_same_return given.result signature.result ≡ true
+
+-- how it ends: with what it is declared to give, with an object that may be thrown, or with a call; never stuck
+abbrev pub EndsFit : {C : Type 0} → World → NativeCall C → NativeAnswer C → Signature ClassName → NativeEnd → Type 0
+EndsFit w call a given (Gives value) = is_given w.shapes a.heap given.result value ≡ true
+EndsFit w call a given (ThrowsObject number) = IsThrown w a.heap number
+EndsFit w call a given (Calls callback) = IsFitCallback w call a given callback
+EndsFit w call a given IsStuck = ⊥
+
+-- the objects are typed behind it, and what the runtime keeps fits them; and it ends as it is declared to
+pub record IsFitAnswer {C : Type 0} (natives : Natives C) (w : World) (call : NativeCall C) (a : NativeAnswer C)
+    : Type 0 where
+  pub heap : HeapTyped w.shapes a.heap
+  pub fits : natives.fits w a.heap a.runtime ≡ true
+  pub given : Signature ClassName
+  pub declared : native_type w.shapes call.member ≡ Some given
+  pub ends : EndsFit w call a given a.ends
+
+-- ---- the law
+
+-- each answer is guarded; of a fit call in an accepted world it is fit; and what the runtime keeps fits as long as the
+-- objects stay
+pub record IsLawful {C : Type 0} (natives : Natives C) : Type 0 where
+  pub guarded : (w : World) (call : NativeCall C) → IsGuardedAnswer w call (natives.answer w call)
+  pub fit : (w : World) (call : NativeCall C) → IsAccepted w → IsFitCall natives w call
+      → IsFitAnswer natives w call (natives.answer w call)
+  pub stable : (w : World) (before after : Heap TaggedValue) (kept : C) → KeepsObjects before after
+      → natives.fits w before kept ≡ true → natives.fits w after kept ≡ true

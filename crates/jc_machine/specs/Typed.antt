@@ -1,0 +1,184 @@
+-- When a defensive machine is well typed: what it holds is of the types by which its code was checked, and of declared types elsewhere.
+use Rattle.std.specs.Prelude.{⊤, ◌≡◌, ℕ, ◌<◌, Bool, true, false, List, [], ◌∷◌, length, Option, Some, None, IsSome, Ok}
+use Rattle.std.specs.List.{AllByRecursion}
+use Rattle.std.specs.Option.{option_and_then, option_map_or}
+use Rattle.jc_base.specs.declared.declared_type.DeclaredType.{DeclaredType}
+use Rattle.jc_cap_desc.specs.Shape.{MethodBody, Shape}
+use Rattle.jc_check.specs.Package.{method_of, package_rules}
+use Rattle.jc_check.specs.Typing.{IsShaped, IsTyping, Leads, Typing}
+use Rattle.jc_classes.specs.Subtype.{is_class_below}
+use Rattle.jc_names.specs.declared.name.ClassName.{ClassName}
+use Rattle.jc_code.specs.declared.instr.Instr.{Instr}
+use Rattle.jc_code.specs.declared.instr.Operation.TheVariants.{Object as OnObjects}
+use Rattle.jc_code.specs.declared.object.Invocation.{Invocation}
+use Rattle.jc_code.specs.declared.object.ObjectOperation.TheVariants.{Invoke}
+use Rattle.jc_link.specs.Linked.{LinkedBody, World}
+use Rattle.jc_link.specs.MemberType.{counted}
+use Rattle.jc_link.specs.Target.{static_type_of}
+use Rattle.jc_link.specs.declared.named.StaticPlace.{StaticPlace}
+use Rattle.jc_step.specs.Method.{result_of}
+use Rattle.jc_step.specs.Objects.{has_objects}
+use Rattle.jc_store.specs.Heap as heaps
+use Rattle.jc_store.specs.Heap.{Heap}
+use Rattle.jc_store.specs.declared.kind.ObjectType.{ObjectType}
+use Rattle.jc_store.specs.declared.kind.ObjectType.TheVariants.{Instance, BooleanArray, ByteArray, ShortArray, ReferenceArray}
+use Rattle.jc_types.specs.State.{Types}
+use Rattle.jc_types.specs.declared.ty.Ty.{Ty}
+use Rattle.jc_types.specs.declared.ty.Ty.TheVariants as types
+use Rattle.jc_machine.specs.Accepted.{linked_as}
+use Rattle.jc_machine.specs.Agree.{Pointwise}
+use Rattle.jc_machine.specs.Fields.{static_at}
+use Rattle.jc_names.specs.Names.{home_at}
+use Rattle.jc_machine.specs.Lookup.{body_at, code_at, component_class, declared_at, fields_of, instruction_at, is_array, is_boolean_array, is_byte, is_byte_array, is_instance, is_kept_as, is_of_class, is_short_array, is_word, leads_to, of_package}
+use Rattle.jc_machine.specs.Machine.{Frame, Machine, StaticValue, Surroundings}
+use Rattle.jc_machine.specs.Objects.{is_null}
+use Rattle.jc_machine.specs.Runtime.{HasRuntimeObjects}
+use Rattle.jc_words.specs.Values.{TaggedValue, is_written}
+
+-- ---- values
+
+-- a value of a verification type. What nothing is known of may be unset
+abbrev pub has_type : List Shape → Heap TaggedValue → TaggedValue → Ty → Bool
+has_type world heap v types.Top = true
+has_type world heap v types.Word = is_word v
+has_type world heap v types.Null = is_null v
+has_type world heap v (types.Class c) = leads_to heap (is_of_class world c) v
+has_type world heap v types.BooleanArray = leads_to heap is_boolean_array v
+has_type world heap v types.ByteArray = leads_to heap is_byte_array v
+has_type world heap v types.ShortArray = leads_to heap is_short_array v
+has_type world heap v (types.ReferenceArray c) =
+    leads_to heap (λ object. option_map_or (λ e. is_class_below world (counted world e) c) (component_class object) false) v
+
+-- locals of these types
+abbrev pub HaveTypes : List Shape → Heap TaggedValue → List TaggedValue → List Ty → Type 0
+HaveTypes world heap vs ts = Pointwise (λ v t. has_type world heap v t ≡ true) vs ts
+
+-- an operand of a type: it was written, whatever the type says
+pub record IsOperand (world : List Shape) (heap : Heap TaggedValue) (v : TaggedValue) (t : Ty) : Type 0 where
+  pub type : has_type world heap v t ≡ true
+  pub written : is_written v ≡ true
+
+-- operands of these types
+abbrev pub HoldTypes : List Shape → Heap TaggedValue → List TaggedValue → List Ty → Type 0
+HoldTypes world heap vs ts = Pointwise (IsOperand world heap) vs ts
+
+-- ---- objects and static fields
+
+-- what a cell of an object holds: of a field a value that it may hold; without one a word
+abbrev pub is_cell : List Shape → Heap TaggedValue → Option (DeclaredType ClassName) → TaggedValue → Bool
+is_cell world heap None v = is_word v
+is_cell world heap (Some declared) v = is_kept_as world heap declared v
+
+-- components of booleans and bytes are low bytes; those of an array of references are null, or of its class or
+-- interface
+abbrev pub CellsTyped : List Shape → Heap TaggedValue → List TaggedValue → ObjectType → Type 0
+CellsTyped world heap cells (Instance c) =
+    Pointwise (λ v field. is_cell world heap field v ≡ true) cells (fields_of world c)
+CellsTyped world heap cells BooleanArray = AllByRecursion (λ v. is_byte v ≡ true) cells
+CellsTyped world heap cells ByteArray = AllByRecursion (λ v. is_byte v ≡ true) cells
+CellsTyped world heap cells ShortArray = AllByRecursion (λ v. is_word v ≡ true) cells
+CellsTyped world heap cells (ReferenceArray c) = AllByRecursion (λ v. leads_to heap (is_instance world c) v ≡ true) cells
+
+-- an object of a class is of one that has objects: it is there, and isn't abstract
+abbrev pub may_be_made : List Shape → ObjectType → Bool
+may_be_made world (Instance c) = has_objects world c
+may_be_made world BooleanArray = true
+may_be_made world ByteArray = true
+may_be_made world ShortArray = true
+may_be_made world (ReferenceArray c) = true
+
+-- an object whose cells are typed; how many components an array has is a word
+pub record ObjectTyped (world : List Shape) (heap : Heap TaggedValue) (o : heaps.Object TaggedValue) : Type 0 where
+  pub made : may_be_made world o.kind.object ≡ true
+  pub cells : CellsTyped world heap o.cells o.kind.object
+  pub counted : is_array o.kind.object ≡ true → length o.cells < 65536
+
+abbrev pub HeapTyped : List Shape → Heap TaggedValue → Type 0
+HeapTyped world heap = AllByRecursion (ObjectTyped world heap) heap
+
+-- the value of a static field is one that the field may hold, by the type that it is declared with
+pub record StaticTyped (world : List Shape) (heap : Heap TaggedValue) (home : ℕ) (s : StaticValue) : Type 0 where
+  pub declared : DeclaredType ClassName
+  pub found : static_type_of world (record { home = home; offset = s.offset }) ≡ Some declared
+  pub typed : is_kept_as world heap declared s.value ≡ true
+
+-- each loaded package has its static fields, and each that is declared has a value
+pub record StaticsTyped (w : World) (heap : Heap TaggedValue) (statics : List (List StaticValue)) : Type 0 where
+  pub count : length statics ≡ length w.bodies
+  pub typed : (number : ℕ) (fields : List StaticValue) → of_package statics number ≡ Some fields
+      → AllByRecursion (StaticTyped w.shapes heap (home_at number)) fields
+  pub present : (place : StaticPlace) (declared : DeclaredType ClassName)
+      → static_type_of w.shapes place ≡ Some declared → IsSome (static_at statics place.home place.offset)
+
+-- ---- frames
+
+-- a frame's method as the check sees it, with a typing of it whose states are of the method's shape, and which has a
+-- state at the frame's pc, of whose types the frame's locals are
+pub record IsPlaced (w : World) (heap : Heap TaggedValue) (f : Frame) : Type 0 where
+  pub body : LinkedBody
+  pub loaded : body_at w f.method.number ≡ Some body
+  pub code : MethodBody
+  pub there : code_at w f.method ≡ Some code
+  pub typing : Typing
+  pub typed : IsTyping (package_rules (linked_as w f.method.number body)) (method_of (linked_as w f.method.number body) code) typing
+  pub shaped : IsShaped (method_of (linked_as w f.method.number body) code) typing
+  pub state : Types
+  pub stated : typing f.pc ≡ Some state
+  pub locals_typed : HaveTypes w.shapes heap f.locals state.locals
+
+-- the frame that runs
+pub record RunsTyped (w : World) (heap : Heap TaggedValue) (f : Frame) : Type 0 where
+  pub placed : IsPlaced w heap f
+  pub operands_typed : HoldTypes w.shapes heap f.operands placed.state.operands
+
+-- what a frame's method is declared to give
+abbrev pub given_by : World → Frame → Option Ty
+given_by w f = option_and_then (result_of w.shapes) (declared_at w f.method)
+
+-- a result on operands, if there is one
+abbrev pub with_result_type : Option Ty → List Ty → List Ty
+with_result_type None ts = ts
+with_result_type (Some t) ts = t ∷ ts
+
+-- an instruction of a frame's method leaves a state behind it, as the check sees it
+abbrev pub IsEffect : World → Frame → LinkedBody → MethodBody → Instr → Types → Types → Type 0
+IsEffect w f body code instr before after =
+    let linked = linked_as w f.method.number body in
+    let method = method_of linked code in
+    (package_rules linked).effect method.max_stack method.returned instr.operation before ≡ Ok after
+
+-- a frame that waits for a result stands at a call. What is left of its operands is of types that, with the result on
+-- top, are those of the state after the call, which leads on to the pc behind it
+pub record WaitsTyped (w : World) (heap : Heap TaggedValue) (result : Option Ty) (f : Frame) : Type 0 where
+  pub placed : IsPlaced w heap f
+  pub call : Instr
+  pub stands : instruction_at placed.code.code f.pc ≡ Some call
+  pub invocation : Invocation
+  pub invokes : call.operation ≡ OnObjects (Invoke invocation)
+  pub left : List Ty
+  pub after : Types
+  pub after_is : after ≡ record { locals = placed.state.locals; operands = with_result_type result left }
+  pub effect : IsEffect w f placed.body placed.code call placed.state after
+  pub leads : Leads (package_rules (linked_as w f.method.number placed.body)) placed.typing after call.next_pc
+  pub operands_typed : HoldTypes w.shapes heap f.operands left
+
+-- those that wait, each for what the method of the one within gives
+abbrev pub WaitTyped : World → Heap TaggedValue → Option Ty → List Frame → Type 0
+WaitTyped w heap result [] = ⊤
+WaitTyped w heap result (f ∷ waiting) = WaitsTyped w heap result f × WaitTyped w heap (given_by w f) waiting
+
+-- ---- machines
+
+-- what it keeps beside its frames: the objects and the static fields are typed, the runtime's own objects are there,
+-- and what the runtime keeps fits the objects
+pub record IsTypedBeside {C : Type 0} (s : Surroundings C) (m : Machine C) : Type 0 where
+  pub heap : HeapTyped s.world.shapes m.heap
+  pub statics : StaticsTyped s.world m.heap m.statics
+  pub runtime_objects : HasRuntimeObjects m.heap
+  pub fits : s.natives.fits s.world m.heap m.runtime ≡ true
+
+-- and its frames
+pub record IsTyped {C : Type 0} (s : Surroundings C) (m : Machine C) : Type 0 where
+  pub beside : IsTypedBeside s m
+  pub top : RunsTyped s.world m.heap m.top
+  pub waiting : WaitTyped s.world m.heap (given_by s.world m.top) m.waiting

@@ -1,0 +1,163 @@
+//! Examples of the defensive machine: what the prover computes of it.
+
+ghost use Rattle.std.specs.Prelude.{◌≡◌, [], ◌∷◌, ◌++◌, List, None, Some, false, true};
+ghost use Rattle.jc_names.specs.declared.name.ClassName.TheVariants as classes;
+ghost use Rattle.jc_cap_desc.specs.Shape.{Shape};
+ghost use Rattle.jc_names.specs.declared.name.MethodName.TheVariants.{Api, Loaded};
+ghost use Rattle.jc_firewall.specs.declared.access.Access.TheVariants.{CheckCast, GetField, InvokeInterface, InvokeVirtual, LoadComponent, PutField, StoreComponent};
+ghost use Rattle.jc_firewall.specs.declared.access.Rule.TheVariants.{Fields};
+ghost use Rattle.jc_firewall.specs.declared.access.Verdict.TheVariants.{Allowed, AllowedSwitch, Denied};
+ghost use Rattle.jc_machine.specs.ExamplePackages.{asker, client, server};
+ghost use Rattle.jc_machine.specs.Examples.{a_value, an_object, asking, exceptions, have_their_sizes, is_stuck_with, owner, probed, probed_on, run, run_with, start_of, stuck, untouched, used_up, with_served};
+ghost use Rattle.jc_machine.specs.Idle.{idle};
+ghost use Rattle.jc_machine.specs.Typed.{IsOperand};
+ghost use Rattle.jc_words.specs.Values.{Null, Ref, TaggedValue, Unset, Word};
+ghost use Rattle.jc_link.specs.Applet.{applet};
+ghost use Rattle.jc_store.specs.Heap.{Heap};
+ghost use Rattle.jc_types.specs.declared.ty.Ty.{Ty};
+ghost use Rattle.jc_api.specs.Bound.{Bound, default_binding};
+ghost use Rattle.jc_api.specs.NoClash.{HasNoClash};
+ghost use Rattle.jc_link.specs.Built.{IsBuilt};
+ghost use Rattle.jc_machine.specs.Accepted.{api_alone};
+ghost use Rattle.jc_machine.specs.Following.{MayRun};
+ghost use Rattle.jc_machine.specs.Machine.{Frame};
+ghost use Rattle.jc_machine.specs.Runtime.{HasRuntimeObjects};
+ghost use Rattle.jc_machine.specs.Typed.{HeapTyped, IsTyped, IsTypedBeside};
+ghost use Rattle.jc_machine.specs.TypedExamples.{applet_body, applet_world, idle_in, install_frame};
+ghost use Rattle.jc_machine.specs.TypedExamples.{new_heap, new_machine};
+ghost use Rattle.jc_link.specs.Linked.{IsResolved};
+
+use jc_link::{an_applet_is_well_formed, built_worlds_have_the_api};
+use jc_step::api_classes_have_objects;
+
+/// An applet is installed: its object is made, and registers itself. It does nothing.
+pub fn install_runs()
+    ensures { run (applet ∷ []) 10 (start_of exceptions (owner 1 1) (Loaded 1 1) (Null ∷ Word 0 ∷ Word 0 ∷ []))
+        ≡ record { touches = record { active = 1; access = InvokeVirtual; object = 11; verdict = Allowed } ∷ []; end = a_value None } }
+{}
+
+/// Calls. They do nothing.
+pub fn calls_run()
+    ensures an_override_answers { run (server ∷ client ∷ []) 10 (start_of (with_served 30) (owner 1 1) (Loaded 1 80) (Ref 11 ∷ []))
+        ≡ record { touches = record { active = 1; access = InvokeVirtual; object = 11; verdict = Allowed } ∷ []; end = a_value (Some (Word 2)) } }
+    ensures an_inherited_method_answers { run (server ∷ client ∷ []) 10 (start_of (with_served 10) (owner 1 1) (Loaded 1 80) (Ref 11 ∷ []))
+        ≡ record { touches = record { active = 1; access = InvokeVirtual; object = 11; verdict = Allowed } ∷ []; end = a_value (Some (Word 1)) } }
+    ensures an_interface_is_called_across_contexts { run (server ∷ client ∷ []) 10 (start_of (with_served 30) (owner 2 1) (Loaded 2 1) (Ref 11 ∷ []))
+        ≡ record { touches = record { active = 2; access = InvokeInterface; object = 11; verdict = AllowedSwitch (owner 1 1) } ∷ []; end = a_value (Some (Word 2)) } }
+    ensures a_field_is_read { run (server ∷ client ∷ []) 10 (start_of (with_served 30) (owner 1 1) (Loaded 1 100) (Ref 11 ∷ []))
+        ≡ record { touches = record { active = 1; access = GetField; object = 11; verdict = Allowed } ∷ []; end = a_value (Some (Word 7)) } }
+    ensures a_field_is_denied_across_contexts { run (server ∷ client ∷ []) 10 (start_of (with_served 30) (owner 2 1) (Loaded 2 40) (Ref 11 ∷ []))
+        ≡ record { touches = record { active = 2; access = GetField; object = 11; verdict = Denied Fields } ∷ []; end = an_object 7 } }
+    ensures an_exception_passes_two_frames_and_a_switch { run (server ∷ client ∷ []) 20 (start_of (with_served 50) (owner 2 1) (Loaded 2 20) (Ref 11 ∷ []))
+        ≡ record { touches = record { active = 2; access = InvokeInterface; object = 11; verdict = AllowedSwitch (owner 1 1) } ∷ []; end = a_value (Some (Word 5)) } }
+    ensures a_service_is_run_by_its_owner { run (server ∷ client ∷ []) 10 (start_of (with_served 90) (owner 2 1) (Loaded 2 1) (Ref 11 ∷ []))
+        ≡ record {
+          touches = record { active = 2; access = InvokeInterface; object = 11; verdict = AllowedSwitch (owner 1 1) } ∷ record { active = 1; access = GetField; object = 11; verdict = Allowed } ∷ [];
+          end = a_value (Some (Word 7));
+        } }
+    ensures what_catches_is_run_by_its_owner { run (server ∷ client ∷ []) 20 (start_of (with_served 50) (owner 2 1) (Loaded 2 60) (Ref 11 ∷ []))
+        ≡ record {
+          touches = record { active = 2; access = InvokeInterface; object = 11; verdict = AllowedSwitch (owner 1 1) } ∷ record { active = 2; access = GetField; object = 11; verdict = Denied Fields } ∷ [];
+          end = an_object 7;
+        } }
+    ensures an_uncaught_exception_ends_a_call { run (server ∷ client ∷ []) 20 (start_of (with_served 50) (owner 2 1) (Loaded 2 1) (Ref 11 ∷ []))
+        ≡ record { touches = record { active = 2; access = InvokeInterface; object = 11; verdict = AllowedSwitch (owner 1 1) } ∷ []; end = an_object 1 } }
+    ensures null_has_no_method { run (server ∷ client ∷ []) 10 (start_of (with_served 30) (owner 1 1) (Loaded 1 80) (Null ∷ []))
+        ≡ record { touches = []; end = an_object 6 } }
+    ensures steps_are_used_up_inside_a_call { run (server ∷ client ∷ []) 3 (start_of (with_served 30) (owner 1 1) (Loaded 1 80) (Ref 11 ∷ []))
+        ≡ record { touches = record { active = 1; access = InvokeVirtual; object = 11; verdict = Allowed } ∷ []; end = used_up } }
+    ensures frames_are_used_up { run (server ∷ client ∷ []) 90 (start_of (with_served 30) (owner 1 1) (Loaded 1 120) [])
+        ≡ record { touches = []; end = used_up } }
+{}
+
+/// A native member has a method called, with the owner of the object active. It does nothing.
+pub fn callback_runs()
+    ensures { run_with asking (applet ∷ server ∷ asker ∷ []) 20 (start_of (with_served 0) (owner 3 1) (Loaded 3 1) [])
+        ≡ record { touches = record { active = 1; access = InvokeVirtual; object = 11; verdict = Allowed } ∷ []; end = a_value (Some (Word 1)) } }
+{}
+
+/// A call of the runtime's may begin with a native member. They do nothing.
+pub fn natives_run()
+    ensures deselect_gives_nothing { run (applet ∷ []) 10 (start_of (with_served 0) (owner 1 1) (Api 37) (Ref 11 ∷ []))
+        ≡ untouched (a_value None) }
+    ensures process_is_abstract { run (applet ∷ []) 10
+        (start_of (with_served 0) (owner 1 1) (Api 38) (Ref 11 ∷ Null ∷ [])) ≡ untouched stuck }
+    ensures a_result_is_missing { run (applet ∷ []) 10 (start_of (with_served 0) (owner 1 1) (Api 36) (Ref 11 ∷ []))
+        ≡ untouched stuck }
+    ensures idle_natives_give_zero { run_with idle (applet ∷ []) 10
+        (start_of (with_served 0) (owner 1 1) (Api 36) (Ref 11 ∷ [])) ≡ untouched (a_value (Some (Word 0))) }
+    ensures no_applet { run (server ∷ []) 10 (start_of (with_served 10) (owner 1 1) (Api 37) (Ref 11 ∷ []))
+        ≡ untouched stuck }
+    ensures a_callback_of_no_applet { run_with asking (server ∷ applet ∷ asker ∷ []) 20
+        (start_of (with_served 10) (owner 3 1) (Loaded 3 1) []) ≡ untouched stuck }
+{}
+
+/// Each of the runtime's own objects has as many components as its class says. It does nothing.
+pub fn runtime_objects_fit()
+    ensures { have_their_sizes ≡ true }
+{}
+
+/// Operands are written: what was never written is of no type as an operand, and leaves a step stuck. They do nothing.
+pub fn operands_are_written()
+    ensures a_word_is_dropped { is_stuck_with (Word 0) ≡ false }
+    ensures an_unset_operand_is_stuck { is_stuck_with Unset ≡ true }
+    ensures an_unset_operand_has_no_type { (world : List Shape) (heap : Heap TaggedValue) (type : Ty)
+        → IsOperand world heap Unset type → ⊥ }
+{}
+
+/// What would leave the machine stuck does so. They do nothing.
+pub fn stuck_runs()
+    ensures an_operand_too_many { probed 1 ≡ untouched stuck }
+    ensures an_operand_is_missing { probed 10 ≡ untouched stuck }
+    ensures a_local_was_never_written { probed 20 ≡ untouched stuck }
+    ensures no_instruction_begins { probed 30 ≡ untouched stuck }
+    ensures an_entry_is_missing { probed 40 ≡ untouched stuck }
+    ensures a_result_of_another_type { probed 50 ≡ untouched stuck }
+    ensures an_operand_of_another_tag { probed_on 0 200 ≡ untouched stuck }
+    ensures no_array { probed_on 0 210 ≡ untouched stuck }
+    ensures an_argument_of_another_class { probed_on 30 220 ≡ untouched stuck }
+    ensures an_object_of_another_class { probed_on 0 240 ≡ untouched stuck }
+    ensures a_first_argument_of_another_class { probed_on 30 230 ≡ untouched stuck }
+    ensures a_first_argument_is_missing { probed 200 ≡ untouched stuck }
+    ensures no_room_for_what_is_caught { probed 130 ≡ untouched stuck }
+    ensures a_catch_type_is_missing { probed 160 ≡ untouched stuck }
+    ensures an_abstract_method { probed_on 30 240 ≡ record { touches = record { active = 1; access = InvokeVirtual; object = 11; verdict = Allowed } ∷ []; end = stuck } }
+{}
+
+/// Throws. They do nothing.
+pub fn throws_run()
+    ensures a_negative_length { probed 60 ≡ untouched (an_object 5) }
+    ensures an_index_past_the_end { probed 70 ≡ record { touches = record { active = 1; access = LoadComponent; object = 11; verdict = Allowed } ∷ []; end = an_object 4 } }
+    ensures no_room { probed 80 ≡ record { touches = record { active = 0; access = PutField; object = 9; verdict = Allowed } ∷ []; end = an_object 9 } }
+    ensures a_byte_with_its_sign { probed 100 ≡ record {
+      touches = record { active = 1; access = StoreComponent; object = 11; verdict = Allowed } ∷ record { active = 1; access = LoadComponent; object = 11; verdict = Allowed } ∷ [];
+      end = a_value (Some (Word 0xFFFF));
+    } }
+    ensures a_shift_of_sixteen_bits { probed 120 ≡ untouched (a_value (Some (Word 0xFFFF))) }
+    ensures a_cast_passes { probed_on 0 250 ≡ record { touches = record { active = 1; access = CheckCast; object = 11; verdict = Allowed } ∷ []; end = a_value (Some (Word 1)) } }
+    ensures a_cast_fails { probed_on 30 250 ≡ record { touches = record { active = 1; access = CheckCast; object = 11; verdict = Allowed } ∷ []; end = an_object 3 } }
+{}
+
+/// A machine that was just made, with the runtime's own objects alone: these are there, and are typed in each world
+/// that is built; and in the world of the API alone the machine is well typed beside whatever frame it has, and may run
+/// with native members that do nothing. It does nothing.
+pub fn new_machines_are_typed()
+    ensures there { HasRuntimeObjects new_heap }
+    ensures objects { (world : List Shape) → IsBuilt world → HeapTyped world new_heap }
+    ensures beside { (bound : Bound) → HasNoClash bound → (frame : Frame)
+        → IsTypedBeside (idle_in (api_alone bound)) (new_machine [] frame) }
+    ensures runs { (bound : Bound) → HasNoClash bound → MayRun (idle_in (api_alone bound)) }
+{
+    built_worlds_have_the_api();
+    api_classes_have_objects();
+}
+
+/// A machine that was just made and begins an applet's install is well typed, in a world with the applet's package,
+/// whose pool is resolved. It does nothing.
+pub fn first_frames_are_typed()
+    ensures resolved { IsResolved applet_world.shapes 2 applet_body }
+    ensures typed { IsTyped (idle_in applet_world) (new_machine ([] ∷ []) install_frame) }
+    ensures runs { HasNoClash default_binding → MayRun (idle_in applet_world) }
+{
+    an_applet_is_well_formed();
+}

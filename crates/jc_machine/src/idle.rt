@@ -1,0 +1,52 @@
+//! Native members that do nothing.
+
+ghost use Rattle.jc_machine.specs.Following.{ReadsResult};
+ghost use Rattle.jc_machine.specs.Idle.{idle_result, idle_value};
+
+use crate::member::member_with;
+use crate::natives::{Natives, WordCall, WordOutcome};
+use jc_api::ApiClass;
+use jc_base::ReturnType;
+use jc_link::World;
+use jc_store::Store;
+
+/// Native members that do nothing: they access no object, keep nothing, and give 0, which is null too, where they are
+/// declared to give something.
+#[derive(Clone, Copy, Debug)]
+pub struct IdleNatives;
+
+// 0, where something is declared to be given.
+fn idle_word(declared: ReturnType<ApiClass>) -> Option<u16>
+    ensures { ReadsResult result (idle_value declared) }
+{
+    match declared {
+        ReturnType::Void => None,
+        ReturnType::Value(_) => Some(0),
+    }
+}
+
+// What a member gives, by its number.
+fn idle_result(member: u16) -> Option<u16>
+    ensures { ReadsResult result (idle_result member) }
+{
+    match member_with(member) {
+        Some(member) => idle_word(member.result),
+        None => None,
+    }
+}
+
+impl Natives for IdleNatives {
+    ghost use Rattle.jc_machine.specs.Idle.{idle};
+
+    ghost Kept = { Unit {0} };
+
+    ghost kept = { λ natives. tt };
+
+    ghost meaning = { idle };
+
+    fn call(&mut self, _world: &World, _store: &mut Store, call: &WordCall<'_>) -> WordOutcome {
+        WordOutcome::Returned(idle_result(call.member))
+    }
+
+    fn law(&self) {}
+}

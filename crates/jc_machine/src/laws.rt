@@ -1,0 +1,48 @@
+//! What holds of accepted worlds.
+
+ghost use Rattle.std.specs.Prelude.{◌≡◌, Some};
+ghost use Rattle.jc_api.specs.Bound.{Bound};
+ghost use Rattle.jc_api.specs.NoClash.{HasNoClash};
+ghost use Rattle.jc_cap_desc.specs.Shape.{MethodBody};
+ghost use Rattle.jc_check.specs.Checked.{IsMethodTyped, IsPackageCarried, IsPackageTyped};
+ghost use Rattle.jc_machine.specs.Accepted.{HaveCode, IsAccepted, api_alone, linked_as};
+ghost use Rattle.jc_machine.specs.Lookup.{body_at, code_at};
+ghost use Rattle.jc_machine.specs.Machine.{MethodPlace};
+ghost use Rattle.jc_machine.specs.Natives.{KeepsObjects};
+ghost use Rattle.jc_machine.specs.Runtime.{HasRuntimeObjects};
+ghost use Rattle.jc_link.specs.Linked.{IsBoundTo, IsLast, IsWorld, Linked, LinkedBody, World, with_linked};
+ghost use Rattle.jc_store.specs.Heap.{Heap};
+ghost use Rattle.jc_words.specs.Values.{TaggedValue};
+
+use jc_classes::growing_keeps_lookups;
+use jc_link::growing_keeps_linking;
+
+/// In a world each method of a loaded package's classes that isn't abstract has code. It does nothing.
+#[tactic(auto, using(crate::proofs::HavingCode::have_code))]
+pub fn methods_have_code()
+    ensures { (w : World) → IsWorld w → HaveCode w }
+{}
+
+/// In an accepted world each method with code is well typed, by a typing whose states are of its shape. It does nothing.
+pub fn accepted_methods_are_typed()
+    ensures { (w : World) → IsAccepted w → (place : MethodPlace) (body : LinkedBody) (code : MethodBody)
+        → body_at w place.number ≡ Some body → code_at w place ≡ Some code
+        → IsMethodTyped (linked_as w place.number body) code }
+{}
+
+/// The world of the API alone is accepted. So is an accepted world with a linked package behind it that was bound to it
+/// as it stands, that some certificate carries, and whose methods are well typed. It does nothing.
+pub fn accepted_worlds_grow()
+    ensures api { (bound : Bound) → HasNoClash bound → IsAccepted (api_alone bound) }
+    ensures grown { (w : World) (l : Linked) → IsAccepted w → IsBoundTo w l → IsLast l → IsPackageCarried l
+        → IsPackageTyped l → IsAccepted (with_linked w l) }
+{
+    growing_keeps_lookups();
+    growing_keeps_linking();
+}
+
+/// Where each object stays, as it does behind a native member, the runtime's own objects stay. It does nothing.
+pub fn runtime_objects_stay()
+    ensures { (before after : Heap TaggedValue) → KeepsObjects before after → HasRuntimeObjects before
+        → HasRuntimeObjects after }
+{}

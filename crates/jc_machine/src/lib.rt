@@ -1,0 +1,18 @@
+//! The defensive machine, by which an interpreter is judged, and the contract of the native members that both call.
+#![tactic(auto)]
+
+mod examples;
+mod idle;
+mod laws;
+mod member;
+mod natives;
+
+pub use examples::{
+    callback_runs, calls_run, first_frames_are_typed, install_runs, natives_run,
+    new_machines_are_typed, operands_are_written, runtime_objects_fit, stuck_runs, throws_run,
+};
+pub use idle::IdleNatives;
+pub use laws::{
+    accepted_methods_are_typed, accepted_worlds_grow, methods_have_code, runtime_objects_stay,
+};
+pub use natives::{MOST_ARGUMENTS, Natives, WordCall, WordCallback, WordOutcome};

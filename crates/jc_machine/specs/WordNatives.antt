@@ -1,10 +1,12 @@
 -- When native members on words do what they mean on tagged values: the contract by which an interpreter calls them.
-use Rattle.std.specs.Prelude.{◌≡◌}
+use Rattle.std.specs.Prelude.{◌≡◌, ℕ, true, Some, None}
 use Rattle.jc_link.specs.Linked.{World}
-use Rattle.jc_store.specs.Store.{Store}
+use Rattle.jc_store.specs.Heap.{Object, object_at}
+use Rattle.jc_store.specs.Store.{Store, class_number_at}
 use Rattle.jc_machine.specs.Accepted.{IsAccepted}
 use Rattle.jc_machine.specs.Agree.{HeapReads, Pointwise, Reads}
 use Rattle.jc_machine.specs.Following.{ReadsResult}
+use Rattle.jc_machine.specs.Lookup.{is_array}
 use Rattle.jc_machine.specs.Machine.{Callback, NativeAnswer, NativeCall, Natives}
 use Rattle.jc_machine.specs.Machine.{Calls, Gives, IsStuck, NativeEnd, ThrowsObject}
 use Rattle.jc_machine.specs.Natives.{IsFitCall}
@@ -62,6 +64,22 @@ abbrev pub Answers : {C : Type 0} → Natives C → World → WordCall → WordS
 Answers {C} natives w word before after outcome =
     (call : NativeCall C) → CallAgrees before word call → IsAccepted w → IsFitCall natives w call
     → AnswerAgrees after outcome (natives.answer w call)
+
+-- what stands for the class of an array where classes have numbers: Object is the first of a world's classes
+abbrev pub number_of_object : ℕ
+number_of_object = 0
+
+-- an object is an array, and the number of its class is that of Object
+pub record IsNumberedArray (store : Store) (number : ℕ) (object : Object ℕ) : Type 0 where
+  pub array : is_array object.kind.object ≡ true
+  pub numbered : class_number_at store.classes number ≡ Some number_of_object
+
+-- objects have the class numbers that they had, and those that were made are arrays, numbered as Object is
+pub record NumbersArrays (before after : Store) : Type 0 where
+  pub kept : (number class : ℕ) → class_number_at before.classes number ≡ Some class
+      → class_number_at after.classes number ≡ Some class
+  pub made : (number : ℕ) (object : Object ℕ) → object_at before.objects number ≡ None
+      → object_at after.objects number ≡ Some object → IsNumberedArray after number object
 
 -- a store may have as many objects and cells as before
 pub record KeepsLimits (before after : Store) : Type 0 where

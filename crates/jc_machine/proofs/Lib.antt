@@ -7,4 +7,5 @@ mod GrownWorlds
 mod HavingCode
 mod IdleLaw
 mod NewMachines
+mod SmallWorlds
 mod Staying

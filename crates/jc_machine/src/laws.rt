@@ -4,6 +4,7 @@ ghost use Rattle.std.specs.Prelude.{◌≡◌, Some};
 ghost use Rattle.jc_api.specs.Bound.{Bound};
 ghost use Rattle.jc_api.specs.NoClash.{HasNoClash};
 ghost use Rattle.jc_cap_desc.specs.Shape.{MethodBody};
+ghost use Rattle.jc_classes.specs.Limits.{IsSmall};
 ghost use Rattle.jc_check.specs.Checked.{IsMethodTyped, IsPackageCarried, IsPackageTyped};
 ghost use Rattle.jc_machine.specs.Accepted.{HaveCode, IsAccepted, api_alone, linked_as};
 ghost use Rattle.jc_machine.specs.Lookup.{body_at, code_at};
@@ -31,11 +32,12 @@ pub fn accepted_methods_are_typed()
 {}
 
 /// The world of the API alone is accepted. So is an accepted world with a linked package behind it that was bound to it
-/// as it stands, that some certificate carries, and whose methods are well typed. It does nothing.
+/// as it stands, within the limits of a world, that some certificate carries, and whose methods are well typed. It does
+/// nothing.
 pub fn accepted_worlds_grow()
     ensures api { (bound : Bound) → HasNoClash bound → IsAccepted (api_alone bound) }
-    ensures grown { (w : World) (l : Linked) → IsAccepted w → IsBoundTo w l → IsLast l → IsPackageCarried l
-        → IsPackageTyped l → IsAccepted (with_linked w l) }
+    ensures grown { (w : World) (l : Linked) → IsAccepted w → IsBoundTo w l → IsLast l → IsSmall l.world
+        → IsPackageCarried l → IsPackageTyped l → IsAccepted (with_linked w l) }
 {
     growing_keeps_lookups();
     growing_keeps_linking();

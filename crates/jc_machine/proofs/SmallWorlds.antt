@@ -2,12 +2,14 @@
 use Rattle.std.proofs.Common.{◌≡◌, ℕ, zero, suc, ◌≤◌, List, [], ◌∷◌, length, Option, Some, None, slice_get, ap, refl}
 use Rattle.std.proofs.Common.{arith, subst}
 use Rattle.std.proofs.lemmas.List.FromFn.{length-range_with_len}
-use Rattle.std.specs.List.{filter_map, range_with_len}
-use Rattle.std.specs.Prelude.{cons_option}
-use Rattle.jc_api.specs.Bound.{Bound}
+use Rattle.core.specs.List.{cons_option}
+use Rattle.std.specs.List.{AllByRecursion, filter_map, range_with_len}
+use Rattle.jc_api.specs.Bound.{Bound, default_binding}
 use Rattle.jc_cap_desc.specs.Shape.{Shape}
-use Rattle.jc_classes.specs.Api.{api_world, those_to}
+use Rattle.jc_api.specs.declared.class.ApiPackage.TheVariants.{Framework, Lang}
+use Rattle.jc_classes.specs.Api.{api_shape, api_world, those_to}
 use Rattle.jc_classes.specs.Limits.{IsSmall, most_classes_of_one}
+use Rattle.jc_link.specs.Applet.{applet}
 use Rattle.jc_machine.specs.TypedExamples.{applet_world}
 
 one_more : {A : Type 0} (found : Option A) (xs : List A) (n : ℕ) → length xs ≤ n
@@ -29,20 +31,28 @@ few_to last f =
 abbrev IsFew : Shape → Type 0
 IsFew shape = length shape.classes ≤ most_classes_of_one
 
-pub api_is_small : (bound : Bound) → IsSmall (api_world bound)
-api_is_small bound = record { packages = omega arith; classes = by_place }
-  where
-    few : (n : ℕ) → n ≤ 22 → n ≤ most_classes_of_one
-    few n h = omega arith
+-- so many classes are fewer than a package may have
+api_few : (shape : Shape) → length shape.classes ≤ 22 → IsFew shape
+api_few shape few = omega (arith, few)
 
-    by_place : (i : ℕ) (shape : Shape) → slice_get (api_world bound) i ≡ Some shape → IsFew shape
-    by_place zero shape e =
-        let same = cc in
-        subst IsFew same (few _ (few_to 22 _))
-    by_place (suc zero) shape e =
-        let same = cc in
-        subst IsFew same (few _ (few_to 22 _))
-    by_place (suc (suc i)) shape e = absurd cc
+few_at : (world : List Shape) → AllByRecursion IsFew world → (i : ℕ) (shape : Shape)
+    → slice_get world i ≡ Some shape → IsFew shape
+few_at [] few i shape e = absurd cc
+few_at (x ∷ world) few zero shape e =
+    let same : x ≡ shape = cc in
+    subst IsFew same few.0
+few_at (x ∷ world) few (suc i) shape e = few_at world few.1 i shape e
+
+api_each : (bound : Bound) → IsFew (api_shape bound Lang) × IsFew (api_shape bound Framework)
+api_each bound = (api_few (api_shape bound Lang) (few_to 22 _), api_few (api_shape bound Framework) (few_to 22 _))
+
+pub api_is_small : (bound : Bound) → IsSmall (api_world bound)
+api_is_small bound =
+    let each = api_each bound in
+    record { packages = omega arith; classes = few_at (api_world bound) (each.0, (each.1, tt)) }
 
 pub applet_is_small : IsSmall applet_world.shapes
-applet_is_small = ?
+applet_is_small =
+    let each = api_each default_binding in
+    let one : IsFew applet.shape = omega arith in
+    record { packages = omega arith; classes = few_at applet_world.shapes (each.0, (each.1, (one, tt))) }

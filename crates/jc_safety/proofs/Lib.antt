@@ -1,0 +1,15 @@
+mod Arrays
+mod Below
+mod Bounds
+mod Goes
+mod Ground
+mod Growing
+mod Lists
+mod Locals
+mod Rows
+mod Safe
+mod Taking
+mod Thrown
+mod Upward
+mod Words
+mod Writing

@@ -1,0 +1,2 @@
+//! Type safety: accepted packages never leave the defensive machine stuck.
+#![tactic(auto)]

@@ -200,7 +200,7 @@ module _ {C : Type 0} (s : Surroundings C) (ground : Ground s) (m : Machine C) (
   load_number form after numbers a leads =
       take_two shapes m.heap (λ us. IsSafe s (act_load (at us) form)) (array_of form) word m.top.operands
       (state s ground m t).operands t.top.operands_typed a.enough
-      (met_by s ground m t d next (takes (array_of form ∷ word ∷ []) (Exactly types.Word)) after a)
+      (met_by s ground m t (takes (array_of form ∷ word ∷ []) (Exactly types.Word)) after a)
       (λ i u vs index_is array_is rest.
       word_case shapes m.heap (λ x. IsSafe s (act_load (at (x ∷ u ∷ vs)) form)) i index_is (λ index small.
       ref_case m.heap (is_array_of form) (λ x. IsSafe s (act_load (at (Word index ∷ x ∷ vs)) form)) u
@@ -273,19 +273,19 @@ module _ {C : Type 0} (s : Surroundings C) (ground : Ground s) (m : Machine C) (
       let index_met = both (is_below (below s ground m t) ti types.Word) true array_met.1 in
       let left = component_left (state s ground m t).locals ti tu us after_it a in
       word_case shapes m.heap (λ x. IsSafe s (act_load (at (x ∷ u ∷ vs)) Forms.Reference)) i
-      (meets_value shapes _ (orders s ground m t d next) m.heap i word ti index_met.0 h.0)
+      (meets_value shapes _ (orders s ground m t) m.heap i word ti index_met.0 h.0)
       (λ index small.
       ref_case m.heap (is_array_of Forms.Reference) (λ x. has_type shapes m.heap x tu ≡ true
       → IsSafe s (act_load (at (Word index ∷ x ∷ vs)) Forms.Reference)) u
       (are_arrays Forms.Reference u
-      (meets_value shapes _ (orders s ground m t d next) m.heap u (array_of Forms.Reference) tu array_met.0 h.1.0))
+      (meets_value shapes _ (orders s ground m t) m.heap u (array_of Forms.Reference) tu array_met.0 h.1.0))
       (λ has. safe_null s ground m t d next (Word index ∷ Null ∷ vs) _)
       (λ n o found is has.
       from_array Forms.Reference (Word index ∷ Ref n ∷ vs) vs index n o found is (λ v there.
       safe_gives s ground m t d (most s ground m t) next (Word index ∷ Ref n ∷ vs) after_it v vs
       (room_left shapes m.heap (most s ground m t) 2 (ti ∷ tu ∷ us) vs a.enough a.room h.1.1)
-      (locals_still s ground m t d next after_it.locals (ap (λ (x : Types). x.locals) left))
-      (held s ground m t d next (component_of tu ∷ us) after_it.operands (v ∷ vs) (ap (λ (x : Types). x.operands) left)
+      (locals_still s ground m t after_it.locals (ap (λ (x : Types). x.locals) left))
+      (held s ground m t (component_of tu ∷ us) after_it.operands (v ∷ vs) (ap (λ (x : Types). x.operands) left)
       (component_typed tu n o index v array_met.0 has found there, h.1.1))
       leads))
       h.1.0.type)
@@ -300,7 +300,7 @@ module _ {C : Type 0} (s : Surroundings C) (ground : Ground s) (m : Machine C) (
       let l = leaves_nothing (below s ground m t) (most s ground m t) (array_of form ∷ word ∷ word ∷ []) (state s ground m t) after_it a in
       take_three shapes m.heap (λ us. IsSafe s (act_store_word (at us) form)) (array_of form) word word m.top.operands
       (state s ground m t).operands t.top.operands_typed a.enough
-      (met_by s ground m t d next (takes (array_of form ∷ word ∷ word ∷ []) Nothing) after_it a)
+      (met_by s ground m t (takes (array_of form ∷ word ∷ word ∷ []) Nothing) after_it a)
       (λ w i u vs value_is index_is array_is rest.
       word_case shapes m.heap (λ x. IsSafe s (act_store_word (at (x ∷ i ∷ u ∷ vs)) form)) w value_is (λ k little.
       word_case shapes m.heap (λ x. IsSafe s (act_store_word (at (Word k ∷ x ∷ u ∷ vs)) form)) i index_is (λ index small.
@@ -317,8 +317,8 @@ module _ {C : Type 0} (s : Surroundings C) (ground : Ground s) (m : Machine C) (
       (λ inside.
       leaves_stored s ground m t d next us vs after_it n o index (stored_as form (Word k)) found
       (stored_number shapes m.heap form o.cells o.kind.object k index (object_typed n o found) is numbers little)
-      (locals_still s ground m t d next after_it.locals l.locals_are)
-      (held s ground m t d next (drop 3 (state s ground m t).operands) after_it.operands vs l.operands_are rest)
+      (locals_still s ground m t after_it.locals l.locals_are)
+      (held s ground m t (drop 3 (state s ground m t).operands) after_it.operands vs l.operands_are rest)
       leads)))))))
 
   -- a reference, or null
@@ -346,7 +346,7 @@ module _ {C : Type 0} (s : Surroundings C) (ground : Ground s) (m : Machine C) (
       let l = leaves_nothing (below s ground m t) (most s ground m t) ds (state s ground m t) after_it a in
       take_three shapes m.heap (λ us. IsSafe s (act_store_reference (at us))) (array_of Forms.Reference) word Reference
       m.top.operands (state s ground m t).operands t.top.operands_typed a.enough
-      (met_by s ground m t d next (takes ds Nothing) after_it a)
+      (met_by s ground m t (takes ds Nothing) after_it a)
       (λ w i u vs value_is index_is array_is rest.
       word_case shapes m.heap (λ x. IsSafe s (act_store_reference (at (w ∷ x ∷ u ∷ vs)))) i index_is (λ index small.
       ref_case m.heap (holds_below shapes (Api api.Object)) (λ x. IsSafe s (act_store_reference (at (w ∷ Word index ∷ x ∷ vs)))) u
@@ -370,8 +370,8 @@ module _ {C : Type 0} (s : Surroundings C) (ground : Ground s) (m : Machine C) (
       (λ fits.
       leaves_stored s ground m t d next us vs after_it n o index w found
       (reference_put o.kind.object array.class o.cells index w array.is (object_typed n o found) fits)
-      (locals_still s ground m t d next after_it.locals l.locals_are)
-      (held s ground m t d next (drop 3 (state s ground m t).operands) after_it.operands vs l.operands_are rest)
+      (locals_still s ground m t after_it.locals l.locals_are)
+      (held s ground m t (drop 3 (state s ground m t).operands) after_it.operands vs l.operands_are rest)
       leads)))))))))
 
   -- ---- the length
@@ -382,7 +382,7 @@ module _ {C : Type 0} (s : Surroundings C) (ground : Ground s) (m : Machine C) (
   array_length after_it a leads =
       take_one shapes m.heap (λ us. IsSafe s (act_length (at us))) Array m.top.operands (state s ground m t).operands
       t.top.operands_typed a.enough
-      (met_by s ground m t d next (takes (Array ∷ []) (Exactly types.Word)) after_it a)
+      (met_by s ground m t (takes (Array ∷ []) (Exactly types.Word)) after_it a)
       (λ u vs array_is rest.
       ref_case m.heap is_array (λ x. IsSafe s (act_length (at (x ∷ vs)))) u array_is
       (safe_null s ground m t d next (Null ∷ vs) _)

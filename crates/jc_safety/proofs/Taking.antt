@@ -156,7 +156,7 @@ pub record Orders (world before : List Shape) : Type 0 where
   pub up : (t u : Ty) → is_below (is_class_below before) t u ≡ true → is_below (is_class_below world) t u ≡ true
 
 module _ (world before : List Shape) (orders : Orders world before) (heap : Heap TaggedValue) where
-  meets_reference : (v : TaggedValue) (t : Ty) → meets (is_class_below before) Reference t ≡ true
+  pub meets_reference : (v : TaggedValue) (t : Ty) → meets (is_class_below before) Reference t ≡ true
       → has_type world heap v t ≡ true → leads_to heap any_object v ≡ true
   meets_reference v types.Top e h = absurd cc
   meets_reference v types.Word e h = absurd cc

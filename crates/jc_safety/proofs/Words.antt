@@ -48,6 +48,7 @@ use Rattle.jc_safety.proofs.Goes.{safe_leaves, safe_on, spot, throws_at}
 use Rattle.jc_safety.proofs.Ground.{Ground}
 use Rattle.jc_safety.proofs.Lists.{drop_points, joined_points, put_points, same_length, take_points}
 use Rattle.jc_safety.proofs.Locals.{local_there, local_type, reads_nothing, reads_one, stored}
+use Rattle.jc_safety.proofs.Rows as rows
 use Rattle.jc_safety.proofs.Safe.{IsSafe, safe_check}
 use Rattle.jc_safety.proofs.Taking.{Applied, Meets, Orders, leaves_nothing, leaves_one, meets_value, operands_meet, row_applied}
 use Rattle.jc_safety.proofs.Taking.{take_one, take_two, word_case}
@@ -75,98 +76,61 @@ under_over true b x t h = absurd cc
 
 module _ {C : Type 0} (s : Surroundings C) (ground : Ground s) (m : Machine C) (t : IsTyped s m) (d : DeclaredMethod)
     (next : ℕ) where
-  abbrev world : List Shape
-  world = s.world.shapes
+  abbrev shapes : List Shape
+  shapes = s.world.shapes
 
   abbrev most : ℕ
-  most = (method s ground m t).max_stack
+  most = rows.most s ground m t
 
   abbrev state : Types
-  state = (placed s ground m t).state
-
-  abbrev before : List Shape
-  before = (linked_as s.world m.top.method.number (placed s ground m t).body).world
+  state = rows.state s ground m t
 
   abbrev below : ClassName → ClassName → Bool
-  below = is_class_below before
-
-  abbrev LeadsTo : Types → ℕ → Type 0
-  LeadsTo after pc = Leads (rules s ground m t) (placed s ground m t).typing after pc
-
-  abbrev BranchesTo : Types → ℤ → Type 0
-  BranchesTo after offset =
-      BranchLeads (rules s ground m t) (placed s ground m t).typing after (target_of m.top.pc offset)
+  below = rows.below s ground m t
 
   abbrev here : List TaggedValue → Here C
-  here vs = spot s ground m t d most next vs
+  here vs = rows.here s ground m t d next vs
 
-  orders : Orders world before
-  orders = orders_of s ground m (placed s ground m t)
+  abbrev LeadsTo : Types → ℕ → Type 0
+  LeadsTo after pc = rows.LeadsTo s ground m t after pc
 
-  -- the locals, where they are as they were
-  locals_still : (ls : List Ty) → state.locals ≡ ls → HaveTypes world m.heap m.top.locals ls
-  locals_still ls e =
-      subst (λ (x : List Ty). HaveTypes world m.heap m.top.locals x) e (placed s ground m t).locals_typed
-
-  held : (ts us : List Ty) (vs : List TaggedValue) → ts ≡ us → HoldTypes world m.heap vs ts
-      → HoldTypes world m.heap vs us
-  held ts us vs e h = subst (λ (x : List Ty). HoldTypes world m.heap vs x) e h
-
-  met_by : (row : Row) (after : Types) → Applied below most row state after
-      → Pointwise (Meets world m.heap) (reverse (take (length row.operands) m.top.operands)) row.operands
-  met_by row after a =
-      operands_meet world before orders m.heap most row state after m.top.operands t.top.operands_typed a
+  abbrev BranchesTo : Types → ℤ → Type 0
+  BranchesTo after offset = rows.BranchesTo s ground m t after offset
 
   -- ---- by the operands
 
   one_word : (given : Given) (after : Types) → Applied below most (takes (word ∷ []) given) state after
       → (P : List TaggedValue → Type 0)
-      → ((n : ℕ) (vs : List TaggedValue) → nat_lt n 65536 ≡ true → HoldTypes world m.heap vs (drop 1 state.operands)
+      → ((n : ℕ) (vs : List TaggedValue) → nat_lt n 65536 ≡ true → HoldTypes shapes m.heap vs (drop 1 state.operands)
       → P (Word n ∷ vs)) → P m.top.operands
   one_word given after a P go =
-      take_one world m.heap P word m.top.operands state.operands t.top.operands_typed a.enough
-      (met_by (takes (word ∷ []) given) after a)
-      (λ v vs meets rest. word_case world m.heap (λ x. P (x ∷ vs)) v meets (λ n small. go n vs small rest))
+      take_one shapes m.heap P word m.top.operands state.operands t.top.operands_typed a.enough
+      (rows.met_by s ground m t (takes (word ∷ []) given) after a)
+      (λ v vs meets rest. word_case shapes m.heap (λ x. P (x ∷ vs)) v meets (λ n small. go n vs small rest))
 
   two_words : (given : Given) (after : Types) → Applied below most (takes (word ∷ word ∷ []) given) state after
       → (P : List TaggedValue → Type 0)
       → ((n k : ℕ) (vs : List TaggedValue) → nat_lt n 65536 ≡ true → nat_lt k 65536 ≡ true
-      → HoldTypes world m.heap vs (drop 2 state.operands) → P (Word n ∷ Word k ∷ vs)) → P m.top.operands
+      → HoldTypes shapes m.heap vs (drop 2 state.operands) → P (Word n ∷ Word k ∷ vs)) → P m.top.operands
   two_words given after a P go =
-      take_two world m.heap P word word m.top.operands state.operands t.top.operands_typed a.enough
-      (met_by (takes (word ∷ word ∷ []) given) after a)
+      take_two shapes m.heap P word word m.top.operands state.operands t.top.operands_typed a.enough
+      (rows.met_by s ground m t (takes (word ∷ word ∷ []) given) after a)
       (λ v u vs meets meet rest.
-      word_case world m.heap (λ x. P (x ∷ u ∷ vs)) v meets (λ n small.
-      word_case world m.heap (λ x. P (Word n ∷ x ∷ vs)) u meet (λ k little. go n k vs small little rest)))
+      word_case shapes m.heap (λ x. P (x ∷ u ∷ vs)) v meets (λ n small.
+      word_case shapes m.heap (λ x. P (Word n ∷ x ∷ vs)) u meet (λ k little. go n k vs small little rest)))
 
   -- ---- by what is given
 
-  word_given : (n : ℕ) → n < 65536 → IsOperand world m.heap (Word n) types.Word
+  word_given : (n : ℕ) → n < 65536 → IsOperand shapes m.heap (Word n) types.Word
   word_given n h = record { type = lt-ltb n 65536 h; written = refl }
 
   -- a word more on these operands
   gives_word : (ds : List Demand) (us vs : List TaggedValue) (n : ℕ) (after : Types) → n < 65536
       → Applied below most (takes ds (Exactly types.Word)) state after
-      → HoldTypes world m.heap vs (drop (length ds) state.operands) → LeadsTo after next
+      → HoldTypes shapes m.heap vs (drop (length ds) state.operands) → LeadsTo after next
       → IsSafe s (gives (here us) (Word n) vs)
   gives_word ds us vs n after small a rest leads =
-      let l = leaves_one below most ds state after types.Word a in
-      safe_gives s ground m t d most next us after (Word n) vs
-      (room_left world m.heap most (length ds) state.operands vs a.enough a.room rest)
-      (locals_still after.locals l.locals_are)
-      (held (types.Word ∷ drop (length ds) state.operands) after.operands (Word n ∷ vs) l.operands_are
-      (word_given n small, rest))
-      leads
-
-  -- nothing more
-  leaves_them : (ds : List Demand) (us vs : List TaggedValue) (after : Types)
-      → Applied below most (takes ds Nothing) state after
-      → HoldTypes world m.heap vs (drop (length ds) state.operands) → LeadsTo after next
-      → IsSafe s (leaves_operands (here us) vs)
-  leaves_them ds us vs after a rest leads =
-      let l = leaves_nothing below most ds state after a in
-      safe_leaves s ground m t d most next us after vs (locals_still after.locals l.locals_are)
-      (held (drop (length ds) state.operands) after.operands vs l.operands_are rest) leads
+      rows.gives_it s ground m t d next ds us vs (Word n) types.Word after a (word_given n small) rest leads
 
   -- ---- words in locals
 
@@ -186,24 +150,24 @@ module _ {C : Type 0} (s : Surroundings C) (ground : Ground s) (m : Machine C) (
   type_is_word types.ShortArray e = absurd cc
   type_is_word (types.ReferenceArray c) e = absurd cc
 
-  as_word : (v : TaggedValue) → has_type world m.heap v types.Word ≡ true → IsWord v
+  as_word : (v : TaggedValue) → has_type shapes m.heap v types.Word ≡ true → IsWord v
   as_word (Word n) h = record { number = n; small = ltb-true n 65536 h; is = refl }
   as_word (Ref n) h = absurd cc
   as_word Null h = absurd cc
   as_word Unset h = absurd cc
 
   word_of_type : (v : TaggedValue) (u : Ty) → is_below below u types.Word ≡ true
-      → has_type world m.heap v u ≡ true → IsWord v
+      → has_type shapes m.heap v u ≡ true → IsWord v
   word_of_type v u e h =
-      as_word v (subst (λ (x : Ty). has_type world m.heap v x ≡ true) (type_is_word u e) h)
+      as_word v (subst (λ (x : Ty). has_type shapes m.heap v x ≡ true) (type_is_word u e) h)
 
   -- a word in place of a word
   locals_put : (local : ℕ) (u : Ty) → slice_get state.locals local ≡ Some u → is_below below u types.Word ≡ true
       → (k : ℕ) → k < 65536 → (ls : List Ty) → state.locals ≡ ls
-      → HaveTypes world m.heap (set m.top.locals local (Word k)) ls
+      → HaveTypes shapes m.heap (set m.top.locals local (Word k)) ls
   locals_put local u there e k small ls same =
-      subst (λ (x : List Ty). HaveTypes world m.heap (set m.top.locals local (Word k)) x) same
-      (put_points (λ v u. has_type world m.heap v u ≡ true) local m.top.locals state.locals (Word k)
+      subst (λ (x : List Ty). HaveTypes shapes m.heap (set m.top.locals local (Word k)) x) same
+      (put_points (λ v u. has_type shapes m.heap v u ≡ true) local m.top.locals state.locals (Word k)
       (placed s ground m t).locals_typed (λ y at. word_has y (the_type y at)))
     where
       the_type : (y : Ty) → slice_get state.locals local ≡ Some y → y ≡ types.Word
@@ -211,9 +175,9 @@ module _ {C : Type 0} (s : Surroundings C) (ground : Ground s) (m : Machine C) (
           let same : u ≡ y = cc in
           sym same ∙ type_is_word u e
 
-      word_has : (y : Ty) → y ≡ types.Word → has_type world m.heap (Word k) y ≡ true
+      word_has : (y : Ty) → y ≡ types.Word → has_type shapes m.heap (Word k) y ≡ true
       word_has y is =
-          subst (λ (x : Ty). has_type world m.heap (Word k) x ≡ true) (sym is) (lt-ltb k 65536 small)
+          subst (λ (x : Ty). has_type shapes m.heap (Word k) x ≡ true) (sym is) (lt-ltb k 65536 small)
 
   -- ---- operands that are moved
 
@@ -223,29 +187,29 @@ module _ {C : Type 0} (s : Surroundings C) (ground : Ground s) (m : Machine C) (
 
   not_fewer_holds : (count : ℕ) → nat_lt (length state.operands) count ≡ false → not_fewer count ≡ true
   not_fewer_holds count e =
-      let same = same_length (IsOperand world m.heap) m.top.operands state.operands t.top.operands_typed in
+      let same = same_length (IsOperand shapes m.heap) m.top.operands state.operands t.top.operands_typed in
       let as_many : nat_lt (length m.top.operands) count ≡ false =
       ap (λ (n : ℕ). nat_lt n count) same ∙ e in
       ap (λ (b : Bool). if b then false else all_written (take count m.top.operands)) as_many
-      ∙ all_were_written world m.heap count m.top.operands state.operands t.top.operands_typed
+      ∙ all_were_written shapes m.heap count m.top.operands state.operands t.top.operands_typed
 
   moved_on : (count : ℕ) (vs : List TaggedValue) (us : List Ty) (after : Types)
       → nat_lt (length state.operands) count ≡ false → with_operands state us ≡ after
-      → HoldTypes world m.heap vs us → LeadsTo after next
+      → HoldTypes shapes m.heap vs us → LeadsTo after next
       → IsSafe s (on_operands count m.top.operands (leaves_operands (here m.top.operands) vs))
   moved_on count vs us after e is h leads =
       safe_check s (not_fewer count) (leaves_operands (here m.top.operands) vs) (not_fewer_holds count e)
       (safe_leaves s ground m t d most next m.top.operands after vs
-      (locals_still after.locals (ap (λ (x : Types). x.locals) is))
-      (held us after.operands vs (ap (λ (x : Types). x.operands) is) h) leads)
+      (rows.locals_still s ground m t after.locals (ap (λ (x : Types). x.locals) is))
+      (rows.held s ground m t us after.operands vs (ap (λ (x : Types). x.operands) is) h) leads)
 
   abbrev Operands : List TaggedValue → List Ty → Type 0
-  Operands vs us = Pointwise (IsOperand world m.heap) vs us
+  Operands vs us = Pointwise (IsOperand shapes m.heap) vs us
 
   swapped_points : (upper lower : ℕ)
       → Operands (swapped upper lower m.top.operands) (swapped upper lower state.operands)
   swapped_points upper lower =
-      let R = IsOperand world m.heap in
+      let R = IsOperand shapes m.heap in
       let vs = m.top.operands in
       let us = state.operands in
       let h = t.top.operands_typed in
@@ -258,7 +222,7 @@ module _ {C : Type 0} (s : Surroundings C) (ground : Ground s) (m : Machine C) (
   duplicated_points : (count depth : ℕ)
       → Operands (duplicated count depth m.top.operands) (duplicated count depth state.operands)
   duplicated_points count depth =
-      let R = IsOperand world m.heap in
+      let R = IsOperand shapes m.heap in
       let vs = m.top.operands in
       let us = state.operands in
       let h = t.top.operands_typed in
@@ -278,7 +242,7 @@ module _ {C : Type 0} (s : Surroundings C) (ground : Ground s) (m : Machine C) (
   nop : Owes ops.Nop
   unfolding word_effect act_word
   nop after e branches falls =
-      leaves_them [] m.top.operands m.top.operands after (row_applied below most (takes [] Nothing) state after e)
+      rows.leaves_them s ground m t d next [] m.top.operands m.top.operands after (row_applied below most (takes [] Nothing) state after e)
       t.top.operands_typed (falls refl)
 
   push : (value : ℤ) → word_of value < 65536 → Owes (ops.Push value)
@@ -300,7 +264,7 @@ module _ {C : Type 0} (s : Surroundings C) (ground : Ground s) (m : Machine C) (
   by_result : (us vs : List TaggedValue) (r : Option ℕ) (after : Types)
       → ((n : ℕ) → r ≡ Some n → n < 65536)
       → Applied below most (takes (word ∷ word ∷ []) (Exactly types.Word)) state after
-      → HoldTypes world m.heap vs (drop 2 state.operands) → LeadsTo after next
+      → HoldTypes shapes m.heap vs (drop 2 state.operands) → LeadsTo after next
       → IsSafe s (on_result (here us) r (λ n. gives (here us) (Word n) vs))
   by_result us vs None after small a rest leads = record {
     fine = throws_at s ground m t us _ (arithmetic s ground m.heap t.beside.runtime_objects);
@@ -324,8 +288,8 @@ module _ {C : Type 0} (s : Surroundings C) (ground : Ground s) (m : Machine C) (
   load local after e branches falls =
       let row = reads local word [] (Exactly types.Word) in
       let a = row_applied below most row state after e in
-      let l = local_there world m.heap m.top.locals state.locals local (placed s ground m t).locals_typed a.there in
-      let r = reads_one world before most local word [] state after types.Word a in
+      let l = local_there shapes m.heap m.top.locals state.locals local (placed s ground m t).locals_typed a.there in
+      let r = reads_one shapes (rows.before s ground m t) most local word [] state after types.Word a in
       let met : is_below below l.type types.Word ≡ true =
       ap (λ (u : Ty). is_below below u types.Word) (sym (local_type state.locals local l.type l.type_there))
       ∙ a.local_met in
@@ -335,9 +299,9 @@ module _ {C : Type 0} (s : Surroundings C) (ground : Ground s) (m : Machine C) (
       subst P (sym l.there)
       (subst (λ (v : TaggedValue). P (Some v)) (sym is_word.is)
       (safe_gives s ground m t d most next m.top.operands after (Word is_word.number) m.top.operands
-      (room_left world m.heap most 0 state.operands m.top.operands a.enough a.room t.top.operands_typed)
-      (locals_still after.locals r.locals_are)
-      (held (types.Word ∷ state.operands) after.operands (Word is_word.number ∷ m.top.operands) r.operands_are
+      (room_left shapes m.heap most 0 state.operands m.top.operands a.enough a.room t.top.operands_typed)
+      (rows.locals_still s ground m t after.locals r.locals_are)
+      (rows.held s ground m t (types.Word ∷ state.operands) after.operands (Word is_word.number ∷ m.top.operands) r.operands_are
       (word_given is_word.number is_word.small, t.top.operands_typed))
       (falls refl)))
 
@@ -345,12 +309,12 @@ module _ {C : Type 0} (s : Surroundings C) (ground : Ground s) (m : Machine C) (
   unfolding word_effect act_word
   store local after e branches falls =
       let a = row_applied below most (writes local word) state after e in
-      let x = stored world before orders m.heap most local word m.top.locals state.locals after m.top.operands
+      let x = stored shapes (rows.before s ground m t) (rows.orders s ground m t) m.heap most local word m.top.locals state.locals after m.top.operands
       state.operands t.top.operands_typed (placed s ground m t).locals_typed a in
       let P : List TaggedValue → Type 0 = λ us. IsSafe s (act_word (here us) (ops.Store local)) in
       subst P (sym x.is)
-      (word_case world m.heap
-      (λ v. HaveTypes world m.heap (set m.top.locals local v) after.locals
+      (word_case shapes m.heap
+      (λ v. HaveTypes shapes m.heap (set m.top.locals local v) after.locals
       → IsSafe s (act_word (here (v ∷ x.rest)) (ops.Store local)))
       x.value x.meets
       (λ n small has. safe_check s (nat_lt local (length m.top.locals)) _ x.within
@@ -363,8 +327,8 @@ module _ {C : Type 0} (s : Surroundings C) (ground : Ground s) (m : Machine C) (
   increment local by after e branches falls =
       let row = reads local word [] Nothing in
       let a = row_applied below most row state after e in
-      let l = local_there world m.heap m.top.locals state.locals local (placed s ground m t).locals_typed a.there in
-      let r = reads_nothing world before most local word [] state after a in
+      let l = local_there shapes m.heap m.top.locals state.locals local (placed s ground m t).locals_typed a.there in
+      let r = reads_nothing shapes (rows.before s ground m t) most local word [] state after a in
       let met : is_below below l.type types.Word ≡ true =
       ap (λ (u : Ty). is_below below u types.Word) (sym (local_type state.locals local l.type l.type_there))
       ∙ a.local_met in
@@ -377,7 +341,7 @@ module _ {C : Type 0} (s : Surroundings C) (ground : Ground s) (m : Machine C) (
       (subst (λ (v : TaggedValue). P (Some v)) (sym is_word.is)
       (safe_on s ground m t d most next m.top.operands after (set m.top.locals local (Word k)) m.top.operands
       (locals_put local l.type l.type_there met k (incremented_bound is_word.number by) after.locals r.locals_are)
-      (held state.operands after.operands m.top.operands r.operands_are t.top.operands_typed)
+      (rows.held s ground m t state.operands after.operands m.top.operands r.operands_are t.top.operands_typed)
       (falls refl)))
 
   -- ---- operands that are moved
@@ -387,7 +351,7 @@ module _ {C : Type 0} (s : Surroundings C) (ground : Ground s) (m : Machine C) (
   shuffle_pop count after e branches falls =
       let u = under (nat_lt (length state.operands) count) (with_operands state (drop count state.operands)) after e in
       moved_on count (drop count m.top.operands) (drop count state.operands) after u.0 u.1
-      (drop_points (IsOperand world m.heap) count m.top.operands state.operands t.top.operands_typed) (falls refl)
+      (drop_points (IsOperand shapes m.heap) count m.top.operands state.operands t.top.operands_typed) (falls refl)
 
   shuffle_swap : (upper lower : ℕ) → Owes (ops.Shuffle (Swap upper lower))
   unfolding word_effect act_word swap_types
@@ -402,41 +366,23 @@ module _ {C : Type 0} (s : Surroundings C) (ground : Ground s) (m : Machine C) (
   shuffle_duplicate count depth after e branches falls =
       let u = under_over (nat_lt (length state.operands) (max count depth)) (nat_lt most (length state.operands + count))
       (with_operands state (duplicated count depth state.operands)) after e in
-      let same = same_length (IsOperand world m.heap) m.top.operands state.operands t.top.operands_typed in
+      let same = same_length (IsOperand shapes m.heap) m.top.operands state.operands t.top.operands_typed in
       let few = ltb-false most (length state.operands + count) u.1 in
       safe_check s (not_fewer (max count depth)) _ (not_fewer_holds (max count depth) u.0)
       (safe_check s (nat_le (length m.top.operands + count) most) _
       (le-leb (length m.top.operands + count) most (omega (arith, same, few)))
       (safe_leaves s ground m t d most next m.top.operands after (duplicated count depth m.top.operands)
-      (locals_still after.locals (ap (λ (x : Types). x.locals) u.2))
-      (held (duplicated count depth state.operands) after.operands (duplicated count depth m.top.operands)
+      (rows.locals_still s ground m t after.locals (ap (λ (x : Types). x.locals) u.2))
+      (rows.held s ground m t (duplicated count depth state.operands) after.operands (duplicated count depth m.top.operands)
       (ap (λ (x : Types). x.operands) u.2) (duplicated_points count depth))
       (falls refl)))
 
   -- ---- branches
 
-  branch : (offset : ℤ) (ds : List Demand) (us vs : List TaggedValue) (taken : Bool) (after : Types)
-      → Applied below most (takes ds Nothing) state after
-      → HoldTypes world m.heap vs (drop (length ds) state.operands) → BranchesTo after offset → LeadsTo after next
-      → IsSafe s (branches (here us) taken offset vs)
-  branch offset ds us vs taken after a rest goes falls =
-      let l = leaves_nothing below most ds state after a in
-      safe_branches s ground m t d most next us after vs taken offset (locals_still after.locals l.locals_are)
-      (held (drop (length ds) state.operands) after.operands vs l.operands_are rest) goes falls
-
-  jump : (offset : ℤ) (ds : List Demand) (us vs : List TaggedValue) (after : Types)
-      → Applied below most (takes ds Nothing) state after
-      → HoldTypes world m.heap vs (drop (length ds) state.operands) → BranchesTo after offset
-      → IsSafe s (branches (here us) true offset vs)
-  jump offset ds us vs after a rest goes =
-      let l = leaves_nothing below most ds state after a in
-      safe_jumps s ground m t d most next us after vs offset (locals_still after.locals l.locals_are)
-      (held (drop (length ds) state.operands) after.operands vs l.operands_are rest) goes
-
   goto : (offset : ℤ) → Owes (ops.Branch Always offset)
   unfolding word_effect act_word
   goto offset after e branches falls =
-      jump offset [] m.top.operands m.top.operands after (row_applied below most (takes [] Nothing) state after e)
+      rows.jump_it s ground m t d next offset [] m.top.operands m.top.operands after (row_applied below most (takes [] Nothing) state after e)
       t.top.operands_typed branches.0
 
   branch_zero : (condition : _) (offset : ℤ) → Owes (ops.Branch (Zero condition) offset)
@@ -445,7 +391,7 @@ module _ {C : Type 0} (s : Surroundings C) (ground : Ground s) (m : Machine C) (
       let a = row_applied below most (takes (word ∷ []) Nothing) state after e in
       one_word Nothing after a (λ us. IsSafe s (act_word (here us) (ops.Branch (Zero condition) offset)))
       (λ n vs small rest.
-      branch offset (word ∷ []) (Word n ∷ vs) vs (holds condition n 0) after a rest branches.0 (falls refl))
+      rows.branch_it s ground m t d next offset (word ∷ []) (Word n ∷ vs) vs (holds condition n 0) after a rest branches.0 (falls refl))
 
   branch_compare : (condition : _) (offset : ℤ) → Owes (ops.Branch (Compare condition) offset)
   unfolding word_effect act_word
@@ -453,7 +399,7 @@ module _ {C : Type 0} (s : Surroundings C) (ground : Ground s) (m : Machine C) (
       let a = row_applied below most (takes (word ∷ word ∷ []) Nothing) state after e in
       two_words Nothing after a (λ us. IsSafe s (act_word (here us) (ops.Branch (Compare condition) offset)))
       (λ b x vs small little rest.
-      branch offset (word ∷ word ∷ []) (Word b ∷ Word x ∷ vs) vs (holds condition x b) after a rest branches.0
+      rows.branch_it s ground m t d next offset (word ∷ word ∷ []) (Word b ∷ Word x ∷ vs) vs (holds condition x b) after a rest branches.0
       (falls refl))
 
   -- ---- switches: the offset is one of those that the instruction names
@@ -488,7 +434,7 @@ module _ {C : Type 0} (s : Surroundings C) (ground : Ground s) (m : Machine C) (
       let a = row_applied below most (takes (word ∷ []) Nothing) state after e in
       one_word Nothing after a (λ us. IsSafe s (act_word (here us) (ops.StableSwitch default low offsets)))
       (λ n vs small rest.
-      jump (stable_offset default low offsets (short n)) (word ∷ []) (Word n ∷ vs) vs after a rest
+      rows.jump_it s ground m t d next (stable_offset default low offsets (short n)) (word ∷ []) (Word n ∷ vs) vs after a rest
       (in_table (BranchesTo after) default low offsets (short n) branches.0 branches.1))
 
   lookup_switch : (default : ℤ) (cases : List Case) → Owes (ops.LookupSwitch default cases)
@@ -497,5 +443,5 @@ module _ {C : Type 0} (s : Surroundings C) (ground : Ground s) (m : Machine C) (
       let a = row_applied below most (takes (word ∷ []) Nothing) state after e in
       one_word Nothing after a (λ us. IsSafe s (act_word (here us) (ops.LookupSwitch default cases)))
       (λ n vs small rest.
-      jump (lookup_offset default cases (short n)) (word ∷ []) (Word n ∷ vs) vs after a rest
+      rows.jump_it s ground m t d next (lookup_offset default cases (short n)) (word ∷ []) (Word n ∷ vs) vs after a rest
       (in_cases (BranchesTo after) default cases (short n) branches.0 branches.1))

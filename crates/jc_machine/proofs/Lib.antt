@@ -4,6 +4,15 @@ mod AppletCarried
 mod AppletKnown
 mod FirstFrame
 mod GrownWorlds
+mod Guarding
+mod GuardingArrays
+mod GuardingCalls
+mod GuardingFields
+mod GuardingObjects
+mod GuardingReturns
+mod GuardingSteps
+mod GuardingWords
+mod GuardingWrites
 mod HavingCode
 mod IdleLaw
 mod NewMachines

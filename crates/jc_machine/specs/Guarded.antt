@@ -69,3 +69,21 @@ pub record IsGuarded {C : Type 0} (s : Surroundings C) (m : Machine C) : Type 0 
   pub accesses : AreGuarded (defensive_step s m).touches (IsRefused s m (defensive_step s m))
   pub changes : (after : Machine C) → machine_of (defensive_step s m).outcome ≡ Some after
       → ChangesAccessed (defensive_step s m).touches m.heap after.heap
+
+-- ---- what follows
+
+-- an object was accessed by a context, or by the runtime
+pub record IsAccessedBy (touches : List Touch) (number context : ℕ) : Type 0 where
+  pub place : ℕ
+  pub touch : Touch
+  pub listed : slice_get touches place ≡ Some touch
+  pub is : touch.object ≡ number
+  pub allowed : is_allowed touch.verdict ≡ true
+  pub active : (touch.active ≡ context) ⊎ (touch.active ≡ runtime_context)
+
+-- a plain object changes only by an access of its own context, or of the runtime
+abbrev pub KeepsPlain : {C : Type 0} → Surroundings C → Machine C → Type 0
+KeepsPlain {C} s m = (after : Machine C) → machine_of (defensive_step s m).outcome ≡ Some after
+    → (number : ℕ) (o p : Object TaggedValue) → object_at m.heap number ≡ Some o
+    → object_at after.heap number ≡ Some p → o.kind.mark ≡ Plain
+    → (p.cells ≡ o.cells) ⊎ IsAccessedBy (defensive_step s m).touches number o.owner.context

@@ -1,19 +1,22 @@
 //! What holds of accepted worlds.
 
-ghost use Rattle.std.specs.Prelude.{◌≡◌, Some};
+ghost use Rattle.std.specs.Prelude.{◌≡◌, Some, false};
 ghost use Rattle.jc_api.specs.Bound.{Bound};
 ghost use Rattle.jc_api.specs.NoClash.{HasNoClash};
 ghost use Rattle.jc_cap_desc.specs.Shape.{MethodBody};
 ghost use Rattle.jc_check.specs.Checked.{IsMethodTyped, IsPackageCarried, IsPackageTyped};
 ghost use Rattle.jc_machine.specs.Accepted.{HaveCode, IsAccepted, api_alone, linked_as};
+ghost use Rattle.jc_machine.specs.Guarded.{IsGuarded, IsRefused, KeepsPlain, are_allowed};
 ghost use Rattle.jc_machine.specs.Lookup.{body_at, code_at};
-ghost use Rattle.jc_machine.specs.Machine.{MethodPlace};
-ghost use Rattle.jc_machine.specs.Natives.{KeepsObjects};
+ghost use Rattle.jc_machine.specs.Machine.{Machine, MethodPlace, Surroundings};
+ghost use Rattle.jc_machine.specs.Natives.{AreNativesGuarded, KeepsObjects};
 ghost use Rattle.jc_machine.specs.Runtime.{HasRuntimeObjects};
+ghost use Rattle.jc_machine.specs.Step.{defensive_step};
 ghost use Rattle.jc_link.specs.Linked.{IsBoundTo, IsLast, IsWorld, Linked, LinkedBody, World, with_linked};
 ghost use Rattle.jc_store.specs.Heap.{Heap};
 ghost use Rattle.jc_words.specs.Values.{TaggedValue};
 
+use crate::natives::Natives;
 use jc_classes::growing_keeps_lookups;
 use jc_link::growing_keeps_linking;
 
@@ -45,4 +48,15 @@ pub fn accepted_worlds_grow()
 pub fn runtime_objects_stay()
     ensures { (before after : Heap TaggedValue) → KeepsObjects before after → HasRuntimeObjects before
         → HasRuntimeObjects after }
+{}
+
+/// The law of accesses, of each step of each machine, well typed or not, whose native members keep theirs. Each access
+/// is allowed, or it is the last, and then the security exception is thrown from the machine as it was. Components change
+/// only of objects of which an allowed access is listed; those of a plain object by its own context alone, or by the
+/// runtime. What the runtime keeps is whatever natives of any type keep. It does nothing.
+pub fn accesses_are_guarded<N: Natives>(_natives: &N)
+    ensures guarded { (s : Surroundings N.Kept) → AreNativesGuarded s.natives → (m : Machine N.Kept) → IsGuarded s m }
+    ensures denied { (s : Surroundings N.Kept) → AreNativesGuarded s.natives → (m : Machine N.Kept)
+        → are_allowed (defensive_step s m).touches ≡ false → IsRefused s m (defensive_step s m) }
+    ensures plain { (s : Surroundings N.Kept) → AreNativesGuarded s.natives → (m : Machine N.Kept) → KeepsPlain s m }
 {}

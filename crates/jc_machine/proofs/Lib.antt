@@ -2,6 +2,8 @@ mod Accepting
 mod ApiResults
 mod AppletCarried
 mod AppletKnown
+mod Beginning
+mod CellsOfClasses
 mod FirstFrame
 mod GrownWorlds
 mod Guarding

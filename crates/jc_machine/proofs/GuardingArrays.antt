@@ -15,38 +15,38 @@ use Rattle.jc_machine.proofs.Guarding.{KeepsLaw, at_accessed, at_check, at_objec
 use Rattle.jc_machine.proofs.Guarding.{at_stored, at_word, gives_still}
 use Rattle.jc_machine.proofs.GuardingWrites.{stores}
 
-pub load_keeps : {C : Type 0} (h : Here C) (form : Form) → KeepsLaw h.machine [] (act_load h form)
+pub load_keeps : {C : Type 0} (h : Here C) (form : Form) → KeepsLaw h.around h.machine [] (act_load h form)
 load_keeps h form =
     at_word h.machine.top.operands _ (λ index us. at_reference us _ (λ array vs. at_object h array _ (λ number o there.
-    at_check (is_array_of form o.kind.object) _ (at_accessed h LoadComponent number o _ (λ fine.
+    at_check (is_array_of form o.kind.object) _ (at_accessed h LoadComponent number o there _ (λ fine.
     at_require h array_index_exception (is_in_bounds index o) _ (at_some (slice_get o.cells index) _ (λ v e.
     gives_still h (loaded_as form v) vs)))))))
 
-store_word_keeps : {C : Type 0} (h : Here C) (form : Form) → KeepsLaw h.machine [] (act_store_word h form)
+store_word_keeps : {C : Type 0} (h : Here C) (form : Form) → KeepsLaw h.around h.machine [] (act_store_word h form)
 store_word_keeps h form =
     at_word h.machine.top.operands _ (λ n ts. at_word ts _ (λ index us. at_reference us _ (λ array vs.
     at_object h array _ (λ number o there. at_check (is_array_of form o.kind.object) _
-    (at_accessed h StoreComponent number o _ (λ fine.
+    (at_accessed h StoreComponent number o there _ (λ fine.
     at_require h array_index_exception (is_in_bounds index o) _
     (stores h StoreComponent number o None index (stored_as form (Word n)) vs there (inr refl) fine)))))))
 
-store_reference_keeps : {C : Type 0} (h : Here C) → KeepsLaw h.machine [] (act_store_reference h)
+store_reference_keeps : {C : Type 0} (h : Here C) → KeepsLaw h.around h.machine [] (act_store_reference h)
 store_reference_keeps h =
     at_reference h.machine.top.operands _ (λ v ts. at_check (is_there h v) _ (at_word ts _ (λ index us.
     at_reference us _ (λ array vs. at_object h array _ (λ number o there.
     at_some (component_class o.kind.object) _ (λ class e.
-    at_stored h StoreReference number o (mark_of h.machine.heap v) _ (λ fine.
+    at_stored h StoreReference number o there (mark_of h.machine.heap v) _ (λ fine.
     at_require h array_index_exception (is_in_bounds index o) _
     (at_require h array_store_exception (leads_to h.machine.heap (is_instance h.around.world.shapes class) v) _
     (stores h StoreReference number o (mark_of h.machine.heap v) index v vs there (inr refl) fine)))))))))
 
-pub store_keeps : {C : Type 0} (h : Here C) (form : Form) → KeepsLaw h.machine [] (act_store h form)
+pub store_keeps : {C : Type 0} (h : Here C) (form : Form) → KeepsLaw h.around h.machine [] (act_store h form)
 store_keeps h Forms.Reference = store_reference_keeps h
 store_keeps h Forms.Byte = store_word_keeps h Forms.Byte
 store_keeps h Forms.Short = store_word_keeps h Forms.Short
 
-pub length_keeps : {C : Type 0} (h : Here C) → KeepsLaw h.machine [] (act_length h)
+pub length_keeps : {C : Type 0} (h : Here C) → KeepsLaw h.around h.machine [] (act_length h)
 length_keeps h =
     at_reference h.machine.top.operands _ (λ array vs. at_object h array _ (λ number o there.
-    at_check (is_array o.kind.object) _ (at_accessed h ArrayLength number o _ (λ fine.
+    at_check (is_array o.kind.object) _ (at_accessed h ArrayLength number o there _ (λ fine.
     gives_still h (Word (length o.cells)) vs))))

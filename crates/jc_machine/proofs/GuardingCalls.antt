@@ -21,16 +21,20 @@ use Rattle.jc_machine.specs.Calls.{inner_native_ends, invokes, is_in_place_of, n
 use Rattle.jc_machine.specs.Calls.{native_type, on_native, previous_in, special_target, static_target, type_of_member}
 use Rattle.jc_machine.specs.Calls.{virtual_member, virtual_target, with_arguments, with_given, with_receiver}
 use Rattle.jc_machine.specs.Going.{Here, facts_of, moved, plain, throws, touched, with_machine}
-use Rattle.jc_machine.specs.Guarded.{AreGuarded, ChangesAccessed}
+use Rattle.jc_machine.specs.Guarded.{AreGuarded, ChangesAccessed, IsActive, IsJudged, of_callee, of_frame, of_runtime}
+use Rattle.jc_firewall.specs.Verdict.{runtime_context}
+use Rattle.std.specs.List.{AllByRecursion}
+use Rattle.std.proofs.Common.{◌⊎◌, inl, inr}
 use Rattle.jc_machine.specs.Lookup.{are_of_types, class_of, declared_at, is_given, is_of_class, is_shared_interface}
 use Rattle.jc_machine.specs.Machine.{Callback, Calls, Frame, Gives, IsStuck, Machine, MethodPlace, NativeAnswer}
+use Rattle.jc_machine.specs.Machine.{Surroundings}
 use Rattle.jc_machine.specs.Machine.{NativeCall, NativeEnd, Next, Stepped, Throws, ThrowsObject, Touch, UsedUp}
-use Rattle.jc_machine.specs.Natives.{AreNativesGuarded, IsGuardedAnswer, IsRefusedAnswer}
+use Rattle.jc_machine.specs.Natives.{AreNativesGuarded, IsGuardedAnswer, IsNativeTouch, IsRefusedAnswer}
 use Rattle.jc_machine.specs.Runtime.{class_cast_exception, security_exception}
 use Rattle.jc_words.specs.Values.{Ref, TaggedValue}
 use Rattle.jc_machine.proofs.Guarding.{KeepsLaw, at_check, at_judged, at_object, at_reference, at_require, at_some}
 use Rattle.jc_machine.proofs.Guarding.{at_target, behind, changes_later, gives_changed, goes, is_stuck, leaves, mapped}
-use Rattle.jc_machine.proofs.Guarding.{stays}
+use Rattle.jc_machine.proofs.Guarding.{each_mapped, stays}
 
 -- ---- frames
 
@@ -44,17 +48,17 @@ above h f operands = record {
 }
 
 by_room : {C : Type 0} {before : List Touch} (h : Here C) (f : Frame) (operands : List TaggedValue) (room : Bool)
-    → KeepsLaw h.machine before (cond room (plain (Next (above h f operands))) (plain (UsedUp h.machine)))
+    → KeepsLaw h.around h.machine before (cond room (plain (Next (above h f operands))) (plain (UsedUp h.machine)))
 by_room h f operands true = stays (Next (above h f operands)) (above h f operands) refl refl
 by_room h f operands false = stays (UsedUp h.machine) h.machine refl refl
 
 entered_keeps : {C : Type 0} {before : List Touch} (h : Here C) (f : Frame) (max_stack : ℕ)
-    (operands : List TaggedValue) → KeepsLaw h.machine before (entered h f max_stack operands)
+    (operands : List TaggedValue) → KeepsLaw h.around h.machine before (entered h f max_stack operands)
 entered_keeps h f max_stack operands =
     by_room h f operands (has_room h.around (h.machine.top ∷ h.machine.waiting) (length f.locals + max_stack))
 
 enters_keeps : {C : Type 0} {before : List Touch} (h : Here C) (switch : Option Owner) (place : MethodPlace)
-    (arguments operands : List TaggedValue) → KeepsLaw h.machine before (enters h switch place arguments operands)
+    (arguments operands : List TaggedValue) → KeepsLaw h.around h.machine before (enters h switch place arguments operands)
 enters_keeps h switch place arguments operands =
     at_some (option_and_then (λ d. d.method.header) (declared_at h.around.world place)) _ (λ (header : MethodHeader) e.
     at_check (not header.is_abstract) _
@@ -86,18 +90,40 @@ record IsRefusal {C : Type 0} (m : Machine C) (a : NativeAnswer C) : Type 0 wher
   unchanged : IsAsWas m a
   throws : a.ends ≡ ThrowsObject security_exception
 
-record IsFineAnswer {C : Type 0} (m : Machine C) (a : NativeAnswer C) : Type 0 where
+record IsFineAnswer {C : Type 0} (around : Surroundings C) (m : Machine C) (a : NativeAnswer C) : Type 0 where
+  judged : AllByRecursion (IsJudged around m) a.touches
   guarded : AreGuarded a.touches (IsRefusal m a)
   changes : ChangesAccessed a.touches m.heap a.heap
   calls : (callback : Callback) → a.ends ≡ Calls callback → IsAsWas m a
 
+-- its accesses are judged, where whose owner is active may be so
+native_context : {C : Type 0} (m : Machine C) (active context : ℕ) → IsActive m active
+    → (context ≡ active) ⊎ (context ≡ runtime_context) → IsActive m context
+native_context m active context may (inl e) = subst (IsActive m) (sym e) may
+native_context m active context may (inr e) = of_runtime e
+
+native_judged : {C : Type 0} (h : Here C) (active : Owner) (previous : Option Owner) (member : ℕ)
+    (arguments : List TaggedValue) → IsActive h.machine active.context → (t : Touch)
+    → IsNativeTouch h.around.world (call_of h active previous member arguments) t → IsJudged h.around h.machine t
+native_judged h active previous member arguments may t n = record {
+  active = native_context h.machine active.context t.active may n.active;
+  object = n.object;
+  found = n.found;
+  stored = None;
+  shared = false;
+  verdict = n.verdict;
+}
+
 fine_answer : {C : Type 0} (h : Here C) → AreNativesGuarded h.around.natives → (active : Owner)
-    (previous : Option Owner) (member : ℕ) (arguments : List TaggedValue)
-    → IsFineAnswer h.machine (native_answer h active previous member arguments)
-fine_answer {C = C} h natives active previous member arguments =
+    → IsActive h.machine active.context → (previous : Option Owner) (member : ℕ) (arguments : List TaggedValue)
+    → IsFineAnswer h.around h.machine (native_answer h active previous member arguments)
+fine_answer {C = C} h natives active may previous member arguments =
     let call : NativeCall C = call_of h active previous member arguments in
     let a : NativeAnswer C = native_answer h active previous member arguments in
     let g : IsGuardedAnswer h.around.world call a = natives h.around.world call in record {
+      judged =
+          each_mapped (IsNativeTouch h.around.world call) (IsJudged h.around h.machine) a.touches
+          (native_judged h active previous member arguments may) g.touches;
       guarded = mapped a.touches (IsRefusedAnswer call a) (IsRefusal h.machine a) (λ r. record {
         unchanged = record { heap = r.unchanged.heap; runtime = r.unchanged.runtime };
         throws = r.throws;
@@ -147,30 +173,30 @@ same_thrown ends number e f = cc
 
 -- behind an answer that isn't a refusal
 goes_behind_answer : {C : Type 0} {before : List Touch} (h : Here C) (a : NativeAnswer C) (s : Stepped C)
-    → IsFineAnswer h.machine a → (a.ends ≡ ThrowsObject security_exception → ⊥)
-    → KeepsLaw h.machine (before ++ a.touches) s → KeepsLaw h.machine before (touched a.touches s)
+    → IsFineAnswer h.around h.machine a → (a.ends ≡ ThrowsObject security_exception → ⊥)
+    → KeepsLaw h.around h.machine (before ++ a.touches) s → KeepsLaw h.around h.machine before (touched a.touches s)
 goes_behind_answer h a s fine other k =
-    behind a.touches s
+    behind a.touches s fine.judged
     (mapped a.touches (IsRefusal h.machine a) (s ≡ plain (Throws h.machine security_exception)) (λ r.
     absurd (other r.throws)) fine.guarded) k
 
 -- it gives what it gives
-given_keeps : {C : Type 0} {m : Machine C} {before : List Touch} (h : Here C) (value : Option TaggedValue)
+given_keeps : {C : Type 0} {around : Surroundings C} {m : Machine C} {before : List Touch} (h : Here C) (value : Option TaggedValue)
     (operands : List TaggedValue) → ChangesAccessed before m.heap h.machine.heap
-    → KeepsLaw m before (with_given h value operands)
+    → KeepsLaw around m before (with_given h value operands)
 given_keeps h None operands changes = goes h h.next_pc h.machine.top.locals operands changes
 given_keeps h (Some v) operands changes = gives_changed h v operands changes
 
-gives_keeps : {C : Type 0} {m : Machine C} {before : List Touch} (h : Here C) (signature : Signature ClassName)
+gives_keeps : {C : Type 0} {around : Surroundings C} {m : Machine C} {before : List Touch} (h : Here C) (signature : Signature ClassName)
     (value : Option TaggedValue) (operands : List TaggedValue) → ChangesAccessed before m.heap h.machine.heap
-    → KeepsLaw m before (native_gives h signature value operands)
+    → KeepsLaw around m before (native_gives h signature value operands)
 gives_keeps h signature value operands changes =
     at_check (is_given h.around.world.shapes h.machine.heap signature.result value) _
     (given_keeps h value operands changes)
 
 gave_keeps : {C : Type 0} {before : List Touch} (h : Here C) (a : NativeAnswer C) (signature : Signature ClassName)
-    (value : Option TaggedValue) (operands : List TaggedValue) → IsFineAnswer h.machine a → a.ends ≡ Gives value
-    → KeepsLaw h.machine before (touched a.touches (native_gives (after_native h a) signature value operands))
+    (value : Option TaggedValue) (operands : List TaggedValue) → IsFineAnswer h.around h.machine a → a.ends ≡ Gives value
+    → KeepsLaw h.around h.machine before (touched a.touches (native_gives (after_native h a) signature value operands))
 gave_keeps {before = before} h a signature value operands fine e =
     goes_behind_answer h a (native_gives (after_native h a) signature value operands) fine
     (not_given a.ends value e)
@@ -179,10 +205,10 @@ gave_keeps {before = before} h a signature value operands fine e =
 
 -- it throws, as where an access of its own was denied
 threw_keeps : {C : Type 0} {before : List Touch} (h : Here C) (a : NativeAnswer C) (number : ℕ)
-    → IsFineAnswer h.machine a → a.ends ≡ ThrowsObject number
-    → KeepsLaw h.machine before (touched a.touches (throws (after_native h a) number))
+    → IsFineAnswer h.around h.machine a → a.ends ≡ ThrowsObject number
+    → KeepsLaw h.around h.machine before (touched a.touches (throws (after_native h a) number))
 threw_keeps {C = C} {before = before} h a number fine e =
-    behind a.touches (throws (after_native h a) number)
+    behind a.touches (throws (after_native h a) number) fine.judged
     (mapped a.touches (IsRefusal h.machine a)
     (throws (after_native h a) number ≡ plain (Throws h.machine security_exception)) (λ r.
     ap (λ (m : Machine C). plain (Throws m number)) (same_machine h a r.unchanged)
@@ -193,9 +219,9 @@ threw_keeps {C = C} {before = before} h a number fine e =
 -- ---- a native member that another one called
 
 inner_end_keeps : {C : Type 0} {before : List Touch} (h : Here C) (a : NativeAnswer C)
-    (signature : Signature ClassName) (operands : List TaggedValue) → IsFineAnswer h.machine a → (ends : NativeEnd)
+    (signature : Signature ClassName) (operands : List TaggedValue) → IsFineAnswer h.around h.machine a → (ends : NativeEnd)
     → a.ends ≡ ends
-    → KeepsLaw h.machine before (touched a.touches (inner_native_ends operands (after_native h a) signature ends))
+    → KeepsLaw h.around h.machine before (touched a.touches (inner_native_ends operands (after_native h a) signature ends))
 inner_end_keeps h a signature operands fine (Gives value) e = gave_keeps h a signature value operands fine e
 inner_end_keeps h a signature operands fine (ThrowsObject number) e = threw_keeps h a number fine e
 inner_end_keeps h a signature operands fine (Calls callback) e =
@@ -203,46 +229,46 @@ inner_end_keeps h a signature operands fine (Calls callback) e =
 inner_end_keeps h a signature operands fine IsStuck e = goes_behind_answer h a _ fine (not_stuck a.ends e) is_stuck
 
 inner_keeps : {C : Type 0} {before : List Touch} (h : Here C) → AreNativesGuarded h.around.natives → (active : Owner)
-    (previous : Option Owner) (member : ℕ) (arguments operands : List TaggedValue)
-    → KeepsLaw h.machine before (on_native h active previous member arguments (inner_native_ends operands))
-inner_keeps h natives active previous member arguments operands =
+    → IsActive h.machine active.context → (previous : Option Owner) (member : ℕ) (arguments operands : List TaggedValue)
+    → KeepsLaw h.around h.machine before (on_native h active previous member arguments (inner_native_ends operands))
+inner_keeps h natives active may previous member arguments operands =
     at_some (native_type h.around.world.shapes member) _ (λ signature e.
     inner_end_keeps h (native_answer h active previous member arguments) signature operands
-    (fine_answer h natives active previous member arguments)
+    (fine_answer h natives active may previous member arguments)
     (native_answer h active previous member arguments).ends refl)
 
 called_as_keeps : {C : Type 0} {before : List Touch} (h : Here C) → AreNativesGuarded h.around.natives
-    → (owner : Owner) (method : MethodName) (arguments operands : List TaggedValue)
-    → KeepsLaw h.machine before (called_as h owner method arguments operands)
-called_as_keeps h natives owner (Loaded number offset) arguments operands =
+    → (owner : Owner) → IsActive h.machine owner.context → (method : MethodName) (arguments operands : List TaggedValue)
+    → KeepsLaw h.around h.machine before (called_as h owner method arguments operands)
+called_as_keeps h natives owner may (Loaded number offset) arguments operands =
     enters_keeps h (Some owner) (record { number = number; offset = offset }) arguments operands
-called_as_keeps h natives owner (Api member) arguments operands =
-    inner_keeps h natives owner (Some h.machine.top.active) member arguments operands
+called_as_keeps h natives owner may (Api member) arguments operands =
+    inner_keeps h natives owner may (Some h.machine.top.active) member arguments operands
 
 calls_back_keeps : {C : Type 0} {before : List Touch} (h : Here C) → AreNativesGuarded h.around.natives
     → (given : Signature ClassName) (callback : Callback) (operands : List TaggedValue)
-    → KeepsLaw h.machine before (calls_back h given callback operands)
+    → KeepsLaw h.around h.machine before (calls_back h given callback operands)
 calls_back_keeps h natives given callback operands =
-    at_some (object_at h.machine.heap callback.object) _ (λ object e.
+    at_some (object_at h.machine.heap callback.object) _ (λ object there.
     at_some (type_of_member h.around.world.shapes callback.member) _ (λ signature e.
     at_some (virtual_member h.around.world.shapes callback.member) _ (λ member e.
     at_check (callback_fits h given signature member.class object callback.arguments) _
     (at_some (virtual_method_of h.around.world.shapes (class_of object.kind.object) member.token 0) _ (λ method e.
     at_check (is_in_place_of h.around.world.shapes member.class signature method) _
-    (called_as_keeps h natives object.owner method (Ref callback.object ∷ callback.arguments) operands))))))
+    (called_as_keeps h natives object.owner (of_callee callback.object object there refl) method (Ref callback.object ∷ callback.arguments) operands))))))
 
 -- a native member that makes a call has changed nothing
 called_back_keeps : {C : Type 0} {before : List Touch} (h : Here C) → AreNativesGuarded h.around.natives
     → (a : NativeAnswer C) (given : Signature ClassName) (callback : Callback) (operands : List TaggedValue)
-    → IsAsWas h.machine a → KeepsLaw h.machine before (calls_back (after_native h a) given callback operands)
+    → IsAsWas h.machine a → KeepsLaw h.around h.machine before (calls_back (after_native h a) given callback operands)
 called_back_keeps {C = C} {before = before} h natives a given callback operands same =
-    subst (λ (x : Here C). KeepsLaw h.machine before (calls_back x given callback operands))
+    subst (λ (x : Here C). KeepsLaw h.around h.machine before (calls_back x given callback operands))
     (sym (same_place h a same)) (calls_back_keeps h natives given callback operands)
 
 end_keeps : {C : Type 0} {before : List Touch} (h : Here C) → AreNativesGuarded h.around.natives
     → (a : NativeAnswer C) (signature : Signature ClassName) (operands : List TaggedValue)
-    → IsFineAnswer h.machine a → (ends : NativeEnd) → a.ends ≡ ends
-    → KeepsLaw h.machine before (touched a.touches (native_ends operands (after_native h a) signature ends))
+    → IsFineAnswer h.around h.machine a → (ends : NativeEnd) → a.ends ≡ ends
+    → KeepsLaw h.around h.machine before (touched a.touches (native_ends operands (after_native h a) signature ends))
 end_keeps h natives a signature operands fine (Gives value) e = gave_keeps h a signature value operands fine e
 end_keeps h natives a signature operands fine (ThrowsObject number) e = threw_keeps h a number fine e
 end_keeps h natives a signature operands fine (Calls callback) e =
@@ -251,30 +277,31 @@ end_keeps h natives a signature operands fine (Calls callback) e =
 end_keeps h natives a signature operands fine IsStuck e = goes_behind_answer h a _ fine (not_stuck a.ends e) is_stuck
 
 native_keeps : {C : Type 0} {before : List Touch} (h : Here C) → AreNativesGuarded h.around.natives
-    → (active : Owner) (previous : Option Owner) (member : ℕ) (arguments operands : List TaggedValue)
-    → KeepsLaw h.machine before (on_native h active previous member arguments (native_ends operands))
-native_keeps h natives active previous member arguments operands =
+    → (active : Owner) → IsActive h.machine active.context → (previous : Option Owner) (member : ℕ)
+    (arguments operands : List TaggedValue)
+    → KeepsLaw h.around h.machine before (on_native h active previous member arguments (native_ends operands))
+native_keeps h natives active may previous member arguments operands =
     at_some (native_type h.around.world.shapes member) _ (λ signature e.
     end_keeps h natives (native_answer h active previous member arguments) signature operands
-    (fine_answer h natives active previous member arguments)
+    (fine_answer h natives active may previous member arguments)
     (native_answer h active previous member arguments).ends refl)
 
 -- ---- a method that was found
 
 invokes_keeps : {C : Type 0} {before : List Touch} (h : Here C) → AreNativesGuarded h.around.natives
     → (switch : Option Owner) (method : MethodName) (arguments operands : List TaggedValue)
-    → KeepsLaw h.machine before (invokes h switch method arguments operands)
+    → KeepsLaw h.around h.machine before (invokes h switch method arguments operands)
 invokes_keeps h natives switch (Loaded number offset) arguments operands =
     enters_keeps h switch (record { number = number; offset = offset }) arguments operands
 invokes_keeps h natives switch (Api member) arguments operands =
-    native_keeps h natives h.machine.top.active h.machine.top.previous member arguments operands
+    native_keeps h natives h.machine.top.active (of_frame refl) h.machine.top.previous member arguments operands
 
 -- ---- instructions
 
 at_arguments : {C : Type 0} {before : List Touch} (h : Here C) (signature : Signature ClassName)
     (go : List TaggedValue → List TaggedValue → Stepped C)
-    → ((arguments operands : List TaggedValue) → KeepsLaw h.machine before (go arguments operands))
-    → KeepsLaw h.machine before (with_arguments h signature go)
+    → ((arguments operands : List TaggedValue) → KeepsLaw h.around h.machine before (go arguments operands))
+    → KeepsLaw h.around h.machine before (with_arguments h signature go)
 at_arguments h signature go k =
     at_check
     (are_of_types h.around.world.shapes h.machine.heap signature.parameters
@@ -285,53 +312,52 @@ at_arguments h signature go k =
 at_receiver : {C : Type 0} {before : List Touch} (h : Here C) (signature : Signature ClassName)
     (go : List TaggedValue → ℕ → Object TaggedValue → List TaggedValue → Stepped C)
     → ((arguments : List TaggedValue) (number : ℕ) (o : Object TaggedValue) (operands : List TaggedValue)
-    → KeepsLaw h.machine before (go arguments number o operands))
-    → KeepsLaw h.machine before (with_receiver h signature go)
+    → object_at h.machine.heap number ≡ Some o → KeepsLaw h.around h.machine before (go arguments number o operands))
+    → KeepsLaw h.around h.machine before (with_receiver h signature go)
 at_receiver h signature go k =
     at_arguments h signature _ (λ arguments us. at_reference us _ (λ receiver operands.
-    at_object h receiver _ (λ number o there. k (receiver ∷ arguments) number o operands)))
+    at_object h receiver _ (λ number o there. k (receiver ∷ arguments) number o operands there)))
 
 virtual_keeps : {C : Type 0} (h : Here C) → AreNativesGuarded h.around.natives → (target : VirtualTarget)
-    → KeepsLaw h.machine [] (act_virtual h target)
+    → KeepsLaw h.around h.machine [] (act_virtual h target)
 virtual_keeps h natives target =
-    at_receiver h target.signature _ (λ arguments number o operands.
+    at_receiver h target.signature _ (λ arguments number o operands there.
     at_check (is_of_class h.around.world.shapes target.class o.kind.object) _
-    (at_judged h InvokeVirtual number (facts_of h o None false) _ (λ fine switch.
+    (at_judged h InvokeVirtual number o there None false _ (λ fine switch.
     at_some (found_for h target.token o) _ (λ method e.
     invokes_keeps h natives switch method arguments operands))))
 
 special_keeps : {C : Type 0} (h : Here C) → AreNativesGuarded h.around.natives → (target : MethodTarget)
-    → KeepsLaw h.machine [] (act_special h target)
+    → KeepsLaw h.around h.machine [] (act_special h target)
 special_keeps h natives target =
-    at_receiver h target.signature _ (λ arguments number o operands.
+    at_receiver h target.signature _ (λ arguments number o operands there.
     at_check (is_of_class h.around.world.shapes target.class o.kind.object) _
     (invokes_keeps h natives None target.method arguments operands))
 
 static_call_keeps : {C : Type 0} (h : Here C) → AreNativesGuarded h.around.natives → (target : MethodTarget)
-    → KeepsLaw h.machine [] (act_static_call h target)
+    → KeepsLaw h.around h.machine [] (act_static_call h target)
 static_call_keeps h natives target =
     at_arguments h target.signature _ (λ arguments operands.
     invokes_keeps h natives None target.method arguments operands)
 
 of_interface_keeps : {C : Type 0} (h : Here C) → AreNativesGuarded h.around.natives → (interface : ClassName)
     (token : ℕ) (signature : Signature ClassName)
-    → KeepsLaw h.machine [] (act_of_interface h interface token signature)
+    → KeepsLaw h.around h.machine [] (act_of_interface h interface token signature)
 of_interface_keeps h natives interface token signature =
-    at_receiver h signature _ (λ arguments number o operands.
-    at_judged h InvokeInterface number
-    (facts_of h o None (is_shared_interface h.around.world.shapes interface)) _ (λ fine switch.
+    at_receiver h signature _ (λ arguments number o operands there.
+    at_judged h InvokeInterface number o there None (is_shared_interface h.around.world.shapes interface) _ (λ fine switch.
     at_require h class_cast_exception (has_interface h.around.world.shapes interface o) _
     (at_some (interface_method_of h.around.world.shapes (class_of o.kind.object) interface token) _ (λ method e.
     invokes_keeps h natives switch method arguments operands))))
 
 interface_keeps : {C : Type 0} (h : Here C) → AreNativesGuarded h.around.natives → (count token : ℕ)
-    (interface : ClassName) → KeepsLaw h.machine [] (act_interface h count token interface)
+    (interface : ClassName) → KeepsLaw h.around h.machine [] (act_interface h count token interface)
 interface_keeps h natives count token interface =
     at_some (interface_method_type h.around.world.shapes interface token) _ (λ signature e.
     at_check (count == 1 + length signature.parameters) _ (of_interface_keeps h natives interface token signature))
 
 pub call_keeps : {C : Type 0} (h : Here C) → AreNativesGuarded h.around.natives → (invocation : Invocation)
-    → KeepsLaw h.machine [] (act_call h invocation)
+    → KeepsLaw h.around h.machine [] (act_call h invocation)
 call_keeps h natives (Virtual index) = at_target h index virtual_target (act_virtual h) (virtual_keeps h natives)
 call_keeps h natives (Special index) = at_target h index special_target (act_special h) (special_keeps h natives)
 call_keeps h natives (Static index) =

@@ -21,6 +21,7 @@ use Rattle.jc_machine.specs.Fields.{put_static, puts, putting, static_at, stored
 use Rattle.jc_machine.specs.Going.{Here, facts_of}
 use Rattle.jc_machine.specs.Lookup.{is_of_class, is_of_type, mark_of}
 use Rattle.jc_machine.specs.Machine.{Machine, Stepped, Touch}
+use Rattle.jc_machine.specs.Machine.{Surroundings}
 use Rattle.jc_words.specs.Values.{Null, Ref, TaggedValue, Unset, Word}
 use Rattle.jc_machine.proofs.Guarding.{KeepsLaw, at_accessed, at_check, at_object, at_reference, at_reference_local}
 use Rattle.jc_machine.proofs.Guarding.{at_some, at_stored, at_target, at_top, gives_still, goes, is_stuck}
@@ -30,23 +31,23 @@ use Rattle.jc_machine.proofs.GuardingWrites.{stores}
 -- ---- static fields
 
 get_static_keeps : {C : Type 0} (h : Here C) (form : Form) (place : StaticPlace)
-    → KeepsLaw h.machine [] (act_get_static h form place)
+    → KeepsLaw h.around h.machine [] (act_get_static h form place)
 get_static_keeps h form place =
     at_some (static_at h.machine.statics place.home place.offset) _ (λ s e.
     gives_still h (loaded_as form s.value) h.machine.top.operands)
 
 -- what is stored has been accessed, if it is an object
 at_stored_value : {C : Type 0} (h : Here C) (v : TaggedValue) (s : Stepped C)
-    → ((before : List Touch) → KeepsLaw h.machine before s) → KeepsLaw h.machine [] (stored_in_static h v s)
+    → ((before : List Touch) → KeepsLaw h.around h.machine before s) → KeepsLaw h.around h.machine [] (stored_in_static h v s)
 at_stored_value h (Word n) s k = k []
 at_stored_value h (Ref n) s k =
     at_object h (Ref n) _ (λ number o there.
-    at_stored h PutStaticReference number o (Some o.kind.mark) s (λ fine. k _))
+    at_stored h PutStaticReference number o there (Some o.kind.mark) s (λ fine. k _))
 at_stored_value h Null s k = k []
 at_stored_value h Unset s k = is_stuck
 
 put_static_keeps : {C : Type 0} (h : Here C) (form : Form) (place : StaticPlace) (declared : DeclaredType ClassName)
-    → KeepsLaw h.machine [] (act_put_static h form place declared)
+    → KeepsLaw h.around h.machine [] (act_put_static h form place declared)
 put_static_keeps h form place declared =
     at_top h.machine.top.operands _ (λ v vs.
     at_check (is_of_type h.around.world.shapes h.machine.heap declared v) _
@@ -56,7 +57,7 @@ put_static_keeps h form place declared =
 
 static_keeps : {C : Type 0} (h : Here C) (access : FieldAccess) (place : StaticPlace)
     (declared : DeclaredType ClassName) (action : FieldAction) (holder : Holder)
-    → KeepsLaw h.machine [] (act_static h access place declared action holder)
+    → KeepsLaw h.around h.machine [] (act_static h access place declared action holder)
 static_keeps h access place declared Get Holders.Class = get_static_keeps h access.form place
 static_keeps h access place declared Put Holders.Class = put_static_keeps h access.form place declared
 static_keeps h access place declared Get Holders.Operand = is_stuck
@@ -67,10 +68,10 @@ static_keeps h access place declared Put Holders.This = is_stuck
 -- ---- fields of objects
 
 gets_keeps : {C : Type 0} (h : Here C) (form : Form) (field : InstanceField) (v : TaggedValue) (vs : List TaggedValue)
-    → KeepsLaw h.machine [] (gets h form field v vs)
+    → KeepsLaw h.around h.machine [] (gets h form field v vs)
 gets_keeps h form field v vs =
     at_object h v _ (λ number o there. at_check (is_of_class h.around.world.shapes field.class o.kind.object) _
-    (at_accessed h GetField number o _ (λ fine. at_some (slice_get o.cells field.cell) _ (λ value e.
+    (at_accessed h GetField number o there _ (λ fine. at_some (slice_get o.cells field.cell) _ (λ value e.
     gives_still h (loaded_as form value) vs))))
 
 putting_row : (form : Form) (f : Facts) → row_of (putting form) f ≡ fields
@@ -79,25 +80,25 @@ putting_row Forms.Byte f = refl
 putting_row Forms.Short f = refl
 
 puts_keeps : {C : Type 0} (h : Here C) (form : Form) (field : InstanceField) (v value : TaggedValue)
-    (vs : List TaggedValue) → KeepsLaw h.machine [] (puts h form field v value vs)
+    (vs : List TaggedValue) → KeepsLaw h.around h.machine [] (puts h form field v value vs)
 puts_keeps h form field v value vs =
     at_object h v _ (λ number o there. at_check (is_of_class h.around.world.shapes field.class o.kind.object) _
-    (at_stored h (putting form) number o (mark_of h.machine.heap value) _ (λ fine.
+    (at_stored h (putting form) number o there (mark_of h.machine.heap value) _ (λ fine.
     at_check (nat_lt field.cell (length o.cells)) _
     (stores h (putting form) number o (mark_of h.machine.heap value) field.cell (stored_as form value) vs there
     (inl (putting_row form (facts_of h o (mark_of h.machine.heap value) false))) fine))))
 
-at_holder : {C : Type 0} {m : Machine C} {before : List Touch} (h : Here C) (holder : Holder) (vs : List TaggedValue)
+at_holder : {C : Type 0} {around : Surroundings C} {m : Machine C} {before : List Touch} (h : Here C) (holder : Holder) (vs : List TaggedValue)
     (go : TaggedValue → List TaggedValue → Stepped C)
-    → ((v : TaggedValue) (rest : List TaggedValue) → KeepsLaw m before (go v rest))
-    → KeepsLaw m before (on_holder h holder vs go)
+    → ((v : TaggedValue) (rest : List TaggedValue) → KeepsLaw around m before (go v rest))
+    → KeepsLaw around m before (on_holder h holder vs go)
 at_holder h Holders.Class vs go k = is_stuck
 at_holder h Holders.Operand vs go k = at_reference vs go k
 at_holder h Holders.This vs go k =
     at_reference_local (slice_get h.machine.top.locals 0) (λ v. go v vs) (λ v. k v vs)
 
 instance_keeps : {C : Type 0} (h : Here C) (access : FieldAccess) (field : InstanceField) (action : FieldAction)
-    → KeepsLaw h.machine [] (act_instance h access field action)
+    → KeepsLaw h.around h.machine [] (act_instance h access field action)
 instance_keeps h access field Get =
     at_holder h access.holder h.machine.top.operands (gets h access.form field) (gets_keeps h access.form field)
 instance_keeps h access field Put =
@@ -108,12 +109,12 @@ instance_keeps h access field Put =
 -- ---- instructions
 
 target_keeps : {C : Type 0} (h : Here C) (access : FieldAccess) (target : FieldTarget)
-    → KeepsLaw h.machine [] (act_on_target h access target)
+    → KeepsLaw h.around h.machine [] (act_on_target h access target)
 target_keeps h access (of_objects field) =
     at_check (is_form_of access.form field.declared) _ (instance_keeps h access field access.action)
 target_keeps h access (of_class place declared) =
     at_check (is_form_of access.form declared) _ (static_keeps h access place declared access.action access.holder)
 
 pub field_keeps : {C : Type 0} (h : Here C) (access : FieldAccess) (index : ℕ)
-    → KeepsLaw h.machine [] (act_field h access index)
+    → KeepsLaw h.around h.machine [] (act_field h access index)
 field_keeps h access index = at_target h index field_target (act_on_target h access) (target_keeps h access)

@@ -27,9 +27,10 @@ use Rattle.jc_store.specs.declared.kind.ObjectType.TheVariants.{Instance, Refere
 use Rattle.jc_words.specs.Shorts.{short}
 use Rattle.jc_words.specs.Values.{Null, Ref, TaggedValue, Unset, Word}
 use Rattle.jc_machine.specs.Going.{Here, facts_of, gives, no_resource, stored_in, throws, throws_system}
-use Rattle.jc_machine.specs.Guarded.{IsAccessed}
+use Rattle.jc_machine.specs.Guarded.{IsAccessed, of_runtime}
 use Rattle.jc_machine.specs.Lookup.{component_class, is_instance, is_shared_interface, is_throwable}
 use Rattle.jc_machine.specs.Machine.{Machine, Stepped, Throws, Touch}
+use Rattle.jc_machine.specs.Machine.{Surroundings}
 use Rattle.jc_machine.specs.Natives.{AreNativesGuarded}
 use Rattle.jc_machine.specs.Objects.{Test, act_branch, act_check_cast, act_create, act_instance_of, act_object, act_throw}
 use Rattle.jc_machine.specs.Objects.{bit, cells_of, creates, creates_array, has_space, is_array_of_words, is_null}
@@ -66,18 +67,25 @@ reason_accessed object = record {
   own = λ plain. inr refl;
 }
 
-system_keeps : {C : Type 0} (h : Here C) (reason : ℕ) → KeepsLaw h.machine [] (throws_system h reason)
+system_keeps : {C : Type 0} (h : Here C) (reason : ℕ) → KeepsLaw h.around h.machine [] (throws_system h reason)
 system_keeps h reason =
     at_some (object_at h.machine.heap system_exception) _ (λ object there.
-    behind_allowed (reason_touch ∷ []) (throws (stored_in h system_exception object 0 (Word reason)) system_exception)
-    refl
+    behind_allowed reason_touch (throws (stored_in h system_exception object 0 (Word reason)) system_exception)
+    (record {
+      active = of_runtime refl;
+      object = object;
+      found = there;
+      stored = None;
+      shared = false;
+      verdict = refl;
+    }) refl
     (leaves (Throws (stored_in h system_exception object 0 (Word reason)).machine system_exception)
     (stored_in h system_exception object 0 (Word reason)).machine refl
     (one_changes (reason_touch ∷ []) h.machine.heap system_exception object (with_cell object 0 (Word reason))
     (reason_accessed object) there)))
 
 made_keeps : {C : Type 0} (h : Here C) (object : ObjectType) (cells vs : List TaggedValue)
-    → KeepsLaw h.machine [] (gives (made h object cells) (Ref (next_number h.machine.heap)) vs)
+    → KeepsLaw h.around h.machine [] (gives (made h object cells) (Ref (next_number h.machine.heap)) vs)
 made_keeps h object cells vs =
     gives_changed (made h object cells) (Ref (next_number h.machine.heap)) vs
     (more_changes [] h.machine.heap (record {
@@ -87,26 +95,26 @@ made_keeps h object cells vs =
     }))
 
 by_space : {C : Type 0} (h : Here C) (object : ObjectType) (cells vs : List TaggedValue) (space : Bool)
-    → KeepsLaw h.machine []
+    → KeepsLaw h.around h.machine []
     (cond space (gives (made h object cells) (Ref (next_number h.machine.heap)) vs) (throws_system h no_resource))
 by_space h object cells vs true = made_keeps h object cells vs
 by_space h object cells vs false = system_keeps h no_resource
 
 creates_keeps : {C : Type 0} (h : Here C) (object : ObjectType) (cells vs : List TaggedValue)
-    → KeepsLaw h.machine [] (creates h object cells vs)
+    → KeepsLaw h.around h.machine [] (creates h object cells vs)
 creates_keeps h object cells vs = by_space h object cells vs (has_space h cells)
 
 array_keeps : {C : Type 0} (h : Here C) (object : ObjectType) (v : TaggedValue) (count : ℕ) (vs : List TaggedValue)
-    → KeepsLaw h.machine [] (creates_array h object v count vs)
+    → KeepsLaw h.around h.machine [] (creates_array h object v count vs)
 array_keeps h object v count vs =
     at_require h negative_size_exception (not (int_lt (short count) (pos 0))) _
     (creates_keeps h object (replicate count v) vs)
 
-at_class : {C : Type 0} {m : Machine C} {before : List Touch} (h : Here C) (index : ℕ) (go : ClassName → Stepped C)
-    → ((c : ClassName) → KeepsLaw m before (go c)) → KeepsLaw m before (on_class h index go)
+at_class : {C : Type 0} {around : Surroundings C} {m : Machine C} {before : List Touch} (h : Here C) (index : ℕ) (go : ClassName → Stepped C)
+    → ((c : ClassName) → KeepsLaw around m before (go c)) → KeepsLaw around m before (on_class h index go)
 at_class h index go k = at_target h index class_target go k
 
-create_keeps : {C : Type 0} (h : Here C) (creation : Creation) → KeepsLaw h.machine [] (act_create h creation)
+create_keeps : {C : Type 0} (h : Here C) (creation : Creation) → KeepsLaw h.around h.machine [] (act_create h creation)
 create_keeps h (Creations.Object index) =
     at_class h index _ (λ c. at_check (has_objects h.around.world.shapes c) _
     (creates_keeps h (Instance c) (cells_of h.around.world.shapes c) h.machine.top.operands))
@@ -118,8 +126,8 @@ create_keeps h (Creations.ReferenceArray index) =
 
 -- ---- casts
 
-at_test : {C : Type 0} {m : Machine C} {before : List Touch} (h : Here C) (type : TestedType) (go : Test → Stepped C)
-    → ((test : Test) → KeepsLaw m before (go test)) → KeepsLaw m before (on_test h type go)
+at_test : {C : Type 0} {around : Surroundings C} {m : Machine C} {before : List Touch} (h : Here C) (type : TestedType) (go : Test → Stepped C)
+    → ((test : Test) → KeepsLaw around m before (go test)) → KeepsLaw around m before (on_test h type go)
 at_test h (Tested.Class index) go k =
     at_class h index _ (λ c. k (record {
       is_shared = is_shared_interface h.around.world.shapes c;
@@ -133,40 +141,40 @@ at_test h (Tested.ReferenceArray index) go k =
     }))
 
 at_tested : {C : Type 0} (h : Here C) (access : Access) (type : TestedType) (v : TaggedValue) (of_null : Stepped C)
-    (go : Bool → Stepped C) → KeepsLaw h.machine [] of_null
-    → ((before : List Touch) (passes : Bool) → KeepsLaw h.machine before (go passes))
-    → KeepsLaw h.machine [] (tested h access type v of_null go)
+    (go : Bool → Stepped C) → KeepsLaw h.around h.machine [] of_null
+    → ((before : List Touch) (passes : Bool) → KeepsLaw h.around h.machine before (go passes))
+    → KeepsLaw h.around h.machine [] (tested h access type v of_null go)
 at_tested h access type (Word n) of_null go k l = is_stuck
 at_tested h access type (Ref n) of_null go k l =
     at_test h type _ (λ test. at_object h (Ref n) _ (λ number o there.
-    at_judged h access number (facts_of h o None test.is_shared) _ (λ fine switch.
+    at_judged h access number o there None test.is_shared _ (λ fine switch.
     l _ (test.passes o.kind.object))))
 at_tested h access type Null of_null go k l = at_test h type _ (λ test. k)
 at_tested h access type Unset of_null go k l = is_stuck
 
-check_cast_keeps : {C : Type 0} (h : Here C) (type : TestedType) → KeepsLaw h.machine [] (act_check_cast h type)
+check_cast_keeps : {C : Type 0} (h : Here C) (type : TestedType) → KeepsLaw h.around h.machine [] (act_check_cast h type)
 check_cast_keeps h type =
     at_reference h.machine.top.operands _ (λ v vs. at_tested h accesses.CheckCast type v (gives h v vs) _
     (gives_still h v vs) (λ before passes.
     at_require h class_cast_exception passes (gives h v vs) (gives_still h v vs)))
 
-instance_of_keeps : {C : Type 0} (h : Here C) (type : TestedType) → KeepsLaw h.machine [] (act_instance_of h type)
+instance_of_keeps : {C : Type 0} (h : Here C) (type : TestedType) → KeepsLaw h.around h.machine [] (act_instance_of h type)
 instance_of_keeps h type =
     at_reference h.machine.top.operands _ (λ v vs. at_tested h accesses.InstanceOf type v (gives h (bit false) vs) _
     (gives_still h (bit false) vs) (λ before passes. gives_still h (bit passes) vs))
 
 -- ---- exceptions
 
-throw_keeps : {C : Type 0} (h : Here C) → KeepsLaw h.machine [] (act_throw h)
+throw_keeps : {C : Type 0} (h : Here C) → KeepsLaw h.around h.machine [] (act_throw h)
 throw_keeps h =
     at_reference h.machine.top.operands _ (λ v vs. at_object h v _ (λ number o there.
     at_check (is_throwable h.around.world.shapes o.kind.object) _
-    (at_accessed h accesses.Throw number o _ (λ fine. throws_still h number))))
+    (at_accessed h accesses.Throw number o there _ (λ fine. throws_still h number))))
 
 -- ---- references that are moved and compared
 
 branch_keeps : {C : Type 0} (h : Here C) (when : ReferenceCondition) (offset : ℤ)
-    → KeepsLaw h.machine [] (act_branch h when offset)
+    → KeepsLaw h.around h.machine [] (act_branch h when offset)
 branch_keeps h Conditions.Null offset =
     at_reference h.machine.top.operands _ (λ v vs. branches_still h (is_null v) offset vs)
 branch_keeps h Conditions.NotNull offset =
@@ -181,7 +189,7 @@ branch_keeps h Conditions.Different offset =
 -- ---- instructions on references
 
 pub object_keeps : {C : Type 0} (h : Here C) → AreNativesGuarded h.around.natives → (operation : ObjectOperation)
-    → KeepsLaw h.machine [] (act_object h operation)
+    → KeepsLaw h.around h.machine [] (act_object h operation)
 unfolding act_object
 object_keeps h natives PushNull = gives_still h Null h.machine.top.operands
 object_keeps h natives (Load local) =

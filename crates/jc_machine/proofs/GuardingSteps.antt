@@ -29,12 +29,12 @@ use Rattle.jc_machine.proofs.GuardingWords.{word_keeps}
 -- ---- one instruction
 
 act_keeps : {C : Type 0} (h : Here C) → AreNativesGuarded h.around.natives → (operation : Operation)
-    → KeepsLaw h.machine [] (act h operation)
+    → KeepsLaw h.around h.machine [] (act h operation)
 act_keeps h natives (operations.Word operation) = word_keeps h operation
 act_keeps h natives (operations.Object operation) = object_keeps h natives operation
 
 at_keeps : {C : Type 0} (s : Surroundings C) → AreNativesGuarded s.natives → (m : Machine C)
-    → KeepsLaw m [] (act_at s m)
+    → KeepsLaw s m [] (act_at s m)
 unfolding act_at
 at_keeps s natives m =
     at_some (declared_at s.world m.top.method) _ (λ method e. at_some method.method.header _ (λ header e.
@@ -118,6 +118,7 @@ pub steps_keep : {C : Type 0} (s : Surroundings C) → AreNativesGuarded s.nativ
 unfolding defensive_step
 steps_keep {C = C} s natives m =
     let k = at_keeps s natives m in record {
+      judged = k.judged;
       accesses =
           mapped (act_at s m).touches ((act_at s m).outcome ≡ Throws m security_exception)
           (settled s (act_at s m).outcome ≡ settled s (Throws m security_exception))

@@ -18,12 +18,12 @@ use Rattle.jc_machine.proofs.Guarding.{gives_still, goes_behind, leaves_still, t
 use Rattle.jc_machine.proofs.GuardingReturns.{at_returns}
 
 at_arithmetic : {C : Type 0} {before : List Touch} (h : Here C) (result : Option ℕ) (go : ℕ → Stepped C)
-    → ((n : ℕ) → KeepsLaw h.machine before (go n)) → KeepsLaw h.machine before (on_result h result go)
+    → ((n : ℕ) → KeepsLaw h.around h.machine before (go n)) → KeepsLaw h.around h.machine before (on_result h result go)
 at_arithmetic h None go k = throws_still h _
 at_arithmetic h (Some n) go k = k n
 
 shuffle_keeps : {C : Type 0} {before : List Touch} (h : Here C) (shuffle : shuffles.Shuffle) (vs : List TaggedValue)
-    → KeepsLaw h.machine before (shuffled h shuffle vs)
+    → KeepsLaw h.around h.machine before (shuffled h shuffle vs)
 shuffle_keeps h (Pop count) vs = at_operands count vs _ (leaves_still h (drop count vs))
 shuffle_keeps h (Duplicate count below) vs =
     at_operands (max count below) vs _ (at_check (nat_le (length vs + count) h.max_stack) _
@@ -32,7 +32,7 @@ shuffle_keeps h (Swap upper lower) vs =
     at_operands (upper + lower) vs _ (leaves_still h (swapped upper lower vs))
 
 pub word_keeps : {C : Type 0} {before : List Touch} (h : Here C) (operation : WordOperation)
-    → KeepsLaw h.machine before (act_word h operation)
+    → KeepsLaw h.around h.machine before (act_word h operation)
 unfolding act_word
 word_keeps h Nop = leaves_still h h.machine.top.operands
 word_keeps h (Push value) = gives_still h (Word (word_of value)) h.machine.top.operands

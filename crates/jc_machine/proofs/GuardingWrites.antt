@@ -118,7 +118,7 @@ pub stores : {C : Type 0} (h : Here C) (access : Access) (number : ℕ) (object 
     (mark : Option Mark) (index : ℕ) (v : TaggedValue) (vs : List TaggedValue)
     → object_at h.machine.heap number ≡ Some object → IsWritten access (facts_of h object mark false)
     → is_allowed (verdict_in h access (facts_of h object mark false)) ≡ true
-    → KeepsLaw h.machine (touch_of h access number (verdict_in h access (facts_of h object mark false)) ∷ [])
+    → KeepsLaw h.around h.machine (touch_of h access number (verdict_in h access (facts_of h object mark false)) ∷ [])
     (leaves_operands (stored_in h number object index v) vs)
 stores h access number object mark index v vs there written fine =
     goes (stored_in h number object index v) h.next_pc h.machine.top.locals vs

@@ -1,6 +1,7 @@
 -- Where instructions begin, one behind the other from the first byte on.
-use Rattle.std.proofs.Common.{◌≡◌, ◌↔◌, ℕ, zero, suc, ◌+◌, ◌<◌, ◌≤◌, ◌==◌, ◌||◌, Bool, true, false, cond, List, [], ◌∷◌, length}
-use Rattle.std.proofs.Common.{Option, Some, None, Result, Ok, Err, refl, sym, ap, ◌∙◌, subst, arith, eqb-true, eq-eqb, ne_eqb}
+use Rattle.std.proofs.Common.{◌≡◌, ◌↔◌, ℕ, zero, suc, ◌+◌, ◌<◌, ◌≤◌, ◌==◌, ◌||◌, Bool, true, false, cond, List, []}
+use Rattle.std.proofs.Common.{◌∷◌, length, Option, Some, None, Result, Ok, Err, refl, sym, ap, ◌∙◌, subst, arith}
+use Rattle.std.proofs.Common.{eqb-true, eq-eqb, ne_eqb}
 use Rattle.std.proofs.lemmas.Bool.{cond-false, cond-true, or_left, or_right}
 use Rattle.std.proofs.lemmas.Option.{none-some, same_Some}
 use Rattle.std.specs.Option.{option_map, option_map_or}
@@ -59,7 +60,8 @@ module _ (laws : ListingLaws instr_at) (code : List ℕ) where
   comes (suc n) [] from pc e h = or_left (from == pc) _ (eq-eqb from pc e)
   comes (suc n) (x ∷ xs) from pc s h =
       or_right (from == pc) _
-      (ap (λ (r : Result Instr CodeFault). option_map_or (λ (i : Instr). comes_to n code i.next_pc pc) (decoded r) false)
+      (ap
+      (λ (r : Result Instr CodeFault). option_map_or (λ (i : Instr). comes_to n code i.next_pc pc) (decoded r) false)
       s.1 ∙ comes n xs x.instr.next_pc pc s.2 (omega (arith, h)))
 
   found : (pc : ℕ) (instr : Instr) → IsInstructionAt code pc instr → instruction_at code pc ≡ Some instr

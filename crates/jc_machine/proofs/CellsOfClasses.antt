@@ -1,6 +1,6 @@
 -- The cells of objects, class by class.
-use Rattle.std.proofs.Common.{◌≡◌, ℕ, zero, suc, ◌+◌, ◌-◌, ◌<◌, ◌≤◌, ◌++◌, ◌||◌, Bool, true, false, List, [], ◌∷◌, length}
-use Rattle.std.proofs.Common.{Option, Some, None, refl, sym, ap, ◌∙◌, subst, arith, slice_get, length-append}
+use Rattle.std.proofs.Common.{◌≡◌, ℕ, zero, suc, ◌+◌, ◌-◌, ◌<◌, ◌≤◌, ◌++◌, ◌||◌, Bool, true, false, List, [], ◌∷◌}
+use Rattle.std.proofs.Common.{length, Option, Some, None, refl, sym, ap, ◌∙◌, subst, arith, slice_get, length-append}
 use Rattle.std.proofs.lemmas.List.{length-map}
 use Rattle.std.proofs.lemmas.List.FromFn.{length-range_with_len}
 use Rattle.std.proofs.lemmas.Option.{none-some, same_Some, slice_get-map}
@@ -95,7 +95,8 @@ module _ (world : List Shape) (sound : IsSound world) (object : StandsThere worl
   none_above : (c : ClassName) → superclass_of world c ≡ None → cells_above world most_classes c ≡ 0
   none_above c e =
       ap (λ n. cells_above world n c) one_more
-      ∙ ap (λ (o : Option ClassName). option_map_or (λ d. size_of world d + cells_above world (most_classes - 1) d) o 0) e
+      ∙ ap
+      (λ (o : Option ClassName). option_map_or (λ d. size_of world d + cells_above world (most_classes - 1) d) o 0) e
 
   -- the cells above a class are as many as are counted
   above_count : (c : ClassName) (o : Option ClassName) → superclass_of world c ≡ o
@@ -180,8 +181,10 @@ module _ (world : List Shape) (sound : IsSound world) (object : StandsThere worl
   not_mapped f (Some a) class cell declared h e =
       absurd (h a (same_Some (f a) (To.InstanceField class cell declared) e))
 
-  by_method : (m : MethodName) (o : Option DeclaredMethod) (class : ClassName) (cell : ℕ) (declared : DeclaredType ClassName)
-      → option_and_then (λ (d : DeclaredMethod). option_map (To.StaticMethod d.class m d.method.is_static) (declared_type_of world d)) o
+  by_method : (m : MethodName) (o : Option DeclaredMethod) (class : ClassName) (cell : ℕ)
+      (declared : DeclaredType ClassName)
+      → option_and_then
+      (λ (d : DeclaredMethod). option_map (To.StaticMethod d.class m d.method.is_static) (declared_type_of world d)) o
       ≡ Some (To.InstanceField class cell declared) → IsField class cell declared
   by_method m None class cell declared e = absurd (none-some (To.InstanceField class cell declared) e)
   by_method m (Some d) class cell declared e =

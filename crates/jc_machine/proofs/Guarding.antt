@@ -20,15 +20,20 @@ use Rattle.jc_machine.specs.Going.{Here, accessed, accessed_to_store, branches, 
 use Rattle.jc_machine.specs.Going.{goes_on, goes_to, judged, jumps, leaves_operands, on_object, on_operands}
 use Rattle.jc_machine.specs.Going.{on_reference, on_reference_local, on_some, on_target, on_top, on_word}
 use Rattle.jc_machine.specs.Going.{on_word_local, plain, pushed, require, stuck, throws, touch_of, touched}
-use Rattle.jc_machine.specs.Guarded.{IsJudged, of_frame}
-use Rattle.jc_machine.specs.Guarded.{AreGuarded, ChangesAccessed, IsAccessed, allowed, are_allowed, denied}
-use Rattle.jc_machine.specs.Guarded.{is_allowed, is_last_denied, machine_of}
+use Rattle.jc_machine.specs.Guarded.{AreGuarded, ChangesAccessed, IsAccessed, IsJudged, allowed, are_allowed, denied}
+use Rattle.jc_machine.specs.Guarded.{is_allowed, is_last_denied, machine_of, of_frame}
 use Rattle.jc_machine.specs.Lookup.{target_at}
 use Rattle.jc_machine.specs.Machine.{Machine, Next, Outcome, Stepped, Surroundings, Throws, Touch}
+use Rattle.jc_machine.specs.Natives.{IsStill, KeepsObjects}
 use Rattle.jc_machine.specs.Runtime.{security_exception}
 use Rattle.jc_words.specs.Values.{Null, Ref, TaggedValue, Unset, Word, is_reference}
 
 -- ---- a part of a step
+
+-- by these accesses objects become others: those that were there stay, and change only where they were accessed
+pub record KeepsHeap (touches : List Touch) (before after : Heap TaggedValue) : Type 0 where
+  pub changes : ChangesAccessed touches before after
+  pub kept : KeepsObjects before after
 
 -- behind these accesses, a part of a step that began in this machine keeps the law
 pub record KeepsLaw {C : Type 0} (around : Surroundings C) (m : Machine C) (before : List Touch) (s : Stepped C)
@@ -36,7 +41,7 @@ pub record KeepsLaw {C : Type 0} (around : Surroundings C) (m : Machine C) (befo
   pub judged : AllByRecursion (IsJudged around m) s.touches
   pub accesses : AreGuarded s.touches (s.outcome ≡ Throws m security_exception)
   pub changes : (after : Machine C) → machine_of s.outcome ≡ Some after
-      → ChangesAccessed (before ++ s.touches) m.heap after.heap
+      → KeepsHeap (before ++ s.touches) m.heap after.heap
 
 -- ---- lists of accesses
 
@@ -78,7 +83,8 @@ mapped xs R S f (denied h r) = denied h (f r)
 
 -- ---- what is accessed
 
-pub get_first : {A : Type 0} (xs ys : List A) (k : ℕ) (x : A) → slice_get xs k ≡ Some x → slice_get (xs ++ ys) k ≡ Some x
+pub get_first : {A : Type 0} (xs ys : List A) (k : ℕ) (x : A) → slice_get xs k ≡ Some x → slice_get
+    (xs ++ ys) k ≡ Some x
 get_first [] ys k x e = absurd (none-some x e)
 get_first (y ∷ xs) ys zero x e = e
 get_first (y ∷ xs) ys (suc k) x e = get_first xs ys k x e
@@ -107,30 +113,48 @@ accessed_later (x ∷ xs) ys n o a =
 
 -- ---- what changes
 
-pub changes_first : (xs ys : List Touch) (a b : Heap TaggedValue) → ChangesAccessed xs a b → ChangesAccessed (xs ++ ys) a b
-changes_first xs ys a b h n o p e f =
-    elim (h n o p e f) [ inl same ↦ inl same | inr accessed ↦ inr (accessed_first xs ys n o accessed) ]
+pub changes_first : (xs ys : List Touch) (a b : Heap TaggedValue) → KeepsHeap xs a b → KeepsHeap (xs ++ ys) a b
+changes_first xs ys a b h = record {
+  changes = λ n o p e f.
+      elim (h.changes n o p e f)
+      [ inl same ↦ inl same | inr accessed ↦ inr (accessed_first xs ys n o accessed) ];
+  kept = h.kept;
+}
 
-pub changes_later : (xs ys : List Touch) (a b : Heap TaggedValue) → ChangesAccessed ys a b → ChangesAccessed (xs ++ ys) a b
-changes_later xs ys a b h n o p e f =
-    elim (h n o p e f) [ inl same ↦ inl same | inr accessed ↦ inr (accessed_later xs ys n o accessed) ]
+pub changes_later : (xs ys : List Touch) (a b : Heap TaggedValue) → KeepsHeap ys a b → KeepsHeap (xs ++ ys) a b
+changes_later xs ys a b h = record {
+  changes = λ n o p e f.
+      elim (h.changes n o p e f)
+      [ inl same ↦ inl same | inr accessed ↦ inr (accessed_later xs ys n o accessed) ];
+  kept = h.kept;
+}
 
-one_object : (found : Option (Object TaggedValue)) (o p : Object TaggedValue) → found ≡ Some o → found ≡ Some p → p ≡ o
+one_object : (found : Option (Object TaggedValue)) (o p : Object TaggedValue) → found ≡ Some o → found ≡ Some p
+    → p ≡ o
 one_object found o p e f = same_Some p o (sym f ∙ e)
 
-pub nothing_changes : (xs : List Touch) (heap : Heap TaggedValue) → ChangesAccessed xs heap heap
-nothing_changes xs heap n o p e f =
-    inl (ap (λ (x : Object TaggedValue). x.cells) (one_object (object_at heap n) o p e f))
+-- an object is as it was
+pub is_still : (heap : Heap TaggedValue) (n : ℕ) (o : Object TaggedValue) → object_at heap n ≡ Some o
+    → IsStill heap n o
+is_still heap n o e = record { object = o; found = e; kind = refl; owner = refl; size = refl }
+
+pub nothing_changes : (xs : List Touch) (heap : Heap TaggedValue) → KeepsHeap xs heap heap
+nothing_changes xs heap = record {
+  changes = λ n o p e f.
+      inl (ap (λ (x : Object TaggedValue). x.cells) (one_object (object_at heap n) o p e f));
+  kept = λ n o e. is_still heap n o e;
+}
 
 -- ---- ends
 
-pub leaves : {C : Type 0} {around : Surroundings C} {m : Machine C} {before : List Touch} (o : Outcome C) (x : Machine C)
-    → machine_of o ≡ Some x → ChangesAccessed before m.heap x.heap → KeepsLaw around m before (plain o)
+pub leaves : {C : Type 0} {around : Surroundings C} {m : Machine C} {before : List Touch} (o : Outcome C)
+    (x : Machine C)
+    → machine_of o ≡ Some x → KeepsHeap before m.heap x.heap → KeepsLaw around m before (plain o)
 leaves {C = C} {m = m} {before = before} o x e h = record {
   judged = tt;
   accesses = allowed refl;
   changes = λ after f.
-      subst (λ (y : Machine C). ChangesAccessed (before ++ []) m.heap y.heap) (same_Some x after (sym e ∙ f))
+      subst (λ (y : Machine C). KeepsHeap (before ++ []) m.heap y.heap) (same_Some x after (sym e ∙ f))
       (changes_first before [] m.heap x.heap h);
 }
 
@@ -138,13 +162,15 @@ pub stays : {C : Type 0} {around : Surroundings C} {m : Machine C} {before : Lis
     → machine_of o ≡ Some x → m.heap ≡ x.heap → KeepsLaw around m before (plain o)
 stays {C = C} {m = m} {before = before} o x e same =
     leaves o x e
-    (subst (λ (heap : Heap TaggedValue). ChangesAccessed before m.heap heap) same (nothing_changes before m.heap))
+    (subst (λ (heap : Heap TaggedValue). KeepsHeap before m.heap heap) same (nothing_changes before m.heap))
 
-pub is_stuck : {C : Type 0} {around : Surroundings C} {m : Machine C} {before : List Touch} → KeepsLaw around m before stuck
+pub is_stuck : {C : Type 0} {around : Surroundings C} {m : Machine C} {before : List Touch}
+    → KeepsLaw around m before stuck
 is_stuck = record { judged = tt; accesses = allowed refl; changes = λ after f. absurd (none-some after f) }
 
-pub goes : {C : Type 0} {around : Surroundings C} {m : Machine C} {before : List Touch} (h : Here C) (pc : ℕ) (locals operands : List TaggedValue)
-    → ChangesAccessed before m.heap h.machine.heap → KeepsLaw around m before (goes_to h pc locals operands)
+pub goes : {C : Type 0} {around : Surroundings C} {m : Machine C} {before : List Touch} (h : Here C) (pc : ℕ)
+    (locals operands : List TaggedValue)
+    → KeepsHeap before m.heap h.machine.heap → KeepsLaw around m before (goes_to h pc locals operands)
 goes h pc locals operands changes = leaves (Next _) _ refl changes
 
 pub goes_still : {C : Type 0} {before : List Touch} (h : Here C) (pc : ℕ) (locals operands : List TaggedValue)
@@ -176,17 +202,20 @@ branches_still h false offset vs = leaves_still h vs
 
 -- ---- tests that leave the machine stuck
 
-pub at_check : {C : Type 0} {around : Surroundings C} {m : Machine C} {before : List Touch} (b : Bool) (s : Stepped C) → KeepsLaw around m before s
+pub at_check : {C : Type 0} {around : Surroundings C} {m : Machine C} {before : List Touch} (b : Bool) (s : Stepped C)
+    → KeepsLaw around m before s
     → KeepsLaw around m before (check b s)
 at_check true s k = k
 at_check false s k = is_stuck
 
-pub at_some : {A C : Type 0} {around : Surroundings C} {m : Machine C} {before : List Touch} (o : Option A) (go : A → Stepped C)
+pub at_some : {A C : Type 0} {around : Surroundings C} {m : Machine C} {before : List Touch} (o : Option A)
+    (go : A → Stepped C)
     → ((x : A) → o ≡ Some x → KeepsLaw around m before (go x)) → KeepsLaw around m before (on_some o go)
 at_some None go k = is_stuck
 at_some (Some x) go k = k x refl
 
-pub at_pushed : {C : Type 0} {around : Surroundings C} {m : Machine C} {before : List Touch} (h : Here C) (v : TaggedValue)
+pub at_pushed : {C : Type 0} {around : Surroundings C} {m : Machine C} {before : List Touch} (h : Here C)
+    (v : TaggedValue)
     (operands : List TaggedValue) (go : List TaggedValue → Stepped C) → KeepsLaw around m before (go (v ∷ operands))
     → KeepsLaw around m before (pushed h v operands go)
 at_pushed h v operands go k = at_check (nat_lt (length operands) h.max_stack) (go (v ∷ operands)) k
@@ -195,21 +224,24 @@ pub gives_still : {C : Type 0} {before : List Touch} (h : Here C) (v : TaggedVal
     → KeepsLaw h.around h.machine before (gives h v operands)
 gives_still h v operands = at_pushed h v operands (leaves_operands h) (leaves_still h (v ∷ operands))
 
-pub gives_changed : {C : Type 0} {around : Surroundings C} {m : Machine C} {before : List Touch} (h : Here C) (v : TaggedValue)
-    (operands : List TaggedValue) → ChangesAccessed before m.heap h.machine.heap
+pub gives_changed : {C : Type 0} {around : Surroundings C} {m : Machine C} {before : List Touch} (h : Here C)
+    (v : TaggedValue)
+    (operands : List TaggedValue) → KeepsHeap before m.heap h.machine.heap
     → KeepsLaw around m before (gives h v operands)
 gives_changed h v operands changes =
     at_pushed h v operands (leaves_operands h) (goes h h.next_pc h.machine.top.locals (v ∷ operands) changes)
 
 pub at_top : {C : Type 0} {around : Surroundings C} {m : Machine C} {before : List Touch} (vs : List TaggedValue)
     (go : TaggedValue → List TaggedValue → Stepped C)
-    → ((v : TaggedValue) (rest : List TaggedValue) → KeepsLaw around m before (go v rest)) → KeepsLaw around m before (on_top vs go)
+    → ((v : TaggedValue) (rest : List TaggedValue) → KeepsLaw around m before (go v rest)) → KeepsLaw around m before
+    (on_top vs go)
 at_top [] go k = is_stuck
 at_top (v ∷ vs) go k = k v vs
 
 pub at_word : {C : Type 0} {around : Surroundings C} {m : Machine C} {before : List Touch} (vs : List TaggedValue)
     (go : ℕ → List TaggedValue → Stepped C)
-    → ((n : ℕ) (rest : List TaggedValue) → KeepsLaw around m before (go n rest)) → KeepsLaw around m before (on_word vs go)
+    → ((n : ℕ) (rest : List TaggedValue) → KeepsLaw around m before (go n rest)) → KeepsLaw around m before
+    (on_word vs go)
 at_word [] go k = is_stuck
 at_word (Word n ∷ vs) go k = k n vs
 at_word (Ref n ∷ vs) go k = is_stuck
@@ -223,7 +255,8 @@ pub at_reference : {C : Type 0} {around : Surroundings C} {m : Machine C} {befor
 at_reference [] go k = is_stuck
 at_reference (v ∷ vs) go k = at_check (is_reference v) (go v vs) (k v vs)
 
-pub at_operands : {C : Type 0} {around : Surroundings C} {m : Machine C} {before : List Touch} (count : ℕ) (vs : List TaggedValue)
+pub at_operands : {C : Type 0} {around : Surroundings C} {m : Machine C} {before : List Touch} (count : ℕ)
+    (vs : List TaggedValue)
     (s : Stepped C) → KeepsLaw around m before s → KeepsLaw around m before (on_operands count vs s)
 at_operands count vs s k = at_check _ s k
 
@@ -233,7 +266,8 @@ pub at_target : {A C : Type 0} {around : Surroundings C} {m : Machine C} {before
 at_target h index wanted go k =
     at_some (option_and_then wanted (target_at h.around.world h.machine.top.method.number index)) go (λ x e. k x)
 
-pub at_word_local : {C : Type 0} {around : Surroundings C} {m : Machine C} {before : List Touch} (v : Option TaggedValue) (go : ℕ → Stepped C)
+pub at_word_local : {C : Type 0} {around : Surroundings C} {m : Machine C} {before : List Touch}
+    (v : Option TaggedValue) (go : ℕ → Stepped C)
     → ((n : ℕ) → KeepsLaw around m before (go n)) → KeepsLaw around m before (on_word_local v go)
 at_word_local None go k = is_stuck
 at_word_local (Some (Word n)) go k = k n
@@ -241,7 +275,8 @@ at_word_local (Some (Ref n)) go k = is_stuck
 at_word_local (Some Null) go k = is_stuck
 at_word_local (Some Unset) go k = is_stuck
 
-pub at_reference_local : {C : Type 0} {around : Surroundings C} {m : Machine C} {before : List Touch} (v : Option TaggedValue)
+pub at_reference_local : {C : Type 0} {around : Surroundings C} {m : Machine C} {before : List Touch}
+    (v : Option TaggedValue)
     (go : TaggedValue → Stepped C) → ((v : TaggedValue) → KeepsLaw around m before (go v))
     → KeepsLaw around m before (on_reference_local v go)
 at_reference_local None go k = is_stuck
@@ -256,7 +291,8 @@ at_require h exception false s k = throws_still h exception
 
 pub at_object : {C : Type 0} {before : List Touch} (h : Here C) (v : TaggedValue)
     (go : ℕ → Object TaggedValue → Stepped C)
-    → ((n : ℕ) (o : Object TaggedValue) → object_at h.machine.heap n ≡ Some o → KeepsLaw h.around h.machine before (go n o))
+    → ((n : ℕ) (o : Object TaggedValue) → object_at h.machine.heap n ≡ Some o
+    → KeepsLaw h.around h.machine before (go n o))
     → KeepsLaw h.around h.machine before (on_object h v go)
 at_object h (Word n) go k = is_stuck
 at_object h (Ref n) go k = at_some (object_at h.machine.heap n) (go n) (k n)
@@ -283,10 +319,10 @@ behind {C = C} {around = around} {m = m} {before = before} ts s judges guarded k
         subst (λ (x : Stepped C). AreGuarded (ts ++ x.touches) (x.outcome ≡ Throws m security_exception)) (sym e)
         (denied (subst (λ (l : List Touch). is_last_denied l ≡ true) (sym (append-nil ts)) h) refl)
 
-    joined : (after : Machine C) → ChangesAccessed ((before ++ ts) ++ s.touches) m.heap after.heap
-        → ChangesAccessed (before ++ (ts ++ s.touches)) m.heap after.heap
+    joined : (after : Machine C) → KeepsHeap ((before ++ ts) ++ s.touches) m.heap after.heap
+        → KeepsHeap (before ++ (ts ++ s.touches)) m.heap after.heap
     joined after h =
-        subst (λ (l : List Touch). ChangesAccessed l m.heap after.heap) (append_assoc before ts s.touches) h
+        subst (λ (l : List Touch). KeepsHeap l m.heap after.heap) (append_assoc before ts s.touches) h
 
 -- one that is allowed
 pub behind_allowed : {C : Type 0} {around : Surroundings C} {m : Machine C} {before : List Touch} (t : Touch)
@@ -326,7 +362,8 @@ pub at_judged : {C : Type 0} {before : List Touch} (h : Here C) (access : Access
     (object : Object TaggedValue) → object_at h.machine.heap number ≡ Some object → (stored : Option Mark)
     (shared : Bool) (go : Option Owner → Stepped C)
     → (is_allowed (verdict_in h access (facts_of h object stored shared)) ≡ true → (switch : Option Owner)
-    → KeepsLaw h.around h.machine (before ++ touch_in h access number (facts_of h object stored shared) ∷ []) (go switch))
+    → KeepsLaw h.around h.machine (before ++ touch_in h access number (facts_of h object stored shared) ∷ [])
+    (go switch))
     → KeepsLaw h.around h.machine before (judged h access number (facts_of h object stored shared) go)
 at_judged h access number object there stored shared go k =
     at_verdict h access number (verdict_in h access (facts_of h object stored shared)) go

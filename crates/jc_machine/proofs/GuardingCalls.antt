@@ -1,12 +1,14 @@
 -- Calls keep the law of accesses, where native members keep theirs.
-use Rattle.std.proofs.Common.{◌≡◌, ℕ, ◌+◌, ◌==◌, Bool, true, false, not, List, [], ◌∷◌, ◌++◌, length, take, drop, reverse}
-use Rattle.std.proofs.Common.{Option, Some, None, cond, refl, sym, ap, ◌∙◌, subst}
+use Rattle.std.proofs.Common.{◌≡◌, ◌⊎◌, inl, inr, ℕ, ◌+◌, ◌==◌, Bool, true, false, not, List, [], ◌∷◌, ◌++◌, length}
+use Rattle.std.proofs.Common.{take, drop, reverse, Option, Some, None, cond, refl, sym, ap, ◌∙◌, subst}
+use Rattle.std.specs.List.{AllByRecursion}
 use Rattle.std.specs.Option.{option_and_then}
 use Rattle.jc_base.specs.Signature.{Signature}
 use Rattle.jc_cap_method.specs.declared.header.MethodHeader.{MethodHeader}
 use Rattle.jc_classes.specs.Methods.{interface_method_of, virtual_method_of}
 use Rattle.jc_code.specs.declared.object.Invocation.{Invocation}
 use Rattle.jc_code.specs.declared.object.Invocation.TheVariants.{Virtual, Special, Static, Interface}
+use Rattle.jc_firewall.specs.Verdict.{runtime_context}
 use Rattle.jc_firewall.specs.declared.access.Access.TheVariants.{InvokeInterface, InvokeVirtual}
 use Rattle.jc_names.specs.declared.name.ClassName.{ClassName}
 use Rattle.jc_names.specs.declared.name.MethodName.{MethodName}
@@ -20,21 +22,18 @@ use Rattle.jc_machine.specs.Calls.{calls_back, entered, enters, found_for, frame
 use Rattle.jc_machine.specs.Calls.{inner_native_ends, invokes, is_in_place_of, native_answer, native_ends, native_gives}
 use Rattle.jc_machine.specs.Calls.{native_type, on_native, previous_in, special_target, static_target, type_of_member}
 use Rattle.jc_machine.specs.Calls.{virtual_member, virtual_target, with_arguments, with_given, with_receiver}
-use Rattle.jc_machine.specs.Going.{Here, facts_of, moved, plain, throws, touched, with_machine}
-use Rattle.jc_machine.specs.Guarded.{AreGuarded, ChangesAccessed, IsActive, IsJudged, of_callee, of_frame, of_runtime}
-use Rattle.jc_firewall.specs.Verdict.{runtime_context}
-use Rattle.std.specs.List.{AllByRecursion}
-use Rattle.std.proofs.Common.{◌⊎◌, inl, inr}
+use Rattle.jc_machine.specs.Going.{Here, moved, plain, throws, touched, with_machine}
+use Rattle.jc_machine.specs.Guarded.{AreGuarded, IsActive, IsJudged, of_callee, of_frame, of_runtime}
 use Rattle.jc_machine.specs.Lookup.{are_of_types, class_of, declared_at, is_given, is_of_class, is_shared_interface}
 use Rattle.jc_machine.specs.Machine.{Callback, Calls, Frame, Gives, IsStuck, Machine, MethodPlace, NativeAnswer}
-use Rattle.jc_machine.specs.Machine.{Surroundings}
-use Rattle.jc_machine.specs.Machine.{NativeCall, NativeEnd, Next, Stepped, Throws, ThrowsObject, Touch, UsedUp}
+use Rattle.jc_machine.specs.Machine.{NativeCall, NativeEnd, Next, Stepped, Surroundings, Throws, ThrowsObject, Touch}
+use Rattle.jc_machine.specs.Machine.{UsedUp}
 use Rattle.jc_machine.specs.Natives.{AreNativesGuarded, IsGuardedAnswer, IsNativeTouch, IsRefusedAnswer}
 use Rattle.jc_machine.specs.Runtime.{class_cast_exception, security_exception}
 use Rattle.jc_words.specs.Values.{Ref, TaggedValue}
-use Rattle.jc_machine.proofs.Guarding.{KeepsLaw, at_check, at_judged, at_object, at_reference, at_require, at_some}
-use Rattle.jc_machine.proofs.Guarding.{at_target, behind, changes_later, gives_changed, goes, is_stuck, leaves, mapped}
-use Rattle.jc_machine.proofs.Guarding.{each_mapped, stays}
+use Rattle.jc_machine.proofs.Guarding.{KeepsHeap, KeepsLaw, at_check, at_judged, at_object, at_reference, at_require}
+use Rattle.jc_machine.proofs.Guarding.{at_some, at_target, behind, changes_later, each_mapped, gives_changed, goes}
+use Rattle.jc_machine.proofs.Guarding.{is_stuck, leaves, mapped, stays}
 
 -- ---- frames
 
@@ -58,7 +57,8 @@ entered_keeps h f max_stack operands =
     by_room h f operands (has_room h.around (h.machine.top ∷ h.machine.waiting) (length f.locals + max_stack))
 
 enters_keeps : {C : Type 0} {before : List Touch} (h : Here C) (switch : Option Owner) (place : MethodPlace)
-    (arguments operands : List TaggedValue) → KeepsLaw h.around h.machine before (enters h switch place arguments operands)
+    (arguments operands : List TaggedValue) → KeepsLaw h.around h.machine before
+    (enters h switch place arguments operands)
 enters_keeps h switch place arguments operands =
     at_some (option_and_then (λ d. d.method.header) (declared_at h.around.world place)) _ (λ (header : MethodHeader) e.
     at_check (not header.is_abstract) _
@@ -93,7 +93,7 @@ record IsRefusal {C : Type 0} (m : Machine C) (a : NativeAnswer C) : Type 0 wher
 record IsFineAnswer {C : Type 0} (around : Surroundings C) (m : Machine C) (a : NativeAnswer C) : Type 0 where
   judged : AllByRecursion (IsJudged around m) a.touches
   guarded : AreGuarded a.touches (IsRefusal m a)
-  changes : ChangesAccessed a.touches m.heap a.heap
+  changes : KeepsHeap a.touches m.heap a.heap
   calls : (callback : Callback) → a.ends ≡ Calls callback → IsAsWas m a
 
 -- its accesses are judged, where whose owner is active may be so
@@ -128,7 +128,7 @@ fine_answer {C = C} h natives active may previous member arguments =
         unchanged = record { heap = r.unchanged.heap; runtime = r.unchanged.runtime };
         throws = r.throws;
       }) g.guarded;
-      changes = g.changes;
+      changes = record { changes = g.changes; kept = g.kept };
       calls = λ callback e. record { heap = (g.calls callback e).heap; runtime = (g.calls callback e).runtime };
     }
 
@@ -181,21 +181,24 @@ goes_behind_answer h a s fine other k =
     absurd (other r.throws)) fine.guarded) k
 
 -- it gives what it gives
-given_keeps : {C : Type 0} {around : Surroundings C} {m : Machine C} {before : List Touch} (h : Here C) (value : Option TaggedValue)
-    (operands : List TaggedValue) → ChangesAccessed before m.heap h.machine.heap
+given_keeps : {C : Type 0} {around : Surroundings C} {m : Machine C} {before : List Touch} (h : Here C)
+    (value : Option TaggedValue)
+    (operands : List TaggedValue) → KeepsHeap before m.heap h.machine.heap
     → KeepsLaw around m before (with_given h value operands)
 given_keeps h None operands changes = goes h h.next_pc h.machine.top.locals operands changes
 given_keeps h (Some v) operands changes = gives_changed h v operands changes
 
-gives_keeps : {C : Type 0} {around : Surroundings C} {m : Machine C} {before : List Touch} (h : Here C) (signature : Signature ClassName)
-    (value : Option TaggedValue) (operands : List TaggedValue) → ChangesAccessed before m.heap h.machine.heap
+gives_keeps : {C : Type 0} {around : Surroundings C} {m : Machine C} {before : List Touch} (h : Here C)
+    (signature : Signature ClassName)
+    (value : Option TaggedValue) (operands : List TaggedValue) → KeepsHeap before m.heap h.machine.heap
     → KeepsLaw around m before (native_gives h signature value operands)
 gives_keeps h signature value operands changes =
     at_check (is_given h.around.world.shapes h.machine.heap signature.result value) _
     (given_keeps h value operands changes)
 
 gave_keeps : {C : Type 0} {before : List Touch} (h : Here C) (a : NativeAnswer C) (signature : Signature ClassName)
-    (value : Option TaggedValue) (operands : List TaggedValue) → IsFineAnswer h.around h.machine a → a.ends ≡ Gives value
+    (value : Option TaggedValue) (operands : List TaggedValue) → IsFineAnswer h.around h.machine a
+    → a.ends ≡ Gives value
     → KeepsLaw h.around h.machine before (touched a.touches (native_gives (after_native h a) signature value operands))
 gave_keeps {before = before} h a signature value operands fine e =
     goes_behind_answer h a (native_gives (after_native h a) signature value operands) fine
@@ -219,9 +222,11 @@ threw_keeps {C = C} {before = before} h a number fine e =
 -- ---- a native member that another one called
 
 inner_end_keeps : {C : Type 0} {before : List Touch} (h : Here C) (a : NativeAnswer C)
-    (signature : Signature ClassName) (operands : List TaggedValue) → IsFineAnswer h.around h.machine a → (ends : NativeEnd)
+    (signature : Signature ClassName) (operands : List TaggedValue) → IsFineAnswer h.around h.machine a →
+    (ends : NativeEnd)
     → a.ends ≡ ends
-    → KeepsLaw h.around h.machine before (touched a.touches (inner_native_ends operands (after_native h a) signature ends))
+    → KeepsLaw h.around h.machine before
+    (touched a.touches (inner_native_ends operands (after_native h a) signature ends))
 inner_end_keeps h a signature operands fine (Gives value) e = gave_keeps h a signature value operands fine e
 inner_end_keeps h a signature operands fine (ThrowsObject number) e = threw_keeps h a number fine e
 inner_end_keeps h a signature operands fine (Calls callback) e =
@@ -255,7 +260,8 @@ calls_back_keeps h natives given callback operands =
     at_check (callback_fits h given signature member.class object callback.arguments) _
     (at_some (virtual_method_of h.around.world.shapes (class_of object.kind.object) member.token 0) _ (λ method e.
     at_check (is_in_place_of h.around.world.shapes member.class signature method) _
-    (called_as_keeps h natives object.owner (of_callee callback.object object there refl) method (Ref callback.object ∷ callback.arguments) operands))))))
+    (called_as_keeps h natives object.owner (of_callee callback.object object there refl) method
+    (Ref callback.object ∷ callback.arguments) operands))))))
 
 -- a native member that makes a call has changed nothing
 called_back_keeps : {C : Type 0} {before : List Touch} (h : Here C) → AreNativesGuarded h.around.natives
@@ -345,7 +351,8 @@ of_interface_keeps : {C : Type 0} (h : Here C) → AreNativesGuarded h.around.na
     → KeepsLaw h.around h.machine [] (act_of_interface h interface token signature)
 of_interface_keeps h natives interface token signature =
     at_receiver h signature _ (λ arguments number o operands there.
-    at_judged h InvokeInterface number o there None (is_shared_interface h.around.world.shapes interface) _ (λ fine switch.
+    at_judged h InvokeInterface number o there None (is_shared_interface h.around.world.shapes interface) _
+    (λ fine switch.
     at_require h class_cast_exception (has_interface h.around.world.shapes interface o) _
     (at_some (interface_method_of h.around.world.shapes (class_of o.kind.object) interface token) _ (λ method e.
     invokes_keeps h natives switch method arguments operands))))

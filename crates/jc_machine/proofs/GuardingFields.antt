@@ -20,8 +20,7 @@ use Rattle.jc_machine.specs.Fields.{act_put_static, act_static, field_target, ge
 use Rattle.jc_machine.specs.Fields.{put_static, puts, putting, static_at, stored_in_static}
 use Rattle.jc_machine.specs.Going.{Here, facts_of}
 use Rattle.jc_machine.specs.Lookup.{is_of_class, is_of_type, mark_of}
-use Rattle.jc_machine.specs.Machine.{Machine, Stepped, Touch}
-use Rattle.jc_machine.specs.Machine.{Surroundings}
+use Rattle.jc_machine.specs.Machine.{Machine, Stepped, Surroundings, Touch}
 use Rattle.jc_words.specs.Values.{Null, Ref, TaggedValue, Unset, Word}
 use Rattle.jc_machine.proofs.Guarding.{KeepsLaw, at_accessed, at_check, at_object, at_reference, at_reference_local}
 use Rattle.jc_machine.proofs.Guarding.{at_some, at_stored, at_target, at_top, gives_still, goes, is_stuck}
@@ -38,7 +37,8 @@ get_static_keeps h form place =
 
 -- what is stored has been accessed, if it is an object
 at_stored_value : {C : Type 0} (h : Here C) (v : TaggedValue) (s : Stepped C)
-    → ((before : List Touch) → KeepsLaw h.around h.machine before s) → KeepsLaw h.around h.machine [] (stored_in_static h v s)
+    → ((before : List Touch) → KeepsLaw h.around h.machine before s) → KeepsLaw h.around h.machine []
+    (stored_in_static h v s)
 at_stored_value h (Word n) s k = k []
 at_stored_value h (Ref n) s k =
     at_object h (Ref n) _ (λ number o there.
@@ -88,7 +88,8 @@ puts_keeps h form field v value vs =
     (stores h (putting form) number o (mark_of h.machine.heap value) field.cell (stored_as form value) vs there
     (inl (putting_row form (facts_of h o (mark_of h.machine.heap value) false))) fine))))
 
-at_holder : {C : Type 0} {around : Surroundings C} {m : Machine C} {before : List Touch} (h : Here C) (holder : Holder) (vs : List TaggedValue)
+at_holder : {C : Type 0} {around : Surroundings C} {m : Machine C} {before : List Touch} (h : Here C) (holder : Holder)
+    (vs : List TaggedValue)
     (go : TaggedValue → List TaggedValue → Stepped C)
     → ((v : TaggedValue) (rest : List TaggedValue) → KeepsLaw around m before (go v rest))
     → KeepsLaw around m before (on_holder h holder vs go)

@@ -20,21 +20,20 @@ use Rattle.jc_firewall.specs.declared.access.Access.TheVariants as accesses
 use Rattle.jc_firewall.specs.declared.access.Verdict.TheVariants.{Allowed}
 use Rattle.jc_names.specs.declared.name.ClassName.{ClassName}
 use Rattle.jc_step.specs.Objects.{class_target, has_objects}
-use Rattle.jc_store.specs.Heap.{Object, next_number, object_at, with_cell}
+use Rattle.jc_store.specs.Heap.{Object, next_number, object_at}
 use Rattle.jc_store.specs.declared.kind.Mark.TheVariants.{Plain}
 use Rattle.jc_store.specs.declared.kind.ObjectType.{ObjectType}
 use Rattle.jc_store.specs.declared.kind.ObjectType.TheVariants.{Instance, ReferenceArray}
 use Rattle.jc_words.specs.Shorts.{short}
 use Rattle.jc_words.specs.Values.{Null, Ref, TaggedValue, Unset, Word}
-use Rattle.jc_machine.specs.Going.{Here, facts_of, gives, no_resource, stored_in, throws, throws_system}
+use Rattle.jc_machine.specs.Going.{Here, gives, no_resource, stored_in, throws, throws_system}
 use Rattle.jc_machine.specs.Guarded.{IsAccessed, of_runtime}
 use Rattle.jc_machine.specs.Lookup.{component_class, is_instance, is_shared_interface, is_throwable}
-use Rattle.jc_machine.specs.Machine.{Machine, Stepped, Throws, Touch}
-use Rattle.jc_machine.specs.Machine.{Surroundings}
+use Rattle.jc_machine.specs.Machine.{Machine, Stepped, Surroundings, Throws, Touch}
 use Rattle.jc_machine.specs.Natives.{AreNativesGuarded}
-use Rattle.jc_machine.specs.Objects.{Test, act_branch, act_check_cast, act_create, act_instance_of, act_object, act_throw}
-use Rattle.jc_machine.specs.Objects.{bit, cells_of, creates, creates_array, has_space, is_array_of_words, is_null}
-use Rattle.jc_machine.specs.Objects.{is_same, made, on_class, on_test, tested, word_array}
+use Rattle.jc_machine.specs.Objects.{Test, act_branch, act_check_cast, act_create, act_instance_of, act_object}
+use Rattle.jc_machine.specs.Objects.{act_throw, bit, cells_of, creates, creates_array, has_space, is_array_of_words}
+use Rattle.jc_machine.specs.Objects.{is_null, is_same, made, on_class, on_test, tested, word_array}
 use Rattle.jc_machine.specs.Runtime.{class_cast_exception, negative_size_exception, system_exception}
 use Rattle.jc_machine.proofs.Guarding.{KeepsLaw, at_accessed, at_check, at_judged, at_object, at_reference}
 use Rattle.jc_machine.proofs.Guarding.{at_reference_local, at_require, at_some, at_target, at_word, behind_allowed}
@@ -81,7 +80,7 @@ system_keeps h reason =
     }) refl
     (leaves (Throws (stored_in h system_exception object 0 (Word reason)).machine system_exception)
     (stored_in h system_exception object 0 (Word reason)).machine refl
-    (one_changes (reason_touch ∷ []) h.machine.heap system_exception object (with_cell object 0 (Word reason))
+    (one_changes (reason_touch ∷ []) h.machine.heap object 0 (Word reason) system_exception
     (reason_accessed object) there)))
 
 made_keeps : {C : Type 0} (h : Here C) (object : ObjectType) (cells vs : List TaggedValue)
@@ -110,7 +109,8 @@ array_keeps h object v count vs =
     at_require h negative_size_exception (not (int_lt (short count) (pos 0))) _
     (creates_keeps h object (replicate count v) vs)
 
-at_class : {C : Type 0} {around : Surroundings C} {m : Machine C} {before : List Touch} (h : Here C) (index : ℕ) (go : ClassName → Stepped C)
+at_class : {C : Type 0} {around : Surroundings C} {m : Machine C} {before : List Touch} (h : Here C) (index : ℕ)
+    (go : ClassName → Stepped C)
     → ((c : ClassName) → KeepsLaw around m before (go c)) → KeepsLaw around m before (on_class h index go)
 at_class h index go k = at_target h index class_target go k
 
@@ -126,7 +126,8 @@ create_keeps h (Creations.ReferenceArray index) =
 
 -- ---- casts
 
-at_test : {C : Type 0} {around : Surroundings C} {m : Machine C} {before : List Touch} (h : Here C) (type : TestedType) (go : Test → Stepped C)
+at_test : {C : Type 0} {around : Surroundings C} {m : Machine C} {before : List Touch} (h : Here C) (type : TestedType)
+    (go : Test → Stepped C)
     → ((test : Test) → KeepsLaw around m before (go test)) → KeepsLaw around m before (on_test h type go)
 at_test h (Tested.Class index) go k =
     at_class h index _ (λ c. k (record {
@@ -152,13 +153,15 @@ at_tested h access type (Ref n) of_null go k l =
 at_tested h access type Null of_null go k l = at_test h type _ (λ test. k)
 at_tested h access type Unset of_null go k l = is_stuck
 
-check_cast_keeps : {C : Type 0} (h : Here C) (type : TestedType) → KeepsLaw h.around h.machine [] (act_check_cast h type)
+check_cast_keeps : {C : Type 0} (h : Here C) (type : TestedType) → KeepsLaw h.around h.machine []
+    (act_check_cast h type)
 check_cast_keeps h type =
     at_reference h.machine.top.operands _ (λ v vs. at_tested h accesses.CheckCast type v (gives h v vs) _
     (gives_still h v vs) (λ before passes.
     at_require h class_cast_exception passes (gives h v vs) (gives_still h v vs)))
 
-instance_of_keeps : {C : Type 0} (h : Here C) (type : TestedType) → KeepsLaw h.around h.machine [] (act_instance_of h type)
+instance_of_keeps : {C : Type 0} (h : Here C) (type : TestedType) → KeepsLaw h.around h.machine []
+    (act_instance_of h type)
 instance_of_keeps h type =
     at_reference h.machine.top.operands _ (λ v vs. at_tested h accesses.InstanceOf type v (gives h (bit false) vs) _
     (gives_still h (bit false) vs) (λ before passes. gives_still h (bit passes) vs))

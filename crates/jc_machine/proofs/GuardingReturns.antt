@@ -2,13 +2,13 @@
 use Rattle.std.proofs.Common.{List, [], ◌∷◌, length, nat_lt, Option, Some, None, ℕ, refl}
 use Rattle.jc_machine.specs.Going.{Here}
 use Rattle.jc_machine.specs.Lookup.{is_given}
-use Rattle.jc_machine.specs.Machine.{Ends, Frame, Machine, Next, Stepped, Touch}
-use Rattle.jc_machine.specs.Machine.{Surroundings}
+use Rattle.jc_machine.specs.Machine.{Ends, Frame, Machine, Next, Stepped, Surroundings, Touch}
 use Rattle.jc_machine.specs.Returns.{pc_behind_call, result_of, resumed, returns, returns_to, room_of, with_result}
 use Rattle.jc_words.specs.Values.{TaggedValue}
 use Rattle.jc_machine.proofs.Guarding.{KeepsLaw, at_check, at_some, stays}
 
-at_result : {C : Type 0} {around : Surroundings C} {m : Machine C} {before : List Touch} (h : Here C) (room : ℕ) (v : Option TaggedValue)
+at_result : {C : Type 0} {around : Surroundings C} {m : Machine C} {before : List Touch} (h : Here C) (room : ℕ)
+    (v : Option TaggedValue)
     (operands : List TaggedValue) (go : List TaggedValue → Stepped C)
     → ((operands : List TaggedValue) → KeepsLaw around m before (go operands))
     → KeepsLaw around m before (with_result h room v operands go)

@@ -12,17 +12,17 @@ use Rattle.jc_code.specs.declared.instr.Operation.TheVariants as operations
 use Rattle.jc_names.specs.declared.name.ClassName.{ClassName}
 use Rattle.jc_store.specs.Heap.{Heap, Object, object_at}
 use Rattle.jc_machine.specs.Going.{Here, moved}
-use Rattle.jc_machine.specs.Guarded.{AreGuarded, ChangesAccessed, IsGuarded, IsRefused, KeepsPlain, allowed}
+use Rattle.jc_machine.specs.Guarded.{AreGuarded, IsGuarded, IsRefused, KeepsPlain, allowed}
 use Rattle.jc_machine.specs.Guarded.{are_allowed, denied, machine_of}
 use Rattle.jc_machine.specs.Lookup.{class_of, code_at, declared_at, instruction_at, is_throwable}
 use Rattle.jc_machine.specs.Machine.{Ends, Frame, Machine, Next, Outcome, Stuck, Surroundings, Throws, Touch, UsedUp}
-use Rattle.jc_machine.specs.Natives.{AreNativesGuarded}
+use Rattle.jc_machine.specs.Natives.{AreNativesGuarded, KeepsObjects}
 use Rattle.jc_machine.specs.Returns.{room_of}
 use Rattle.jc_machine.specs.Runtime.{security_exception}
-use Rattle.jc_machine.specs.Step.{act, act_at, caught_in, covering, defensive_step, handler_for, here, is_found, settled}
-use Rattle.jc_machine.specs.Step.{settled_object, through, unwound}
+use Rattle.jc_machine.specs.Step.{act, act_at, caught_in, covering, defensive_step, handler_for, here, is_found}
+use Rattle.jc_machine.specs.Step.{settled, settled_object, through, unwound}
 use Rattle.jc_words.specs.Values.{Ref, TaggedValue}
-use Rattle.jc_machine.proofs.Guarding.{KeepsLaw, at_some, mapped}
+use Rattle.jc_machine.proofs.Guarding.{KeepsHeap, KeepsLaw, at_some, mapped}
 use Rattle.jc_machine.proofs.GuardingObjects.{object_keeps}
 use Rattle.jc_machine.proofs.GuardingWords.{word_keeps}
 
@@ -102,17 +102,24 @@ object_leaves s m number (Some o) =
 
 -- what an outcome changes is what it changes when it is settled
 settled_changes : {C : Type 0} (s : Surroundings C) (touches : List Touch) (heap : Heap TaggedValue) (o : Outcome C)
-    → ((x : Machine C) → machine_of o ≡ Some x → ChangesAccessed touches heap x.heap) → (after : Machine C)
-    → machine_of (settled s o) ≡ Some after → ChangesAccessed touches heap after.heap
+    → ((x : Machine C) → machine_of o ≡ Some x → KeepsHeap touches heap x.heap) → (after : Machine C)
+    → machine_of (settled s o) ≡ Some after → KeepsHeap touches heap after.heap
 settled_changes s touches heap (Next m) h after e = h after e
 settled_changes s touches heap (Throws m object) h after e =
-    subst (λ (x : Heap TaggedValue). ChangesAccessed touches heap x)
+    subst (λ (x : Heap TaggedValue). KeepsHeap touches heap x)
     ((object_leaves s m object (object_at m.heap object)).same after e) (h m refl)
 settled_changes s touches heap (Ends m value) h after e = h after e
 settled_changes s touches heap (UsedUp m) h after e = h after e
 settled_changes s touches heap Stuck h after e = absurd (none-some after e)
 
 -- ---- a step
+
+steps_keep_heap : {C : Type 0} (s : Surroundings C) → AreNativesGuarded s.natives → (m after : Machine C)
+    → machine_of (defensive_step s m).outcome ≡ Some after
+    → KeepsHeap (defensive_step s m).touches m.heap after.heap
+unfolding defensive_step
+steps_keep_heap s natives m after e =
+    settled_changes s (act_at s m).touches m.heap (act_at s m).outcome (at_keeps s natives m).changes after e
 
 pub steps_keep : {C : Type 0} (s : Surroundings C) → AreNativesGuarded s.natives → (m : Machine C) → IsGuarded s m
 unfolding defensive_step
@@ -123,7 +130,7 @@ steps_keep {C = C} s natives m =
           mapped (act_at s m).touches ((act_at s m).outcome ≡ Throws m security_exception)
           (settled s (act_at s m).outcome ≡ settled s (Throws m security_exception))
           (λ e. ap (λ (o : Outcome C). settled s o) e) k.accesses;
-      changes = settled_changes s (act_at s m).touches m.heap (act_at s m).outcome k.changes;
+      changes = λ after e. (steps_keep_heap s natives m after e).changes;
     }
 
 -- ---- what follows
@@ -136,6 +143,10 @@ pub denied_are_refused : {C : Type 0} (s : Surroundings C) → AreNativesGuarded
     → are_allowed (defensive_step s m).touches ≡ false → IsRefused s m (defensive_step s m)
 denied_are_refused s natives m e =
     of_denied (defensive_step s m).touches (IsRefused s m (defensive_step s m)) (steps_keep s natives m).accesses e
+
+pub objects_are_kept : {C : Type 0} (s : Surroundings C) → AreNativesGuarded s.natives → (m after : Machine C)
+    → machine_of (defensive_step s m).outcome ≡ Some after → KeepsObjects m.heap after.heap
+objects_are_kept s natives m after e = (steps_keep_heap s natives m after e).kept
 
 pub plain_are_kept : {C : Type 0} (s : Surroundings C) → AreNativesGuarded s.natives → (m : Machine C)
     → KeepsPlain s m

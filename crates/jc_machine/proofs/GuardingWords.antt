@@ -7,7 +7,8 @@ use Rattle.jc_code.specs.declared.instr.Shuffle.TheVariants.{Pop, Duplicate, Swa
 use Rattle.jc_code.specs.declared.instr.When.TheVariants.{Always, Zero, Compare}
 use Rattle.jc_code.specs.declared.instr.WordOperation.{WordOperation}
 use Rattle.jc_code.specs.declared.instr.WordOperation.TheVariants.{Nop, Push, Load, Store, Increment, Shuffle, Binary}
-use Rattle.jc_code.specs.declared.instr.WordOperation.TheVariants.{Unary, Branch, StableSwitch, LookupSwitch, ReturnWord}
+use Rattle.jc_code.specs.declared.instr.WordOperation.TheVariants.{Unary, Branch, StableSwitch, LookupSwitch}
+use Rattle.jc_code.specs.declared.instr.WordOperation.TheVariants.{ReturnWord}
 use Rattle.jc_machine.specs.Going.{Here}
 use Rattle.jc_machine.specs.Machine.{Stepped, Touch}
 use Rattle.jc_machine.specs.Words.{act_word, on_result, shuffled}

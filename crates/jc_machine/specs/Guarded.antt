@@ -24,8 +24,8 @@ pub data IsActive {C : Type 0} (m : Machine C) (context : ℕ) : Type 0 where
   of_callee : (number : ℕ) (object : Object TaggedValue) → object_at m.heap number ≡ Some object
       → context ≡ object.owner.context → IsActive m context
 
--- an access is to an object that is there, and its verdict is the firewall's on that object. What it stores, and whether
--- it calls or casts to a shareable interface, is the instruction's
+-- an access is to an object that is there, and its verdict is the firewall's on that object. What it stores, and
+-- whether it calls or casts to a shareable interface, is the instruction's
 pub record IsJudged {C : Type 0} (s : Surroundings C) (m : Machine C) (touch : Touch) : Type 0 where
   pub active : IsActive m touch.active
   pub object : Object TaggedValue

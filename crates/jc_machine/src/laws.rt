@@ -11,7 +11,7 @@ ghost use Rattle.jc_code.specs.Listing.{IsListing, PlacedInstr, placed_at};
 ghost use Rattle.jc_code.specs.declared.instr.Instr.{Instr};
 ghost use Rattle.jc_link.specs.Built.{IsBuilt};
 ghost use Rattle.jc_machine.specs.Accepted.{HaveCode, IsAccepted, api_alone, linked_as};
-ghost use Rattle.jc_machine.specs.Guarded.{IsGuarded, IsRefused, KeepsPlain, are_allowed};
+ghost use Rattle.jc_machine.specs.Guarded.{IsGuarded, IsRefused, KeepsPlain, are_allowed, machine_of};
 ghost use Rattle.jc_machine.specs.Lookup.{body_at, code_at, instruction_at};
 ghost use Rattle.jc_machine.specs.Machine.{Machine, MethodPlace, Surroundings};
 ghost use Rattle.jc_machine.specs.Natives.{AreNativesGuarded, KeepsObjects};
@@ -57,15 +57,18 @@ pub fn runtime_objects_stay()
         → HasRuntimeObjects after }
 {}
 
-/// The law of accesses, of each step of each machine, well typed or not, whose native members keep theirs. Each access
-/// is allowed, or it is the last, and then the security exception is thrown from the machine as it was. Components change
-/// only of objects of which an allowed access is listed; those of a plain object by its own context alone, or by the
-/// runtime. What the runtime keeps is whatever natives of any type keep. It does nothing.
+/// The law of accesses, of each step of each machine, well typed or not, whose native members keep theirs. Each
+/// access is judged by the firewall; it is allowed, or it is the last, and then the security exception is thrown from
+/// the machine as it was. Components change only of objects of which an allowed access is listed; those of a plain
+/// object by its own context alone, or by the runtime. Each object stays, of the same kind, owner and size. What the
+/// runtime keeps may be of any type. It does nothing.
 pub fn accesses_are_guarded<N: Natives>(_natives: &N)
     ensures guarded { (s : Surroundings N.Kept) → AreNativesGuarded s.natives → (m : Machine N.Kept) → IsGuarded s m }
     ensures denied { (s : Surroundings N.Kept) → AreNativesGuarded s.natives → (m : Machine N.Kept)
         → are_allowed (defensive_step s m).touches ≡ false → IsRefused s m (defensive_step s m) }
     ensures plain { (s : Surroundings N.Kept) → AreNativesGuarded s.natives → (m : Machine N.Kept) → KeepsPlain s m }
+    ensures kept { (s : Surroundings N.Kept) → AreNativesGuarded s.natives → (m after : Machine N.Kept)
+        → machine_of (defensive_step s m).outcome ≡ Some after → KeepsObjects m.heap after.heap }
 {}
 
 /// An instruction is found at a pc of code where it begins there behind others that stand one behind the other from the

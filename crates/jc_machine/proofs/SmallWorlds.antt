@@ -2,8 +2,7 @@
 use Rattle.std.proofs.Common.{◌≡◌, ℕ, zero, suc, ◌≤◌, List, [], ◌∷◌, length, Option, Some, None, slice_get, ap, refl}
 use Rattle.std.proofs.Common.{arith, subst}
 use Rattle.std.proofs.lemmas.List.FromFn.{length-range_with_len}
-use Rattle.core.specs.List.{cons_option}
-use Rattle.std.specs.List.{AllByRecursion, filter_map, range_with_len}
+use Rattle.std.specs.List.{AllByRecursion, cons_option, filter_map, range_with_len}
 use Rattle.jc_api.specs.Bound.{Bound, default_binding}
 use Rattle.jc_cap_desc.specs.Shape.{Shape}
 use Rattle.jc_api.specs.declared.class.ApiPackage.TheVariants.{Framework, Lang}

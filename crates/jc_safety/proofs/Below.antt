@@ -21,15 +21,15 @@ module _ {C : Type 0} (s : Surroundings C) (ground : Ground s) where
   -- what is neither a class nor an interface of the world has nothing below it but itself
   alone : (c e : ClassName) → IsSubtype s.world.shapes c e → is_class_at s.world.shapes e ≡ false
       → is_interface_at s.world.shapes e ≡ false → c ≡ e
-  alone c e (same k) no neither = refl
-  alone c e (object k) no neither = let there = ground.names.object in absurd cc
-  alone c e (by_superclass k d f up h) no neither =
-      let is = alone d f h no neither in
+  alone c e (same k) absent neither = refl
+  alone c e (object k) absent neither = let there = ground.names.object in absurd cc
+  alone c e (by_superclass k d f up h) absent neither =
+      let is = alone d f h absent neither in
       let there = ground.sound.superclasses.classes k d up in
       let at_e = subst (λ (x : ClassName). is_class_at s.world.shapes x ≡ true) is there in
       absurd cc
-  alone c e (by_interface k i f listed h) no neither =
-      let is = alone i f h no neither in
+  alone c e (by_interface k i f listed h) absent neither =
+      let is = alone i f h absent neither in
       let there = ground.sound.superclasses.orderly.interfaces k i listed in
       let at_e = subst (λ (x : ClassName). is_interface_at s.world.shapes x ≡ true) is there in
       absurd cc

@@ -5,7 +5,7 @@ use Rattle.std.proofs.lemmas.Bool.{lt-ltb, ltb-true, ltb-false}
 use Rattle.std.proofs.lemmas.Nat.{and_le_l, div-add-mod', or_lt, xor_lt}
 use Rattle.std.proofs.Math.Nat.{mod-lt}
 use Rattle.std.specs.Int.{cast_signed, cast_unsigned, w16, w8}
-use Rattle.std.specs.Prelude.{bit_and, bit_or, bit_xor, int_rem}
+use Rattle.std.specs.Prelude.{bit_and, bit_or, bit_xor, int_div, int_rem}
 use Rattle.jc_code.specs.declared.instr.BinaryOperator.{BinaryOperator}
 use Rattle.jc_code.specs.declared.instr.BinaryOperator.TheVariants.{Add, And, Divide, Multiply, Or, Remainder}
 use Rattle.jc_code.specs.declared.instr.BinaryOperator.TheVariants.{ShiftLeft, ShiftRight, ShiftRightUnsigned}
@@ -79,10 +79,13 @@ and_at_most a b h = let k = and_le_l a b in omega (arith, k, h)
 
 pub binary_bound : (operator : BinaryOperator) (a b n : ℕ) → a < 65536 → b < 65536
     → binary_of operator a b ≡ Some n → n < 65536
-binary_bound Add a b n f g e = some_bound _ n e (signed_bound _)
-binary_bound Subtract a b n f g e = some_bound _ n e (signed_bound _)
-binary_bound Multiply a b n f g e = some_bound _ n e (signed_bound _)
-binary_bound Divide a b n f g e = divided_bound (b == 0) _ n e (signed_bound _)
+binary_bound Add a b n f g e =
+    some_bound _ n e (signed_bound ((cast_unsigned w16 (short a) + cast_unsigned w16 (short b)) % 65536))
+binary_bound Subtract a b n f g e =
+    some_bound _ n e (signed_bound ((cast_unsigned w16 (short a) + (65536 - cast_unsigned w16 (short b))) % 65536))
+binary_bound Multiply a b n f g e =
+    some_bound _ n e (signed_bound ((cast_unsigned w16 (short a) * cast_unsigned w16 (short b)) % 65536))
+binary_bound Divide a b n f g e = divided_bound (b == 0) _ n e (signed_bound (cast_unsigned w16 (int_div (short a) (short b))))
 binary_bound Remainder a b n f g e =
     divided_bound (b == 0) _ n e
     (bits_bound (int_rem (short a) (short b)) (rem_is_short (short a) (short b) (signed_is_short a)))
@@ -94,8 +97,8 @@ binary_bound Or a b n f g e = some_bound _ n e (or_lt 16 a b f g)
 binary_bound Xor a b n f g e = some_bound _ n e (xor_lt 16 a b f g)
 
 pub unary_bound : (operator : UnaryOperator) (a : ℕ) → unary_of operator a < 65536
-unary_bound Negate a = signed_bound _
+unary_bound Negate a = signed_bound ((65536 - cast_unsigned w16 (short a)) % 65536)
 unary_bound ToByte a = byte_bound a
 
 pub incremented_bound : (a : ℕ) (by : ℤ) → incremented a by < 65536
-incremented_bound a by = signed_bound _
+incremented_bound a by = signed_bound ((cast_unsigned w16 (short a) + cast_unsigned w16 by) % 65536)

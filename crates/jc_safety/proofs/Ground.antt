@@ -100,14 +100,15 @@ record Finds {A : Type 0} (test : A → Bool) (xs : List A) (x : A) : Type 0 whe
 
 found_there : {A : Type 0} (test : A → Bool) (xs : List A) (x : A) → find test xs ≡ Some x → Finds test xs x
 found_there test [] x e = absurd cc
-found_there {A} test (y ∷ xs) x e = by_test (test y) refl e
+found_there {A} test (y ∷ xs) x e = by_test (test y) refl (found_there test xs x) e
   where
-    by_test : (b : Bool) → test y ≡ b → cond b (Some y) (find test xs) ≡ Some x → Finds test (y ∷ xs) x
-    by_test true t e =
+    by_test : (b : Bool) → test y ≡ b → (find test xs ≡ Some x → Finds test xs x)
+        → cond b (Some y) (find test xs) ≡ Some x → Finds test (y ∷ xs) x
+    by_test true t later e =
         let same : y ≡ x = cc in
         record { place = 0; there = ap Some same; passes = subst (λ (z : A). test z ≡ true) same t }
-    by_test false t e =
-        let f = found_there test xs x e in
+    by_test false t later e =
+        let f = later e in
         record { place = suc f.place; there = f.there; passes = f.passes }
 
 named : (n offset : ℕ) → method_name (suc (suc n)) offset ≡ Loaded (suc n) offset

@@ -176,7 +176,7 @@ module _ (w : World) (before after : Heap TaggedValue) (keeps : KeepsObjects bef
     present = h.present;
   }
 
-  pub placed_still : (f : Frame) → IsPlaced w before f → IsPlaced w after f
+  abbrev pub placed_still : (f : Frame) → IsPlaced w before f → IsPlaced w after f
   placed_still f h = record {
     body = h.body;
     loaded = h.loaded;

@@ -66,33 +66,35 @@ record Among {A B : Type 0} (P : B → Type 0) (f : A → B) (passes wanted : A 
 among : {A B : Type 0} (P : B → Type 0) (f : A → B) (passes wanted : A → Bool) (xs : List A) (x : A)
     → AllByRecursion P (map f xs) → find wanted (filter passes xs) ≡ Some x → Among P f passes wanted x
 among P f passes wanted [] x h e = absurd cc
-among {A} {B} P f passes wanted (y ∷ xs) x h e = by_pass (passes y) refl e
+among {A} {B} P f passes wanted (y ∷ xs) x h e = by_pass (passes y) refl (among P f passes wanted xs x h.1) e
   where
-    by_want : (b : Bool) → wanted y ≡ b → passes y ≡ true
+    abbrev Later : Type 0
+    Later = find wanted (filter passes xs) ≡ Some x → Among P f passes wanted x
+
+    by_want : (b : Bool) → wanted y ≡ b → passes y ≡ true → Later
         → cond b (Some y) (find wanted (filter passes xs)) ≡ Some x → Among P f passes wanted x
-    by_want true w p e =
+    by_want true w p later e =
         let same : y ≡ x = cc in
         subst (λ (z : A). Among P f passes wanted z) same (record { holds = h.0; passed = p; is_wanted = w })
-    by_want false w p e = among P f passes wanted xs x h.1 e
+    by_want false w p later e = later e
 
-    by_pass : (b : Bool) → passes y ≡ b → find wanted (cond b (y ∷ filter passes xs) (filter passes xs)) ≡ Some x
+    by_pass : (b : Bool) → passes y ≡ b → Later → find wanted (cond b (y ∷ filter passes xs) (filter passes xs)) ≡ Some x
         → Among P f passes wanted x
-    by_pass true p e = by_want (wanted y) refl p e
-    by_pass false p e = among P f passes wanted xs x h.1 e
+    by_pass true p later e = by_want (wanted y) refl p later e
+    by_pass false p later e = later e
 
 -- each that passes one test passes another
 all_pass : {A B : Type 0} (P : B → Type 0) (f : A → B) (passes wanted : A → Bool) (xs : List A)
     → AllByRecursion P (map f xs) → ((x : A) → P (f x) → passes x ≡ true → wanted x ≡ true)
     → list_all wanted (filter passes xs) ≡ true
 all_pass P f passes wanted [] h each = refl
-all_pass {A} {B} P f passes wanted (y ∷ xs) h each = by_pass (passes y) refl
+all_pass {A} {B} P f passes wanted (y ∷ xs) h each =
+    by_pass (passes y) refl (all_pass P f passes wanted xs h.1 each)
   where
-    rest : list_all wanted (filter passes xs) ≡ true
-    rest = all_pass P f passes wanted xs h.1 each
-
-    by_pass : (b : Bool) → passes y ≡ b → list_all wanted (cond b (y ∷ filter passes xs) (filter passes xs)) ≡ true
-    by_pass true p = and_true (wanted y) (list_all wanted (filter passes xs)) (each y h.0 p) rest
-    by_pass false p = rest
+    by_pass : (b : Bool) → passes y ≡ b → list_all wanted (filter passes xs) ≡ true
+        → list_all wanted (cond b (y ∷ filter passes xs) (filter passes xs)) ≡ true
+    by_pass true p rest = and_true (wanted y) (list_all wanted (filter passes xs)) (each y h.0 p) rest
+    by_pass false p rest = rest
 
 -- the class that a target is, where its objects may be thrown
 record IsThrownClass (world : List Shape) (target : PoolTarget) (class : ClassName) : Type 0 where

@@ -12,6 +12,7 @@ mod References
 mod Returning
 mod Rows
 mod Safe
+mod StaticWrites
 mod Statics
 mod Taking
 mod Thrown

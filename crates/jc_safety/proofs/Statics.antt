@@ -114,7 +114,7 @@ pub held : (statics : List (List StaticValue)) (place : StaticPlace) (x : Static
 held statics place x h = held_in statics place x (number_at place.home) refl h
 
 -- a package's number leads back to where it stands
-home_back : (home number : ℕ) → number_at home ≡ Some number → home_at number ≡ home
+pub home_back : (home number : ℕ) → number_at home ≡ Some number → home_at number ≡ home
 home_back home number e = by_test (nat_lt home 2) refl e
   where
     by_test : (b : Bool) → nat_lt home 2 ≡ b → (if b then None else Some (home - 1)) ≡ Some number

@@ -1,5 +1,6 @@
 mod Arrays
 mod Below
+mod Blank
 mod Bounds
 mod Creating
 mod Fields

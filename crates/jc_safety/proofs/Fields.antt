@@ -275,7 +275,7 @@ module _ {C : Type 0} (s : Surroundings C) (ground : Ground s) (m : Machine C) (
 
     -- ---- the instructions
 
-    get_operand : (form : Form) (after_it : Types) → is_form_of form declared ≡ true
+    pub get_operand : (form : Form) (after_it : Types) → is_form_of form declared ≡ true
         → Applied below most (takes (Below (types.Class class) ∷ []) (Exactly (type_of_declared declared))) state after_it
         → LeadsTo after_it next
         → IsSafe s (on_reference m.top.operands (gets (at m.top.operands) form field))
@@ -289,7 +289,7 @@ module _ {C : Type 0} (s : Surroundings C) (ground : Ground s) (m : Machine C) (
         rows.gives_it s ground m t d next (Below (types.Class class) ∷ []) m.top.operands vs (loaded_as form x)
         (type_of_declared declared) after_it a (loaded_typed shapes m.heap form declared x of_form kept) rest leads)))
 
-    put_operand : (form : Form) (after_it : Types) → is_form_of form declared ≡ true
+    pub put_operand : (form : Form) (after_it : Types) → is_form_of form declared ≡ true
         → Applied below most (takes (Below (types.Class class) ∷ Below (type_of_declared declared) ∷ []) Nothing) state after_it
         → LeadsTo after_it next
         → IsSafe s (on_top m.top.operands (λ x us. check (is_of_type shapes m.heap declared x)
@@ -320,7 +320,7 @@ module _ {C : Type 0} (s : Surroundings C) (ground : Ground s) (m : Machine C) (
         (l.value, l.there, type_up shapes ground.order m.heap l.value l.type (types.Class class)
         ((rows.orders s ground m t).up l.type (types.Class class) met) l.has)
 
-    get_this : (form : Form) (after_it : Types) → is_form_of form declared ≡ true
+    pub get_this : (form : Form) (after_it : Types) → is_form_of form declared ≡ true
         → Applied below most (reads 0 (Below (types.Class class)) [] (Exactly (type_of_declared declared))) state after_it
         → LeadsTo after_it next
         → IsSafe s (on_reference_local (slice_get m.top.locals 0) (λ v. gets (at m.top.operands) form field v m.top.operands))
@@ -340,7 +340,7 @@ module _ {C : Type 0} (s : Surroundings C) (ground : Ground s) (m : Machine C) (
         (loaded_typed shapes m.heap form declared x of_form kept, t.top.operands_typed))
         leads)))
 
-    put_this : (form : Form) (after_it : Types) → is_form_of form declared ≡ true
+    pub put_this : (form : Form) (after_it : Types) → is_form_of form declared ≡ true
         → Applied below most (reads 0 (Below (types.Class class)) (Below (type_of_declared declared) ∷ []) Nothing) state after_it
         → LeadsTo after_it next
         → IsSafe s (on_top m.top.operands (λ x us. check (is_of_type shapes m.heap declared x)

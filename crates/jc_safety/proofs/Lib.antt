@@ -3,6 +3,7 @@ mod Below
 mod Blank
 mod Bounds
 mod Creating
+mod FieldRows
 mod Fields
 mod Goes
 mod Ground

@@ -21,11 +21,12 @@ use Rattle.jc_code.specs.Instructions.{instr_at}
 use Rattle.jc_code.specs.Listing.{IsListing, PlacedInstr, placed_at}
 use Rattle.jc_link.specs.ApiClasses.{StandsThere}
 use Rattle.jc_link.specs.Growth.{KeepsAllLinking}
-use Rattle.jc_link.specs.KnownTypes.{NameClasses}
+use Rattle.jc_link.specs.KnownTypes.{NameClasses, is_known_target}
 use Rattle.jc_link.specs.Linked.{IsKnown, Linked, LinkedBody, World}
 use Rattle.jc_link.specs.MemberType.{declared_type_of}
 use Rattle.jc_link.specs.Sound.{IsSound}
 use Rattle.jc_link.specs.Target.{pool_target_of}
+use Rattle.jc_link.specs.declared.target.PoolTarget.{PoolTarget}
 use Rattle.jc_link.specs.declared.target.PoolTarget.TheVariants.{InstanceField}
 use Rattle.jc_names.specs.Names.{home_at}
 use Rattle.jc_names.specs.declared.name.ClassName.{ClassName}
@@ -54,6 +55,9 @@ pub record Stands (w : World) (number : ℕ) (body : LinkedBody) : Type 0 where
   pub within : StandWithin (linked_as w number body).world
   pub place : length (linked_as w number body).world - 1 ≡ home_at number
   pub known : IsKnown w.shapes (home_at number) body
+  -- what its entries lead to was known where it was linked
+  pub named : (index : ℕ) (target : PoolTarget) → slice_get body.targets index ≡ Some target
+      → is_known_target (linked_as w number body).world target ≡ true
 
 -- what a machine stands on
 pub record Ground {C : Type 0} (s : Surroundings C) : Type 0 where

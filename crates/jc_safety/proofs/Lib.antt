@@ -10,6 +10,8 @@ mod Ground
 mod Growing
 mod Lists
 mod Locals
+mod Making
+mod Naming
 mod References
 mod Returning
 mod Rows

@@ -2,6 +2,7 @@ mod Arrays
 mod Below
 mod Blank
 mod Bounds
+mod Casting
 mod Creating
 mod FieldRows
 mod Fields

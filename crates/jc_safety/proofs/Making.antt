@@ -18,7 +18,7 @@ use Rattle.jc_link.specs.declared.target.PoolTarget.{PoolTarget}
 use Rattle.jc_names.specs.declared.name.ClassName.{ClassName}
 use Rattle.jc_names.specs.declared.name.ClassName.TheVariants.{Api}
 use Rattle.jc_step.specs.Objects as checked
-use Rattle.jc_step.specs.Objects.{class_of_entry, class_target, creation_row, has_objects, if_form, reference_array}
+use Rattle.jc_step.specs.Objects.{Setting, class_of_entry, class_target, creation_row, has_objects, if_form, reference_array}
 use Rattle.jc_step.specs.Row.{Row}
 use Rattle.jc_step.specs.Words.{takes, word}
 use Rattle.jc_step.specs.declared.row.Given.TheVariants.{Exactly, Nothing}
@@ -31,7 +31,7 @@ use Rattle.jc_types.specs.State.{Types}
 use Rattle.jc_types.specs.declared.ty.Ty.{Ty}
 use Rattle.jc_types.specs.declared.ty.Ty.TheVariants as types
 use Rattle.jc_machine.specs.Going.{Here, check, gives, no_resource, on_word, require, throws_system}
-use Rattle.jc_machine.specs.Lookup.{class_of, fields_of, is_array, is_word}
+use Rattle.jc_machine.specs.Lookup.{class_of, fields_of, is_array, is_boolean_array, is_byte_array, is_short_array, leads_to}
 use Rattle.jc_machine.specs.Machine.{Machine, Stepped, Surroundings}
 use Rattle.jc_machine.specs.Natives.{IsThrown}
 use Rattle.jc_machine.specs.Objects.{act_create, cells_of, creates, creates_array, has_space, made, word_array}
@@ -44,7 +44,8 @@ use Rattle.jc_safety.proofs.Blank.{no_field}
 use Rattle.jc_safety.proofs.Creating.{booleans_made, bytes_made, count_fits, instance_made, references_made, shorts_made}
 use Rattle.jc_safety.proofs.FieldRows.{from_entry}
 use Rattle.jc_safety.proofs.Fields.{unformed}
-use Rattle.jc_safety.proofs.Goes.{arrives, placed, room_left, throws_with}
+use Rattle.jc_safety.proofs.Upward.{holds_below}
+use Rattle.jc_safety.proofs.Goes.{arrives, method, placed, room_left, throws_with}
 use Rattle.jc_safety.proofs.Ground.{Ground}
 use Rattle.jc_safety.proofs.Growing.{operands_still, statics_still, types_still}
 use Rattle.jc_safety.proofs.Lists.{get_last, put_points}
@@ -182,3 +183,101 @@ module _ {C : Type 0} (s : Surroundings C) (ground : Ground s) (m : Machine C) (
       creates_array_safe m.top.operands vs object v count u after_it small may typed fits
       (room_left shapes m.heap most 1 state.operands vs a.enough a.room rest)
       (rows.locals_still s ground m t after_it.locals l.locals_are) (drop 1 state.operands) rest l.operands_are leads))
+
+  -- ---- the instructions
+
+  -- a new object's reference, by what it is
+  by_class : (c k : ClassName) → is_class_below shapes c k ≡ true → IsOfNew (Instance c) (types.Class k)
+  by_class c k e heap n o found is =
+      ap (λ (x : Option (heaps.Object TaggedValue)). option_map_or (λ (o : heaps.Object TaggedValue). is_class_below shapes (class_of o.kind.object) k) x false) found
+      ∙ ap (λ (x : ObjectType). is_class_below shapes (class_of x) k) is ∙ e
+
+  by_test : (test : ObjectType → Bool) (object : ObjectType) → test object ≡ true → (heap : Heap TaggedValue) (n : ℕ)
+      → (o : heaps.Object TaggedValue) → object_at heap n ≡ Some o → o.kind.object ≡ object
+      → leads_to heap test (Ref n) ≡ true
+  by_test test object e heap n o found is =
+      ap (λ (x : Option (heaps.Object TaggedValue)). option_map_or (λ (o : heaps.Object TaggedValue). test o.kind.object) x false) found
+      ∙ ap test is ∙ e
+
+  word_array_safe : (kind : WordKind) (after_it : Types)
+      → Applied below most (takes (word ∷ []) (Exactly (checked.word_array kind))) state after_it → LeadsTo after_it next
+      → IsSafe s (on_word m.top.operands (λ count vs. creates_array (at m.top.operands) (word_array kind) (Word 0) count vs))
+  word_array_safe Kinds.Boolean after_it a leads =
+      array_row BooleanArray (Word 0) types.BooleanArray after_it refl (booleans_made shapes m.heap)
+      (by_test is_boolean_array BooleanArray refl) a leads
+  word_array_safe Kinds.Byte after_it a leads =
+      array_row ByteArray (Word 0) types.ByteArray after_it refl (bytes_made shapes m.heap)
+      (by_test is_byte_array ByteArray refl) a leads
+  word_array_safe Kinds.Short after_it a leads =
+      array_row ShortArray (Word 0) types.ShortArray after_it refl (shorts_made shapes m.heap)
+      (by_test is_short_array ShortArray refl) a leads
+
+  abbrev its_entry : ℕ → Option PoolTarget
+  its_entry index = slice_get (placed s ground m t).body.targets index
+
+  object_row_safe : (index : ℕ) (target : PoolTarget) (c : ClassName) → its_entry index ≡ Some target
+      → class_target target ≡ Some c → (after_it : Types)
+      → Applied below most (if_form (has_objects (rows.before s ground m t) c) (takes [] (Exactly (types.Class c)))) state after_it
+      → LeadsTo after_it next → IsSafe s (act_create (at m.top.operands) (Creations.Object index))
+  object_row_safe index target c there is after_it a leads =
+      let p = placed s ground m t in
+      let named = named_class s.world m.top.method.number p.body (ground.packages m.top.method.number p.body p.loaded) index target c there is in
+      let may = named.objects ∙ a.fits in
+      let b = unformed below most (has_objects (rows.before s ground m t) c) (takes [] (Exactly (types.Class c))) state after_it refl a in
+      let l = leaves_one below most [] state after_it (types.Class c) b in
+      rows.safe_target s ground m t d next m.top.operands index class_target target c
+      (λ c. check (has_objects shapes c) (creates (at m.top.operands) (Instance c) (cells_of shapes c) m.top.operands))
+      there is
+      (safe_check s (has_objects shapes c) _ may
+      (creates_safe m.top.operands m.top.operands (Instance c) (cells_of shapes c) (types.Class c) after_it may
+      (instance_made shapes m.heap c) (λ is. absurd cc) (by_class c c (ground.order.reflexive c))
+      (room_left shapes m.heap most 0 state.operands m.top.operands b.enough b.room t.top.operands_typed)
+      (rows.locals_still s ground m t after_it.locals l.locals_are) state.operands t.top.operands_typed l.operands_are
+      leads))
+
+  reference_row_safe : (index : ℕ) (target : PoolTarget) (c : ClassName) → its_entry index ≡ Some target
+      → class_target target ≡ Some c → (after_it : Types)
+      → Applied below most (takes (word ∷ []) (Exactly (reference_array (rows.before s ground m t) c))) state after_it
+      → LeadsTo after_it next → IsSafe s (act_create (at m.top.operands) (Creations.ReferenceArray index))
+  reference_row_safe index target c there is after_it a leads =
+      let p = placed s ground m t in
+      let named = named_class s.world m.top.method.number p.body (ground.packages m.top.method.number p.body p.loaded) index target c there is in
+      let counts : is_class_below shapes (counted shapes c) (counted (rows.before s ground m t) c) ≡ true =
+      subst (λ (k : ClassName). is_class_below shapes (counted shapes c) k ≡ true) named.counts (counted_reflexive s ground c) in
+      rows.safe_target s ground m t d next m.top.operands index class_target target c
+      (λ c. on_word m.top.operands (λ count vs. creates_array (at m.top.operands) (ReferenceArray c) Null count vs))
+      there is
+      (array_row (ReferenceArray c) Null (reference_array (rows.before s ground m t) c) after_it refl
+      (references_made shapes m.heap c)
+      (by_test (holds_below shapes (counted (rows.before s ground m t) c)) (ReferenceArray c) counts) a leads)
+
+  abbrev pub setting : Setting
+  setting = record {
+    world = rows.before s ground m t;
+    targets = (placed s ground m t).body.targets;
+    returned = (method s ground m t).returned;
+  }
+
+  pub mapped_some : {A B : Type 0} (f : A → B) (o : Option A) (b : B) → option_map f o ≡ Some b
+      → (a : A) × (o ≡ Some a) × (f a ≡ b)
+  mapped_some f None b e = absurd cc
+  mapped_some f (Some a) b e = (a, refl, cc)
+
+  pub create : (creation : Creation) (after_it : Types)
+      → HasRow below most (creation_row setting creation) state after_it → LeadsTo after_it next
+      → IsSafe s (act_create (at m.top.operands) creation)
+  create (Creations.Object index) after_it h leads =
+      let x = mapped_some (λ (c : ClassName). if_form (has_objects setting.world c) (takes [] (Exactly (types.Class c))))
+      (class_of_entry setting index) h.found h.is in
+      let f = from_entry class_target (its_entry index) x.0 x.1 in
+      object_row_safe index f.target x.0 f.is f.gives after_it
+      (subst (λ (r : Row). Applied below most r state after_it) (sym x.2) h.applied) leads
+  create (Creations.WordArray kind) after_it h leads =
+      let same : takes (word ∷ []) (Exactly (checked.word_array kind)) ≡ h.found = cc in
+      word_array_safe kind after_it (subst (λ (r : Row). Applied below most r state after_it) (sym same) h.applied) leads
+  create (Creations.ReferenceArray index) after_it h leads =
+      let x = mapped_some (λ (c : ClassName). takes (word ∷ []) (Exactly (reference_array setting.world c)))
+      (class_of_entry setting index) h.found h.is in
+      let f = from_entry class_target (its_entry index) x.0 x.1 in
+      reference_row_safe index f.target x.0 f.is f.gives after_it
+      (subst (λ (r : Row). Applied below most r state after_it) (sym x.2) h.applied) leads

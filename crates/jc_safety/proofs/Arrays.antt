@@ -193,7 +193,7 @@ module _ {C : Type 0} (s : Surroundings C) (ground : Ground s) (m : Machine C) (
       safe_some s (slice_get o.cells index) v.0 _ v.1 (go v.0 v.1)))))
 
   -- of bytes and shorts
-  load_number : (form : Form) (after : Types) → component_loaded form ≡ Exactly types.Word
+  pub load_number : (form : Form) (after : Types) → component_loaded form ≡ Exactly types.Word
       → Applied (below s ground m t) (most s ground m t) (takes (array_of form ∷ word ∷ []) (Exactly types.Word))
       (state s ground m t) after
       → LeadsTo s ground m t after next → IsSafe s (act_load (at m.top.operands) form)
@@ -214,7 +214,7 @@ module _ {C : Type 0} (s : Surroundings C) (ground : Ground s) (m : Machine C) (
       rest leads))))
 
   -- of references
-  abbrev references : Row
+  abbrev pub references : Row
   references = takes (Below (types.ReferenceArray (Api api.Object)) ∷ word ∷ []) (ComponentOf 0)
 
   component_left : (ls : List Ty) (ti tu : Ty) (ts : List Ty) (after_it : Types)
@@ -258,7 +258,7 @@ module _ {C : Type 0} (s : Surroundings C) (ground : Ground s) (m : Machine C) (
       let has = component_has c o.kind.object o.cells index v (ref_holds c n o found h) (object_typed n o found) e in
       record { type = has; written = leads_written m.heap (is_of_class shapes c) v has }
 
-  load_reference : (vs : List TaggedValue) (us : List Ty) (after_it : Types) → HoldTypes shapes m.heap vs us
+  pub load_reference : (vs : List TaggedValue) (us : List Ty) (after_it : Types) → HoldTypes shapes m.heap vs us
       → Applied (below s ground m t) (most s ground m t) references (record { locals = (state s ground m t).locals; operands = us }) after_it
       → LeadsTo s ground m t after_it next → IsSafe s (act_load (at vs) Forms.Reference)
   load_reference [] [] after_it h a leads = let e = a.enough in absurd cc
@@ -292,7 +292,7 @@ module _ {C : Type 0} (s : Surroundings C) (ground : Ground s) (m : Machine C) (
 
   -- ---- a component is stored
 
-  store_number : (form : Form) (after_it : Types) → component_stored form ≡ Below types.Word
+  pub store_number : (form : Form) (after_it : Types) → component_stored form ≡ Below types.Word
       → Applied (below s ground m t) (most s ground m t) (takes (array_of form ∷ word ∷ word ∷ []) Nothing)
       (state s ground m t) after_it
       → LeadsTo s ground m t after_it next → IsSafe s (act_store_word (at m.top.operands) form)
@@ -337,7 +337,7 @@ module _ {C : Type 0} (s : Surroundings C) (ground : Ground s) (m : Machine C) (
       subst (λ (x : ObjectType). CellsTyped shapes m.heap (set cells index v) x) (sym is)
       (each_set (λ v. leads_to m.heap (is_instance shapes k) v ≡ true) cells index v old has)
 
-  store_reference : (after_it : Types)
+  pub store_reference : (after_it : Types)
       → Applied (below s ground m t) (most s ground m t)
       (takes (Below (types.ReferenceArray (Api api.Object)) ∷ word ∷ Reference ∷ []) Nothing) (state s ground m t) after_it
       → LeadsTo s ground m t after_it next → IsSafe s (act_store_reference (at m.top.operands))
@@ -376,7 +376,7 @@ module _ {C : Type 0} (s : Surroundings C) (ground : Ground s) (m : Machine C) (
 
   -- ---- the length
 
-  array_length : (after_it : Types)
+  pub array_length : (after_it : Types)
       → Applied (below s ground m t) (most s ground m t) (takes (Array ∷ []) (Exactly types.Word)) (state s ground m t) after_it
       → LeadsTo s ground m t after_it next → IsSafe s (act_length (at m.top.operands))
   array_length after_it a leads =

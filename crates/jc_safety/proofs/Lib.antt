@@ -19,6 +19,7 @@ mod Rows
 mod Safe
 mod StaticWrites
 mod Statics
+mod Stepping
 mod Taking
 mod Thrown
 mod Unwinding

@@ -1,0 +1,172 @@
+-- A step of a well-typed machine is safe, whichever instruction it makes.
+use Rattle.std.proofs.Common.{◌≡◌, ℕ, ℤ, ◌<◌, List, [], ◌∷◌, map, slice_get, Bool, true, Option, Some, None, Ok, refl, sym, ap, ◌∙◌, subst}
+use Rattle.std.specs.List.{AllByRecursion}
+use Rattle.std.specs.Option.{option_and_then, option_map}
+use Rattle.jc_cap_desc.specs.Shape.{MethodBody, Shape}
+use Rattle.jc_cap_method.specs.declared.header.MethodHeader.{MethodHeader}
+use Rattle.jc_check.specs.Method.{Method}
+use Rattle.jc_check.specs.Package.{method_of, package_rules}
+use Rattle.jc_check.specs.Typing.{BranchLeads, IsFine, IsFineAt, Leads}
+use Rattle.jc_classes.specs.Members.{DeclaredMethod}
+use Rattle.jc_code.specs.Listing.{PlacedInstr}
+use Rattle.jc_code.specs.Targets.{falls_of, object_falls, object_offsets, offsets_of, target_of, targets_of, word_falls, word_offsets}
+use Rattle.jc_code.specs.declared.instr.Instr.{Instr}
+use Rattle.jc_code.specs.declared.instr.Operation.{Operation}
+use Rattle.jc_code.specs.declared.instr.Operation.TheVariants as operations
+use Rattle.jc_code.specs.declared.instr.Shuffle.TheVariants.{Duplicate, Pop, Swap}
+use Rattle.jc_code.specs.declared.instr.When.TheVariants.{Always, Compare, Zero}
+use Rattle.jc_code.specs.declared.instr.WordOperation.{WordOperation}
+use Rattle.jc_code.specs.declared.instr.WordOperation.TheVariants as ops
+use Rattle.jc_code.specs.declared.object.Form.TheVariants as Forms
+use Rattle.jc_code.specs.declared.object.ObjectOperation.{ObjectOperation}
+use Rattle.jc_code.specs.declared.object.ObjectOperation.TheVariants as objects
+use Rattle.jc_step.specs.Effect.{effect_of}
+use Rattle.jc_step.specs.Objects.{Setting, array_of, component_loaded, component_stored, if_form, object_row, references_compared, return_row}
+use Rattle.jc_step.specs.Row.{Row, applied}
+use Rattle.jc_step.specs.Words.{reads, takes, word, word_effect, writes}
+use Rattle.jc_step.specs.Method.{result_of}
+use Rattle.jc_types.specs.State.{Types}
+use Rattle.jc_types.specs.declared.ty.Ty.{Ty}
+use Rattle.jc_names.specs.declared.name.ClassName.{ClassName}
+use Rattle.jc_machine.specs.Accepted.{linked_as}
+use Rattle.jc_machine.specs.Going.{Here}
+use Rattle.jc_machine.specs.Lookup.{code_at, declared_at, instruction_at}
+use Rattle.jc_machine.specs.Machine.{Ends, Machine, Next, Outcome, Stuck, Surroundings, Throws, UsedUp}
+use Rattle.jc_machine.specs.Objects.{act_object}
+use Rattle.jc_machine.specs.Step.{CallEnd, act, act_at, continued, defensive_step, here, onward, settled, steps_of}
+use Rattle.jc_machine.specs.Typed.{IsTyped}
+use Rattle.jc_machine.specs.Words.{act_word}
+use Rattle.jc_words.specs.Shorts.{word_of}
+use Rattle.jc_words.specs.Values.{TaggedValue}
+use Rattle.jc_safety.proofs.Arrays as arrays
+use Rattle.jc_safety.proofs.Casting as casts
+use Rattle.jc_safety.proofs.FieldRows.{field_safe}
+use Rattle.jc_safety.proofs.Goes as goes
+use Rattle.jc_safety.proofs.Goes.{method, placed}
+use Rattle.jc_safety.proofs.Ground.{Ground, MethodOf, method_of_code}
+use Rattle.jc_safety.proofs.Making.{create, setting}
+use Rattle.jc_safety.proofs.References as references
+use Rattle.jc_safety.proofs.Returning as returning
+use Rattle.jc_safety.proofs.Rows as rows
+use Rattle.jc_safety.proofs.Safe.{IsSafe, safe_some}
+use Rattle.jc_safety.proofs.Safe as safe
+use Rattle.jc_safety.proofs.Taking.{Applied, has_row, row_applied}
+use Rattle.jc_safety.proofs.Unwinding.{settles}
+use Rattle.jc_safety.proofs.Words as words
+use Rattle.jc_safety.specs.Safety.{EndsTyped, StaysTyped}
+
+unmapped : {A B : Type 0} (P : B → Type 0) (f : A → B) (xs : List A) → AllByRecursion P (map f xs)
+    → AllByRecursion (λ x. P (f x)) xs
+unmapped P f [] h = tt
+unmapped P f (x ∷ xs) h = (h.0, unmapped P f xs h.1)
+
+module _ {C : Type 0} (s : Surroundings C) (ground : Ground s) (m : Machine C) (t : IsTyped s m) (d : DeclaredMethod)
+    (next : ℕ) where
+  abbrev at : Here C
+  at = rows.here s ground m t d next m.top.operands
+
+  abbrev most : ℕ
+  most = rows.most s ground m t
+
+  abbrev state : Types
+  state = rows.state s ground m t
+
+  abbrev below : ClassName → ClassName → Bool
+  below = rows.below s ground m t
+
+  abbrev returned : Option Ty
+  returned = (method s ground m t).returned
+
+  abbrev LeadsTo : Types → ℕ → Type 0
+  LeadsTo after pc = rows.LeadsTo s ground m t after pc
+
+  abbrev BranchesTo : Types → ℤ → Type 0
+  BranchesTo after offset = rows.BranchesTo s ground m t after offset
+
+  module _ (found : declared_at s.world m.top.method ≡ Some d) (gives : returned ≡ result_of s.world.shapes d)
+      (after : Types) where
+    -- ---- instructions on words
+
+    word_safe : (operation : WordOperation) → ((value : ℤ) → operation ≡ ops.Push value → word_of value < 65536)
+        → word_effect below most returned operation state ≡ Ok after
+        → AllByRecursion (BranchesTo after) (word_offsets operation)
+        → (word_falls operation ≡ true → LeadsTo after next) → IsSafe s (act_word at operation)
+    unfolding word_effect act_word
+    word_safe ops.Nop small e branches falls = words.nop s ground m t d next after e branches falls
+    word_safe (ops.Push value) small e branches falls =
+        words.push s ground m t d next value (small value refl) after e branches falls
+    word_safe (ops.Load local) small e branches falls = words.load s ground m t d next local after e branches falls
+    word_safe (ops.Store local) small e branches falls = words.store s ground m t d next local after e branches falls
+    word_safe (ops.Increment local by) small e branches falls =
+        words.increment s ground m t d next local by after e branches falls
+    word_safe (ops.Shuffle (Pop count)) small e branches falls =
+        words.shuffle_pop s ground m t d next count after e branches falls
+    word_safe (ops.Shuffle (Duplicate count depth)) small e branches falls =
+        words.shuffle_duplicate s ground m t d next count depth after e branches falls
+    word_safe (ops.Shuffle (Swap upper lower)) small e branches falls =
+        words.shuffle_swap s ground m t d next upper lower after e branches falls
+    word_safe (ops.Binary operator) small e branches falls =
+        words.binary s ground m t d next operator after e branches falls
+    word_safe (ops.Unary operator) small e branches falls =
+        words.unary s ground m t d next operator after e branches falls
+    word_safe (ops.Branch Always offset) small e branches falls =
+        words.goto s ground m t d next offset after e branches falls
+    word_safe (ops.Branch (Zero condition) offset) small e branches falls =
+        words.branch_zero s ground m t d next condition offset after e branches falls
+    word_safe (ops.Branch (Compare condition) offset) small e branches falls =
+        words.branch_compare s ground m t d next condition offset after e branches falls
+    word_safe (ops.StableSwitch default low offsets) small e branches falls =
+        words.stable_switch s ground m t d next default low offsets after e branches falls
+    word_safe (ops.LookupSwitch default cases) small e branches falls =
+        words.lookup_switch s ground m t d next default cases after e branches falls
+    word_safe ops.ReturnWord small e branches falls =
+        returning.return_word s ground m t d next found gives after
+        (row_applied below most _ state after e)
+
+    -- ---- instructions on objects
+
+    abbrev set : Setting
+    set = setting s ground m t d next
+
+    object_safe : (operation : ObjectOperation) → applied below most (object_row set operation) state ≡ Ok after
+        → AllByRecursion (BranchesTo after) (object_offsets operation)
+        → (object_falls operation ≡ true → LeadsTo after next) → IsSafe s (act_object at operation)
+    unfolding object_row act_object
+    object_safe objects.PushNull e branches falls =
+        references.push_null s ground m t d next after (row_applied below most _ state after e) (falls refl)
+    object_safe (objects.Load local) e branches falls =
+        references.load s ground m t d next local after (row_applied below most _ state after e) (falls refl)
+    object_safe (objects.Store local) e branches falls =
+        references.store s ground m t d next local after (row_applied below most _ state after e) (falls refl)
+    object_safe (objects.LoadComponent Forms.Reference) e branches falls =
+        arrays.load_reference s ground m t d next m.top.operands state.operands after t.top.operands_typed
+        (row_applied below most _ state after e) (falls refl)
+    object_safe (objects.LoadComponent Forms.Byte) e branches falls =
+        arrays.load_number s ground m t d next Forms.Byte after refl (row_applied below most _ state after e) (falls refl)
+    object_safe (objects.LoadComponent Forms.Short) e branches falls =
+        arrays.load_number s ground m t d next Forms.Short after refl (row_applied below most _ state after e) (falls refl)
+    object_safe (objects.StoreComponent Forms.Reference) e branches falls =
+        arrays.store_reference s ground m t d next after (row_applied below most _ state after e) (falls refl)
+    object_safe (objects.StoreComponent Forms.Byte) e branches falls =
+        arrays.store_number s ground m t d next Forms.Byte after refl (row_applied below most _ state after e) (falls refl)
+    object_safe (objects.StoreComponent Forms.Short) e branches falls =
+        arrays.store_number s ground m t d next Forms.Short after refl (row_applied below most _ state after e) (falls refl)
+    object_safe objects.ArrayLength e branches falls =
+        arrays.array_length s ground m t d next after (row_applied below most _ state after e) (falls refl)
+    object_safe (objects.Branch when offset) e branches falls =
+        references.branch s ground m t d next when offset after (row_applied below most _ state after e) branches.0 (falls refl)
+    object_safe (objects.Field access index) e branches falls =
+        field_safe s ground m t d next access index after (has_row below most _ state after e) (falls refl)
+    object_safe (objects.Invoke invocation) e branches falls = ?
+    object_safe (objects.Create creation) e branches falls =
+        create s ground m t d next creation after (has_row below most _ state after e) (falls refl)
+    object_safe (objects.CheckCast type) e branches falls =
+        casts.check_cast s ground m t d next type after (has_row below most _ state after e) (falls refl)
+    object_safe (objects.InstanceOf type) e branches falls =
+        casts.instance_of s ground m t d next type after (has_row below most _ state after e) (falls refl)
+    object_safe objects.Throw e branches falls =
+        references.throw s ground m t d next after (row_applied below most _ state after e)
+    object_safe objects.ReturnReference e branches falls =
+        returning.return_reference s ground m t d next found gives after (row_applied below most _ state after e)
+    object_safe objects.ReturnVoid e branches falls =
+        returning.return_void s ground m t d next found gives after (row_applied below most _ state after e)

@@ -1,5 +1,5 @@
 -- A step of a well-typed machine is safe, whichever instruction it makes.
-use Rattle.std.proofs.Common.{◌≡◌, ℕ, ℤ, ◌<◌, List, [], ◌∷◌, map, slice_get, Bool, true, Option, Some, None, Ok, refl, sym, ap, ◌∙◌, subst}
+use Rattle.std.proofs.Common.{◌≡◌, ℕ, zero, suc, ℤ, ◌<◌, List, [], ◌∷◌, map, slice_get, Bool, true, Option, Some, None, Ok, refl, sym, ap, ◌∙◌, subst}
 use Rattle.std.specs.List.{AllByRecursion}
 use Rattle.std.specs.Option.{option_and_then, option_map}
 use Rattle.jc_cap_desc.specs.Shape.{MethodBody, Shape}
@@ -33,7 +33,7 @@ use Rattle.jc_machine.specs.Going.{Here}
 use Rattle.jc_machine.specs.Lookup.{code_at, declared_at, instruction_at}
 use Rattle.jc_machine.specs.Machine.{Ends, Machine, Next, Outcome, Stuck, Surroundings, Throws, UsedUp}
 use Rattle.jc_machine.specs.Objects.{act_object}
-use Rattle.jc_machine.specs.Step.{CallEnd, act, act_at, continued, defensive_step, here, onward, settled, steps_of}
+use Rattle.jc_machine.specs.Step.{CallEnd, Called, act, act_at, continued, defensive_step, here, onward, settled, steps_of}
 use Rattle.jc_machine.specs.Typed.{IsTyped}
 use Rattle.jc_machine.specs.Words.{act_word}
 use Rattle.jc_words.specs.Shorts.{word_of}
@@ -170,3 +170,88 @@ module _ {C : Type 0} (s : Surroundings C) (ground : Ground s) (m : Machine C) (
         returning.return_reference s ground m t d next found gives after (row_applied below most _ state after e)
     object_safe objects.ReturnVoid e branches falls =
         returning.return_void s ground m t d next found gives after (row_applied below most _ state after e)
+
+    -- ---- any instruction
+
+    act_safe : (operation : Operation) → ((value : ℤ) → operation ≡ operations.Word (ops.Push value) → word_of value < 65536)
+        → effect_of set most operation state ≡ Ok after → AllByRecursion (BranchesTo after) (offsets_of operation)
+        → (falls_of operation ≡ true → LeadsTo after next) → IsSafe s (act at operation)
+    unfolding effect_of
+    act_safe (operations.Word operation) small e branches falls =
+        word_safe operation (λ value is. small value (ap operations.Word is)) e branches falls
+    act_safe (operations.Object operation) small e branches falls = object_safe operation e branches falls
+
+-- ---- a step
+
+module _ {C : Type 0} (s : Surroundings C) (ground : Ground s) where
+  -- what an instruction came to, with what it throws caught
+  settled_fine : (outcome : Outcome C) → safe.IsFine s outcome → StaysTyped s (settled s outcome)
+  settled_fine (Next m) h = h
+  settled_fine (Throws m number) h = settles s ground m number h
+  settled_fine (Ends m value) h = h
+  settled_fine (UsedUp m) h = h
+  settled_fine Stuck h = h
+
+  module _ (m : Machine C) (t : IsTyped s m) where
+    its_method : MethodOf s.world m.top.method (placed s ground m t).body (placed s ground m t).code
+    its_method =
+        let p = placed s ground m t in
+        method_of_code s.world m.top.method.offset p.body p.code m.top.method.number p.loaded
+        (ground.packages m.top.method.number p.body p.loaded) p.there
+
+    its_instruction : IsFineAt (goes.rules s ground m t) (method s ground m t) (placed s ground m t).typing
+        (placed s ground m t).typed.listing m.top.pc (placed s ground m t).state
+    its_instruction = (placed s ground m t).typed.each m.top.pc (placed s ground m t).state (placed s ground m t).stated
+
+    acts : IsSafe s (act_at s m)
+    unfolding act_at
+    acts =
+        let p = placed s ground m t in
+        let me = its_method in
+        let x = its_instruction in
+        let listing = p.typed.listing in
+        let listed = ground.listed p.code.code listing m.top.pc x.instr p.typed.whole x.stands in
+        let begins = ground.begins p.code.code listing m.top.pc x.instr p.typed.whole x.stands in
+        let constant = λ (value : ℤ) (is : x.instr.instr.operation ≡ operations.Word (ops.Push value)).
+        ground.constants p.code.code listing m.top.pc x.instr value p.typed.whole x.stands is in
+        let branches = subst
+        (λ (pc : ℕ). AllByRecursion (BranchLeads (goes.rules s ground m t) p.typing x.fine.after) (targets_of pc x.instr.instr.operation))
+        begins x.fine.branches in
+        let S : ℕ → Type 0 = λ most. IsSafe s (act (record {
+          around = s;
+          machine = m;
+          method = me.declared;
+          max_stack = most;
+          next_pc = x.instr.instr.next_pc;
+        }) x.instr.instr.operation) in
+        safe_some s (declared_at s.world m.top.method) me.declared _ me.found
+        (safe_some s me.declared.method.header me.header _ me.header_is
+        (safe_some s (code_at s.world m.top.method) p.code _ p.there
+        (safe_some s (instruction_at p.code.code m.top.pc) x.instr.instr _ listed
+        (subst S me.max_stack
+        (act_safe s ground m t me.declared x.instr.instr.next_pc me.found me.returned x.fine.after
+        x.instr.instr.operation constant x.fine.effect
+        (unmapped (BranchLeads (goes.rules s ground m t) p.typing x.fine.after) (target_of m.top.pc)
+        (offsets_of x.instr.instr.operation) branches)
+        x.fine.falls)))))
+
+    pub steps_safely : StaysTyped s (defensive_step s m).outcome
+    unfolding defensive_step
+    steps_safely = settled_fine (act_at s m).outcome acts.fine
+
+  -- ---- many steps
+
+  goes_on_safely : (go : Machine C → Called C) (outcome : Outcome C)
+      → ((m : Machine C) → IsTyped s m → EndsTyped s (go m).ends) → StaysTyped s outcome
+      → EndsTyped s (continued go outcome).ends
+  goes_on_safely go (Next m) each h = each m h
+  goes_on_safely go (Throws m number) each h = h
+  goes_on_safely go (Ends m value) each h = h
+  goes_on_safely go (UsedUp m) each h = h
+  goes_on_safely go Stuck each h = h
+
+  pub runs_safely : (n : ℕ) (m : Machine C) → IsTyped s m → EndsTyped s (steps_of s n m).ends
+  unfolding steps_of
+  runs_safely zero m t = t.beside
+  runs_safely (suc n) m t =
+      goes_on_safely (steps_of s n) (defensive_step s m).outcome (runs_safely n) (steps_safely m t)

@@ -23,14 +23,14 @@ pub bits_bound : (z : ℤ) → IsShort z → word_of z < 65536
 bits_bound (pos n) h = h
 bits_bound (negsuc n) h = omega arith
 
-signed_is_short : (n : ℕ) → IsShort (cast_signed w16 n)
+pub signed_is_short : (n : ℕ) → IsShort (cast_signed w16 n)
 signed_is_short n = by_half (nat_lt n 32768) refl
   where
     by_half : (b : Bool) → nat_lt n 32768 ≡ b → IsShort (cond b (pos n) (negsuc (65536 - suc n)))
     by_half true e = let k = ltb-true n 32768 e in omega (arith, k)
     by_half false e = tt
 
-byte_is_short : (n : ℕ) → IsShort (cast_signed w8 n)
+pub byte_is_short : (n : ℕ) → IsShort (cast_signed w8 n)
 byte_is_short n = by_half (nat_lt n 128) refl
   where
     by_half : (b : Bool) → nat_lt n 128 ≡ b → IsShort (cond b (pos n) (negsuc (256 - suc n)))

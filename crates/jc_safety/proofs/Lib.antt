@@ -3,6 +3,7 @@ mod Below
 mod Blank
 mod Bounds
 mod Casting
+mod Constants
 mod Creating
 mod FieldRows
 mod Fields

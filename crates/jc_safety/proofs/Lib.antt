@@ -9,6 +9,7 @@ mod FieldRows
 mod Fields
 mod Goes
 mod Ground
+mod Grounding
 mod Growing
 mod Lists
 mod Locals

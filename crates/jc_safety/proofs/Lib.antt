@@ -2,6 +2,7 @@ mod Arrays
 mod Below
 mod Bounds
 mod Creating
+mod Entering
 mod Fields
 mod Goes
 mod Ground

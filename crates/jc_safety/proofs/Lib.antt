@@ -9,6 +9,8 @@ mod Ground
 mod Growing
 mod Lists
 mod Locals
+mod Members
+mod Natives
 mod References
 mod Returning
 mod Rows

@@ -43,7 +43,7 @@ use Rattle.jc_safety.proofs.Bounds.{byte_bound, low_bound}
 use Rattle.jc_safety.proofs.Ground.{Ground}
 use Rattle.jc_safety.proofs.Lists.{both, each_at, each_set, get_within}
 use Rattle.jc_safety.proofs.Rows.{LeadsTo, below, here, gives_it, held, leaves_stored, leaves_them, locals_still, met_by, most}
-use Rattle.jc_safety.proofs.Rows.{orders, safe_accessed, safe_null, safe_object, safe_required, safe_to_store, state, world}
+use Rattle.jc_safety.proofs.Rows.{orders, safe_accessed, safe_null, safe_required, safe_to_store, state, world}
 use Rattle.jc_safety.proofs.Safe.{IsSafe, safe_check, safe_some}
 use Rattle.jc_safety.proofs.Goes.{room_left, safe_gives}
 use Rattle.jc_safety.proofs.Taking.{Applied, Meets, any_object, leaves_nothing, meets_value, take_one, take_three, take_two, word_case}
@@ -183,7 +183,7 @@ module _ {C : Type 0} (s : Surroundings C) (ground : Ground s) (m : Machine C) (
       (require (at us) array_index_exception (is_in_bounds index object)
       (on_some (slice_get object.cells index) (λ v. gives (at us) (loaded_as form v) vs))))))
   from_array form us vs index n o found is go =
-      safe_object s ground m t d next us n o _ found
+      safe_some s (object_at m.heap n) o _ found
       (safe_check s (is_array_of form o.kind.object) _ is
       (safe_accessed s ground m t d next us LoadComponent n o _
       (safe_required s ground m t d next us array_index_exception (is_in_bounds index o) _
@@ -205,7 +205,7 @@ module _ {C : Type 0} (s : Surroundings C) (ground : Ground s) (m : Machine C) (
       word_case shapes m.heap (λ x. IsSafe s (act_load (at (x ∷ u ∷ vs)) form)) i index_is (λ index small.
       ref_case m.heap (is_array_of form) (λ x. IsSafe s (act_load (at (Word index ∷ x ∷ vs)) form)) u
       (are_arrays form u array_is)
-      (safe_null s ground m t d next (Word index ∷ Null ∷ vs) _)
+      (safe_null s ground m t d next (Word index ∷ Null ∷ vs))
       (λ n o found is.
       from_array form (Word index ∷ Ref n ∷ vs) vs index n o found is (λ v there.
       gives_it s ground m t d next (array_of form ∷ word ∷ []) (Word index ∷ Ref n ∷ vs) vs (loaded_as form v)
@@ -279,7 +279,7 @@ module _ {C : Type 0} (s : Surroundings C) (ground : Ground s) (m : Machine C) (
       → IsSafe s (act_load (at (Word index ∷ x ∷ vs)) Forms.Reference)) u
       (are_arrays Forms.Reference u
       (meets_value shapes _ (orders s ground m t) m.heap u (array_of Forms.Reference) tu array_met.0 h.1.0))
-      (λ has. safe_null s ground m t d next (Word index ∷ Null ∷ vs) _)
+      (λ has. safe_null s ground m t d next (Word index ∷ Null ∷ vs))
       (λ n o found is has.
       from_array Forms.Reference (Word index ∷ Ref n ∷ vs) vs index n o found is (λ v there.
       safe_gives s ground m t d (most s ground m t) next (Word index ∷ Ref n ∷ vs) after_it v vs
@@ -306,10 +306,10 @@ module _ {C : Type 0} (s : Surroundings C) (ground : Ground s) (m : Machine C) (
       word_case shapes m.heap (λ x. IsSafe s (act_store_word (at (Word k ∷ x ∷ u ∷ vs)) form)) i index_is (λ index small.
       ref_case m.heap (is_array_of form) (λ x. IsSafe s (act_store_word (at (Word k ∷ Word index ∷ x ∷ vs)) form)) u
       (are_arrays form u array_is)
-      (safe_null s ground m t d next (Word k ∷ Word index ∷ Null ∷ vs) _)
+      (safe_null s ground m t d next (Word k ∷ Word index ∷ Null ∷ vs))
       (λ n o found is.
       let us = Word k ∷ Word index ∷ Ref n ∷ vs in
-      safe_object s ground m t d next us n o _ found
+      safe_some s (object_at m.heap n) o _ found
       (safe_check s (is_array_of form o.kind.object) _ is
       (safe_accessed s ground m t d next us StoreComponent n o _
       (safe_required s ground m t d next us array_index_exception (is_in_bounds index o) _
@@ -319,7 +319,7 @@ module _ {C : Type 0} (s : Surroundings C) (ground : Ground s) (m : Machine C) (
       (stored_number shapes m.heap form o.cells o.kind.object k index (object_typed n o found) is numbers little)
       (locals_still s ground m t after_it.locals l.locals_are)
       (held s ground m t (drop 3 (state s ground m t).operands) after_it.operands vs l.operands_are rest)
-      leads)))))))
+      leads))))))))
 
   -- a reference, or null
   leads_reference : (v : TaggedValue) → leads_to m.heap any_object v ≡ true → is_reference v ≡ true
@@ -353,13 +353,13 @@ module _ {C : Type 0} (s : Surroundings C) (ground : Ground s) (m : Machine C) (
       array_is.type
       (safe_check s (is_reference w) _ (leads_reference w value_is)
       (safe_check s (leads_to m.heap any_object w) _ value_is
-      (safe_null s ground m t d next (w ∷ Word index ∷ Null ∷ vs) _)))
+      (safe_null s ground m t d next (w ∷ Word index ∷ Null ∷ vs))))
       (λ n o found is.
       let us = w ∷ Word index ∷ Ref n ∷ vs in
       let array = holds_references shapes (Api api.Object) o.kind.object is in
       safe_check s (is_reference w) _ (leads_reference w value_is)
       (safe_check s (leads_to m.heap any_object w) _ value_is
-      (safe_object s ground m t d next us n o _ found
+      (safe_some s (object_at m.heap n) o _ found
       (safe_some s (component_class o.kind.object) array.class _ (ap component_class array.is)
       (safe_to_store s ground m t d next us StoreReference n o (mark_of m.heap w) _
       (safe_required s ground m t d next us array_index_exception (is_in_bounds index o) _
@@ -372,7 +372,7 @@ module _ {C : Type 0} (s : Surroundings C) (ground : Ground s) (m : Machine C) (
       (reference_put o.kind.object array.class o.cells index w array.is (object_typed n o found) fits)
       (locals_still s ground m t after_it.locals l.locals_are)
       (held s ground m t (drop 3 (state s ground m t).operands) after_it.operands vs l.operands_are rest)
-      leads)))))))))
+      leads))))))))))
 
   -- ---- the length
 
@@ -385,9 +385,9 @@ module _ {C : Type 0} (s : Surroundings C) (ground : Ground s) (m : Machine C) (
       (met_by s ground m t (takes (Array ∷ []) (Exactly types.Word)) after_it a)
       (λ u vs array_is rest.
       ref_case m.heap is_array (λ x. IsSafe s (act_length (at (x ∷ vs)))) u array_is
-      (safe_null s ground m t d next (Null ∷ vs) _)
+      (safe_null s ground m t d next (Null ∷ vs))
       (λ n o found is.
-      safe_object s ground m t d next (Ref n ∷ vs) n o _ found
+      safe_some s (object_at m.heap n) o _ found
       (safe_check s (is_array o.kind.object) _ is
       (safe_accessed s ground m t d next (Ref n ∷ vs) ArrayLength n o _
       (gives_it s ground m t d next (Array ∷ []) (Ref n ∷ vs) vs (Word (length o.cells)) types.Word after_it a

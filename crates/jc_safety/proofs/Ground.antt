@@ -11,6 +11,9 @@ use Rattle.jc_api.specs.declared.class.ApiClass.{ApiClass}
 use Rattle.jc_base.specs.Signature.{Signature}
 use Rattle.jc_base.specs.declared.declared_type.DeclaredType.{DeclaredType}
 use Rattle.jc_check.specs.Checked.{IsMethodTyped}
+use Rattle.jc_cap_pool.specs.declared.entry.MemberRef.{MemberRef}
+use Rattle.jc_cap_pool.specs.declared.entry.PoolEntry.{PoolEntry}
+use Rattle.jc_cap_pool.specs.declared.entry.PoolEntry.TheVariants.{VirtualMethodref}
 use Rattle.jc_check.specs.Method.{Method}
 use Rattle.jc_check.specs.Package.{arguments_of, max_locals_of, method_of, receiver_of}
 use Rattle.jc_classes.specs.Growth.{KeepsAllLookups, StandWithin}
@@ -25,6 +28,8 @@ use Rattle.jc_link.specs.KnownTypes.{NameClasses}
 use Rattle.jc_link.specs.Linked.{IsKnown, Linked, LinkedBody, World}
 use Rattle.jc_link.specs.MemberType.{declared_type_of}
 use Rattle.jc_link.specs.Sound.{IsSound}
+use Rattle.jc_link.specs.Target.{pool_target_of}
+use Rattle.jc_link.specs.declared.target.PoolTarget.TheVariants.{InstanceField}
 use Rattle.jc_names.specs.Names.{home_at}
 use Rattle.jc_names.specs.declared.name.ClassName.{ClassName}
 use Rattle.jc_names.specs.declared.name.MethodName.TheVariants.{Api, Loaded}
@@ -34,7 +39,7 @@ use Rattle.jc_store.specs.Heap.{Heap}
 use Rattle.jc_types.specs.Ty.{type_of_declared}
 use Rattle.jc_types.specs.declared.ty.Ty.{Ty}
 use Rattle.jc_machine.specs.Accepted.{HaveCode, IsAccepted, linked_as}
-use Rattle.jc_machine.specs.Lookup.{body_at, code_at, declared_at, instruction_at}
+use Rattle.jc_machine.specs.Lookup.{body_at, code_at, declared_at, fields_of, instruction_at}
 use Rattle.jc_machine.specs.Machine.{MethodPlace, Surroundings}
 use Rattle.jc_machine.specs.Natives.{IsLawful, KeepsObjects}
 use Rattle.jc_machine.specs.Runtime.{HasRuntimeObjects}
@@ -72,6 +77,9 @@ pub record Ground {C : Type 0} (s : Surroundings C) : Type 0 where
   pub code : HaveCode s.world
   pub packages : (number : ℕ) (body : LinkedBody) → body_at s.world number ≡ Some body
       → Stands s.world number body
+  pub fields : (home : ℕ) (entry : PoolEntry) (class : ClassName) (cell : ℕ) (declared : DeclaredType ClassName)
+      → pool_target_of s.world.shapes home entry ≡ Some (InstanceField class cell declared) → (c : ClassName)
+      → is_class_below s.world.shapes c class ≡ true → slice_get (fields_of s.world.shapes c) cell ≡ Some (Some declared)
   pub listed : (code : List ℕ) (listing : List PlacedInstr) (pc : ℕ) (x : PlacedInstr)
       → IsListing instr_at code listing → placed_at listing pc ≡ Some x → instruction_at code pc ≡ Some x.instr
   pub begins : (code : List ℕ) (listing : List PlacedInstr) (pc : ℕ) (x : PlacedInstr)
@@ -81,6 +89,8 @@ pub record Ground {C : Type 0} (s : Surroundings C) : Type 0 where
   pub typed_methods : (place : MethodPlace) (body : LinkedBody) (code : MethodBody)
       → body_at s.world place.number ≡ Some body → code_at s.world place ≡ Some code
       → IsMethodTyped (linked_as s.world place.number body) code
+  pub tokens : (number : ℕ) (body : LinkedBody) (index : ℕ) (ref : MemberRef) → body_at s.world number ≡ Some body
+      → slice_get body.kept.pool index ≡ Some (VirtualMethodref ref) → ref.token < 256
 
 -- ---- methods
 

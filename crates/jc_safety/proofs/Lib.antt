@@ -1,5 +1,6 @@
 mod Arrays
 mod Below
+mod Blank
 mod Bounds
 mod Creating
 mod Entering
@@ -15,6 +16,8 @@ mod References
 mod Returning
 mod Rows
 mod Safe
+mod StaticWrites
+mod Statics
 mod Taking
 mod Thrown
 mod Unwinding

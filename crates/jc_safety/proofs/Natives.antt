@@ -51,6 +51,7 @@ use Rattle.jc_machine.specs.Machine.{NativeEnd, Stepped, Surroundings, ThrowsObj
 use Rattle.jc_machine.specs.Natives.{EndsFit, IsFitAnswer, IsFitCall, IsFitCallback, KeepsObjects}
 use Rattle.jc_machine.specs.Typed.{HaveTypes, HoldTypes, IsOperand, IsTyped, given_by, may_be_made, with_result_type}
 use Rattle.jc_words.specs.Values.{Null, Ref, TaggedValue, Unset, Word, is_written}
+use Rattle.jc_safety.proofs.Below.{interface_object}
 use Rattle.jc_safety.proofs.Entering as entering
 use Rattle.jc_safety.proofs.Entering.{Beside, MayCall, Site, beside_now, enters_safe, got_within}
 use Rattle.jc_safety.proofs.Goes.{placed}
@@ -156,15 +157,6 @@ return_same q r e = ap (λ (x : Signature ClassName). x.result) (same_signature 
 -- ---- classes of objects
 
 module _ {C : Type 0} (s : Surroundings C) (ground : Ground s) where
-  -- an interface is below no class but Object
-  object_of_interface : (i d : ClassName) → IsSubtype s.world.shapes i d → is_interface_at s.world.shapes i ≡ true
-      → is_class_at s.world.shapes d ≡ true → d ≡ classes.Api api.Object
-  object_of_interface i d sub one class =
-      by_order (is_class_below s.world.shapes i d) refl
-    where
-      by_order : (b : Bool) → is_class_below s.world.shapes i d ≡ b → d ≡ classes.Api api.Object
-      by_order b e = ?
-
   pub heir : (c d : ClassName) → IsSubtype s.world.shapes c d → is_class_at s.world.shapes c ≡ true
       → is_class_at s.world.shapes d ≡ true → IsHeir s.world.shapes c d
   heir _ _ (same k) at_c at_d = itself k
@@ -172,7 +164,7 @@ module _ {C : Type 0} (s : Surroundings C) (ground : Ground s) where
   heir _ _ (by_superclass k e f up h) at_c at_d =
       behind k e f up (heir e f h (ground.sound.superclasses.classes k e up) at_d)
   heir _ _ (by_interface k i f listed h) at_c at_d =
-      let is = object_of_interface i f h (ground.sound.superclasses.orderly.interfaces k i listed) at_d in
+      let is = interface_object s ground i f h (ground.sound.superclasses.orderly.interfaces k i listed) at_d in
       subst (λ (x : ClassName). IsHeir s.world.shapes k x) (sym is) (ground.sound.superclasses.object k at_c)
 
   pub heir_below : (c d : ClassName) → is_class_below s.world.shapes c d ≡ true → is_class_at s.world.shapes c ≡ true

@@ -26,7 +26,7 @@ use Rattle.jc_store.specs.declared.kind.ObjectType.{ObjectType}
 use Rattle.jc_types.specs.State.{Types}
 use Rattle.jc_types.specs.declared.ty.Ty.{Ty}
 use Rattle.jc_types.specs.declared.ty.Ty.TheVariants as types
-use Rattle.jc_machine.specs.Going.{Here, branches, check, gives, goes_on, on_reference, on_reference_local}
+use Rattle.jc_machine.specs.Going.{Here, accessed, branches, check, gives, goes_on, on_reference, on_reference_local, throws}
 use Rattle.jc_machine.specs.Lookup.{is_of_class, is_throwable, leads_to}
 use Rattle.jc_machine.specs.Machine.{Machine, Stepped, Surroundings}
 use Rattle.jc_machine.specs.Objects.{act_branch, act_throw, is_null, is_same}
@@ -36,7 +36,7 @@ use Rattle.jc_safety.proofs.Goes.{placed, room_left, safe_gives, safe_on, throws
 use Rattle.jc_safety.proofs.Ground.{Ground}
 use Rattle.jc_safety.proofs.Locals.{local_there, local_type, reads_local, stored}
 use Rattle.jc_safety.proofs.Rows as rows
-use Rattle.jc_safety.proofs.Safe.{IsSafe, safe_check}
+use Rattle.jc_safety.proofs.Safe.{IsSafe, safe_check, safe_some}
 use Rattle.jc_safety.proofs.Taking.{Applied, Meets, any_object, meets_reference, take_one, take_two}
 use Rattle.jc_safety.proofs.Writing.{ref_case}
 
@@ -177,9 +177,11 @@ module _ {C : Type 0} (s : Surroundings C) (ground : Ground s) (m : Machine C) (
       (rows.met_by s ground m t (takes (Below (types.Class (Api api.Throwable)) ∷ []) Nothing) after a)
       (λ u vs is rest.
       ref_case m.heap (is_throwable shapes) (λ x. IsSafe s (act_throw (at (x ∷ vs)))) u is.type
-      (rows.safe_null s ground m t d next (Null ∷ vs) _)
+      (rows.safe_null s ground m t d next (Null ∷ vs))
       (λ n o found may.
-      rows.safe_object s ground m t d next (Ref n ∷ vs) n o _ found
-      (safe_check s (is_throwable shapes o.kind.object) _ may
-      (rows.safe_accessed s ground m t d next (Ref n ∷ vs) Throw n o _
+      let us = Ref n ∷ vs in
+      let thrown = throws (at us) n in
+      safe_some s (object_at m.heap n) o _ found
+      (safe_check s (is_throwable shapes o.kind.object) (accessed (at us) Throw n o thrown) may
+      (rows.safe_accessed s ground m t d next us Throw n o thrown
       (record { fine = throws_at s ground m t (Ref n ∷ vs) n (record { object = o; found = found; throwable = may }) })))))

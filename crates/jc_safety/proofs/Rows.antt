@@ -26,11 +26,12 @@ use Rattle.jc_types.specs.State.{Types}
 use Rattle.jc_types.specs.declared.ty.Ty.{Ty}
 use Rattle.jc_machine.specs.Accepted.{linked_as}
 use Rattle.jc_machine.specs.Agree.{Pointwise}
-use Rattle.jc_machine.specs.Going.{Here, accessed, accessed_to_store, branches, facts_of, gives, leaves_operands, on_object, on_target}
+use Rattle.jc_machine.specs.Going.{Here, accessed, accessed_to_store, branches, facts_of, gives, leaves_operands, on_target, throws}
 use Rattle.jc_machine.specs.Going.{require, stored_in}
 use Rattle.jc_machine.specs.Lookup.{body_at, target_at}
 use Rattle.jc_machine.specs.Machine.{Machine, Stepped, Surroundings}
 use Rattle.jc_machine.specs.Natives.{IsThrown}
+use Rattle.jc_machine.specs.Runtime.{null_pointer_exception}
 use Rattle.jc_machine.specs.Typed.{CellsTyped, HaveTypes, HoldTypes, IsOperand, IsTyped}
 use Rattle.jc_words.specs.Values.{Null, Ref, TaggedValue}
 use Rattle.jc_safety.proofs.Goes.{arrives, method, orders_of, placed, room_left, rules, safe_branches}
@@ -171,16 +172,11 @@ module _ {C : Type 0} (s : Surroundings C) (ground : Ground s) (m : Machine C) (
 
     -- ---- tests
 
-    pub safe_null : (us : List TaggedValue) (go : ℕ → heaps.Object TaggedValue → Stepped C)
-        → IsSafe s (on_object (here us) Null go)
-    safe_null us go = record {
+    -- null has no object
+    pub safe_null : (us : List TaggedValue) → IsSafe s (throws (here us) null_pointer_exception)
+    safe_null us = record {
       fine = throws_at s ground m t us _ (null_pointer s ground m.heap t.beside.runtime_objects);
     }
-
-    pub safe_object : (us : List TaggedValue) (n : ℕ) (o : heaps.Object TaggedValue)
-        → (go : ℕ → heaps.Object TaggedValue → Stepped C) → object_at m.heap n ≡ Some o → IsSafe s (go n o)
-        → IsSafe s (on_object (here us) (Ref n) go)
-    safe_object us n o go found safe = safe_some s (object_at m.heap n) o (go n) found safe
 
     pub safe_accessed : (us : List TaggedValue) (access : Access) (n : ℕ) (o : heaps.Object TaggedValue)
         → (x : Stepped C) → IsSafe s x → IsSafe s (accessed (here us) access n o x)

@@ -68,17 +68,16 @@ among : {A B : Type 0} (P : B → Type 0) (f : A → B) (passes wanted : A → B
 among P f passes wanted [] x h e = absurd cc
 among {A} {B} P f passes wanted (y ∷ xs) x h e = by_pass (passes y) refl (among P f passes wanted xs x h.1) e
   where
-    abbrev Later : Type 0
-    Later = find wanted (filter passes xs) ≡ Some x → Among P f passes wanted x
-
-    by_want : (b : Bool) → wanted y ≡ b → passes y ≡ true → Later
+    by_want : (b : Bool) → wanted y ≡ b → passes y ≡ true
+        → (find wanted (filter passes xs) ≡ Some x → Among P f passes wanted x)
         → cond b (Some y) (find wanted (filter passes xs)) ≡ Some x → Among P f passes wanted x
     by_want true w p later e =
         let same : y ≡ x = cc in
         subst (λ (z : A). Among P f passes wanted z) same (record { holds = h.0; passed = p; is_wanted = w })
     by_want false w p later e = later e
 
-    by_pass : (b : Bool) → passes y ≡ b → Later → find wanted (cond b (y ∷ filter passes xs) (filter passes xs)) ≡ Some x
+    by_pass : (b : Bool) → passes y ≡ b
+        → (find wanted (filter passes xs) ≡ Some x → Among P f passes wanted x) → find wanted (cond b (y ∷ filter passes xs) (filter passes xs)) ≡ Some x
         → Among P f passes wanted x
     by_pass true p later e = by_want (wanted y) refl p later e
     by_pass false p later e = later e

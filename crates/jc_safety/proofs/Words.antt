@@ -213,11 +213,12 @@ module _ {C : Type 0} (s : Surroundings C) (ground : Ground s) (m : Machine C) (
       let vs = m.top.operands in
       let us = state.operands in
       let h = t.top.operands_typed in
-      joined_points R (take lower (drop upper vs)) (take upper vs ++ drop (upper + lower) vs)
-      (take lower (drop upper us)) (take upper us ++ drop (upper + lower) us)
+      joined_points R (take lower (drop upper vs) ++ take upper vs) (drop (upper + lower) vs)
+      (take lower (drop upper us) ++ take upper us) (drop (upper + lower) us)
+      (joined_points R (take lower (drop upper vs)) (take upper vs) (take lower (drop upper us)) (take upper us)
       (take_points R lower (drop upper vs) (drop upper us) (drop_points R upper vs us h))
-      (joined_points R (take upper vs) (drop (upper + lower) vs) (take upper us) (drop (upper + lower) us)
-      (take_points R upper vs us h) (drop_points R (upper + lower) vs us h))
+      (take_points R upper vs us h))
+      (drop_points R (upper + lower) vs us h)
 
   duplicated_points : (count depth : ℕ)
       → Operands (duplicated count depth m.top.operands) (duplicated count depth state.operands)
@@ -226,10 +227,10 @@ module _ {C : Type 0} (s : Surroundings C) (ground : Ground s) (m : Machine C) (
       let vs = m.top.operands in
       let us = state.operands in
       let h = t.top.operands_typed in
-      joined_points R (take depth vs) (take count vs ++ drop depth vs) (take depth us) (take count us ++ drop depth us)
-      (take_points R depth vs us h)
-      (joined_points R (take count vs) (drop depth vs) (take count us) (drop depth us)
-      (take_points R count vs us h) (drop_points R depth vs us h))
+      joined_points R (take depth vs ++ take count vs) (drop depth vs) (take depth us ++ take count us) (drop depth us)
+      (joined_points R (take depth vs) (take count vs) (take depth us) (take count us) (take_points R depth vs us h)
+      (take_points R count vs us h))
+      (drop_points R depth vs us h)
 
   -- ---- the instructions
 

@@ -2,6 +2,7 @@ mod Arrays
 mod Below
 mod Blank
 mod Bounds
+mod Calling
 mod Creating
 mod Entering
 mod Fields

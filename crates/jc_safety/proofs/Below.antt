@@ -71,7 +71,7 @@ module _ {C : Type 0} (s : Surroundings C) (ground : Ground s) where
       by_class (Some k) e f = by_body (is_class k.body) e f
 
   -- an interface is below no class but Object
-  interface_object : (c e : ClassName) → IsSubtype s.world.shapes c e → is_interface_at s.world.shapes c ≡ true
+  pub interface_object : (c e : ClassName) → IsSubtype s.world.shapes c e → is_interface_at s.world.shapes c ≡ true
       → is_class_at s.world.shapes e ≡ true → e ≡ Api api.Object
   interface_object c e (same k) one class = absurd (not_both k class one)
   interface_object c e (object k) one class = refl

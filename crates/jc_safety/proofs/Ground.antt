@@ -10,7 +10,10 @@ use Rattle.jc_cap_method.specs.declared.header.MethodHeader.{MethodHeader}
 use Rattle.jc_api.specs.declared.class.ApiClass.{ApiClass}
 use Rattle.jc_base.specs.Signature.{Signature}
 use Rattle.jc_base.specs.declared.declared_type.DeclaredType.{DeclaredType}
+use Rattle.jc_check.specs.Checked.{IsMethodTyped}
+use Rattle.jc_cap_pool.specs.declared.entry.MemberRef.{MemberRef}
 use Rattle.jc_cap_pool.specs.declared.entry.PoolEntry.{PoolEntry}
+use Rattle.jc_cap_pool.specs.declared.entry.PoolEntry.TheVariants.{VirtualMethodref}
 use Rattle.jc_check.specs.Method.{Method}
 use Rattle.jc_check.specs.Package.{arguments_of, max_locals_of, method_of, receiver_of}
 use Rattle.jc_classes.specs.Growth.{KeepsAllLookups, StandWithin}
@@ -94,6 +97,11 @@ pub record Ground {C : Type 0} (s : Surroundings C) : Type 0 where
       → x.instr.operation ≡ OnWords (Push value) → word_of value < 65536
   pub objects_stay : (before after : Heap TaggedValue) → KeepsObjects before after → HasRuntimeObjects before
       → HasRuntimeObjects after
+  pub typed_methods : (place : MethodPlace) (body : LinkedBody) (code : MethodBody)
+      → body_at s.world place.number ≡ Some body → code_at s.world place ≡ Some code
+      → IsMethodTyped (linked_as s.world place.number body) code
+  pub tokens : (number : ℕ) (body : LinkedBody) (index : ℕ) (ref : MemberRef) → body_at s.world number ≡ Some body
+      → slice_get body.kept.pool index ≡ Some (VirtualMethodref ref) → ref.token < 256
 
 -- ---- methods
 
@@ -110,12 +118,12 @@ pub record MethodOf (w : World) (place : MethodPlace) (body : LinkedBody) (code 
   pub returned : (method_of (linked_as w place.number body) code).returned ≡ result_of w.shapes declared
 
 -- what is found is there, and passes the test
-record Finds {A : Type 0} (test : A → Bool) (xs : List A) (x : A) : Type 0 where
-  place : ℕ
-  there : slice_get xs place ≡ Some x
-  passes : test x ≡ true
+pub record Finds {A : Type 0} (test : A → Bool) (xs : List A) (x : A) : Type 0 where
+  pub place : ℕ
+  pub there : slice_get xs place ≡ Some x
+  pub passes : test x ≡ true
 
-found_there : {A : Type 0} (test : A → Bool) (xs : List A) (x : A) → find test xs ≡ Some x → Finds test xs x
+pub found_there : {A : Type 0} (test : A → Bool) (xs : List A) (x : A) → find test xs ≡ Some x → Finds test xs x
 found_there test [] x e = absurd cc
 found_there {A} test (y ∷ xs) x e = by_test (test y) refl (found_there test xs x) e
   where
@@ -128,7 +136,7 @@ found_there {A} test (y ∷ xs) x e = by_test (test y) refl (found_there test xs
         let f = later e in
         record { place = suc f.place; there = f.there; passes = f.passes }
 
-named : (n offset : ℕ) → method_name (suc (suc n)) offset ≡ Loaded (suc n) offset
+pub named : (n offset : ℕ) → method_name (suc (suc n)) offset ≡ Loaded (suc n) offset
 named n offset =
     let one : suc (suc n) - 1 ≡ suc n = omega arith in
     ap (λ b. cond b (Api offset) (Loaded (suc (suc n) - 1) offset)) (le-ltb (suc (suc n)) 2 (omega arith))

@@ -2,9 +2,11 @@ mod Arrays
 mod Below
 mod Blank
 mod Bounds
+mod Calling
 mod Casting
 mod Constants
 mod Creating
+mod Entering
 mod FieldRows
 mod Fields
 mod Goes
@@ -14,7 +16,9 @@ mod Growing
 mod Lists
 mod Locals
 mod Making
+mod Members
 mod Naming
+mod Natives
 mod References
 mod Returning
 mod Rows

@@ -18,10 +18,11 @@ use Rattle.jc_code.specs.declared.instr.When.TheVariants.{Always, Compare, Zero}
 use Rattle.jc_code.specs.declared.instr.WordOperation.{WordOperation}
 use Rattle.jc_code.specs.declared.instr.WordOperation.TheVariants as ops
 use Rattle.jc_code.specs.declared.object.Form.TheVariants as Forms
+use Rattle.jc_code.specs.declared.object.Invocation.{Invocation}
 use Rattle.jc_code.specs.declared.object.ObjectOperation.{ObjectOperation}
 use Rattle.jc_code.specs.declared.object.ObjectOperation.TheVariants as objects
 use Rattle.jc_step.specs.Effect.{effect_of}
-use Rattle.jc_step.specs.Objects.{Setting, array_of, component_loaded, component_stored, if_form, object_row, references_compared, return_row}
+use Rattle.jc_step.specs.Objects.{Setting, array_of, component_loaded, component_stored, if_form, invocation_row, object_row, references_compared, return_row}
 use Rattle.jc_step.specs.Row.{Row, applied}
 use Rattle.jc_step.specs.Words.{reads, takes, word, word_effect, writes}
 use Rattle.jc_step.specs.Method.{result_of}
@@ -39,12 +40,14 @@ use Rattle.jc_machine.specs.Words.{act_word}
 use Rattle.jc_words.specs.Shorts.{word_of}
 use Rattle.jc_words.specs.Values.{TaggedValue}
 use Rattle.jc_safety.proofs.Arrays as arrays
+use Rattle.jc_safety.proofs.Calling.{IsCall, call_safe}
 use Rattle.jc_safety.proofs.Casting as casts
 use Rattle.jc_safety.proofs.FieldRows.{field_safe}
 use Rattle.jc_safety.proofs.Goes as goes
 use Rattle.jc_safety.proofs.Goes.{method, placed}
 use Rattle.jc_safety.proofs.Ground.{Ground, MethodOf, method_of_code}
 use Rattle.jc_safety.proofs.Making.{create, setting}
+use Rattle.jc_safety.proofs.Members.{HaveMembers}
 use Rattle.jc_safety.proofs.References as references
 use Rattle.jc_safety.proofs.Returning as returning
 use Rattle.jc_safety.proofs.Rows as rows
@@ -83,8 +86,8 @@ module _ {C : Type 0} (s : Surroundings C) (ground : Ground s) (m : Machine C) (
   abbrev BranchesTo : Types → ℤ → Type 0
   BranchesTo after offset = rows.BranchesTo s ground m t after offset
 
-  module _ (found : declared_at s.world m.top.method ≡ Some d) (gives : returned ≡ result_of s.world.shapes d)
-      (after : Types) where
+  module _ (members : HaveMembers s.world.shapes) (found : declared_at s.world m.top.method ≡ Some d)
+      (gives : returned ≡ result_of s.world.shapes d) (after : Types) where
     -- ---- instructions on words
 
     word_safe : (operation : WordOperation) → ((value : ℤ) → operation ≡ ops.Push value → word_of value < 65536)
@@ -128,62 +131,69 @@ module _ {C : Type 0} (s : Surroundings C) (ground : Ground s) (m : Machine C) (
     abbrev set : Setting
     set = setting s ground m t d next
 
-    object_safe : (operation : ObjectOperation) → applied below most (object_row set operation) state ≡ Ok after
+    object_safe : (operation : ObjectOperation)
+        → ((invocation : Invocation) → operation ≡ objects.Invoke invocation → IsCall s ground m t invocation after next)
+        → applied below most (object_row set operation) state ≡ Ok after
         → AllByRecursion (BranchesTo after) (object_offsets operation)
         → (object_falls operation ≡ true → LeadsTo after next) → IsSafe s (act_object at operation)
     unfolding object_row act_object
-    object_safe objects.PushNull e branches falls =
+    object_safe objects.PushNull called e branches falls =
         references.push_null s ground m t d next after (row_applied below most _ state after e) (falls refl)
-    object_safe (objects.Load local) e branches falls =
+    object_safe (objects.Load local) called e branches falls =
         references.load s ground m t d next local after (row_applied below most _ state after e) (falls refl)
-    object_safe (objects.Store local) e branches falls =
+    object_safe (objects.Store local) called e branches falls =
         references.store s ground m t d next local after (row_applied below most _ state after e) (falls refl)
-    object_safe (objects.LoadComponent Forms.Reference) e branches falls =
+    object_safe (objects.LoadComponent Forms.Reference) called e branches falls =
         arrays.load_reference s ground m t d next m.top.operands state.operands after t.top.operands_typed
         (row_applied below most _ state after e) (falls refl)
-    object_safe (objects.LoadComponent Forms.Byte) e branches falls =
+    object_safe (objects.LoadComponent Forms.Byte) called e branches falls =
         arrays.load_number s ground m t d next Forms.Byte after refl (row_applied below most _ state after e) (falls refl)
-    object_safe (objects.LoadComponent Forms.Short) e branches falls =
+    object_safe (objects.LoadComponent Forms.Short) called e branches falls =
         arrays.load_number s ground m t d next Forms.Short after refl (row_applied below most _ state after e) (falls refl)
-    object_safe (objects.StoreComponent Forms.Reference) e branches falls =
+    object_safe (objects.StoreComponent Forms.Reference) called e branches falls =
         arrays.store_reference s ground m t d next after (row_applied below most _ state after e) (falls refl)
-    object_safe (objects.StoreComponent Forms.Byte) e branches falls =
+    object_safe (objects.StoreComponent Forms.Byte) called e branches falls =
         arrays.store_number s ground m t d next Forms.Byte after refl (row_applied below most _ state after e) (falls refl)
-    object_safe (objects.StoreComponent Forms.Short) e branches falls =
+    object_safe (objects.StoreComponent Forms.Short) called e branches falls =
         arrays.store_number s ground m t d next Forms.Short after refl (row_applied below most _ state after e) (falls refl)
-    object_safe objects.ArrayLength e branches falls =
+    object_safe objects.ArrayLength called e branches falls =
         arrays.array_length s ground m t d next after (row_applied below most _ state after e) (falls refl)
-    object_safe (objects.Branch when offset) e branches falls =
+    object_safe (objects.Branch when offset) called e branches falls =
         references.branch s ground m t d next when offset after (row_applied below most _ state after e) branches.0 (falls refl)
-    object_safe (objects.Field access index) e branches falls =
+    object_safe (objects.Field access index) called e branches falls =
         field_safe s ground m t d next access index after (has_row below most _ state after e) (falls refl)
-    object_safe (objects.Invoke invocation) e branches falls = ?
-    object_safe (objects.Create creation) e branches falls =
+    object_safe (objects.Invoke invocation) called e branches falls =
+        let h = has_row below most (invocation_row set invocation) state after e in
+        call_safe s ground m t d next members set refl refl invocation h.found after h.is h.applied (called invocation refl)
+    object_safe (objects.Create creation) called e branches falls =
         create s ground m t d next creation after (has_row below most _ state after e) (falls refl)
-    object_safe (objects.CheckCast type) e branches falls =
+    object_safe (objects.CheckCast type) called e branches falls =
         casts.check_cast s ground m t d next type after (has_row below most _ state after e) (falls refl)
-    object_safe (objects.InstanceOf type) e branches falls =
+    object_safe (objects.InstanceOf type) called e branches falls =
         casts.instance_of s ground m t d next type after (has_row below most _ state after e) (falls refl)
-    object_safe objects.Throw e branches falls =
+    object_safe objects.Throw called e branches falls =
         references.throw s ground m t d next after (row_applied below most _ state after e)
-    object_safe objects.ReturnReference e branches falls =
+    object_safe objects.ReturnReference called e branches falls =
         returning.return_reference s ground m t d next found gives after (row_applied below most _ state after e)
-    object_safe objects.ReturnVoid e branches falls =
+    object_safe objects.ReturnVoid called e branches falls =
         returning.return_void s ground m t d next found gives after (row_applied below most _ state after e)
 
     -- ---- any instruction
 
     act_safe : (operation : Operation) → ((value : ℤ) → operation ≡ operations.Word (ops.Push value) → word_of value < 65536)
+        → ((invocation : Invocation) → operation ≡ operations.Object (objects.Invoke invocation)
+        → IsCall s ground m t invocation after next)
         → effect_of set most operation state ≡ Ok after → AllByRecursion (BranchesTo after) (offsets_of operation)
         → (falls_of operation ≡ true → LeadsTo after next) → IsSafe s (act at operation)
     unfolding effect_of
-    act_safe (operations.Word operation) small e branches falls =
+    act_safe (operations.Word operation) small called e branches falls =
         word_safe operation (λ value is. small value (ap operations.Word is)) e branches falls
-    act_safe (operations.Object operation) small e branches falls = object_safe operation e branches falls
+    act_safe (operations.Object operation) small called e branches falls =
+        object_safe operation (λ invocation is. called invocation (ap operations.Object is)) e branches falls
 
 -- ---- a step
 
-module _ {C : Type 0} (s : Surroundings C) (ground : Ground s) where
+module _ {C : Type 0} (s : Surroundings C) (ground : Ground s) (members : HaveMembers s.world.shapes) where
   -- what an instruction came to, with what it throws caught
   settled_fine : (outcome : Outcome C) → safe.IsFine s outcome → StaysTyped s (settled s outcome)
   settled_fine (Next m) h = h
@@ -214,6 +224,16 @@ module _ {C : Type 0} (s : Surroundings C) (ground : Ground s) where
         let begins = ground.begins p.code.code listing m.top.pc x.instr p.typed.whole x.stands in
         let constant = λ (value : ℤ) (is : x.instr.instr.operation ≡ operations.Word (ops.Push value)).
         ground.constants p.code.code listing m.top.pc x.instr value p.typed.whole x.stands is in
+        let called : (invocation : Invocation) → x.instr.instr.operation ≡ operations.Object (objects.Invoke invocation)
+            → IsCall s ground m t invocation x.fine.after x.instr.instr.next_pc =
+        λ invocation is. record {
+          call = x.instr.instr;
+          stands = listed;
+          invokes = is;
+          behind = refl;
+          effect = x.fine.effect;
+          leads = x.fine.falls (ap falls_of is);
+        } in
         let branches = subst
         (λ (pc : ℕ). AllByRecursion (BranchLeads (goes.rules s ground m t) p.typing x.fine.after) (targets_of pc x.instr.instr.operation))
         begins x.fine.branches in
@@ -229,8 +249,8 @@ module _ {C : Type 0} (s : Surroundings C) (ground : Ground s) where
         (safe_some s (code_at s.world m.top.method) p.code _ p.there
         (safe_some s (instruction_at p.code.code m.top.pc) x.instr.instr _ listed
         (subst S me.max_stack
-        (act_safe s ground m t me.declared x.instr.instr.next_pc me.found me.returned x.fine.after
-        x.instr.instr.operation constant x.fine.effect
+        (act_safe s ground m t me.declared x.instr.instr.next_pc members me.found me.returned x.fine.after
+        x.instr.instr.operation constant called x.fine.effect
         (unmapped (BranchLeads (goes.rules s ground m t) p.typing x.fine.after) (target_of m.top.pc)
         (offsets_of x.instr.instr.operation) branches)
         x.fine.falls)))))

@@ -316,9 +316,12 @@ module _ {C : Type 0} (s : Surroundings C) (ground : Ground s) (m : Machine C) (
         let l = local_there shapes m.heap m.top.locals state.locals 0 (placed s ground m t).locals_typed a.there in
         let is_type = local_type state.locals 0 l.type l.type_there in
         let met : is_below below l.type (types.Class class) ≡ true =
-        ap (λ (u : Ty). is_below below u (types.Class class)) (sym is_type) ∙ a.local_met in
-        (l.value, l.there, type_up shapes ground.order m.heap l.value l.type (types.Class class)
-        ((rows.orders s ground m t).up l.type (types.Class class) met) l.has)
+        ap (λ (u : Ty). is_below below u (types.Class class)) (sym is_type) ∙ a.local_met in (
+          l.value,
+          l.there,
+          type_up shapes ground.order m.heap l.value l.type (types.Class class)
+              ((rows.orders s ground m t).up l.type (types.Class class) met) l.has,
+        )
 
     pub get_this : (form : Form) (after_it : Types) → is_form_of form declared ≡ true
         → Applied below most (reads 0 (Below (types.Class class)) [] (Exactly (type_of_declared declared))) state after_it

@@ -196,7 +196,7 @@ module _ (w : World) (offset : ℕ) (body : LinkedBody) (code : MethodBody) wher
       let name : method_name (home_at (suc n)) code.offset ≡ Loaded (suc n) offset =
       named n code.offset ∙ ap (Loaded (suc n)) same in
       let here : method_name (length (linked_as w (suc n) body).world - 1) code.offset
-          ≡ method_name (home_at (suc n)) code.offset = ap (λ h. method_name h code.offset) stands.place in
+      ≡ method_name (home_at (suc n)) code.offset = ap (λ h. method_name h code.offset) stands.place in
       as_declared w (suc n) offset body code stands d known.concrete.header
       (sym (ap (method_at w.shapes) name) ∙ known.there)
       known.concrete.there known.concrete.concrete

@@ -150,8 +150,8 @@ module _ (w : World) (heap : Heap TaggedValue) (statics : List (List StaticValue
         let found_it : is_some (find (λ (s : StaticValue). s.offset == p.offset) h.fields) ≡ true =
         ap (λ (o : Option StaticValue). is_some o) h.found in
         let by_number : (o : Option (List StaticValue)) → of_package changed h.number ≡ o
-            → is_some (option_and_then (find (λ (s : StaticValue). s.offset == p.offset)) o) ≡ true
-            → is_some (static_at changed p.home p.offset) ≡ true =
+        → is_some (option_and_then (find (λ (s : StaticValue). s.offset == p.offset)) o) ≡ true
+        → is_some (static_at changed p.home p.offset) ≡ true =
         λ o e k.
         ap (λ (n : Option ℕ). is_some (option_and_then (find (λ (s : StaticValue). s.offset == p.offset)) (option_and_then (of_package changed) n))) h.is_number
         ∙ ap (λ (o : Option (List StaticValue)). is_some (option_and_then (find (λ (s : StaticValue). s.offset == p.offset)) o)) e

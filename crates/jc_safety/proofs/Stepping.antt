@@ -225,7 +225,7 @@ module _ {C : Type 0} (s : Surroundings C) (ground : Ground s) (members : HaveMe
         let constant = λ (value : ℤ) (is : x.instr.instr.operation ≡ operations.Word (ops.Push value)).
         ground.constants p.code.code listing m.top.pc x.instr value p.typed.whole x.stands is in
         let called : (invocation : Invocation) → x.instr.instr.operation ≡ operations.Object (objects.Invoke invocation)
-            → IsCall s ground m t invocation x.fine.after x.instr.instr.next_pc =
+        → IsCall s ground m t invocation x.fine.after x.instr.instr.next_pc =
         λ invocation is. record {
           call = x.instr.instr;
           stands = listed;

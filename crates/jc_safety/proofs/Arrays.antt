@@ -154,7 +154,8 @@ module _ {C : Type 0} (s : Surroundings C) (ground : Ground s) (m : Machine C) (
   AreArrays form =
       (v : TaggedValue) → Meets shapes m.heap v (array_of form) → leads_to m.heap (is_array_of form) v ≡ true
 
-  references_are : (o : ObjectType) → holds_below shapes (Api api.Object) o ≡ true → is_array_of Forms.Reference o ≡ true
+  references_are : (o : ObjectType) → holds_below shapes (Api api.Object) o ≡ true
+      → is_array_of Forms.Reference o ≡ true
   references_are (Instance k) e = absurd cc
   references_are BooleanArray e = absurd cc
   references_are ByteArray e = absurd cc
@@ -227,7 +228,8 @@ module _ {C : Type 0} (s : Surroundings C) (ground : Ground s) (m : Machine C) (
   ref_holds : (c : ClassName) (n : ℕ) (o : heaps.Object TaggedValue) → object_at m.heap n ≡ Some o
       → leads_to m.heap (holds_below shapes c) (Ref n) ≡ true → holds_below shapes c o.kind.object ≡ true
   ref_holds c n o found h =
-      sym (ap (λ (x : Option (heaps.Object TaggedValue)). option_map_or (λ o. holds_below shapes c o.kind.object) x false) found)
+      sym (ap (λ (x : Option (heaps.Object TaggedValue)). option_map_or (λ o. holds_below shapes c o.kind.object) x
+      false) found)
       ∙ h
 
   -- a component of an array whose components count below a class is of that class
@@ -297,13 +299,15 @@ module _ {C : Type 0} (s : Surroundings C) (ground : Ground s) (m : Machine C) (
       (state s ground m t) after_it
       → LeadsTo s ground m t after_it next → IsSafe s (act_store_word (at m.top.operands) form)
   store_number form after_it numbers a leads =
-      let l = leaves_nothing (below s ground m t) (most s ground m t) (array_of form ∷ word ∷ word ∷ []) (state s ground m t) after_it a in
+      let l = leaves_nothing (below s ground m t) (most s ground m t) (array_of form ∷ word ∷ word ∷ [])
+      (state s ground m t) after_it a in
       take_three shapes m.heap (λ us. IsSafe s (act_store_word (at us) form)) (array_of form) word word m.top.operands
       (state s ground m t).operands t.top.operands_typed a.enough
       (met_by s ground m t (takes (array_of form ∷ word ∷ word ∷ []) Nothing) after_it a)
       (λ w i u vs value_is index_is array_is rest.
       word_case shapes m.heap (λ x. IsSafe s (act_store_word (at (x ∷ i ∷ u ∷ vs)) form)) w value_is (λ k little.
-      word_case shapes m.heap (λ x. IsSafe s (act_store_word (at (Word k ∷ x ∷ u ∷ vs)) form)) i index_is (λ index small.
+      word_case shapes m.heap (λ x. IsSafe s (act_store_word (at (Word k ∷ x ∷ u ∷ vs)) form)) i index_is
+      (λ index small.
       ref_case m.heap (is_array_of form) (λ x. IsSafe s (act_store_word (at (Word k ∷ Word index ∷ x ∷ vs)) form)) u
       (are_arrays form u array_is)
       (safe_null s ground m t d next (Word k ∷ Word index ∷ Null ∷ vs))
@@ -339,7 +343,8 @@ module _ {C : Type 0} (s : Surroundings C) (ground : Ground s) (m : Machine C) (
 
   pub store_reference : (after_it : Types)
       → Applied (below s ground m t) (most s ground m t)
-      (takes (Below (types.ReferenceArray (Api api.Object)) ∷ word ∷ Reference ∷ []) Nothing) (state s ground m t) after_it
+      (takes (Below (types.ReferenceArray (Api api.Object)) ∷ word ∷ Reference ∷ []) Nothing) (state s ground m t)
+      after_it
       → LeadsTo s ground m t after_it next → IsSafe s (act_store_reference (at m.top.operands))
   store_reference after_it a leads =
       let ds = array_of Forms.Reference ∷ word ∷ Reference ∷ [] in
@@ -349,7 +354,8 @@ module _ {C : Type 0} (s : Surroundings C) (ground : Ground s) (m : Machine C) (
       (met_by s ground m t (takes ds Nothing) after_it a)
       (λ w i u vs value_is index_is array_is rest.
       word_case shapes m.heap (λ x. IsSafe s (act_store_reference (at (w ∷ x ∷ u ∷ vs)))) i index_is (λ index small.
-      ref_case m.heap (holds_below shapes (Api api.Object)) (λ x. IsSafe s (act_store_reference (at (w ∷ Word index ∷ x ∷ vs)))) u
+      ref_case m.heap (holds_below shapes (Api api.Object))
+      (λ x. IsSafe s (act_store_reference (at (w ∷ Word index ∷ x ∷ vs)))) u
       array_is.type
       (safe_check s (is_reference w) _ (leads_reference w value_is)
       (safe_check s (leads_to m.heap any_object w) _ value_is

@@ -85,7 +85,8 @@ binary_bound Subtract a b n f g e =
     some_bound _ n e (signed_bound ((cast_unsigned w16 (short a) + (65536 - cast_unsigned w16 (short b))) % 65536))
 binary_bound Multiply a b n f g e =
     some_bound _ n e (signed_bound ((cast_unsigned w16 (short a) * cast_unsigned w16 (short b)) % 65536))
-binary_bound Divide a b n f g e = divided_bound (b == 0) _ n e (signed_bound (cast_unsigned w16 (int_div (short a) (short b))))
+binary_bound Divide a b n f g e =
+    divided_bound (b == 0) _ n e (signed_bound (cast_unsigned w16 (int_div (short a) (short b))))
 binary_bound Remainder a b n f g e =
     divided_bound (b == 0) _ n e
     (bits_bound (int_rem (short a) (short b)) (rem_is_short (short a) (short b) (signed_is_short a)))

@@ -80,10 +80,12 @@ module _ {C : Type 0} (s : Surroundings C) (ground : Ground s) (m : Machine C) (
   leads_so : (test : ObjectType → Bool) (n : ℕ) (o : heaps.Object TaggedValue) → object_at m.heap n ≡ Some o
       → test o.kind.object ≡ true → leads_to m.heap test (Ref n) ≡ true
   leads_so test n o found e =
-      ap (λ (x : Option (heaps.Object TaggedValue)). option_map_or (λ (o : heaps.Object TaggedValue). test o.kind.object) x false) found
+      ap (λ (x : Option (heaps.Object TaggedValue)). option_map_or
+      (λ (o : heaps.Object TaggedValue). test o.kind.object) x false) found
       ∙ e
 
-  words_fit : (kind : WordKind) → Fits (record { is_shared = false; passes = is_array_of_words kind }) (checked.word_array kind)
+  words_fit : (kind : WordKind)
+      → Fits (record { is_shared = false; passes = is_array_of_words kind }) (checked.word_array kind)
   words_fit Kinds.Boolean = record { passes = λ n o found e. leads_so _ n o found e; null = refl }
   words_fit Kinds.Byte = record { passes = λ n o found e. leads_so _ n o found e; null = refl }
   words_fit Kinds.Short = record { passes = λ n o found e. leads_so _ n o found e; null = refl }
@@ -103,14 +105,18 @@ module _ {C : Type 0} (s : Surroundings C) (ground : Ground s) (m : Machine C) (
 
   -- the test that an instruction makes
   test_safe : (type : TestedType) (u : Ty) → tested_type set type ≡ Some u → (us : List TaggedValue)
-      → (go : Test → Stepped C) → ((test : Test) → Fits test u → IsSafe s (go test)) → IsSafe s (on_test (at us) type go)
+      → (go : Test → Stepped C) → ((test : Test) → Fits test u → IsSafe s (go test))
+      → IsSafe s (on_test (at us) type go)
   test_safe (Tested.Class index) u e us go each =
-      let x = mapped_some s ground m t d next (λ (c : ClassName). types.Class (counted set.world c)) (class_of_entry set index) u e in
+      let x = mapped_some s ground m t d next (λ (c : ClassName). types.Class (counted set.world c))
+      (class_of_entry set index) u e in
       let f = from_entry class_target (its_entry index) x.0 x.1 in
       let p = placed s ground m t in
-      let named = named_class s.world m.top.method.number p.body (ground.packages m.top.method.number p.body p.loaded) index f.target x.0 f.is f.gives in
+      let named = named_class s.world m.top.method.number p.body (ground.packages m.top.method.number p.body p.loaded)
+      index f.target x.0 f.is f.gives in
       let counts : is_class_below shapes (counted shapes x.0) (counted (rows.before s ground m t) x.0) ≡ true =
-      subst (λ (k : ClassName). is_class_below shapes (counted shapes x.0) k ≡ true) named.counts (counted_reflexive s ground x.0) in
+      subst (λ (k : ClassName). is_class_below shapes (counted shapes x.0) k ≡ true) named.counts
+      (counted_reflexive s ground x.0) in
       let test : Test = record { is_shared = is_shared_interface shapes x.0; passes = is_instance shapes x.0 } in
       rows.safe_target s ground m t d next us index class_target f.target x.0
       (λ c. go (record { is_shared = is_shared_interface shapes c; passes = is_instance shapes c })) f.is f.gives
@@ -130,7 +136,8 @@ module _ {C : Type 0} (s : Surroundings C) (ground : Ground s) (m : Machine C) (
       let x = mapped_some s ground m t d next (reference_array set.world) (class_of_entry set index) u e in
       let f = from_entry class_target (its_entry index) x.0 x.1 in
       let p = placed s ground m t in
-      let named = named_class s.world m.top.method.number p.body (ground.packages m.top.method.number p.body p.loaded) index f.target x.0 f.is f.gives in
+      let named = named_class s.world m.top.method.number p.body (ground.packages m.top.method.number p.body p.loaded)
+      index f.target x.0 f.is f.gives in
       let test : Test = record {
         is_shared = false;
         passes = λ object. option_map_or (λ (e : ClassName). is_subtype shapes e x.0) (component_class object) false;
@@ -161,10 +168,12 @@ module _ {C : Type 0} (s : Surroundings C) (ground : Ground s) (m : Machine C) (
       (λ n o found any.
       test_safe type u e us
       (λ test. on_object (at us) (Ref n) (λ number object.
-      judged (at us) access number (facts_of (at us) object None test.is_shared) (λ switch. go (Ref n) (test.passes object.kind.object))))
+      judged (at us) access number (facts_of (at us) object None test.is_shared)
+      (λ switch. go (Ref n) (test.passes object.kind.object))))
       (λ test fits.
       safe_some s (object_at m.heap n) o _ found
-      (safe_judged s (at us) access n (facts_of (at us) o None test.is_shared) (λ switch. go (Ref n) (test.passes o.kind.object))
+      (safe_judged s (at us) access n (facts_of (at us) o None test.is_shared)
+      (λ switch. go (Ref n) (test.passes o.kind.object))
       (throws_at s ground m t us _ (security s ground m.heap t.beside.runtime_objects))
       (λ switch. each n (test.passes o.kind.object) (λ passes. fits.passes n o found passes)))))
 
@@ -174,7 +183,8 @@ module _ {C : Type 0} (s : Surroundings C) (ground : Ground s) (m : Machine C) (
       → HasRow below most (option_map (λ (u : Ty). takes (Reference ∷ []) (Exactly u)) (tested_type set type)) state after_it
       → LeadsTo after_it next → IsSafe s (act_check_cast (at m.top.operands) type)
   check_cast type after_it h leads =
-      let x = mapped_some s ground m t d next (λ (u : Ty). takes (Reference ∷ []) (Exactly u)) (tested_type set type) h.found h.is in
+      let x = mapped_some s ground m t d next (λ (u : Ty). takes (Reference ∷ []) (Exactly u)) (tested_type set type)
+      h.found h.is in
       let a = subst (λ (r : Row). Applied below most r state after_it) (sym x.2) h.applied in
       take_one shapes m.heap (λ us. IsSafe s (on_reference us (λ v vs.
       tested (at m.top.operands) accesses.CheckCast type v (gives (at m.top.operands) v vs) (λ passes.
@@ -204,7 +214,8 @@ module _ {C : Type 0} (s : Surroundings C) (ground : Ground s) (m : Machine C) (
       → HasRow below most (option_map (λ (u : Ty). takes (Reference ∷ []) (Exactly types.Word)) (tested_type set type)) state after_it
       → LeadsTo after_it next → IsSafe s (act_instance_of (at m.top.operands) type)
   instance_of type after_it h leads =
-      let x = mapped_some s ground m t d next (λ (u : Ty). takes (Reference ∷ []) (Exactly types.Word)) (tested_type set type) h.found h.is in
+      let x = mapped_some s ground m t d next (λ (u : Ty). takes (Reference ∷ []) (Exactly types.Word))
+      (tested_type set type) h.found h.is in
       let a = subst (λ (r : Row). Applied below most r state after_it) (sym x.2) h.applied in
       take_one shapes m.heap (λ us. IsSafe s (on_reference us (λ v vs.
       tested (at m.top.operands) accesses.InstanceOf type v (gives (at m.top.operands) (bit false) vs) (λ passes.

@@ -165,7 +165,8 @@ either_fits (Err CutShort) other h = tt
 operation_fits : (bytes : List ℕ) → AnyFits (next_operation bytes)
 unfolding next_operation
 operation_fits [] = tt
-operation_fits (opcode ∷ bytes) = either_fits (next_constant opcode bytes) (next_object opcode bytes) (constant opcode bytes)
+operation_fits (opcode ∷ bytes) =
+    either_fits (next_constant opcode bytes) (next_object opcode bytes) (constant opcode bytes)
 
 read_fits : (code : List ℕ) (r : Result (Read Operation) CodeFault) (instr : Instr) → AnyFits r
     → (r >>= λ read. Ok (instr_of code read)) ≡ Ok instr → IsSmallOperation instr.operation

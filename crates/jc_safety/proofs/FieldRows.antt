@@ -111,7 +111,8 @@ module _ {C : Type 0} (s : Surroundings C) (ground : Ground s) (m : Machine C) (
         t.top.operands_typed leads)
 
     -- the field is put, and the frame goes on
-    put_it : (form : Form) (us vs : List TaggedValue) (v : TaggedValue) (after_it : Types) → is_form_of form declared ≡ true
+    put_it : (form : Form) (us vs : List TaggedValue) (v : TaggedValue) (after_it : Types)
+        → is_form_of form declared ≡ true
         → has_type shapes m.heap v (type_of_declared declared) ≡ true
         → HaveTypes shapes m.heap m.top.locals after_it.locals → HoldTypes shapes m.heap vs after_it.operands
         → LeadsTo after_it next
@@ -151,7 +152,8 @@ module _ {C : Type 0} (s : Surroundings C) (ground : Ground s) (m : Machine C) (
         let y = value_there s.world m.heap m.statics t.beside.statics place declared said in
         take_one shapes m.heap (λ us. IsSafe s (on_top us (λ v vs. check (is_of_type shapes m.heap declared v)
         (on_some (static_at m.statics place.home place.offset) (λ s.
-        stored_in_static (at m.top.operands) v (leaves_operands (put_static (at m.top.operands) place (stored_as form v)) vs))))))
+        stored_in_static (at m.top.operands) v (leaves_operands
+        (put_static (at m.top.operands) place (stored_as form v)) vs))))))
         (Below (type_of_declared declared)) m.top.operands state.operands t.top.operands_typed a.enough
         (rows.met_by s ground m t (takes ds Nothing) after_it a)
         (λ v vs is rest.
@@ -178,13 +180,15 @@ module _ {C : Type 0} (s : Surroundings C) (ground : Ground s) (m : Machine C) (
       let b = subst (λ (x : Row). Applied below most x state after_it) (sym is) a in
       safe_check s (is_form_of form declared) _ b.fits
       (get_static place declared said form after_it b.fits
-      (unformed below most (is_form_of form declared) (static_row Get (type_of_declared declared)) state after_it refl b) leads)
+      (unformed below most (is_form_of form declared) (static_row Get (type_of_declared declared)) state after_it refl
+      b) leads)
   static_case form Put Holders.Class place declared said r after_it e a leads =
       let is : if_form (is_form_of form declared) (static_row Put (type_of_declared declared)) ≡ r = cc in
       let b = subst (λ (x : Row). Applied below most x state after_it) (sym is) a in
       safe_check s (is_form_of form declared) _ b.fits
       (put_static_safe place declared said form after_it b.fits
-      (unformed below most (is_form_of form declared) (static_row Put (type_of_declared declared)) state after_it refl b) leads)
+      (unformed below most (is_form_of form declared) (static_row Put (type_of_declared declared)) state after_it refl
+      b) leads)
   static_case form action Holders.Operand place declared said r after_it e a leads = absurd cc
   static_case form action Holders.This place declared said r after_it e a leads = absurd cc
 
@@ -204,25 +208,29 @@ module _ {C : Type 0} (s : Surroundings C) (ground : Ground s) (m : Machine C) (
       let b = subst (λ (x : Row). Applied below most x state after_it) (sym is) a in
       safe_check s (is_form_of form declared) _ b.fits
       (get_operand s ground m t d next class cell declared has form after_it b.fits
-      (unformed below most (is_form_of form declared) (operand_row Get class (type_of_declared declared)) state after_it refl b) leads)
+      (unformed below most (is_form_of form declared) (operand_row Get class (type_of_declared declared)) state after_it
+      refl b) leads)
   instance_case form Put Holders.Operand class cell declared has r after_it e a leads =
       let is : if_form (is_form_of form declared) (operand_row Put class (type_of_declared declared)) ≡ r = cc in
       let b = subst (λ (x : Row). Applied below most x state after_it) (sym is) a in
       safe_check s (is_form_of form declared) _ b.fits
       (put_operand s ground m t d next class cell declared has form after_it b.fits
-      (unformed below most (is_form_of form declared) (operand_row Put class (type_of_declared declared)) state after_it refl b) leads)
+      (unformed below most (is_form_of form declared) (operand_row Put class (type_of_declared declared)) state after_it
+      refl b) leads)
   instance_case form Get Holders.This class cell declared has r after_it e a leads =
       let is : if_form (is_form_of form declared) (this_row Get class (type_of_declared declared)) ≡ r = cc in
       let b = subst (λ (x : Row). Applied below most x state after_it) (sym is) a in
       safe_check s (is_form_of form declared) _ b.fits
       (get_this s ground m t d next class cell declared has form after_it b.fits
-      (unformed below most (is_form_of form declared) (this_row Get class (type_of_declared declared)) state after_it refl b) leads)
+      (unformed below most (is_form_of form declared) (this_row Get class (type_of_declared declared)) state after_it
+      refl b) leads)
   instance_case form Put Holders.This class cell declared has r after_it e a leads =
       let is : if_form (is_form_of form declared) (this_row Put class (type_of_declared declared)) ≡ r = cc in
       let b = subst (λ (x : Row). Applied below most x state after_it) (sym is) a in
       safe_check s (is_form_of form declared) _ b.fits
       (put_this s ground m t d next class cell declared has form after_it b.fits
-      (unformed below most (is_form_of form declared) (this_row Put class (type_of_declared declared)) state after_it refl b) leads)
+      (unformed below most (is_form_of form declared) (this_row Put class (type_of_declared declared)) state after_it
+      refl b) leads)
 
   target_case : (access : FieldAccess) (index : ℕ) (target : PoolTarget)
       → slice_get (placed s ground m t).body.targets index ≡ Some target → (r : Row) (after_it : Types)
@@ -233,7 +241,8 @@ module _ {C : Type 0} (s : Surroundings C) (ground : Ground s) (m : Machine C) (
       let entry = entry_of s.world m.top.method.number index (To.InstanceField class cell declared)
       (rows.entry s ground m t index (To.InstanceField class cell declared) there) in
       rows.safe_target s ground m t d next m.top.operands index field_target (To.InstanceField class cell declared)
-      (of_objects (record { class = class; cell = cell; declared = declared })) (act_on_target (at m.top.operands) access)
+      (of_objects (record { class = class; cell = cell; declared = declared }))
+      (act_on_target (at m.top.operands) access)
       there refl
       (instance_case access.form access.action access.holder class cell declared
       (ground.fields (home_at m.top.method.number) entry.entry class cell declared entry.leads) r after_it e a leads)
@@ -243,7 +252,8 @@ module _ {C : Type 0} (s : Surroundings C) (ground : Ground s) (m : Machine C) (
       rows.safe_target s ground m t d next m.top.operands index field_target (To.StaticField place declared)
       (of_class place declared) (act_on_target (at m.top.operands) access) there refl
       (static_case access.form access.action access.holder place declared
-      (static_type_said shapes place declared (home_at m.top.method.number) entry.entry entry.leads) r after_it e a leads)
+      (static_type_said shapes place declared (home_at m.top.method.number) entry.entry entry.leads) r after_it e a
+      leads)
   target_case access index (To.VirtualMethod class token signature) there r after_it e a leads = absurd cc
   target_case access index (To.SuperMethod class method signature) there r after_it e a leads = absurd cc
   target_case access index (To.StaticMethod class method is_static signature) there r after_it e a leads = absurd cc

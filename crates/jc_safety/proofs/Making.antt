@@ -84,7 +84,8 @@ module _ {C : Type 0} (s : Surroundings C) (ground : Ground s) (m : Machine C) (
   reason_fits o reason small is typed =
       let old = subst (λ (x : ObjectType). CellsTyped shapes m.heap o.cells x) is typed in
       subst (λ (x : ObjectType). CellsTyped shapes m.heap (set o.cells 0 (Word reason)) x) (sym is)
-      (put_points (λ v field. is_cell shapes m.heap field v ≡ true) 0 o.cells (fields_of shapes (Api api.SystemException))
+      (put_points (λ v field. is_cell shapes m.heap field v ≡ true) 0 o.cells
+      (fields_of shapes (Api api.SystemException))
       (Word reason) old
       (λ field there.
       subst (λ (f : Option (DeclaredType ClassName)). is_cell shapes m.heap f (Word reason) ≡ true)
@@ -173,7 +174,8 @@ module _ {C : Type 0} (s : Surroundings C) (ground : Ground s) (m : Machine C) (
   array_row object v u after_it may typed fits a leads =
       let l = leaves_one below most (word ∷ []) state after_it u a in
       take_one shapes m.heap
-      (λ us. IsSafe s (on_word us (λ count vs. creates_array (at m.top.operands) object v count vs))) word m.top.operands
+      (λ us. IsSafe s (on_word us (λ count vs. creates_array (at m.top.operands) object v count vs))) word
+      m.top.operands
       state.operands t.top.operands_typed a.enough
       (rows.met_by s ground m t (takes (word ∷ []) (Exactly u)) after_it a)
       (λ x vs is rest.
@@ -189,18 +191,21 @@ module _ {C : Type 0} (s : Surroundings C) (ground : Ground s) (m : Machine C) (
   -- a new object's reference, by what it is
   by_class : (c k : ClassName) → is_class_below shapes c k ≡ true → IsOfNew (Instance c) (types.Class k)
   by_class c k e heap n o found is =
-      ap (λ (x : Option (heaps.Object TaggedValue)). option_map_or (λ (o : heaps.Object TaggedValue). is_class_below shapes (class_of o.kind.object) k) x false) found
+      ap (λ (x : Option (heaps.Object TaggedValue)). option_map_or
+      (λ (o : heaps.Object TaggedValue). is_class_below shapes (class_of o.kind.object) k) x false) found
       ∙ ap (λ (x : ObjectType). is_class_below shapes (class_of x) k) is ∙ e
 
   by_test : (test : ObjectType → Bool) (object : ObjectType) → test object ≡ true → (heap : Heap TaggedValue) (n : ℕ)
       → (o : heaps.Object TaggedValue) → object_at heap n ≡ Some o → o.kind.object ≡ object
       → leads_to heap test (Ref n) ≡ true
   by_test test object e heap n o found is =
-      ap (λ (x : Option (heaps.Object TaggedValue)). option_map_or (λ (o : heaps.Object TaggedValue). test o.kind.object) x false) found
+      ap (λ (x : Option (heaps.Object TaggedValue)). option_map_or
+      (λ (o : heaps.Object TaggedValue). test o.kind.object) x false) found
       ∙ ap test is ∙ e
 
   word_array_safe : (kind : WordKind) (after_it : Types)
-      → Applied below most (takes (word ∷ []) (Exactly (checked.word_array kind))) state after_it → LeadsTo after_it next
+      → Applied below most (takes (word ∷ []) (Exactly (checked.word_array kind))) state after_it
+      → LeadsTo after_it next
       → IsSafe s (on_word m.top.operands (λ count vs. creates_array (at m.top.operands) (word_array kind) (Word 0) count vs))
   word_array_safe Kinds.Boolean after_it a leads =
       array_row BooleanArray (Word 0) types.BooleanArray after_it refl (booleans_made shapes m.heap)
@@ -221,9 +226,11 @@ module _ {C : Type 0} (s : Surroundings C) (ground : Ground s) (m : Machine C) (
       → LeadsTo after_it next → IsSafe s (act_create (at m.top.operands) (Creations.Object index))
   object_row_safe index target c there is after_it a leads =
       let p = placed s ground m t in
-      let named = named_class s.world m.top.method.number p.body (ground.packages m.top.method.number p.body p.loaded) index target c there is in
+      let named = named_class s.world m.top.method.number p.body (ground.packages m.top.method.number p.body p.loaded)
+      index target c there is in
       let may = named.objects ∙ a.fits in
-      let b = unformed below most (has_objects (rows.before s ground m t) c) (takes [] (Exactly (types.Class c))) state after_it refl a in
+      let b = unformed below most (has_objects (rows.before s ground m t) c) (takes [] (Exactly (types.Class c))) state
+      after_it refl a in
       let l = leaves_one below most [] state after_it (types.Class c) b in
       rows.safe_target s ground m t d next m.top.operands index class_target target c
       (λ c. check (has_objects shapes c) (creates (at m.top.operands) (Instance c) (cells_of shapes c) m.top.operands))
@@ -241,9 +248,11 @@ module _ {C : Type 0} (s : Surroundings C) (ground : Ground s) (m : Machine C) (
       → LeadsTo after_it next → IsSafe s (act_create (at m.top.operands) (Creations.ReferenceArray index))
   reference_row_safe index target c there is after_it a leads =
       let p = placed s ground m t in
-      let named = named_class s.world m.top.method.number p.body (ground.packages m.top.method.number p.body p.loaded) index target c there is in
+      let named = named_class s.world m.top.method.number p.body (ground.packages m.top.method.number p.body p.loaded)
+      index target c there is in
       let counts : is_class_below shapes (counted shapes c) (counted (rows.before s ground m t) c) ≡ true =
-      subst (λ (k : ClassName). is_class_below shapes (counted shapes c) k ≡ true) named.counts (counted_reflexive s ground c) in
+      subst (λ (k : ClassName). is_class_below shapes (counted shapes c) k ≡ true) named.counts
+      (counted_reflexive s ground c) in
       rows.safe_target s ground m t d next m.top.operands index class_target target c
       (λ c. on_word m.top.operands (λ count vs. creates_array (at m.top.operands) (ReferenceArray c) Null count vs))
       there is
@@ -267,14 +276,16 @@ module _ {C : Type 0} (s : Surroundings C) (ground : Ground s) (m : Machine C) (
       → HasRow below most (creation_row setting creation) state after_it → LeadsTo after_it next
       → IsSafe s (act_create (at m.top.operands) creation)
   create (Creations.Object index) after_it h leads =
-      let x = mapped_some (λ (c : ClassName). if_form (has_objects setting.world c) (takes [] (Exactly (types.Class c))))
+      let x = mapped_some (λ (c : ClassName). if_form (has_objects setting.world c)
+      (takes [] (Exactly (types.Class c))))
       (class_of_entry setting index) h.found h.is in
       let f = from_entry class_target (its_entry index) x.0 x.1 in
       object_row_safe index f.target x.0 f.is f.gives after_it
       (subst (λ (r : Row). Applied below most r state after_it) (sym x.2) h.applied) leads
   create (Creations.WordArray kind) after_it h leads =
       let same : takes (word ∷ []) (Exactly (checked.word_array kind)) ≡ h.found = cc in
-      word_array_safe kind after_it (subst (λ (r : Row). Applied below most r state after_it) (sym same) h.applied) leads
+      word_array_safe kind after_it (subst (λ (r : Row). Applied below most r state after_it) (sym same) h.applied)
+      leads
   create (Creations.ReferenceArray index) after_it h leads =
       let x = mapped_some (λ (c : ClassName). takes (word ∷ []) (Exactly (reference_array setting.world c)))
       (class_of_entry setting index) h.found h.is in

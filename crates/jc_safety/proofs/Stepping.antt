@@ -132,7 +132,8 @@ module _ {C : Type 0} (s : Surroundings C) (ground : Ground s) (m : Machine C) (
     set = setting s ground m t d next
 
     object_safe : (operation : ObjectOperation)
-        → ((invocation : Invocation) → operation ≡ objects.Invoke invocation → IsCall s ground m t invocation after next)
+        → ((invocation : Invocation) → operation ≡ objects.Invoke invocation
+        → IsCall s ground m t invocation after next)
         → applied below most (object_row set operation) state ≡ Ok after
         → AllByRecursion (BranchesTo after) (object_offsets operation)
         → (object_falls operation ≡ true → LeadsTo after next) → IsSafe s (act_object at operation)
@@ -147,24 +148,30 @@ module _ {C : Type 0} (s : Surroundings C) (ground : Ground s) (m : Machine C) (
         arrays.load_reference s ground m t d next m.top.operands state.operands after t.top.operands_typed
         (row_applied below most _ state after e) (falls refl)
     object_safe (objects.LoadComponent Forms.Byte) called e branches falls =
-        arrays.load_number s ground m t d next Forms.Byte after refl (row_applied below most _ state after e) (falls refl)
+        arrays.load_number s ground m t d next Forms.Byte after refl (row_applied below most _ state after e)
+        (falls refl)
     object_safe (objects.LoadComponent Forms.Short) called e branches falls =
-        arrays.load_number s ground m t d next Forms.Short after refl (row_applied below most _ state after e) (falls refl)
+        arrays.load_number s ground m t d next Forms.Short after refl (row_applied below most _ state after e)
+        (falls refl)
     object_safe (objects.StoreComponent Forms.Reference) called e branches falls =
         arrays.store_reference s ground m t d next after (row_applied below most _ state after e) (falls refl)
     object_safe (objects.StoreComponent Forms.Byte) called e branches falls =
-        arrays.store_number s ground m t d next Forms.Byte after refl (row_applied below most _ state after e) (falls refl)
+        arrays.store_number s ground m t d next Forms.Byte after refl (row_applied below most _ state after e)
+        (falls refl)
     object_safe (objects.StoreComponent Forms.Short) called e branches falls =
-        arrays.store_number s ground m t d next Forms.Short after refl (row_applied below most _ state after e) (falls refl)
+        arrays.store_number s ground m t d next Forms.Short after refl (row_applied below most _ state after e)
+        (falls refl)
     object_safe objects.ArrayLength called e branches falls =
         arrays.array_length s ground m t d next after (row_applied below most _ state after e) (falls refl)
     object_safe (objects.Branch when offset) called e branches falls =
-        references.branch s ground m t d next when offset after (row_applied below most _ state after e) branches.0 (falls refl)
+        references.branch s ground m t d next when offset after (row_applied below most _ state after e) branches.0
+        (falls refl)
     object_safe (objects.Field access index) called e branches falls =
         field_safe s ground m t d next access index after (has_row below most _ state after e) (falls refl)
     object_safe (objects.Invoke invocation) called e branches falls =
         let h = has_row below most (invocation_row set invocation) state after e in
-        call_safe s ground m t d next members set refl refl invocation h.found after h.is h.applied (called invocation refl)
+        call_safe s ground m t d next members set refl refl invocation h.found after h.is h.applied
+        (called invocation refl)
     object_safe (objects.Create creation) called e branches falls =
         create s ground m t d next creation after (has_row below most _ state after e) (falls refl)
     object_safe (objects.CheckCast type) called e branches falls =
@@ -180,7 +187,8 @@ module _ {C : Type 0} (s : Surroundings C) (ground : Ground s) (m : Machine C) (
 
     -- ---- any instruction
 
-    act_safe : (operation : Operation) → ((value : ℤ) → operation ≡ operations.Word (ops.Push value) → word_of value < 65536)
+    act_safe : (operation : Operation)
+        → ((value : ℤ) → operation ≡ operations.Word (ops.Push value) → word_of value < 65536)
         → ((invocation : Invocation) → operation ≡ operations.Object (objects.Invoke invocation)
         → IsCall s ground m t invocation after next)
         → effect_of set most operation state ≡ Ok after → AllByRecursion (BranchesTo after) (offsets_of operation)
@@ -235,7 +243,8 @@ module _ {C : Type 0} (s : Surroundings C) (ground : Ground s) (members : HaveMe
           leads = x.fine.falls (ap falls_of is);
         } in
         let branches = subst
-        (λ (pc : ℕ). AllByRecursion (BranchLeads (goes.rules s ground m t) p.typing x.fine.after) (targets_of pc x.instr.instr.operation))
+        (λ (pc : ℕ). AllByRecursion (BranchLeads (goes.rules s ground m t) p.typing x.fine.after)
+        (targets_of pc x.instr.instr.operation))
         begins x.fine.branches in
         let S : ℕ → Type 0 = λ most. IsSafe s (act (record {
           around = s;

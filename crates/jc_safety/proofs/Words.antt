@@ -243,7 +243,8 @@ module _ {C : Type 0} (s : Surroundings C) (ground : Ground s) (m : Machine C) (
   pub nop : Owes ops.Nop
   unfolding word_effect act_word
   nop after e branches falls =
-      rows.leaves_them s ground m t d next [] m.top.operands m.top.operands after (row_applied below most (takes [] Nothing) state after e)
+      rows.leaves_them s ground m t d next [] m.top.operands m.top.operands after
+      (row_applied below most (takes [] Nothing) state after e)
       t.top.operands_typed (falls refl)
 
   pub push : (value : ℤ) → word_of value < 65536 → Owes (ops.Push value)
@@ -302,7 +303,8 @@ module _ {C : Type 0} (s : Surroundings C) (ground : Ground s) (m : Machine C) (
       (safe_gives s ground m t d most next m.top.operands after (Word is_word.number) m.top.operands
       (room_left shapes m.heap most 0 state.operands m.top.operands a.enough a.room t.top.operands_typed)
       (rows.locals_still s ground m t after.locals r.locals_are)
-      (rows.held s ground m t (types.Word ∷ state.operands) after.operands (Word is_word.number ∷ m.top.operands) r.operands_are
+      (rows.held s ground m t (types.Word ∷ state.operands) after.operands (Word is_word.number ∷ m.top.operands)
+      r.operands_are
       (word_given is_word.number is_word.small, t.top.operands_typed))
       (falls refl)))
 
@@ -310,7 +312,8 @@ module _ {C : Type 0} (s : Surroundings C) (ground : Ground s) (m : Machine C) (
   unfolding word_effect act_word
   store local after e branches falls =
       let a = row_applied below most (writes local word) state after e in
-      let x = stored shapes (rows.before s ground m t) (rows.orders s ground m t) m.heap most local word m.top.locals state.locals after m.top.operands
+      let x = stored shapes (rows.before s ground m t) (rows.orders s ground m t) m.heap most local word m.top.locals
+      state.locals after m.top.operands
       state.operands t.top.operands_typed (placed s ground m t).locals_typed a in
       let P : List TaggedValue → Type 0 = λ us. IsSafe s (act_word (here us) (ops.Store local)) in
       subst P (sym x.is)
@@ -365,7 +368,8 @@ module _ {C : Type 0} (s : Surroundings C) (ground : Ground s) (m : Machine C) (
   pub shuffle_duplicate : (count depth : ℕ) → Owes (ops.Shuffle (Duplicate count depth))
   unfolding word_effect act_word duplicate_types
   shuffle_duplicate count depth after e branches falls =
-      let u = under_over (nat_lt (length state.operands) (max count depth)) (nat_lt most (length state.operands + count))
+      let u = under_over (nat_lt (length state.operands) (max count depth))
+      (nat_lt most (length state.operands + count))
       (with_operands state (duplicated count depth state.operands)) after e in
       let same = same_length (IsOperand shapes m.heap) m.top.operands state.operands t.top.operands_typed in
       let few = ltb-false most (length state.operands + count) u.1 in
@@ -374,7 +378,8 @@ module _ {C : Type 0} (s : Surroundings C) (ground : Ground s) (m : Machine C) (
       (le-leb (length m.top.operands + count) most (omega (arith, same, few)))
       (safe_leaves s ground m t d most next m.top.operands after (duplicated count depth m.top.operands)
       (rows.locals_still s ground m t after.locals (ap (λ (x : Types). x.locals) u.2))
-      (rows.held s ground m t (duplicated count depth state.operands) after.operands (duplicated count depth m.top.operands)
+      (rows.held s ground m t (duplicated count depth state.operands) after.operands
+      (duplicated count depth m.top.operands)
       (ap (λ (x : Types). x.operands) u.2) (duplicated_points count depth))
       (falls refl)))
 
@@ -383,7 +388,8 @@ module _ {C : Type 0} (s : Surroundings C) (ground : Ground s) (m : Machine C) (
   pub goto : (offset : ℤ) → Owes (ops.Branch Always offset)
   unfolding word_effect act_word
   goto offset after e branches falls =
-      rows.jump_it s ground m t d next offset [] m.top.operands m.top.operands after (row_applied below most (takes [] Nothing) state after e)
+      rows.jump_it s ground m t d next offset [] m.top.operands m.top.operands after
+      (row_applied below most (takes [] Nothing) state after e)
       t.top.operands_typed branches.0
 
   pub branch_zero : (condition : _) (offset : ℤ) → Owes (ops.Branch (Zero condition) offset)
@@ -392,7 +398,8 @@ module _ {C : Type 0} (s : Surroundings C) (ground : Ground s) (m : Machine C) (
       let a = row_applied below most (takes (word ∷ []) Nothing) state after e in
       one_word Nothing after a (λ us. IsSafe s (act_word (here us) (ops.Branch (Zero condition) offset)))
       (λ n vs small rest.
-      rows.branch_it s ground m t d next offset (word ∷ []) (Word n ∷ vs) vs (holds condition n 0) after a rest branches.0 (falls refl))
+      rows.branch_it s ground m t d next offset (word ∷ []) (Word n ∷ vs) vs (holds condition n 0) after a rest
+      branches.0 (falls refl))
 
   pub branch_compare : (condition : _) (offset : ℤ) → Owes (ops.Branch (Compare condition) offset)
   unfolding word_effect act_word
@@ -400,7 +407,8 @@ module _ {C : Type 0} (s : Surroundings C) (ground : Ground s) (m : Machine C) (
       let a = row_applied below most (takes (word ∷ word ∷ []) Nothing) state after e in
       two_words Nothing after a (λ us. IsSafe s (act_word (here us) (ops.Branch (Compare condition) offset)))
       (λ b x vs small little rest.
-      rows.branch_it s ground m t d next offset (word ∷ word ∷ []) (Word b ∷ Word x ∷ vs) vs (holds condition x b) after a rest branches.0
+      rows.branch_it s ground m t d next offset (word ∷ word ∷ []) (Word b ∷ Word x ∷ vs) vs (holds condition x b) after
+      a rest branches.0
       (falls refl))
 
   -- ---- switches: the offset is one of those that the instruction names
@@ -435,7 +443,8 @@ module _ {C : Type 0} (s : Surroundings C) (ground : Ground s) (m : Machine C) (
       let a = row_applied below most (takes (word ∷ []) Nothing) state after e in
       one_word Nothing after a (λ us. IsSafe s (act_word (here us) (ops.StableSwitch default low offsets)))
       (λ n vs small rest.
-      rows.jump_it s ground m t d next (stable_offset default low offsets (short n)) (word ∷ []) (Word n ∷ vs) vs after a rest
+      rows.jump_it s ground m t d next (stable_offset default low offsets (short n)) (word ∷ []) (Word n ∷ vs) vs after
+      a rest
       (in_table (BranchesTo after) default low offsets (short n) branches.0 branches.1))
 
   pub lookup_switch : (default : ℤ) (cases : List Case) → Owes (ops.LookupSwitch default cases)

@@ -16,7 +16,7 @@ use Rattle.jc_cap_pool.specs.declared.entry.PoolEntry.{PoolEntry}
 use Rattle.jc_cap_pool.specs.declared.entry.PoolEntry.TheVariants.{VirtualMethodref}
 use Rattle.jc_check.specs.Method.{Method}
 use Rattle.jc_check.specs.Package.{arguments_of, max_locals_of, method_of, receiver_of}
-use Rattle.jc_classes.specs.Growth.{KeepsAllLookups, StandWithin}
+use Rattle.jc_classes.specs.Growth.{KeepsAllLookups, LiesWithin, StandWithin}
 use Rattle.jc_classes.specs.Members.{DeclaredMethod, method_at}
 use Rattle.jc_classes.specs.Methods.{method_name}
 use Rattle.jc_classes.specs.Subtype.{IsOrder, IsSubtype, is_class_at, is_class_below, is_subtype}
@@ -102,6 +102,7 @@ pub record Ground {C : Type 0} (s : Surroundings C) : Type 0 where
       → IsMethodTyped (linked_as s.world place.number body) code
   pub tokens : (number : ℕ) (body : LinkedBody) (index : ℕ) (ref : MemberRef) → body_at s.world number ≡ Some body
       → slice_get body.kept.pool index ≡ Some (VirtualMethodref ref) → ref.token < 256
+  pub lookups : (before : List Shape) → LiesWithin before s.world.shapes → KeepsAllLookups before s.world.shapes
 
 -- ---- methods
 

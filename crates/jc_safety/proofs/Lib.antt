@@ -1,3 +1,4 @@
+mod ApiMembers
 mod Arrays
 mod Below
 mod Blank

@@ -1,4 +1,5 @@
 use Rattle.std.proofs.Common.{ℕ}
+use Rattle.jc_safety.proofs.ApiMembers.{have_members}
 use Rattle.jc_safety.proofs.Grounding.{Laws, grounded}
 use Rattle.jc_safety.proofs.Stepping.{runs_safely, steps_safely}
 use Rattle.jc_safety.proofs.accepted_packages_are_type_safe.Goals as goal
@@ -32,6 +33,8 @@ returns g c =
       listed = c.instructions_begin_in_turn.ensures.listed;
       stay = c.runtime_objects_stay.ensures;
     } in record {
-      steps = λ s may m typed. steps_safely s (grounded laws s may) ? m typed;
-      runs = λ s may n m typed. runs_safely s (grounded laws s may) ? n m typed;
+      steps = λ s may m typed.
+          let ground = grounded laws s may in steps_safely s ground (have_members s ground) m typed;
+      runs = λ s may n m typed.
+          let ground = grounded laws s may in runs_safely s ground (have_members s ground) n m typed;
     }

@@ -154,7 +154,8 @@ module _ {C : Type 0} (s : Surroundings C) (ground : Ground s) (m : Machine C) (
   AreArrays form =
       (v : TaggedValue) → Meets shapes m.heap v (array_of form) → leads_to m.heap (is_array_of form) v ≡ true
 
-  references_are : (o : ObjectType) → holds_below shapes (Api api.Object) o ≡ true → is_array_of Forms.Reference o ≡ true
+  references_are : (o : ObjectType) → holds_below shapes (Api api.Object) o ≡ true
+      → is_array_of Forms.Reference o ≡ true
   references_are (Instance k) e = absurd cc
   references_are BooleanArray e = absurd cc
   references_are ByteArray e = absurd cc
@@ -193,7 +194,7 @@ module _ {C : Type 0} (s : Surroundings C) (ground : Ground s) (m : Machine C) (
       safe_some s (slice_get o.cells index) v.0 _ v.1 (go v.0 v.1)))))
 
   -- of bytes and shorts
-  load_number : (form : Form) (after : Types) → component_loaded form ≡ Exactly types.Word
+  pub load_number : (form : Form) (after : Types) → component_loaded form ≡ Exactly types.Word
       → Applied (below s ground m t) (most s ground m t) (takes (array_of form ∷ word ∷ []) (Exactly types.Word))
       (state s ground m t) after
       → LeadsTo s ground m t after next → IsSafe s (act_load (at m.top.operands) form)
@@ -214,7 +215,7 @@ module _ {C : Type 0} (s : Surroundings C) (ground : Ground s) (m : Machine C) (
       rest leads))))
 
   -- of references
-  abbrev references : Row
+  abbrev pub references : Row
   references = takes (Below (types.ReferenceArray (Api api.Object)) ∷ word ∷ []) (ComponentOf 0)
 
   component_left : (ls : List Ty) (ti tu : Ty) (ts : List Ty) (after_it : Types)
@@ -227,7 +228,8 @@ module _ {C : Type 0} (s : Surroundings C) (ground : Ground s) (m : Machine C) (
   ref_holds : (c : ClassName) (n : ℕ) (o : heaps.Object TaggedValue) → object_at m.heap n ≡ Some o
       → leads_to m.heap (holds_below shapes c) (Ref n) ≡ true → holds_below shapes c o.kind.object ≡ true
   ref_holds c n o found h =
-      sym (ap (λ (x : Option (heaps.Object TaggedValue)). option_map_or (λ o. holds_below shapes c o.kind.object) x false) found)
+      sym (ap (λ (x : Option (heaps.Object TaggedValue)). option_map_or (λ o. holds_below shapes c o.kind.object) x
+      false) found)
       ∙ h
 
   -- a component of an array whose components count below a class is of that class
@@ -258,7 +260,7 @@ module _ {C : Type 0} (s : Surroundings C) (ground : Ground s) (m : Machine C) (
       let has = component_has c o.kind.object o.cells index v (ref_holds c n o found h) (object_typed n o found) e in
       record { type = has; written = leads_written m.heap (is_of_class shapes c) v has }
 
-  load_reference : (vs : List TaggedValue) (us : List Ty) (after_it : Types) → HoldTypes shapes m.heap vs us
+  pub load_reference : (vs : List TaggedValue) (us : List Ty) (after_it : Types) → HoldTypes shapes m.heap vs us
       → Applied (below s ground m t) (most s ground m t) references (record { locals = (state s ground m t).locals; operands = us }) after_it
       → LeadsTo s ground m t after_it next → IsSafe s (act_load (at vs) Forms.Reference)
   load_reference [] [] after_it h a leads = let e = a.enough in absurd cc
@@ -292,18 +294,20 @@ module _ {C : Type 0} (s : Surroundings C) (ground : Ground s) (m : Machine C) (
 
   -- ---- a component is stored
 
-  store_number : (form : Form) (after_it : Types) → component_stored form ≡ Below types.Word
+  pub store_number : (form : Form) (after_it : Types) → component_stored form ≡ Below types.Word
       → Applied (below s ground m t) (most s ground m t) (takes (array_of form ∷ word ∷ word ∷ []) Nothing)
       (state s ground m t) after_it
       → LeadsTo s ground m t after_it next → IsSafe s (act_store_word (at m.top.operands) form)
   store_number form after_it numbers a leads =
-      let l = leaves_nothing (below s ground m t) (most s ground m t) (array_of form ∷ word ∷ word ∷ []) (state s ground m t) after_it a in
+      let l = leaves_nothing (below s ground m t) (most s ground m t) (array_of form ∷ word ∷ word ∷ [])
+      (state s ground m t) after_it a in
       take_three shapes m.heap (λ us. IsSafe s (act_store_word (at us) form)) (array_of form) word word m.top.operands
       (state s ground m t).operands t.top.operands_typed a.enough
       (met_by s ground m t (takes (array_of form ∷ word ∷ word ∷ []) Nothing) after_it a)
       (λ w i u vs value_is index_is array_is rest.
       word_case shapes m.heap (λ x. IsSafe s (act_store_word (at (x ∷ i ∷ u ∷ vs)) form)) w value_is (λ k little.
-      word_case shapes m.heap (λ x. IsSafe s (act_store_word (at (Word k ∷ x ∷ u ∷ vs)) form)) i index_is (λ index small.
+      word_case shapes m.heap (λ x. IsSafe s (act_store_word (at (Word k ∷ x ∷ u ∷ vs)) form)) i index_is
+      (λ index small.
       ref_case m.heap (is_array_of form) (λ x. IsSafe s (act_store_word (at (Word k ∷ Word index ∷ x ∷ vs)) form)) u
       (are_arrays form u array_is)
       (safe_null s ground m t d next (Word k ∷ Word index ∷ Null ∷ vs))
@@ -337,9 +341,10 @@ module _ {C : Type 0} (s : Surroundings C) (ground : Ground s) (m : Machine C) (
       subst (λ (x : ObjectType). CellsTyped shapes m.heap (set cells index v) x) (sym is)
       (each_set (λ v. leads_to m.heap (is_instance shapes k) v ≡ true) cells index v old has)
 
-  store_reference : (after_it : Types)
+  pub store_reference : (after_it : Types)
       → Applied (below s ground m t) (most s ground m t)
-      (takes (Below (types.ReferenceArray (Api api.Object)) ∷ word ∷ Reference ∷ []) Nothing) (state s ground m t) after_it
+      (takes (Below (types.ReferenceArray (Api api.Object)) ∷ word ∷ Reference ∷ []) Nothing) (state s ground m t)
+      after_it
       → LeadsTo s ground m t after_it next → IsSafe s (act_store_reference (at m.top.operands))
   store_reference after_it a leads =
       let ds = array_of Forms.Reference ∷ word ∷ Reference ∷ [] in
@@ -349,7 +354,8 @@ module _ {C : Type 0} (s : Surroundings C) (ground : Ground s) (m : Machine C) (
       (met_by s ground m t (takes ds Nothing) after_it a)
       (λ w i u vs value_is index_is array_is rest.
       word_case shapes m.heap (λ x. IsSafe s (act_store_reference (at (w ∷ x ∷ u ∷ vs)))) i index_is (λ index small.
-      ref_case m.heap (holds_below shapes (Api api.Object)) (λ x. IsSafe s (act_store_reference (at (w ∷ Word index ∷ x ∷ vs)))) u
+      ref_case m.heap (holds_below shapes (Api api.Object))
+      (λ x. IsSafe s (act_store_reference (at (w ∷ Word index ∷ x ∷ vs)))) u
       array_is.type
       (safe_check s (is_reference w) _ (leads_reference w value_is)
       (safe_check s (leads_to m.heap any_object w) _ value_is
@@ -376,7 +382,7 @@ module _ {C : Type 0} (s : Surroundings C) (ground : Ground s) (m : Machine C) (
 
   -- ---- the length
 
-  array_length : (after_it : Types)
+  pub array_length : (after_it : Types)
       → Applied (below s ground m t) (most s ground m t) (takes (Array ∷ []) (Exactly types.Word)) (state s ground m t) after_it
       → LeadsTo s ground m t after_it next → IsSafe s (act_length (at m.top.operands))
   array_length after_it a leads =

@@ -23,14 +23,14 @@ pub bits_bound : (z : ℤ) → IsShort z → word_of z < 65536
 bits_bound (pos n) h = h
 bits_bound (negsuc n) h = omega arith
 
-signed_is_short : (n : ℕ) → IsShort (cast_signed w16 n)
+pub signed_is_short : (n : ℕ) → IsShort (cast_signed w16 n)
 signed_is_short n = by_half (nat_lt n 32768) refl
   where
     by_half : (b : Bool) → nat_lt n 32768 ≡ b → IsShort (cond b (pos n) (negsuc (65536 - suc n)))
     by_half true e = let k = ltb-true n 32768 e in omega (arith, k)
     by_half false e = tt
 
-byte_is_short : (n : ℕ) → IsShort (cast_signed w8 n)
+pub byte_is_short : (n : ℕ) → IsShort (cast_signed w8 n)
 byte_is_short n = by_half (nat_lt n 128) refl
   where
     by_half : (b : Bool) → nat_lt n 128 ≡ b → IsShort (cond b (pos n) (negsuc (256 - suc n)))
@@ -85,7 +85,8 @@ binary_bound Subtract a b n f g e =
     some_bound _ n e (signed_bound ((cast_unsigned w16 (short a) + (65536 - cast_unsigned w16 (short b))) % 65536))
 binary_bound Multiply a b n f g e =
     some_bound _ n e (signed_bound ((cast_unsigned w16 (short a) * cast_unsigned w16 (short b)) % 65536))
-binary_bound Divide a b n f g e = divided_bound (b == 0) _ n e (signed_bound (cast_unsigned w16 (int_div (short a) (short b))))
+binary_bound Divide a b n f g e =
+    divided_bound (b == 0) _ n e (signed_bound (cast_unsigned w16 (int_div (short a) (short b))))
 binary_bound Remainder a b n f g e =
     divided_bound (b == 0) _ n e
     (bits_bound (int_rem (short a) (short b)) (rem_is_short (short a) (short b) (signed_is_short a)))

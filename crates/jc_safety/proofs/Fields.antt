@@ -96,7 +96,8 @@ module _ (world : List Shape) (heap : Heap TaggedValue) where
   loaded_typed Forms.Reference Declared.BooleanArray v f h = record { type = h; written = leads_written heap _ v h }
   loaded_typed Forms.Reference Declared.ByteArray v f h = record { type = h; written = leads_written heap _ v h }
   loaded_typed Forms.Reference Declared.ShortArray v f h = record { type = h; written = leads_written heap _ v h }
-  loaded_typed Forms.Reference (Declared.ReferenceArray c) v f h = record { type = h; written = leads_written heap _ v h }
+  loaded_typed Forms.Reference (Declared.ReferenceArray c) v f h =
+      record { type = h; written = leads_written heap _ v h }
   loaded_typed Forms.Byte Declared.Boolean v f h = byte_typed v (byte_number v h)
   loaded_typed Forms.Byte Declared.Byte v f h = byte_typed v (byte_number v h)
   loaded_typed Forms.Byte Declared.Short v f h = absurd cc
@@ -148,14 +149,16 @@ module _ (world : List Shape) (heap : Heap TaggedValue) where
   stored_typed Forms.Short Declared.ShortArray v f h = absurd cc
   stored_typed Forms.Short (Declared.ReferenceArray c) v f h = absurd cc
 
-leads_is_reference : (heap : Heap TaggedValue) (test : ObjectType → Bool) (v : TaggedValue) → leads_to heap test v ≡ true
+leads_is_reference : (heap : Heap TaggedValue) (test : ObjectType → Bool) (v : TaggedValue)
+    → leads_to heap test v ≡ true
     → is_reference v ≡ true
 leads_is_reference heap test (Word n) e = absurd cc
 leads_is_reference heap test (Ref n) e = refl
 leads_is_reference heap test Null e = refl
 leads_is_reference heap test Unset e = absurd cc
 
-within_length : (xs : List TaggedValue) (n : ℕ) (x : TaggedValue) → slice_get xs n ≡ Some x → nat_lt n (length xs) ≡ true
+within_length : (xs : List TaggedValue) (n : ℕ) (x : TaggedValue) → slice_get xs n ≡ Some x
+    → nat_lt n (length xs) ≡ true
 within_length xs n x e = lt-ltb n (length xs) (below_length xs n x e)
   where
     below_length : (xs : List TaggedValue) (n : ℕ) (x : TaggedValue) → slice_get xs n ≡ Some x → n < length xs
@@ -215,7 +218,8 @@ module _ {C : Type 0} (s : Surroundings C) (ground : Ground s) (m : Machine C) (
         → CellsTyped shapes m.heap cells o
         → (v : TaggedValue) × (slice_get cells cell ≡ Some v) × (is_kept_as shapes m.heap declared v ≡ true)
     cell_has (Instance c) cells e typed =
-        let a = across (λ v field. is_cell shapes m.heap field v ≡ true) cells (fields_of shapes c) cell (Some declared) typed (has c e) in
+        let a = across (λ v field. is_cell shapes m.heap field v ≡ true) cells (fields_of shapes c) cell (Some declared)
+        typed (has c e) in
         (a.value, a.there, a.related)
     cell_has BooleanArray cells e typed = no_array _ e
     cell_has ByteArray cells e typed = no_array _ e
@@ -242,7 +246,8 @@ module _ {C : Type 0} (s : Surroundings C) (ground : Ground s) (m : Machine C) (
 
     gets_safe : (form : Form) (us vs : List TaggedValue) (v : TaggedValue)
         → leads_to m.heap (is_of_class shapes class) v ≡ true
-        → ((x : TaggedValue) → is_kept_as shapes m.heap declared x ≡ true → IsSafe s (gives (at us) (loaded_as form x) vs))
+        → ((x : TaggedValue) → is_kept_as shapes m.heap declared x ≡ true
+        → IsSafe s (gives (at us) (loaded_as form x) vs))
         → IsSafe s (gets (at us) form field v vs)
     gets_safe form us vs v leads go =
         ref_case m.heap (is_of_class shapes class) (λ x. IsSafe s (gets (at us) form field x vs)) v leads
@@ -275,21 +280,22 @@ module _ {C : Type 0} (s : Surroundings C) (ground : Ground s) (m : Machine C) (
 
     -- ---- the instructions
 
-    get_operand : (form : Form) (after_it : Types) → is_form_of form declared ≡ true
+    pub get_operand : (form : Form) (after_it : Types) → is_form_of form declared ≡ true
         → Applied below most (takes (Below (types.Class class) ∷ []) (Exactly (type_of_declared declared))) state after_it
         → LeadsTo after_it next
         → IsSafe s (on_reference m.top.operands (gets (at m.top.operands) form field))
     get_operand form after_it of_form a leads =
         take_one shapes m.heap (λ us. IsSafe s (on_reference us (gets (at m.top.operands) form field)))
         (Below (types.Class class)) m.top.operands state.operands t.top.operands_typed a.enough
-        (rows.met_by s ground m t (takes (Below (types.Class class) ∷ []) (Exactly (type_of_declared declared))) after_it a)
+        (rows.met_by s ground m t (takes (Below (types.Class class) ∷ []) (Exactly (type_of_declared declared)))
+        after_it a)
         (λ v vs is rest.
         safe_check s (is_reference v) _ (leads_is_reference m.heap (is_of_class shapes class) v is.type)
         (gets_safe form m.top.operands vs v is.type (λ x kept.
         rows.gives_it s ground m t d next (Below (types.Class class) ∷ []) m.top.operands vs (loaded_as form x)
         (type_of_declared declared) after_it a (loaded_typed shapes m.heap form declared x of_form kept) rest leads)))
 
-    put_operand : (form : Form) (after_it : Types) → is_form_of form declared ≡ true
+    pub put_operand : (form : Form) (after_it : Types) → is_form_of form declared ≡ true
         → Applied below most (takes (Below (types.Class class) ∷ Below (type_of_declared declared) ∷ []) Nothing) state after_it
         → LeadsTo after_it next
         → IsSafe s (on_top m.top.operands (λ x us. check (is_of_type shapes m.heap declared x)
@@ -316,17 +322,21 @@ module _ {C : Type 0} (s : Surroundings C) (ground : Ground s) (m : Machine C) (
         let l = local_there shapes m.heap m.top.locals state.locals 0 (placed s ground m t).locals_typed a.there in
         let is_type = local_type state.locals 0 l.type l.type_there in
         let met : is_below below l.type (types.Class class) ≡ true =
-        ap (λ (u : Ty). is_below below u (types.Class class)) (sym is_type) ∙ a.local_met in
-        (l.value, l.there, type_up shapes ground.order m.heap l.value l.type (types.Class class)
-        ((rows.orders s ground m t).up l.type (types.Class class) met) l.has)
+        ap (λ (u : Ty). is_below below u (types.Class class)) (sym is_type) ∙ a.local_met in (
+          l.value,
+          l.there,
+          type_up shapes ground.order m.heap l.value l.type (types.Class class)
+              ((rows.orders s ground m t).up l.type (types.Class class) met) l.has,
+        )
 
-    get_this : (form : Form) (after_it : Types) → is_form_of form declared ≡ true
+    pub get_this : (form : Form) (after_it : Types) → is_form_of form declared ≡ true
         → Applied below most (reads 0 (Below (types.Class class)) [] (Exactly (type_of_declared declared))) state after_it
         → LeadsTo after_it next
         → IsSafe s (on_reference_local (slice_get m.top.locals 0) (λ v. gets (at m.top.operands) form field v m.top.operands))
     get_this form after_it of_form a leads =
         let l = this_there (Exactly (type_of_declared declared)) [] after_it a in
-        let r = reads_one shapes (rows.before s ground m t) most 0 (Below (types.Class class)) [] state after_it (type_of_declared declared) a in
+        let r = reads_one shapes (rows.before s ground m t) most 0 (Below (types.Class class)) [] state after_it
+        (type_of_declared declared) a in
         let P : Option TaggedValue → Type 0 =
         λ o. IsSafe s (on_reference_local o (λ v. gets (at m.top.operands) form field v m.top.operands)) in
         subst P (sym l.1)
@@ -340,7 +350,7 @@ module _ {C : Type 0} (s : Surroundings C) (ground : Ground s) (m : Machine C) (
         (loaded_typed shapes m.heap form declared x of_form kept, t.top.operands_typed))
         leads)))
 
-    put_this : (form : Form) (after_it : Types) → is_form_of form declared ≡ true
+    pub put_this : (form : Form) (after_it : Types) → is_form_of form declared ≡ true
         → Applied below most (reads 0 (Below (types.Class class)) (Below (type_of_declared declared) ∷ []) Nothing) state after_it
         → LeadsTo after_it next
         → IsSafe s (on_top m.top.operands (λ x us. check (is_of_type shapes m.heap declared x)
@@ -348,7 +358,8 @@ module _ {C : Type 0} (s : Surroundings C) (ground : Ground s) (m : Machine C) (
     put_this form after_it of_form a leads =
         let ds = Below (type_of_declared declared) ∷ [] in
         let l = this_there Nothing ds after_it a in
-        let r = reads_nothing shapes (rows.before s ground m t) most 0 (Below (types.Class class)) ds state after_it a in
+        let r = reads_nothing shapes (rows.before s ground m t) most 0 (Below (types.Class class)) ds state after_it a
+        in
         take_one shapes m.heap (λ us. IsSafe s (on_top us (λ x us. check (is_of_type shapes m.heap declared x)
         (on_reference_local (slice_get m.top.locals 0) (λ v. puts (at m.top.operands) form field v x us)))))
         (Below (type_of_declared declared)) m.top.operands state.operands t.top.operands_typed a.enough

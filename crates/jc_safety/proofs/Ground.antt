@@ -1,6 +1,6 @@
 -- What is known of an accepted world in which a machine runs, of each package there, and of the method of a frame.
 use Rattle.std.proofs.Common.{◌≡◌, ℕ, zero, suc, ◌+◌, ◌-◌, ◌<◌, ◌==◌, Bool, true, false, cond, List, [], ◌∷◌, length, take, ◌++◌, map}
-use Rattle.std.proofs.Common.{Option, Some, None, slice_get, unwrap_or, refl, sym, ap, ◌∙◌, subst, arith}
+use Rattle.std.proofs.Common.{Option, Some, None, slice_get, unwrap_or, ℤ, refl, sym, ap, ◌∙◌, subst, arith}
 use Rattle.std.proofs.lemmas.Bool.{le-ltb}
 use Rattle.std.proofs.Common.{eqb-true}
 use Rattle.std.specs.List.{find}
@@ -20,13 +20,16 @@ use Rattle.jc_classes.specs.Methods.{method_name}
 use Rattle.jc_classes.specs.Subtype.{IsOrder, IsSubtype, is_class_at, is_class_below, is_subtype}
 use Rattle.jc_code.specs.Instructions.{instr_at}
 use Rattle.jc_code.specs.Listing.{IsListing, PlacedInstr, placed_at}
+use Rattle.jc_code.specs.declared.instr.Operation.TheVariants.{Word as OnWords}
+use Rattle.jc_code.specs.declared.instr.WordOperation.TheVariants.{Push}
 use Rattle.jc_link.specs.ApiClasses.{StandsThere}
 use Rattle.jc_link.specs.Growth.{KeepsAllLinking}
-use Rattle.jc_link.specs.KnownTypes.{NameClasses}
+use Rattle.jc_link.specs.KnownTypes.{NameClasses, is_known_target}
 use Rattle.jc_link.specs.Linked.{IsKnown, Linked, LinkedBody, World}
 use Rattle.jc_link.specs.MemberType.{declared_type_of}
 use Rattle.jc_link.specs.Sound.{IsSound}
 use Rattle.jc_link.specs.Target.{pool_target_of}
+use Rattle.jc_link.specs.declared.target.PoolTarget.{PoolTarget}
 use Rattle.jc_link.specs.declared.target.PoolTarget.TheVariants.{InstanceField}
 use Rattle.jc_names.specs.Names.{home_at}
 use Rattle.jc_names.specs.declared.name.ClassName.{ClassName}
@@ -41,6 +44,7 @@ use Rattle.jc_machine.specs.Lookup.{body_at, code_at, declared_at, fields_of, in
 use Rattle.jc_machine.specs.Machine.{MethodPlace, Surroundings}
 use Rattle.jc_machine.specs.Natives.{IsLawful, KeepsObjects}
 use Rattle.jc_machine.specs.Runtime.{HasRuntimeObjects}
+use Rattle.jc_words.specs.Shorts.{word_of}
 use Rattle.jc_words.specs.Values.{TaggedValue}
 use Rattle.jc_safety.specs.Tokens.{HaveTokens}
 
@@ -56,6 +60,9 @@ pub record Stands (w : World) (number : ℕ) (body : LinkedBody) : Type 0 where
   pub within : StandWithin (linked_as w number body).world
   pub place : length (linked_as w number body).world - 1 ≡ home_at number
   pub known : IsKnown w.shapes (home_at number) body
+  -- what its entries lead to was known where it was linked
+  pub named : (index : ℕ) (target : PoolTarget) → slice_get body.targets index ≡ Some target
+      → is_known_target (linked_as w number body).world target ≡ true
 
 -- what a machine stands on
 pub record Ground {C : Type 0} (s : Surroundings C) : Type 0 where
@@ -83,6 +90,10 @@ pub record Ground {C : Type 0} (s : Surroundings C) : Type 0 where
       → IsListing instr_at code listing → placed_at listing pc ≡ Some x → instruction_at code pc ≡ Some x.instr
   pub begins : (code : List ℕ) (listing : List PlacedInstr) (pc : ℕ) (x : PlacedInstr)
       → IsListing instr_at code listing → placed_at listing pc ≡ Some x → x.pc ≡ pc
+  -- constants in code are words
+  pub constants : (code : List ℕ) (listing : List PlacedInstr) (pc : ℕ) (x : PlacedInstr) (value : ℤ)
+      → IsListing instr_at code listing → placed_at listing pc ≡ Some x
+      → x.instr.operation ≡ OnWords (Push value) → word_of value < 65536
   pub objects_stay : (before after : Heap TaggedValue) → KeepsObjects before after → HasRuntimeObjects before
       → HasRuntimeObjects after
   pub typed_methods : (place : MethodPlace) (body : LinkedBody) (code : MethodBody)
@@ -184,7 +195,7 @@ module _ (w : World) (offset : ℕ) (body : LinkedBody) (code : MethodBody) wher
       let name : method_name (home_at (suc n)) code.offset ≡ Loaded (suc n) offset =
       named n code.offset ∙ ap (Loaded (suc n)) same in
       let here : method_name (length (linked_as w (suc n) body).world - 1) code.offset
-          ≡ method_name (home_at (suc n)) code.offset = ap (λ h. method_name h code.offset) stands.place in
+      ≡ method_name (home_at (suc n)) code.offset = ap (λ h. method_name h code.offset) stands.place in
       as_declared w (suc n) offset body code stands d known.concrete.header
       (sym (ap (method_at w.shapes) name) ∙ known.there)
       known.concrete.there known.concrete.concrete

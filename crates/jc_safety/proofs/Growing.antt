@@ -38,7 +38,8 @@ pub keeps_through : (one two three : Heap TaggedValue) → KeepsObjects one two 
 keeps_through one two three a b n o e =
     let p = a n o e in
     let q = b n p.object p.found in
-    record { object = q.object; found = q.found; kind = q.kind ∙ p.kind; owner = q.owner ∙ p.owner; size = q.size ∙ p.size }
+    record { object = q.object; found = q.found; kind = q.kind ∙ p.kind; owner = q.owner ∙ p.owner; size = q.size ∙
+    p.size }
 
 pub keeps_new : (heap : Heap TaggedValue) (o : heaps.Object TaggedValue) → KeepsObjects heap (with_new heap o)
 keeps_new heap o zero p e = absurd cc

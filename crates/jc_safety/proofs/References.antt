@@ -94,7 +94,8 @@ module _ {C : Type 0} (s : Surroundings C) (ground : Ground s) (m : Machine C) (
       let r = reads_local shapes (rows.before s ground m t) most local Reference [] state after a in
       let is_type = local_type state.locals local l.type l.type_there in
       let met : meets below Reference l.type ≡ true = ap (meets below Reference) (sym is_type) ∙ a.local_met in
-      let leads_any = meets_reference shapes (rows.before s ground m t) (rows.orders s ground m t) m.heap l.value l.type met l.has in
+      let leads_any = meets_reference shapes (rows.before s ground m t) (rows.orders s ground m t) m.heap l.value l.type
+      met l.has in
       let operand : IsOperand shapes m.heap l.value (unwrap_or (slice_get state.locals local) types.Top) =
       subst (λ (u : Ty). IsOperand shapes m.heap l.value u) (sym is_type)
       (record { type = l.has; written = leads_written m.heap any_object l.value leads_any }) in
@@ -169,7 +170,8 @@ module _ {C : Type 0} (s : Surroundings C) (ground : Ground s) (m : Machine C) (
 
   -- ---- exceptions
 
-  pub throw : (after : Types) → Applied below most (takes (Below (types.Class (Api api.Throwable)) ∷ []) Nothing) state after
+  pub throw : (after : Types)
+      → Applied below most (takes (Below (types.Class (Api api.Throwable)) ∷ []) Nothing) state after
       → IsSafe s (act_throw (at m.top.operands))
   throw after a =
       take_one shapes m.heap (λ us. IsSafe s (act_throw (at us))) (Below (types.Class (Api api.Throwable)))
@@ -184,4 +186,5 @@ module _ {C : Type 0} (s : Surroundings C) (ground : Ground s) (m : Machine C) (
       safe_some s (object_at m.heap n) o _ found
       (safe_check s (is_throwable shapes o.kind.object) (accessed (at us) Throw n o thrown) may
       (rows.safe_accessed s ground m t d next us Throw n o thrown
-      (record { fine = throws_at s ground m t (Ref n ∷ vs) n (record { object = o; found = found; throwable = may }) })))))
+      (record { fine = throws_at s ground m t (Ref n ∷ vs) n (record { object = o; found = found; throwable = may })
+      })))))

@@ -134,7 +134,8 @@ module _ {C : Type 0} (s : Surroundings C) (ground : Ground s) where
                   types_up shapes ground.order m.heap f.locals w.after.locals w.leads.state.locals b.0 has;
             };
             operands_typed =
-                operands_up shapes ground.order m.heap (with_it value) w.after.operands w.leads.state.operands b.1 holds;
+                operands_up shapes ground.order m.heap (with_it value) w.after.operands w.leads.state.operands b.1
+                holds;
           };
           waiting = rest;
         }
@@ -164,13 +165,15 @@ module _ {C : Type 0} (s : Surroundings C) (ground : Ground s) where
 
     room_is : room_of s f ≡ Some its_method.header.max_stack
     room_is =
-        ap (λ (x : Option DeclaredMethod). option_map (λ (h : MethodHeader). h.max_stack) (option_and_then (λ (d : DeclaredMethod). d.method.header) x))
+        ap (λ (x : Option DeclaredMethod). option_map (λ (h : MethodHeader). h.max_stack)
+        (option_and_then (λ (d : DeclaredMethod). d.method.header) x))
         its_method.found
         ∙ ap (option_map (λ (h : MethodHeader). h.max_stack)) its_method.header_is
 
     behind_is : pc_behind_call s f ≡ Some w.call.next_pc
     behind_is =
-        ap (λ (x : Option MethodBody). option_map (λ (i : Instr). i.next_pc) (option_and_then (λ (b : MethodBody). instruction_at b.code f.pc) x))
+        ap (λ (x : Option MethodBody). option_map (λ (i : Instr). i.next_pc)
+        (option_and_then (λ (b : MethodBody). instruction_at b.code f.pc) x))
         w.placed.there
         ∙ ap (option_map (λ (i : Instr). i.next_pc)) w.stands
 

@@ -66,7 +66,8 @@ resolved w number body loaded same index target e =
     let two = mapped_at (pool_target_of w.shapes (home_at number)) body.kept.pool index in
     let three = ap (λ (xs : List (Option PoolTarget)). slice_get xs index) same in
     ap (λ (o : Option LinkedBody).
-    option_and_then (pool_target_of w.shapes (home_at number)) (option_and_then (λ (b : LinkedBody). slice_get b.kept.pool index) o))
+    option_and_then (pool_target_of w.shapes (home_at number))
+    (option_and_then (λ (b : LinkedBody). slice_get b.kept.pool index) o))
     loaded
     ∙ joined_found (pool_target_of w.shapes (home_at number)) (slice_get body.kept.pool index) target
     (sym two ∙ sym three ∙ one)
@@ -122,7 +123,8 @@ module _ {C : Type 0} (s : Surroundings C) (ground : Ground s) (m : Machine C) (
     abbrev pub here : List TaggedValue → Here C
     here vs = spot s ground m t d most next vs
 
-    pub safe_target : {A : Type 0} (us : List TaggedValue) (index : ℕ) (wanted : PoolTarget → Option A) (target : PoolTarget)
+    pub safe_target : {A : Type 0} (us : List TaggedValue) (index : ℕ) (wanted : PoolTarget
+        → Option A) (target : PoolTarget)
         → (a : A) (go : A → Stepped C)
         → slice_get (placed s ground m t).body.targets index ≡ Some target → wanted target ≡ Some a → IsSafe s (go a)
         → IsSafe s (on_target (here us) index wanted go)

@@ -46,7 +46,8 @@ find_still : (offset at : ℕ) (v : TaggedValue) (fields : List StaticValue)
     → is_some (find (λ (s : StaticValue). s.offset == at) fields) ≡ true
     → is_some (find (λ (s : StaticValue). s.offset == at) (map (with_value offset v) fields)) ≡ true
 find_still offset at v [] e = absurd cc
-find_still offset at v (x ∷ fields) e = by_test (x.offset == at) (by_change (x.offset == offset) refl) (find_still offset at v fields) e
+find_still offset at v (x ∷ fields) e =
+    by_test (x.offset == at) (by_change (x.offset == offset) refl) (find_still offset at v fields) e
   where
     by_change : (b : Bool) → (x.offset == offset) ≡ b
         → (if b then record { offset = offset; value = v } else x).offset ≡ x.offset
@@ -128,14 +129,17 @@ module _ (w : World) (heap : Heap TaggedValue) (statics : List (List StaticValue
     package_still : (n k : ℕ) (others : List StaticValue) → of_package statics k ≡ Some others
         → of_package statics n ≡ Some fields
         → (of_package (with_package statics n (map (with_value place.offset v) fields)) k ≡ Some others)
-        ⊎ ((fields ≡ others) × (of_package (with_package statics n (map (with_value place.offset v) fields)) k ≡ Some (map (with_value place.offset v) fields)))
+        ⊎ ((fields ≡ others) × (of_package (with_package statics n (map (with_value place.offset v) fields)) k ≡ Some
+        (map (with_value place.offset v) fields)))
     package_still zero k others e f = inl e
     package_still (suc n) zero others e f = absurd cc
     package_still (suc n) (suc k) others e f = by_place statics n k e f
       where
-        by_place : (xs : List (List StaticValue)) (n k : ℕ) → slice_get xs k ≡ Some others → slice_get xs n ≡ Some fields
+        by_place : (xs : List (List StaticValue)) (n k : ℕ) → slice_get xs k ≡ Some others
+            → slice_get xs n ≡ Some fields
             → (slice_get (set xs n (map (with_value place.offset v) fields)) k ≡ Some others)
-            ⊎ ((fields ≡ others) × (slice_get (set xs n (map (with_value place.offset v) fields)) k ≡ Some (map (with_value place.offset v) fields)))
+            ⊎ ((fields ≡ others) × (slice_get (set xs n (map (with_value place.offset v) fields)) k ≡ Some
+            (map (with_value place.offset v) fields)))
         by_place [] n k e f = absurd cc
         by_place (x ∷ xs) zero zero e f = inr (cc, refl)
         by_place (x ∷ xs) zero (suc k) e f = inl e
@@ -150,11 +154,13 @@ module _ (w : World) (heap : Heap TaggedValue) (statics : List (List StaticValue
         let found_it : is_some (find (λ (s : StaticValue). s.offset == p.offset) h.fields) ≡ true =
         ap (λ (o : Option StaticValue). is_some o) h.found in
         let by_number : (o : Option (List StaticValue)) → of_package changed h.number ≡ o
-            → is_some (option_and_then (find (λ (s : StaticValue). s.offset == p.offset)) o) ≡ true
-            → is_some (static_at changed p.home p.offset) ≡ true =
+        → is_some (option_and_then (find (λ (s : StaticValue). s.offset == p.offset)) o) ≡ true
+        → is_some (static_at changed p.home p.offset) ≡ true =
         λ o e k.
-        ap (λ (n : Option ℕ). is_some (option_and_then (find (λ (s : StaticValue). s.offset == p.offset)) (option_and_then (of_package changed) n))) h.is_number
-        ∙ ap (λ (o : Option (List StaticValue)). is_some (option_and_then (find (λ (s : StaticValue). s.offset == p.offset)) o)) e
+        ap (λ (n : Option ℕ). is_some (option_and_then (find (λ (s : StaticValue). s.offset == p.offset))
+        (option_and_then (of_package changed) n))) h.is_number
+        ∙ ap (λ (o : Option (List StaticValue)). is_some
+        (option_and_then (find (λ (s : StaticValue). s.offset == p.offset)) o)) e
         ∙ k in
         elim (package_still number h.number h.fields h.of_number there) [
           | inl same ↦ by_number (Some h.fields) same found_it
@@ -177,7 +183,9 @@ module _ (w : World) (heap : Heap TaggedValue) (statics : List (List StaticValue
       let x = value_there w heap statics typed place declared said in
       let h = held statics place x.0 x.1 in
       let P : Option ℕ → Type 0 =
-      λ n. StaticsTyped w heap (option_map_or (λ (number : ℕ). with_value_in statics number place.offset v) n statics) in
+      λ n. StaticsTyped w heap (option_map_or (λ (number : ℕ). with_value_in statics number place.offset v) n statics)
+      in
       let Q : Option (List StaticValue) → Type 0 =
-      λ o. StaticsTyped w heap (option_map_or (λ (fields : List StaticValue). with_package statics h.number (map (with_value place.offset v) fields)) o statics) in
+      λ o. StaticsTyped w heap (option_map_or (λ (fields : List StaticValue). with_package statics h.number
+      (map (with_value place.offset v) fields)) o statics) in
       subst P (sym h.is_number) (subst Q (sym h.of_number) (changed_all h.number h.is_number h.fields h.of_number))

@@ -61,7 +61,8 @@ module _ (world : List Shape) (place : StaticPlace) (declared : DeclaredType Cla
   by_name None e = absurd cc
   by_name (Some (Names.Class c)) e = absurd cc
   by_name (Some (Names.InstanceField c token)) e =
-      absurd (not_instance (instance_type_of world c token) (To.InstanceField c (cell_of world c token)) target (λ a e. absurd cc) e)
+      absurd (not_instance (instance_type_of world c token) (To.InstanceField c (cell_of world c token)) target
+      (λ a e. absurd cc) e)
   by_name (Some (Names.StaticField p)) e = typed_so p (static_type_of world p) refl e
   by_name (Some (Names.VirtualMethod c token m)) e =
       absurd (not_instance (method_type_of world m) (To.VirtualMethod c token) target (λ a e. absurd cc) e)
@@ -138,7 +139,8 @@ found_at offset (y ∷ fields) x e = by_test (y.offset == offset) refl (found_at
   where
     by_test : (b : Bool) → (y.offset == offset) ≡ b
         → (find (λ (s : StaticValue). s.offset == offset) fields ≡ Some x → FoundAt offset fields x)
-        → cond b (Some y) (find (λ (s : StaticValue). s.offset == offset) fields) ≡ Some x → FoundAt offset (y ∷ fields) x
+        → cond b (Some y) (find (λ (s : StaticValue). s.offset == offset) fields) ≡ Some x
+        → FoundAt offset (y ∷ fields) x
     by_test true t later e =
         let same : y ≡ x = cc in
         record {
@@ -181,5 +183,6 @@ module _ (w : World) (heap : Heap TaggedValue) (statics : List (List StaticValue
       let h = held statics place x e in
       let f = found_at place.offset h.fields x h.found in
       typed_as h.number h.is_number x
-      (each_at (StaticTyped w.shapes heap (home_at h.number)) h.fields f.place x (typed.typed h.number h.fields h.of_number) f.there)
+      (each_at (StaticTyped w.shapes heap (home_at h.number)) h.fields f.place x
+      (typed.typed h.number h.fields h.of_number) f.there)
       f.offset_is

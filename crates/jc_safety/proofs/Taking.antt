@@ -64,7 +64,8 @@ module _ (below : ClassName → ClassName → Bool) (most : ℕ) where
   unfolding applied
   row_applied row s t h =
       let r =
-      four (not (has_local row.local s.locals)) (nat_lt (length s.operands) (length row.operands)) (not (is_met below row s))
+      four (not (has_local row.local s.locals)) (nat_lt (length s.operands) (length row.operands))
+      (not (is_met below row s))
       (nat_lt most (length s.operands - length row.operands + count_of row.pushed)) (after row s) t h in
       let m =
       three row.fits (local_meets below row.local (local_of row.local s.locals))

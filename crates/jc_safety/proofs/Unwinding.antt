@@ -77,7 +77,8 @@ among {A} {B} P f passes wanted (y ∷ xs) x h e = by_pass (passes y) refl (amon
     by_want false w p later e = later e
 
     by_pass : (b : Bool) → passes y ≡ b
-        → (find wanted (filter passes xs) ≡ Some x → Among P f passes wanted x) → find wanted (cond b (y ∷ filter passes xs) (filter passes xs)) ≡ Some x
+        → (find wanted (filter passes xs) ≡ Some x → Among P f passes wanted x)
+        → find wanted (cond b (y ∷ filter passes xs) (filter passes xs)) ≡ Some x
         → Among P f passes wanted x
     by_pass true p later e = by_want (wanted y) refl p later e
     by_pass false p later e = later e
@@ -172,7 +173,8 @@ module _ {C : Type 0} (s : Surroundings C) (ground : Ground s) where
   class_caught number h class thrown (all_thrown all is) may e =
       subst (λ (c : ClassName). is_class_below s.world.shapes thrown c ≡ true) (sym is) may
   class_caught number h class thrown (one_class some found) may e =
-      sym (ap (λ (b : Bool). b || option_map_or (is_class_below s.world.shapes thrown) (catch_class s.world number h) false) some
+      sym (ap (λ (b : Bool). b || option_map_or (is_class_below s.world.shapes thrown) (catch_class s.world number h)
+      false) some
       ∙ ap (λ (o : Option ClassName). option_map_or (is_class_below s.world.shapes thrown) o false) found)
       ∙ e
 
@@ -253,7 +255,8 @@ module _ {C : Type 0} (s : Surroundings C) (ground : Ground s) where
           let of_class = class_caught f.method.number h l.class thrown c may caught in
           let has : has_type shapes m.heap (Ref number) (types.Class l.class) ≡ true =
           ap (λ (x : Option (heaps.Object TaggedValue)).
-          option_map_or (λ (o : heaps.Object TaggedValue). is_class_below shapes (class_of o.kind.object) l.class) x false) found
+          option_map_or (λ (o : heaps.Object TaggedValue). is_class_below shapes (class_of o.kind.object) l.class) x
+          false) found
           ∙ of_class in record {
             beside = record {
               heap = beside.heap;
@@ -292,13 +295,16 @@ module _ {C : Type 0} (s : Surroundings C) (ground : Ground s) where
           (ground.packages f.method.number p.body p.loaded) p.there in
           let same = below_lengths (is_class_below (linked_as s.world f.method.number p.body).world)
           (types.Class l.class ∷ []) l.leads.state.operands
-          (both (all_below (is_class_below (linked_as s.world f.method.number p.body).world) p.state.locals l.leads.state.locals)
-          (all_below (is_class_below (linked_as s.world f.method.number p.body).world) (types.Class l.class ∷ []) l.leads.state.operands)
+          (both (all_below (is_class_below (linked_as s.world f.method.number p.body).world) p.state.locals
+          l.leads.state.locals)
+          (all_below (is_class_below (linked_as s.world f.method.number p.body).world) (types.Class l.class ∷ [])
+          l.leads.state.operands)
           l.leads.below).1 in
           let few = shape.operands in
           let most = method.max_stack in
           let room : room_of s f ≡ Some method.header.max_stack =
-          ap (λ (x : Option DeclaredMethod). option_map (λ (h : MethodHeader). h.max_stack) (option_and_then (λ (d : DeclaredMethod). d.method.header) x))
+          ap (λ (x : Option DeclaredMethod). option_map (λ (h : MethodHeader). h.max_stack)
+          (option_and_then (λ (d : DeclaredMethod). d.method.header) x))
           method.found
           ∙ ap (option_map (λ (h : MethodHeader). h.max_stack)) method.header_is in
           ap (λ (x : Option ℕ). option_map_or (nat_lt 0) x false) room
@@ -310,7 +316,8 @@ module _ {C : Type 0} (s : Surroundings C) (ground : Ground s) where
       one_frame outward rest =
           let P : Option MethodBody → Type 0 = λ x. StaysTyped s (through s m number thrown f waiting outward x) in
           let Q : Bool → Type 0 =
-          λ b. StaysTyped s (cond b (caught_in m number f waiting p.code (room_of s f) outward (handler_for s.world f thrown p.code)) Stuck) in
+          λ b. StaysTyped s (cond b (caught_in m number f waiting p.code (room_of s f) outward
+          (handler_for s.world f thrown p.code)) Stuck) in
           subst P (sym p.there)
           (subst Q (sym all_found) (by_handler (handler_for s.world f thrown p.code) refl))
         where
@@ -318,7 +325,8 @@ module _ {C : Type 0} (s : Surroundings C) (ground : Ground s) where
               → StaysTyped s (caught_in m number f waiting p.code (room_of s f) outward x)
           by_handler None e = rest
           by_handler (Some h) e =
-              let a = among Lead seen_as (is_covered p.code f.pc) (is_caught s.world f.method.number thrown) p.code.handlers h
+              let a = among Lead seen_as (is_covered p.code f.pc) (is_caught s.world f.method.number thrown)
+              p.code.handlers h
               its_handlers e in
               let R : Bool → Type 0 =
               λ b. StaysTyped s (cond b (Next (resumed_at f waiting (h.handler - p.code.code_offset))) Stuck) in

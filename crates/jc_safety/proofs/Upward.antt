@@ -53,7 +53,8 @@ null_leads heap P Unset e = absurd cc
 
 -- the components of an array of references, as they count, are below a class
 abbrev pub holds_below : List Shape → ClassName → ObjectType → Bool
-holds_below world c object = option_map_or (λ e. is_class_below world (counted world e) c) (component_class object) false
+holds_below world c object =
+    option_map_or (λ e. is_class_below world (counted world e) c) (component_class object) false
 
 module _ (world : List Shape) (order : IsOrder (is_class_below world)) where
   class_up : (c d : ClassName) → is_class_below world c d ≡ true → (o : ObjectType) → is_of_class world c o ≡ true

@@ -240,19 +240,20 @@ module _ {C : Type 0} (s : Surroundings C) (ground : Ground s) (m : Machine C) (
       → AllByRecursion (BranchesTo after) (word_offsets operation)
       → (word_falls operation ≡ true → LeadsTo after next) → IsSafe s (act_word (here m.top.operands) operation)
 
-  nop : Owes ops.Nop
+  pub nop : Owes ops.Nop
   unfolding word_effect act_word
   nop after e branches falls =
-      rows.leaves_them s ground m t d next [] m.top.operands m.top.operands after (row_applied below most (takes [] Nothing) state after e)
+      rows.leaves_them s ground m t d next [] m.top.operands m.top.operands after
+      (row_applied below most (takes [] Nothing) state after e)
       t.top.operands_typed (falls refl)
 
-  push : (value : ℤ) → word_of value < 65536 → Owes (ops.Push value)
+  pub push : (value : ℤ) → word_of value < 65536 → Owes (ops.Push value)
   unfolding word_effect act_word
   push value small after e branches falls =
       gives_word [] m.top.operands m.top.operands (word_of value) after small
       (row_applied below most (takes [] (Exactly types.Word)) state after e) t.top.operands_typed (falls refl)
 
-  unary : (operator : _) → Owes (ops.Unary operator)
+  pub unary : (operator : _) → Owes (ops.Unary operator)
   unfolding word_effect act_word
   unary operator after e branches falls =
       let a = row_applied below most (takes (word ∷ []) (Exactly types.Word)) state after e in
@@ -273,7 +274,7 @@ module _ {C : Type 0} (s : Surroundings C) (ground : Ground s) (m : Machine C) (
   by_result us vs (Some n) after small a rest leads =
       gives_word (word ∷ word ∷ []) us vs n after (small n refl) a rest leads
 
-  binary : (operator : BinaryOperator) → Owes (ops.Binary operator)
+  pub binary : (operator : BinaryOperator) → Owes (ops.Binary operator)
   unfolding word_effect act_word
   binary operator after e branches falls =
       let a = row_applied below most (takes (word ∷ word ∷ []) (Exactly types.Word)) state after e in
@@ -284,7 +285,7 @@ module _ {C : Type 0} (s : Surroundings C) (ground : Ground s) (m : Machine C) (
 
   -- ---- locals
 
-  load : (local : ℕ) → Owes (ops.Load local)
+  pub load : (local : ℕ) → Owes (ops.Load local)
   unfolding word_effect act_word
   load local after e branches falls =
       let row = reads local word [] (Exactly types.Word) in
@@ -302,15 +303,17 @@ module _ {C : Type 0} (s : Surroundings C) (ground : Ground s) (m : Machine C) (
       (safe_gives s ground m t d most next m.top.operands after (Word is_word.number) m.top.operands
       (room_left shapes m.heap most 0 state.operands m.top.operands a.enough a.room t.top.operands_typed)
       (rows.locals_still s ground m t after.locals r.locals_are)
-      (rows.held s ground m t (types.Word ∷ state.operands) after.operands (Word is_word.number ∷ m.top.operands) r.operands_are
+      (rows.held s ground m t (types.Word ∷ state.operands) after.operands (Word is_word.number ∷ m.top.operands)
+      r.operands_are
       (word_given is_word.number is_word.small, t.top.operands_typed))
       (falls refl)))
 
-  store : (local : ℕ) → Owes (ops.Store local)
+  pub store : (local : ℕ) → Owes (ops.Store local)
   unfolding word_effect act_word
   store local after e branches falls =
       let a = row_applied below most (writes local word) state after e in
-      let x = stored shapes (rows.before s ground m t) (rows.orders s ground m t) m.heap most local word m.top.locals state.locals after m.top.operands
+      let x = stored shapes (rows.before s ground m t) (rows.orders s ground m t) m.heap most local word m.top.locals
+      state.locals after m.top.operands
       state.operands t.top.operands_typed (placed s ground m t).locals_typed a in
       let P : List TaggedValue → Type 0 = λ us. IsSafe s (act_word (here us) (ops.Store local)) in
       subst P (sym x.is)
@@ -323,7 +326,7 @@ module _ {C : Type 0} (s : Surroundings C) (ground : Ground s) (m : Machine C) (
       (falls refl)))
       x.has)
 
-  increment : (local : ℕ) (by : ℤ) → Owes (ops.Increment local by)
+  pub increment : (local : ℕ) (by : ℤ) → Owes (ops.Increment local by)
   unfolding word_effect act_word
   increment local by after e branches falls =
       let row = reads local word [] Nothing in
@@ -347,14 +350,14 @@ module _ {C : Type 0} (s : Surroundings C) (ground : Ground s) (m : Machine C) (
 
   -- ---- operands that are moved
 
-  shuffle_pop : (count : ℕ) → Owes (ops.Shuffle (Pop count))
+  pub shuffle_pop : (count : ℕ) → Owes (ops.Shuffle (Pop count))
   unfolding word_effect act_word drop_types
   shuffle_pop count after e branches falls =
       let u = under (nat_lt (length state.operands) count) (with_operands state (drop count state.operands)) after e in
       moved_on count (drop count m.top.operands) (drop count state.operands) after u.0 u.1
       (drop_points (IsOperand shapes m.heap) count m.top.operands state.operands t.top.operands_typed) (falls refl)
 
-  shuffle_swap : (upper lower : ℕ) → Owes (ops.Shuffle (Swap upper lower))
+  pub shuffle_swap : (upper lower : ℕ) → Owes (ops.Shuffle (Swap upper lower))
   unfolding word_effect act_word swap_types
   shuffle_swap upper lower after e branches falls =
       let u = under (nat_lt (length state.operands) (upper + lower))
@@ -362,10 +365,11 @@ module _ {C : Type 0} (s : Surroundings C) (ground : Ground s) (m : Machine C) (
       moved_on (upper + lower) (swapped upper lower m.top.operands) (swapped upper lower state.operands) after u.0 u.1
       (swapped_points upper lower) (falls refl)
 
-  shuffle_duplicate : (count depth : ℕ) → Owes (ops.Shuffle (Duplicate count depth))
+  pub shuffle_duplicate : (count depth : ℕ) → Owes (ops.Shuffle (Duplicate count depth))
   unfolding word_effect act_word duplicate_types
   shuffle_duplicate count depth after e branches falls =
-      let u = under_over (nat_lt (length state.operands) (max count depth)) (nat_lt most (length state.operands + count))
+      let u = under_over (nat_lt (length state.operands) (max count depth))
+      (nat_lt most (length state.operands + count))
       (with_operands state (duplicated count depth state.operands)) after e in
       let same = same_length (IsOperand shapes m.heap) m.top.operands state.operands t.top.operands_typed in
       let few = ltb-false most (length state.operands + count) u.1 in
@@ -374,33 +378,37 @@ module _ {C : Type 0} (s : Surroundings C) (ground : Ground s) (m : Machine C) (
       (le-leb (length m.top.operands + count) most (omega (arith, same, few)))
       (safe_leaves s ground m t d most next m.top.operands after (duplicated count depth m.top.operands)
       (rows.locals_still s ground m t after.locals (ap (λ (x : Types). x.locals) u.2))
-      (rows.held s ground m t (duplicated count depth state.operands) after.operands (duplicated count depth m.top.operands)
+      (rows.held s ground m t (duplicated count depth state.operands) after.operands
+      (duplicated count depth m.top.operands)
       (ap (λ (x : Types). x.operands) u.2) (duplicated_points count depth))
       (falls refl)))
 
   -- ---- branches
 
-  goto : (offset : ℤ) → Owes (ops.Branch Always offset)
+  pub goto : (offset : ℤ) → Owes (ops.Branch Always offset)
   unfolding word_effect act_word
   goto offset after e branches falls =
-      rows.jump_it s ground m t d next offset [] m.top.operands m.top.operands after (row_applied below most (takes [] Nothing) state after e)
+      rows.jump_it s ground m t d next offset [] m.top.operands m.top.operands after
+      (row_applied below most (takes [] Nothing) state after e)
       t.top.operands_typed branches.0
 
-  branch_zero : (condition : _) (offset : ℤ) → Owes (ops.Branch (Zero condition) offset)
+  pub branch_zero : (condition : _) (offset : ℤ) → Owes (ops.Branch (Zero condition) offset)
   unfolding word_effect act_word
   branch_zero condition offset after e branches falls =
       let a = row_applied below most (takes (word ∷ []) Nothing) state after e in
       one_word Nothing after a (λ us. IsSafe s (act_word (here us) (ops.Branch (Zero condition) offset)))
       (λ n vs small rest.
-      rows.branch_it s ground m t d next offset (word ∷ []) (Word n ∷ vs) vs (holds condition n 0) after a rest branches.0 (falls refl))
+      rows.branch_it s ground m t d next offset (word ∷ []) (Word n ∷ vs) vs (holds condition n 0) after a rest
+      branches.0 (falls refl))
 
-  branch_compare : (condition : _) (offset : ℤ) → Owes (ops.Branch (Compare condition) offset)
+  pub branch_compare : (condition : _) (offset : ℤ) → Owes (ops.Branch (Compare condition) offset)
   unfolding word_effect act_word
   branch_compare condition offset after e branches falls =
       let a = row_applied below most (takes (word ∷ word ∷ []) Nothing) state after e in
       two_words Nothing after a (λ us. IsSafe s (act_word (here us) (ops.Branch (Compare condition) offset)))
       (λ b x vs small little rest.
-      rows.branch_it s ground m t d next offset (word ∷ word ∷ []) (Word b ∷ Word x ∷ vs) vs (holds condition x b) after a rest branches.0
+      rows.branch_it s ground m t d next offset (word ∷ word ∷ []) (Word b ∷ Word x ∷ vs) vs (holds condition x b) after
+      a rest branches.0
       (falls refl))
 
   -- ---- switches: the offset is one of those that the instruction names
@@ -429,16 +437,17 @@ module _ {C : Type 0} (s : Surroundings C) (ground : Ground s) (m : Machine C) (
       chosen P (int_eq c.key key) c.offset (lookup_offset default cases key) each.0
       (in_cases P default cases key p each.1)
 
-  stable_switch : (default low : ℤ) (offsets : List ℤ) → Owes (ops.StableSwitch default low offsets)
+  pub stable_switch : (default low : ℤ) (offsets : List ℤ) → Owes (ops.StableSwitch default low offsets)
   unfolding word_effect act_word
   stable_switch default low offsets after e branches falls =
       let a = row_applied below most (takes (word ∷ []) Nothing) state after e in
       one_word Nothing after a (λ us. IsSafe s (act_word (here us) (ops.StableSwitch default low offsets)))
       (λ n vs small rest.
-      rows.jump_it s ground m t d next (stable_offset default low offsets (short n)) (word ∷ []) (Word n ∷ vs) vs after a rest
+      rows.jump_it s ground m t d next (stable_offset default low offsets (short n)) (word ∷ []) (Word n ∷ vs) vs after
+      a rest
       (in_table (BranchesTo after) default low offsets (short n) branches.0 branches.1))
 
-  lookup_switch : (default : ℤ) (cases : List Case) → Owes (ops.LookupSwitch default cases)
+  pub lookup_switch : (default : ℤ) (cases : List Case) → Owes (ops.LookupSwitch default cases)
   unfolding word_effect act_word
   lookup_switch default cases after e branches falls =
       let a = row_applied below most (takes (word ∷ []) Nothing) state after e in

@@ -1,8 +1,8 @@
 -- The members of the API in a built world are what its tables say.
 use Rattle.std.proofs.Common.{◌≡◌, ◌⊎◌, inl, inr, ℕ, zero, suc, ◌+◌, ◌-◌, ◌<◌, ◌≤◌, ◌==◌, List, [], ◌∷◌, ◌++◌, length, take}
-use Rattle.std.proofs.Common.{Bool, true, false, cond, not, ◌&&◌, ◌||◌, Option, Some, None, nat_lt, slice_get, unwrap_or}
+use Rattle.std.proofs.Common.{Bool, true, false, cond, not, ◌&&◌, ◌||◌, Option, Some, None, is_some, nat_lt, slice_get, unwrap_or}
 use Rattle.std.proofs.Common.{refl, sym, ap, ◌∙◌, subst, arith, eqb-true}
-use Rattle.std.proofs.lemmas.Bool.{eq-eqb, lt-ltb, ltb-true}
+use Rattle.std.proofs.lemmas.Bool.{eq-eqb, le-ltb, lt-ltb, ltb-true}
 use Rattle.std.proofs.lemmas.List.Folds.{find_at}
 use Rattle.std.proofs.lemmas.Option.{slice_get_within}
 use Rattle.std.specs.List.{find, position, position_or_len}
@@ -40,6 +40,7 @@ use Rattle.jc_link.proofs.ApiTables.{IsDeclared, class_record, declared_token, e
 use Rattle.jc_link.specs.Built.{IsBuilt, api, loaded}
 use Rattle.jc_link.specs.Sound.{IsHeir}
 use Rattle.jc_link.specs.Sound.IsHeir.{behind, itself}
+use Rattle.jc_names.specs.Names as names
 use Rattle.jc_names.specs.Names.{api_home, home_of, name_in}
 use Rattle.jc_names.specs.declared.name.ClassName.{ClassName}
 use Rattle.jc_names.specs.declared.name.ClassName.TheVariants as classes
@@ -379,12 +380,31 @@ module _ {C : Type 0} (s : Surroundings C) (ground : Ground s) (begins : BeginsS
       let g = api_above d e h f.0 (sym f.2) in
       record { class = g.class; is = g.is; above = above_super g.class b f.0 f.1 g.above }
 
+  some_class : (b : Bool) (o : Option ClassName) (c : ClassName) → cond b o None ≡ Some c → o ≡ Some c
+  some_class true o c e = e
+  some_class false o c e = absurd cc
+
+  loaded_name : (n offset : ℕ) (c : ClassName) → name_in (suc (suc n)) offset ≡ Some c → (b : ApiClass)
+      → c ≡ classes.Api b → ⊥
+  loaded_name n offset c e b is =
+      let far = le-ltb (suc (suc n)) 2 (omega arith) in
+      let its : Some (classes.Loaded (suc (suc n) - 1) offset) ≡ Some c =
+      sym (ap (λ (x : Bool). cond x (names.api_name (suc (suc n)) offset) (Some (classes.Loaded (suc (suc n) - 1) offset))) far) ∙ e in
+      absurd cc
+
   -- a method of a loaded package isn't declared by a class of the API
   api_name : (name : MethodName) (d : DeclaredMethod) (b : ApiClass) → method_at shapes name ≡ Some d
       → d.class ≡ classes.Api b → (j : ℕ) × (name ≡ Api j)
   api_name (Api j) d b e is = (j, refl)
   api_name (Loaded zero offset) d b e is = absurd cc
-  api_name (Loaded (suc n) offset) d b e is = ?
+  api_name (Loaded (suc n) offset) d b e is =
+      let a = and_then (declared_in (suc (suc n)) offset) (slice_get shapes (suc (suc n))) d e in
+      let k = and_then (λ (k : ClassShape). option_and_then (λ class. option_map (λ m. record { class = class; method = m }) (method_of_class offset k)) (name_of (suc (suc n)) k))
+      (find (λ (k : ClassShape). is_some (method_of_class offset k)) (a.0).classes) d a.2 in
+      let c = and_then (λ class. option_map (λ m. record { class = class; method = m }) (method_of_class offset k.0)) (name_of (suc (suc n)) k.0) d k.2 in
+      let f = mapped_from (λ (m : MethodShape). record { class = c.0; method = m }) (method_of_class offset k.0) d c.2 in
+      let class_is : c.0 ≡ classes.Api b = ap (λ (y : DeclaredMethod). y.class) f.2 ∙ is in
+      absurd (loaded_name n (k.0).offset c.0 (some_class (nat_lt (k.0).offset 0x10000) (name_in (suc (suc n)) (k.0).offset) c.0 c.1) b class_is)
 
   module _ (n : ℕ) (x : ApiMember) (is : member_of n ≡ Some x) (virtual : x.kind ≡ Virtual) where
     abbrev its : InTable bound begins.clear n x is virtual

@@ -35,7 +35,7 @@ use Rattle.jc_types.specs.declared.ty.Ty.TheVariants as types
 use Rattle.jc_machine.specs.Accepted.{linked_as}
 use Rattle.jc_machine.specs.Agree.{Pointwise}
 use Rattle.jc_machine.specs.Calls.{active_in, entered, enters, frame_of, has_room, previous_in}
-use Rattle.jc_machine.specs.Going.{Here, moved, plain, throws}
+use Rattle.jc_machine.specs.Going.{Here, check, moved, plain, throws}
 use Rattle.jc_machine.specs.Lookup.{are_of_instance, are_of_types, body_at, code_at, declared_at, instruction_at, is_object_of}
 use Rattle.jc_machine.specs.Lookup.{is_of_type, may_begin_with}
 use Rattle.jc_machine.specs.Machine.{Frame, Machine, MethodPlace, Next, Stepped, Surroundings, UsedUp}
@@ -356,8 +356,12 @@ module _ {C : Type 0} (s : Surroundings C) (ground : Ground s) (m : Machine C) (
         let fit = subst (λ (x : DeclaredMethod). HaveTypes shapes heap arguments (arguments_of shapes x)) same
         (begins_typed shapes heap may.declared arguments may.begins) in
         let given = sym (ap (result_of shapes) same) ∙ may.given in
-        safe_some s (option_and_then (λ (x : DeclaredMethod). x.method.header) (declared_at s.world place)) of.header _
+        safe_some s (option_and_then (λ (x : DeclaredMethod). x.method.header) (declared_at s.world place)) of.header
+        (λ header.
+        check (not header.is_abstract) (entered (at us) (frame_of place header arguments (active_in (still us) switch) (previous_in (still us) switch)) header.max_stack vs))
         (ap (option_and_then (λ (x : DeclaredMethod). x.method.header)) of.found ∙ of.header_is)
-        (safe_check s (not of.header.is_abstract) _ (not_so of.header.is_abstract of.concrete)
+        (safe_check s (not of.header.is_abstract)
+        (entered (at us) (frame_of place of.header arguments (active_in (still us) switch) (previous_in (still us) switch)) of.header.max_stack vs)
+        (not_so of.header.is_abstract of.concrete)
         (entered_safe place l.0 l.1 c.0 c.1 typed of arguments fit result given us vs site
         (active_in (still us) switch) (previous_in (still us) switch)))

@@ -11,9 +11,7 @@ use Rattle.jc_api.specs.declared.class.ApiClass.{ApiClass}
 use Rattle.jc_base.specs.Signature.{Signature}
 use Rattle.jc_base.specs.declared.declared_type.DeclaredType.{DeclaredType}
 use Rattle.jc_check.specs.Checked.{IsMethodTyped}
-use Rattle.jc_cap_pool.specs.declared.entry.MemberRef.{MemberRef}
 use Rattle.jc_cap_pool.specs.declared.entry.PoolEntry.{PoolEntry}
-use Rattle.jc_cap_pool.specs.declared.entry.PoolEntry.TheVariants.{VirtualMethodref}
 use Rattle.jc_check.specs.Method.{Method}
 use Rattle.jc_check.specs.Package.{arguments_of, max_locals_of, method_of, receiver_of}
 use Rattle.jc_classes.specs.Growth.{KeepsAllLookups, LiesWithin, StandWithin}
@@ -48,6 +46,7 @@ use Rattle.jc_machine.specs.Natives.{IsLawful, KeepsObjects}
 use Rattle.jc_machine.specs.Runtime.{HasRuntimeObjects}
 use Rattle.jc_words.specs.Shorts.{word_of}
 use Rattle.jc_words.specs.Values.{TaggedValue}
+use Rattle.jc_safety.specs.Tokens.{HaveTokens}
 
 -- ---- packages
 
@@ -100,8 +99,7 @@ pub record Ground {C : Type 0} (s : Surroundings C) : Type 0 where
   pub typed_methods : (place : MethodPlace) (body : LinkedBody) (code : MethodBody)
       → body_at s.world place.number ≡ Some body → code_at s.world place ≡ Some code
       → IsMethodTyped (linked_as s.world place.number body) code
-  pub tokens : (number : ℕ) (body : LinkedBody) (index : ℕ) (ref : MemberRef) → body_at s.world number ≡ Some body
-      → slice_get body.kept.pool index ≡ Some (VirtualMethodref ref) → ref.token < 256
+  pub tokens : HaveTokens s.world
   pub lookups : (before : List Shape) → LiesWithin before s.world.shapes → KeepsAllLookups before s.world.shapes
 
 -- ---- methods

@@ -1,6 +1,6 @@
 -- Each class of a world has a number.
-use Rattle.std.proofs.Common.{◌≡◌, ℕ, zero, suc, ◌+◌, ◌-◌, ◌<◌, ◌==◌, Bool, true, false, cond, List, [], ◌∷◌, ◌++◌, length}
-use Rattle.std.proofs.Common.{Option, Some, None, slice_get, nat_lt, refl, sym, ap, subst, ◌∙◌, arith}
+use Rattle.std.proofs.Common.{◌≡◌, ℕ, zero, suc, ◌+◌, ◌-◌, ◌<◌, ◌==◌, Bool, true, false, cond, List, [], ◌∷◌, ◌++◌}
+use Rattle.std.proofs.Common.{length, Option, Some, None, slice_get, nat_lt, refl, sym, ap, subst, ◌∙◌, arith}
 use Rattle.std.proofs.lemmas.Bool.{eqb-true, le-ltb, lt-ltb}
 use Rattle.std.proofs.lemmas.Iterator.Adapters.{position_from-zero}
 use Rattle.std.proofs.lemmas.List.{append-nil, append_assoc}
@@ -21,7 +21,8 @@ use Rattle.jc_link.specs.Built.{IsBuilt, api, loaded}
 use Rattle.jc_names.specs.Names.{api_home, api_name, is_same_name, name_in, offset_of}
 use Rattle.jc_names.specs.declared.name.ClassName.{ClassName}
 use Rattle.jc_names.specs.declared.name.ClassName.TheVariants.{Api, Loaded}
-use Rattle.jc_loaded.specs.Classes.{HasNumber, HaveNumbers, KeepsNumbers, class_names, class_number, names_from, names_in}
+use Rattle.jc_loaded.specs.Classes.{HasNumber, HaveNumbers, KeepsNumbers, class_names, class_number, names_from}
+use Rattle.jc_loaded.specs.Classes.{names_in}
 use Rattle.jc_loaded.proofs.Calling.{found_there}
 use Rattle.jc_loaded.proofs.Same.{is_placed, name_itself, named, numbered_again}
 
@@ -61,8 +62,8 @@ named_from [] first i k shape class c at there name = absurd cc
 named_from (s ∷ shapes) first zero k shape class c at there name =
     let same : first + 0 ≡ first = omega arith in
     let r = kept (name_of first) s.classes k class c
-        (ap (λ (o : Option Shape). option_and_then (λ (t : Shape). slice_get t.classes k) o) at ∙ there)
-        (ap (λ h. name_of h class) (sym same) ∙ name) in
+    (ap (λ (o : Option Shape). option_and_then (λ (t : Shape). slice_get t.classes k) o) at ∙ there)
+    (ap (λ h. name_of h class) (sym same) ∙ name) in
     (r.0, get_left (names_in first s) (names_from (suc first) shapes) r.0 c r.1)
 named_from (s ∷ shapes) first (suc i) k shape class c at there name =
     let same : suc first + i ≡ first + suc i = omega arith in

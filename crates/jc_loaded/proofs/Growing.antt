@@ -1,6 +1,6 @@
 -- Methods and entries of a world with a package more.
-use Rattle.std.proofs.Common.{◌≡◌, ℕ, zero, suc, ◌+◌, ◌-◌, ◌<◌, ◌≤◌, ◌==◌, cond, List, [], ◌∷◌, ◌++◌, length, map, Option}
-use Rattle.std.proofs.Common.{Some, None, slice_get, refl, sym, ap, subst, ◌∙◌, arith}
+use Rattle.std.proofs.Common.{◌≡◌, ℕ, zero, suc, ◌+◌, ◌-◌, ◌<◌, ◌≤◌, ◌==◌, cond, List, [], ◌∷◌, ◌++◌, length, map}
+use Rattle.std.proofs.Common.{Option, Some, None, slice_get, refl, sym, ap, subst, ◌∙◌, arith}
 use Rattle.std.proofs.Math.Path.{fun_ext}
 use Rattle.std.proofs.lemmas.List.{append-nil, append_assoc}
 use Rattle.std.specs.Option.{option_and_then, option_map}
@@ -64,7 +64,8 @@ module _ (world : List Shape) (more : Shape) (lookups : KeepsLookups world more)
 
     same_method : (m : MethodBody) → loaded_method larger number body m ≡ loaded_method world number body m
     same_method m =
-        ap (λ (f : Handler → LoadedHandler). option_map (λ (header : MethodHeader). with_parts header (map f m.handlers))
+        ap (λ (f : Handler → LoadedHandler).
+        option_map (λ (header : MethodHeader). with_parts header (map f m.handlers))
         (header_at larger number m.offset)) (fun_ext (same_handler m.code_offset))
         ∙ ap (option_map (λ (header : MethodHeader). with_parts header
         (map (loaded_handler world number body m.code_offset) m.handlers))) (same_header m.offset)
@@ -93,7 +94,8 @@ module _ (world : List Shape) (more : Shape) (lookups : KeepsLookups world more)
       (same_methods first b (omega (arith, fits)))
       ∙ ap (λ ms. methods_of world first b ++ ms)
       (methods_grown bodies (suc first) last body (omega (arith, fits)) (omega (arith, is)))
-      ∙ sym (append_assoc (methods_of world first b) (methods_from world (suc first) bodies) (methods_of larger last body))
+      ∙ sym (append_assoc (methods_of world first b) (methods_from world (suc first) bodies)
+      (methods_of larger last body))
 
   get_before : (bodies : List LinkedBody) (body : LinkedBody) (n : ℕ) → n < length bodies
       → slice_get (bodies ++ body ∷ []) n ≡ slice_get bodies n

@@ -1,7 +1,7 @@
 -- Tables of the interfaces that classes list.
-use Rattle.std.proofs.Common.{◌≡◌, ℕ, zero, suc, ◌+◌, ◌<◌, ◌≤◌, ◌==◌, Bool, true, false, cond, List, [], ◌∷◌, ◌++◌, length}
-use Rattle.std.proofs.Common.{drop, map, Option, Some, None, is_some, slice_get, get_or, unwrap_or, refl, sym, ap, ◌∙◌}
-use Rattle.std.proofs.Common.{arith}
+use Rattle.std.proofs.Common.{◌≡◌, ℕ, zero, suc, ◌+◌, ◌<◌, ◌≤◌, ◌==◌, Bool, true, false, cond, List, [], ◌∷◌, ◌++◌}
+use Rattle.std.proofs.Common.{length, drop, map, Option, Some, None, is_some, slice_get, get_or, unwrap_or, refl, sym}
+use Rattle.std.proofs.Common.{ap, ◌∙◌, arith}
 use Rattle.std.proofs.lemmas.Bool.{eqb-true}
 use Rattle.std.proofs.lemmas.List.{append_assoc}
 use Rattle.std.proofs.lemmas.List.Folds.{find-append}
@@ -49,7 +49,8 @@ module _ (world : List Shape) (methods : List LoadedMethod) (names : List ClassN
       (option_and_then (number_named world names home) (slice_get (listed_refs body) i))
   table_is body i row at =
       ap (option_and_then (table_for world methods names c home)) at
-      ∙ ap (λ o. option_map (table_with world methods c row.indexes) (option_and_then (number_named world names home) o))
+      ∙ ap (λ o. option_map (table_with world methods c row.indexes)
+      (option_and_then (number_named world names home) o))
       (sym (row_refs body i (slice_get_within (interface_rows body) i row at)
       ∙ ap (option_map (λ (row : Implemented). row.interface)) at))
 
@@ -239,7 +240,8 @@ module _ (world : List Shape) (methods : List LoadedMethod) (names : List ClassN
   -- ---- what a call leads to
 
   call_is : (token : ℕ) (o : Option (List ℕ))
-      → option_map_or Listed (option_map (λ (t : KeyedTable). called_in t.called token) (option_map table_of o)) NotListed
+      → option_map_or Listed (option_map (λ (t : KeyedTable). called_in t.called token) (option_map table_of o))
+      NotListed
       ≡ cond (is_some o) (Listed (called_of methods (option_and_then (λ indexes.
       option_and_then (public_method_of world c) (slice_get indexes token)) o))) NotListed
   call_is token None = refl

@@ -85,11 +85,19 @@ place_from p (x ∷ xs) first n e = by_first (p x) refl (place_from p xs (first 
         → (position_from p (first + 1) xs ≡ Some n → StandsAt p xs (first + 1) n)
         → cond b (Some first) (position_from p (first + 1) xs) ≡ Some n → StandsAt p (x ∷ xs) first n
     by_first true t rest e = record {
-      item = x; place = zero; place_is = sym (some_is first n e) ∙ omega arith; there = refl; passes = t;
+      item = x;
+      place = zero;
+      place_is = sym (some_is first n e) ∙ omega arith;
+      there = refl;
+      passes = t;
     }
     by_first false t rest e =
         let s = rest e in let i = s.place_is in record {
-          item = s.item; place = suc s.place; place_is = omega (arith, i); there = s.there; passes = s.passes;
+          item = s.item;
+          place = suc s.place;
+          place_is = omega (arith, i);
+          there = s.there;
+          passes = s.passes;
         }
 
 pub placed : {A : Type 0} (p : A → Bool) (xs : List A) (n : ℕ) → position p xs ≡ Some n → StandsAt p xs 0 n
@@ -113,7 +121,8 @@ pub is_placed : {A : Type 0} (p : A → Bool) (xs : List A) (k : ℕ) (x : A) �
 is_placed p xs k x at t = let r = some_place p xs 0 k x at t in (r.0, position_from-zero p xs ∙ r.1)
 
 -- the name at the number of a class
-pub named : (names : List ClassName) (c : ClassName) (n : ℕ) → class_number names c ≡ Some n → slice_get names n ≡ Some c
+pub named : (names : List ClassName) (c : ClassName) (n : ℕ) → class_number names c ≡ Some n
+    → slice_get names n ≡ Some c
 named names c n e =
     let s = placed (λ d. is_same_name d c) names n e in let i = s.place_is in
     let same : n ≡ s.place = omega (arith, i) in

@@ -23,7 +23,8 @@ use Rattle.jc_names.specs.declared.name.MethodName.{MethodName}
 use Rattle.jc_loaded.specs.Called.{AreVisible, KeyedTable, called_in, called_of, keyed_in}
 use Rattle.jc_loaded.specs.Methods.{LoadedMethod}
 use Rattle.jc_loaded.specs.PrivateCalled.{AreListed, HasCalled}
-use Rattle.jc_loaded.specs.PrivateChain.{AreHomes, HasVisible, HaveHomes, chain_of, chain_within, homes_in, visible_home}
+use Rattle.jc_loaded.specs.PrivateChain.{AreHomes, HasVisible, HaveHomes, chain_of, chain_within, homes_in}
+use Rattle.jc_loaded.specs.PrivateChain.{visible_home}
 use Rattle.jc_loaded.specs.Supertypes.{has_number}
 use Rattle.jc_loaded.specs.declared.called.Called.{Called}
 use Rattle.jc_loaded.specs.declared.called.Called.TheVariants.{Nothing}
@@ -185,7 +186,8 @@ module _ (world : List Shape) (home token : ℕ) (visible : nat_lt token package
           (above n (option_and_then (class_named world (home_of d)) (option_and_then (λ k. superclass_ref k.body) o))))
           ≡ false
           → option_and_then (λ k. found_from (virtual_visit world home token d k)
-          (up_from n (option_and_then (class_named world (home_of d)) (option_and_then (λ k. superclass_ref k.body) o))))
+          (up_from n (option_and_then (class_named world (home_of d))
+          (option_and_then (λ k. superclass_ref k.body) o))))
           o ≡ None
       by_class rest None without = refl
       by_class rest (Some k) without = by_body rest k.body without
@@ -256,9 +258,9 @@ module _ (world : List Shape) (methods : List LoadedMethod) (c : ClassName) wher
       by_home true e = refl
       by_home false e =
           let none : has_number home (homes_in world (chain_of world c)) ≡ false =
-              sym (are home) ∙ e in
+          sym (are home) ∙ e in
           let high : nat_lt (package_visible + token) package_visible ≡ false =
-              le-ltb (package_visible + token) package_visible (omega arith) in
+          le-ltb (package_visible + token) package_visible (omega arith) in
           sym (ap (called_of methods) (finds_none world home (package_visible + token) high most_classes c none))
 
 pub are_visible : (world : List Shape) (methods : List LoadedMethod) (names : List ClassName)

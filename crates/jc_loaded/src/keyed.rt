@@ -17,8 +17,8 @@ pub(crate) struct Window {
     pub(crate) count: u16,
 }
 
-/// Tables of classes, those of one class behind those of another: first those of whole classes, and behind them those of
-/// the class that is being made.
+/// Tables of classes, those of one class behind those of another. First come those of whole classes, and behind them
+/// those of the class that is being made.
 #[derive(Drop)]
 pub(crate) struct KeyedLists {
     tables: CalledTables,

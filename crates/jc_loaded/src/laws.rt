@@ -27,18 +27,16 @@ pub fn loaded_handlers_cover_the_same()
         → CoversSame world number body code_offset h }
 {}
 
-/// Each class that is looked up in a world has a number, and a package behind the others leaves the numbers as they are. In
-/// a world that is built the number of Object is 0.
-#[tactic(auto, using(crate::proofs::Counting::numbered, crate::proofs::Counting::object_is_first,
-    crate::proofs::Counting::keeps_numbers))]
+/// Each class that is looked up in a world has a number, and a package behind the others leaves the numbers as they
+/// are. In a world that is built the number of Object is 0.
 pub fn classes_have_numbers()
     ensures numbers { (world : List Shape) → HaveNumbers world }
     ensures object { (world : List Shape) → IsBuilt world → class_number (class_names world) (Api Object) ≡ Some 0 }
     ensures kept { (world : List Shape) (more : Shape) → KeepsNumbers world more }
 {}
 
-/// A linked package behind the others of a world leaves their methods and what their entries lead to as they are: its own
-/// methods come behind those of the others.
+/// A linked package behind the others of a world leaves their methods and what their entries lead to as they are: its
+/// own methods come behind those of the others.
 pub fn loading_keeps_methods()
     ensures { (w : World) (l : Linked) → IsWorld w → IsBoundTo w l → KeepsLoaded w l }
 {

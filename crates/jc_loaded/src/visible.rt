@@ -44,11 +44,7 @@ fn put_home(homes: &mut Vec<u16>, home: u16) -> Result<(), AllocError>
 
 /// Puts the place of a class's package behind others, if the class has a table of package-visible methods.
 #[tactic(auto, using(crate::proofs::Showing::home_more, crate::proofs::Showing::no_home))]
-fn put_home_of(
-    homes: &mut Vec<u16>,
-    table: &ClassTable,
-    class: ClassName,
-) -> Result<(), AllocError>
+fn put_home_of(homes: &mut Vec<u16>, table: &ClassTable, class: ClassName) -> Result<(), AllocError>
     ensures { IfOk result (λ u. (n : ℕ) → has_number n homes.new.items
         ≡ (has_number n homes.old.items || has_number n (option_to_list (visible_home table.now class)))) }
 {
@@ -77,11 +73,7 @@ fn put_homes(
 }
 
 /// Where the packages stand in which a class or a superclass of it has such a table, each once.
-fn homes_of(
-    alloc: Global,
-    table: &ClassTable,
-    class: ClassName,
-) -> Result<Vec<u16>, AllocError>
+fn homes_of(alloc: Global, table: &ClassTable, class: ClassName) -> Result<Vec<u16>, AllocError>
     ensures { IfOk result (λ homes. AreHomes table.now class homes.items) }
 {
     let chain = chain_of(alloc, table, class)?;

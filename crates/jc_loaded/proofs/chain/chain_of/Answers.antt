@@ -6,7 +6,8 @@ pub loop-init : goal.loop-init
 loop-init c = rw (c.new-chain.ensures.items) (at_start c.args.table.now c.args.class)
 
 pub returns-in-None : goal.returns-in-None
-returns-in-None c = at_end c.args.table.now c.loop.chain.items _ c.loop.next c.loop.counter c.in-None.is c.loop.invariant
+returns-in-None c =
+    at_end c.args.table.now c.loop.chain.items _ c.loop.next c.loop.counter c.in-None.is c.loop.invariant
 
 pub loop-preserved : goal.loop-preserved
 loop-preserved c =

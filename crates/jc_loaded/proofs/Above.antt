@@ -3,6 +3,7 @@ use Rattle.std.proofs.Common.{◌≡◌, ◌≢◌, ℕ, zero, suc, ◌+◌, ◌
 use Rattle.std.proofs.Common.{List, [], ◌∷◌, ◌++◌, length, drop, map, Some, slice_get, get_or, unwrap_or}
 use Rattle.std.proofs.Common.{None, refl, sym, ap, ◌∙◌, arith, ◌↔◌}
 use Rattle.std.proofs.lemmas.Bool.{eq-eqb, ne_eqb}
+use Rattle.std.proofs.lemmas.List.{append_assoc}
 use Rattle.std.proofs.lemmas.Option.{slice_get-map}
 use Rattle.std.specs.Option.{option_map}
 use Rattle.jc_cap_desc.specs.Shape.{Shape}
@@ -17,10 +18,6 @@ use Rattle.jc_loaded.specs.Supertypes.{AreSupertypes, has_number, is_listed}
 
 -- ---- a list that is made
 
-both_parts : {A : Type 0} (xs ys zs : List A) → (xs ++ ys) ++ zs ≡ xs ++ (ys ++ zs)
-both_parts [] ys zs = refl
-both_parts (x ∷ xs) ys zs = ap (λ l. x ∷ l) (both_parts xs ys zs)
-
 module _ (passes : ClassName → Bool) where
   next_place : (names : List ClassName) (so_far total : List ℕ) (i place : ℕ) (c : ClassName)
       → so_far ++ places_from passes place (drop i names) ≡ total → i < length names → c ≡ get_or names i c
@@ -28,7 +25,7 @@ module _ (passes : ClassName → Bool) where
   next_place [] so_far total i place c all less at = absurd (omega (arith, less))
   next_place (d ∷ names) so_far total zero place c all less at =
       let is : c ≡ d = at in
-      both_parts so_far (taken_if (passes c) place) (places_from passes (suc place) names)
+      append_assoc so_far (taken_if (passes c) place) (places_from passes (suc place) names)
       ∙ ap (λ k. so_far ++ (taken_if (passes k) place ++ places_from passes (suc place) names)) is ∙ all
   next_place (d ∷ names) so_far total (suc i) place c all less at =
       next_place names so_far total i place c all (omega (arith, less)) at

@@ -23,6 +23,7 @@ use Rattle.jc_loaded.specs.Methods.{loaded_handler, loaded_method, loaded_method
 use Rattle.jc_loaded.specs.declared.handler.Caught.{Caught}
 use Rattle.jc_loaded.specs.declared.handler.Caught.TheVariants.{All}
 use Rattle.jc_loaded.specs.declared.handler.LoadedHandler.{LoadedHandler}
+use Rattle.jc_loaded.proofs.Calling.{get_before}
 
 module _ (world : List Shape) (more : Shape) (lookups : KeepsLookups world more) (linking : KeepsLinking world more)
     (api : 2 ≤ length world) where
@@ -96,12 +97,6 @@ module _ (world : List Shape) (more : Shape) (lookups : KeepsLookups world more)
       (methods_grown bodies (suc first) last body (omega (arith, fits)) (omega (arith, is)))
       ∙ sym (append_assoc (methods_of world first b) (methods_from world (suc first) bodies)
       (methods_of larger last body))
-
-  get_before : (bodies : List LinkedBody) (body : LinkedBody) (n : ℕ) → n < length bodies
-      → slice_get (bodies ++ body ∷ []) n ≡ slice_get bodies n
-  get_before [] body n less = absurd (omega (arith, less))
-  get_before (b ∷ bodies) body zero less = refl
-  get_before (b ∷ bodies) body (suc n) less = get_before bodies body n (omega (arith, less))
 
   targets_kept : (bodies : List LinkedBody) (body : LinkedBody) (number index : ℕ) → 2 + length bodies ≤ length world
       → number ≤ length bodies

@@ -5,7 +5,7 @@ use Rattle.std.proofs.Common.{ap, ◌∙◌, arith}
 use Rattle.std.proofs.lemmas.Bool.{eqb-true}
 use Rattle.std.proofs.lemmas.List.{append_assoc}
 use Rattle.std.proofs.lemmas.List.Folds.{find-append}
-use Rattle.std.proofs.lemmas.Option.{slice_get-map, slice_get_within}
+use Rattle.std.proofs.lemmas.Option.{same_Some, slice_get-map, slice_get_within}
 use Rattle.std.specs.List.{cons_option, filter_map, find, flat_map}
 use Rattle.std.specs.Option.{option_and_then, option_map, option_map_or, option_or, option_to_list}
 use Rattle.jc_base.specs.declared.class_ref.ClassRef.{ClassRef}
@@ -30,7 +30,7 @@ use Rattle.jc_loaded.specs.declared.called.Called.{Called}
 use Rattle.jc_loaded.specs.declared.called.Called.TheVariants.{Nothing}
 use Rattle.jc_loaded.specs.declared.interfaces.InterfaceCall.{InterfaceCall}
 use Rattle.jc_loaded.specs.declared.interfaces.InterfaceCall.TheVariants.{NotListed, Listed}
-use Rattle.jc_loaded.proofs.Calling.{some_is}
+use Rattle.jc_loaded.proofs.Naming.{first_option}
 use Rattle.jc_loaded.proofs.Same.{number_told}
 
 -- ---- what is listed, by index
@@ -96,10 +96,6 @@ lists_more l one more = ap (λ ts. with_last_of ts) (append_assoc l.last one mor
     with_last_of : List KeyedTable → Lists
     with_last_of ts = record { whole = l.whole; last = ts }
 
-first_option : {B : Type 0} (o : Option B) (rest : List B) → option_to_list o ++ rest ≡ cons_option o rest
-first_option None rest = refl
-first_option (Some b) rest = refl
-
 -- one row of those that are left
 pub rest_more : {A B : Type 0} (h : A → Option B) (xs : List A) (i : ℕ) → i < length xs
     → option_to_list (option_and_then h (slice_get xs i)) ++ filter_map h (drop (i + 1) xs) ≡ filter_map h (drop i xs)
@@ -121,7 +117,7 @@ none_left h (x ∷ xs) (suc i) past = none_left h xs i (omega (arith, past))
 pub class_more : {A B : Type 0} (h : A → List B) (xs : List A) (i : ℕ) (x : A) → slice_get xs i ≡ Some x
     → h x ++ flat_map h (drop (i + 1) xs) ≡ flat_map h (drop i xs)
 class_more h [] i x at = absurd cc
-class_more h (y ∷ xs) zero x at = sym (ap (λ k. h k ++ flat_map h xs) (some_is y x at))
+class_more h (y ∷ xs) zero x at = sym (ap (λ k. h k ++ flat_map h xs) (same_Some y x at))
 class_more h (y ∷ xs) (suc i) x at =
     let one : suc i + 1 ≡ suc (i + 1) = omega arith in
     ap (λ k. h x ++ flat_map h (drop k (y ∷ xs))) one ∙ class_more h xs i x at

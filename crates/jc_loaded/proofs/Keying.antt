@@ -2,11 +2,11 @@
 use Rattle.std.proofs.Common.{◌≡◌, ℕ, zero, suc, ◌+◌, ◌-◌, ◌<◌, ◌≤◌, List, [], ◌∷◌, ◌++◌, length, drop, map, Some}
 use Rattle.std.proofs.Common.{slice_get, unwrap_or, refl, sym, ap, subst, ◌∙◌, arith, length-append}
 use Rattle.std.proofs.lemmas.List.{drop-append-le, drop_all, map-append, take_rest}
+use Rattle.std.proofs.lemmas.Option.{same_Some}
 use Rattle.jc_loaded.specs.Called.{KeyedTable, keyed_at, keyed_in}
 use Rattle.jc_loaded.specs.PrivateCalled.{AreShown, Lists, window_in, windows_in, with_last, with_tables}
 use Rattle.jc_loaded.specs.PrivateLaid.{part}
 use Rattle.jc_loaded.specs.declared.keyed.Window.{Window}
-use Rattle.jc_loaded.proofs.Calling.{some_is}
 use Rattle.jc_loaded.proofs.Laying.{part_before}
 
 abbrev lists : List (List KeyedTable) → List KeyedTable → Lists
@@ -44,7 +44,7 @@ module _ (shown : ℕ) (tables : List KeyedTable) (windows : List Window) (are :
       → w.start + w.count ≤ bound
       → (n : ℕ) (v : Window) → slice_get (ws ++ w ∷ []) n ≡ Some v → v.start + v.count ≤ bound
   lies_behind [] w bound within less last zero v at =
-      subst (λ (k : Window). k.start + k.count ≤ bound) (some_is w v at) last
+      subst (λ (k : Window). k.start + k.count ≤ bound) (same_Some w v at) last
   lies_behind [] w bound within less last (suc n) v at = absurd cc
   lies_behind (x ∷ ws) w bound within less last zero v at = let a = within zero v at in omega (arith, a, less)
   lies_behind (x ∷ ws) w bound within less last (suc n) v at =
@@ -76,7 +76,7 @@ module _ (shown : ℕ) (tables : List KeyedTable) (windows : List Window) (are :
 window_at : (tables : List KeyedTable) (windows : List Window) (n : ℕ) (w : Window) → slice_get windows n ≡ Some w
     → part tables w.start w.count ≡ unwrap_or (slice_get (windows_in tables windows) n) []
 window_at tables [] n w at = absurd cc
-window_at tables (x ∷ windows) zero w at = sym (ap (window_in tables) (some_is x w at))
+window_at tables (x ∷ windows) zero w at = sym (ap (window_in tables) (same_Some x w at))
 window_at tables (x ∷ windows) (suc n) w at = window_at tables windows n w at
 
 pub keyed_window : (tables : List KeyedTable) (windows : List Window) (n : ℕ) (w : Window) (key token : ℕ)

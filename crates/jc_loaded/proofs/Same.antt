@@ -3,6 +3,7 @@ use Rattle.std.proofs.Common.{◌≡◌, ◌≢◌, ℕ, zero, suc, ◌+◌, ◌
 use Rattle.std.proofs.Common.{Some, None, slice_get, refl, sym, ap, subst, ◌∙◌, arith}
 use Rattle.std.proofs.lemmas.Bool.{eqb-true, eq-eqb, ne_eqb}
 use Rattle.std.proofs.lemmas.Iterator.Adapters.{position_from-zero}
+use Rattle.std.proofs.lemmas.Option.{same_Some}
 use Rattle.std.specs.List.{position, position_from}
 use Rattle.std.specs.Option.{option_map_or}
 use Rattle.jc_api.specs.Class.{class_of, number_of}
@@ -12,7 +13,6 @@ use Rattle.jc_names.specs.Names.{is_same_name}
 use Rattle.jc_names.specs.declared.name.ClassName.{ClassName}
 use Rattle.jc_names.specs.declared.name.ClassName.TheVariants.{Api, Loaded}
 use Rattle.jc_loaded.specs.Classes.{class_number}
-use Rattle.jc_loaded.proofs.Calling.{some_is}
 
 pub true_false : {P : Type 0} → true ≡ false → P
 true_false e = absurd cc
@@ -52,7 +52,7 @@ numbered_again Apis.JcSystem = refl
 numbered_again Apis.Util = refl
 
 same_number : (a b : ApiClass) → number_of a ≡ number_of b → a ≡ b
-same_number a b e = some_is a b (sym (numbered_again a) ∙ ap class_of e ∙ numbered_again b)
+same_number a b e = same_Some a b (sym (numbered_again a) ∙ ap class_of e ∙ numbered_again b)
 
 pub same_name : (c d : ClassName) → is_same_name c d ≡ true → c ≡ d
 same_name (Api a) (Api b) e = ap Api (same_number a b (eqb-true (number_of a) (number_of b) e))
@@ -87,7 +87,7 @@ place_from p (x ∷ xs) first n e = by_first (p x) refl (place_from p xs (first 
     by_first true t rest e = record {
       item = x;
       place = zero;
-      place_is = sym (some_is first n e) ∙ omega arith;
+      place_is = sym (same_Some first n e) ∙ omega arith;
       there = refl;
       passes = t;
     }
@@ -108,7 +108,7 @@ some_place : {A : Type 0} (p : A → Bool) (xs : List A) (first k : ℕ) (x : A)
     → (n : ℕ) × (position_from p first xs ≡ Some n)
 some_place p [] first k x at t = absurd cc
 some_place p (y ∷ xs) first zero x at t =
-    (first, ap (λ b. cond b (Some first) (position_from p (first + 1) xs)) (ap p (some_is y x at) ∙ t))
+    (first, ap (λ b. cond b (Some first) (position_from p (first + 1) xs)) (ap p (same_Some y x at) ∙ t))
 some_place p (y ∷ xs) first (suc k) x at t = by_first (p y) (some_place p xs (first + 1) k x at t)
   where
     by_first : (b : Bool) → (n : ℕ) × (position_from p (first + 1) xs ≡ Some n)
@@ -137,7 +137,7 @@ number_told names c number is d = by_name (is_same_name d c) refl
         → option_map_or (λ n. n == number) o false ≡ false
     by_number None e other = refl
     by_number (Some n) e other = ne_eqb n number (λ same.
-        let one : d ≡ c = some_is d c (sym (named names d n e) ∙ ap (slice_get names) same ∙ named names c number is) in
+        let one : d ≡ c = same_Some d c (sym (named names d n e) ∙ ap (slice_get names) same ∙ named names c number is) in
         true_false (sym (ap (λ k. is_same_name k c) one ∙ name_itself c) ∙ other))
 
     by_name : (b : Bool) → is_same_name d c ≡ b → option_map_or (λ n. n == number) (class_number names d) false ≡ b

@@ -28,7 +28,7 @@ use Rattle.jc_loaded.specs.PrivateChain.{visible_home}
 use Rattle.jc_loaded.specs.Supertypes.{has_number}
 use Rattle.jc_loaded.specs.declared.called.Called.{Called}
 use Rattle.jc_loaded.specs.declared.called.Called.TheVariants.{Nothing}
-use Rattle.jc_loaded.proofs.Calling.{some_is}
+use Rattle.jc_loaded.proofs.Interfacing.{none_left}
 use Rattle.jc_loaded.proofs.Naming.{one_more}
 use Rattle.jc_loaded.proofs.Same.{true_false}
 
@@ -42,13 +42,13 @@ or_all : (a b c : Bool) → ((a || b) || c) ≡ (a || (b || c))
 or_all true b c = refl
 or_all false b c = refl
 
-none_left : (a b : Bool) → (a || b) ≡ false → a ≡ false
-none_left true b e = absurd cc
-none_left false b e = refl
+left_false : (a b : Bool) → (a || b) ≡ false → a ≡ false
+left_false true b e = absurd cc
+left_false false b e = refl
 
-none_right : (a b : Bool) → (a || b) ≡ false → b ≡ false
-none_right true b e = absurd cc
-none_right false b e = e
+right_false : (a b : Bool) → (a || b) ≡ false → b ≡ false
+right_false true b e = absurd cc
+right_false false b e = e
 
 pub has_more : (numbers : List ℕ) (k n : ℕ) → has_number n (numbers ++ k ∷ []) ≡ (has_number n numbers || k == n)
 has_more numbers k n =
@@ -99,14 +99,7 @@ pub homes_end : (world : List Shape) (chain : List ClassName) (i : ℕ) (homes :
     → has_number n homes ≡ total
 homes_end world chain i homes n total past so_far =
     sym (or_none (has_number n homes))
-    ∙ ap (λ hs. has_number n homes || has_number n hs) (sym (nothing_left (visible_home world) chain i past)) ∙ so_far
-  where
-    nothing_left : {A B : Type 0} (h : A → Option B) (xs : List A) (i : ℕ) → length xs ≤ i
-        → filter_map h (drop i xs) ≡ []
-    nothing_left h [] zero past = refl
-    nothing_left h [] (suc i) past = refl
-    nothing_left h (x ∷ xs) zero past = absurd (omega (arith, past))
-    nothing_left h (x ∷ xs) (suc i) past = nothing_left h xs i (omega (arith, past))
+    ∙ ap (λ hs. has_number n homes || has_number n hs) (sym (none_left (visible_home world) chain i past)) ∙ so_far
 
 -- ---- a package in which no class of the chain declares such methods finds none
 
@@ -164,8 +157,8 @@ module _ (world : List Shape) (home token : ℕ) (visible : nat_lt token package
           (of_above rest up without)
       by_entries rest table up false e without =
           handed_on table (home_of d == home) up
-          (λ same. true_false (sym same ∙ none_left (home_of d == home) (has_number home (above n up)) without))
-          (of_above rest up (none_right (home_of d == home) (has_number home (above n up)) without))
+          (λ same. true_false (sym same ∙ left_false (home_of d == home) (has_number home (above n up)) without))
+          (of_above rest up (right_false (home_of d == home) (has_number home (above n up)) without))
 
       by_body : FindsNone n → (body : RecordBody)
           → has_number home (cons_option (cond (length (package_entries body) == 0) None (Some (home_of d)))

@@ -17,11 +17,11 @@ use Rattle.jc_loaded.specs.Classes.{class_number}
 pub true_false : {P : Type 0} → true ≡ false → P
 true_false e = absurd cc
 
-left_true : (a b : Bool) → (a && b) ≡ true → a ≡ true
+pub left_true : (a b : Bool) → (a && b) ≡ true → a ≡ true
 left_true true b e = refl
 left_true false b e = absurd cc
 
-right_true : (a b : Bool) → (a && b) ≡ true → b ≡ true
+pub right_true : (a b : Bool) → (a && b) ≡ true → b ≡ true
 right_true true b e = e
 right_true false b e = absurd cc
 
@@ -137,7 +137,8 @@ number_told names c number is d = by_name (is_same_name d c) refl
         → option_map_or (λ n. n == number) o false ≡ false
     by_number None e other = refl
     by_number (Some n) e other = ne_eqb n number (λ same.
-        let one : d ≡ c = same_Some d c (sym (named names d n e) ∙ ap (slice_get names) same ∙ named names c number is) in
+        let one : d ≡ c = same_Some d c (sym (named names d n e) ∙ ap (slice_get names) same
+        ∙ named names c number is) in
         true_false (sym (ap (λ k. is_same_name k c) one ∙ name_itself c) ∙ other))
 
     by_name : (b : Bool) → is_same_name d c ≡ b → option_map_or (λ n. n == number) (class_number names d) false ≡ b

@@ -27,8 +27,8 @@ pub fn loaded_handlers_cover_the_same()
         → CoversSame world number body code_offset h }
 {}
 
-/// Each class that is looked up in a world has a number, and a package behind the others leaves the numbers as they
-/// are. In a world that is built the number of Object is 0.
+/// Each class that is looked up in a world has a number, and each number is that of a class that is there. A package
+/// behind the others leaves the numbers as they are. In a world that is built the number of Object is 0.
 pub fn classes_have_numbers()
     ensures numbers { (world : List Shape) → HaveNumbers world }
     ensures object { (world : List Shape) → IsBuilt world → class_number (class_names world) (Api Object) ≡ Some 0 }

@@ -11,15 +11,14 @@ use Rattle.jc_cap_pool.specs.declared.entry.PoolEntry.{PoolEntry}
 use Rattle.jc_classes.specs.Growth.{KeepsLookups, grown}
 use Rattle.jc_classes.specs.Members.{DeclaredMethod}
 use Rattle.jc_link.specs.Growth.{KeepsLinking}
-use Rattle.jc_link.specs.Linked.{IsBoundTo, IsWorld, Linked, LinkedBody, World, with_linked}
+use Rattle.jc_link.specs.Linked.{IsBoundTo, IsWorld, Linked, LinkedBody, World}
 use Rattle.jc_link.specs.Target.{pool_target_of}
-use Rattle.jc_link.specs.declared.target.PoolTarget.{PoolTarget}
 use Rattle.jc_names.specs.Names.{home_at}
 use Rattle.jc_names.specs.declared.name.MethodName.TheVariants.{Loaded}
 use Rattle.jc_loaded.specs.Entries.{target_in}
 use Rattle.jc_loaded.specs.Growth.{KeepsLoaded}
-use Rattle.jc_loaded.specs.Methods.{LoadedMethod, catches_all, caught_by, caught_class, entry_target, header_at}
-use Rattle.jc_loaded.specs.Methods.{loaded_handler, loaded_method, loaded_methods, methods_from, methods_of}
+use Rattle.jc_loaded.specs.Methods.{LoadedMethod, catches_all, caught_class, entry_target, header_at}
+use Rattle.jc_loaded.specs.Methods.{loaded_handler, loaded_method, methods_from, methods_of}
 use Rattle.jc_loaded.specs.declared.handler.Caught.{Caught}
 use Rattle.jc_loaded.specs.declared.handler.Caught.TheVariants.{All}
 use Rattle.jc_loaded.specs.declared.handler.LoadedHandler.{LoadedHandler}

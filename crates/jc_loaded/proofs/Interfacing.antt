@@ -1,6 +1,6 @@
 -- Tables of the interfaces that classes list.
 use Rattle.std.proofs.Common.{◌≡◌, ℕ, zero, suc, ◌+◌, ◌<◌, ◌≤◌, ◌==◌, Bool, true, false, cond, List, [], ◌∷◌, ◌++◌}
-use Rattle.std.proofs.Common.{length, drop, map, Option, Some, None, is_some, slice_get, get_or, unwrap_or, refl, sym}
+use Rattle.std.proofs.Common.{length, drop, Option, Some, None, is_some, slice_get, unwrap_or, refl, sym}
 use Rattle.std.proofs.Common.{ap, ◌∙◌, arith}
 use Rattle.std.proofs.lemmas.Bool.{eqb-true}
 use Rattle.std.proofs.lemmas.List.{append_assoc}
@@ -8,7 +8,6 @@ use Rattle.std.proofs.lemmas.List.Folds.{find-append}
 use Rattle.std.proofs.lemmas.Option.{same_Some, slice_get-map, slice_get_within}
 use Rattle.std.specs.List.{cons_option, filter_map, find, flat_map}
 use Rattle.std.specs.Option.{option_and_then, option_map, option_map_or, option_or, option_to_list}
-use Rattle.jc_base.specs.declared.class_ref.ClassRef.{ClassRef}
 use Rattle.jc_cap_class.specs.Interfaces.{Implemented}
 use Rattle.jc_cap_class.specs.declared.record.RecordBody.{RecordBody}
 use Rattle.jc_cap_class.specs.declared.record.RecordBody.TheVariants.{Interface, Class}
@@ -16,19 +15,17 @@ use Rattle.jc_cap_desc.specs.Shape.{ClassShape, Shape}
 use Rattle.jc_classes.specs.Methods.{indexes_visit, interface_visit, is_this, listing_visit, public_method_of, row_for}
 use Rattle.jc_classes.specs.Record.{interface_rows}
 use Rattle.jc_classes.specs.Walk.{found, found_from, most_classes, walk}
-use Rattle.jc_classes.specs.World.{class_at, class_named, listed_refs, superclass_of, superclass_ref}
-use Rattle.jc_names.specs.Names.{home_of, is_same_name}
+use Rattle.jc_classes.specs.World.{class_at, class_named, listed_refs, superclass_ref}
+use Rattle.jc_names.specs.Names.{home_of}
 use Rattle.jc_names.specs.declared.name.ClassName.{ClassName}
-use Rattle.jc_loaded.specs.Called.{AreInterfaceCalls, KeyedTable, called_in, called_of, interface_call_at}
+use Rattle.jc_loaded.specs.Called.{AreInterfaceCalls, KeyedTable, called_in, called_of}
 use Rattle.jc_loaded.specs.Called.{interface_call_of, keyed_in}
 use Rattle.jc_loaded.specs.Classes.{class_number}
 use Rattle.jc_loaded.specs.Methods.{LoadedMethod}
 use Rattle.jc_loaded.specs.PrivateCalled.{AreListed, Lists, with_tables}
 use Rattle.jc_loaded.specs.PrivateChain.{IsTablesFor, chain_within, index_called, number_named, table_for, table_with}
 use Rattle.jc_loaded.specs.PrivateChain.{tables_by, tables_for}
-use Rattle.jc_loaded.specs.declared.called.Called.{Called}
 use Rattle.jc_loaded.specs.declared.called.Called.TheVariants.{Nothing}
-use Rattle.jc_loaded.specs.declared.interfaces.InterfaceCall.{InterfaceCall}
 use Rattle.jc_loaded.specs.declared.interfaces.InterfaceCall.TheVariants.{NotListed, Listed}
 use Rattle.jc_loaded.proofs.Naming.{first_option}
 use Rattle.jc_loaded.proofs.Same.{number_told}

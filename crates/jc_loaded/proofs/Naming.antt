@@ -1,14 +1,14 @@
 -- Names of classes by number, and numbers by name.
 use Rattle.std.proofs.Common.{◌*◌, length-append, ◌≡◌, ◌≢◌, ◌⊎◌, inl, inr, ℕ, zero, suc, ◌+◌, ◌<◌, ◌≤◌, ◌==◌, ◌&&◌}
-use Rattle.std.proofs.Common.{Bool, true, false, cond, List, [], ◌∷◌, ◌++◌, length, take, drop, Option, Some, None}
-use Rattle.std.proofs.Common.{slice_get, get_or, unwrap_or, nat_lt, refl, sym, ap, ◌∙◌, arith}
+use Rattle.std.proofs.Common.{Bool, true, false, cond, List, [], ◌∷◌, ◌++◌, length, drop, Option, Some, None}
+use Rattle.std.proofs.Common.{slice_get, get_or, nat_lt, refl, sym, ap, ◌∙◌, arith}
 use Rattle.std.proofs.Math.Path.{fun_ext}
 use Rattle.std.proofs.lemmas.Bool.{ltb-true, ne_eqb}
 use Rattle.std.proofs.lemmas.Bool.Decides.{eqb_tells}
 use Rattle.std.proofs.lemmas.List.{append-nil, append_assoc}
 use Rattle.std.proofs.lemmas.Option.{same_Some}
 use Rattle.std.specs.List.{cons_option, filter_map, position, position_or_len}
-use Rattle.std.specs.Option.{option_map_or, option_or, option_to_list}
+use Rattle.std.specs.Option.{option_map_or, option_to_list}
 use Rattle.jc_cap_desc.specs.Shape.{Shape}
 use Rattle.jc_api.specs.Class.{number_of}
 use Rattle.jc_names.specs.Names.{is_same_name, offset_of}
@@ -17,7 +17,7 @@ use Rattle.jc_names.specs.declared.name.ClassName.TheVariants.{Api, Loaded}
 use Rattle.jc_classes.specs.Limits.{IsSmall}
 use Rattle.jc_classes.specs.Members.{name_of}
 use Rattle.jc_loaded.specs.Classes.{class_names, class_number, names_from, names_in}
-use Rattle.jc_loaded.specs.PrivateClasses.{AreClassNumbers, AreNumbered, is_placed, table_of}
+use Rattle.jc_loaded.specs.PrivateClasses.{AreNumbered, is_placed, table_of}
 use Rattle.jc_loaded.specs.PrivateLaid.{number_in}
 
 -- ---- names of one package

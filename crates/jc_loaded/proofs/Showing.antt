@@ -1,12 +1,12 @@
 -- Tables of package-visible methods.
 use Rattle.std.proofs.Common.{◌≡◌, ℕ, zero, suc, ◌+◌, ◌-◌, ◌<◌, ◌≤◌, ◌==◌, ◌||◌, Bool, true, false, cond, List, [], ◌∷◌}
-use Rattle.std.proofs.Common.{◌++◌, length, drop, take, Option, Some, None, slice_get, get_or, unwrap_or, nat_lt, refl}
+use Rattle.std.proofs.Common.{◌++◌, length, drop, take, Option, Some, None, slice_get, unwrap_or, nat_lt, refl}
 use Rattle.std.proofs.Common.{sym, ap, subst, ◌∙◌, arith}
-use Rattle.std.proofs.lemmas.Bool.{eqb-true, eq-eqb, le-ltb}
+use Rattle.std.proofs.lemmas.Bool.{eqb-true, le-ltb}
 use Rattle.std.proofs.lemmas.List.{take_all}
 use Rattle.std.proofs.lemmas.List.Folds.{find-append, list_any-append, list_any_more}
 use Rattle.std.proofs.lemmas.Option.{get_or_from_slice_get, slice_get_within}
-use Rattle.std.specs.List.{cons_option, filter_map, find, list_any}
+use Rattle.std.specs.List.{cons_option, find}
 use Rattle.std.specs.Option.{option_and_then, option_map, option_map_or, option_or, option_to_list}
 use Rattle.jc_cap_class.specs.declared.record.RecordBody.{RecordBody}
 use Rattle.jc_cap_class.specs.declared.record.RecordBody.TheVariants.{Interface, Class}
@@ -16,11 +16,11 @@ use Rattle.jc_classes.specs.Methods.{declared_above, entry_visit, package_visibl
 use Rattle.jc_classes.specs.Methods.{virtual_method_of, virtual_visit}
 use Rattle.jc_classes.specs.Record.{package_entries}
 use Rattle.jc_classes.specs.Walk.{found_from, most_classes, walk}
-use Rattle.jc_classes.specs.World.{class_at, class_named, superclass_of, superclass_ref}
+use Rattle.jc_classes.specs.World.{class_at, class_named, superclass_ref}
 use Rattle.jc_names.specs.Names.{home_at, home_of}
 use Rattle.jc_names.specs.declared.name.ClassName.{ClassName}
 use Rattle.jc_names.specs.declared.name.MethodName.{MethodName}
-use Rattle.jc_loaded.specs.Called.{AreVisible, KeyedTable, called_in, called_of, keyed_in}
+use Rattle.jc_loaded.specs.Called.{AreVisible, KeyedTable, called_in, called_of}
 use Rattle.jc_loaded.specs.Methods.{LoadedMethod}
 use Rattle.jc_loaded.specs.PrivateCalled.{AreListed, HasCalled}
 use Rattle.jc_loaded.specs.PrivateChain.{AreHomes, HasVisible, HaveHomes, chain_of, chain_within, homes_in}

@@ -1,4 +1,4 @@
-use Rattle.std.proofs.Common.{ap, ◌∙◌, ◌+◌, ◌<◌, arith, drop, length}
+use Rattle.std.proofs.Common.{ap, ◌∙◌, ◌+◌, arith, drop, length}
 use Rattle.std.specs.List.{filter_map}
 use Rattle.jc_classes.specs.Record.{interface_rows}
 use Rattle.jc_loaded.specs.PrivateCalled.{with_tables}

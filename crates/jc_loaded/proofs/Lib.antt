@@ -15,3 +15,4 @@ mod Counting
 mod Interfacing
 mod Showing
 mod Above
+mod Climbing

@@ -144,6 +144,7 @@ grounded laws s may =
       constants = λ code listing pc x value whole there is.
           constant_bound code pc x.instr value (laws.listing.has code listing pc x whole there).1 is;
       objects_stay = laws.stay;
+      lookups = λ before lies. laws.lookups before w.shapes lies;
       typed_methods = laws.typed w accepted;
       tokens = λ number body index ref loaded there. (accepted.packages number body loaded).tokens index ref there;
     }

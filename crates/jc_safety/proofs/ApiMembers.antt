@@ -1,6 +1,6 @@
 -- The members of the API in a built world are what its tables say.
 use Rattle.std.proofs.Common.{◌≡◌, ◌⊎◌, inl, inr, ℕ, zero, suc, ◌+◌, ◌-◌, ◌<◌, ◌≤◌, ◌==◌, List, [], ◌∷◌, ◌++◌, length, take}
-use Rattle.std.proofs.Common.{Bool, true, false, cond, not, ◌&&◌, ◌||◌, Option, Some, None, is_some, nat_lt, slice_get, unwrap_or}
+use Rattle.std.proofs.Common.{Bool, true, false, cond, ◌&&◌, ◌||◌, Option, Some, None, is_some, nat_lt, slice_get, unwrap_or}
 use Rattle.std.proofs.Common.{refl, sym, ap, ◌∙◌, subst, arith, eqb-true}
 use Rattle.std.proofs.lemmas.Bool.{eq-eqb, le-ltb, lt-ltb, ltb-true}
 use Rattle.std.proofs.lemmas.List.Folds.{find_at}
@@ -18,14 +18,14 @@ use Rattle.jc_api.specs.declared.class.ApiClass.{ApiClass}
 use Rattle.jc_api.specs.declared.class.ApiPackage.{ApiPackage}
 use Rattle.jc_api.specs.declared.class.ApiPackage.TheVariants.{Framework, Lang}
 use Rattle.jc_api.specs.declared.member.MemberKind.{MemberKind}
-use Rattle.jc_api.specs.declared.member.MemberKind.TheVariants.{Constructor, Static, Virtual}
+use Rattle.jc_api.specs.declared.member.MemberKind.TheVariants.{Static, Virtual}
 use Rattle.jc_cap_class.specs.declared.record.ClassRecord.{ClassRecord}
 use Rattle.jc_cap_class.specs.declared.record.RecordBody.{RecordBody}
 use Rattle.jc_cap_class.specs.declared.record.RecordBody.TheVariants.{Class, Interface}
 use Rattle.jc_cap_class.specs.declared.record.VirtualTable.{VirtualTable}
 use Rattle.jc_cap_desc.specs.Shape.{ClassShape, MethodShape, Shape}
 use Rattle.jc_classes.specs.Api.{api_shape, api_world, class_in_api, each_below, is_static, last_member, method_in, number_to}
-use Rattle.jc_classes.specs.Api.{public_table, record_in}
+use Rattle.jc_classes.specs.Api.{public_table}
 use Rattle.jc_classes.specs.Growth.{IsMethodWithin, KeepsAllLookups, LiesWithin}
 use Rattle.jc_classes.specs.Members.{DeclaredMethod, declared_in, method_at, name_of}
 use Rattle.jc_classes.specs.Methods.{declared_above, entry_visit, has_method, method_name, method_of_class, method_there, package_visible}
@@ -33,7 +33,7 @@ use Rattle.jc_classes.specs.Methods.{record_visit, table_visit, virtual_method_o
 use Rattle.jc_classes.specs.Subtype.{is_class_at, is_class_below}
 use Rattle.jc_classes.specs.Walk.{found_from, most_classes, walk}
 use Rattle.jc_classes.specs.World.{class_at, superclass_of}
-use Rattle.jc_link.proofs.ApiClasses.{above_itself, above_super, class_itself, class_there, package_there}
+use Rattle.jc_link.proofs.ApiClasses.{above_itself, above_super, class_itself, class_there}
 use Rattle.jc_link.proofs.ApiLists.{each_is, each_there, number_there, numbered_there, within_room}
 use Rattle.jc_link.proofs.ApiMembers.{has_member, member_range, member_there, no_interface}
 use Rattle.jc_link.proofs.ApiTables.{IsDeclared, class_record, declared_token, entry, found_step, inherited_token, is_declared, room}

@@ -1,12 +1,11 @@
 -- Calls are safe: each instruction that calls a method.
 use Rattle.std.proofs.Common.{◌≡◌, ℕ, zero, suc, ◌+◌, ◌-◌, ◌<◌, ◌≤◌, ◌==◌, List, [], ◌∷◌, ◌++◌, length, map, take, drop, reverse}
-use Rattle.std.proofs.Common.{Bool, true, false, cond, not, ◌&&◌, Option, Some, None, is_some, nat_lt, slice_get}
+use Rattle.std.proofs.Common.{Bool, true, false, cond, Option, Some, None, nat_lt, slice_get}
 use Rattle.std.proofs.Common.{refl, sym, ap, ◌∙◌, subst, arith, length-drop, eqb-true}
 use Rattle.std.proofs.lemmas.Bool.{ltb-false}
 use Rattle.std.proofs.lemmas.List.{reverse-append}
 use Rattle.std.specs.List.{find}
-use Rattle.std.specs.Option.{option_and_then, option_map, option_map_or}
-use Rattle.jc_api.specs.declared.class.ApiClass.TheVariants as api
+use Rattle.std.specs.Option.{option_and_then}
 use Rattle.jc_base.specs.Signature.{Signature}
 use Rattle.jc_base.specs.declared.declared_type.DeclaredType.{DeclaredType}
 use Rattle.jc_base.specs.declared.declared_type.ReturnType.{ReturnType}
@@ -19,7 +18,7 @@ use Rattle.jc_cap_pool.specs.declared.entry.PoolEntry.TheVariants as Entries
 use Rattle.jc_classes.specs.Members.{DeclaredMethod, method_at}
 use Rattle.jc_classes.specs.Methods.{interface_method_of, interface_visit, method_name, public_method_of, virtual_method_of}
 use Rattle.jc_classes.specs.Methods.{package_visible}
-use Rattle.jc_classes.specs.Subtype.{is_class_at, is_class_below}
+use Rattle.jc_classes.specs.Subtype.{is_class_at}
 use Rattle.jc_classes.specs.Walk.{found}
 use Rattle.jc_classes.specs.World.{class_at, class_named, superclass_of}
 use Rattle.jc_code.specs.declared.instr.Instr.{Instr}
@@ -32,26 +31,23 @@ use Rattle.jc_link.specs.Linked.{LinkedBody}
 use Rattle.jc_link.specs.MemberType.{declared_type_of, member_type_of, method_type_of}
 use Rattle.jc_link.specs.Named.{if_passes, is_concrete, method_above, named_above, named_by, named_field, named_static_field}
 use Rattle.jc_link.specs.Named.{named_static_method, named_virtual, static_place}
-use Rattle.jc_link.specs.Sound.{IsHeir}
-use Rattle.jc_link.specs.Sound.IsHeir.{behind, itself}
+use Rattle.jc_link.specs.Sound.IsHeir.{behind}
 use Rattle.jc_link.specs.Target.{pool_target_of, target_of, target_of_declared}
 use Rattle.jc_link.specs.declared.named.Named.{Named}
 use Rattle.jc_link.specs.declared.named.Named.TheVariants as Names
-use Rattle.jc_link.specs.declared.named.StaticPlace.{StaticPlace}
 use Rattle.jc_link.specs.declared.target.PoolTarget.{PoolTarget}
 use Rattle.jc_link.specs.declared.target.PoolTarget.TheVariants as To
 use Rattle.jc_names.specs.Names.{home_at, home_of}
 use Rattle.jc_names.specs.declared.name.ClassName.{ClassName}
 use Rattle.jc_names.specs.declared.name.MethodName.{MethodName}
 use Rattle.jc_names.specs.declared.owner.Owner.{Owner}
-use Rattle.jc_step.specs.Method.{result_of, returned_type}
+use Rattle.jc_step.specs.Method.{returned_type}
 use Rattle.jc_step.specs.Objects.{Setting, call, class_target, interface_method_type, interface_row, interface_target_row}
 use Rattle.jc_step.specs.Objects.{invocation_row, result_given, special_row, static_call_row, virtual_row}
 use Rattle.jc_step.specs.Row.{Row, after}
 use Rattle.jc_step.specs.Words.{takes}
 use Rattle.jc_step.specs.declared.row.Demand.{Demand}
 use Rattle.jc_step.specs.declared.row.Demand.TheVariants.{Below, Reference}
-use Rattle.jc_step.specs.declared.row.Given.TheVariants.{Exactly, Nothing}
 use Rattle.jc_store.specs.Heap as heaps
 use Rattle.jc_store.specs.Heap.{Heap, object_at}
 use Rattle.jc_store.specs.declared.kind.ObjectType.{ObjectType}
@@ -60,17 +56,17 @@ use Rattle.jc_types.specs.Ty.{type_of_declared}
 use Rattle.jc_types.specs.declared.ty.Ty.{Ty}
 use Rattle.jc_types.specs.declared.ty.Ty.TheVariants as types
 use Rattle.jc_machine.specs.Agree.{Pointwise}
-use Rattle.jc_machine.specs.Calls.{MethodTarget, VirtualTarget, act_call, act_interface, act_of_interface, act_special}
+use Rattle.jc_machine.specs.Calls.{act_call, act_interface, act_of_interface, act_special}
 use Rattle.jc_machine.specs.Calls.{act_static_call, act_virtual, found_for, has_interface, invokes, special_target, static_target}
 use Rattle.jc_machine.specs.Calls.{virtual_target, with_arguments, with_receiver}
 use Rattle.jc_machine.specs.Going.{Here, check, facts_of, judged, on_object, on_reference, on_some, require}
 use Rattle.jc_machine.specs.Lookup.{are_of_types, body_at, class_of, instruction_at, is_of_class, is_of_type, is_shared_interface}
-use Rattle.jc_machine.specs.Lookup.{leads_to, target_at}
+use Rattle.jc_machine.specs.Lookup.{leads_to}
 use Rattle.jc_machine.specs.Machine.{Machine, Stepped, Surroundings}
 use Rattle.jc_machine.specs.Runtime.{class_cast_exception}
 use Rattle.jc_machine.specs.Typed.{HoldTypes, IsEffect, IsOperand, IsTyped, with_result_type}
-use Rattle.jc_words.specs.Values.{Null, Ref, TaggedValue, is_reference}
-use Rattle.jc_safety.proofs.Entering.{MayCall, Site, and_then, as_it_was, got_within, mapped_from, the_some}
+use Rattle.jc_words.specs.Values.{Ref, TaggedValue, is_reference}
+use Rattle.jc_safety.proofs.Entering.{MayCall, Site, and_then, as_it_was, got_within, mapped_from}
 use Rattle.jc_safety.proofs.Goes.{placed, throws_at}
 use Rattle.jc_safety.proofs.Ground.{Ground, found_there}
 use Rattle.jc_safety.proofs.Lists.{and_true, drop_points, same_length}

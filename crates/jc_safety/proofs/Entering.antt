@@ -1,8 +1,7 @@
 -- A call that is entered: its caller waits, and the frame of the method that is called runs.
 use Rattle.std.proofs.Common.{◌≡◌, ℕ, zero, suc, ◌+◌, ◌<◌, ◌≤◌, List, [], ◌∷◌, ◌++◌, length, map, replicate, slice_get}
-use Rattle.std.proofs.Common.{Bool, true, false, cond, not, ◌&&◌, Option, Some, None, is_some, nat_lt, nat_le}
+use Rattle.std.proofs.Common.{Bool, true, false, cond, not, Option, Some, None, is_some}
 use Rattle.std.proofs.Common.{refl, sym, ap, ◌∙◌, subst, arith}
-use Rattle.std.specs.List.{AllByRecursion}
 use Rattle.std.specs.Option.{option_and_then, option_map, option_map_or}
 use Rattle.jc_base.specs.Signature.{Signature}
 use Rattle.jc_base.specs.declared.declared_type.DeclaredType.{DeclaredType}
@@ -10,30 +9,27 @@ use Rattle.jc_cap_desc.specs.Shape.{MethodBody, MethodShape, Shape}
 use Rattle.jc_cap_method.specs.declared.header.MethodHeader.{MethodHeader}
 use Rattle.jc_check.specs.Checked.{IsMethodTyped}
 use Rattle.jc_check.specs.Method.{Method, entry_of}
-use Rattle.jc_check.specs.Package.{arguments_of, method_of, package_rules}
+use Rattle.jc_check.specs.Package.{arguments_of, method_of}
 use Rattle.jc_classes.specs.Members.{DeclaredMethod, declared_in, method_at}
-use Rattle.jc_classes.specs.Methods.{method_name}
 use Rattle.jc_classes.specs.Subtype.{is_class_below}
 use Rattle.jc_code.specs.declared.instr.Instr.{Instr}
 use Rattle.jc_code.specs.declared.instr.Operation.TheVariants.{Object as OnObjects}
 use Rattle.jc_code.specs.declared.object.Invocation.{Invocation}
 use Rattle.jc_code.specs.declared.object.ObjectOperation.TheVariants.{Invoke}
-use Rattle.jc_link.specs.Linked.{IsWorld, Linked, LinkedBody, World}
+use Rattle.jc_link.specs.Linked.{IsWorld, LinkedBody, World}
 use Rattle.jc_link.specs.MemberType.{declared_type_of}
 use Rattle.jc_link.specs.Named.{is_abstract_method}
 use Rattle.jc_names.specs.declared.name.ClassName.{ClassName}
 use Rattle.jc_names.specs.declared.name.MethodName.{MethodName}
-use Rattle.jc_names.specs.declared.name.MethodName.TheVariants.{Api, Loaded}
+use Rattle.jc_names.specs.declared.name.MethodName.TheVariants.{Loaded}
 use Rattle.jc_names.specs.declared.owner.Owner.{Owner}
 use Rattle.jc_step.specs.Method.{result_of}
-use Rattle.jc_store.specs.Heap as heaps
-use Rattle.jc_store.specs.Heap.{Heap, object_at}
-use Rattle.jc_types.specs.State.{Types, all_below, types_below}
+use Rattle.jc_store.specs.Heap.{Heap}
+use Rattle.jc_types.specs.State.{Types, all_below}
 use Rattle.jc_types.specs.Ty.{type_of_declared}
 use Rattle.jc_types.specs.declared.ty.Ty.{Ty}
 use Rattle.jc_types.specs.declared.ty.Ty.TheVariants as types
 use Rattle.jc_machine.specs.Accepted.{linked_as}
-use Rattle.jc_machine.specs.Agree.{Pointwise}
 use Rattle.jc_machine.specs.Calls.{active_in, entered, enters, frame_of, has_room, previous_in}
 use Rattle.jc_machine.specs.Going.{Here, check, moved, plain, throws}
 use Rattle.jc_machine.specs.Lookup.{are_of_instance, are_of_types, body_at, code_at, declared_at, instruction_at, is_object_of}
@@ -41,7 +37,7 @@ use Rattle.jc_machine.specs.Lookup.{is_of_type, may_begin_with}
 use Rattle.jc_machine.specs.Machine.{Frame, Machine, MethodPlace, Next, Stepped, Surroundings, UsedUp}
 use Rattle.jc_machine.specs.Natives.{IsThrown, KeepsObjects}
 use Rattle.jc_machine.specs.Runtime.{HasRuntimeObjects}
-use Rattle.jc_machine.specs.Typed.{HaveTypes, HeapTyped, HoldTypes, IsEffect, IsOperand, IsPlaced, IsTyped, IsTypedBeside}
+use Rattle.jc_machine.specs.Typed.{HaveTypes, HeapTyped, HoldTypes, IsEffect, IsPlaced, IsTyped, IsTypedBeside}
 use Rattle.jc_machine.specs.Typed.{RunsTyped, StaticsTyped, WaitsTyped, given_by, has_type, with_result_type}
 use Rattle.jc_words.specs.Values.{Null, Ref, TaggedValue, Unset, Word}
 use Rattle.jc_safety.proofs.Goes.{placed}
@@ -50,7 +46,7 @@ use Rattle.jc_safety.proofs.Growing.{keeps_self, operands_still, types_still, wa
 use Rattle.jc_safety.proofs.Lists.{both, get_within, joined_points}
 use Rattle.jc_safety.proofs.Returning.{as_declared_type}
 use Rattle.jc_safety.proofs.Rows as rows
-use Rattle.jc_safety.proofs.Safe.{IsSafe, MayUnwind, safe_check, safe_some}
+use Rattle.jc_safety.proofs.Safe.{IsSafe, safe_check, safe_some}
 use Rattle.jc_safety.proofs.Upward.{types_up}
 
 -- ---- arguments

@@ -1,6 +1,6 @@
 -- What is known of an accepted world in which a machine runs, of each package there, and of the method of a frame.
-use Rattle.std.proofs.Common.{◌≡◌, ℕ, zero, suc, ◌+◌, ◌-◌, ◌<◌, ◌==◌, Bool, true, false, cond, List, [], ◌∷◌, length, take, ◌++◌, map}
-use Rattle.std.proofs.Common.{Option, Some, None, slice_get, unwrap_or, ℤ, refl, sym, ap, ◌∙◌, subst, arith}
+use Rattle.std.proofs.Common.{◌≡◌, ℕ, zero, suc, ◌-◌, ◌<◌, ◌==◌, Bool, true, false, cond, List, [], ◌∷◌, length, ◌++◌, map}
+use Rattle.std.proofs.Common.{Option, Some, slice_get, unwrap_or, ℤ, refl, sym, ap, ◌∙◌, subst, arith}
 use Rattle.std.proofs.lemmas.Bool.{le-ltb}
 use Rattle.std.proofs.Common.{eqb-true}
 use Rattle.std.specs.List.{find}
@@ -11,8 +11,9 @@ use Rattle.jc_api.specs.declared.class.ApiClass.{ApiClass}
 use Rattle.jc_base.specs.Signature.{Signature}
 use Rattle.jc_base.specs.declared.declared_type.DeclaredType.{DeclaredType}
 use Rattle.jc_check.specs.Checked.{IsMethodTyped}
+use Rattle.jc_cap_pool.specs.declared.entry.MemberRef.{MemberRef}
 use Rattle.jc_cap_pool.specs.declared.entry.PoolEntry.{PoolEntry}
-use Rattle.jc_check.specs.Method.{Method}
+use Rattle.jc_cap_pool.specs.declared.entry.PoolEntry.TheVariants.{VirtualMethodref}
 use Rattle.jc_check.specs.Package.{arguments_of, max_locals_of, method_of, receiver_of}
 use Rattle.jc_classes.specs.Growth.{KeepsAllLookups, LiesWithin, StandWithin}
 use Rattle.jc_classes.specs.Members.{DeclaredMethod, method_at}
@@ -26,7 +27,6 @@ use Rattle.jc_link.specs.ApiClasses.{StandsThere}
 use Rattle.jc_link.specs.Growth.{KeepsAllLinking}
 use Rattle.jc_link.specs.KnownTypes.{NameClasses, is_known_target}
 use Rattle.jc_link.specs.Linked.{IsKnown, Linked, LinkedBody, World}
-use Rattle.jc_link.specs.MemberType.{declared_type_of}
 use Rattle.jc_link.specs.Sound.{IsSound}
 use Rattle.jc_link.specs.Target.{pool_target_of}
 use Rattle.jc_link.specs.declared.target.PoolTarget.{PoolTarget}
@@ -35,7 +35,7 @@ use Rattle.jc_names.specs.Names.{home_at}
 use Rattle.jc_names.specs.declared.name.ClassName.{ClassName}
 use Rattle.jc_names.specs.declared.name.MethodName.TheVariants.{Api, Loaded}
 use Rattle.jc_step.specs.Growth.{KeepsAllMembers, KeepsAllOrders, KeepsOwnMethods}
-use Rattle.jc_step.specs.Method.{max_stack_of, own_method, result_of}
+use Rattle.jc_step.specs.Method.{own_method, result_of}
 use Rattle.jc_store.specs.Heap.{Heap}
 use Rattle.jc_types.specs.Ty.{type_of_declared}
 use Rattle.jc_types.specs.declared.ty.Ty.{Ty}
@@ -46,7 +46,6 @@ use Rattle.jc_machine.specs.Natives.{IsLawful, KeepsObjects}
 use Rattle.jc_machine.specs.Runtime.{HasRuntimeObjects}
 use Rattle.jc_words.specs.Shorts.{word_of}
 use Rattle.jc_words.specs.Values.{TaggedValue}
-use Rattle.jc_safety.specs.Tokens.{HaveTokens}
 
 -- ---- packages
 
@@ -99,7 +98,8 @@ pub record Ground {C : Type 0} (s : Surroundings C) : Type 0 where
   pub typed_methods : (place : MethodPlace) (body : LinkedBody) (code : MethodBody)
       → body_at s.world place.number ≡ Some body → code_at s.world place ≡ Some code
       → IsMethodTyped (linked_as s.world place.number body) code
-  pub tokens : HaveTokens s.world
+  pub tokens : (number : ℕ) (body : LinkedBody) (index : ℕ) (ref : MemberRef) → body_at s.world number ≡ Some body
+      → slice_get body.kept.pool index ≡ Some (VirtualMethodref ref) → ref.token < 256
   pub lookups : (before : List Shape) → LiesWithin before s.world.shapes → KeepsAllLookups before s.world.shapes
 
 -- ---- methods

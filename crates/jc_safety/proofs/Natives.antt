@@ -1,14 +1,11 @@
 -- Native members are safe: they give what they are declared to give, throw, or make a call that may be made.
-use Rattle.std.proofs.Common.{◌≡◌, ℕ, zero, suc, ◌+◌, ◌<◌, ◌≤◌, List, [], ◌∷◌, length}
+use Rattle.std.proofs.Common.{◌≡◌, ℕ, ◌<◌, List, [], ◌∷◌, length}
 use Rattle.std.proofs.Common.{Bool, true, false, cond, not, ◌&&◌, Option, Some, None, nat_lt}
 use Rattle.std.proofs.Common.{refl, sym, ap, ◌∙◌, subst, arith}
 use Rattle.std.proofs.lemmas.Bool.{eq-eqb, lt-ltb}
 use Rattle.std.specs.Option.{option_and_then, option_map_or}
 use Rattle.jc_api.specs.Class.{number_of}
-use Rattle.jc_api.specs.Class as tables
-use Rattle.jc_api.specs.Member.{ApiMember, member_of}
 use Rattle.jc_api.specs.declared.class.ApiClass.TheVariants as api
-use Rattle.jc_api.specs.declared.member.MemberKind.TheVariants.{Static}
 use Rattle.jc_base.specs.Signature.{Signature}
 use Rattle.jc_base.specs.declared.declared_type.DeclaredType.{DeclaredType}
 use Rattle.jc_base.specs.declared.declared_type.DeclaredType.TheVariants as Declared
@@ -18,9 +15,9 @@ use Rattle.jc_cap_class.specs.Component.{is_class}
 use Rattle.jc_cap_desc.specs.Shape.{ClassShape, Shape}
 use Rattle.jc_classes.specs.Members.{DeclaredMethod, method_at}
 use Rattle.jc_classes.specs.Methods.{virtual_method_of}
-use Rattle.jc_classes.specs.Subtype.{IsSubtype, is_class_at, is_class_below, is_interface_at}
+use Rattle.jc_classes.specs.Subtype.{IsSubtype, is_class_at, is_class_below}
 use Rattle.jc_classes.specs.Subtype.IsSubtype.{by_interface, by_superclass, object, same}
-use Rattle.jc_classes.specs.World.{class_at, superclass_of}
+use Rattle.jc_classes.specs.World.{class_at}
 use Rattle.jc_link.proofs.SameTypes.{same_signature}
 use Rattle.jc_link.specs.Found.{are_same_types, class_in, is_same_class, is_same_return, is_same_signature, is_same_type, kind_of}
 use Rattle.jc_link.specs.MemberType.{declared_type_of, method_type_of}
@@ -34,21 +31,20 @@ use Rattle.jc_names.specs.declared.name.MethodName.{MethodName}
 use Rattle.jc_names.specs.declared.name.MethodName.TheVariants.{Api, Loaded}
 use Rattle.jc_names.specs.declared.owner.Owner.{Owner}
 use Rattle.jc_step.specs.Method.{result_of, returned_type}
-use Rattle.jc_step.specs.Objects.{has_objects}
 use Rattle.jc_store.specs.Heap as heaps
 use Rattle.jc_store.specs.Heap.{Heap, object_at}
 use Rattle.jc_store.specs.declared.kind.ObjectType.{ObjectType}
 use Rattle.jc_store.specs.declared.kind.ObjectType.TheVariants.{BooleanArray, ByteArray, Instance, ReferenceArray, ShortArray}
 use Rattle.jc_types.specs.State.{Types, all_below}
 use Rattle.jc_types.specs.declared.ty.Ty.{Ty}
-use Rattle.jc_machine.specs.Calls.{VirtualMember, callback_fits, called_as, calls_back, inner_native_ends, invokes, is_in_place_of}
-use Rattle.jc_machine.specs.Calls.{native_ends, native_gives, native_may_begin, native_type, on_native, type_of_member}
+use Rattle.jc_machine.specs.Calls.{callback_fits, called_as, calls_back, inner_native_ends, invokes, is_in_place_of}
+use Rattle.jc_machine.specs.Calls.{native_ends, native_gives, native_type, on_native, type_of_member}
 use Rattle.jc_machine.specs.Calls.{virtual_member, with_given}
-use Rattle.jc_machine.specs.Going.{Here, gives, leaves_operands, moved}
+use Rattle.jc_machine.specs.Going.{Here, leaves_operands, moved}
 use Rattle.jc_machine.specs.Lookup.{are_of_instance, are_of_types, class_of, is_given, is_object_of, is_of_class, is_of_type, may_begin_with}
-use Rattle.jc_machine.specs.Machine.{Callback, Calls, Frame, Gives, IsStuck, Machine, MethodPlace, NativeAnswer, NativeCall}
-use Rattle.jc_machine.specs.Machine.{NativeEnd, Stepped, Surroundings, ThrowsObject}
-use Rattle.jc_machine.specs.Natives.{EndsFit, IsFitAnswer, IsFitCall, IsFitCallback, IsThrown, KeepsObjects}
+use Rattle.jc_machine.specs.Machine.{Callback, Calls, Gives, IsStuck, Machine, NativeAnswer, NativeCall}
+use Rattle.jc_machine.specs.Machine.{NativeEnd, Surroundings, ThrowsObject}
+use Rattle.jc_machine.specs.Natives.{EndsFit, IsFitCall, IsFitCallback, IsThrown}
 use Rattle.jc_machine.specs.Typed.{HaveTypes, HoldTypes, IsOperand, IsTyped, given_by, may_be_made, with_result_type}
 use Rattle.jc_words.specs.Values.{Null, Ref, TaggedValue, Unset, Word, is_written}
 use Rattle.jc_safety.proofs.Below.{interface_object}

@@ -1,2 +1,1 @@
 pub mod Safety
-pub mod Tokens

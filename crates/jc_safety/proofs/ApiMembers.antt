@@ -1,6 +1,8 @@
 -- The members of the API in a built world are what its tables say.
-use Rattle.std.proofs.Common.{◌≡◌, ◌⊎◌, inl, inr, ℕ, zero, suc, ◌+◌, ◌-◌, ◌<◌, ◌≤◌, ◌==◌, List, [], ◌∷◌, ◌++◌, length, take}
-use Rattle.std.proofs.Common.{Bool, true, false, cond, ◌&&◌, ◌||◌, Option, Some, None, is_some, nat_lt, slice_get, unwrap_or}
+use Rattle.std.proofs.Common.{◌≡◌, ◌⊎◌, inl, inr, ℕ, zero, suc, ◌+◌, ◌-◌, ◌<◌, ◌≤◌, ◌==◌, List, [], ◌∷◌, ◌++◌, length}
+use Rattle.std.proofs.Common.{take}
+use Rattle.std.proofs.Common.{Bool, true, false, cond, ◌&&◌, ◌||◌, Option, Some, None, is_some, nat_lt, slice_get}
+use Rattle.std.proofs.Common.{unwrap_or}
 use Rattle.std.proofs.Common.{refl, sym, ap, ◌∙◌, subst, arith, eqb-true}
 use Rattle.std.proofs.lemmas.Bool.{eq-eqb, le-ltb, lt-ltb, ltb-true}
 use Rattle.std.proofs.lemmas.List.Folds.{find_at}
@@ -24,11 +26,13 @@ use Rattle.jc_cap_class.specs.declared.record.RecordBody.{RecordBody}
 use Rattle.jc_cap_class.specs.declared.record.RecordBody.TheVariants.{Class, Interface}
 use Rattle.jc_cap_class.specs.declared.record.VirtualTable.{VirtualTable}
 use Rattle.jc_cap_desc.specs.Shape.{ClassShape, MethodShape, Shape}
-use Rattle.jc_classes.specs.Api.{api_shape, api_world, class_in_api, each_below, is_static, last_member, method_in, number_to}
+use Rattle.jc_classes.specs.Api.{api_shape, api_world, class_in_api, each_below, is_static, last_member, method_in}
+use Rattle.jc_classes.specs.Api.{number_to}
 use Rattle.jc_classes.specs.Api.{public_table}
 use Rattle.jc_classes.specs.Growth.{IsMethodWithin, KeepsAllLookups, LiesWithin}
 use Rattle.jc_classes.specs.Members.{DeclaredMethod, declared_in, method_at, name_of}
-use Rattle.jc_classes.specs.Methods.{declared_above, entry_visit, has_method, method_name, method_of_class, method_there, package_visible}
+use Rattle.jc_classes.specs.Methods.{declared_above, entry_visit, has_method, method_name, method_of_class}
+use Rattle.jc_classes.specs.Methods.{method_there, package_visible}
 use Rattle.jc_classes.specs.Methods.{record_visit, table_visit, virtual_method_of, virtual_visit}
 use Rattle.jc_classes.specs.Subtype.{is_class_at, is_class_below}
 use Rattle.jc_classes.specs.Walk.{found_from, most_classes, walk}
@@ -36,7 +40,8 @@ use Rattle.jc_classes.specs.World.{class_at, superclass_of}
 use Rattle.jc_link.proofs.ApiClasses.{above_itself, above_super, class_itself, class_there}
 use Rattle.jc_link.proofs.ApiLists.{each_is, each_there, number_there, numbered_there, within_room}
 use Rattle.jc_link.proofs.ApiMembers.{has_member, member_range, member_there, no_interface}
-use Rattle.jc_link.proofs.ApiTables.{IsDeclared, class_record, declared_token, entry, found_step, inherited_token, is_declared, room}
+use Rattle.jc_link.proofs.ApiTables.{IsDeclared, class_record, declared_token, entry, found_step, inherited_token}
+use Rattle.jc_link.proofs.ApiTables.{is_declared, room}
 use Rattle.jc_link.specs.Built.{IsBuilt, api, loaded}
 use Rattle.jc_link.specs.Sound.{IsHeir}
 use Rattle.jc_link.specs.Sound.IsHeir.{behind, itself}
@@ -109,8 +114,12 @@ found_position : (p : ℕ → Bool) (xs : List ℕ) (x : ℕ) → find p xs ≡ 
     → (i : ℕ) × (position p xs ≡ Some i) × (slice_get xs i ≡ Some x)
 found_position p xs x e =
     let at : slice_get xs (position_or_len p xs) ≡ Some x = sym (find_at p xs) ∙ e in
-    let less = slice_get_within xs (position_or_len p xs) x at in
-    (position_or_len p xs, ap (λ b. cond b (Some (position_or_len p xs)) None) (lt-ltb (position_or_len p xs) (length xs) less), at)
+    let less = slice_get_within xs (position_or_len p xs) x at in (
+      position_or_len p xs,
+      ap (λ b. cond b (Some (position_or_len p xs)) None) (lt-ltb (position_or_len p xs)
+          (length xs) less),
+      at,
+    )
 
 -- ---- what is found at a public token
 
@@ -121,10 +130,12 @@ module _ (world : List Shape) (home : ℕ) (above : Option MethodName) (m : Meth
   at_entry None own e = absurd cc
   at_entry (Some offset) own e =
       by_test (λ v. found_from v above ≡ Some m → R) (offset == declared_above) _ _ (λ h. k)
-      (λ other. by_test (λ v. found_from v above ≡ Some m → R) (option_map_or (has_method offset) (slice_get world home) false) _ _
+      (λ other. by_test (λ v. found_from v above ≡ Some m → R) (option_map_or (has_method offset)
+      (slice_get world home) false) _ _
       (λ h f. own offset refl other cc) (λ h f. absurd cc)) e
 
-  at_table : (table : VirtualTable) (token : ℕ) → ((offset : ℕ) → slice_get table.methods (token - table.base) ≡ Some offset
+  at_table : (table : VirtualTable) (token : ℕ) → ((offset : ℕ) → slice_get table.methods
+      (token - table.base) ≡ Some offset
       → (offset == declared_above) ≡ false → method_name home offset ≡ m → R)
       → found_from (table_visit world home table token) above ≡ Some m → R
   at_table table token own e =
@@ -168,14 +179,16 @@ module _ (bound : Bound) (clear : HasNoClash bound) (n : ℕ) (x : ApiMember) (i
 
   its_declared : (t : ℕ) → numbered bound.members n ≡ Some t → declared_token bound x.class n ≡ Some t
   its_declared t e =
-      ap (option_and_then (λ (m : ApiMember). cond (is_virtual m.kind && is_same_class m.class x.class) (numbered bound.members n) None)) is
+      ap (option_and_then (λ (m : ApiMember). cond (is_virtual m.kind && is_same_class m.class x.class)
+      (numbered bound.members n) None)) is
       ∙ ap (λ (b : Bool). cond b (numbered bound.members n) None)
       (and_true (is_virtual x.kind) (is_same_class x.class x.class) is_one (class_itself x.class))
       ∙ e
 
   its_inherited : (t : ℕ) → numbered bound.members n ≡ Some t → inherited_token bound x.class n ≡ Some t
   its_inherited t e =
-      ap (option_and_then (λ (m : ApiMember). cond (is_virtual m.kind && is_at_or_above m.class x.class) (numbered bound.members n) None)) is
+      ap (option_and_then (λ (m : ApiMember). cond (is_virtual m.kind && is_at_or_above m.class x.class)
+      (numbered bound.members n) None)) is
       ∙ ap (λ (b : Bool). cond b (numbered bound.members n) None)
       (and_true (is_virtual x.kind) (is_at_or_above x.class x.class) is_one (above_itself x.class))
       ∙ e
@@ -212,7 +225,8 @@ module _ (bound : Bound) (clear : HasNoClash bound) (n : ℕ) (x : ApiMember) (i
         its = its;
         placed = f.1;
         there = f.2;
-        small = subst (λ (kind : MemberKind). f.0 ≤ member_token_limit kind) virtual (clear.member_range n f.0 x is its);
+        small = subst (λ (kind : MemberKind). f.0 ≤ member_token_limit kind) virtual
+            (clear.member_range n f.0 x is its);
       }
     where
       by_number : (i : ℕ) (o : Option ℕ) → number_to last_member (declared_token bound x.class) i ≡ o
@@ -229,12 +243,15 @@ module _ (bound : Bound) (clear : HasNoClash bound) (n : ℕ) (x : ApiMember) (i
 
   -- its class has it
   listed_there : (i : ℕ) → position (λ (m : ℕ). m == n) entries ≡ Some i
-      → virtual_member_in (api_world bound) (classes.Api x.class) n ≡ Some (record { class = classes.Api x.class; token = i })
+      → virtual_member_in (api_world bound) (classes.Api x.class) n ≡ Some
+      (record { class = classes.Api x.class; token = i })
   listed_there i e =
       let same : 0 + i ≡ i = omega arith in
       let P : ℕ → VirtualMember = λ k. record { class = classes.Api x.class; token = k } in
-      ap (λ (o : Option ClassShape). option_map P (option_and_then (λ (k : ClassShape). token_in n k.body) o)) (class_there bound x.class)
-      ∙ ap (λ (b : Bool). option_map P (token_in n (cond b (Interface (record { superinterfaces = [] })) (Class (class_record bound x.class))))) class_is
+      ap (λ (o : Option ClassShape). option_map P (option_and_then (λ (k : ClassShape). token_in n k.body) o))
+      (class_there bound x.class)
+      ∙ ap (λ (b : Bool). option_map P (token_in n (cond b (Interface (record { superinterfaces = [] })) (Class
+      (class_record bound x.class))))) class_is
       ∙ ap (λ (o : Option ℕ). option_map P (option_map (λ k. 0 + k) o)) e
       ∙ ap (λ (k : ℕ). Some (P k)) same
 
@@ -261,14 +278,22 @@ module _ (bound : Bound) (clear : HasNoClash bound) (n : ℕ) (x : ApiMember) (i
   found_there i e low =
       let same : i - 0 ≡ i = omega arith in
       let home = api_home (package_of x.class) in
-      let above = option_and_then (λ d. virtual_method_of (api_world bound) d i 0) (option_map classes.Api (tables.superclass_of x.class)) in
+      let above = option_and_then (λ d. virtual_method_of (api_world bound) d i 0) (option_map classes.Api
+      (tables.superclass_of x.class)) in
       found_step bound clear 0 i x.class
-      ∙ ap (λ (b : Bool). found_from (record_visit (api_world bound) 0 i home (cond b (Interface (record { superinterfaces = [] })) (Class (class_record bound x.class)))) above) class_is
-      ∙ ap (λ (b : Bool). found_from (cond b (table_visit (api_world bound) home (public_table bound x.class) i) (cond (home == 0) (table_visit (api_world bound) home (class_record bound x.class).package_methods (i - package_visible)) (record_visit (api_world bound) 1 128 0 (Class (class_record bound x.class))))) above) (lt-ltb i 128 low)
-      ∙ ap (λ (b : Bool). found_from (cond (b || length entries == 0) (entry_visit (api_world bound) home (Some declared_above)) (entry_visit (api_world bound) home (slice_get entries (i - 0)))) above) (not_below i)
-      ∙ ap (λ (b : Bool). found_from (cond b (entry_visit (api_world bound) home (Some declared_above)) (entry_visit (api_world bound) home (slice_get entries (i - 0)))) above) (some_there entries i e)
+      ∙ ap (λ (b : Bool). found_from (record_visit (api_world bound) 0 i home (cond b (Interface
+      (record { superinterfaces = [] })) (Class (class_record bound x.class)))) above) class_is
+      ∙ ap (λ (b : Bool). found_from (cond b (table_visit (api_world bound) home (public_table bound x.class) i) (cond
+      (home == 0) (table_visit (api_world bound) home (class_record bound x.class).package_methods
+      (i - package_visible)) (record_visit (api_world bound) 1 128 0 (Class (class_record bound x.class))))) above)
+      (lt-ltb i 128 low)
+      ∙ ap (λ (b : Bool). found_from (cond (b || length entries == 0) (entry_visit (api_world bound) home
+      (Some declared_above)) (entry_visit (api_world bound) home (slice_get entries (i - 0)))) above) (not_below i)
+      ∙ ap (λ (b : Bool). found_from (cond b (entry_visit (api_world bound) home (Some declared_above)) (entry_visit
+      (api_world bound) home (slice_get entries (i - 0)))) above) (some_there entries i e)
       ∙ ap (λ (o : Option ℕ). found_from (entry_visit (api_world bound) home o) above) (ap (slice_get entries) same ∙ e)
-      ∙ ap (λ (b : Bool). found_from (cond b (entry_visit (api_world bound) home (Some declared_above)) (method_there (api_world bound) home n)) above) not_above
+      ∙ ap (λ (b : Bool). found_from (cond b (entry_visit (api_world bound) home (Some declared_above)) (method_there
+      (api_world bound) home n)) above) not_above
       ∙ its_name (package_of x.class) (has_member bound n x is) above
 
 -- ---- in a world
@@ -303,7 +328,8 @@ module _ {C : Type 0} (s : Surroundings C) (ground : Ground s) (begins : BeginsS
     class : ApiClass
     declared : IsDeclared bound class token j
 
-  in_class : (b : ApiClass) (token offset : ℕ) → slice_get (each_below (room bound b) (entry bound b)) token ≡ Some offset
+  in_class : (b : ApiClass) (token offset : ℕ) → slice_get (each_below (room bound b)
+      (entry bound b)) token ≡ Some offset
       → (offset == declared_above) ≡ false → IsAt token offset
   in_class b token offset e other =
       by_number (number_to last_member (declared_token bound b) token) refl
@@ -348,8 +374,10 @@ module _ {C : Type 0} (s : Surroundings C) (ground : Ground s) (begins : BeginsS
       → walk (virtual_visit shapes 0 token) shapes steps c ≡ Some (Api j) → IsAt token j
   walk_finds token j low zero c e = absurd cc
   walk_finds token j low (suc n) c e =
-      let above : Option MethodName = option_and_then (walk (virtual_visit shapes 0 token) shapes n) (superclass_of shapes c) in
-      let k = and_then (λ (k : ClassShape). found_from (virtual_visit shapes 0 token c k) above) (class_at shapes c) (Api j) e in
+      let above : Option MethodName = option_and_then (walk (virtual_visit shapes 0 token) shapes n)
+      (superclass_of shapes c) in
+      let k = and_then (λ (k : ClassShape). found_from (virtual_visit shapes 0 token c k) above) (class_at shapes c)
+      (Api j) e in
       at_record shapes (home_of c) above (Api j) (IsAt token j)
       (λ f.
       let d = and_then (walk (virtual_visit shapes 0 token) shapes n) (superclass_of shapes c) (Api j) f in
@@ -389,7 +417,8 @@ module _ {C : Type 0} (s : Surroundings C) (ground : Ground s) (begins : BeginsS
   loaded_name n offset c e b is =
       let far = le-ltb (suc (suc n)) 2 (omega arith) in
       let its : Some (classes.Loaded (suc (suc n) - 1) offset) ≡ Some c =
-      sym (ap (λ (x : Bool). cond x (names.api_name (suc (suc n)) offset) (Some (classes.Loaded (suc (suc n) - 1) offset))) far) ∙ e in
+      sym (ap (λ (x : Bool). cond x (names.api_name (suc (suc n)) offset) (Some (classes.Loaded (suc
+      (suc n) - 1) offset))) far) ∙ e in
       absurd cc
 
   -- a method of a loaded package isn't declared by a class of the API
@@ -399,12 +428,16 @@ module _ {C : Type 0} (s : Surroundings C) (ground : Ground s) (begins : BeginsS
   api_name (Loaded zero offset) d b e is = absurd cc
   api_name (Loaded (suc n) offset) d b e is =
       let a = and_then (declared_in (suc (suc n)) offset) (slice_get shapes (suc (suc n))) d e in
-      let k = and_then (λ (k : ClassShape). option_and_then (λ class. option_map (λ m. record { class = class; method = m }) (method_of_class offset k)) (name_of (suc (suc n)) k))
+      let k = and_then (λ (k : ClassShape). option_and_then (λ class. option_map
+      (λ m. record { class = class; method = m }) (method_of_class offset k)) (name_of (suc (suc n)) k))
       (find (λ (k : ClassShape). is_some (method_of_class offset k)) (a.0).classes) d a.2 in
-      let c = and_then (λ class. option_map (λ m. record { class = class; method = m }) (method_of_class offset k.0)) (name_of (suc (suc n)) k.0) d k.2 in
-      let f = mapped_from (λ (m : MethodShape). record { class = c.0; method = m }) (method_of_class offset k.0) d c.2 in
+      let c = and_then (λ class. option_map (λ m. record { class = class; method = m }) (method_of_class offset k.0))
+      (name_of (suc (suc n)) k.0) d k.2 in
+      let f = mapped_from (λ (m : MethodShape). record { class = c.0; method = m })
+      (method_of_class offset k.0) d c.2 in
       let class_is : c.0 ≡ classes.Api b = ap (λ (y : DeclaredMethod). y.class) f.2 ∙ is in
-      absurd (loaded_name n (k.0).offset c.0 (some_class (nat_lt (k.0).offset 0x10000) (name_in (suc (suc n)) (k.0).offset) c.0 c.1) b class_is)
+      absurd (loaded_name n (k.0).offset c.0 (some_class (nat_lt (k.0).offset 0x10000) (name_in (suc (suc n))
+      (k.0).offset) c.0 c.1) b class_is)
 
   module _ (n : ℕ) (x : ApiMember) (is : member_of n ≡ Some x) (virtual : x.kind ≡ Virtual) where
     abbrev its : InTable bound begins.clear n x is virtual
@@ -421,7 +454,8 @@ module _ {C : Type 0} (s : Surroundings C) (ground : Ground s) (begins : BeginsS
     listed_here : virtual_member shapes n ≡ Some (record { class = classes.Api x.class; token = its.token })
     listed_here =
         ap (option_and_then (λ (m : ApiMember). virtual_member_in shapes (classes.Api m.class) n)) is
-        ∙ ap (λ (o : Option ClassShape). option_map (λ token. record { class = classes.Api x.class; token = token }) (option_and_then (λ (k : ClassShape). token_in n k.body) o))
+        ∙ ap (λ (o : Option ClassShape). option_map (λ token. record { class = classes.Api x.class; token = token })
+        (option_and_then (λ (k : ClassShape). token_in n k.body) o))
         (its_class x.class ∙ sym (class_there bound x.class))
         ∙ listed_there bound begins.clear n x is virtual its.token its.placed
 
@@ -447,13 +481,23 @@ module _ {C : Type 0} (s : Surroundings C) (ground : Ground s) (begins : BeginsS
             let a = walk_finds its.token j (lt-ltb its.token 128 low) most_classes c (finds ∙ ap Some name_is) in
             let k = a.declared in
             let made = its_method j k.member k.number in
-            let same = some_same (method_at shapes name) d (record { class = classes.Api k.member.class; method = method_in bound j k.member }) there
+            let same = some_same (method_at shapes name) d (record {
+              class = classes.Api k.member.class;
+              method =
+                  method_in bound j k.member;
+            }) there
             (ap (method_at shapes) name_is ∙ made) in
-            let classes_same : classes.Api b ≡ classes.Api k.member.class = sym class_is ∙ ap (λ (y : DeclaredMethod). y.class) same in
+            let classes_same : classes.Api b ≡ classes.Api k.member.class = sym class_is ∙ ap (λ
+            (y : DeclaredMethod). y.class) same in
             let b_is : b ≡ k.member.class = cc in
             let up_it = subst (λ (y : ApiClass). is_at_or_above y x.class ≡ true) b_is up in
-            let one = only bound begins.clear n x is virtual j its.token k.member k.number k.virtual up_it k.its_token its.its in
-            let is_it = some_same (method_at shapes name) d (record { class = classes.Api x.class; method = method_in bound n x }) there
+            let one = only bound begins.clear n x is virtual j its.token k.member k.number k.virtual up_it k.its_token
+            its.its in
+            let is_it = some_same (method_at shapes name) d (record {
+              class = classes.Api x.class;
+              method = method_in
+                  bound n x;
+            }) there
             (ap (method_at shapes) (name_is ∙ ap Api one) ∙ its_method n x is) in
             subst (λ (y : ClassName). is_class_below shapes y (classes.Api x.class) ≡ true)
             (sym (ap (λ (y : DeclaredMethod). y.class) is_it)) (ground.order.reflexive (classes.Api x.class))

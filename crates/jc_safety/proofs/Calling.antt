@@ -1,5 +1,6 @@
 -- Calls are safe: each instruction that calls a method.
-use Rattle.std.proofs.Common.{◌≡◌, ℕ, zero, suc, ◌+◌, ◌-◌, ◌<◌, ◌≤◌, ◌==◌, List, [], ◌∷◌, ◌++◌, length, map, take, drop, reverse}
+use Rattle.std.proofs.Common.{◌≡◌, ℕ, zero, suc, ◌+◌, ◌-◌, ◌<◌, ◌≤◌, ◌==◌, List, [], ◌∷◌, ◌++◌, length, map, take}
+use Rattle.std.proofs.Common.{drop, reverse}
 use Rattle.std.proofs.Common.{Bool, true, false, cond, Option, Some, None, nat_lt, slice_get}
 use Rattle.std.proofs.Common.{refl, sym, ap, ◌∙◌, subst, arith, length-drop, eqb-true}
 use Rattle.std.proofs.lemmas.Bool.{ltb-false}
@@ -16,7 +17,8 @@ use Rattle.jc_cap_pool.specs.declared.entry.MemberRef.{MemberRef}
 use Rattle.jc_cap_pool.specs.declared.entry.PoolEntry.{PoolEntry}
 use Rattle.jc_cap_pool.specs.declared.entry.PoolEntry.TheVariants as Entries
 use Rattle.jc_classes.specs.Members.{DeclaredMethod, method_at}
-use Rattle.jc_classes.specs.Methods.{interface_method_of, interface_visit, method_name, public_method_of, virtual_method_of}
+use Rattle.jc_classes.specs.Methods.{interface_method_of, interface_visit, method_name, public_method_of}
+use Rattle.jc_classes.specs.Methods.{virtual_method_of}
 use Rattle.jc_classes.specs.Methods.{package_visible}
 use Rattle.jc_classes.specs.Subtype.{is_class_at}
 use Rattle.jc_classes.specs.Walk.{found}
@@ -29,7 +31,8 @@ use Rattle.jc_code.specs.declared.object.ObjectOperation.TheVariants.{Invoke}
 use Rattle.jc_firewall.specs.declared.access.Access.TheVariants.{InvokeInterface, InvokeVirtual}
 use Rattle.jc_link.specs.Linked.{LinkedBody}
 use Rattle.jc_link.specs.MemberType.{declared_type_of, member_type_of, method_type_of}
-use Rattle.jc_link.specs.Named.{if_passes, is_concrete, method_above, named_above, named_by, named_field, named_static_field}
+use Rattle.jc_link.specs.Named.{if_passes, is_concrete, method_above, named_above, named_by, named_field}
+use Rattle.jc_link.specs.Named.{named_static_field}
 use Rattle.jc_link.specs.Named.{named_static_method, named_virtual, static_place}
 use Rattle.jc_link.specs.Sound.IsHeir.{behind}
 use Rattle.jc_link.specs.Target.{pool_target_of, target_of, target_of_declared}
@@ -42,7 +45,8 @@ use Rattle.jc_names.specs.declared.name.ClassName.{ClassName}
 use Rattle.jc_names.specs.declared.name.MethodName.{MethodName}
 use Rattle.jc_names.specs.declared.owner.Owner.{Owner}
 use Rattle.jc_step.specs.Method.{returned_type}
-use Rattle.jc_step.specs.Objects.{Setting, call, class_target, interface_method_type, interface_row, interface_target_row}
+use Rattle.jc_step.specs.Objects.{Setting, call, class_target, interface_method_type, interface_row}
+use Rattle.jc_step.specs.Objects.{interface_target_row}
 use Rattle.jc_step.specs.Objects.{invocation_row, result_given, special_row, static_call_row, virtual_row}
 use Rattle.jc_step.specs.Row.{Row, after}
 use Rattle.jc_step.specs.Words.{takes}
@@ -57,10 +61,12 @@ use Rattle.jc_types.specs.declared.ty.Ty.{Ty}
 use Rattle.jc_types.specs.declared.ty.Ty.TheVariants as types
 use Rattle.jc_machine.specs.Agree.{Pointwise}
 use Rattle.jc_machine.specs.Calls.{act_call, act_interface, act_of_interface, act_special}
-use Rattle.jc_machine.specs.Calls.{act_static_call, act_virtual, found_for, has_interface, invokes, special_target, static_target}
+use Rattle.jc_machine.specs.Calls.{act_static_call, act_virtual, found_for, has_interface, invokes, special_target}
+use Rattle.jc_machine.specs.Calls.{static_target}
 use Rattle.jc_machine.specs.Calls.{virtual_target, with_arguments, with_receiver}
 use Rattle.jc_machine.specs.Going.{Here, check, facts_of, judged, on_object, on_reference, on_some, require}
-use Rattle.jc_machine.specs.Lookup.{are_of_types, body_at, class_of, instruction_at, is_of_class, is_of_type, is_shared_interface}
+use Rattle.jc_machine.specs.Lookup.{are_of_types, body_at, class_of, instruction_at, is_of_class, is_of_type}
+use Rattle.jc_machine.specs.Lookup.{is_shared_interface}
 use Rattle.jc_machine.specs.Lookup.{leads_to}
 use Rattle.jc_machine.specs.Machine.{Machine, Stepped, Surroundings}
 use Rattle.jc_machine.specs.Runtime.{class_cast_exception}
@@ -71,7 +77,8 @@ use Rattle.jc_safety.proofs.Goes.{placed, throws_at}
 use Rattle.jc_safety.proofs.Ground.{Ground, found_there}
 use Rattle.jc_safety.proofs.Lists.{and_true, drop_points, same_length}
 use Rattle.jc_safety.proofs.Members.{HaveMembers}
-use Rattle.jc_safety.proofs.Natives.{IsMade, class_made, concrete_is, found_method, gives_by, heir_below, below_heir, instance_begins}
+use Rattle.jc_safety.proofs.Natives.{IsMade, class_made, concrete_is, found_method, gives_by, heir_below, below_heir}
+use Rattle.jc_safety.proofs.Natives.{instance_begins}
 use Rattle.jc_safety.proofs.Natives.{invokes_safe, is_object, static_begins, type_there}
 use Rattle.jc_safety.proofs.References.{leads_reference}
 use Rattle.jc_safety.proofs.Returning.{of_declared}
@@ -92,7 +99,8 @@ mapped_length : {A B : Type 0} (f : A → B) (xs : List A) → length (map f xs)
 mapped_length f [] = refl
 mapped_length f (x ∷ xs) = ap suc (mapped_length f xs)
 
-arguments_are : (world : List Shape) (heap : Heap TaggedValue) (ds : List (DeclaredType ClassName)) (vs : List TaggedValue)
+arguments_are : (world : List Shape) (heap : Heap TaggedValue) (ds : List (DeclaredType ClassName))
+    (vs : List TaggedValue)
     → Pointwise (Meets world heap) vs (asked ds) → are_of_types world heap ds vs ≡ true
 arguments_are world heap [] [] h = refl
 arguments_are world heap [] (v ∷ vs) h = absurd h
@@ -110,7 +118,8 @@ record Split {A : Type 0} (n : ℕ) (xs : List A) : Type 0 where
   left : drop (suc n) xs ≡ rest
 
 split_at : {A : Type 0} (n : ℕ) (xs : List A) → n < length xs
-    → (v : A) × (rest : List A) × (drop n xs ≡ v ∷ rest) × (take (suc n) xs ≡ take n xs ++ v ∷ []) × (drop (suc n) xs ≡ rest)
+    → (v : A) × (rest : List A) × (drop n xs ≡ v ∷ rest) × (take (suc n) xs ≡ take n xs ++ v ∷ []) × (drop
+    (suc n) xs ≡ rest)
 split_at n [] lt = absurd (omega arith)
 split_at zero (x ∷ xs) lt = (x, xs, refl, refl, refl)
 split_at (suc n) (x ∷ xs) lt =
@@ -246,7 +255,8 @@ module _ (world : List Shape) (home : ℕ) where
 
   -- ---- a method of a superclass
 
-  record NamesSuper (named : Named) (class : ClassName) (method : MethodName) (signature : Signature ClassName) : Type 0 where
+  record NamesSuper (named : Named) (class : ClassName) (method : MethodName)
+      (signature : Signature ClassName) : Type 0 where
     is : named ≡ Names.SuperMethod class method
     type : method_type_of world method ≡ Some signature
 
@@ -288,7 +298,8 @@ module _ (world : List Shape) (home : ℕ) where
   by_entry_super (Entries.SuperMethodref r) class method signature e type =
       let a = and_then (named_above world home r.token) (class_named world home r.class) _ e in
       let b = then_so (is_class_at world a.0) _ _ a.2 in
-      let c = mapped_from (Names.SuperMethod a.0) (option_and_then (if_passes (is_concrete world)) (method_above world home r.token a.0)) _ b.1 in
+      let c = mapped_from (Names.SuperMethod a.0) (option_and_then (if_passes (is_concrete world))
+      (method_above world home r.token a.0)) _ b.1 in
       let f = and_then (if_passes (is_concrete world)) (method_above world home r.token a.0) c.0 c.1 in
       let g = if_so (is_concrete world f.0) f.0 c.0 f.2 in
       let h = and_then (λ (d : ClassName). virtual_method_of world d r.token home) (superclass_of world a.0) f.0 f.1 in
@@ -342,7 +353,8 @@ module _ (world : List Shape) (home : ℕ) where
       let a = mapped_from _ _ (To.StaticMethod class method static signature) e in absurd cc
   names_static (Names.StaticMethod x) class method static signature e =
       let a = and_then (target_of_declared world x) (method_at world x) _ e in
-      let b = mapped_from (To.StaticMethod (a.0).class x (a.0).method.is_static) (declared_type_of world a.0) (To.StaticMethod class method static signature) a.2 in
+      let b = mapped_from (To.StaticMethod (a.0).class x (a.0).method.is_static) (declared_type_of world a.0)
+      (To.StaticMethod class method static signature) a.2 in
       let is_class : (a.0).class ≡ class = cc in
       let is_method : x ≡ method = cc in
       let is_static : (a.0).method.is_static ≡ static = cc in
@@ -375,8 +387,10 @@ module _ (world : List Shape) (home : ℕ) where
       let b = mapped_from _ _ (Names.StaticMethod method) a.2 in absurd cc
   by_entry_static (Entries.StaticMethodref r) method e =
       let a = and_then (named_static_method world) (static_place (λ row. row.methods) world home r) _ e in
-      let b = mapped_from Names.StaticMethod (if_passes (is_concrete world) (method_name (a.0).home (a.0).offset)) _ a.2 in
-      let c = if_so (is_concrete world (method_name (a.0).home (a.0).offset)) (method_name (a.0).home (a.0).offset) b.0 b.1 in
+      let b = mapped_from Names.StaticMethod (if_passes (is_concrete world) (method_name (a.0).home
+      (a.0).offset)) _ a.2 in
+      let c = if_so (is_concrete world (method_name (a.0).home (a.0).offset)) (method_name (a.0).home
+      (a.0).offset) b.0 b.1 in
       let is : b.0 ≡ method = cc in
       subst (λ (x : MethodName). is_concrete world x ≡ true) (c.1 ∙ is) c.0
 
@@ -400,7 +414,8 @@ else_so true o x e = absurd cc
 else_so false o x e = e
 
 -- the row that says an interface's method, where the interface stands
-record IsOfInterface (world : List Shape) (interface : ClassName) (token : ℕ) (signature : Signature ClassName) : Type 0 where
+record IsOfInterface (world : List Shape) (interface : ClassName) (token : ℕ)
+    (signature : Signature ClassName) : Type 0 where
   class : ClassShape
   there : class_at world interface ≡ Some class
   place : ℕ
@@ -412,9 +427,12 @@ record IsOfInterface (world : List Shape) (interface : ClassName) (token : ℕ) 
 is_of_interface : (world : List Shape) (interface : ClassName) (token : ℕ) (signature : Signature ClassName)
     → interface_method_type world interface token ≡ Some signature → IsOfInterface world interface token signature
 is_of_interface world interface token signature e =
-    let a = and_then (λ (k : ClassShape). cond (is_class k.body) None (option_and_then (λ (m : MethodShape). member_type_of world (home_of interface) m.signature) (find (λ (m : MethodShape). m.token == token) k.methods)))
+    let a = and_then (λ (k : ClassShape). cond (is_class k.body) None (option_and_then (λ
+    (m : MethodShape). member_type_of world (home_of interface) m.signature) (find (λ
+    (m : MethodShape). m.token == token) k.methods)))
     (class_at world interface) signature e in
-    let b = else_so (is_class (a.0).body) (option_and_then (λ (m : MethodShape). member_type_of world (home_of interface) m.signature) (find (λ (m : MethodShape). m.token == token) (a.0).methods))
+    let b = else_so (is_class (a.0).body) (option_and_then (λ (m : MethodShape). member_type_of world
+    (home_of interface) m.signature) (find (λ (m : MethodShape). m.token == token) (a.0).methods))
     signature a.2 in
     let c = and_then (λ (m : MethodShape). member_type_of world (home_of interface) m.signature)
     (find (λ (m : MethodShape). m.token == token) (a.0).methods) signature b in
@@ -437,7 +455,8 @@ module _ {C : Type 0} (s : Surroundings C) (ground : Ground s) (m : Machine C) (
     pub stands : instruction_at (placed s ground m t).code.code m.top.pc ≡ Some call
     pub invokes : call.operation ≡ OnObjects (Invoke invocation)
     pub behind : call.next_pc ≡ next
-    pub effect : IsEffect s.world m.top (placed s ground m t).body (placed s ground m t).code call (rows.state s ground m t) later
+    pub effect : IsEffect s.world m.top (placed s ground m t).body (placed s ground m t).code call
+        (rows.state s ground m t) later
     pub leads : rows.LeadsTo s ground m t later next
 
   abbrev shapes : List Shape
@@ -470,7 +489,11 @@ module _ {C : Type 0} (s : Surroundings C) (ground : Ground s) (m : Machine C) (
 
   -- what a call leaves
   record IsLeft (ds : List Demand) (r : ReturnType ClassName) (later : Types) : Type 0 where
-    is : later ≡ record { locals = state.locals; operands = with_result_type (returned_type r) (drop (length ds) state.operands) }
+    is : later ≡ record {
+      locals = state.locals;
+      operands = with_result_type (returned_type r) (drop
+          (length ds) state.operands);
+    }
     room : length (with_result_type (returned_type r) (drop (length ds) state.operands)) ≤ most
 
   is_left : (ds : List Demand) (r : ReturnType ClassName) (later : Types)
@@ -519,19 +542,24 @@ module _ {C : Type 0} (s : Surroundings C) (ground : Ground s) (m : Machine C) (
     at us = rows.here s ground m t d next us
 
     -- a call without an object
-    arguments_safe : (signature : Signature ClassName) (later : Types) → Applied below most (call [] signature) state later
+    arguments_safe : (signature : Signature ClassName) (later : Types) → Applied below most
+        (call [] signature) state later
         → (go : List TaggedValue → List TaggedValue → Stepped C)
         → (are_of_types shapes m.heap signature.parameters (given_to signature) ≡ true
-        → HoldTypes shapes m.heap (drop (length signature.parameters) ops) (drop (length (asked signature.parameters)) state.operands)
+        → HoldTypes shapes m.heap (drop (length signature.parameters) ops) (drop (length
+        (asked signature.parameters)) state.operands)
         → IsSafe s (go (given_to signature) (drop (length signature.parameters) ops)))
         → IsSafe s (with_arguments (at ops) signature go)
     arguments_safe signature later a go each =
         let count = asked_count signature in
-        let met = subst (λ (j : ℕ). Pointwise (Meets shapes m.heap) (reverse (take j ops)) (asked signature.parameters)) count
+        let met = subst (λ (j : ℕ). Pointwise (Meets shapes m.heap) (reverse (take j ops))
+        (asked signature.parameters)) count
         (rows.met_by s ground m t (call [] signature) later a) in
         let fit = arguments_are shapes m.heap signature.parameters (given_to signature) met in
-        let rest = subst (λ (j : ℕ). HoldTypes shapes m.heap (drop j ops) (drop (length (asked signature.parameters)) state.operands)) count
-        (drop_points (IsOperand shapes m.heap) (length (asked signature.parameters)) ops state.operands t.top.operands_typed) in
+        let rest = subst (λ (j : ℕ). HoldTypes shapes m.heap (drop j ops) (drop (length
+        (asked signature.parameters)) state.operands)) count
+        (drop_points (IsOperand shapes m.heap) (length (asked signature.parameters)) ops state.operands
+        t.top.operands_typed) in
         safe_check s (are_of_types shapes m.heap signature.parameters (given_to signature)) _ fit (each fit rest)
 
     -- a call of an object
@@ -550,22 +578,29 @@ module _ {C : Type 0} (s : Surroundings C) (ground : Ground s) (m : Machine C) (
         let same = same_length (IsOperand shapes m.heap) ops state.operands t.top.operands_typed in
         let enough = ltb-false (length state.operands) (suc (length (asked signature.parameters))) a.enough in
         let sp = split k ops (omega (arith, count, same, enough)) in
-        let met = subst (λ (j : ℕ). Pointwise (Meets shapes m.heap) (reverse (take (suc j) ops)) (e ∷ asked signature.parameters)) count
+        let met = subst (λ (j : ℕ). Pointwise (Meets shapes m.heap) (reverse (take (suc j) ops))
+        (e ∷ asked signature.parameters)) count
         (rows.met_by s ground m t (call (e ∷ []) signature) later a) in
-        let met_all = subst (λ (xs : List TaggedValue). Pointwise (Meets shapes m.heap) xs (e ∷ asked signature.parameters)) sp.taken met in
+        let met_all = subst (λ (xs : List TaggedValue). Pointwise (Meets shapes m.heap) xs
+        (e ∷ asked signature.parameters)) sp.taken met in
         let fit = arguments_are shapes m.heap signature.parameters (given_to signature) met_all.1 in
-        let dropped = subst (λ (j : ℕ). HoldTypes shapes m.heap (drop (suc j) ops) (drop (suc (length (asked signature.parameters))) state.operands)) count
-        (drop_points (IsOperand shapes m.heap) (suc (length (asked signature.parameters))) ops state.operands t.top.operands_typed) in
-        let rest = subst (λ (xs : List TaggedValue). HoldTypes shapes m.heap xs (drop (suc (length (asked signature.parameters))) state.operands)) sp.left dropped in
+        let dropped = subst (λ (j : ℕ). HoldTypes shapes m.heap (drop (suc j) ops) (drop (suc (length
+        (asked signature.parameters))) state.operands)) count
+        (drop_points (IsOperand shapes m.heap) (suc (length (asked signature.parameters))) ops state.operands
+        t.top.operands_typed) in
+        let rest = subst (λ (xs : List TaggedValue). HoldTypes shapes m.heap xs (drop (suc (length
+        (asked signature.parameters))) state.operands)) sp.left dropped in
         let lead = leads sp.value met_all.0 in
         let P : List TaggedValue → Type 0 =
-        λ us. IsSafe s (on_reference us (λ receiver operands. on_object (at ops) receiver (λ number object. go (receiver ∷ given_to signature) number object operands))) in
+        λ us. IsSafe s (on_reference us (λ receiver operands. on_object (at ops) receiver (λ number object. go
+        (receiver ∷ given_to signature) number object operands))) in
         safe_check s (are_of_types shapes m.heap signature.parameters (given_to signature)) _ fit
         (subst P (sym sp.below)
         (safe_check s (is_reference sp.value) _
         (leads_reference m.heap sp.value (leads_up m.heap test any_object sp.value (λ o x. refl) lead))
         (ref_case m.heap test
-        (λ x. IsSafe s (on_object (at ops) x (λ number object. go (x ∷ given_to signature) number object sp.rest))) sp.value lead
+        (λ x. IsSafe s (on_object (at ops) x (λ number object. go
+        (x ∷ given_to signature) number object sp.rest))) sp.value lead
         (rows.safe_null s ground m t d next ops)
         (λ n o found is.
         safe_some s (object_at m.heap n) o (λ object. go (Ref n ∷ given_to signature) n object sp.rest) found
@@ -594,7 +629,9 @@ module _ {C : Type 0} (s : Surroundings C) (ground : Ground s) (m : Machine C) (
       virtual_safe invocation entry class token signature later stands a v small =
           receiver_safe (Below (types.Class class)) (is_of_class shapes class) (λ u is. is.type) signature later a
           (λ arguments n o vs.
-          check (is_of_class shapes class o.kind.object) (judged (at ops) InvokeVirtual n (facts_of (at ops) o None false) (λ switch. on_some (found_for (at ops) token o) (λ method. invokes (at ops) switch method arguments vs))))
+          check (is_of_class shapes class o.kind.object) (judged (at ops) InvokeVirtual n (facts_of
+          (at ops) o None false) (λ switch. on_some (found_for (at ops) token o) (λ method. invokes
+          (at ops) switch method arguments vs))))
           (λ n o vs there is fit rest.
           let made = object_made n o there in
           let kept = ground.sound.virtual_methods.kept (class_of o.kind.object) class token home v.method
@@ -623,7 +660,8 @@ module _ {C : Type 0} (s : Surroundings C) (ground : Ground s) (m : Machine C) (
           → IsSafe s (act_special (at ops) (record { class = class; method = method; signature = signature }))
       special_safe invocation class method signature later stands a may =
           receiver_safe (Below (types.Class class)) (is_of_class shapes class) (λ u is. is.type) signature later a
-          (λ arguments n o vs. check (is_of_class shapes class o.kind.object) (invokes (at ops) None method arguments vs))
+          (λ arguments n o vs. check (is_of_class shapes class o.kind.object) (invokes
+          (at ops) None method arguments vs))
           (λ n o vs there is fit rest.
           safe_check s (is_of_class shapes class o.kind.object) _ is
           (invoked method (returned_type signature.result) (Ref n ∷ given_to signature) (may n o there is fit) None vs
@@ -638,7 +676,8 @@ module _ {C : Type 0} (s : Surroundings C) (ground : Ground s) (m : Machine C) (
           let f = ground.sound.virtual_methods.found x.above x.token home method x.finds in
           let type = type_there shapes method f.declared signature f.there x.type in
           let at_d = ground.names.declared method f.declared f.there in
-          let above = below_heir s ground class f.declared.class (behind class x.above f.declared.class x.up f.heir) at_d in
+          let above = below_heir s ground class f.declared.class
+          (behind class x.above f.declared.class x.up f.heir) at_d in
           let is_below = ground.order.transitive (class_of o.kind.object) class f.declared.class is above in record {
             declared = f.declared;
             there = f.there;
@@ -655,7 +694,8 @@ module _ {C : Type 0} (s : Surroundings C) (ground : Ground s) (m : Machine C) (
           → are_of_types shapes m.heap signature.parameters (given_to signature) ≡ true
           → MayCall shapes m.heap method (returned_type signature.result) (Ref n ∷ given_to signature)
       may_special class method signature x n o there is fit =
-          let of_it = subst (λ (c : ClassName). is_of_class shapes c o.kind.object ≡ true) (sym x.class_is) is in record {
+          let of_it = subst (λ (c : ClassName). is_of_class shapes c o.kind.object ≡ true)
+          (sym x.class_is) is in record {
             declared = x.declared;
             there = x.there;
             concrete = concrete_is shapes method x.declared x.there x.concrete;
@@ -702,20 +742,25 @@ module _ {C : Type 0} (s : Surroundings C) (ground : Ground s) (m : Machine C) (
       of_interface_safe invocation interface token signature later stands a x =
           receiver_safe Reference any_object (λ u is. is) signature later a
           (λ arguments n o vs.
-          judged (at ops) InvokeInterface n (facts_of (at ops) o None (is_shared_interface shapes interface)) (λ switch. require (at ops) class_cast_exception (has_interface shapes interface o) (on_some (interface_method_of shapes (class_of o.kind.object) interface token) (λ method. invokes (at ops) switch method arguments vs))))
+          judged (at ops) InvokeInterface n (facts_of (at ops) o None (is_shared_interface shapes interface))
+          (λ switch. require (at ops) class_cast_exception (has_interface shapes interface o) (on_some
+          (interface_method_of shapes (class_of o.kind.object) interface token) (λ method. invokes
+          (at ops) switch method arguments vs))))
           (λ n o vs there is fit rest.
           let made = object_made n o there in
           safe_judged s (at ops) InvokeInterface n (facts_of (at ops) o None (is_shared_interface shapes interface)) _
           (throws_at s ground m t ops _ (security s ground m.heap t.beside.runtime_objects))
           (λ switch.
           rows.safe_required s ground m t d next ops class_cast_exception (has_interface shapes interface o)
-          (on_some (interface_method_of shapes (class_of o.kind.object) interface token) (λ method. invokes (at ops) switch method (Ref n ∷ given_to signature) vs))
+          (on_some (interface_method_of shapes (class_of o.kind.object) interface token) (λ method. invokes
+          (at ops) switch method (Ref n ∷ given_to signature) vs))
           (class_cast s ground m.heap t.beside.runtime_objects)
           (λ has.
           let h = made.finished.interfaces interface x.class x.place x.row has x.there x.row_there in
           let finds = ap (interface_method_of shapes (class_of o.kind.object) interface) (sym x.token_is) ∙ h.found in
           let v = public_of (class_of o.kind.object) interface token h.method finds in
-          let may = found_method s ground m t m.heap n o v.0 0 h.method signature (given_to signature) there v.1 h.concrete
+          let may = found_method s ground m t m.heap n o v.0 0 h.method signature
+          (given_to signature) there v.1 h.concrete
           (h.type ∙ x.type) fit in
           safe_some s (interface_method_of shapes (class_of o.kind.object) interface token) h.method
           (λ method. invokes (at ops) switch method (Ref n ∷ given_to signature) vs) finds
@@ -735,9 +780,11 @@ module _ {C : Type 0} (s : Surroundings C) (ground : Ground s) (m : Machine C) (
           → LedFrom index target
       led_from index target e =
           let a = and_then (pool_target_of shapes home)
-          (option_and_then (λ (b : LinkedBody). slice_get b.kept.pool index) (body_at s.world m.top.method.number)) target
+          (option_and_then (λ (b : LinkedBody). slice_get b.kept.pool index)
+          (body_at s.world m.top.method.number)) target
           (rows.entry s ground m t index target e) in
-          let b = and_then (λ (b : LinkedBody). slice_get b.kept.pool index) (body_at s.world m.top.method.number) a.0 a.1 in
+          let b = and_then (λ (b : LinkedBody). slice_get b.kept.pool index)
+          (body_at s.world m.top.method.number) a.0 a.1 in
           record { body = b.0; loaded = b.1; entry = a.0; there = b.2; leads = a.2 }
 
       abbrev RowFor : Row → Types → Type 0

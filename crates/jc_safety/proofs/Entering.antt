@@ -32,7 +32,8 @@ use Rattle.jc_types.specs.declared.ty.Ty.TheVariants as types
 use Rattle.jc_machine.specs.Accepted.{linked_as}
 use Rattle.jc_machine.specs.Calls.{active_in, entered, enters, frame_of, has_room, previous_in}
 use Rattle.jc_machine.specs.Going.{Here, check, moved, plain, throws}
-use Rattle.jc_machine.specs.Lookup.{are_of_instance, are_of_types, body_at, code_at, declared_at, instruction_at, is_object_of}
+use Rattle.jc_machine.specs.Lookup.{are_of_instance, are_of_types, body_at, code_at, declared_at, instruction_at}
+use Rattle.jc_machine.specs.Lookup.{is_object_of}
 use Rattle.jc_machine.specs.Lookup.{is_of_type, may_begin_with}
 use Rattle.jc_machine.specs.Machine.{Frame, Machine, MethodPlace, Next, Stepped, Surroundings, UsedUp}
 use Rattle.jc_machine.specs.Natives.{IsThrown, KeepsObjects}
@@ -77,8 +78,10 @@ module _ (world : List Shape) (heap : Heap TaggedValue) where
       (object_typed c v b.0, of_types ts vs b.1)
 
   by_static : (c : ClassName) (static : Bool) (o : Option (Signature ClassName)) (vs : List TaggedValue)
-      → option_map_or (λ (x : Signature ClassName). cond static (are_of_types world heap x.parameters vs) (are_of_instance world heap c x.parameters vs)) o false ≡ true
-      → HaveTypes world heap vs (cond static [] (types.Class c ∷ []) ++ option_map_or (λ (x : Signature ClassName). map type_of_declared x.parameters) o [])
+      → option_map_or (λ (x : Signature ClassName). cond static (are_of_types world heap x.parameters vs)
+      (are_of_instance world heap c x.parameters vs)) o false ≡ true
+      → HaveTypes world heap vs (cond static [] (types.Class c ∷ []) ++ option_map_or (λ
+      (x : Signature ClassName). map type_of_declared x.parameters) o [])
   by_static c static None vs e = absurd cc
   by_static c true (Some x) vs e = of_types x.parameters vs e
   by_static c false (Some x) vs e = of_instance c x.parameters vs e
@@ -268,9 +271,11 @@ module _ {C : Type 0} (s : Surroundings C) (ground : Ground s) (m : Machine C) (
       entry_typed : HaveTypes shapes heap (arguments ++ replicate of.header.max_locals Unset) (entry_of callee).locals
       entry_typed =
           let P : List Ty → Type 0 =
-          λ ts. HaveTypes shapes heap (arguments ++ replicate of.header.max_locals Unset) (ts ++ replicate callee.max_locals types.Top) in
+          λ ts. HaveTypes shapes heap (arguments ++ replicate of.header.max_locals Unset)
+          (ts ++ replicate callee.max_locals types.Top) in
           let Q : ℕ → Type 0 =
-          λ n. HaveTypes shapes heap (arguments ++ replicate of.header.max_locals Unset) (arguments_of shapes of.declared ++ replicate n types.Top) in
+          λ n. HaveTypes shapes heap (arguments ++ replicate of.header.max_locals Unset)
+          (arguments_of shapes of.declared ++ replicate n types.Top) in
           subst P (sym of.arguments)
           (subst Q (sym of.max_locals)
           (joined_points (λ v u. has_type shapes heap v u ≡ true) arguments (replicate of.header.max_locals Unset)
@@ -348,16 +353,19 @@ module _ {C : Type 0} (s : Surroundings C) (ground : Ground s) (m : Machine C) (
         let c = the_some (code_at s.world place) (ground.code place may.declared h.0 may.there h.1 no) in
         let typed = ground.typed_methods place l.0 c.0 l.1 c.1 in
         let of = method_of_code s.world offset l.0 c.0 number l.1 stands c.1 in
-        let same = same_declared (method_at shapes (Loaded number offset)) may.declared of.declared may.there of.found in
+        let same = same_declared (method_at shapes (Loaded number offset)) may.declared of.declared may.there
+        of.found in
         let fit = subst (λ (x : DeclaredMethod). HaveTypes shapes heap arguments (arguments_of shapes x)) same
         (begins_typed shapes heap may.declared arguments may.begins) in
         let given = sym (ap (result_of shapes) same) ∙ may.given in
         safe_some s (option_and_then (λ (x : DeclaredMethod). x.method.header) (declared_at s.world place)) of.header
         (λ header.
-        check (not header.is_abstract) (entered (at us) (frame_of place header arguments (active_in (still us) switch) (previous_in (still us) switch)) header.max_stack vs))
+        check (not header.is_abstract) (entered (at us) (frame_of place header arguments (active_in (still us) switch)
+        (previous_in (still us) switch)) header.max_stack vs))
         (ap (option_and_then (λ (x : DeclaredMethod). x.method.header)) of.found ∙ of.header_is)
         (safe_check s (not of.header.is_abstract)
-        (entered (at us) (frame_of place of.header arguments (active_in (still us) switch) (previous_in (still us) switch)) of.header.max_stack vs)
+        (entered (at us) (frame_of place of.header arguments (active_in (still us) switch) (previous_in
+        (still us) switch)) of.header.max_stack vs)
         (not_so of.header.is_abstract of.concrete)
         (entered_safe place l.0 l.1 c.0 c.1 typed of arguments fit result given us vs site
         (active_in (still us) switch) (previous_in (still us) switch)))

@@ -19,7 +19,8 @@ use Rattle.jc_classes.specs.Subtype.{IsSubtype, is_class_at, is_class_below}
 use Rattle.jc_classes.specs.Subtype.IsSubtype.{by_interface, by_superclass, object, same}
 use Rattle.jc_classes.specs.World.{class_at}
 use Rattle.jc_link.proofs.SameTypes.{same_signature}
-use Rattle.jc_link.specs.Found.{are_same_types, class_in, is_same_class, is_same_return, is_same_signature, is_same_type, kind_of}
+use Rattle.jc_link.specs.Found.{are_same_types, class_in, is_same_class, is_same_return, is_same_signature}
+use Rattle.jc_link.specs.Found.{is_same_type, kind_of}
 use Rattle.jc_link.specs.MemberType.{declared_type_of, method_type_of}
 use Rattle.jc_link.specs.Named.{is_abstract_method, is_concrete}
 use Rattle.jc_link.specs.Sound.{IsFinished, IsHeir}
@@ -34,14 +35,16 @@ use Rattle.jc_step.specs.Method.{result_of, returned_type}
 use Rattle.jc_store.specs.Heap as heaps
 use Rattle.jc_store.specs.Heap.{Heap, object_at}
 use Rattle.jc_store.specs.declared.kind.ObjectType.{ObjectType}
-use Rattle.jc_store.specs.declared.kind.ObjectType.TheVariants.{BooleanArray, ByteArray, Instance, ReferenceArray, ShortArray}
+use Rattle.jc_store.specs.declared.kind.ObjectType.TheVariants.{BooleanArray, ByteArray, Instance, ReferenceArray}
+use Rattle.jc_store.specs.declared.kind.ObjectType.TheVariants.{ShortArray}
 use Rattle.jc_types.specs.State.{Types, all_below}
 use Rattle.jc_types.specs.declared.ty.Ty.{Ty}
 use Rattle.jc_machine.specs.Calls.{callback_fits, called_as, calls_back, inner_native_ends, invokes, is_in_place_of}
 use Rattle.jc_machine.specs.Calls.{native_ends, native_gives, native_type, on_native, type_of_member}
 use Rattle.jc_machine.specs.Calls.{virtual_member, with_given}
 use Rattle.jc_machine.specs.Going.{Here, leaves_operands, moved}
-use Rattle.jc_machine.specs.Lookup.{are_of_instance, are_of_types, class_of, is_given, is_object_of, is_of_class, is_of_type, may_begin_with}
+use Rattle.jc_machine.specs.Lookup.{are_of_instance, are_of_types, class_of, is_given, is_object_of, is_of_class}
+use Rattle.jc_machine.specs.Lookup.{is_of_type, may_begin_with}
 use Rattle.jc_machine.specs.Machine.{Callback, Calls, Gives, IsStuck, Machine, NativeAnswer, NativeCall}
 use Rattle.jc_machine.specs.Machine.{NativeEnd, Surroundings, ThrowsObject}
 use Rattle.jc_machine.specs.Natives.{EndsFit, IsFitCall, IsFitCallback, IsThrown}
@@ -81,7 +84,8 @@ declared_written world heap Declared.ByteArray v e = leads_written heap _ v e
 declared_written world heap Declared.ShortArray v e = leads_written heap _ v e
 declared_written world heap (Declared.ReferenceArray c) v e = leads_written heap (holds_below world c) v e
 
-pub given_result : (world : List Shape) (heap : Heap TaggedValue) (r : ReturnType ClassName) (value : Option TaggedValue)
+pub given_result : (world : List Shape) (heap : Heap TaggedValue) (r : ReturnType ClassName)
+    (value : Option TaggedValue)
     → is_given world heap r value ≡ true → IsResult world heap value (returned_type r)
 given_result world heap Void None e = tt
 given_result world heap Void (Some v) e = absurd cc
@@ -105,7 +109,8 @@ native_result world true (Some x) d given e f =
 begins_if : (world : List Shape) (heap : Heap TaggedValue) (o : Option DeclaredMethod) (d : DeclaredMethod)
     → (arguments : List TaggedValue) → o ≡ Some d → is_abstract_method d.method ≡ false
     → may_begin_with world heap d arguments ≡ true
-    → (option_map_or (λ (x : DeclaredMethod). not (is_abstract_method x.method)) o false && option_map_or (λ (x : DeclaredMethod). may_begin_with world heap x arguments) o false) ≡ true
+    → (option_map_or (λ (x : DeclaredMethod). not (is_abstract_method x.method)) o false && option_map_or (λ
+    (x : DeclaredMethod). may_begin_with world heap x arguments) o false) ≡ true
 begins_if world heap None d arguments e f g = absurd cc
 begins_if world heap (Some x) d arguments e f g =
     let is : x ≡ d = cc in
@@ -200,7 +205,8 @@ module _ {C : Type 0} (s : Surroundings C) (ground : Ground s) where
   object_made =
       let there = ground.api api.Object in record {
         class = ground.names.object;
-        finished = ground.sound.finished (classes.Api api.Object) there.shape there.there there.class_or_not there.abstract_or_not;
+        finished = ground.sound.finished (classes.Api api.Object) there.shape there.there there.class_or_not
+            there.abstract_or_not;
       }
 
   pub class_made : (o : ObjectType) → may_be_made s.world.shapes o ≡ true → IsMade (class_of o)
@@ -222,9 +228,11 @@ pub instance_begins : (world : List Shape) (heap : Heap TaggedValue) (d : Declar
     → may_begin_with world heap d (v ∷ vs) ≡ true
 instance_begins world heap d x v vs type instance on arguments =
     let P : Option (Signature ClassName) → Type 0 =
-    λ o. option_map_or (λ (y : Signature ClassName). cond d.method.is_static (are_of_types world heap y.parameters (v ∷ vs)) (are_of_instance world heap d.class y.parameters (v ∷ vs))) o false ≡ true in
+    λ o. option_map_or (λ (y : Signature ClassName). cond d.method.is_static (are_of_types world heap y.parameters
+    (v ∷ vs)) (are_of_instance world heap d.class y.parameters (v ∷ vs))) o false ≡ true in
     let Q : Bool → Type 0 =
-    λ b. cond b (are_of_types world heap x.parameters (v ∷ vs)) (are_of_instance world heap d.class x.parameters (v ∷ vs)) ≡ true in
+    λ b. cond b (are_of_types world heap x.parameters (v ∷ vs)) (are_of_instance world heap d.class x.parameters
+    (v ∷ vs)) ≡ true in
     subst P (sym type)
     (subst Q (sym instance)
     (and_true (is_object_of world heap d.class v) (are_of_types world heap x.parameters vs) on arguments))
@@ -234,7 +242,8 @@ pub static_begins : (world : List Shape) (heap : Heap TaggedValue) (d : Declared
     → are_of_types world heap x.parameters vs ≡ true → may_begin_with world heap d vs ≡ true
 static_begins world heap d x vs type static arguments =
     let P : Option (Signature ClassName) → Type 0 =
-    λ o. option_map_or (λ (y : Signature ClassName). cond d.method.is_static (are_of_types world heap y.parameters vs) (are_of_instance world heap d.class y.parameters vs)) o false ≡ true in
+    λ o. option_map_or (λ (y : Signature ClassName). cond d.method.is_static (are_of_types world heap y.parameters vs)
+    (are_of_instance world heap d.class y.parameters vs)) o false ≡ true in
     let Q : Bool → Type 0 =
     λ b. cond b (are_of_types world heap x.parameters vs) (are_of_instance world heap d.class x.parameters vs) ≡ true in
     subst P (sym type) (subst Q (sym static) arguments)
@@ -247,7 +256,8 @@ pub concrete_is : (world : List Shape) (name : MethodName) (d : DeclaredMethod) 
     → is_concrete world name ≡ true → is_abstract_method d.method ≡ false
 concrete_is world name d e f =
     not_true (is_abstract_method d.method)
-    (sym (ap (λ (o : Option DeclaredMethod). option_map_or (λ (x : DeclaredMethod). not (is_abstract_method x.method)) o false) e) ∙ f)
+    (sym (ap (λ (o : Option DeclaredMethod). option_map_or (λ (x : DeclaredMethod). not
+    (is_abstract_method x.method)) o false) e) ∙ f)
   where
     not_true : (b : Bool) → not b ≡ true → b ≡ false
     not_true true e = absurd cc
@@ -264,9 +274,11 @@ module _ {C : Type 0} (s : Surroundings C) (ground : Ground s) (m : Machine C) (
 
   -- an object as a reference to it
   pub is_object : (heap : Heap TaggedValue) (n : ℕ) (o : heaps.Object TaggedValue) (c : ClassName)
-      → object_at heap n ≡ Some o → is_of_class shapes c o.kind.object ≡ true → is_object_of shapes heap c (Ref n) ≡ true
+      → object_at heap n ≡ Some o → is_of_class shapes c o.kind.object ≡ true → is_object_of shapes heap c
+      (Ref n) ≡ true
   is_object heap n o c found is =
-      ap (λ (x : Option (heaps.Object TaggedValue)). option_map_or (λ (o : heaps.Object TaggedValue). is_of_class shapes c o.kind.object) x false)
+      ap (λ (x : Option (heaps.Object TaggedValue)). option_map_or (λ
+      (o : heaps.Object TaggedValue). is_of_class shapes c o.kind.object) x false)
       found
       ∙ is
 
@@ -320,7 +332,8 @@ module _ {C : Type 0} (s : Surroundings C) (ground : Ground s) (m : Machine C) (
       let call = native_call member arguments active previous heap runtime in
       let fit : IsFitCall s.natives s.world call =
       record {
-        begins = begins_if shapes heap (method_at shapes (Api member)) may.declared arguments may.there may.concrete may.begins;
+        begins = begins_if shapes heap (method_at shapes (Api member)) may.declared arguments may.there may.concrete
+            may.begins;
         heap = b.typed;
         runtime_objects = b.runtime_objects;
         fits = b.fits;
@@ -338,7 +351,8 @@ module _ {C : Type 0} (s : Surroundings C) (ground : Ground s) (m : Machine C) (
         given = a.given;
         declared = a.declared;
         result_is =
-            sym (native_result shapes (is_concrete shapes (Api member)) (method_at shapes (Api member)) may.declared a.given may.there a.declared)
+            sym (native_result shapes (is_concrete shapes (Api member)) (method_at shapes
+            (Api member)) may.declared a.given may.there a.declared)
             ∙ may.given;
         ends = a.ends;
       }
@@ -367,7 +381,8 @@ module _ {C : Type 0} (s : Surroundings C) (ground : Ground s) (m : Machine C) (
           (all_below (is_class_below shapes) site.after.operands leads.state.operands) up in
           let has = subst (λ (x : Types). HaveTypes shapes heap m.top.locals x.locals) (sym site.after_is)
           (types_still m.heap heap b.keeps shapes m.top.locals p.state.locals p.locals_typed) in
-          let held = subst (λ (x : Types). HoldTypes shapes heap operands x.operands) (sym site.after_is) holds in record {
+          let held = subst (λ (x : Types). HoldTypes shapes heap operands x.operands)
+          (sym site.after_is) holds in record {
             beside = beside_now s ground m t d next heap runtime b (moved m.top next m.top.locals operands) m.waiting;
             top = record {
               placed = record {
@@ -393,11 +408,15 @@ module _ {C : Type 0} (s : Surroundings C) (ground : Ground s) (m : Machine C) (
           → Site s ground m t result vs next → IsResult shapes heap value result
           → IsSafe s (with_given (spot heap runtime b us) value vs)
       gives_safe None None us vs site is =
-          record { fine = goes_on_typed None vs vs site (operands_still m.heap heap b.keeps shapes vs site.left site.holds) }
+          record {
+            fine = goes_on_typed None vs vs site (operands_still m.heap heap b.keeps shapes vs site.left
+                site.holds);
+          }
       gives_safe (Some v) (Some u) us vs site is =
           let count = same_length (IsOperand shapes m.heap) vs site.left site.holds in
           let few = site.room in
-          safe_check s (nat_lt (length vs) (entering.most s ground m t)) (leaves_operands (spot heap runtime b us) (v ∷ vs))
+          safe_check s (nat_lt (length vs) (entering.most s ground m t)) (leaves_operands (spot heap runtime b us)
+          (v ∷ vs))
           (lt-ltb (length vs) (entering.most s ground m t) (omega (arith, count, few)))
           (record {
             fine =
@@ -414,7 +433,8 @@ module _ {C : Type 0} (s : Surroundings C) (ground : Ground s) (m : Machine C) (
       native_gives_safe given result result_is value us vs site is =
           safe_check s (is_given shapes heap given.result value) (with_given (spot heap runtime b us) value vs) is
           (gives_safe value result us vs site
-          (subst (λ (r : Option Ty). IsResult shapes heap value r) result_is (given_result shapes heap given.result value is)))
+          (subst (λ (r : Option Ty). IsResult shapes heap value r) result_is
+          (given_result shapes heap given.result value is)))
 
       -- the end of a native member that makes no call
       inner_ends : (call : NativeCall C) (a : NativeAnswer C) → a.heap ≡ heap
@@ -435,7 +455,8 @@ module _ {C : Type 0} (s : Surroundings C) (ground : Ground s) (m : Machine C) (
     -- ---- a native member that another one calls
 
     -- only static members make calls
-    no_calls : HaveMembers shapes → (heap : Heap TaggedValue) (runtime : C) (member : ℕ) (active : Owner) (previous : Option Owner)
+    no_calls : HaveMembers shapes → (heap : Heap TaggedValue) (runtime : C) (member : ℕ) (active : Owner)
+        (previous : Option Owner)
         → (x : DeclaredMethod) (arguments : List TaggedValue) → method_at shapes (Api member) ≡ Some x
         → x.method.is_static ≡ false → (a : NativeAnswer C) (given : Signature ClassName) (callback : Callback)
         → IsFitCallback s.world (native_call member arguments active previous heap runtime) a given callback → ⊥
@@ -444,7 +465,8 @@ module _ {C : Type 0} (s : Surroundings C) (ground : Ground s) (m : Machine C) (
         absurd cc
 
     inner_native : HaveMembers shapes → (heap : Heap TaggedValue) (runtime : C) (b : Beside s ground m t heap runtime)
-        → (member : ℕ) (result : Option Ty) (arguments : List TaggedValue) (may : MayCall shapes heap (Api member) result arguments)
+        → (member : ℕ) (result : Option Ty) (arguments : List TaggedValue) (may : MayCall shapes heap
+        (Api member) result arguments)
         → may.declared.method.is_static ≡ false → (active : Owner) (previous : Option Owner) (us vs : List TaggedValue)
         → Site s ground m t result vs next
         → IsSafe s (on_native (spot heap runtime b us) active previous member arguments (inner_native_ends vs))
@@ -456,12 +478,14 @@ module _ {C : Type 0} (s : Surroundings C) (ground : Ground s) (m : Machine C) (
         (safe_touched s a.touches (inner_native_ends vs (spot a.heap a.runtime x.beside us) x.given a.ends)
         (inner_ends a.heap a.runtime x.beside call a refl x.given result x.result_is us vs site a.ends x.ends
         (λ callback fit.
-        no_calls members heap runtime member active previous may.declared arguments may.there instance a x.given callback fit)))
+        no_calls members heap runtime member active previous may.declared arguments may.there instance a x.given
+        callback fit)))
 
     -- ---- a call that a native member makes
 
     called : HaveMembers shapes → (heap : Heap TaggedValue) (runtime : C) (b : Beside s ground m t heap runtime)
-        → (name : MethodName) (result : Option Ty) (arguments : List TaggedValue) (may : MayCall shapes heap name result arguments)
+        → (name : MethodName) (result : Option Ty) (arguments : List TaggedValue)
+        (may : MayCall shapes heap name result arguments)
         → may.declared.method.is_static ≡ false → (owner : Owner) (us vs : List TaggedValue)
         → Site s ground m t result vs next
         → IsSafe s (called_as (spot heap runtime b us) owner name arguments vs)
@@ -476,11 +500,14 @@ module _ {C : Type 0} (s : Surroundings C) (ground : Ground s) (m : Machine C) (
     in_place c x name y there below type =
         and_true (option_map_or (λ (z : DeclaredMethod). is_class_below shapes z.class c) (method_at shapes name) false)
         (option_map_or (is_same_signature x) (method_type_of shapes name) false)
-        (ap (λ (o : Option DeclaredMethod). option_map_or (λ (z : DeclaredMethod). is_class_below shapes z.class c) o false) there ∙ below)
-        (ap (λ (o : Option (Signature ClassName)). option_map_or (is_same_signature x) o false) type ∙ signature_itself x)
+        (ap (λ (o : Option DeclaredMethod). option_map_or (λ (z : DeclaredMethod). is_class_below shapes z.class c) o
+        false) there ∙ below)
+        (ap (λ (o : Option (Signature ClassName)). option_map_or (is_same_signature x) o false) type
+        ∙ signature_itself x)
 
     -- the method that is found in place of the member
-    module _ (members : HaveMembers shapes) (heap : Heap TaggedValue) (runtime : C) (b : Beside s ground m t heap runtime)
+    module _ (members : HaveMembers shapes) (heap : Heap TaggedValue) (runtime : C)
+        (b : Beside s ground m t heap runtime)
         (call : NativeCall C) (a : NativeAnswer C) (is : a.heap ≡ heap) (given : Signature ClassName)
         (callback : Callback) (fit : IsFitCallback s.world call a given callback) where
       abbrev class : ClassName
@@ -522,19 +549,24 @@ module _ {C : Type 0} (s : Surroundings C) (ground : Ground s) (m : Machine C) (
           → Site s ground m t result vs next → IsSafe s (calls_back (spot heap runtime b us) given callback vs)
       unfolding found_method
       calls_back_safe result result_is us vs site =
-          let kept = ground.sound.virtual_methods.kept on class its.token 0 (Api callback.member) on_heir its.small its.found in
+          let kept = ground.sound.virtual_methods.kept on class its.token 0
+          (Api callback.member) on_heir its.small its.found in
           let f = ground.sound.virtual_methods.found on its.token 0 kept.method kept.found in
           let type = kept.type ∙ fit.declared in
           let concrete = made.finished.concrete its.token 0 kept.method its.small (some_world s ground) kept.found in
           let same_result = return_same given.result fit.signature.result fit.result in
-          let may = found_method heap callback.object fit.object its.token 0 kept.method fit.signature callback.arguments there
+          let may = found_method heap callback.object fit.object its.token 0 kept.method fit.signature
+          callback.arguments there
           kept.found concrete type arguments_fit in
           let gives = sym (ap returned_type same_result) ∙ result_is in
           safe_some s (object_at heap callback.object) fit.object _ there
           (safe_some s (type_of_member shapes callback.member) fit.signature _ fit.declared
-          (safe_some s (virtual_member shapes callback.member) (record { class = class; token = its.token }) _ its.listed
-          (safe_check s (callback_fits (spot heap runtime b us) given fit.signature class fit.object callback.arguments) _
-          (three_true (is_of_class shapes class fit.object.kind.object) (is_same_return given.result fit.signature.result)
+          (safe_some s (virtual_member shapes callback.member)
+          (record { class = class; token = its.token }) _ its.listed
+          (safe_check s (callback_fits (spot heap runtime b us) given fit.signature class fit.object
+          callback.arguments) _
+          (three_true (is_of_class shapes class fit.object.kind.object)
+          (is_same_return given.result fit.signature.result)
           (are_of_types shapes heap fit.signature.parameters callback.arguments) fit.below fit.result arguments_fit)
           (safe_some s (virtual_method_of shapes on its.token 0) kept.method _ kept.found
           (safe_check s (is_in_place_of shapes class fit.signature kept.method) _
@@ -567,8 +599,10 @@ module _ {C : Type 0} (s : Surroundings C) (ground : Ground s) (m : Machine C) (
         calls_back_safe members heap runtime b call a is given callback fit result result_is us vs site
     ends_safe members heap runtime b call a is given result result_is us vs site IsStuck fit = absurd fit
 
-    pub invokes_safe : HaveMembers shapes → (heap : Heap TaggedValue) (runtime : C) (b : Beside s ground m t heap runtime)
-        → (name : MethodName) (result : Option Ty) (arguments : List TaggedValue) → MayCall shapes heap name result arguments
+    pub invokes_safe : HaveMembers shapes → (heap : Heap TaggedValue) (runtime : C)
+        (b : Beside s ground m t heap runtime)
+        → (name : MethodName) (result : Option Ty) (arguments : List TaggedValue)
+        → MayCall shapes heap name result arguments
         → (switch : Option Owner) (us vs : List TaggedValue) → Site s ground m t result vs next
         → IsSafe s (invokes (spot heap runtime b us) switch name arguments vs)
     invokes_safe members heap runtime b (Loaded number offset) result arguments may switch us vs site =

@@ -1,15 +1,13 @@
 -- Instructions on arrays are safe.
-use Rattle.std.proofs.Common.{◌≡◌, ℕ, zero, suc, ◌+◌, ◌-◌, ◌<◌, List, [], ◌∷◌, length, take, drop, reverse, set, slice_get}
-use Rattle.std.proofs.Common.{Bool, true, false, ◌&&◌, ◌||◌, not, Option, Some, None, Result, Ok, nat_lt, pos, unwrap_or}
-use Rattle.std.proofs.Common.{refl, sym, ap, ◌∙◌, subst, arith, is_some}
+use Rattle.std.proofs.Common.{◌≡◌, ℕ, ◌<◌, List, [], ◌∷◌, length, drop, set, slice_get}
+use Rattle.std.proofs.Common.{Bool, true, false, ◌&&◌, not, Option, Some, nat_lt, pos}
+use Rattle.std.proofs.Common.{refl, sym, ap, ◌∙◌, subst}
 use Rattle.std.proofs.lemmas.Bool.{lt-ltb, ltb-true}
-use Rattle.std.specs.List.{AllByRecursion}
 use Rattle.std.specs.Option.{option_map_or}
 use Rattle.std.specs.Prelude.{int_lt}
 use Rattle.jc_api.specs.declared.class.ApiClass.TheVariants as api
 use Rattle.jc_cap_desc.specs.Shape.{Shape}
 use Rattle.jc_classes.specs.Members.{DeclaredMethod}
-use Rattle.jc_classes.specs.Subtype.{is_class_below}
 use Rattle.jc_code.specs.declared.object.Form.{Form}
 use Rattle.jc_code.specs.declared.object.Form.TheVariants as Forms
 use Rattle.jc_names.specs.declared.name.ClassName.{ClassName}
@@ -17,7 +15,7 @@ use Rattle.jc_names.specs.declared.name.ClassName.TheVariants.{Api}
 use Rattle.jc_step.specs.Objects.{array_of, component_loaded, component_stored}
 use Rattle.jc_step.specs.Row.{Row, after, component_of}
 use Rattle.jc_step.specs.Words.{takes, word}
-use Rattle.jc_step.specs.declared.row.Demand.TheVariants.{Array, Below, Bytes, Reference}
+use Rattle.jc_step.specs.declared.row.Demand.TheVariants.{Array, Below, Reference}
 use Rattle.jc_step.specs.declared.row.Given.TheVariants.{ComponentOf, Exactly, Nothing}
 use Rattle.jc_store.specs.Heap as heaps
 use Rattle.jc_store.specs.Heap.{Heap, object_at}
@@ -27,13 +25,12 @@ use Rattle.jc_types.specs.State.{Types}
 use Rattle.jc_types.specs.Ty.{is_below}
 use Rattle.jc_types.specs.declared.ty.Ty.{Ty}
 use Rattle.jc_types.specs.declared.ty.Ty.TheVariants as types
-use Rattle.jc_machine.specs.Agree.{Pointwise}
-use Rattle.jc_machine.specs.Arrays.{act_length, act_load, act_store, act_store_reference, act_store_word, is_array_of, is_in_bounds, loaded_as, stored_as}
+use Rattle.jc_machine.specs.Arrays.{act_length, act_load, act_store_reference, act_store_word, is_array_of, is_in_bounds, loaded_as, stored_as}
 use Rattle.jc_machine.specs.Going.{Here, accessed, check, gives, on_object, on_some, require}
 use Rattle.jc_machine.specs.Lookup.{class_of, component_class, is_array, is_byte, is_instance, is_of_class, is_short_array}
 use Rattle.jc_machine.specs.Lookup.{is_word, leads_to, mark_of}
 use Rattle.jc_firewall.specs.declared.access.Access.TheVariants.{ArrayLength, LoadComponent, StoreComponent, StoreReference}
-use Rattle.jc_machine.specs.Machine.{Machine, Stepped, Surroundings}
+use Rattle.jc_machine.specs.Machine.{Machine, Surroundings}
 use Rattle.jc_machine.specs.Runtime.{array_index_exception, array_store_exception}
 use Rattle.jc_machine.specs.Typed.{CellsTyped, HoldTypes, IsOperand, IsTyped, has_type}
 use Rattle.jc_words.specs.Shorts.{low_byte, short, signed_byte}
@@ -42,14 +39,14 @@ use Rattle.jc_safety.proofs.Below.{instance_below}
 use Rattle.jc_safety.proofs.Bounds.{byte_bound, low_bound}
 use Rattle.jc_safety.proofs.Ground.{Ground}
 use Rattle.jc_safety.proofs.Lists.{both, each_at, each_set, get_within}
-use Rattle.jc_safety.proofs.Rows.{LeadsTo, below, here, gives_it, held, leaves_stored, leaves_them, locals_still, met_by, most}
+use Rattle.jc_safety.proofs.Rows.{LeadsTo, below, here, gives_it, held, leaves_stored, locals_still, met_by, most}
 use Rattle.jc_safety.proofs.Rows.{orders, safe_accessed, safe_null, safe_required, safe_to_store, state, world}
 use Rattle.jc_safety.proofs.Safe.{IsSafe, safe_check, safe_some}
 use Rattle.jc_safety.proofs.Goes.{room_left, safe_gives}
 use Rattle.jc_safety.proofs.Taking.{Applied, Meets, any_object, leaves_nothing, meets_value, take_one, take_three, take_two, word_case}
 use Rattle.jc_safety.proofs.Thrown.{array_index, array_store}
 use Rattle.jc_safety.proofs.Upward.{holds_below, leads_up}
-use Rattle.jc_safety.proofs.Writing.{IsNumber, byte_number, ref_case, typed_at, word_number}
+use Rattle.jc_safety.proofs.Writing.{IsNumber, byte_number, ref_case, typed_at}
 
 -- an index within an array
 in_bounds : (index : ℕ) (o : heaps.Object TaggedValue) → is_in_bounds index o ≡ true → index < length o.cells

@@ -1,18 +1,18 @@
 -- What instructions on words give are words of 16 bits.
-use Rattle.std.proofs.Common.{◌≡◌, ℕ, zero, suc, ◌+◌, ◌-◌, ◌*◌, ◌%◌, ◌/◌, ◌^◌, ◌<◌, ◌≤◌, ◌==◌, Bool, true, false, cond}
-use Rattle.std.proofs.Common.{Option, Some, None, refl, sym, ap, ◌∙◌, subst, arith, nat_lt, ℤ, pos, negsuc, nat_abs, neg_ℤ}
-use Rattle.std.proofs.lemmas.Bool.{lt-ltb, ltb-true, ltb-false}
+use Rattle.std.proofs.Common.{◌≡◌, ℕ, zero, suc, ◌+◌, ◌-◌, ◌*◌, ◌%◌, ◌<◌, ◌≤◌, ◌==◌, Bool, true, false, cond}
+use Rattle.std.proofs.Common.{Some, None, refl, subst, arith, nat_lt, ℤ, pos, negsuc, nat_abs, neg_ℤ}
+use Rattle.std.proofs.lemmas.Bool.{ltb-true}
 use Rattle.std.proofs.lemmas.Nat.{and_le_l, div-add-mod', or_lt, xor_lt}
 use Rattle.std.proofs.Math.Nat.{mod-lt}
 use Rattle.std.specs.Int.{cast_signed, cast_unsigned, w16, w8}
-use Rattle.std.specs.Prelude.{bit_and, bit_or, bit_xor, int_div, int_rem}
+use Rattle.std.specs.Prelude.{bit_and, int_div, int_rem}
 use Rattle.jc_code.specs.declared.instr.BinaryOperator.{BinaryOperator}
 use Rattle.jc_code.specs.declared.instr.BinaryOperator.TheVariants.{Add, And, Divide, Multiply, Or, Remainder}
 use Rattle.jc_code.specs.declared.instr.BinaryOperator.TheVariants.{ShiftLeft, ShiftRight, ShiftRightUnsigned}
 use Rattle.jc_code.specs.declared.instr.BinaryOperator.TheVariants.{Subtract, Xor}
 use Rattle.jc_code.specs.declared.instr.UnaryOperator.{UnaryOperator}
 use Rattle.jc_code.specs.declared.instr.UnaryOperator.TheVariants.{Negate, ToByte}
-use Rattle.jc_words.specs.Shorts.{binary_of, divided, incremented, low_byte, low_half, short, signed_byte, unary_of, word_of}
+use Rattle.jc_words.specs.Shorts.{binary_of, incremented, low_byte, low_half, short, signed_byte, unary_of, word_of}
 
 -- a short's bits
 abbrev pub IsShort : ℤ → Type 0

@@ -1,7 +1,7 @@
 -- Casts are safe: what passes a test is of the type that the check gives it.
-use Rattle.std.proofs.Common.{◌≡◌, ℕ, zero, suc, ◌+◌, ◌<◌, List, [], ◌∷◌, length, drop, slice_get, Bool, true, false, cond, not}
-use Rattle.std.proofs.Common.{Option, Some, None, nat_lt, refl, sym, ap, ◌∙◌, subst}
-use Rattle.std.specs.Option.{option_and_then, option_map, option_map_or}
+use Rattle.std.proofs.Common.{◌≡◌, ℕ, List, [], ◌∷◌, slice_get, Bool, true, false}
+use Rattle.std.proofs.Common.{Option, Some, None, refl, sym, ap, ◌∙◌, subst}
+use Rattle.std.specs.Option.{option_map, option_map_or}
 use Rattle.jc_cap_desc.specs.Shape.{Shape}
 use Rattle.jc_classes.specs.Members.{DeclaredMethod}
 use Rattle.jc_classes.specs.Subtype.{is_class_below, is_subtype}
@@ -30,13 +30,13 @@ use Rattle.jc_types.specs.declared.ty.Ty.TheVariants as types
 use Rattle.jc_machine.specs.Going.{Here, facts_of, gives, judged, on_object, on_reference, require}
 use Rattle.jc_machine.specs.Lookup.{class_of, component_class, is_instance, is_of_class, is_shared_interface, leads_to}
 use Rattle.jc_machine.specs.Machine.{Machine, Stepped, Surroundings}
-use Rattle.jc_machine.specs.Objects.{Test, act_check_cast, act_instance_of, bit, is_array_of_words, on_class, on_test, tested}
+use Rattle.jc_machine.specs.Objects.{Test, act_check_cast, act_instance_of, bit, is_array_of_words, on_test, tested}
 use Rattle.jc_machine.specs.Runtime.{class_cast_exception}
-use Rattle.jc_machine.specs.Typed.{HoldTypes, IsOperand, IsTyped, has_type}
-use Rattle.jc_words.specs.Values.{Null, Ref, TaggedValue, Word, is_reference}
+use Rattle.jc_machine.specs.Typed.{IsOperand, IsTyped, has_type}
+use Rattle.jc_words.specs.Values.{Null, Ref, TaggedValue, is_reference}
 use Rattle.jc_safety.proofs.Below.{counted_below, counted_reflexive, instance_below}
 use Rattle.jc_safety.proofs.FieldRows.{from_entry}
-use Rattle.jc_safety.proofs.Goes.{method, placed, throws_at}
+use Rattle.jc_safety.proofs.Goes.{placed, throws_at}
 use Rattle.jc_safety.proofs.Ground.{Ground}
 use Rattle.jc_safety.proofs.Making.{mapped_some, setting}
 use Rattle.jc_safety.proofs.Naming.{named_class}

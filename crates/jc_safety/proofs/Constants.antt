@@ -1,11 +1,9 @@
 -- Constants that code pushes are words of 16 bits.
-use Rattle.std.proofs.Common.{◌≡◌, ℕ, ℤ, pos, negsuc, ◌+◌, ◌*◌, ◌<◌, ◌==◌, List, [], ◌∷◌, length, drop, Bool, true, false, cond}
-use Rattle.std.proofs.Common.{Option, Some, None, Result, Ok, Err, nat_lt, if◌then◌else◌, refl, sym, ap, ◌∙◌, subst, arith, ◌-◌}
+use Rattle.std.proofs.Common.{◌≡◌, ℕ, ℤ, pos, ◌+◌, ◌*◌, ◌<◌, ◌==◌, List, [], ◌∷◌, drop, Bool, true, false}
+use Rattle.std.proofs.Common.{Option, Some, None, Result, Ok, Err, nat_lt, if◌then◌else◌, refl, subst, ◌-◌}
 use Rattle.std.proofs.Common.{◌/◌, ◌%◌}
 use Rattle.std.proofs.lemmas.Bool.{ltb-true}
-use Rattle.std.specs.Int.{cast_signed, w16, w8}
-use Rattle.std.specs.Prelude.{int_lt, ok_or, unsigned_abs, ◌-ℤ◌}
-use Rattle.jc_base.specs.Cursor.{Read, next_s1, next_s2, next_u1, next_u2}
+use Rattle.jc_base.specs.Cursor.{Read, next_s1, next_s2, next_u1}
 use Rattle.jc_base.specs.Results.{◌>>=◌}
 use Rattle.jc_code.specs.Decoding.{done, is_duplicate, is_swap, listed, next_arithmetic, next_branch, next_constant, next_control}
 use Rattle.jc_code.specs.Decoding.{next_local, next_lookup_switch, next_shuffle, next_stable_switch, next_wide_branch}
@@ -18,7 +16,6 @@ use Rattle.jc_code.specs.declared.fault.CodeFault.TheVariants.{BadOpcode, BadOpe
 use Rattle.jc_code.specs.declared.instr.Instr.{Instr}
 use Rattle.jc_code.specs.declared.instr.Operation.{Operation}
 use Rattle.jc_code.specs.declared.instr.Operation.TheVariants.{Object, Word}
-use Rattle.jc_code.specs.declared.instr.Shuffle.TheVariants.{Duplicate, Pop, Swap}
 use Rattle.jc_code.specs.declared.instr.WordOperation.{WordOperation}
 use Rattle.jc_code.specs.declared.instr.WordOperation.TheVariants.{Binary, Branch, Increment, Load, LookupSwitch, Nop, Push}
 use Rattle.jc_code.specs.declared.instr.WordOperation.TheVariants.{ReturnWord, Shuffle, StableSwitch, Store, Unary}

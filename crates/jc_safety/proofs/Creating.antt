@@ -1,9 +1,8 @@
 -- What a new object holds at first is typed.
-use Rattle.std.proofs.Common.{◌≡◌, ℕ, zero, suc, ◌+◌, ◌<◌, List, [], ◌∷◌, ◌++◌, length, map, replicate, slice_get, Option, Some, None}
-use Rattle.std.proofs.Common.{Bool, true, false, not, nat_lt, pos, negsuc, cond, refl, sym, ap, ◌∙◌, subst, arith, ◌-◌}
-use Rattle.std.proofs.lemmas.Bool.{lt-ltb, ltb-true, ltb-false}
+use Rattle.std.proofs.Common.{◌≡◌, ℕ, ◌<◌, List, [], ◌∷◌, length, map, replicate, Option, Some, None}
+use Rattle.std.proofs.Common.{true, not, nat_lt, pos, refl, arith}
+use Rattle.std.proofs.lemmas.Bool.{ltb-true}
 use Rattle.std.proofs.lemmas.List.{length-replicate}
-use Rattle.std.specs.List.{AllByRecursion}
 use Rattle.std.specs.Option.{option_map_or}
 use Rattle.std.specs.Prelude.{int_lt}
 use Rattle.jc_base.specs.declared.declared_type.DeclaredType.{DeclaredType}
@@ -11,7 +10,6 @@ use Rattle.jc_base.specs.declared.declared_type.DeclaredType.TheVariants as Decl
 use Rattle.jc_cap_desc.specs.Shape.{Shape}
 use Rattle.jc_names.specs.declared.name.ClassName.{ClassName}
 use Rattle.jc_store.specs.Heap.{Heap}
-use Rattle.jc_store.specs.declared.kind.ObjectType.{ObjectType}
 use Rattle.jc_store.specs.declared.kind.ObjectType.TheVariants.{BooleanArray, ByteArray, Instance, ReferenceArray, ShortArray}
 use Rattle.jc_machine.specs.Agree.{Pointwise}
 use Rattle.jc_machine.specs.Lookup.{fields_of, is_byte, is_instance, is_word, leads_to}

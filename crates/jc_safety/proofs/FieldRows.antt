@@ -1,6 +1,6 @@
 -- Instructions on fields are safe, whichever field their entry of the constant pool is.
-use Rattle.std.proofs.Common.{◌≡◌, ℕ, List, [], ◌∷◌, length, slice_get, drop, Bool, true, false, Option, Some, None, refl, sym}
-use Rattle.std.proofs.Common.{ap, ◌∙◌, subst}
+use Rattle.std.proofs.Common.{◌≡◌, ℕ, List, [], ◌∷◌, slice_get, drop, Bool, true, false, Option, Some, None, refl, sym}
+use Rattle.std.proofs.Common.{subst}
 use Rattle.std.specs.Option.{option_and_then, option_map, option_map_or}
 use Rattle.jc_base.specs.declared.declared_type.DeclaredType.{DeclaredType}
 use Rattle.jc_base.specs.declared.declared_type.DeclaredType.TheVariants as Declared
@@ -20,25 +20,23 @@ use Rattle.jc_link.specs.declared.target.PoolTarget.{PoolTarget}
 use Rattle.jc_link.specs.declared.target.PoolTarget.TheVariants as To
 use Rattle.jc_names.specs.Names.{home_at}
 use Rattle.jc_names.specs.declared.name.ClassName.{ClassName}
-use Rattle.jc_step.specs.Objects.{field_row, if_form, is_form_of, object_holder_row, operand_row, row_of_instance}
-use Rattle.jc_step.specs.Objects.{row_of_static, static_holder_row, static_row, this_row}
+use Rattle.jc_step.specs.Objects.{field_row, if_form, is_form_of, object_holder_row, operand_row}
+use Rattle.jc_step.specs.Objects.{static_holder_row, static_row, this_row}
 use Rattle.jc_step.specs.Row.{Row}
-use Rattle.jc_step.specs.Words.{reads, takes}
+use Rattle.jc_step.specs.Words.{takes}
 use Rattle.jc_step.specs.declared.row.Demand.TheVariants.{Below}
 use Rattle.jc_step.specs.declared.row.Given.TheVariants.{Exactly, Nothing}
 use Rattle.jc_store.specs.Heap as heaps
 use Rattle.jc_store.specs.Heap.{Heap, object_at}
 use Rattle.jc_types.specs.State.{Types}
 use Rattle.jc_types.specs.Ty.{type_of_declared}
-use Rattle.jc_types.specs.declared.ty.Ty.{Ty}
-use Rattle.jc_types.specs.declared.ty.Ty.TheVariants as types
 use Rattle.jc_machine.specs.Arrays.{loaded_as, stored_as}
 use Rattle.jc_machine.specs.Fields.{act_field, act_get_static, act_on_target, act_put_static, field_target, of_class, of_objects}
 use Rattle.jc_machine.specs.Fields.{put_static, static_at, stored_in_static, with_static}
 use Rattle.jc_machine.specs.Going.{Here, check, leaves_operands, on_some, on_top}
-use Rattle.jc_machine.specs.Lookup.{fields_of, is_kept_as, is_of_type, leads_to, mark_of, target_at}
+use Rattle.jc_machine.specs.Lookup.{fields_of, is_of_type, leads_to}
 use Rattle.jc_machine.specs.Machine.{Machine, Stepped, Surroundings}
-use Rattle.jc_machine.specs.Typed.{HaveTypes, HoldTypes, IsOperand, IsTyped, has_type}
+use Rattle.jc_machine.specs.Typed.{HaveTypes, HoldTypes, IsTyped, has_type}
 use Rattle.jc_words.specs.Values.{Null, Ref, TaggedValue, Unset, Word, is_written}
 use Rattle.jc_safety.proofs.Fields.{get_operand, get_this, loaded_typed, put_operand, put_this, stored_typed, unformed}
 use Rattle.jc_safety.proofs.Goes.{arrives, placed}
@@ -50,7 +48,7 @@ use Rattle.jc_safety.proofs.Safe.{IsSafe, safe_check, safe_some}
 use Rattle.jc_safety.proofs.StaticWrites.{put_typed}
 use Rattle.jc_safety.proofs.Statics.{entry_of, static_type_said, value_there, value_typed}
 use Rattle.jc_safety.proofs.Upward.{leads_up}
-use Rattle.jc_safety.proofs.Taking.{Applied, HasRow, any_object, leaves_nothing, leaves_one, take_one}
+use Rattle.jc_safety.proofs.Taking.{Applied, HasRow, any_object, leaves_nothing, take_one}
 
 -- what an entry is, where something is made of it
 pub record FromEntry {A : Type 0} (f : PoolTarget → Option A) (o : Option PoolTarget) (a : A) : Type 0 where

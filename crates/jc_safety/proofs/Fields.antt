@@ -1,43 +1,26 @@
 -- Instructions on fields are safe.
-use Rattle.std.proofs.Common.{◌≡◌, ◌⊎◌, ℕ, zero, suc, ◌+◌, ◌-◌, ◌<◌, ◌==◌, List, [], ◌∷◌, length, map, set, slice_get, take, drop}
-use Rattle.std.proofs.Common.{Bool, true, false, cond, Option, Some, None, nat_lt, find, is_some, refl, sym, ap, ◌∙◌, subst}
-use Rattle.std.proofs.Common.{arith, inl, inr, if◌then◌else◌, eqb-true, length-set}
-use Rattle.std.proofs.lemmas.Bool.{lt-ltb, ltb-false, eq-eqb}
-use Rattle.std.specs.List.{AllByRecursion}
-use Rattle.std.specs.Option.{option_and_then, option_map, option_map_or}
+use Rattle.std.proofs.Common.{◌≡◌, ℕ, zero, suc, ◌<◌, List, [], ◌∷◌, length, set, slice_get, drop}
+use Rattle.std.proofs.Common.{Bool, true, Option, Some, nat_lt, refl, sym, ap, ◌∙◌, subst}
+use Rattle.std.proofs.Common.{arith}
+use Rattle.std.proofs.lemmas.Bool.{lt-ltb}
 use Rattle.jc_api.specs.declared.class.ApiClass.TheVariants as api
 use Rattle.jc_base.specs.declared.declared_type.DeclaredType.{DeclaredType}
 use Rattle.jc_base.specs.declared.declared_type.DeclaredType.TheVariants as Declared
 use Rattle.jc_cap_desc.specs.Shape.{Shape}
-use Rattle.jc_cap_pool.specs.declared.entry.PoolEntry.{PoolEntry}
 use Rattle.jc_classes.specs.Members.{DeclaredMethod}
-use Rattle.jc_code.specs.declared.object.FieldAccess.{FieldAccess}
-use Rattle.jc_code.specs.declared.object.FieldAction.{FieldAction}
-use Rattle.jc_code.specs.declared.object.FieldAction.TheVariants.{Get, Put}
 use Rattle.jc_code.specs.declared.object.Form.{Form}
 use Rattle.jc_code.specs.declared.object.Form.TheVariants as Forms
-use Rattle.jc_code.specs.declared.object.Holder.{Holder}
-use Rattle.jc_code.specs.declared.object.Holder.TheVariants as Holders
-use Rattle.jc_firewall.specs.declared.access.Access.TheVariants.{GetField, PutStaticReference}
-use Rattle.jc_link.specs.Target.{pool_target_of, static_type_of, target_of}
-use Rattle.jc_link.specs.declared.named.Named.{Named}
-use Rattle.jc_link.specs.declared.named.Named.TheVariants as Names
-use Rattle.jc_link.specs.declared.named.StaticPlace.{StaticPlace}
-use Rattle.jc_link.specs.declared.target.PoolTarget.{PoolTarget}
-use Rattle.jc_link.specs.declared.target.PoolTarget.TheVariants as To
-use Rattle.jc_link.specs.Linked.{World}
-use Rattle.jc_names.specs.Names.{home_at, number_at}
+use Rattle.jc_firewall.specs.declared.access.Access.TheVariants.{GetField}
 use Rattle.jc_classes.specs.Subtype.{is_class_below}
 use Rattle.jc_names.specs.declared.name.ClassName.{ClassName}
 use Rattle.jc_names.specs.declared.name.ClassName.TheVariants.{Api}
-use Rattle.jc_step.specs.Objects.{if_form, is_form_of, operand_row, static_row, this_row}
+use Rattle.jc_step.specs.Objects.{if_form, is_form_of}
 use Rattle.jc_step.specs.Row.{Row, after}
 use Rattle.jc_step.specs.declared.row.Demand.{Demand}
 use Rattle.jc_step.specs.declared.row.Given.{Given}
 use Rattle.jc_step.specs.Words.{reads, takes}
 use Rattle.jc_step.specs.declared.row.Demand.TheVariants.{Below}
 use Rattle.jc_step.specs.declared.row.Given.TheVariants.{Exactly, Nothing}
-use Rattle.jc_store.specs.Heap as heaps
 use Rattle.jc_store.specs.Heap.{Heap, object_at}
 use Rattle.jc_store.specs.declared.kind.ObjectType.{ObjectType}
 use Rattle.jc_store.specs.declared.kind.ObjectType.TheVariants.{BooleanArray, ByteArray, Instance, ReferenceArray, ShortArray}
@@ -46,14 +29,13 @@ use Rattle.jc_types.specs.Ty.{is_below, type_of_declared}
 use Rattle.jc_types.specs.declared.ty.Ty.{Ty}
 use Rattle.jc_types.specs.declared.ty.Ty.TheVariants as types
 use Rattle.jc_machine.specs.Arrays.{loaded_as, stored_as}
-use Rattle.jc_machine.specs.Fields.{act_get_static, act_put_static, static_at, with_static, with_value, with_value_in}
-use Rattle.jc_machine.specs.Fields.{FieldTarget, InstanceField, act_field, act_instance, gets, puts, putting}
-use Rattle.jc_machine.specs.Going.{Here, check, gives, leaves_operands, on_reference, on_reference_local, on_top}
+use Rattle.jc_machine.specs.Fields.{InstanceField, gets, puts, putting}
+use Rattle.jc_machine.specs.Going.{Here, check, gives, on_reference, on_reference_local, on_top}
 use Rattle.jc_machine.specs.Lookup.{fields_of, is_byte, is_kept_as, is_of_class, is_of_type, is_word, leads_to, mark_of}
-use Rattle.jc_machine.specs.Machine.{Machine, StaticValue, Stepped, Surroundings}
+use Rattle.jc_machine.specs.Machine.{Machine, Surroundings}
 use Rattle.jc_machine.specs.Typed.{CellsTyped, HaveTypes, HoldTypes, IsOperand, IsTyped, has_type, is_cell}
 use Rattle.jc_words.specs.Shorts.{low_byte, signed_byte}
-use Rattle.jc_words.specs.Values.{Null, Ref, TaggedValue, Unset, Word, is_reference, is_written}
+use Rattle.jc_words.specs.Values.{Null, Ref, TaggedValue, Unset, Word, is_reference}
 use Rattle.jc_safety.proofs.Blank.{no_field}
 use Rattle.jc_safety.proofs.Bounds.{byte_bound, low_bound}
 use Rattle.jc_safety.proofs.Goes.{placed, room_left, safe_gives}

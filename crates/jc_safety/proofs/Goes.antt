@@ -1,9 +1,8 @@
 -- The frame that runs goes on, and the machine is well typed again.
-use Rattle.std.proofs.Common.{◌≡◌, ℕ, ℤ, pos, negsuc, zero, suc, ◌+◌, ◌-◌, ◌<◌, ◌≤◌, List, [], ◌∷◌, length, drop, take}
-use Rattle.std.proofs.Common.{Bool, true, false, Option, Some, None, nat_lt, refl, sym, ap, ◌∙◌, subst, arith, slice_get}
+use Rattle.std.proofs.Common.{◌≡◌, ℕ, ℤ, ◌+◌, ◌-◌, List, ◌∷◌, length, drop}
+use Rattle.std.proofs.Common.{Bool, true, false, nat_lt, sym, subst, arith}
 use Rattle.std.proofs.Common.{length-drop}
 use Rattle.std.proofs.lemmas.Bool.{lt-ltb, ltb-false}
-use Rattle.std.specs.List.{AllByRecursion}
 use Rattle.jc_cap_desc.specs.Shape.{Shape}
 use Rattle.jc_check.specs.Method.{Method}
 use Rattle.jc_check.specs.Package.{method_of, package_rules}
@@ -12,19 +11,17 @@ use Rattle.jc_check.specs.Typing.{BranchLeads, Leads}
 use Rattle.jc_classes.specs.Members.{DeclaredMethod}
 use Rattle.jc_classes.specs.Subtype.{is_class_below}
 use Rattle.jc_code.specs.Targets.{target_of}
-use Rattle.jc_link.specs.Linked.{Linked}
 use Rattle.jc_store.specs.Heap.{Heap}
-use Rattle.jc_types.specs.State.{Types, all_below, types_below}
+use Rattle.jc_types.specs.State.{Types, all_below}
 use Rattle.jc_types.specs.declared.ty.Ty.{Ty}
 use Rattle.jc_machine.specs.Accepted.{linked_as}
-use Rattle.jc_machine.specs.Agree.{Pointwise}
-use Rattle.jc_machine.specs.Going.{Here, branches, gives, goes_on, goes_to, jumps, leaves_operands, moved, pushed}
+use Rattle.jc_machine.specs.Going.{Here, branches, gives, goes_on, jumps, leaves_operands, moved}
 use Rattle.jc_machine.specs.Machine.{Frame, Machine, StaticValue, Surroundings}
 use Rattle.jc_machine.specs.Natives.{IsThrown, KeepsObjects}
 use Rattle.jc_machine.specs.Typed.{HaveTypes, HeapTyped, HoldTypes, IsOperand, IsPlaced, IsTyped, IsTypedBeside}
 use Rattle.jc_machine.specs.Typed.{StaticsTyped, given_by}
 use Rattle.jc_words.specs.Values.{TaggedValue}
-use Rattle.jc_safety.proofs.Ground.{Ground, Stands}
+use Rattle.jc_safety.proofs.Ground.{Ground}
 use Rattle.jc_safety.proofs.Growing.{keeps_self, statics_still, types_still, waiting_still}
 use Rattle.jc_safety.proofs.Lists.{both, same_length}
 use Rattle.jc_safety.proofs.Safe.{IsSafe, MayUnwind, safe_check}

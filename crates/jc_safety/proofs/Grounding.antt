@@ -1,6 +1,6 @@
 -- What an accepted world gives a machine that runs in it, by the laws of the crates below.
-use Rattle.std.proofs.Common.{◌≡◌, ◌↔◌, ℕ, zero, suc, ◌+◌, ◌-◌, ◌<◌, ◌≤◌, min, Bool, true, false, List, [], ◌∷◌, length, take}
-use Rattle.std.proofs.Common.{Option, Some, None, Ok, slice_get, refl, sym, ap, ◌∙◌, subst, arith, length-take}
+use Rattle.std.proofs.Common.{◌≡◌, ◌↔◌, ℕ, zero, suc, ◌+◌, ◌<◌, ◌≤◌, true, List, [], ◌∷◌, length, take}
+use Rattle.std.proofs.Common.{Some, None, slice_get, sym, ap, ◌∙◌, subst, arith, length-take}
 use Rattle.std.specs.Option.{option_map}
 use Rattle.jc_api.specs.declared.class.ApiClass.{ApiClass}
 use Rattle.jc_api.specs.declared.class.ApiClass.TheVariants as api
@@ -15,11 +15,9 @@ use Rattle.jc_code.specs.Listing.{IsListing, ListingLaws, PlacedInstr, placed_at
 use Rattle.jc_link.specs.ApiClasses.{StandsThere}
 use Rattle.jc_link.specs.Built.{IsBuilt}
 use Rattle.jc_link.specs.Growth.{HasApi, KeepsAllLinking}
-use Rattle.jc_link.specs.KnownTypes.{NameClasses, is_known_target}
+use Rattle.jc_link.specs.KnownTypes.{NameClasses}
 use Rattle.jc_link.specs.Linked.{IsKnown, IsWorld, Linked, LinkedBody, World}
 use Rattle.jc_link.specs.Sound.{IsSound}
-use Rattle.jc_link.specs.declared.target.PoolTarget.{PoolTarget}
-use Rattle.jc_names.specs.Names.{home_at}
 use Rattle.jc_names.specs.declared.name.ClassName.{ClassName}
 use Rattle.jc_names.specs.declared.name.ClassName.TheVariants.{Api}
 use Rattle.jc_step.specs.Growth.{KeepsAllMembers, KeepsAllOrders, KeepsOwnMethods}

@@ -1,6 +1,6 @@
 -- Where each object stays, what was typed stays typed.
-use Rattle.std.proofs.Common.{◌≡◌, ℕ, zero, suc, List, [], ◌∷◌, ◌++◌, length, set, slice_get, Option, Some, None}
-use Rattle.std.proofs.Common.{Bool, true, false, refl, sym, ap, ◌∙◌, subst, ◌⊎◌, inl, inr}
+use Rattle.std.proofs.Common.{◌≡◌, ℕ, zero, suc, List, [], ◌∷◌, length, slice_get, Option, Some, None}
+use Rattle.std.proofs.Common.{Bool, true, false, refl, ap, ◌∙◌, subst, inl, inr}
 use Rattle.std.specs.List.{AllByRecursion}
 use Rattle.std.specs.Option.{option_map_or}
 use Rattle.jc_base.specs.declared.declared_type.DeclaredType.{DeclaredType}
@@ -16,13 +16,12 @@ use Rattle.jc_store.specs.declared.kind.ObjectType.TheVariants.{Instance, Boolea
 use Rattle.jc_store.specs.declared.kind.ObjectType.TheVariants.{ReferenceArray}
 use Rattle.jc_types.specs.declared.ty.Ty.{Ty}
 use Rattle.jc_types.specs.declared.ty.Ty.TheVariants as types
-use Rattle.jc_machine.specs.Agree.{Pointwise}
 use Rattle.jc_machine.specs.Lookup.{is_boolean_array, is_byte_array, is_instance, is_kept_as, is_of_class}
-use Rattle.jc_machine.specs.Lookup.{fields_of, is_byte, is_of_type, is_short_array, is_word, leads_to, of_package}
+use Rattle.jc_machine.specs.Lookup.{fields_of, is_of_type, is_short_array, leads_to}
 use Rattle.jc_machine.specs.Machine.{Frame, StaticValue}
-use Rattle.jc_machine.specs.Natives.{IsStill, KeepsObjects}
-use Rattle.jc_machine.specs.Typed.{CellsTyped, HaveTypes, HeapTyped, HoldTypes, IsOperand, IsPlaced, ObjectTyped}
-use Rattle.jc_machine.specs.Typed.{RunsTyped, StaticTyped, StaticsTyped, WaitTyped, WaitsTyped, given_by, has_type}
+use Rattle.jc_machine.specs.Natives.{KeepsObjects}
+use Rattle.jc_machine.specs.Typed.{CellsTyped, HaveTypes, HoldTypes, IsOperand, IsPlaced, ObjectTyped}
+use Rattle.jc_machine.specs.Typed.{StaticTyped, StaticsTyped, WaitTyped, WaitsTyped, given_by, has_type}
 use Rattle.jc_machine.specs.Typed.{is_cell}
 use Rattle.jc_words.specs.Values.{Null, Ref, TaggedValue, Unset, Word}
 use Rattle.jc_safety.proofs.Lists.{each_mapped, get_joined, get_set, mapped_points}
@@ -38,8 +37,14 @@ pub keeps_through : (one two three : Heap TaggedValue) → KeepsObjects one two 
 keeps_through one two three a b n o e =
     let p = a n o e in
     let q = b n p.object p.found in
-    record { object = q.object; found = q.found; kind = q.kind ∙ p.kind; owner = q.owner ∙ p.owner; size = q.size ∙
-    p.size }
+    record {
+      object = q.object;
+      found = q.found;
+      kind = q.kind ∙ p.kind;
+      owner = q.owner ∙ p.owner;
+      size = q.size ∙
+          p.size;
+    }
 
 pub keeps_new : (heap : Heap TaggedValue) (o : heaps.Object TaggedValue) → KeepsObjects heap (with_new heap o)
 keeps_new heap o zero p e = absurd cc

@@ -1,20 +1,18 @@
 -- Locals that a row reads, and those that it writes.
-use Rattle.std.proofs.Common.{◌≡◌, ℕ, zero, suc, ◌+◌, ◌<◌, List, [], ◌∷◌, length, take, drop, reverse, set, slice_get}
-use Rattle.std.proofs.Common.{Bool, true, false, Option, Some, None, nat_lt, unwrap_or, refl, sym, ap, ◌∙◌, subst, arith}
+use Rattle.std.proofs.Common.{◌≡◌, ℕ, zero, suc, List, [], ◌∷◌, length, drop, set, slice_get}
+use Rattle.std.proofs.Common.{true, Option, Some, nat_lt, unwrap_or, refl, ap, subst, arith}
 use Rattle.std.proofs.lemmas.Bool.{lt-ltb, ltb-true}
 use Rattle.jc_cap_desc.specs.Shape.{Shape}
 use Rattle.jc_classes.specs.Subtype.{is_class_below}
 use Rattle.jc_step.specs.Row.{after, meets}
 use Rattle.jc_step.specs.Words.{reads, writes}
 use Rattle.jc_step.specs.declared.row.Demand.{Demand}
-use Rattle.jc_step.specs.declared.row.Given.{Given}
 use Rattle.jc_step.specs.declared.row.Given.TheVariants.{Exactly, Nothing, OfLocal}
 use Rattle.jc_store.specs.Heap.{Heap}
 use Rattle.jc_types.specs.State.{Types}
 use Rattle.jc_types.specs.declared.ty.Ty.{Ty}
 use Rattle.jc_types.specs.declared.ty.Ty.TheVariants as types
-use Rattle.jc_machine.specs.Agree.{Pointwise}
-use Rattle.jc_machine.specs.Typed.{HaveTypes, HoldTypes, IsOperand, has_type}
+use Rattle.jc_machine.specs.Typed.{HaveTypes, HoldTypes, has_type}
 use Rattle.jc_words.specs.Values.{TaggedValue}
 use Rattle.jc_safety.proofs.Lists.{both, same_length, set_points}
 use Rattle.jc_safety.proofs.Taking.{Applied, Meets, Orders, meets_value}

@@ -1,8 +1,8 @@
 -- Objects and arrays that are made: they are typed, or there is no room for them.
-use Rattle.std.proofs.Common.{◌≡◌, ℕ, zero, suc, ◌+◌, ◌<◌, List, [], ◌∷◌, ◌++◌, length, drop, map, replicate, set, slice_get}
-use Rattle.std.proofs.Common.{Bool, true, false, not, cond, Option, Some, None, nat_lt, nat_le, pos, refl, sym, ap, ◌∙◌, subst, arith}
+use Rattle.std.proofs.Common.{◌≡◌, ℕ, ◌<◌, List, [], ◌∷◌, length, drop, replicate, set, slice_get}
+use Rattle.std.proofs.Common.{Bool, true, false, not, Option, Some, None, nat_lt, pos, refl, sym, ap, ◌∙◌, subst}
 use Rattle.std.proofs.Common.{if◌then◌else◌}
-use Rattle.std.specs.Option.{option_and_then, option_map, option_map_or}
+use Rattle.std.specs.Option.{option_map, option_map_or}
 use Rattle.std.specs.Prelude.{int_lt}
 use Rattle.jc_api.specs.declared.class.ApiClass.TheVariants as api
 use Rattle.jc_base.specs.declared.declared_type.DeclaredType.{DeclaredType}
@@ -21,7 +21,7 @@ use Rattle.jc_step.specs.Objects as checked
 use Rattle.jc_step.specs.Objects.{Setting, class_of_entry, class_target, creation_row, has_objects, if_form, reference_array}
 use Rattle.jc_step.specs.Row.{Row}
 use Rattle.jc_step.specs.Words.{takes, word}
-use Rattle.jc_step.specs.declared.row.Given.TheVariants.{Exactly, Nothing}
+use Rattle.jc_step.specs.declared.row.Given.TheVariants.{Exactly}
 use Rattle.jc_store.specs.Heap as heaps
 use Rattle.jc_store.specs.Heap.{Heap, next_number, object_at, with_cell, with_new, with_object}
 use Rattle.jc_store.specs.declared.kind.Mark.TheVariants.{Plain}
@@ -30,10 +30,9 @@ use Rattle.jc_store.specs.declared.kind.ObjectType.TheVariants.{BooleanArray, By
 use Rattle.jc_types.specs.State.{Types}
 use Rattle.jc_types.specs.declared.ty.Ty.{Ty}
 use Rattle.jc_types.specs.declared.ty.Ty.TheVariants as types
-use Rattle.jc_machine.specs.Going.{Here, check, gives, no_resource, on_word, require, throws_system}
+use Rattle.jc_machine.specs.Going.{Here, check, gives, no_resource, on_word, throws_system}
 use Rattle.jc_machine.specs.Lookup.{class_of, fields_of, is_array, is_boolean_array, is_byte_array, is_short_array, leads_to}
-use Rattle.jc_machine.specs.Machine.{Machine, Stepped, Surroundings}
-use Rattle.jc_machine.specs.Natives.{IsThrown}
+use Rattle.jc_machine.specs.Machine.{Machine, Surroundings}
 use Rattle.jc_machine.specs.Objects.{act_create, cells_of, creates, creates_array, has_space, made, word_array}
 use Rattle.jc_machine.specs.Runtime.{negative_size_exception, system_exception}
 use Rattle.jc_machine.specs.Typed.{CellsTyped, HaveTypes, HoldTypes, IsOperand, IsTyped, has_type, is_cell, may_be_made}

@@ -1,43 +1,37 @@
 -- Instructions that move and compare references, cast them and throw them are safe.
-use Rattle.std.proofs.Common.{◌≡◌, ℕ, ℤ, zero, suc, ◌+◌, ◌<◌, List, [], ◌∷◌, length, take, drop, set, slice_get}
-use Rattle.std.proofs.Common.{Bool, true, false, ◌&&◌, not, cond, Option, Some, None, Result, Ok, nat_lt, unwrap_or, map}
-use Rattle.std.proofs.Common.{refl, sym, ap, ◌∙◌, subst, arith}
-use Rattle.std.proofs.lemmas.Bool.{lt-ltb, ltb-true}
-use Rattle.std.specs.List.{AllByRecursion}
-use Rattle.std.specs.Option.{option_and_then, option_map, option_map_or}
+use Rattle.std.proofs.Common.{◌≡◌, ℕ, ℤ, List, [], ◌∷◌, length, set, slice_get}
+use Rattle.std.proofs.Common.{Bool, true, not, Option, nat_lt, unwrap_or}
+use Rattle.std.proofs.Common.{refl, sym, ap, ◌∙◌, subst}
 use Rattle.jc_api.specs.declared.class.ApiClass.TheVariants as api
 use Rattle.jc_cap_desc.specs.Shape.{Shape}
 use Rattle.jc_classes.specs.Members.{DeclaredMethod}
-use Rattle.jc_classes.specs.Subtype.{is_class_below, is_subtype}
 use Rattle.jc_code.specs.declared.object.ReferenceCondition.{ReferenceCondition}
 use Rattle.jc_code.specs.declared.object.ReferenceCondition.TheVariants as Conditions
 use Rattle.jc_firewall.specs.declared.access.Access.TheVariants.{Throw}
-use Rattle.jc_link.specs.MemberType.{counted}
 use Rattle.jc_names.specs.declared.name.ClassName.{ClassName}
 use Rattle.jc_names.specs.declared.name.ClassName.TheVariants.{Api}
 use Rattle.jc_step.specs.Objects.{references_compared}
 use Rattle.jc_step.specs.Row.{meets}
-use Rattle.jc_step.specs.Words.{reads, takes, word, writes}
+use Rattle.jc_step.specs.Words.{reads, takes, writes}
 use Rattle.jc_step.specs.declared.row.Demand.TheVariants.{Below, Reference}
 use Rattle.jc_step.specs.declared.row.Given.TheVariants.{Exactly, Nothing, OfLocal}
-use Rattle.jc_store.specs.Heap as heaps
 use Rattle.jc_store.specs.Heap.{Heap, object_at}
 use Rattle.jc_store.specs.declared.kind.ObjectType.{ObjectType}
 use Rattle.jc_types.specs.State.{Types}
 use Rattle.jc_types.specs.declared.ty.Ty.{Ty}
 use Rattle.jc_types.specs.declared.ty.Ty.TheVariants as types
 use Rattle.jc_machine.specs.Going.{Here, accessed, branches, check, gives, goes_on, on_reference, on_reference_local, throws}
-use Rattle.jc_machine.specs.Lookup.{is_of_class, is_throwable, leads_to}
-use Rattle.jc_machine.specs.Machine.{Machine, Stepped, Surroundings}
+use Rattle.jc_machine.specs.Lookup.{is_throwable, leads_to}
+use Rattle.jc_machine.specs.Machine.{Machine, Surroundings}
 use Rattle.jc_machine.specs.Objects.{act_branch, act_throw, is_null, is_same}
-use Rattle.jc_machine.specs.Typed.{HaveTypes, HoldTypes, IsOperand, IsTyped, has_type}
+use Rattle.jc_machine.specs.Typed.{IsOperand, IsTyped}
 use Rattle.jc_words.specs.Values.{Null, Ref, TaggedValue, Unset, Word, is_reference, is_written}
 use Rattle.jc_safety.proofs.Goes.{placed, room_left, safe_gives, safe_on, throws_at}
 use Rattle.jc_safety.proofs.Ground.{Ground}
 use Rattle.jc_safety.proofs.Locals.{local_there, local_type, reads_local, stored}
 use Rattle.jc_safety.proofs.Rows as rows
 use Rattle.jc_safety.proofs.Safe.{IsSafe, safe_check, safe_some}
-use Rattle.jc_safety.proofs.Taking.{Applied, Meets, any_object, meets_reference, take_one, take_two}
+use Rattle.jc_safety.proofs.Taking.{Applied, any_object, meets_reference, take_one, take_two}
 use Rattle.jc_safety.proofs.Writing.{ref_case}
 
 -- a reference, or null; and it was written
@@ -186,5 +180,6 @@ module _ {C : Type 0} (s : Surroundings C) (ground : Ground s) (m : Machine C) (
       safe_some s (object_at m.heap n) o _ found
       (safe_check s (is_throwable shapes o.kind.object) (accessed (at us) Throw n o thrown) may
       (rows.safe_accessed s ground m t d next us Throw n o thrown
-      (record { fine = throws_at s ground m t (Ref n ∷ vs) n (record { object = o; found = found; throwable = may })
+      (record {
+        fine = throws_at s ground m t (Ref n ∷ vs) n (record { object = o; found = found; throwable = may });
       })))))

@@ -1,6 +1,6 @@
 -- Returns are safe: to the frame that waits, or out of the call.
-use Rattle.std.proofs.Common.{◌≡◌, ℕ, zero, suc, ◌+◌, ◌<◌, ◌≤◌, List, [], ◌∷◌, length, take, drop, Option, Some, None, Bool}
-use Rattle.std.proofs.Common.{true, false, not, cond, nat_lt, is_some, refl, sym, ap, ◌∙◌, subst, arith}
+use Rattle.std.proofs.Common.{◌≡◌, ℕ, List, [], ◌∷◌, length, Option, Some, None, Bool}
+use Rattle.std.proofs.Common.{true, false, not, nat_lt, is_some, refl, sym, ap, ◌∙◌, subst, arith}
 use Rattle.std.proofs.lemmas.Bool.{lt-ltb}
 use Rattle.std.specs.Option.{option_and_then, option_map, option_map_or}
 use Rattle.jc_base.specs.Signature.{Signature}
@@ -10,7 +10,6 @@ use Rattle.jc_base.specs.declared.declared_type.ReturnType.{ReturnType}
 use Rattle.jc_base.specs.declared.declared_type.ReturnType.TheVariants.{Value, Void}
 use Rattle.jc_cap_desc.specs.Shape.{MethodBody, Shape}
 use Rattle.jc_cap_method.specs.declared.header.MethodHeader.{MethodHeader}
-use Rattle.jc_check.specs.Package.{package_rules}
 use Rattle.jc_classes.specs.Members.{DeclaredMethod}
 use Rattle.jc_classes.specs.Subtype.{is_class_below}
 use Rattle.jc_code.specs.declared.instr.Instr.{Instr}
@@ -26,10 +25,9 @@ use Rattle.jc_types.specs.State.{Types, all_below}
 use Rattle.jc_types.specs.Ty.{is_word, type_of_declared}
 use Rattle.jc_types.specs.declared.ty.Ty.{Ty}
 use Rattle.jc_types.specs.declared.ty.Ty.TheVariants as types
-use Rattle.jc_machine.specs.Accepted.{linked_as}
 use Rattle.jc_machine.specs.Going.{Here, on_reference, on_word}
-use Rattle.jc_machine.specs.Lookup.{code_at, declared_at, instruction_at, is_given, is_of_type}
-use Rattle.jc_machine.specs.Machine.{Frame, Machine, Next, Stepped, Surroundings}
+use Rattle.jc_machine.specs.Lookup.{declared_at, instruction_at, is_given, is_of_type}
+use Rattle.jc_machine.specs.Machine.{Frame, Machine, Surroundings}
 use Rattle.jc_machine.specs.Returns as returns
 use Rattle.jc_machine.specs.Returns.{pc_behind_call, resumed, returns_to, room_of, with_result}
 use Rattle.jc_machine.specs.Typed.{HaveTypes, HoldTypes, IsOperand, IsTyped, IsTypedBeside, WaitTyped, WaitsTyped, given_by, has_type}

@@ -1,7 +1,6 @@
 -- What the rows of instructions on objects share: a place of the code, and what their operands are.
-use Rattle.std.proofs.Common.{◌≡◌, ℕ, ℤ, zero, suc, ◌+◌, ◌-◌, ◌<◌, List, [], ◌∷◌, length, take, drop, reverse, set, slice_get}
-use Rattle.std.proofs.Common.{Bool, true, false, Option, Some, None, Result, Ok, nat_lt, map, refl, sym, ap, ◌∙◌, subst, arith}
-use Rattle.std.specs.List.{AllByRecursion}
+use Rattle.std.proofs.Common.{◌≡◌, ℕ, ℤ, zero, suc, List, [], ◌∷◌, length, take, drop, reverse, set, slice_get}
+use Rattle.std.proofs.Common.{Bool, true, false, Option, Some, None, map, refl, sym, ap, ◌∙◌, subst}
 use Rattle.std.specs.Option.{option_and_then, option_map}
 use Rattle.jc_cap_desc.specs.Shape.{Shape}
 use Rattle.jc_check.specs.Typing.{BranchLeads, Leads}
@@ -21,7 +20,6 @@ use Rattle.jc_step.specs.declared.row.Given.TheVariants.{Exactly, Nothing}
 use Rattle.jc_store.specs.Heap as heaps
 use Rattle.jc_store.specs.Heap.{Heap, object_at}
 use Rattle.jc_store.specs.declared.kind.Mark.{Mark}
-use Rattle.jc_store.specs.declared.kind.ObjectType.{ObjectType}
 use Rattle.jc_types.specs.State.{Types}
 use Rattle.jc_types.specs.declared.ty.Ty.{Ty}
 use Rattle.jc_machine.specs.Accepted.{linked_as}
@@ -33,7 +31,7 @@ use Rattle.jc_machine.specs.Machine.{Machine, Stepped, Surroundings}
 use Rattle.jc_machine.specs.Natives.{IsThrown}
 use Rattle.jc_machine.specs.Runtime.{null_pointer_exception}
 use Rattle.jc_machine.specs.Typed.{CellsTyped, HaveTypes, HoldTypes, IsOperand, IsTyped}
-use Rattle.jc_words.specs.Values.{Null, Ref, TaggedValue}
+use Rattle.jc_words.specs.Values.{TaggedValue}
 use Rattle.jc_safety.proofs.Goes.{arrives, method, orders_of, placed, room_left, rules, safe_branches}
 use Rattle.jc_safety.proofs.Goes.{safe_gives, safe_jumps, safe_leaves, spot, throws_at}
 use Rattle.jc_safety.proofs.Ground.{Ground}

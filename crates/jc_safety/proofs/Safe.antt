@@ -1,13 +1,13 @@
 -- What a rule of the machine comes to is safe: one lemma for each way to go on.
-use Rattle.std.proofs.Common.{◌≡◌, ℕ, ℤ, pos, negsuc, List, [], ◌∷◌, ◌++◌, length, take, Option, Some, None, Bool, true, false}
-use Rattle.std.proofs.Common.{nat_lt, refl, sym, ap, ◌∙◌, subst}
+use Rattle.std.proofs.Common.{◌≡◌, ℕ, List, Option, Some, None, Bool, true, false}
+use Rattle.std.proofs.Common.{refl, sym, subst}
 use Rattle.jc_firewall.specs.declared.access.Access.{Access}
 use Rattle.jc_firewall.specs.declared.access.Facts.{Facts}
 use Rattle.jc_firewall.specs.declared.access.Verdict.{Verdict}
 use Rattle.jc_firewall.specs.declared.access.Verdict.TheVariants.{Allowed, AllowedSwitch, Denied}
 use Rattle.jc_firewall.specs.Verdict.{verdict_of}
 use Rattle.jc_names.specs.declared.owner.Owner.{Owner}
-use Rattle.jc_machine.specs.Going.{Here, by_verdict, check, judged, on_some, plain, require, throws, touched}
+use Rattle.jc_machine.specs.Going.{Here, by_verdict, check, judged, on_some, require, touched}
 use Rattle.jc_machine.specs.Machine.{Ends, Machine, Next, Outcome, Stepped, Stuck, Surroundings, Throws, Touch, UsedUp}
 use Rattle.jc_machine.specs.Natives.{IsThrown}
 use Rattle.jc_machine.specs.Runtime.{security_exception}

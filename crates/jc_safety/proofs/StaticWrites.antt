@@ -1,6 +1,6 @@
 -- Static fields with another value in one of them are typed.
 use Rattle.std.proofs.Common.{◌≡◌, ◌⊎◌, ℕ, zero, suc, ◌==◌, List, [], ◌∷◌, length, map, set, slice_get}
-use Rattle.std.proofs.Common.{Bool, true, false, cond, Option, Some, None, find, is_some, refl, sym, ap, ◌∙◌, subst}
+use Rattle.std.proofs.Common.{Bool, true, false, cond, Option, Some, find, is_some, refl, sym, ap, ◌∙◌, subst}
 use Rattle.std.proofs.Common.{inl, inr, if◌then◌else◌, eqb-true, length-set}
 use Rattle.std.specs.List.{AllByRecursion}
 use Rattle.std.specs.Option.{option_and_then, option_map_or}
@@ -16,7 +16,6 @@ use Rattle.jc_machine.specs.Lookup.{is_kept_as, of_package, with_package}
 use Rattle.jc_machine.specs.Machine.{StaticValue}
 use Rattle.jc_machine.specs.Typed.{StaticTyped, StaticsTyped}
 use Rattle.jc_words.specs.Values.{TaggedValue}
-use Rattle.jc_safety.proofs.Lists.{each_mapped}
 use Rattle.jc_safety.proofs.Statics.{held, home_back, value_there}
 
 -- a member of a list of which one was changed

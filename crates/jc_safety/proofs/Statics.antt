@@ -1,10 +1,9 @@
 -- Static fields: what an entry of the constant pool says of one, and those with another value in one.
-use Rattle.std.proofs.Common.{◌≡◌, ◌⊎◌, ℕ, zero, suc, ◌+◌, ◌-◌, ◌<◌, ◌≤◌, ◌==◌, List, [], ◌∷◌, length, map, set, slice_get}
-use Rattle.std.proofs.Common.{Bool, true, false, cond, Option, Some, None, nat_lt, find, is_some, refl, sym, ap, ◌∙◌, subst}
-use Rattle.std.proofs.Common.{arith, inl, inr, if◌then◌else◌, eqb-true, length-set}
-use Rattle.std.proofs.lemmas.Bool.{lt-ltb, ltb-false, eq-eqb}
-use Rattle.std.specs.List.{AllByRecursion}
-use Rattle.std.specs.Option.{option_and_then, option_map, option_map_or}
+use Rattle.std.proofs.Common.{◌≡◌, ℕ, suc, ◌-◌, ◌==◌, List, [], ◌∷◌, slice_get}
+use Rattle.std.proofs.Common.{Bool, true, false, cond, Option, Some, None, nat_lt, find, is_some, refl, ap, ◌∙◌, subst}
+use Rattle.std.proofs.Common.{arith, if◌then◌else◌, eqb-true}
+use Rattle.std.proofs.lemmas.Bool.{ltb-false}
+use Rattle.std.specs.Option.{option_and_then, option_map}
 use Rattle.jc_base.specs.declared.declared_type.DeclaredType.{DeclaredType}
 use Rattle.jc_cap_desc.specs.Shape.{Shape}
 use Rattle.jc_cap_pool.specs.declared.entry.PoolEntry.{PoolEntry}
@@ -23,8 +22,8 @@ use Rattle.jc_names.specs.Names.{home_at, number_at}
 use Rattle.jc_names.specs.declared.name.ClassName.{ClassName}
 use Rattle.jc_names.specs.declared.name.MethodName.{MethodName}
 use Rattle.jc_store.specs.Heap.{Heap}
-use Rattle.jc_machine.specs.Fields.{static_at, with_static, with_value, with_value_in}
-use Rattle.jc_machine.specs.Lookup.{is_kept_as, of_package, target_at, with_package}
+use Rattle.jc_machine.specs.Fields.{static_at}
+use Rattle.jc_machine.specs.Lookup.{is_kept_as, of_package, target_at}
 use Rattle.jc_machine.specs.Machine.{StaticValue}
 use Rattle.jc_machine.specs.Typed.{StaticTyped, StaticsTyped}
 use Rattle.jc_words.specs.Values.{TaggedValue}

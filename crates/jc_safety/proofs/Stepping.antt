@@ -1,16 +1,9 @@
 -- A step of a well-typed machine is safe, whichever instruction it makes.
-use Rattle.std.proofs.Common.{◌≡◌, ℕ, zero, suc, ℤ, ◌<◌, List, [], ◌∷◌, map, slice_get, Bool, true, Option, Some, None, Ok, refl, sym, ap, ◌∙◌, subst}
+use Rattle.std.proofs.Common.{◌≡◌, ℕ, zero, suc, ℤ, ◌<◌, List, [], ◌∷◌, map, Bool, true, Option, Some, Ok, refl, ap, subst}
 use Rattle.std.specs.List.{AllByRecursion}
-use Rattle.std.specs.Option.{option_and_then, option_map}
-use Rattle.jc_cap_desc.specs.Shape.{MethodBody, Shape}
-use Rattle.jc_cap_method.specs.declared.header.MethodHeader.{MethodHeader}
-use Rattle.jc_check.specs.Method.{Method}
-use Rattle.jc_check.specs.Package.{method_of, package_rules}
-use Rattle.jc_check.specs.Typing.{BranchLeads, IsFine, IsFineAt, Leads}
+use Rattle.jc_check.specs.Typing.{BranchLeads, IsFineAt}
 use Rattle.jc_classes.specs.Members.{DeclaredMethod}
-use Rattle.jc_code.specs.Listing.{PlacedInstr}
 use Rattle.jc_code.specs.Targets.{falls_of, object_falls, object_offsets, offsets_of, target_of, targets_of, word_falls, word_offsets}
-use Rattle.jc_code.specs.declared.instr.Instr.{Instr}
 use Rattle.jc_code.specs.declared.instr.Operation.{Operation}
 use Rattle.jc_code.specs.declared.instr.Operation.TheVariants as operations
 use Rattle.jc_code.specs.declared.instr.Shuffle.TheVariants.{Duplicate, Pop, Swap}
@@ -22,23 +15,21 @@ use Rattle.jc_code.specs.declared.object.Invocation.{Invocation}
 use Rattle.jc_code.specs.declared.object.ObjectOperation.{ObjectOperation}
 use Rattle.jc_code.specs.declared.object.ObjectOperation.TheVariants as objects
 use Rattle.jc_step.specs.Effect.{effect_of}
-use Rattle.jc_step.specs.Objects.{Setting, array_of, component_loaded, component_stored, if_form, invocation_row, object_row, references_compared, return_row}
-use Rattle.jc_step.specs.Row.{Row, applied}
-use Rattle.jc_step.specs.Words.{reads, takes, word, word_effect, writes}
+use Rattle.jc_step.specs.Objects.{Setting, invocation_row, object_row}
+use Rattle.jc_step.specs.Row.{applied}
+use Rattle.jc_step.specs.Words.{word_effect}
 use Rattle.jc_step.specs.Method.{result_of}
 use Rattle.jc_types.specs.State.{Types}
 use Rattle.jc_types.specs.declared.ty.Ty.{Ty}
 use Rattle.jc_names.specs.declared.name.ClassName.{ClassName}
-use Rattle.jc_machine.specs.Accepted.{linked_as}
 use Rattle.jc_machine.specs.Going.{Here}
 use Rattle.jc_machine.specs.Lookup.{code_at, declared_at, instruction_at}
 use Rattle.jc_machine.specs.Machine.{Ends, Machine, Next, Outcome, Stuck, Surroundings, Throws, UsedUp}
 use Rattle.jc_machine.specs.Objects.{act_object}
-use Rattle.jc_machine.specs.Step.{CallEnd, Called, act, act_at, continued, defensive_step, here, onward, settled, steps_of}
+use Rattle.jc_machine.specs.Step.{Called, act, act_at, continued, defensive_step, settled, steps_of}
 use Rattle.jc_machine.specs.Typed.{IsTyped}
 use Rattle.jc_machine.specs.Words.{act_word}
 use Rattle.jc_words.specs.Shorts.{word_of}
-use Rattle.jc_words.specs.Values.{TaggedValue}
 use Rattle.jc_safety.proofs.Arrays as arrays
 use Rattle.jc_safety.proofs.Calling.{IsCall, call_safe}
 use Rattle.jc_safety.proofs.Casting as casts
@@ -53,7 +44,7 @@ use Rattle.jc_safety.proofs.Returning as returning
 use Rattle.jc_safety.proofs.Rows as rows
 use Rattle.jc_safety.proofs.Safe.{IsSafe, safe_some}
 use Rattle.jc_safety.proofs.Safe as safe
-use Rattle.jc_safety.proofs.Taking.{Applied, has_row, row_applied}
+use Rattle.jc_safety.proofs.Taking.{has_row, row_applied}
 use Rattle.jc_safety.proofs.Unwinding.{settles}
 use Rattle.jc_safety.proofs.Words as words
 use Rattle.jc_safety.specs.Safety.{EndsTyped, StaysTyped}

@@ -1,9 +1,7 @@
 -- What a row that applies to a state says of the values of that state.
-use Rattle.std.proofs.Common.{◌≡◌, ℕ, zero, suc, ◌+◌, ◌-◌, ◌<◌, ◌≤◌, List, [], ◌∷◌, length, take, drop, reverse, not}
-use Rattle.std.proofs.Common.{Bool, true, false, ◌&&◌, ◌||◌, if◌then◌else◌, Option, Some, None, Result, Ok, Err, nat_lt}
-use Rattle.std.proofs.Common.{slice_get, refl, sym, ap, ◌∙◌, subst, arith}
-use Rattle.std.proofs.lemmas.Bool.{lt-ltb, ltb-false}
-use Rattle.jc_base.specs.declared.reason.Reason.{Reason}
+use Rattle.std.proofs.Common.{◌≡◌, ℕ, ◌+◌, ◌-◌, List, [], ◌∷◌, length, take, drop, reverse, not}
+use Rattle.std.proofs.Common.{Bool, true, false, ◌&&◌, if◌then◌else◌, Option, Some, None, Ok, Err, nat_lt}
+use Rattle.std.proofs.Common.{refl, ap}
 use Rattle.jc_base.specs.declared.reason.Reason.TheVariants.{BadLocal, StackOver, StackUnder, WrongType}
 use Rattle.jc_cap_desc.specs.Shape.{Shape}
 use Rattle.jc_classes.specs.Subtype.{IsOrder, is_class_below}
@@ -26,7 +24,7 @@ use Rattle.jc_machine.specs.Arrays.{is_array_of}
 use Rattle.jc_machine.specs.Lookup.{is_array, is_boolean_array, is_byte_array, is_of_class, is_short_array, leads_to}
 use Rattle.jc_machine.specs.Typed.{HoldTypes, IsOperand, has_type}
 use Rattle.jc_words.specs.Values.{Null, Ref, TaggedValue, Unset, Word}
-use Rattle.jc_safety.proofs.Lists.{both, reversed_points, same_length, take_points}
+use Rattle.jc_safety.proofs.Lists.{both, reversed_points, take_points}
 use Rattle.jc_safety.proofs.Upward.{holds_below, leads_up, null_leads, operand_up}
 
 -- ---- a row that applies

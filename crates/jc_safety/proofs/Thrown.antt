@@ -1,5 +1,5 @@
 -- What the machine throws by itself is there, and may be thrown.
-use Rattle.std.proofs.Common.{◌≡◌, ℕ, true, Some, refl, ap, ◌∙◌}
+use Rattle.std.proofs.Common.{◌≡◌, true, Some, ap, ◌∙◌}
 use Rattle.jc_api.specs.declared.class.ApiClass.{ApiClass}
 use Rattle.jc_api.specs.declared.class.ApiClass.TheVariants as api
 use Rattle.jc_classes.specs.Subtype.{IsSubtype, is_class_below}

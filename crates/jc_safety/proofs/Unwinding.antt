@@ -1,7 +1,7 @@
 -- What is thrown is caught by the nearest handler, or leaves the call; the machine is never stuck on the way.
-use Rattle.std.proofs.Common.{◌≡◌, ℕ, zero, suc, ◌+◌, ◌-◌, ◌<◌, ◌≤◌, ◌==◌, List, [], ◌∷◌, length, map, slice_get}
+use Rattle.std.proofs.Common.{◌≡◌, ℕ, ◌+◌, ◌-◌, List, [], ◌∷◌, length, map, slice_get}
 use Rattle.std.proofs.Common.{Bool, true, false, ◌&&◌, ◌||◌, cond, Option, Some, None, nat_lt, nat_le, filter, is_some, find}
-use Rattle.std.proofs.Common.{refl, sym, ap, ◌∙◌, subst, arith, if◌then◌else◌}
+use Rattle.std.proofs.Common.{refl, sym, ap, ◌∙◌, subst, arith}
 use Rattle.std.proofs.lemmas.Bool.{le-leb, leb-true, lt-ltb, ltb-true}
 use Rattle.std.specs.List.{AllByRecursion, list_all}
 use Rattle.std.specs.Option.{option_and_then, option_map, option_map_or}
@@ -12,10 +12,10 @@ use Rattle.jc_cap_method.specs.declared.header.MethodHeader.{MethodHeader}
 use Rattle.jc_check.specs.Method.{Method, caught_types, covers}
 use Rattle.jc_check.specs.Method as checked
 use Rattle.jc_check.specs.Package.{caught_class, handler_of, method_of, package_rules, thrown_class, throwable}
-use Rattle.jc_check.specs.Typing.{CatchLeads, HandlerLeads, HasShape, IsFineAt, Leads}
+use Rattle.jc_check.specs.Typing.{CatchLeads, HandlerLeads}
 use Rattle.jc_classes.specs.Members.{DeclaredMethod}
 use Rattle.jc_classes.specs.Subtype.{is_class_below}
-use Rattle.jc_link.specs.Linked.{LinkedBody, World}
+use Rattle.jc_link.specs.Linked.{LinkedBody}
 use Rattle.jc_link.specs.declared.target.PoolTarget.{PoolTarget}
 use Rattle.jc_link.specs.declared.target.PoolTarget.TheVariants as To
 use Rattle.jc_names.specs.declared.name.ClassName.{ClassName}
@@ -23,21 +23,20 @@ use Rattle.jc_names.specs.declared.name.ClassName.TheVariants.{Api}
 use Rattle.jc_step.specs.Objects.{class_target}
 use Rattle.jc_store.specs.Heap as heaps
 use Rattle.jc_store.specs.Heap.{Heap, object_at}
-use Rattle.jc_types.specs.State.{Types, all_below}
+use Rattle.jc_types.specs.State.{all_below}
 use Rattle.jc_types.specs.Ty.{is_below}
 use Rattle.jc_types.specs.declared.ty.Ty.{Ty}
 use Rattle.jc_types.specs.declared.ty.Ty.TheVariants as types
 use Rattle.jc_machine.specs.Accepted.{linked_as}
 use Rattle.jc_machine.specs.Going.{moved}
-use Rattle.jc_machine.specs.Lookup.{body_at, class_of, code_at, declared_at, is_throwable, target_at}
+use Rattle.jc_machine.specs.Lookup.{body_at, class_of, code_at, is_throwable}
 use Rattle.jc_machine.specs.Machine.{Frame, Machine, Next, Outcome, Stuck, Surroundings, Throws}
-use Rattle.jc_machine.specs.Natives.{IsThrown}
 use Rattle.jc_machine.specs.Returns.{room_of}
 use Rattle.jc_machine.specs.Step.{catch_class, catches_all, caught_in, covering, handler_for, is_caught, is_covered, is_found}
 use Rattle.jc_machine.specs.Step.{settled, settled_object, through, unwound}
-use Rattle.jc_machine.specs.Typed.{HaveTypes, IsPlaced, IsTyped, IsTypedBeside, WaitTyped, given_by, has_type}
+use Rattle.jc_machine.specs.Typed.{IsPlaced, IsTyped, IsTypedBeside, WaitTyped, given_by, has_type}
 use Rattle.jc_words.specs.Values.{Ref, TaggedValue}
-use Rattle.jc_safety.proofs.Ground.{Ground, MethodOf, method_of_code}
+use Rattle.jc_safety.proofs.Ground.{Ground, method_of_code}
 use Rattle.jc_safety.proofs.Lists.{and_true, both}
 use Rattle.jc_safety.proofs.Rows.{resolved}
 use Rattle.jc_safety.proofs.Safe.{MayUnwind}

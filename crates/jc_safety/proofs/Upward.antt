@@ -1,7 +1,6 @@
 -- A value of a type is of each type above it, and of its types in each heap in which the objects stay.
-use Rattle.std.proofs.Common.{◌≡◌, ℕ, zero, suc, List, [], ◌∷◌, Option, Some, None, Bool, true, false, ◌&&◌, ◌||◌}
-use Rattle.std.proofs.Common.{refl, sym, ap, ◌∙◌, subst}
-use Rattle.std.specs.List.{AllByRecursion}
+use Rattle.std.proofs.Common.{◌≡◌, List, [], ◌∷◌, Option, Some, None, Bool, true, false}
+use Rattle.std.proofs.Common.{refl}
 use Rattle.std.specs.Option.{option_map_or}
 use Rattle.jc_api.specs.declared.class.ApiClass.TheVariants as api
 use Rattle.jc_cap_desc.specs.Shape.{Shape}
@@ -14,7 +13,7 @@ use Rattle.jc_store.specs.declared.kind.ObjectType.{ObjectType}
 use Rattle.jc_store.specs.declared.kind.ObjectType.TheVariants.{Instance, BooleanArray, ByteArray, ShortArray}
 use Rattle.jc_store.specs.declared.kind.ObjectType.TheVariants.{ReferenceArray}
 use Rattle.jc_types.specs.State.{all_below}
-use Rattle.jc_types.specs.Ty.{class_of_components, class_of_objects, is_below}
+use Rattle.jc_types.specs.Ty.{is_below}
 use Rattle.jc_types.specs.declared.ty.Ty.{Ty}
 use Rattle.jc_types.specs.declared.ty.Ty.TheVariants as types
 use Rattle.jc_machine.specs.Agree.{Pointwise}

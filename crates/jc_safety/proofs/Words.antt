@@ -1,30 +1,24 @@
 -- Instructions on words are safe.
-use Rattle.std.proofs.Common.{◌≡◌, ℕ, ℤ, zero, suc, ◌+◌, ◌-◌, ◌<◌, List, [], ◌∷◌, ◌++◌, length, take, drop, reverse, set}
-use Rattle.std.proofs.Common.{Bool, true, false, ◌&&◌, cond, if◌then◌else◌, Option, Some, None, Result, Ok, Err, nat_lt, nat_le, max}
-use Rattle.std.proofs.Common.{slice_get, map, unwrap_or, refl, sym, ap, ◌∙◌, subst, arith, length-append, length-drop, length-take}
+use Rattle.std.proofs.Common.{◌≡◌, ℕ, ℤ, zero, suc, ◌+◌, ◌<◌, List, [], ◌∷◌, ◌++◌, length, take, drop, set}
+use Rattle.std.proofs.Common.{Bool, true, false, if◌then◌else◌, Option, Some, None, Ok, Err, nat_lt, nat_le, max}
+use Rattle.std.proofs.Common.{slice_get, map, unwrap_or, refl, sym, ap, ◌∙◌, subst, arith}
 use Rattle.std.proofs.lemmas.Bool.{le-leb, lt-ltb, ltb-false, ltb-true}
 use Rattle.std.specs.List.{AllByRecursion}
 use Rattle.std.specs.Ordering.{int_eq}
 use Rattle.std.specs.Prelude.{◌-ℤ◌, int_lt, unsigned_abs}
-use Rattle.std.specs.Option.{option_map_or}
 use Rattle.jc_base.specs.Stack.{duplicated, swapped}
-use Rattle.jc_base.specs.declared.reason.Reason.{Reason}
 use Rattle.jc_base.specs.declared.reason.Reason.TheVariants.{StackOver, StackUnder}
 use Rattle.jc_cap_desc.specs.Shape.{Shape}
-use Rattle.jc_check.specs.Typing.{BranchLeads, Leads}
 use Rattle.jc_classes.specs.Members.{DeclaredMethod}
-use Rattle.jc_classes.specs.Subtype.{is_class_below}
-use Rattle.jc_code.specs.Targets.{target_of, word_falls, word_offsets}
+use Rattle.jc_code.specs.Targets.{word_falls, word_offsets}
 use Rattle.jc_code.specs.declared.instr.BinaryOperator.{BinaryOperator}
-use Rattle.jc_code.specs.declared.instr.Shuffle as shuffles
 use Rattle.jc_code.specs.declared.instr.Shuffle.TheVariants.{Duplicate, Pop, Swap}
 use Rattle.jc_code.specs.declared.instr.When.TheVariants.{Always, Compare, Zero}
 use Rattle.jc_code.specs.declared.instr.WordOperation.{WordOperation}
 use Rattle.jc_code.specs.declared.tables.Case.{Case}
 use Rattle.jc_code.specs.declared.instr.WordOperation.TheVariants as ops
 use Rattle.jc_names.specs.declared.name.ClassName.{ClassName}
-use Rattle.jc_step.specs.Row.{Row}
-use Rattle.jc_step.specs.Words.{reads, shuffle_effect, takes, word, word_effect, writes}
+use Rattle.jc_step.specs.Words.{reads, takes, word, word_effect, writes}
 use Rattle.jc_step.specs.declared.row.Demand.{Demand}
 use Rattle.jc_step.specs.declared.row.Given.{Given}
 use Rattle.jc_step.specs.declared.row.Given.TheVariants.{Exactly, Nothing}
@@ -34,23 +28,22 @@ use Rattle.jc_types.specs.State.{Types}
 use Rattle.jc_types.specs.Ty.{is_below}
 use Rattle.jc_types.specs.declared.ty.Ty.{Ty}
 use Rattle.jc_types.specs.declared.ty.Ty.TheVariants as types
-use Rattle.jc_machine.specs.Accepted.{linked_as}
 use Rattle.jc_machine.specs.Agree.{Pointwise}
-use Rattle.jc_machine.specs.Going.{Here, branches, check, goes_on, gives, leaves_operands, on_operands, on_word_local, pushed}
-use Rattle.jc_machine.specs.Machine.{Machine, Stepped, Surroundings}
+use Rattle.jc_machine.specs.Going.{Here, branches, goes_on, gives, leaves_operands, on_operands, on_word_local}
+use Rattle.jc_machine.specs.Machine.{Machine, Surroundings}
 use Rattle.jc_machine.specs.Typed.{HaveTypes, HoldTypes, IsOperand, IsTyped, has_type}
-use Rattle.jc_machine.specs.Words.{act_word, on_result, shuffled}
+use Rattle.jc_machine.specs.Words.{act_word, on_result}
 use Rattle.jc_words.specs.Shorts.{binary_of, holds, incremented, lookup_offset, short, stable_offset, unary_of, word_of}
-use Rattle.jc_words.specs.Values.{Null, Ref, TaggedValue, Unset, Word, all_written, is_written}
+use Rattle.jc_words.specs.Values.{Null, Ref, TaggedValue, Unset, Word, all_written}
 use Rattle.jc_safety.proofs.Bounds.{binary_bound, incremented_bound, unary_bound}
-use Rattle.jc_safety.proofs.Goes.{method, moves, orders_of, placed, room_left, rules, safe_branches, safe_gives, safe_jumps}
-use Rattle.jc_safety.proofs.Goes.{safe_leaves, safe_on, spot, throws_at}
+use Rattle.jc_safety.proofs.Goes.{method, placed, room_left, safe_gives}
+use Rattle.jc_safety.proofs.Goes.{safe_leaves, safe_on, throws_at}
 use Rattle.jc_safety.proofs.Ground.{Ground}
 use Rattle.jc_safety.proofs.Lists.{drop_points, joined_points, put_points, same_length, take_points}
 use Rattle.jc_safety.proofs.Locals.{local_there, local_type, reads_nothing, reads_one, stored}
 use Rattle.jc_safety.proofs.Rows as rows
 use Rattle.jc_safety.proofs.Safe.{IsSafe, safe_check}
-use Rattle.jc_safety.proofs.Taking.{Applied, Meets, Orders, leaves_nothing, leaves_one, meets_value, operands_meet, row_applied}
+use Rattle.jc_safety.proofs.Taking.{Applied, row_applied}
 use Rattle.jc_safety.proofs.Taking.{take_one, take_two, word_case}
 use Rattle.jc_safety.proofs.Thrown.{arithmetic}
 

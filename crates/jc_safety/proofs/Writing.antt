@@ -1,6 +1,6 @@
 -- Objects of a typed heap, and heaps in which a component of one was changed, or to which an object was added.
-use Rattle.std.proofs.Common.{◌≡◌, ℕ, zero, suc, ◌+◌, ◌<◌, List, [], ◌∷◌, ◌++◌, length, set, slice_get, Option, Some, None}
-use Rattle.std.proofs.Common.{Bool, true, false, ◌&&◌, not, nat_lt, refl, sym, ap, ◌∙◌, subst, arith, length-set}
+use Rattle.std.proofs.Common.{◌≡◌, ℕ, zero, suc, ◌<◌, List, [], ◌∷◌, set, slice_get, Option, Some, None}
+use Rattle.std.proofs.Common.{Bool, true, false, refl, arith, length-set}
 use Rattle.std.proofs.lemmas.Bool.{ltb-true}
 use Rattle.std.specs.List.{AllByRecursion}
 use Rattle.std.specs.Option.{option_map_or}
@@ -8,14 +8,12 @@ use Rattle.jc_cap_desc.specs.Shape.{Shape}
 use Rattle.jc_store.specs.Heap as heaps
 use Rattle.jc_store.specs.Heap.{Heap, object_at, with_cell, with_new, with_object}
 use Rattle.jc_store.specs.declared.kind.ObjectType.{ObjectType}
-use Rattle.jc_store.specs.declared.kind.ObjectType.TheVariants.{BooleanArray, ByteArray, Instance, ReferenceArray, ShortArray}
-use Rattle.jc_machine.specs.Agree.{Pointwise}
-use Rattle.jc_machine.specs.Lookup.{fields_of, is_array, is_byte, is_instance, is_word, leads_to}
+use Rattle.jc_machine.specs.Lookup.{is_byte, is_word, leads_to}
 use Rattle.jc_machine.specs.Natives.{KeepsObjects}
-use Rattle.jc_machine.specs.Typed.{CellsTyped, HeapTyped, ObjectTyped, is_cell}
+use Rattle.jc_machine.specs.Typed.{CellsTyped, HeapTyped, ObjectTyped}
 use Rattle.jc_words.specs.Values.{Null, Ref, TaggedValue, Unset, Word}
-use Rattle.jc_safety.proofs.Growing.{cells_still, keeps_changed, keeps_new, objects_still}
-use Rattle.jc_safety.proofs.Lists.{each_at, each_joined, each_set, put_points}
+use Rattle.jc_safety.proofs.Growing.{keeps_changed, keeps_new, objects_still}
+use Rattle.jc_safety.proofs.Lists.{each_at, each_joined, each_set}
 
 -- an object of a typed heap is typed
 pub typed_at : (world : List Shape) (heap : Heap TaggedValue) → HeapTyped world heap → (n : ℕ)

@@ -1,6 +1,6 @@
 -- Type safety of the machine: a well-typed machine in an accepted world is never stuck, and stays well typed (Java Card
 -- Virtual Machine Specification, Verification of CAP files).
-use Rattle.jc_machine.specs.Machine.{Ends, Machine, Next, Outcome, Stuck, Surroundings, Throws, UsedUp}
+use Rattle.jc_machine.specs.Machine.{Ends, Next, Outcome, Stuck, Surroundings, Throws, UsedUp}
 use Rattle.jc_machine.specs.Step.{CallEnd, Gave, RanOut, Threw, WasStuck}
 use Rattle.jc_machine.specs.Typed.{IsTyped, IsTypedBeside}
 

@@ -1,4 +1,3 @@
-use Rattle.std.proofs.Common.{ℕ}
 use Rattle.jc_safety.proofs.ApiMembers.{have_members}
 use Rattle.jc_safety.proofs.Grounding.{Laws, grounded}
 use Rattle.jc_safety.proofs.Stepping.{runs_safely, steps_safely}

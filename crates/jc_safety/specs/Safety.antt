@@ -4,8 +4,8 @@ use Rattle.jc_machine.specs.Machine.{Ends, Next, Outcome, Stuck, Surroundings, T
 use Rattle.jc_machine.specs.Step.{CallEnd, Gave, RanOut, Threw, WasStuck}
 use Rattle.jc_machine.specs.Typed.{IsTyped, IsTypedBeside}
 
--- what a step comes to is no machine that is stuck: one that goes on is well typed, and what is kept beside the frames of
--- one that doesn't is
+-- a step is never stuck: a machine that goes on is well typed, and of one whose call is over what it keeps beside its
+-- frames is of its types
 abbrev pub StaysTyped : {C : Type 0} → Surroundings C → Outcome C → Type 0
 StaysTyped s (Next m) = IsTyped s m
 StaysTyped s (Throws m object) = IsTypedBeside s m
@@ -13,7 +13,7 @@ StaysTyped s (Ends m value) = IsTypedBeside s m
 StaysTyped s (UsedUp m) = IsTypedBeside s m
 StaysTyped s Stuck = ⊥
 
--- the same of the end of a call
+-- the same of how a call ends
 abbrev pub EndsTyped : {C : Type 0} → Surroundings C → CallEnd C → Type 0
 EndsTyped s (Gave m value) = IsTypedBeside s m
 EndsTyped s (Threw m object) = IsTypedBeside s m

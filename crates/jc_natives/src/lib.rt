@@ -1,0 +1,20 @@
+//! The native members of the card's API.
+#![tactic(auto)]
+
+mod aid;
+mod apdu;
+mod applet;
+mod bytes;
+mod cells;
+mod ended;
+mod kept;
+mod members;
+mod native;
+mod object;
+mod row;
+mod rows;
+mod system;
+mod tests;
+mod utility;
+
+pub use kept::{ApduState, Installing, Instance, Runtime};

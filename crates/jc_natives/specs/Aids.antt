@@ -1,9 +1,8 @@
 -- AIDs (Java Card API Specification, AID).
 use Rattle.std.specs.Prelude.{ℕ, ◌==◌, ◌&&◌, Bool, false, List, [], ◌∷◌, bytes_eq, if◌then◌else◌}
-use Rattle.jc_natives.specs.Cells.{aid_bytes, aid_count, bytes_of, extended}
+use Rattle.jc_natives.specs.Cells.{aid_bytes, aid_count, argument, bit, bytes_of, extended, word}
 use Rattle.jc_natives.specs.Kept.{Kept, has_aid_length}
-use Rattle.jc_natives.specs.Objects.{bit, word}
-use Rattle.jc_natives.specs.Seen.{Seen, argument}
+use Rattle.jc_natives.specs.Seen.{Seen}
 use Rattle.jc_natives.specs.Work.{GivesWord, NoResult, Work, gives, illegal_value, unless_system, writes_to}
 use Rattle.jc_natives.specs.declared.native.AidNative.{AidNative}
 use Rattle.jc_natives.specs.declared.native.AidNative.TheVariants.{Construct, Equals, GetBytes}

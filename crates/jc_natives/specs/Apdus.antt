@@ -1,11 +1,11 @@
 -- The exchange of a command and its answer (Java Card API Specification, APDU). The card has one state, whichever
 -- object the member is called on.
-use Rattle.std.specs.Prelude.{ℕ, ◌+◌, ◌==◌, Bool, true, false, List, ◌++◌, length, nat_le, if◌then◌else◌}
+use Rattle.std.specs.Prelude.{ℕ, ◌+◌, Bool, true, false, List, ◌++◌, length, nat_le}
 use Rattle.jc_machine.specs.Runtime.{apdu_buffer}
 use Rattle.jc_natives.specs.Aids.{range_bytes}
-use Rattle.jc_natives.specs.Cells.{is_within, size_of}
-use Rattle.jc_natives.specs.Kept.{Kept, with_announced, with_sent, with_state}
-use Rattle.jc_natives.specs.Seen.{Seen, argument}
+use Rattle.jc_natives.specs.Cells.{argument, is_within, size_of}
+use Rattle.jc_natives.specs.Kept.{Kept, expected_of, most_sent, with_announced, with_sent, with_state}
+use Rattle.jc_natives.specs.Seen.{Seen}
 use Rattle.jc_natives.specs.Work.{GivesReference, GivesWord, NoResult, Work, bad_length, buffer_bounds, gives, illegal_use, unless_apdu, writes_to}
 use Rattle.jc_natives.specs.declared.kept.ApduState.{ApduState}
 use Rattle.jc_natives.specs.declared.kept.ApduState.TheVariants.{Closed, Fresh, LengthSet, Outgoing, Received}
@@ -44,13 +44,6 @@ is_length_set Outgoing = false
 is_length_set LengthSet = true
 
 -- ---- what is sent
-
--- where a command has no Le, or 0, as many bytes are expected as may be
-abbrev pub most_sent : ℕ
-most_sent = 256
-
-abbrev pub expected_of : Kept → ℕ
-expected_of k = if k.expected == 0 then most_sent else k.expected
 
 -- the data of a command stand behind its header in the buffer
 abbrev pub data_offset : ℕ

@@ -5,10 +5,9 @@ use Rattle.jc_firewall.specs.Verdict.{runtime}
 use Rattle.jc_machine.specs.Runtime.{first_aid_object, most_instances}
 use Rattle.jc_names.specs.declared.owner.Owner.{Owner}
 use Rattle.jc_natives.specs.Aids.{range_bytes}
-use Rattle.jc_natives.specs.Cells.{extended}
+use Rattle.jc_natives.specs.Cells.{argument, bit, extended}
 use Rattle.jc_natives.specs.Kept.{Kept, has_aid_length, instance_with, with_instance}
-use Rattle.jc_natives.specs.Objects.{bit}
-use Rattle.jc_natives.specs.Seen.{Seen, argument}
+use Rattle.jc_natives.specs.Seen.{Seen}
 use Rattle.jc_natives.specs.Work.{GivesReference, GivesWord, NoResult, Work, gives, illegal_aid, illegal_value, throws_system, unless_system, writes_to}
 use Rattle.jc_natives.specs.declared.kept.Installing.{Installing}
 use Rattle.jc_natives.specs.declared.native.AppletNative.{AppletNative}

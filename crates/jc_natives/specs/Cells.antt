@@ -1,6 +1,6 @@
 -- The components of objects as members use them: as words and as bytes, in objects of words and in objects of tagged
 -- values. Where there is no such component a member reads 0, and writes nothing.
-use Rattle.std.specs.Prelude.{ℕ, zero, suc, ◌+◌, ◌*◌, ◌%◌, ◌&&◌, Bool, List, [], ◌∷◌, length, map, get_or, nat_le, nat_lt, if◌then◌else◌}
+use Rattle.std.specs.Prelude.{ℕ, zero, suc, ◌+◌, ◌*◌, ◌/◌, ◌%◌, ◌&&◌, Bool, true, false, List, [], ◌∷◌, length, map, Option, Some, None, get_or, nat_le, nat_lt, unwrap_or, if◌then◌else◌}
 use Rattle.std.specs.Option.{option_map_or}
 use Rattle.jc_store.specs.Heap.{Heap, Object, cells_in, object_at, with_cell, with_object}
 use Rattle.jc_words.specs.Values.{Null, Ref, TaggedValue, Unset, Word}
@@ -50,6 +50,17 @@ aid_count objects number = cell_of objects number 0
 abbrev pub aid_bytes : Heap ℕ → ℕ → List ℕ
 aid_bytes objects number = bytes_of objects number 1 (aid_count objects number)
 
+-- a word of 16 bits, and its high byte
+abbrev pub word : ℕ → ℕ
+word n = n % 65536
+
+abbrev pub high : ℕ → ℕ
+high n = low (n / 256)
+
+abbrev pub bit : Bool → ℕ
+bit true = 1
+bit false = 0
+
 -- two bytes as a word, the high one first
 abbrev pub word_of_bytes : ℕ → ℕ → ℕ
 word_of_bytes high lower = 256 * high + lower
@@ -65,6 +76,20 @@ is_count word = nat_lt word 32768
 -- so many components from an index on lie within so many, where none of the numbers is a negative short
 abbrev pub is_within : ℕ → ℕ → ℕ → Bool
 is_within size from count = is_count from && is_count count && nat_le (from + count) size
+
+-- -1 or 1 as a word, where two bytes differ
+abbrev pub byte_order : ℕ → ℕ → Option ℕ
+byte_order one other = if nat_lt one other then Some 65535 else if nat_lt other one then Some 1 else None
+
+-- -1, 0 or 1, by the first bytes that differ
+abbrev pub order_of : List ℕ → List ℕ → ℕ
+order_of [] others = 0
+order_of (b ∷ bytes) [] = 0
+order_of (b ∷ bytes) (o ∷ others) = unwrap_or (byte_order b o) (order_of bytes others)
+
+-- the argument at a place
+abbrev pub argument : List ℕ → ℕ → ℕ
+argument arguments place = get_or arguments place 0
 
 -- ---- writing
 

@@ -1,7 +1,7 @@
 -- What the runtime keeps beside the objects: which instances of applets there are, the one that is being installed, and
 -- where the exchange of a command and its answer stands (Java Card Runtime Environment Specification, Applet Isolation
 -- and Object Sharing: Contexts; Java Card API Specification, APDU, Applet).
-use Rattle.std.specs.Prelude.{ℕ, ◌-◌, ◌==◌, ◌&&◌, Bool, true, false, not, List, [], ◌∷◌, ◌++◌, length, take, Option, Some, None, bytes_eq, nat_le, nat_lt}
+use Rattle.std.specs.Prelude.{ℕ, ◌-◌, ◌==◌, ◌&&◌, Bool, true, false, not, List, [], ◌∷◌, ◌++◌, length, take, Option, Some, None, bytes_eq, nat_le, nat_lt, if◌then◌else◌}
 use Rattle.std.specs.List.{find, list_all}
 use Rattle.std.specs.Option.{option_map_or}
 use Rattle.jc_names.specs.declared.owner.Owner.{Owner}
@@ -90,6 +90,15 @@ with_command k incoming expected selecting = record {
 -- no command is; what was sent stays until the next
 abbrev pub without_command : Kept → Kept
 without_command k = record k { state = Closed; selecting = false }
+
+-- ---- what is sent
+
+-- where a command has no Le, or 0, as many bytes are expected as may be
+abbrev pub most_sent : ℕ
+most_sent = 256
+
+abbrev pub expected_of : Kept → ℕ
+expected_of k = if k.expected == 0 then most_sent else k.expected
 
 -- ---- AIDs
 

@@ -1,21 +1,13 @@
 -- Object and the exceptions (Java Card API Specification, Object, Throwable and its subclasses, CardRuntimeException,
 -- ISOException, SystemException, APDUException).
-use Rattle.std.specs.Prelude.{ℕ, ◌%◌, ◌==◌, ◌&&◌, ◌||◌, Bool, true, false, List, [], ◌∷◌, bytes_eq}
-use Rattle.jc_natives.specs.Cells.{aid_bytes, aid_count, cell_of}
+use Rattle.std.specs.Prelude.{ℕ, ◌==◌, ◌&&◌, ◌||◌, Bool, List, [], ◌∷◌, bytes_eq}
+use Rattle.jc_natives.specs.Cells.{aid_bytes, aid_count, argument, bit, cell_of, word}
 use Rattle.jc_natives.specs.Kept.{Kept}
-use Rattle.jc_natives.specs.Seen.{Seen, argument, is_aid_object}
+use Rattle.jc_natives.specs.Seen.{Seen, is_aid_object}
 use Rattle.jc_natives.specs.Work.{GivesWord, NoResult, Work, gives, throws_with, writes_to}
 use Rattle.jc_natives.specs.declared.native.ObjectNative.{ObjectNative}
 use Rattle.jc_natives.specs.declared.native.ObjectNative.TheVariants.{Construct, ConstructWithReason, Equals, GetReason, SetReason, ThrowIt}
 use Rattle.jc_store.specs.Heap.{Heap}
-
-abbrev pub bit : Bool → ℕ
-bit true = 1
-bit false = 0
-
--- a word of 16 bits
-abbrev pub word : ℕ → ℕ
-word n = n % 65536
 
 -- objects have the same bytes as AIDs; and they are AIDs that do
 abbrev pub have_same_aid : Heap ℕ → ℕ → ℕ → Bool

@@ -1,6 +1,6 @@
 -- What a native member sees of its call: words, and objects without tags. No member looks at a tag: arguments are of
 -- their types before it begins, and the components that it uses are words.
-use Rattle.std.specs.Prelude.{ℕ, Bool, false, List, map, get_or, Option}
+use Rattle.std.specs.Prelude.{ℕ, Bool, false, List, map, Option}
 use Rattle.std.specs.Option.{option_map_or}
 use Rattle.jc_api.specs.declared.class.ApiClass.TheVariants.{Aid}
 use Rattle.jc_cap_desc.specs.Shape.{Shape}
@@ -37,10 +37,6 @@ seen_of w call = record {
 
 abbrev pub arguments_of : {C : Type 0} → NativeCall C → List ℕ
 arguments_of call = map bits call.arguments
-
--- the argument at a place
-abbrev pub argument : List ℕ → ℕ → ℕ
-argument arguments place = get_or arguments place 0
 
 -- whether a number is that of an AID: of an object of class AID or below it
 abbrev pub is_aid_object : Seen → ℕ → Bool

@@ -7,9 +7,9 @@ use Rattle.jc_machine.specs.Runtime.{negative_size_exception}
 use Rattle.jc_names.specs.declared.name.ClassName.TheVariants.{Api}
 use Rattle.jc_natives.specs.Aids.{range_bytes}
 use Rattle.jc_natives.specs.Applets.{aid_object}
-use Rattle.jc_natives.specs.Cells.{aid_bytes, extended, is_count}
+use Rattle.jc_natives.specs.Cells.{aid_bytes, argument, extended, is_count}
 use Rattle.jc_natives.specs.Kept.{Kept, instance_of, instance_with}
-use Rattle.jc_natives.specs.Seen.{Seen, argument}
+use Rattle.jc_natives.specs.Seen.{Seen}
 use Rattle.jc_natives.specs.Work.{Asks, GivesReference, Makes, Work, gives, illegal_transient, illegal_value, throws, throws_system, unless_system}
 use Rattle.jc_natives.specs.declared.kept.Instance.{Instance}
 use Rattle.jc_natives.specs.declared.native.SystemNative.{SystemNative}

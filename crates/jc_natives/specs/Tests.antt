@@ -11,8 +11,8 @@ use Rattle.jc_firewall.specs.declared.access.Verdict.TheVariants.{Allowed, Allow
 use Rattle.jc_machine.specs.Lookup.{is_array}
 use Rattle.jc_machine.specs.Machine.{Touch}
 use Rattle.jc_machine.specs.Runtime.{array_index_exception, null_pointer_exception, security_exception}
-use Rattle.jc_natives.specs.Cells.{aid_count, extended, is_within, size_of}
-use Rattle.jc_natives.specs.Seen.{Seen, argument, is_aid_object}
+use Rattle.jc_natives.specs.Cells.{aid_count, argument, extended, is_within, size_of}
+use Rattle.jc_natives.specs.Seen.{Seen, is_aid_object}
 use Rattle.jc_natives.specs.declared.row.Length.{Length}
 use Rattle.jc_natives.specs.declared.row.Length.TheVariants.{ByteAt, Fixed, OfAid, ShortAt}
 use Rattle.jc_natives.specs.declared.row.Range.{Range}

@@ -1,27 +1,12 @@
 -- Arrays of bytes and shorts (Java Card API Specification, Util).
-use Rattle.std.specs.Prelude.{ℕ, ◌+◌, ◌/◌, List, [], ◌∷◌, Option, Some, None, nat_lt, replicate, unwrap_or, if◌then◌else◌}
+use Rattle.std.specs.Prelude.{ℕ, ◌+◌, List, [], ◌∷◌, replicate}
 use Rattle.jc_natives.specs.Aids.{range_bytes}
-use Rattle.jc_natives.specs.Cells.{byte_of, low, word_of_bytes}
+use Rattle.jc_natives.specs.Cells.{argument, byte_of, high, low, order_of, word, word_of_bytes}
 use Rattle.jc_natives.specs.Kept.{Kept}
-use Rattle.jc_natives.specs.Objects.{word}
-use Rattle.jc_natives.specs.Seen.{Seen, argument}
+use Rattle.jc_natives.specs.Seen.{Seen}
 use Rattle.jc_natives.specs.Work.{GivesWord, Work, gives, writes_to}
 use Rattle.jc_natives.specs.declared.native.UtilityNative.{UtilityNative}
 use Rattle.jc_natives.specs.declared.native.UtilityNative.TheVariants.{ArrayCompare, ArrayCopy, ArrayFill, GetShort, MakeShort, SetShort}
-
--- -1 or 1 as a word, where two bytes differ
-abbrev pub byte_order : ℕ → ℕ → Option ℕ
-byte_order one other = if nat_lt one other then Some 65535 else if nat_lt other one then Some 1 else None
-
--- -1, 0 or 1, by the first bytes that differ
-abbrev pub order_of : List ℕ → List ℕ → ℕ
-order_of [] others = 0
-order_of (b ∷ bytes) [] = 0
-order_of (b ∷ bytes) (o ∷ others) = unwrap_or (byte_order b o) (order_of bytes others)
-
--- the high byte of a word
-abbrev pub high : ℕ → ℕ
-high n = low (n / 256)
 
 -- a copy is as through a copy of the source; what is written ends behind the offset that is given
 abbrev pub utility_work : Seen → Kept → List ℕ → UtilityNative → Work

@@ -2,10 +2,9 @@
 
 ghost use Rattle.std.specs.Prelude.{◌≡◌, ◌∷◌};
 ghost use Rattle.jc_natives.specs.Aids.{aid_work, is_range};
-ghost use Rattle.jc_natives.specs.Cells.{bytes_of, extended, put_all};
+ghost use Rattle.jc_natives.specs.Cells.{argument, bytes_of, extended, put_all};
 ghost use Rattle.jc_natives.specs.Kept.{Kept, has_aid_length};
 ghost use Rattle.jc_natives.specs.PrivateWords.{done_of, seen_in};
-ghost use Rattle.jc_natives.specs.Seen.{argument};
 ghost use Rattle.jc_natives.specs.declared.native.AidNative.TheVariants as natives;
 ghost use Rattle.jc_store.specs.Store.{with_objects};
 

@@ -2,8 +2,7 @@
 
 ghost use Rattle.std.specs.Prelude.{◌≡◌, ◌+◌, ◌++◌, ◌≤◌, bytes_eq, length, replicate};
 ghost use Rattle.arrayvec.specs.ArrayVec.{array_vec_len};
-ghost use Rattle.jc_natives.specs.Cells.{bytes_of, put_all};
-ghost use Rattle.jc_natives.specs.Utilities.{byte_order, order_of};
+ghost use Rattle.jc_natives.specs.Cells.{byte_order, bytes_of, order_of, put_all};
 ghost use Rattle.jc_store.specs.Store.{with_objects};
 
 use crate::cells::{byte, put};

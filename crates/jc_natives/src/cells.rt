@@ -1,10 +1,7 @@
 //! The components of objects, as members read and write them: whatever number and index they are handed.
 
 ghost use Rattle.std.specs.Prelude.{◌≡◌, ◌+◌, true, false, None};
-ghost use Rattle.jc_natives.specs.Cells.{byte_of, cell_of, extended, is_count, is_within, put, size_of, word_of_bytes};
-ghost use Rattle.jc_natives.specs.Objects.{bit, word};
-ghost use Rattle.jc_natives.specs.Seen.{argument};
-ghost use Rattle.jc_natives.specs.Utilities.{high};
+ghost use Rattle.jc_natives.specs.Cells.{argument, bit, byte_of, cell_of, extended, high, is_count, is_within, put, size_of, word, word_of_bytes};
 ghost use Rattle.jc_store.specs.Heap.{object_at};
 ghost use Rattle.jc_store.specs.Store.{IsThere, with_objects};
 

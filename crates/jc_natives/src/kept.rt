@@ -1,9 +1,8 @@
 //! What the runtime keeps beside the objects.
 
 ghost use Rattle.std.specs.Prelude.{◌≡◌, ◌+◌, ◌++◌, ◌≤◌, ◌<◌, [], bytes_eq, length, nat_le, nat_lt};
-ghost use Rattle.jc_natives.specs.Apdus.{expected_of};
 ghost use Rattle.jc_natives.specs.Cells.{bytes_of};
-ghost use Rattle.jc_natives.specs.Kept.{after_install, has_registered, instance_of, instance_with, is_same_owner, nothing_kept, with_announced, with_command, with_install, with_instance, with_sent, with_state, without_command};
+ghost use Rattle.jc_natives.specs.Kept.{after_install, expected_of, has_registered, instance_of, instance_with, is_same_owner, nothing_kept, with_announced, with_command, with_install, with_instance, with_sent, with_state, without_command};
 ghost use Rattle.jc_natives.specs.declared.kept.ApduState.TheVariants.{LengthSet};
 
 use crate::bytes::{append_bytes, are_bytes};

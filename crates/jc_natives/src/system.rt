@@ -1,11 +1,10 @@
 //! Members of JCSystem (Java Card API Specification, JCSystem).
 
 ghost use Rattle.std.specs.Prelude.{◌≡◌};
-ghost use Rattle.jc_natives.specs.Cells.{bytes_of, extended};
+ghost use Rattle.jc_natives.specs.Cells.{argument, bytes_of, extended};
 ghost use Rattle.jc_natives.specs.Kept.{Kept, instance_with};
 ghost use Rattle.jc_natives.specs.PrivateWords.{done_of, seen_in};
 ghost use Rattle.jc_natives.specs.System.{aid_of, aid_of_owner, asks, event_of, makes, makes_array, may_make, system_work};
-ghost use Rattle.jc_natives.specs.Seen.{argument};
 ghost use Rattle.jc_natives.specs.Work.{Makes};
 ghost use Rattle.jc_natives.specs.declared.native.SystemNative.TheVariants as natives;
 

@@ -3,7 +3,7 @@
 -- and Object Sharing: Contexts; Java Card API Specification, APDU, Applet).
 use Rattle.std.specs.Prelude.{ℕ, ◌-◌, ◌==◌, ◌&&◌, Bool, true, false, not, List, [], ◌∷◌, ◌++◌, length, take, Option, Some, None, bytes_eq, nat_le, nat_lt, if◌then◌else◌}
 use Rattle.std.specs.List.{find, list_all}
-use Rattle.std.specs.Option.{option_map_or}
+use Rattle.std.specs.Option.{option_map, option_map_or}
 use Rattle.jc_names.specs.declared.owner.Owner.{Owner}
 use Rattle.jc_natives.specs.declared.kept.ApduState.{ApduState}
 use Rattle.jc_natives.specs.declared.kept.ApduState.TheVariants.{Closed, Fresh}
@@ -35,9 +35,12 @@ abbrev pub with_sent : Kept → List ℕ → Kept
 with_sent k sent = record k { sent = sent }
 
 -- one instance more, and the one that is being installed has registered
-abbrev pub with_instance : Kept → Installing → Instance → Kept
-with_instance k i instance =
-    record k { instances = k.instances ++ instance ∷ []; installing = Some (record i { registered = true }) }
+abbrev pub now_registered : Installing → Installing
+now_registered i = record i { registered = true }
+
+abbrev pub with_instance : Kept → Instance → Kept
+with_instance k instance =
+    record k { instances = k.instances ++ instance ∷ []; installing = option_map now_registered k.installing }
 
 -- ---- between calls
 

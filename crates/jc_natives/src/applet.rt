@@ -2,7 +2,7 @@
 
 ghost use Rattle.std.specs.Prelude.{◌≡◌, ◌&&◌, None, Some, if◌then◌else◌, is_some, length, nat_lt, not};
 ghost use Rattle.jc_machine.specs.Runtime.{most_instances};
-ghost use Rattle.jc_natives.specs.Applets.{aid_object, applet_work, may_register, owner_of, registers, registers_range};
+ghost use Rattle.jc_natives.specs.Applets.{aid_object, allowed, applet_work, may_register, owner_of, registers, registers_range};
 ghost use Rattle.jc_natives.specs.Cells.{bytes_of};
 ghost use Rattle.jc_natives.specs.Kept.{has_aid_length, instance_with};
 ghost use Rattle.jc_natives.specs.PrivateWords.{done_of, seen_in};
@@ -48,12 +48,30 @@ fn may_register(
     store: &Store,
     call: &WordCall<'_>,
     object: u16,
-    installing: Installing,
+    installing: &Installing,
 ) -> bool
-    ensures { result ≡ may_register (seen_in world.now store.now call.now) object installing }
+    ensures { result ≡ may_register (seen_in world.now store.now call.now) object installing.now }
 {
     let (_world, _call) = (world, call);
     !installing.registered && owner_of(store, object).instance == installing.owner.instance
+}
+
+// The instance that is being installed, if an object may register in its name.
+fn allowed(
+    world: &World,
+    store: &Store,
+    call: &WordCall<'_>,
+    runtime: &Runtime,
+    object: u16,
+) -> Option<Installing>
+    ensures { result ≡ allowed (seen_in world.now store.now call.now) object runtime.now.installing }
+{
+    let installing = runtime.installing()?;
+    if may_register(world, store, call, object, &installing) {
+        Some(installing)
+    } else {
+        None
+    }
 }
 
 // Whether an instance may register under an AID.
@@ -64,29 +82,29 @@ fn is_free(runtime: &Runtime, aid: &[u8]) -> bool
     !runtime.instance_with(aid).is_some() && runtime.has_place()
 }
 
-// Registers the instance that is being installed under an AID that no registered instance has.
+// Registers the instance with a number under an AID that no registered instance has.
 fn register_as(
     world: &World,
     store: &mut Store,
     call: &WordCall<'_>,
     runtime: &mut Runtime,
-    installing: Installing,
+    instance: u8,
     object: u16,
     aid: Aid,
 ) -> Ended
     ensures { record { store = store.new; kept = runtime.new; ended = result }
         ≡ done_of call.now.active store.old runtime.old
-        (registers (seen_in world.now store.old call.now) runtime.old installing object aid) }
+        (registers (seen_in world.now store.old call.now) runtime.old instance object aid) }
 {
     let (_world, _call) = (world, call);
     if !is_free(runtime, aid.as_slice()) {
         return throw_system(store, ILLEGAL_AID);
     }
     let owner = owner_of(store, object);
-    let number = aid_object(installing.owner.instance);
+    let number = aid_object(instance);
     put(store, number, 0, aid.len() as u16);
     put_bytes(store, number, 1, aid.as_slice());
-    runtime.register(installing, Instance { aid, object, owner });
+    runtime.register(Instance { aid, object, owner });
     Ended::Returned(None)
 }
 
@@ -96,13 +114,11 @@ fn register(world: &World, store: &mut Store, call: &WordCall<'_>, runtime: &mut
         (applet_work (seen_in world.now store.old call.now) runtime.old call.now.arguments.now natives.Register) }
 {
     let object = argument(call.arguments, 0);
-    match runtime.installing() {
+    match allowed(world, store, call, runtime, object) {
         None => throw_system(store, ILLEGAL_AID),
         Some(installing) => {
-            if !may_register(world, store, call, object, installing) {
-                return throw_system(store, ILLEGAL_AID);
-            }
-            register_as(world, store, call, runtime, installing, object, installing.aid)
+            let number = installing.owner.instance;
+            register_as(world, store, call, runtime, number, object, installing.aid)
         }
     }
 }
@@ -119,17 +135,17 @@ fn aid_in(store: &Store, array: u16, offset: u16, count: u16) -> Option<Aid>
     Aid::from_slice(bytes.as_slice())
 }
 
-// Registers the instance that is being installed under the bytes of a range.
+// Registers the instance with a number under the bytes of a range.
 fn register_range(
     world: &World,
     store: &mut Store,
     call: &WordCall<'_>,
     runtime: &mut Runtime,
-    installing: Installing,
+    instance: u8,
 ) -> Ended
     ensures { record { store = store.new; kept = runtime.new; ended = result }
         ≡ done_of call.now.active store.old runtime.old
-        (registers_range (seen_in world.now store.old call.now) runtime.old call.now.arguments.now installing) }
+        (registers_range (seen_in world.now store.old call.now) runtime.old call.now.arguments.now instance) }
 {
     let object = argument(call.arguments, 0);
     let array = argument(call.arguments, 1);
@@ -137,7 +153,7 @@ fn register_range(
     let count = extended(argument(call.arguments, 3));
     match aid_in(store, array, offset, count) {
         None => throw_system(store, ILLEGAL_VALUE),
-        Some(aid) => register_as(world, store, call, runtime, installing, object, aid),
+        Some(aid) => register_as(world, store, call, runtime, instance, object, aid),
     }
 }
 
@@ -152,13 +168,10 @@ fn register_bytes(
         (applet_work (seen_in world.now store.old call.now) runtime.old call.now.arguments.now natives.RegisterBytes) }
 {
     let object = argument(call.arguments, 0);
-    match runtime.installing() {
+    match allowed(world, store, call, runtime, object) {
         None => throw_system(store, ILLEGAL_AID),
         Some(installing) => {
-            if !may_register(world, store, call, object, installing) {
-                return throw_system(store, ILLEGAL_AID);
-            }
-            register_range(world, store, call, runtime, installing)
+            register_range(world, store, call, runtime, installing.owner.instance)
         }
     }
 }

@@ -1,6 +1,6 @@
 //! What the runtime keeps beside the objects.
 
-ghost use Rattle.std.specs.Prelude.{◌≡◌, ◌+◌, ◌++◌, ◌≤◌, ◌<◌, [], bytes_eq, length, nat_le, nat_lt};
+ghost use Rattle.std.specs.Prelude.{◌≡◌, ◌+◌, ◌++◌, ◌≤◌, ◌<◌, [], bytes_eq, length, nat_le, nat_lt, option_map};
 ghost use Rattle.jc_natives.specs.Cells.{bytes_of};
 ghost use Rattle.jc_natives.specs.Kept.{after_install, expected_of, has_registered, instance_of, instance_with, is_same_owner, nothing_kept, with_announced, with_command, with_install, with_instance, with_sent, with_state, without_command};
 ghost use Rattle.jc_natives.specs.declared.kept.ApduState.TheVariants.{LengthSet};
@@ -125,10 +125,34 @@ fn is_of(instance: &Instance, owner: Owner) -> bool
     instance.owner.context == owner.context && instance.owner.instance == owner.instance
 }
 
-impl Default for Runtime {
-    fn default() -> Runtime {
-        Runtime::new()
-    }
+// The registered instance with an AID.
+fn find_aid<'a>(instances: &'a [Instance], aid: &[u8]) -> Option<&'a Instance>
+    ensures { option_map (λ i. i.now) result ≡ instance_with instances.now aid.now }
+{
+    instances.iter().find(|i| has_aid(i, aid))
+}
+
+// The registered instance whose AID stands in an object, from an index on.
+fn find_aid_in<'a>(
+    instances: &'a [Instance],
+    store: &Store,
+    number: u16,
+    from: u16,
+    count: u16,
+) -> Option<&'a Instance>
+    ensures { option_map (λ i. i.now) result
+        ≡ instance_with instances.now (bytes_of store.now.objects number from count) }
+{
+    instances
+        .iter()
+        .find(|i| has_aid_in(i, store, number, from, count))
+}
+
+// The registered instance of an owner.
+fn find_owner(instances: &[Instance], owner: Owner) -> Option<&Instance>
+    ensures { option_map (λ i. i.now) result ≡ instance_of instances.now owner }
+{
+    instances.iter().find(|i| is_of(i, owner))
 }
 
 impl Runtime {
@@ -213,11 +237,7 @@ impl Runtime {
     pub fn instance_with(&self, aid: &[u8]) -> Option<Instance>
         ensures { result ≡ instance_with self.now.instances aid.now }
     {
-        self.instances
-            .as_slice()
-            .iter()
-            .find(|i| has_aid(i, aid))
-            .copied()
+        find_aid(self.instances.as_slice(), aid).copied()
     }
 
     // The registered instance whose AID stands in an object, from an index on.
@@ -230,22 +250,14 @@ impl Runtime {
     ) -> Option<Instance>
         ensures { result ≡ instance_with self.now.instances (bytes_of store.now.objects number from count) }
     {
-        self.instances
-            .as_slice()
-            .iter()
-            .find(|i| has_aid_in(i, store, number, from, count))
-            .copied()
+        find_aid_in(self.instances.as_slice(), store, number, from, count).copied()
     }
 
     // The registered instance of an owner.
     pub(crate) fn instance_of(&self, owner: Owner) -> Option<Instance>
         ensures { result ≡ instance_of self.now.instances owner }
     {
-        self.instances
-            .as_slice()
-            .iter()
-            .find(|i| is_of(i, owner))
-            .copied()
+        find_owner(self.instances.as_slice(), owner).copied()
     }
 
     pub(crate) fn installing(&self) -> Option<Installing>
@@ -261,16 +273,15 @@ impl Runtime {
         self.instances.len() < MOST_INSTANCES
     }
 
-    // Registers an instance.
-    pub(crate) fn register(&mut self, installing: Installing, instance: Instance)
+    // Registers an instance, in the name of the one that is being installed.
+    pub(crate) fn register(&mut self, instance: Instance)
         requires { length self.old.instances < 32 }
-        ensures { self.new ≡ with_instance self.old installing instance }
+        ensures { self.new ≡ with_instance self.old instance }
     {
         self.instances.push(instance);
-        self.installing = Some(Installing {
-            registered: true,
-            ..installing
-        });
+        if let Some(installing) = &mut self.installing {
+            installing.registered = true;
+        }
     }
 
     pub(crate) fn state(&self) -> ApduState

@@ -8,6 +8,7 @@ mod bytes;
 mod cells;
 mod ended;
 mod kept;
+mod laws;
 mod members;
 mod native;
 mod object;
@@ -18,3 +19,4 @@ mod tests;
 mod utility;
 
 pub use kept::{ApduState, Installing, Instance, Runtime};
+pub use laws::members_are_guarded;

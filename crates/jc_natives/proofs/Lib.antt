@@ -1,0 +1,6 @@
+mod Getting
+mod Putting
+mod Ranges
+mod Bare
+mod Simulation
+mod Guarding

@@ -1,5 +1,5 @@
 -- The law of accesses: each access of a native member is allowed or the last, and only what was accessed changes.
-use Rattle.std.proofs.Common.{⊤, ◌≡◌, ◌≢◌, ◌⊎◌, inl, inr, ℕ, zero, suc, ◌+◌, ◌==◌, ◌≤◌, ◌<◌, ◌&&◌, ◌||◌, Bool, true, false, cond, List, [], ◌∷◌, ◌++◌, length, map, replicate, set, slice_get, nat_le, nat_lt, not, Option, Some, None, refl, sym, ap, subst, ◌∙◌, arith, length-append}
+use Rattle.std.proofs.Common.{◌≡◌, ◌≢◌, ◌⊎◌, inl, inr, ℕ, zero, suc, ◌+◌, ◌==◌, ◌≤◌, ◌<◌, ◌&&◌, ◌||◌, Bool, true, false, cond, List, [], ◌∷◌, ◌++◌, length, map, replicate, set, slice_get, nat_le, nat_lt, not, Option, Some, None, refl, sym, ap, subst, ◌∙◌, arith, length-append}
 use Rattle.std.proofs.lemmas.Bool.{eq-eqb, eqb-true, leb-true, ltb-true}
 use Rattle.std.proofs.lemmas.List.{length-replicate, length-set}
 use Rattle.std.proofs.lemmas.Option.{none-some, same_Some, slice_get_within}
@@ -73,8 +73,10 @@ got_front (y ∷ xs) ys zero x e = e
 got_front (y ∷ xs) ys (suc n) x e = got_front xs ys n x e
 
 got_back : {A : Type 0} (xs ys : List A) (n : ℕ) → slice_get (xs ++ ys) (length xs + n) ≡ slice_get ys n
-got_back [] ys n = refl
-got_back (x ∷ xs) ys n = got_back xs ys n
+got_back [] ys n = let e : 0 + n ≡ n = omega arith in ap (slice_get ys) e
+got_back (x ∷ xs) ys n =
+    let e : suc (length xs) + n ≡ suc (length xs + n) = omega arith in
+    ap (slice_get (x ∷ xs ++ ys)) e ∙ got_back xs ys n
 
 -- ---- what the tests access
 
@@ -204,7 +206,7 @@ keeps_on one two three a b number o found =
       size = q.size ∙ p.size;
     }
 
-keeps_put : (heap : Heap TaggedValue) (number index : ℕ) (value : TaggedValue)
+pub keeps_put : (heap : Heap TaggedValue) (number index : ℕ) (value : TaggedValue)
     → KeepsObjects heap (put heap number index value)
 keeps_put heap number index value = by_object (object_at heap number) refl
   where
@@ -351,37 +353,39 @@ module _ (w : World) (call : NativeCall Kept) where
   tested_access : (touches : List Touch) → AllByRecursion (IsUse w call) touches → are_allowed touches ≡ true
       → (number : ℕ) (o : Object TaggedValue) → object_at call.heap number ≡ Some o
       → is_touched touches number ≡ true → IsAccessed touches number o
-  tested_access [] uses allowed number o found e = absurd cc
-  tested_access (t ∷ touches) uses allowed number o found e =
-      by_first (either_is (t.object == number) (is_touched touches number) e)
+  tested_access [] uses fine number o found e = absurd cc
+  tested_access (t ∷ touches) uses fine number o found e =
+      by_first (tested_access touches uses.1 (both (is_allowed t.verdict) (are_allowed touches) fine).1 number o found)
+      (either_is (t.object == number) (is_touched touches number) e)
     where
       parts : (is_allowed t.verdict ≡ true) × (are_allowed touches ≡ true)
-      parts = both (is_allowed t.verdict) (are_allowed touches) allowed
+      parts = both (is_allowed t.verdict) (are_allowed touches) fine
 
-      own_of : (use : IsUse w call t) → use.native.object ≡ o → o.kind.mark ≡ Plain
+      own_of : (u : IsUse w call t) → u.native.object ≡ o → o.kind.mark ≡ Plain
           → (t.active ≡ o.owner.context) ⊎ (t.active ≡ runtime_context)
-      own_of use same plain =
-          let facts = facts_in w.shapes call.selected use.native.object None false in
-          let verdict = use.native.verdict ∙ ap (λ a. verdict_of a t.active facts) use.access in
+      own_of u same plain =
+          let facts = facts_in w.shapes call.selected u.native.object None false in
+          let verdict = u.native.verdict ∙ ap (λ a. verdict_of a t.active facts) u.access in
           subst (λ (x : Object TaggedValue). (t.active ≡ x.owner.context) ⊎ (t.active ≡ runtime_context)) same
-          (own_use use.way t.active facts (ap is_allowed (sym verdict) ∙ parts.0)
+          (own_use u.way t.active facts (ap is_allowed (sym verdict) ∙ parts.0)
           (ap (λ (x : Object TaggedValue). x.kind.mark) same ∙ plain))
 
-      by_first : ((t.object == number) ≡ true) ⊎ (is_touched touches number ≡ true) → IsAccessed (t ∷ touches) number o
-      by_first (inl f) =
-          let use = uses.0 in
-          let same = same_found (object_at call.heap number) o use.native.object found
-              (ap (object_at call.heap) (sym (eqb-true t.object number f)) ∙ use.native.found) in
+      by_first : (is_touched touches number ≡ true → IsAccessed touches number o)
+          → ((t.object == number) ≡ true) ⊎ (is_touched touches number ≡ true) → IsAccessed (t ∷ touches) number o
+      by_first rest (inl f) =
+          let u = uses.0 in
+          let same = same_found (object_at call.heap number) o u.native.object found
+              (ap (object_at call.heap) (sym (eqb-true t.object number f)) ∙ u.native.found) in
           record {
             place = 0;
             touch = t;
             listed = refl;
             is = eqb-true t.object number f;
             allowed = parts.0;
-            own = λ plain. own_of use same plain;
+            own = λ plain. own_of u same plain;
           }
-      by_first (inr f) =
-          let later = tested_access touches uses.1 parts.1 number o found f in
+      by_first rest (inr f) =
+          let later = rest f in
           record {
             place = suc later.place;
             touch = later.touch;
@@ -397,12 +401,9 @@ module _ (w : World) (call : NativeCall Kept) where
       → IsAccessed (own_touches touches call.heap writes) number o
   own_access touches [] number o found apart e = absurd cc
   own_access touches (x ∷ writes) number o found apart e =
-      by_first (either_is (x.object == number) (is_written_in writes number) e)
+      by_first (own_access touches writes number o found apart)
+      (either_is (x.object == number) (is_written_in writes number) e)
     where
-      first : own_touch_of touches call.heap x ++ own_touches touches call.heap writes
-          ≡ own_touches touches call.heap (x ∷ writes)
-      first = refl
-
       here : x.object ≡ number → own_touch_of touches call.heap x ≡ own_touch x.object o ∷ []
       here f =
           ap (λ n. cond (is_touched touches n) []
@@ -410,9 +411,10 @@ module _ (w : World) (call : NativeCall Kept) where
           ∙ ap (λ b. cond b [] (option_map_or (λ object. own_touch x.object object ∷ []) (object_at call.heap number) [])) apart
           ∙ ap (λ p. option_map_or (λ object. own_touch x.object object ∷ []) p []) found
 
-      by_first : ((x.object == number) ≡ true) ⊎ (is_written_in writes number ≡ true)
+      by_first : (is_written_in writes number ≡ true → IsAccessed (own_touches touches call.heap writes) number o)
+          → ((x.object == number) ≡ true) ⊎ (is_written_in writes number ≡ true)
           → IsAccessed (own_touches touches call.heap (x ∷ writes)) number o
-      by_first (inl f) =
+      by_first rest (inl f) =
           let same = eqb-true x.object number f in
           record {
             place = 0;
@@ -422,8 +424,8 @@ module _ (w : World) (call : NativeCall Kept) where
             allowed = refl;
             own = λ plain. inr refl;
           }
-      by_first (inr f) =
-          let later = own_access touches writes number o found apart f in
+      by_first rest (inr f) =
+          let later = rest f in
           record {
             place = length (own_touch_of touches call.heap x) + later.place;
             touch = later.touch;
@@ -459,7 +461,7 @@ module _ (w : World) (call : NativeCall Kept) where
   changes_accessed : (touches : List Touch) (writes : List Write) → AllByRecursion (IsUse w call) touches
       → are_allowed touches ≡ true
       → ChangesAccessed (touches ++ own_touches touches call.heap writes) call.heap (written Word call.heap writes)
-  changes_accessed touches writes uses allowed number o p before after =
+  changes_accessed touches writes uses fine number o p before after =
       by_written (is_written_in writes number) refl (is_touched touches number) refl
     where
       by_written : (b : Bool) → is_written_in writes number ≡ b → (c : Bool) → is_touched touches number ≡ c
@@ -469,7 +471,7 @@ module _ (w : World) (call : NativeCall Kept) where
           (same_found (object_at call.heap number) o p before (sym (written_apart call.heap writes number e) ∙ after)))
       by_written true e true f =
           inr (accessed_in_front touches (own_touches touches call.heap writes) number o
-          (tested_access touches uses allowed number o before f))
+          (tested_access touches uses fine number o before f))
       by_written true e false f =
           inr (accessed_behind touches (own_touches touches call.heap writes) number o
           (own_access touches writes number o before f e))

@@ -62,7 +62,7 @@ put_before heap number index from v (w ∷ values) h =
 
 -- ---- other components stay
 
-same_or_not : (m n : ℕ) → (m ≢ n) ⊎ (m ≡ n)
+pub same_or_not : (m n : ℕ) → (m ≢ n) ⊎ (m ≡ n)
 same_or_not zero zero = inr refl
 same_or_not zero (suc n) = inl (λ e. omega (arith, e))
 same_or_not (suc m) zero = inl (λ e. omega (arith, e))

@@ -46,15 +46,15 @@ pub length_of_bytes : (objects : Heap ℕ) (number from count : ℕ) → length 
 length_of_bytes objects number from zero = refl
 length_of_bytes objects number from (suc count) = ap suc (length_of_bytes objects number (from + 1) count)
 
+no_more : (a b : Bool) → b ≡ false → (a && b) ≡ false
+no_more true b e = e
+no_more false b e = refl
+
 pub bytes_differ : (xs ys : List ℕ) → length xs ≢ length ys → bytes_eq xs ys ≡ false
 bytes_differ [] [] h = absurd (h refl)
 bytes_differ [] (y ∷ ys) h = refl
 bytes_differ (x ∷ xs) [] h = refl
-bytes_differ (x ∷ xs) (y ∷ ys) h = by_first (nat_eq x y)
-  where
-    by_first : (b : Bool) → (b && bytes_eq xs ys) ≡ false
-    by_first true = bytes_differ xs ys (λ e. h (ap suc e))
-    by_first false = refl
+bytes_differ (x ∷ xs) (y ∷ ys) h = no_more (nat_eq x y) (bytes_eq xs ys) (bytes_differ xs ys (λ e. h (ap suc e)))
 
 -- two ranges, byte by byte
 pub same_so_far : (objects : Heap ℕ) (one one_from other other_from at count : ℕ) (all : Bool) → at < count

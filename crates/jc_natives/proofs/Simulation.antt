@@ -1,5 +1,5 @@
 -- What is done on words is what members mean on tagged values.
-use Rattle.std.proofs.Common.{⊤, ◌≡◌, ℕ, zero, suc, ◌==◌, ◌&&◌, Bool, true, false, cond, List, [], ◌∷◌, ◌++◌, length, map, replicate, Option, Some, None, refl, sym, ap, subst, ◌∙◌}
+use Rattle.std.proofs.Common.{◌≡◌, ℕ, zero, suc, ◌==◌, ◌&&◌, Bool, true, false, cond, List, [], ◌∷◌, ◌++◌, length, map, replicate, Option, Some, None, refl, sym, ap, subst, ◌∙◌}
 use Rattle.std.proofs.lemmas.Bool.{eqb-true}
 use Rattle.std.specs.Option.{option_and_then, option_map_or}
 use Rattle.jc_api.specs.Numbered.{numbered}
@@ -119,7 +119,7 @@ reads_question (CallsBack callback) q e = record {
   object = e.object;
   arguments =
       subst (λ ws. Pointwise Reads ws (reference q.aid ∷ Word q.word ∷ [])) (sym e.arguments)
-      (reads_reference q.aid, refl, tt);
+      (reads_reference q.aid, (refl, tt));
 }
 
 -- ---- a work

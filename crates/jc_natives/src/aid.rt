@@ -3,7 +3,7 @@
 ghost use Rattle.std.specs.Prelude.{◌≡◌, ◌∷◌};
 ghost use Rattle.jc_natives.specs.Aids.{aid_work, is_range};
 ghost use Rattle.jc_natives.specs.Cells.{argument, bytes_of, extended, put_all};
-ghost use Rattle.jc_natives.specs.Kept.{Kept, has_aid_length};
+ghost use Rattle.jc_natives.specs.Kept.{has_aid_length};
 ghost use Rattle.jc_natives.specs.PrivateWords.{done_of, seen_in};
 ghost use Rattle.jc_natives.specs.declared.native.AidNative.TheVariants as natives;
 ghost use Rattle.jc_store.specs.Store.{with_objects};
@@ -11,6 +11,7 @@ ghost use Rattle.jc_store.specs.Store.{with_objects};
 use crate::bytes::{copy_bytes, same_bytes};
 use crate::cells::{argument, bit, cell, extended, put};
 use crate::ended::{Ended, throw_system};
+use crate::kept::Runtime;
 use crate::native::AidNative;
 use jc_link::World;
 use jc_machine::WordCall;
@@ -35,12 +36,12 @@ fn keep(store: &mut Store, aid: u16, array: u16, offset: u16, count: u16)
     put(store, aid, 0, count);
 }
 
-fn construct(world: &World, store: &mut Store, call: &WordCall<'_>) -> Ended
-    ensures { (k : Kept) → record { store = store.new; kept = k; ended = result }
-        ≡ done_of call.now.active store.old k
-        (aid_work (seen_in world.now store.old call.now) k call.now.arguments.now natives.Construct) }
+fn construct(world: &World, store: &mut Store, call: &WordCall<'_>, runtime: &Runtime) -> Ended
+    ensures { record { store = store.new; kept = runtime.now; ended = result }
+        ≡ done_of call.now.active store.old runtime.now
+        (aid_work (seen_in world.now store.old call.now) runtime.now call.now.arguments.now natives.Construct) }
 {
-    let _world = world;
+    let (_world, _runtime) = (world, runtime);
     let aid = argument(call.arguments, 0);
     let array = argument(call.arguments, 1);
     let offset = argument(call.arguments, 2);
@@ -84,12 +85,12 @@ fn equals(world: &World, store: &Store, call: &WordCall<'_>) -> bool
     is_range(world, store, call, aid, array, offset, count)
 }
 
-fn get_bytes(world: &World, store: &mut Store, call: &WordCall<'_>) -> Ended
-    ensures { (k : Kept) → record { store = store.new; kept = k; ended = result }
-        ≡ done_of call.now.active store.old k
-        (aid_work (seen_in world.now store.old call.now) k call.now.arguments.now natives.GetBytes) }
+fn get_bytes(world: &World, store: &mut Store, call: &WordCall<'_>, runtime: &Runtime) -> Ended
+    ensures { record { store = store.new; kept = runtime.now; ended = result }
+        ≡ done_of call.now.active store.old runtime.now
+        (aid_work (seen_in world.now store.old call.now) runtime.now call.now.arguments.now natives.GetBytes) }
 {
-    let _world = world;
+    let (_world, _runtime) = (world, runtime);
     let aid = argument(call.arguments, 0);
     let array = argument(call.arguments, 1);
     let offset = argument(call.arguments, 2);
@@ -103,15 +104,16 @@ pub(crate) fn aid_native(
     world: &World,
     store: &mut Store,
     call: &WordCall<'_>,
+    runtime: &Runtime,
     native: AidNative,
 ) -> Ended
-    ensures { (k : Kept) → record { store = store.new; kept = k; ended = result }
-        ≡ done_of call.now.active store.old k
-        (aid_work (seen_in world.now store.old call.now) k call.now.arguments.now native) }
+    ensures { record { store = store.new; kept = runtime.now; ended = result }
+        ≡ done_of call.now.active store.old runtime.now
+        (aid_work (seen_in world.now store.old call.now) runtime.now call.now.arguments.now native) }
 {
     match native {
-        AidNative::Construct => construct(world, store, call),
+        AidNative::Construct => construct(world, store, call, runtime),
         AidNative::Equals => Ended::Returned(Some(bit(equals(world, store, call)))),
-        AidNative::GetBytes => get_bytes(world, store, call),
+        AidNative::GetBytes => get_bytes(world, store, call, runtime),
     }
 }

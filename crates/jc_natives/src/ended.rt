@@ -1,10 +1,9 @@
 //! How members end, and the exceptions with a reason that the runtime throws.
 
 ghost use Rattle.std.specs.Prelude.{◌≡◌};
-ghost use Rattle.jc_names.specs.declared.owner.Owner.{Owner};
-ghost use Rattle.jc_natives.specs.Kept.{Kept};
-ghost use Rattle.jc_natives.specs.PrivateWords.{done_of};
-ghost use Rattle.jc_natives.specs.Work.{throws_apdu, throws_system, throws_with};
+ghost use Rattle.jc_machine.specs.Runtime.{apdu_exception, system_exception};
+ghost use Rattle.jc_natives.specs.Cells.{put};
+ghost use Rattle.jc_store.specs.Store.{with_objects};
 
 use crate::cells::put;
 use crate::native::{APDU_EXCEPTION, SYSTEM_EXCEPTION};
@@ -31,8 +30,8 @@ pub enum Ended {
 
 /// Throws one of the runtime's exceptions with a reason.
 pub(crate) fn throw_with(store: &mut Store, object: u16, reason: u16) -> Ended
-    ensures { (owner : Owner) (k : Kept) → record { store = store.new; kept = k; ended = result }
-        ≡ done_of owner store.old k (throws_with k object reason) }
+    ensures written { store.new ≡ with_objects store.old (put store.old.objects object 0 reason) }
+    ensures thrown { result ≡ Ended.Thrown object }
 {
     put(store, object, 0, reason);
     Ended::Thrown(object)
@@ -40,16 +39,16 @@ pub(crate) fn throw_with(store: &mut Store, object: u16, reason: u16) -> Ended
 
 /// Throws SystemException.
 pub(crate) fn throw_system(store: &mut Store, reason: u16) -> Ended
-    ensures { (owner : Owner) (k : Kept) → record { store = store.new; kept = k; ended = result }
-        ≡ done_of owner store.old k (throws_system k reason) }
+    ensures written { store.new ≡ with_objects store.old (put store.old.objects system_exception 0 reason) }
+    ensures thrown { result ≡ Ended.Thrown system_exception }
 {
     throw_with(store, SYSTEM_EXCEPTION, reason)
 }
 
 /// Throws APDUException.
 pub(crate) fn throw_apdu(store: &mut Store, reason: u16) -> Ended
-    ensures { (owner : Owner) (k : Kept) → record { store = store.new; kept = k; ended = result }
-        ≡ done_of owner store.old k (throws_apdu k reason) }
+    ensures written { store.new ≡ with_objects store.old (put store.old.objects apdu_exception 0 reason) }
+    ensures thrown { result ≡ Ended.Thrown apdu_exception }
 {
     throw_with(store, APDU_EXCEPTION, reason)
 }

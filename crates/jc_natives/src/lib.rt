@@ -19,4 +19,4 @@ mod tests;
 mod utility;
 
 pub use kept::{ApduState, Installing, Instance, Runtime};
-pub use laws::members_are_guarded;
+pub use laws::{kept_stays_fit, members_are_guarded};

@@ -38,12 +38,12 @@ fn work(
         (work_of (seen_in world.now store.old call.now) runtime.old call.now.arguments.now native) }
 {
     match native {
-        Native::OfObject(native) => object_native(world, store, call, native),
-        Native::OfAid(native) => aid_native(world, store, call, native),
+        Native::OfObject(native) => object_native(world, store, call, runtime, native),
+        Native::OfAid(native) => aid_native(world, store, call, runtime, native),
         Native::OfApdu(native) => apdu_native(world, store, call, runtime, native),
         Native::OfApplet(native) => applet_native(world, store, call, runtime, native),
         Native::OfSystem(native) => system_native(world, store, call, runtime, native),
-        Native::OfUtility(native) => utility_native(world, store, call, native),
+        Native::OfUtility(native) => utility_native(world, store, call, runtime, native),
     }
 }
 

@@ -2,13 +2,13 @@
 //! subclasses).
 
 ghost use Rattle.std.specs.Prelude.{◌≡◌};
-ghost use Rattle.jc_natives.specs.Kept.{Kept};
 ghost use Rattle.jc_natives.specs.Objects.{are_same_aids, equals, have_same_aid, object_work};
 ghost use Rattle.jc_natives.specs.PrivateWords.{done_of, seen_in};
 
 use crate::bytes::same_bytes;
 use crate::cells::{argument, bit, cell, put};
 use crate::ended::{Ended, throw_with};
+use crate::kept::Runtime;
 use crate::native::ObjectNative;
 use crate::tests::is_aid_object;
 use jc_link::World;
@@ -42,12 +42,14 @@ pub(crate) fn object_native(
     world: &World,
     store: &mut Store,
     call: &WordCall<'_>,
+    runtime: &Runtime,
     native: ObjectNative,
 ) -> Ended
-    ensures { (k : Kept) → record { store = store.new; kept = k; ended = result }
-        ≡ done_of call.now.active store.old k
-        (object_work (seen_in world.now store.old call.now) k call.now.arguments.now native) }
+    ensures { record { store = store.new; kept = runtime.now; ended = result }
+        ≡ done_of call.now.active store.old runtime.now
+        (object_work (seen_in world.now store.old call.now) runtime.now call.now.arguments.now native) }
 {
+    let _runtime = runtime;
     let first = argument(call.arguments, 0);
     let second = argument(call.arguments, 1);
     match native {

@@ -2,7 +2,7 @@
 
 ghost use Rattle.std.specs.Prelude.{◌≡◌};
 ghost use Rattle.jc_natives.specs.Cells.{argument, bytes_of, extended};
-ghost use Rattle.jc_natives.specs.Kept.{Kept, instance_with};
+ghost use Rattle.jc_natives.specs.Kept.{instance_with};
 ghost use Rattle.jc_natives.specs.PrivateWords.{done_of, seen_in};
 ghost use Rattle.jc_natives.specs.System.{aid_of, aid_of_owner, asks, event_of, makes, makes_array, may_make, system_work};
 ghost use Rattle.jc_natives.specs.Work.{Makes};
@@ -130,16 +130,19 @@ fn may_make(world: &World, store: &Store, call: &WordCall<'_>, event: ClearingEv
 }
 
 // Makes an array, where there is room for it.
+#[tactic(auto, using(crate::proofs::Room::full_has_none, crate::proofs::Room::not_full_has_some))]
 fn make_where_room(
     store: &mut Store,
     call: &WordCall<'_>,
+    runtime: &Runtime,
     object: ObjectType,
     size: u16,
     event: ClearingEvent,
 ) -> Ended
-    ensures { (k : Kept) → record { store = store.new; kept = k; ended = result }
-        ≡ done_of call.now.active store.old k (Makes (record { type = object; event = event; size = size })) }
+    ensures { record { store = store.new; kept = runtime.now; ended = result }
+        ≡ done_of call.now.active store.old runtime.now (Makes (record { type = object; event = event; size = size })) }
 {
+    let _runtime = runtime;
     let kind = Kind {
         object,
         mark: Mark::Plain,
@@ -156,13 +159,14 @@ fn make(
     world: &World,
     store: &mut Store,
     call: &WordCall<'_>,
+    runtime: &Runtime,
     object: ObjectType,
     size: u16,
     event: Option<ClearingEvent>,
 ) -> Ended
-    ensures { (k : Kept) → record { store = store.new; kept = k; ended = result }
-        ≡ done_of call.now.active store.old k
-        (makes (seen_in world.now store.old call.now) k object size event) }
+    ensures { record { store = store.new; kept = runtime.now; ended = result }
+        ≡ done_of call.now.active store.old runtime.now
+        (makes (seen_in world.now store.old call.now) runtime.now object size event) }
 {
     let Some(event) = event else {
         return throw_system(store, ILLEGAL_VALUE);
@@ -173,17 +177,23 @@ fn make(
     if !is_count(size) {
         return Ended::Thrown(NEGATIVE_SIZE_EXCEPTION);
     }
-    make_where_room(store, call, object, size, event)
+    make_where_room(store, call, runtime, object, size, event)
 }
 
-fn make_array(world: &World, store: &mut Store, call: &WordCall<'_>, object: ObjectType) -> Ended
-    ensures { (k : Kept) → record { store = store.new; kept = k; ended = result }
-        ≡ done_of call.now.active store.old k
-        (makes_array (seen_in world.now store.old call.now) k call.now.arguments.now object) }
+fn make_array(
+    world: &World,
+    store: &mut Store,
+    call: &WordCall<'_>,
+    runtime: &Runtime,
+    object: ObjectType,
+) -> Ended
+    ensures { record { store = store.new; kept = runtime.now; ended = result }
+        ≡ done_of call.now.active store.old runtime.now
+        (makes_array (seen_in world.now store.old call.now) runtime.now call.now.arguments.now object) }
 {
     let size = argument(call.arguments, 0);
     let event = event_of(extended(argument(call.arguments, 1)));
-    make(world, store, call, object, size, event)
+    make(world, store, call, runtime, object, size, event)
 }
 
 /// Does the work of a member of JCSystem.
@@ -203,11 +213,17 @@ pub(crate) fn system_native(
         SystemNative::LookupAid => Ended::Returned(Some(lookup_aid(store, call, runtime))),
         SystemNative::GetPreviousAid => Ended::Returned(Some(aid_of_owner(runtime, call.previous))),
         SystemNative::AskForShareable => ask_for_shareable(world, store, call, runtime),
-        SystemNative::MakeBooleans => make_array(world, store, call, ObjectType::BooleanArray),
-        SystemNative::MakeBytes => make_array(world, store, call, ObjectType::ByteArray),
-        SystemNative::MakeShorts => make_array(world, store, call, ObjectType::ShortArray),
+        SystemNative::MakeBooleans => {
+            make_array(world, store, call, runtime, ObjectType::BooleanArray)
+        }
+        SystemNative::MakeBytes => {
+            make_array(world, store, call, runtime, ObjectType::ByteArray)
+        }
+        SystemNative::MakeShorts => {
+            make_array(world, store, call, runtime, ObjectType::ShortArray)
+        }
         SystemNative::MakeReferences => {
-            make_array(world, store, call, ObjectType::ReferenceArray(OBJECT))
+            make_array(world, store, call, runtime, ObjectType::ReferenceArray(OBJECT))
         }
     }
 }

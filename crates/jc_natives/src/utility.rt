@@ -1,7 +1,6 @@
 //! Members of Util (Java Card API Specification, Util).
 
 ghost use Rattle.std.specs.Prelude.{◌≡◌};
-ghost use Rattle.jc_natives.specs.Kept.{Kept};
 ghost use Rattle.jc_natives.specs.PrivateWords.{done_of, seen_in};
 ghost use Rattle.jc_natives.specs.Utilities.{utility_work};
 ghost use Rattle.jc_natives.specs.declared.native.UtilityNative.TheVariants as natives;
@@ -9,17 +8,18 @@ ghost use Rattle.jc_natives.specs.declared.native.UtilityNative.TheVariants as n
 use crate::bytes::{compare_bytes, copy_bytes, fill_bytes};
 use crate::cells::{argument, byte, high, put, sum, word_of};
 use crate::ended::Ended;
+use crate::kept::Runtime;
 use crate::native::UtilityNative;
 use jc_link::World;
 use jc_machine::WordCall;
 use jc_store::Store;
 
-fn array_copy(world: &World, store: &mut Store, call: &WordCall<'_>) -> Ended
-    ensures { (k : Kept) → record { store = store.new; kept = k; ended = result }
-        ≡ done_of call.now.active store.old k
-        (utility_work (seen_in world.now store.old call.now) k call.now.arguments.now natives.ArrayCopy) }
+fn array_copy(world: &World, store: &mut Store, call: &WordCall<'_>, runtime: &Runtime) -> Ended
+    ensures { record { store = store.new; kept = runtime.now; ended = result }
+        ≡ done_of call.now.active store.old runtime.now
+        (utility_work (seen_in world.now store.old call.now) runtime.now call.now.arguments.now natives.ArrayCopy) }
 {
-    let _world = world;
+    let (_world, _runtime) = (world, runtime);
     let source = argument(call.arguments, 0);
     let from = argument(call.arguments, 1);
     let target = argument(call.arguments, 2);
@@ -29,12 +29,12 @@ fn array_copy(world: &World, store: &mut Store, call: &WordCall<'_>) -> Ended
     Ended::Returned(Some(sum(to, count)))
 }
 
-fn array_fill(world: &World, store: &mut Store, call: &WordCall<'_>) -> Ended
-    ensures { (k : Kept) → record { store = store.new; kept = k; ended = result }
-        ≡ done_of call.now.active store.old k
-        (utility_work (seen_in world.now store.old call.now) k call.now.arguments.now natives.ArrayFill) }
+fn array_fill(world: &World, store: &mut Store, call: &WordCall<'_>, runtime: &Runtime) -> Ended
+    ensures { record { store = store.new; kept = runtime.now; ended = result }
+        ≡ done_of call.now.active store.old runtime.now
+        (utility_work (seen_in world.now store.old call.now) runtime.now call.now.arguments.now natives.ArrayFill) }
 {
-    let _world = world;
+    let (_world, _runtime) = (world, runtime);
     let array = argument(call.arguments, 0);
     let from = argument(call.arguments, 1);
     let count = argument(call.arguments, 2);
@@ -43,12 +43,12 @@ fn array_fill(world: &World, store: &mut Store, call: &WordCall<'_>) -> Ended
     Ended::Returned(Some(sum(from, count)))
 }
 
-fn array_compare(world: &World, store: &mut Store, call: &WordCall<'_>) -> Ended
-    ensures { (k : Kept) → record { store = store.new; kept = k; ended = result }
-        ≡ done_of call.now.active store.old k
-        (utility_work (seen_in world.now store.old call.now) k call.now.arguments.now natives.ArrayCompare) }
+fn array_compare(world: &World, store: &mut Store, call: &WordCall<'_>, runtime: &Runtime) -> Ended
+    ensures { record { store = store.new; kept = runtime.now; ended = result }
+        ≡ done_of call.now.active store.old runtime.now
+        (utility_work (seen_in world.now store.old call.now) runtime.now call.now.arguments.now natives.ArrayCompare) }
 {
-    let _world = world;
+    let (_world, _runtime) = (world, runtime);
     let one = argument(call.arguments, 0);
     let one_from = argument(call.arguments, 1);
     let other = argument(call.arguments, 2);
@@ -59,12 +59,12 @@ fn array_compare(world: &World, store: &mut Store, call: &WordCall<'_>) -> Ended
     )))
 }
 
-fn get_short(world: &World, store: &mut Store, call: &WordCall<'_>) -> Ended
-    ensures { (k : Kept) → record { store = store.new; kept = k; ended = result }
-        ≡ done_of call.now.active store.old k
-        (utility_work (seen_in world.now store.old call.now) k call.now.arguments.now natives.GetShort) }
+fn get_short(world: &World, store: &mut Store, call: &WordCall<'_>, runtime: &Runtime) -> Ended
+    ensures { record { store = store.new; kept = runtime.now; ended = result }
+        ≡ done_of call.now.active store.old runtime.now
+        (utility_work (seen_in world.now store.old call.now) runtime.now call.now.arguments.now natives.GetShort) }
 {
-    let _world = world;
+    let (_world, _runtime) = (world, runtime);
     let array = argument(call.arguments, 0);
     let at = usize::from(argument(call.arguments, 1));
     let first = byte(store, array, at);
@@ -72,12 +72,12 @@ fn get_short(world: &World, store: &mut Store, call: &WordCall<'_>) -> Ended
     Ended::Returned(Some(word_of(first, second)))
 }
 
-fn set_short(world: &World, store: &mut Store, call: &WordCall<'_>) -> Ended
-    ensures { (k : Kept) → record { store = store.new; kept = k; ended = result }
-        ≡ done_of call.now.active store.old k
-        (utility_work (seen_in world.now store.old call.now) k call.now.arguments.now natives.SetShort) }
+fn set_short(world: &World, store: &mut Store, call: &WordCall<'_>, runtime: &Runtime) -> Ended
+    ensures { record { store = store.new; kept = runtime.now; ended = result }
+        ≡ done_of call.now.active store.old runtime.now
+        (utility_work (seen_in world.now store.old call.now) runtime.now call.now.arguments.now natives.SetShort) }
 {
-    let _world = world;
+    let (_world, _runtime) = (world, runtime);
     let array = argument(call.arguments, 0);
     let from = argument(call.arguments, 1);
     let word = argument(call.arguments, 2);
@@ -86,12 +86,12 @@ fn set_short(world: &World, store: &mut Store, call: &WordCall<'_>) -> Ended
     Ended::Returned(Some(sum(from, 2)))
 }
 
-fn make_short(world: &World, store: &mut Store, call: &WordCall<'_>) -> Ended
-    ensures { (k : Kept) → record { store = store.new; kept = k; ended = result }
-        ≡ done_of call.now.active store.old k
-        (utility_work (seen_in world.now store.old call.now) k call.now.arguments.now natives.MakeShort) }
+fn make_short(world: &World, store: &mut Store, call: &WordCall<'_>, runtime: &Runtime) -> Ended
+    ensures { record { store = store.new; kept = runtime.now; ended = result }
+        ≡ done_of call.now.active store.old runtime.now
+        (utility_work (seen_in world.now store.old call.now) runtime.now call.now.arguments.now natives.MakeShort) }
 {
-    let (_world, _store) = (world, store);
+    let (_world, _store, _runtime) = (world, store, runtime);
     let first = argument(call.arguments, 0);
     let second = argument(call.arguments, 1);
     Ended::Returned(Some(word_of((first % 256) as u8, (second % 256) as u8)))
@@ -102,18 +102,19 @@ pub(crate) fn utility_native(
     world: &World,
     store: &mut Store,
     call: &WordCall<'_>,
+    runtime: &Runtime,
     native: UtilityNative,
 ) -> Ended
-    ensures { (k : Kept) → record { store = store.new; kept = k; ended = result }
-        ≡ done_of call.now.active store.old k
-        (utility_work (seen_in world.now store.old call.now) k call.now.arguments.now native) }
+    ensures { record { store = store.new; kept = runtime.now; ended = result }
+        ≡ done_of call.now.active store.old runtime.now
+        (utility_work (seen_in world.now store.old call.now) runtime.now call.now.arguments.now native) }
 {
     match native {
-        UtilityNative::ArrayCopy => array_copy(world, store, call),
-        UtilityNative::ArrayFill => array_fill(world, store, call),
-        UtilityNative::ArrayCompare => array_compare(world, store, call),
-        UtilityNative::GetShort => get_short(world, store, call),
-        UtilityNative::SetShort => set_short(world, store, call),
-        UtilityNative::MakeShort => make_short(world, store, call),
+        UtilityNative::ArrayCopy => array_copy(world, store, call, runtime),
+        UtilityNative::ArrayFill => array_fill(world, store, call, runtime),
+        UtilityNative::ArrayCompare => array_compare(world, store, call, runtime),
+        UtilityNative::GetShort => get_short(world, store, call, runtime),
+        UtilityNative::SetShort => set_short(world, store, call, runtime),
+        UtilityNative::MakeShort => make_short(world, store, call, runtime),
     }
 }

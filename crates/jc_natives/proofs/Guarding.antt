@@ -20,7 +20,7 @@ use Rattle.jc_machine.specs.Guarded.{AreGuarded, ChangesAccessed, IsAccessed, al
 use Rattle.jc_machine.specs.Lookup.{is_array}
 use Rattle.jc_machine.specs.Machine.{Callback, Calls, Gives, IsStuck, Limits, NativeAnswer, NativeCall, NativeEnd, ThrowsObject, Touch}
 use Rattle.jc_machine.specs.Natives.{IsGuardedAnswer, IsNativeTouch, IsRefusedAnswer, IsStill, IsUnchanged, IsWithin, KeepsObjects}
-use Rattle.jc_machine.specs.Runtime.{security_exception}
+use Rattle.jc_machine.specs.Runtime.{security_exception, system_exception}
 use Rattle.jc_natives.proofs.Bare.{bare_object, both}
 use Rattle.jc_natives.proofs.Getting.{new_object, other_object}
 use Rattle.jc_natives.proofs.Putting.{put_none, put_some, same_or_not}
@@ -30,7 +30,7 @@ use Rattle.jc_natives.specs.Meaning.{answer_of, array_or_refusal, asked, begun, 
 use Rattle.jc_natives.specs.Rows.{natives, row_of}
 use Rattle.jc_natives.specs.Seen.{Seen, arguments_of, is_aid_object, seen_of}
 use Rattle.jc_natives.specs.Tests.{Tested, access_of, by_verdict, facts_of, fails, followed, goes_on, is_in_range, on_object, passes, ranged, test, tested, touch_of, used}
-use Rattle.jc_natives.specs.Work.{Asks, Does, Ending, GivesReference, GivesWord, Makes, NewArray, NoResult, Throws, Work}
+use Rattle.jc_natives.specs.Work.{Asks, Does, Ending, GivesReference, GivesWord, Makes, NewArray, NoResult, Throws, Work, no_transient_space}
 use Rattle.jc_natives.specs.declared.native.Native.{Native}
 use Rattle.jc_natives.specs.declared.row.Range.{Range}
 use Rattle.jc_natives.specs.declared.row.Row.{Row}
@@ -658,7 +658,9 @@ module _ (w : World) (call : NativeCall Kept) where
       by_room : (b : Bool) → has_room call.limits.objects call.limits.cells call.heap array.size ≡ b
           → IsGuardedAnswer w call (done call touches (array_or_refusal b array call.runtime))
       by_room true e = made_guarded touches array uses fine e
-      by_room false e = did_guarded touches _ call.runtime _ uses fine
+      by_room false e =
+          did_guarded touches (record { object = system_exception; from = 0; words = no_transient_space ∷ [] } ∷ [])
+          call.runtime (Throws system_exception) uses fine
   done_guarded touches (Asks question) uses fine = unchanged_guarded touches _ uses (allowed fine)
 
   ended_guarded : (t : Tested) (work : Work) → AreUses w call t → IsGuardedAnswer w call (ended call t.touches t.thrown work)

@@ -6,3 +6,4 @@ mod Bare
 mod Simulation
 mod Guarding
 mod Keeping
+mod Numbers

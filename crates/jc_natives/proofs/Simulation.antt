@@ -1,10 +1,14 @@
 -- What is done on words is what members mean on tagged values.
-use Rattle.std.proofs.Common.{◌≡◌, ℕ, zero, suc, ◌==◌, ◌&&◌, Bool, true, false, cond, List, [], ◌∷◌, ◌++◌, length, map, replicate, Option, Some, None, refl, sym, ap, subst, ◌∙◌}
+use Rattle.std.proofs.Common.{◌≡◌, ℕ, zero, suc, ◌==◌, ◌&&◌, Bool, true, false, cond, List, [], ◌∷◌, ◌++◌, length, map, replicate, slice_get, Option, Some, None, refl, sym, ap, subst, ◌∙◌, arith}
 use Rattle.std.proofs.lemmas.Bool.{eqb-true}
-use Rattle.std.specs.Option.{option_and_then, option_map_or}
+use Rattle.std.proofs.lemmas.Option.{none-some}
+use Rattle.std.specs.Option.{option_and_then, option_map, option_map_or}
+use Rattle.jc_api.specs.Class.{package_of}
+use Rattle.jc_api.specs.Member.{ApiMember, member_of, members}
 use Rattle.jc_api.specs.Numbered.{numbered}
 use Rattle.jc_base.specs.Signature.{Signature}
-use Rattle.jc_classes.specs.Members.{DeclaredMethod, method_at}
+use Rattle.jc_classes.specs.Members.{DeclaredMethod, declared_in, method_at}
+use Rattle.jc_cap_desc.specs.Shape.{Shape}
 use Rattle.jc_link.specs.Linked.{World}
 use Rattle.jc_link.specs.MemberType.{declared_type_of}
 use Rattle.jc_link.specs.Named.{is_concrete}
@@ -12,12 +16,14 @@ use Rattle.jc_machine.specs.Accepted.{IsAccepted}
 use Rattle.jc_machine.specs.Agree.{HeapReads, Pointwise, Reads}
 use Rattle.jc_machine.specs.Following.{ReadsResult}
 use Rattle.jc_machine.specs.Lookup.{are_of_instance, are_of_types, is_object_of, may_begin_with}
-use Rattle.jc_machine.specs.Machine.{Callback, Calls, Gives, NativeAnswer, NativeCall, NativeEnd, ThrowsObject}
+use Rattle.jc_machine.specs.Machine.{Callback, Calls, Gives, IsStuck, NativeAnswer, NativeCall, NativeEnd, ThrowsObject}
 use Rattle.jc_machine.specs.Natives.{IsFitCall}
 use Rattle.jc_machine.specs.WordNatives.{AnswerAgrees, CallAgrees, ReadsCallback, ReadsEnd, WordState}
 use Rattle.jc_machine.specs.declared.natives.WordCall.{WordCall}
 use Rattle.jc_machine.specs.declared.natives.WordOutcome.{WordOutcome}
 use Rattle.jc_machine.specs.declared.natives.WordOutcome.TheVariants.{CallsBack, Returned, Thrown}
+use Rattle.jc_machine.specs.Calls.{native_may_begin}
+use Rattle.jc_names.specs.Names.{api_home}
 use Rattle.jc_names.specs.declared.name.ClassName.{ClassName}
 use Rattle.jc_names.specs.declared.name.MethodName.TheVariants.{Api}
 use Rattle.jc_names.specs.declared.owner.Owner.{Owner}
@@ -236,3 +242,84 @@ begun_agrees w s call native outcome objects most cells told =
     let t = tested (seen_of w call) (arguments_of call) (row_of native) in
     ended_agrees call t.touches s t.thrown (work_of (seen_of w call) call.runtime (arguments_of call) native) outcome
     objects most cells told
+
+-- a member that may begin has a number up to 55, and is a native member
+listed : {A B : Type 0} (xs : List A) (ys : List B) (n : ℕ) (x : A) → length xs ≡ length ys → slice_get xs n ≡ Some x
+    → (y : B) × (slice_get ys n ≡ Some y)
+listed [] ys n x e f = absurd (none-some x f)
+listed (z ∷ xs) [] n x e f = absurd (omega (arith, e))
+listed (z ∷ xs) (y ∷ ys) zero x e f = (y, refl)
+listed (z ∷ xs) (y ∷ ys) (suc n) x e f = listed xs ys n x (omega (arith, e)) f
+
+numbered_native : (n : ℕ) (m : ApiMember) → member_of n ≡ Some m → (native : Native) × (numbered natives n ≡ Some native)
+numbered_native zero m e = absurd (none-some m e)
+numbered_native (suc n) m e = listed members natives n m refl e
+
+member_there : (n : ℕ) (world : List Shape) (d : DeclaredMethod) → method_at world (Api n) ≡ Some d
+    → (m : ApiMember) × (member_of n ≡ Some m)
+member_there n world d e = by_member (member_of n) e
+  where
+    by_member : (o : Option ApiMember)
+        → option_and_then (λ home. option_and_then (declared_in home n) (slice_get world home))
+        (option_map (λ (m : ApiMember). api_home (package_of m.class)) o) ≡ Some d
+        → (m : ApiMember) × (o ≡ Some m)
+    by_member None f = absurd (none-some d f)
+    by_member (Some m) f = (m, refl)
+
+-- of a call that fits the member, and where it is declared
+pub record Begins (w : World) (call : NativeCall Kept) : Type 0 where
+  pub concrete : is_concrete w.shapes (Api call.member) ≡ true
+  pub method : DeclaredMethod
+  pub found : method_at w.shapes (Api call.member) ≡ Some method
+  pub begins : may_begin_with w.shapes call.heap method call.arguments ≡ true
+  pub member : ApiMember
+  pub is : member_of call.member ≡ Some member
+  pub native : Native
+  pub numbered : numbered natives call.member ≡ Some native
+
+pub begins_of : (w : World) (call : NativeCall Kept) → native_may_begin w.shapes call.heap call.member call.arguments ≡ true
+    → Begins w call
+begins_of w call e =
+    let a = both (is_concrete w.shapes (Api call.member))
+    (option_map_or (λ d. may_begin_with w.shapes call.heap d call.arguments) (method_at w.shapes (Api call.member)) false) e in
+    let d = passed_some (λ d. may_begin_with w.shapes call.heap d call.arguments) (method_at w.shapes (Api call.member)) a.1 in
+    let m = member_there call.member w.shapes d.0 d.1 in
+    let n = numbered_native call.member m.0 m.1 in
+    record {
+      concrete = a.0;
+      method = d.0;
+      found = d.1;
+      begins = d.2;
+      member = m.0;
+      is = m.1;
+      native = n.0;
+      numbered = n.1;
+    }
+
+abbrev answers : World → NativeCall Kept → Bool → Option Native → NativeAnswer Kept
+answers w call b o = cond b (begun w call o) (unchanged call [] IsStuck)
+
+-- what the code did is what the member means
+pub answered : (w : World) (s : Store) (k : Kept) (word : WordCall) (d : Done) (outcome : WordOutcome)
+    → d ≡ done_of word.active s k (word_work (seen_in w s word) k word.arguments.now (numbered natives word.member))
+    → TellsEnd outcome d.ended → (call : NativeCall Kept) → CallAgrees (record { store = s; runtime = k }) word call
+    → IsFitCall meaning w call → AnswerAgrees (state_of d) outcome (answer_of w call)
+answered w s k word d outcome is told call agrees fit =
+    let objects = heap_bits w.shapes call.heap s.objects call.heap agrees.heap fit.heap in
+    let arguments = arguments_are w call word.arguments.now agrees.arguments fit in
+    let seen = same_seen w s word call objects agrees.active agrees.previous agrees.selected agrees.most_objects agrees.most_cells in
+    let b = begins_of w call fit.begins in
+    let whole : d ≡ done_of call.active s call.runtime
+    (native_work (seen_of w call) call.runtime (arguments_of call) b.native) = is
+        ∙ ap (λ owner. done_of owner s k (word_work (seen_in w s word) k word.arguments.now (numbered natives word.member))) agrees.active
+        ∙ ap (λ x. done_of call.active s x (word_work (seen_in w s word) x word.arguments.now (numbered natives word.member))) agrees.runtime
+        ∙ ap (λ x. done_of call.active s call.runtime (word_work x call.runtime word.arguments.now (numbered natives word.member))) seen
+        ∙ ap (λ x. done_of call.active s call.runtime (word_work (seen_of w call) call.runtime x (numbered natives word.member))) arguments
+        ∙ ap (λ x. done_of call.active s call.runtime (word_work (seen_of w call) call.runtime (arguments_of call) (numbered natives x))) agrees.member
+        ∙ ap (λ x. done_of call.active s call.runtime (word_work (seen_of w call) call.runtime (arguments_of call) x)) b.numbered in
+    let answer : answer_of w call ≡ begun w call (Some b.native) =
+    ap (λ x. answers w call x (numbered natives call.member)) fit.begins ∙ ap (λ o. answers w call true o) b.numbered in
+    let P : Done → NativeAnswer Kept → Type 0 = λ d a. TellsEnd outcome d.ended → AnswerAgrees (state_of d) outcome a in
+    subst (λ a. P d a) (sym answer)
+    (subst (λ x. P x (begun w call (Some b.native))) (sym whole)
+    (begun_agrees w s call b.native outcome objects agrees.most_objects agrees.most_cells)) told

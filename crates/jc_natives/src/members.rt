@@ -119,6 +119,8 @@ impl Natives for Runtime {
     ghost meaning = { meaning };
 
     fn call(&mut self, world: &World, store: &mut Store, call: &WordCall<'_>) -> WordOutcome {
+        // each object has a number for its class
+        let _used = store.objects_used();
         outcome_of(call_member(world, store, call, self))
     }
 

@@ -1,0 +1,22 @@
+use Rattle.std.proofs.Common.{sym, ◌∙◌}
+use Rattle.jc_natives.proofs.Numbers.{keeps_limits, numbers_arrays}
+use Rattle.jc_natives.proofs.Simulation.{answered}
+use Rattle.jc_natives.proofs.members.RuntimeNatives.call.Goals as goal
+
+pub returns-clause-answered : goal.returns-clause-answered
+returns-clause-answered c = λ call agrees accepted fit.
+    answered c.args.world.now c.args.store.now c.args.self.now c.args.call.now
+    (record { store = c.call_member.new.store; kept = c.call_member.new.runtime; ended = c.call_member.result })
+    c.outcome_of.result c.call_member.ensures c.outcome_of.ensures call agrees fit
+
+pub returns-clause-classes : goal.returns-clause-classes
+returns-clause-classes c =
+    numbers_arrays _ c.args.store.now _ _ _ _
+    (record { store = c.call_member.new.store; kept = c.call_member.new.runtime; ended = c.call_member.result })
+    (sym c.objects_used.ensures.objects ∙ c.objects_used.ensures.classes) c.call_member.ensures
+
+pub returns-clause-limits : goal.returns-clause-limits
+returns-clause-limits c =
+    keeps_limits _ c.args.store.now _ _
+    (record { store = c.call_member.new.store; kept = c.call_member.new.runtime; ended = c.call_member.result })
+    c.call_member.ensures

@@ -7,3 +7,5 @@ mod Simulation
 mod Guarding
 mod Keeping
 mod Numbers
+mod ApiTypes
+mod Tables

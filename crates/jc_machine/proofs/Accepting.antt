@@ -10,6 +10,8 @@ use Rattle.jc_cap_desc.specs.Shape.{Shape}
 use Rattle.jc_check.specs.Checked.{IsPackageCarried, IsPackageTyped}
 use Rattle.jc_link.specs.Built.IsBuilt.{api}
 use Rattle.jc_link.specs.Linked.{IsBoundTo, IsWorld, Linked, LinkedBody, World, with_linked}
+use Rattle.jc_classes.specs.Limits.{IsSmall}
+use Rattle.jc_machine.proofs.SmallWorlds.{api_is_small}
 use Rattle.jc_machine.specs.Accepted.{IsAccepted, IsAcceptedPackage, api_alone, linked_as}
 use Rattle.jc_machine.specs.Lookup.{body_at, of_package}
 
@@ -20,6 +22,7 @@ no_body (suc n) body e = none-some body e
 pub api_is_accepted : (bound : Bound) → HasNoClash bound → IsAccepted (api_alone bound)
 api_is_accepted bound apart = record {
   world = record { built = api bound apart; count = refl; known = λ n body e. absurd (none-some body e) };
+  small = api_is_small bound;
   packages = λ number body e. absurd (no_body number body e);
 }
 
@@ -34,7 +37,7 @@ placed (z ∷ xs) y x (suc n) e =
     (λ h. inr (ap suc h.0, h.1)) (placed xs y x n e)
 
 module _ (w : World) (l : Linked) (accepted : IsAccepted w) (bound : IsBoundTo w l) (world : IsWorld (with_linked w l))
-    (carried : IsPackageCarried l) (typed : IsPackageTyped l) where
+    (small : IsSmall l.world) (carried : IsPackageCarried l) (typed : IsPackageTyped l) where
   -- a package is known as it was linked
   as_linked : (n : ℕ) (body : LinkedBody) (linked : Linked) → linked_as (with_linked w l) (suc n) body ≡ linked
       → IsPackageCarried linked → IsPackageTyped linked → IsAcceptedPackage (with_linked w l) (suc n) body
@@ -72,4 +75,4 @@ module _ (w : World) (l : Linked) (accepted : IsAccepted w) (bound : IsBoundTo w
       ⊎_elim (λ h. earlier n body h.0 h.1) (λ h. last n body h.0 h.1) (placed w.bodies l.body body n e)
 
   pub grown_is_accepted : IsAccepted (with_linked w l)
-  grown_is_accepted = record { world = world; packages = by_number }
+  grown_is_accepted = record { world = world; small = small; packages = by_number }

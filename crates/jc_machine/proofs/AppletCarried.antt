@@ -34,6 +34,7 @@ use Rattle.jc_types.specs.State.{Types}
 use Rattle.jc_types.specs.declared.ty.Ty.TheVariants as types
 use Rattle.jc_machine.specs.Accepted.{IsAccepted, api_alone}
 use Rattle.jc_machine.specs.TypedExamples.{applet_world}
+use Rattle.jc_machine.proofs.SmallWorlds.{applet_is_small}
 use Rattle.jc_machine.proofs.Accepting.{api_is_accepted, grown_is_accepted}
 use Rattle.jc_machine.proofs.AppletKnown.{applet_is_world, each_body, process_code}
 use Rattle.jc_machine.proofs.FirstFrame.{applet_linked, by_state, empty, install, install_shaped}
@@ -243,4 +244,4 @@ pub applet_accepted : IsWellFormed (api_world default_binding) applet → HasNoC
     → IsAccepted applet_world
 applet_accepted fine clear =
     grown_is_accepted (api_alone default_binding) applet_linked (api_is_accepted default_binding clear)
-    (applet.shape, refl) (applet_is_world fine clear) carried typed
+    (applet.shape, refl) (applet_is_world fine clear) applet_is_small carried typed

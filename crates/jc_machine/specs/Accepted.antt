@@ -4,6 +4,7 @@ use Rattle.jc_api.specs.Bound.{Bound}
 use Rattle.jc_cap_method.specs.declared.header.MethodHeader.{MethodHeader}
 use Rattle.jc_check.specs.Checked.{IsPackageCarried, IsPackageTyped}
 use Rattle.jc_classes.specs.Api.{api_world}
+use Rattle.jc_classes.specs.Limits.{IsSmall}
 use Rattle.jc_classes.specs.Members.{DeclaredMethod}
 use Rattle.jc_link.specs.Linked.{IsWorld, Linked, LinkedBody, World}
 use Rattle.jc_names.specs.Names.{home_at}
@@ -28,7 +29,8 @@ abbrev pub HaveCode : World → Type 0
 HaveCode w = (place : MethodPlace) (d : DeclaredMethod) (header : MethodHeader) → declared_at w place ≡ Some d
     → d.method.header ≡ Some header → header.is_abstract ≡ false → IsSome (code_at w place)
 
--- the packages are linked, and each loaded one is accepted
+-- the packages are linked, they are no more than a card holds, and each loaded one is accepted
 pub record IsAccepted (w : World) : Type 0 where
   pub world : IsWorld w
+  pub small : IsSmall w.shapes
   pub packages : (number : ℕ) (body : LinkedBody) → body_at w number ≡ Some body → IsAcceptedPackage w number body

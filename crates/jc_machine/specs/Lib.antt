@@ -15,6 +15,7 @@ pub mod Typed
 pub mod Guarded
 pub mod Natives
 pub mod Following
+pub mod Uncounted
 pub mod WordNatives
 pub mod Idle
 pub mod ExamplePackages

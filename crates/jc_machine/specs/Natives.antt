@@ -71,6 +71,10 @@ pub record IsGuardedAnswer {C : Type 0} (w : World) (call : NativeCall C) (a : N
   pub room : IsWithin call.limits call.heap → IsWithin call.limits a.heap
   pub calls : (callback : Callback) → a.ends ≡ Calls callback → IsUnchanged call a
 
+-- each answer is so, in any world, of any call
+abbrev pub AreNativesGuarded : {C : Type 0} → Natives C → Type 0
+AreNativesGuarded {C} natives = (w : World) (call : NativeCall C) → IsGuardedAnswer w call (natives.answer w call)
+
 -- ---- types: of a call that is as it should be
 
 -- it is of a native member on arguments of its types; the objects are typed, the runtime's own are there, and what it
@@ -126,7 +130,7 @@ pub record IsFitAnswer {C : Type 0} (natives : Natives C) (w : World) (call : Na
 -- each answer is guarded; of a fit call in an accepted world it is fit; and what the runtime keeps fits as long as the
 -- objects stay
 pub record IsLawful {C : Type 0} (natives : Natives C) : Type 0 where
-  pub guarded : (w : World) (call : NativeCall C) → IsGuardedAnswer w call (natives.answer w call)
+  pub guarded : AreNativesGuarded natives
   pub fit : (w : World) (call : NativeCall C) → IsAccepted w → IsFitCall natives w call
       → IsFitAnswer natives w call (natives.answer w call)
   pub stable : (w : World) (before after : Heap TaggedValue) (kept : C) → KeepsObjects before after

@@ -1,21 +1,32 @@
 //! What holds of accepted worlds.
 
-ghost use Rattle.std.specs.Prelude.{◌≡◌, Some};
+ghost use Rattle.std.specs.Prelude.{◌≡◌, ◌↔◌, List, Some, false, option_map, ℕ};
 ghost use Rattle.jc_api.specs.Bound.{Bound};
 ghost use Rattle.jc_api.specs.NoClash.{HasNoClash};
-ghost use Rattle.jc_cap_desc.specs.Shape.{MethodBody};
+ghost use Rattle.jc_cap_desc.specs.Shape.{MethodBody, Shape};
+ghost use Rattle.jc_classes.specs.Limits.{IsSmall};
 ghost use Rattle.jc_check.specs.Checked.{IsMethodTyped, IsPackageCarried, IsPackageTyped};
+ghost use Rattle.jc_classes.specs.Limits.{IsSmall};
+ghost use Rattle.jc_code.specs.Instructions.{instr_at};
+ghost use Rattle.jc_code.specs.Listing.{IsListing, PlacedInstr, placed_at};
+ghost use Rattle.jc_code.specs.declared.instr.Instr.{Instr};
+ghost use Rattle.jc_link.specs.Built.{IsBuilt};
 ghost use Rattle.jc_machine.specs.Accepted.{HaveCode, IsAccepted, api_alone, linked_as};
-ghost use Rattle.jc_machine.specs.Lookup.{body_at, code_at};
-ghost use Rattle.jc_machine.specs.Machine.{MethodPlace};
-ghost use Rattle.jc_machine.specs.Natives.{KeepsObjects};
+ghost use Rattle.jc_machine.specs.Guarded.{IsGuarded, IsRefused, KeepsPlain, are_allowed, machine_of};
+ghost use Rattle.jc_machine.specs.Lookup.{body_at, code_at, instruction_at};
+ghost use Rattle.jc_machine.specs.Machine.{Machine, MethodPlace, Surroundings};
+ghost use Rattle.jc_machine.specs.Natives.{AreNativesGuarded, KeepsObjects};
 ghost use Rattle.jc_machine.specs.Runtime.{HasRuntimeObjects};
+ghost use Rattle.jc_machine.specs.Step.{defensive_step};
+ghost use Rattle.jc_machine.specs.Uncounted.{HaveCells, IsInstructionAt};
 ghost use Rattle.jc_link.specs.Linked.{IsBoundTo, IsLast, IsWorld, Linked, LinkedBody, World, with_linked};
 ghost use Rattle.jc_store.specs.Heap.{Heap};
 ghost use Rattle.jc_words.specs.Values.{TaggedValue};
 
+use crate::natives::Natives;
 use jc_classes::growing_keeps_lookups;
-use jc_link::growing_keeps_linking;
+use jc_code::listing_laws;
+use jc_link::{built_worlds_are_sound, built_worlds_have_the_api, growing_keeps_linking};
 
 /// In a world each method of a loaded package's classes that isn't abstract has code. It does nothing.
 #[tactic(auto, using(crate::proofs::HavingCode::have_code))]
@@ -31,11 +42,12 @@ pub fn accepted_methods_are_typed()
 {}
 
 /// The world of the API alone is accepted. So is an accepted world with a linked package behind it that was bound to it
-/// as it stands, that some certificate carries, and whose methods are well typed. It does nothing.
+/// as it stands, within the limits of a world, that some certificate carries, and whose methods are well typed. It does
+/// nothing.
 pub fn accepted_worlds_grow()
     ensures api { (bound : Bound) → HasNoClash bound → IsAccepted (api_alone bound) }
-    ensures grown { (w : World) (l : Linked) → IsAccepted w → IsBoundTo w l → IsLast l → IsPackageCarried l
-        → IsPackageTyped l → IsAccepted (with_linked w l) }
+    ensures grown { (w : World) (l : Linked) → IsAccepted w → IsBoundTo w l → IsLast l → IsSmall l.world
+        → IsPackageCarried l → IsPackageTyped l → IsAccepted (with_linked w l) }
 {
     growing_keeps_lookups();
     growing_keeps_linking();
@@ -46,3 +58,39 @@ pub fn runtime_objects_stay()
     ensures { (before after : Heap TaggedValue) → KeepsObjects before after → HasRuntimeObjects before
         → HasRuntimeObjects after }
 {}
+
+/// The law of accesses, of each step of each machine, well typed or not, whose native members keep theirs. Each
+/// access is judged by the firewall; it is allowed, or it is the last, and then the security exception is thrown from
+/// the machine as it was. Components change only of objects of which an allowed access is listed; those of a plain
+/// object by its own context alone, or by the runtime. Each object stays, of the same kind, owner and size. What the
+/// runtime keeps may be of any type. It does nothing.
+pub fn accesses_are_guarded<N: Natives>(_natives: &N)
+    ensures guarded { (s : Surroundings N.Kept) → AreNativesGuarded s.natives → (m : Machine N.Kept) → IsGuarded s m }
+    ensures denied { (s : Surroundings N.Kept) → AreNativesGuarded s.natives → (m : Machine N.Kept)
+        → are_allowed (defensive_step s m).touches ≡ false → IsRefused s m (defensive_step s m) }
+    ensures plain { (s : Surroundings N.Kept) → AreNativesGuarded s.natives → (m : Machine N.Kept) → KeepsPlain s m }
+    ensures kept { (s : Surroundings N.Kept) → AreNativesGuarded s.natives → (m after : Machine N.Kept)
+        → machine_of (defensive_step s m).outcome ≡ Some after → KeepsObjects m.heap after.heap }
+{}
+
+/// An instruction is found at a pc of code where it begins there behind others that stand one behind the other from the
+/// first byte on, and only there. Of code that is a list of instructions it is what the list has at that pc. It does
+/// nothing.
+pub fn instructions_begin_in_turn()
+    ensures begin { (code : List ℕ) (pc : ℕ) (instr : Instr)
+        → (instruction_at code pc ≡ Some instr) ↔ IsInstructionAt code pc instr }
+    ensures listed { (code : List ℕ) (listing : List PlacedInstr) (pc : ℕ) → IsListing instr_at code listing
+        → instruction_at code pc ≡ option_map (λ (x : PlacedInstr). x.instr) (placed_at listing pc) }
+{
+    listing_laws();
+}
+
+/// In a world that is built of well-formed packages the cells of a class follow those of its superclass, are as many as
+/// its chain declares, and each field of objects that an entry of a pool leads to stands at its cell, with its type. It
+/// does nothing.
+pub fn cells_follow_superclasses()
+    ensures { (world : List Shape) → IsSmall world → IsBuilt world → HaveCells world }
+{
+    built_worlds_are_sound();
+    built_worlds_have_the_api();
+}

@@ -1,0 +1,121 @@
+-- Instructions on fields keep the law of accesses.
+use Rattle.std.proofs.Common.{◌≡◌, ℕ, List, [], length, nat_lt, slice_get, inl, refl, Some, false}
+use Rattle.jc_base.specs.declared.declared_type.DeclaredType.{DeclaredType}
+use Rattle.jc_code.specs.declared.object.FieldAccess.{FieldAccess}
+use Rattle.jc_code.specs.declared.object.FieldAction.{FieldAction}
+use Rattle.jc_code.specs.declared.object.FieldAction.TheVariants.{Get, Put}
+use Rattle.jc_code.specs.declared.object.Form.{Form}
+use Rattle.jc_code.specs.declared.object.Form.TheVariants as Forms
+use Rattle.jc_code.specs.declared.object.Holder.{Holder}
+use Rattle.jc_code.specs.declared.object.Holder.TheVariants as Holders
+use Rattle.jc_firewall.specs.Verdict.{fields, row_of}
+use Rattle.jc_firewall.specs.declared.access.Access.TheVariants.{GetField, PutStaticReference}
+use Rattle.jc_firewall.specs.declared.access.Facts.{Facts}
+use Rattle.jc_link.specs.declared.named.StaticPlace.{StaticPlace}
+use Rattle.jc_names.specs.declared.name.ClassName.{ClassName}
+use Rattle.jc_step.specs.Objects.{is_form_of}
+use Rattle.jc_machine.specs.Arrays.{loaded_as, stored_as}
+use Rattle.jc_machine.specs.Fields.{FieldTarget, InstanceField, act_field, act_get_static, act_instance, act_on_target}
+use Rattle.jc_machine.specs.Fields.{act_put_static, act_static, field_target, gets, of_class, of_objects, on_holder}
+use Rattle.jc_machine.specs.Fields.{put_static, puts, putting, static_at, stored_in_static}
+use Rattle.jc_machine.specs.Going.{Here, facts_of}
+use Rattle.jc_machine.specs.Lookup.{is_of_class, is_of_type, mark_of}
+use Rattle.jc_machine.specs.Machine.{Machine, Stepped, Surroundings, Touch}
+use Rattle.jc_words.specs.Values.{Null, Ref, TaggedValue, Unset, Word}
+use Rattle.jc_machine.proofs.Guarding.{KeepsLaw, at_accessed, at_check, at_object, at_reference, at_reference_local}
+use Rattle.jc_machine.proofs.Guarding.{at_some, at_stored, at_target, at_top, gives_still, goes, is_stuck}
+use Rattle.jc_machine.proofs.Guarding.{nothing_changes}
+use Rattle.jc_machine.proofs.GuardingWrites.{stores}
+
+-- ---- static fields
+
+get_static_keeps : {C : Type 0} (h : Here C) (form : Form) (place : StaticPlace)
+    → KeepsLaw h.around h.machine [] (act_get_static h form place)
+get_static_keeps h form place =
+    at_some (static_at h.machine.statics place.home place.offset) _ (λ s e.
+    gives_still h (loaded_as form s.value) h.machine.top.operands)
+
+-- what is stored has been accessed, if it is an object
+at_stored_value : {C : Type 0} (h : Here C) (v : TaggedValue) (s : Stepped C)
+    → ((before : List Touch) → KeepsLaw h.around h.machine before s) → KeepsLaw h.around h.machine []
+    (stored_in_static h v s)
+at_stored_value h (Word n) s k = k []
+at_stored_value h (Ref n) s k =
+    at_object h (Ref n) _ (λ number o there.
+    at_stored h PutStaticReference number o there (Some o.kind.mark) s (λ fine. k _))
+at_stored_value h Null s k = k []
+at_stored_value h Unset s k = is_stuck
+
+put_static_keeps : {C : Type 0} (h : Here C) (form : Form) (place : StaticPlace) (declared : DeclaredType ClassName)
+    → KeepsLaw h.around h.machine [] (act_put_static h form place declared)
+put_static_keeps h form place declared =
+    at_top h.machine.top.operands _ (λ v vs.
+    at_check (is_of_type h.around.world.shapes h.machine.heap declared v) _
+    (at_some (static_at h.machine.statics place.home place.offset) _ (λ s e. at_stored_value h v _ (λ before.
+    goes (put_static h place (stored_as form v)) h.next_pc h.machine.top.locals vs
+    (nothing_changes before h.machine.heap)))))
+
+static_keeps : {C : Type 0} (h : Here C) (access : FieldAccess) (place : StaticPlace)
+    (declared : DeclaredType ClassName) (action : FieldAction) (holder : Holder)
+    → KeepsLaw h.around h.machine [] (act_static h access place declared action holder)
+static_keeps h access place declared Get Holders.Class = get_static_keeps h access.form place
+static_keeps h access place declared Put Holders.Class = put_static_keeps h access.form place declared
+static_keeps h access place declared Get Holders.Operand = is_stuck
+static_keeps h access place declared Put Holders.Operand = is_stuck
+static_keeps h access place declared Get Holders.This = is_stuck
+static_keeps h access place declared Put Holders.This = is_stuck
+
+-- ---- fields of objects
+
+gets_keeps : {C : Type 0} (h : Here C) (form : Form) (field : InstanceField) (v : TaggedValue) (vs : List TaggedValue)
+    → KeepsLaw h.around h.machine [] (gets h form field v vs)
+gets_keeps h form field v vs =
+    at_object h v _ (λ number o there. at_check (is_of_class h.around.world.shapes field.class o.kind.object) _
+    (at_accessed h GetField number o there _ (λ fine. at_some (slice_get o.cells field.cell) _ (λ value e.
+    gives_still h (loaded_as form value) vs))))
+
+putting_row : (form : Form) (f : Facts) → row_of (putting form) f ≡ fields
+putting_row Forms.Reference f = refl
+putting_row Forms.Byte f = refl
+putting_row Forms.Short f = refl
+
+puts_keeps : {C : Type 0} (h : Here C) (form : Form) (field : InstanceField) (v value : TaggedValue)
+    (vs : List TaggedValue) → KeepsLaw h.around h.machine [] (puts h form field v value vs)
+puts_keeps h form field v value vs =
+    at_object h v _ (λ number o there. at_check (is_of_class h.around.world.shapes field.class o.kind.object) _
+    (at_stored h (putting form) number o there (mark_of h.machine.heap value) _ (λ fine.
+    at_check (nat_lt field.cell (length o.cells)) _
+    (stores h (putting form) number o (mark_of h.machine.heap value) field.cell (stored_as form value) vs there
+    (inl (putting_row form (facts_of h o (mark_of h.machine.heap value) false))) fine))))
+
+at_holder : {C : Type 0} {around : Surroundings C} {m : Machine C} {before : List Touch} (h : Here C) (holder : Holder)
+    (vs : List TaggedValue)
+    (go : TaggedValue → List TaggedValue → Stepped C)
+    → ((v : TaggedValue) (rest : List TaggedValue) → KeepsLaw around m before (go v rest))
+    → KeepsLaw around m before (on_holder h holder vs go)
+at_holder h Holders.Class vs go k = is_stuck
+at_holder h Holders.Operand vs go k = at_reference vs go k
+at_holder h Holders.This vs go k =
+    at_reference_local (slice_get h.machine.top.locals 0) (λ v. go v vs) (λ v. k v vs)
+
+instance_keeps : {C : Type 0} (h : Here C) (access : FieldAccess) (field : InstanceField) (action : FieldAction)
+    → KeepsLaw h.around h.machine [] (act_instance h access field action)
+instance_keeps h access field Get =
+    at_holder h access.holder h.machine.top.operands (gets h access.form field) (gets_keeps h access.form field)
+instance_keeps h access field Put =
+    at_top h.machine.top.operands _ (λ value us.
+    at_check (is_of_type h.around.world.shapes h.machine.heap field.declared value) _
+    (at_holder h access.holder us _ (λ v vs. puts_keeps h access.form field v value vs)))
+
+-- ---- instructions
+
+target_keeps : {C : Type 0} (h : Here C) (access : FieldAccess) (target : FieldTarget)
+    → KeepsLaw h.around h.machine [] (act_on_target h access target)
+target_keeps h access (of_objects field) =
+    at_check (is_form_of access.form field.declared) _ (instance_keeps h access field access.action)
+target_keeps h access (of_class place declared) =
+    at_check (is_form_of access.form declared) _ (static_keeps h access place declared access.action access.holder)
+
+pub field_keeps : {C : Type 0} (h : Here C) (access : FieldAccess) (index : ℕ)
+    → KeepsLaw h.around h.machine [] (act_field h access index)
+field_keeps h access index = at_target h index field_target (act_on_target h access) (target_keeps h access)

@@ -1,0 +1,215 @@
+-- Objects that are made, cast and thrown, and references that are moved, keep the law of accesses.
+use Rattle.std.proofs.Common.{ℕ, ℤ, pos, Bool, true, false, cond, not, List, [], ◌∷◌, length, Some, None}
+use Rattle.std.proofs.Common.{inr, int_lt, nat_lt, refl, replicate, slice_get, slice_set}
+use Rattle.std.specs.Option.{option_map_or}
+use Rattle.jc_classes.specs.Subtype.{is_subtype}
+use Rattle.jc_code.specs.declared.object.Creation.{Creation}
+use Rattle.jc_code.specs.declared.object.Creation.TheVariants as Creations
+use Rattle.jc_code.specs.declared.object.ObjectOperation.{ObjectOperation}
+use Rattle.jc_code.specs.declared.object.ObjectOperation.TheVariants.{PushNull, Load, Store, LoadComponent}
+use Rattle.jc_code.specs.declared.object.ObjectOperation.TheVariants.{StoreComponent, ArrayLength, Branch, Field}
+use Rattle.jc_code.specs.declared.object.ObjectOperation.TheVariants.{Invoke, Create, CheckCast, InstanceOf, Throw}
+use Rattle.jc_code.specs.declared.object.ObjectOperation.TheVariants.{ReturnReference, ReturnVoid}
+use Rattle.jc_code.specs.declared.object.ReferenceCondition.{ReferenceCondition}
+use Rattle.jc_code.specs.declared.object.ReferenceCondition.TheVariants as Conditions
+use Rattle.jc_code.specs.declared.object.TestedType.{TestedType}
+use Rattle.jc_code.specs.declared.object.TestedType.TheVariants as Tested
+use Rattle.jc_firewall.specs.Verdict.{runtime_context}
+use Rattle.jc_firewall.specs.declared.access.Access.{Access}
+use Rattle.jc_firewall.specs.declared.access.Access.TheVariants as accesses
+use Rattle.jc_firewall.specs.declared.access.Verdict.TheVariants.{Allowed}
+use Rattle.jc_names.specs.declared.name.ClassName.{ClassName}
+use Rattle.jc_step.specs.Objects.{class_target, has_objects}
+use Rattle.jc_store.specs.Heap.{Object, next_number, object_at}
+use Rattle.jc_store.specs.declared.kind.Mark.TheVariants.{Plain}
+use Rattle.jc_store.specs.declared.kind.ObjectType.{ObjectType}
+use Rattle.jc_store.specs.declared.kind.ObjectType.TheVariants.{Instance, ReferenceArray}
+use Rattle.jc_words.specs.Shorts.{short}
+use Rattle.jc_words.specs.Values.{Null, Ref, TaggedValue, Unset, Word}
+use Rattle.jc_machine.specs.Going.{Here, gives, no_resource, stored_in, throws, throws_system}
+use Rattle.jc_machine.specs.Guarded.{IsAccessed, of_runtime}
+use Rattle.jc_machine.specs.Lookup.{component_class, is_instance, is_shared_interface, is_throwable}
+use Rattle.jc_machine.specs.Machine.{Machine, Stepped, Surroundings, Throws, Touch}
+use Rattle.jc_machine.specs.Natives.{AreNativesGuarded}
+use Rattle.jc_machine.specs.Objects.{Test, act_branch, act_check_cast, act_create, act_instance_of, act_object}
+use Rattle.jc_machine.specs.Objects.{act_throw, bit, cells_of, creates, creates_array, has_space, is_array_of_words}
+use Rattle.jc_machine.specs.Objects.{is_null, is_same, made, on_class, on_test, tested, word_array}
+use Rattle.jc_machine.specs.Runtime.{class_cast_exception, negative_size_exception, system_exception}
+use Rattle.jc_machine.proofs.Guarding.{KeepsLaw, at_accessed, at_check, at_judged, at_object, at_reference}
+use Rattle.jc_machine.proofs.Guarding.{at_reference_local, at_require, at_some, at_target, at_word, behind_allowed}
+use Rattle.jc_machine.proofs.Guarding.{branches_still, gives_changed, gives_still, goes_behind, is_stuck, leaves}
+use Rattle.jc_machine.proofs.Guarding.{throws_still}
+use Rattle.jc_machine.proofs.GuardingArrays.{length_keeps, load_keeps, store_keeps}
+use Rattle.jc_machine.proofs.GuardingCalls.{call_keeps}
+use Rattle.jc_machine.proofs.GuardingFields.{field_keeps}
+use Rattle.jc_machine.proofs.GuardingReturns.{at_returns}
+use Rattle.jc_machine.proofs.GuardingWrites.{more_changes, one_changes}
+
+-- ---- new objects
+
+-- the runtime's own write of the reason
+abbrev reason_touch : Touch
+reason_touch = record {
+  active = runtime_context;
+  access = accesses.PutField;
+  object = system_exception;
+  verdict = Allowed;
+}
+
+reason_accessed : (object : Object TaggedValue) → IsAccessed (reason_touch ∷ []) system_exception object
+reason_accessed object = record {
+  place = 0;
+  touch = reason_touch;
+  listed = refl;
+  is = refl;
+  allowed = refl;
+  own = λ plain. inr refl;
+}
+
+system_keeps : {C : Type 0} (h : Here C) (reason : ℕ) → KeepsLaw h.around h.machine [] (throws_system h reason)
+system_keeps h reason =
+    at_some (object_at h.machine.heap system_exception) _ (λ object there.
+    behind_allowed reason_touch (throws (stored_in h system_exception object 0 (Word reason)) system_exception)
+    (record {
+      active = of_runtime refl;
+      object = object;
+      found = there;
+      stored = None;
+      shared = false;
+      verdict = refl;
+    }) refl
+    (leaves (Throws (stored_in h system_exception object 0 (Word reason)).machine system_exception)
+    (stored_in h system_exception object 0 (Word reason)).machine refl
+    (one_changes (reason_touch ∷ []) h.machine.heap object 0 (Word reason) system_exception
+    (reason_accessed object) there)))
+
+made_keeps : {C : Type 0} (h : Here C) (object : ObjectType) (cells vs : List TaggedValue)
+    → KeepsLaw h.around h.machine [] (gives (made h object cells) (Ref (next_number h.machine.heap)) vs)
+made_keeps h object cells vs =
+    gives_changed (made h object cells) (Ref (next_number h.machine.heap)) vs
+    (more_changes [] h.machine.heap (record {
+      kind = record { object = object; mark = Plain; clears = None };
+      owner = h.machine.top.active;
+      cells = cells;
+    }))
+
+by_space : {C : Type 0} (h : Here C) (object : ObjectType) (cells vs : List TaggedValue) (space : Bool)
+    → KeepsLaw h.around h.machine []
+    (cond space (gives (made h object cells) (Ref (next_number h.machine.heap)) vs) (throws_system h no_resource))
+by_space h object cells vs true = made_keeps h object cells vs
+by_space h object cells vs false = system_keeps h no_resource
+
+creates_keeps : {C : Type 0} (h : Here C) (object : ObjectType) (cells vs : List TaggedValue)
+    → KeepsLaw h.around h.machine [] (creates h object cells vs)
+creates_keeps h object cells vs = by_space h object cells vs (has_space h cells)
+
+array_keeps : {C : Type 0} (h : Here C) (object : ObjectType) (v : TaggedValue) (count : ℕ) (vs : List TaggedValue)
+    → KeepsLaw h.around h.machine [] (creates_array h object v count vs)
+array_keeps h object v count vs =
+    at_require h negative_size_exception (not (int_lt (short count) (pos 0))) _
+    (creates_keeps h object (replicate count v) vs)
+
+at_class : {C : Type 0} {around : Surroundings C} {m : Machine C} {before : List Touch} (h : Here C) (index : ℕ)
+    (go : ClassName → Stepped C)
+    → ((c : ClassName) → KeepsLaw around m before (go c)) → KeepsLaw around m before (on_class h index go)
+at_class h index go k = at_target h index class_target go k
+
+create_keeps : {C : Type 0} (h : Here C) (creation : Creation) → KeepsLaw h.around h.machine [] (act_create h creation)
+create_keeps h (Creations.Object index) =
+    at_class h index _ (λ c. at_check (has_objects h.around.world.shapes c) _
+    (creates_keeps h (Instance c) (cells_of h.around.world.shapes c) h.machine.top.operands))
+create_keeps h (Creations.WordArray kind) =
+    at_word h.machine.top.operands _ (λ count vs. array_keeps h (word_array kind) (Word 0) count vs)
+create_keeps h (Creations.ReferenceArray index) =
+    at_class h index _ (λ c. at_word h.machine.top.operands _ (λ count vs.
+    array_keeps h (ReferenceArray c) Null count vs))
+
+-- ---- casts
+
+at_test : {C : Type 0} {around : Surroundings C} {m : Machine C} {before : List Touch} (h : Here C) (type : TestedType)
+    (go : Test → Stepped C)
+    → ((test : Test) → KeepsLaw around m before (go test)) → KeepsLaw around m before (on_test h type go)
+at_test h (Tested.Class index) go k =
+    at_class h index _ (λ c. k (record {
+      is_shared = is_shared_interface h.around.world.shapes c;
+      passes = is_instance h.around.world.shapes c;
+    }))
+at_test h (Tested.WordArray kind) go k = k (record { is_shared = false; passes = is_array_of_words kind })
+at_test h (Tested.ReferenceArray index) go k =
+    at_class h index _ (λ c. k (record {
+      is_shared = false;
+      passes = λ object. option_map_or (λ e. is_subtype h.around.world.shapes e c) (component_class object) false;
+    }))
+
+at_tested : {C : Type 0} (h : Here C) (access : Access) (type : TestedType) (v : TaggedValue) (of_null : Stepped C)
+    (go : Bool → Stepped C) → KeepsLaw h.around h.machine [] of_null
+    → ((before : List Touch) (passes : Bool) → KeepsLaw h.around h.machine before (go passes))
+    → KeepsLaw h.around h.machine [] (tested h access type v of_null go)
+at_tested h access type (Word n) of_null go k l = is_stuck
+at_tested h access type (Ref n) of_null go k l =
+    at_test h type _ (λ test. at_object h (Ref n) _ (λ number o there.
+    at_judged h access number o there None test.is_shared _ (λ fine switch.
+    l _ (test.passes o.kind.object))))
+at_tested h access type Null of_null go k l = at_test h type _ (λ test. k)
+at_tested h access type Unset of_null go k l = is_stuck
+
+check_cast_keeps : {C : Type 0} (h : Here C) (type : TestedType) → KeepsLaw h.around h.machine []
+    (act_check_cast h type)
+check_cast_keeps h type =
+    at_reference h.machine.top.operands _ (λ v vs. at_tested h accesses.CheckCast type v (gives h v vs) _
+    (gives_still h v vs) (λ before passes.
+    at_require h class_cast_exception passes (gives h v vs) (gives_still h v vs)))
+
+instance_of_keeps : {C : Type 0} (h : Here C) (type : TestedType) → KeepsLaw h.around h.machine []
+    (act_instance_of h type)
+instance_of_keeps h type =
+    at_reference h.machine.top.operands _ (λ v vs. at_tested h accesses.InstanceOf type v (gives h (bit false) vs) _
+    (gives_still h (bit false) vs) (λ before passes. gives_still h (bit passes) vs))
+
+-- ---- exceptions
+
+throw_keeps : {C : Type 0} (h : Here C) → KeepsLaw h.around h.machine [] (act_throw h)
+throw_keeps h =
+    at_reference h.machine.top.operands _ (λ v vs. at_object h v _ (λ number o there.
+    at_check (is_throwable h.around.world.shapes o.kind.object) _
+    (at_accessed h accesses.Throw number o there _ (λ fine. throws_still h number))))
+
+-- ---- references that are moved and compared
+
+branch_keeps : {C : Type 0} (h : Here C) (when : ReferenceCondition) (offset : ℤ)
+    → KeepsLaw h.around h.machine [] (act_branch h when offset)
+branch_keeps h Conditions.Null offset =
+    at_reference h.machine.top.operands _ (λ v vs. branches_still h (is_null v) offset vs)
+branch_keeps h Conditions.NotNull offset =
+    at_reference h.machine.top.operands _ (λ v vs. branches_still h (not (is_null v)) offset vs)
+branch_keeps h Conditions.Same offset =
+    at_reference h.machine.top.operands _ (λ w us. at_reference us _ (λ v vs.
+    branches_still h (is_same v w) offset vs))
+branch_keeps h Conditions.Different offset =
+    at_reference h.machine.top.operands _ (λ w us. at_reference us _ (λ v vs.
+    branches_still h (not (is_same v w)) offset vs))
+
+-- ---- instructions on references
+
+pub object_keeps : {C : Type 0} (h : Here C) → AreNativesGuarded h.around.natives → (operation : ObjectOperation)
+    → KeepsLaw h.around h.machine [] (act_object h operation)
+unfolding act_object
+object_keeps h natives PushNull = gives_still h Null h.machine.top.operands
+object_keeps h natives (Load local) =
+    at_reference_local (slice_get h.machine.top.locals local) _ (λ v. gives_still h v h.machine.top.operands)
+object_keeps h natives (Store local) =
+    at_reference h.machine.top.operands _ (λ v vs. at_check (nat_lt local (length h.machine.top.locals)) _
+    (goes_behind h (slice_set h.machine.top.locals local v) vs))
+object_keeps h natives (LoadComponent form) = load_keeps h form
+object_keeps h natives (StoreComponent form) = store_keeps h form
+object_keeps h natives ArrayLength = length_keeps h
+object_keeps h natives (Branch when offset) = branch_keeps h when offset
+object_keeps h natives (Field access index) = field_keeps h access index
+object_keeps h natives (Invoke invocation) = call_keeps h natives invocation
+object_keeps h natives (Create creation) = create_keeps h creation
+object_keeps h natives (CheckCast type) = check_cast_keeps h type
+object_keeps h natives (InstanceOf type) = instance_of_keeps h type
+object_keeps h natives Throw = throw_keeps h
+object_keeps h natives ReturnReference =
+    at_reference h.machine.top.operands _ (λ v vs. at_returns h (Some v))
+object_keeps h natives ReturnVoid = at_returns h None

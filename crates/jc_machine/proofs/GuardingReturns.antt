@@ -1,0 +1,31 @@
+-- Returns keep the law of accesses.
+use Rattle.std.proofs.Common.{List, [], ◌∷◌, length, nat_lt, Option, Some, None, ℕ, refl}
+use Rattle.jc_machine.specs.Going.{Here}
+use Rattle.jc_machine.specs.Lookup.{is_given}
+use Rattle.jc_machine.specs.Machine.{Ends, Frame, Machine, Next, Stepped, Surroundings, Touch}
+use Rattle.jc_machine.specs.Returns.{pc_behind_call, result_of, resumed, returns, returns_to, room_of, with_result}
+use Rattle.jc_words.specs.Values.{TaggedValue}
+use Rattle.jc_machine.proofs.Guarding.{KeepsLaw, at_check, at_some, stays}
+
+at_result : {C : Type 0} {around : Surroundings C} {m : Machine C} {before : List Touch} (h : Here C) (room : ℕ)
+    (v : Option TaggedValue)
+    (operands : List TaggedValue) (go : List TaggedValue → Stepped C)
+    → ((operands : List TaggedValue) → KeepsLaw around m before (go operands))
+    → KeepsLaw around m before (with_result h room v operands go)
+at_result h room None operands go k = k operands
+at_result h room (Some v) operands go k =
+    at_check (nat_lt (length operands) room) (go (v ∷ operands)) (k (v ∷ operands))
+
+returns_still : {C : Type 0} {before : List Touch} (h : Here C) (result : Option TaggedValue) (waiting : List Frame)
+    → KeepsLaw h.around h.machine before (returns_to h result waiting)
+returns_still h result [] = stays (Ends h.machine result) h.machine refl refl
+returns_still h result (f ∷ waiting) =
+    at_some (pc_behind_call h.around f) _ (λ pc e. at_some (room_of h.around f) _ (λ room d.
+    at_result h room result f.operands _ (λ operands.
+    stays (Next (resumed h.machine f waiting pc operands)) (resumed h.machine f waiting pc operands) refl refl)))
+
+pub at_returns : {C : Type 0} {before : List Touch} (h : Here C) (value : Option TaggedValue)
+    → KeepsLaw h.around h.machine before (returns h value)
+at_returns h value =
+    at_some (result_of h) _ (λ result e. at_check (is_given h.around.world.shapes h.machine.heap result value) _
+    (returns_still h value h.machine.waiting))

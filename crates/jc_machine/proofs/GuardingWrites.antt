@@ -1,0 +1,174 @@
+-- What an allowed access changes: a component of its object, which is the active context's or open to all.
+use Rattle.std.proofs.Common.{◌≡◌, ◌⊎◌, inl, inr, ℕ, zero, suc, ◌==◌, ◌&&◌, ◌||◌, Bool, true, false, cond, refl, sym}
+use Rattle.std.proofs.Common.{ap, ◌∙◌, subst, eqb-true, List, [], ◌∷◌, Option, Some, length-set, slice_get, set}
+use Rattle.std.proofs.lemmas.Option.{none-some, same_Some}
+use Rattle.std.specs.Option.{option_map_or}
+use Rattle.jc_firewall.specs.Verdict.{Row, components, fields, is_global_array, is_never_stored, is_own}
+use Rattle.jc_firewall.specs.Verdict.{is_out_of_selection, row_of, runtime_context, stores_reference}
+use Rattle.jc_firewall.specs.Verdict.{verdict_for_runtime, verdict_in as verdict_in_row, verdict_of}
+use Rattle.jc_firewall.specs.declared.access.Access.{Access}
+use Rattle.jc_firewall.specs.declared.access.Facts.{Facts}
+use Rattle.jc_firewall.specs.declared.access.Rule.TheVariants.{Components, Fields, Selection, Storing}
+use Rattle.jc_firewall.specs.declared.access.Verdict.{Verdict}
+use Rattle.jc_firewall.specs.declared.access.Verdict.TheVariants.{Allowed, Denied}
+use Rattle.jc_store.specs.Heap.{Heap, Object, object_at, with_cell, with_new, with_object}
+use Rattle.jc_store.specs.declared.kind.Mark.{Mark}
+use Rattle.jc_store.specs.declared.kind.Mark.TheVariants.{Plain}
+use Rattle.jc_machine.specs.Going.{Here, facts_of, leaves_operands, stored_in, touch_of}
+use Rattle.jc_machine.specs.Guarded.{ChangesAccessed, IsAccessed, is_allowed}
+use Rattle.jc_machine.specs.Machine.{Touch}
+use Rattle.jc_machine.specs.Natives.{IsStill, KeepsObjects}
+use Rattle.jc_words.specs.Values.{TaggedValue}
+use Rattle.jc_machine.proofs.Guarding.{KeepsHeap, KeepsLaw, get_first, goes, is_still, verdict_in}
+
+-- ---- whose a plain object is that is written to
+
+abbrev IsOwn : ℕ → Facts → Type 0
+IsOwn active f = (active ≡ f.owner.context) ⊎ (active ≡ runtime_context)
+
+-- the rows of the table that are for components and fields
+abbrev pub IsWritten : Access → Facts → Type 0
+IsWritten access f = (row_of access f ≡ fields) ⊎ (row_of access f ≡ components)
+
+own_field : (own : Bool) → is_allowed (cond own Allowed (Denied Fields)) ≡ true → own ≡ true
+own_field true e = refl
+own_field false e = absurd cc
+
+own_component : (out own : Bool)
+    → is_allowed (cond out (Denied Selection) (cond (own || false) Allowed (Denied Components))) ≡ true
+    → own ≡ true
+own_component true own e = absurd cc
+own_component false true e = refl
+own_component false false e = absurd cc
+
+by_row : (active : ℕ) (f : Facts) (r : Row) → (r ≡ fields) ⊎ (r ≡ components) → f.mark ≡ Plain
+    → is_allowed (verdict_in_row r active f) ≡ true → is_own active f ≡ true
+by_row active f r (inl e) plain h =
+    own_field (is_own active f) (subst (λ (r : Row). is_allowed (verdict_in_row r active f) ≡ true) e h)
+by_row active f r (inr e) plain h =
+    own_component (is_out_of_selection active f) (is_own active f)
+    (subst
+    (λ (mark : Mark). is_allowed
+    (cond (is_out_of_selection active f) (Denied Selection)
+    (cond (is_own active f || is_global_array mark) Allowed (Denied Components))) ≡ true) plain
+    (subst (λ (r : Row). is_allowed (verdict_in_row r active f) ≡ true) e h))
+
+by_table : (a b : Bool) (v w : Verdict) (P Q : Type 0) → (a ≡ true → Q) → (is_allowed w ≡ true → P)
+    → is_allowed (cond a v (cond b (Denied Storing) w)) ≡ true → P ⊎ Q
+by_table true b v w P Q f g h = inr (f refl)
+by_table false true v w P Q f g h = absurd cc
+by_table false false v w P Q f g h = inl (g h)
+
+own_object : (access : Access) (active : ℕ) (f : Facts) → IsWritten access f
+    → is_allowed (verdict_of access active f) ≡ true → f.mark ≡ Plain → IsOwn active f
+own_object access active f written fine plain =
+    by_table (active == runtime_context) (stores_reference access && option_map_or is_never_stored f.stored false)
+    (verdict_for_runtime (row_of access f) f) (verdict_in_row (row_of access f) active f) (active ≡ f.owner.context)
+    (active ≡ runtime_context) (eqb-true active runtime_context)
+    (λ h. sym (eqb-true f.owner.context active (by_row active f (row_of access f) written plain h))) fine
+
+-- an allowed access that writes
+pub is_accessed : {C : Type 0} (h : Here C) (access : Access) (number : ℕ) (object : Object TaggedValue)
+    (mark : Option Mark) → IsWritten access (facts_of h object mark false)
+    → is_allowed (verdict_in h access (facts_of h object mark false)) ≡ true
+    → IsAccessed (touch_of h access number (verdict_in h access (facts_of h object mark false)) ∷ []) number object
+is_accessed h access number object mark written fine = record {
+  place = 0;
+  touch = touch_of h access number (verdict_in h access (facts_of h object mark false));
+  listed = refl;
+  is = refl;
+  allowed = fine;
+  own = own_object access h.machine.top.active.context (facts_of h object mark false) written fine;
+}
+
+-- ---- the heap behind it
+
+get_set : {A : Type 0} (xs : List A) (k i : ℕ) (x : A) → (k ≡ i) ⊎ (slice_get (set xs k x) i ≡ slice_get xs i)
+get_set [] k i x = inr refl
+get_set (y ∷ xs) zero zero x = inl refl
+get_set (y ∷ xs) zero (suc i) x = inr refl
+get_set (y ∷ xs) (suc k) zero x = inr refl
+get_set (y ∷ xs) (suc k) (suc i) x = elim (get_set xs k i x) [ inl e ↦ inl (ap suc e) | inr e ↦ inr e ]
+
+set_there : {A : Type 0} (xs : List A) (k : ℕ) (x y : A) → slice_get xs k ≡ Some y → slice_get (set xs k x) k ≡ Some x
+set_there [] k x y e = absurd (none-some y e)
+set_there (z ∷ xs) zero x y e = refl
+set_there (z ∷ xs) (suc k) x y e = set_there xs k x y e
+
+-- of an object that was accessed one component changes
+module _ (touches : List Touch) (heap : Heap TaggedValue) (object : Object TaggedValue) (index : ℕ)
+    (v : TaggedValue) where
+  one_changes_only : (number : ℕ) → IsAccessed touches number object → object_at heap number ≡ Some object
+      → ChangesAccessed touches heap (with_object heap number (with_cell object index v))
+  one_changes_only zero accessed there n o p e f = absurd (none-some object there)
+  one_changes_only (suc k) accessed there zero o p e f = absurd (none-some o e)
+  one_changes_only (suc k) accessed there (suc i) o p e f =
+      elim (get_set heap k i (with_cell object index v))
+      [ inl is ↦ inr (same is) | inr still ↦ inl (unchanged still) ]
+    where
+      same : k ≡ i → IsAccessed touches (suc i) o
+      same is =
+          subst (λ (x : Object TaggedValue). IsAccessed touches (suc i) x)
+          (same_Some object o (sym there ∙ ap (slice_get heap) is ∙ e))
+          (subst (λ (n : ℕ). IsAccessed touches (suc n) object) is accessed)
+
+      unchanged : slice_get (set heap k (with_cell object index v)) i ≡ slice_get heap i → p.cells ≡ o.cells
+      unchanged still = ap (λ (x : Object TaggedValue). x.cells) (same_Some p o (sym f ∙ still ∙ e))
+
+  each_stays : (number : ℕ) → object_at heap number ≡ Some object
+      → KeepsObjects heap (with_object heap number (with_cell object index v))
+  each_stays zero there n o e = absurd (none-some object there)
+  each_stays (suc k) there zero o e = absurd (none-some o e)
+  each_stays (suc k) there (suc i) o e =
+      elim (get_set heap k i (with_cell object index v)) [ inl is ↦ changed is | inr still ↦ unchanged still ]
+    where
+      changed : k ≡ i → IsStill (set heap k (with_cell object index v)) (suc i) o
+      changed is =
+          subst (λ (n : ℕ). IsStill (set heap k (with_cell object index v)) (suc n) o) is
+          (subst (λ (x : Object TaggedValue). IsStill (set heap k (with_cell object index v)) (suc k) x)
+          (same_Some object o (sym there ∙ ap (slice_get heap) is ∙ e)) (record {
+            object = with_cell object index v;
+            found = set_there heap k (with_cell object index v) object there;
+            kind = refl;
+            owner = refl;
+            size = length-set object.cells index v;
+          }))
+
+      unchanged : slice_get (set heap k (with_cell object index v)) i ≡ slice_get heap i
+          → IsStill (set heap k (with_cell object index v)) (suc i) o
+      unchanged still =
+          record { object = o; found = still ∙ e; kind = refl; owner = refl; size = refl }
+
+  pub one_changes : (number : ℕ) → IsAccessed touches number object → object_at heap number ≡ Some object
+      → KeepsHeap touches heap (with_object heap number (with_cell object index v))
+  one_changes number accessed there =
+      record { changes = one_changes_only number accessed there; kept = each_stays number there }
+
+-- an object more
+more_changes_only : (touches : List Touch) (heap : Heap TaggedValue) (new : Object TaggedValue)
+    → ChangesAccessed touches heap (with_new heap new)
+more_changes_only touches heap new zero o p e f = absurd (none-some o e)
+more_changes_only touches heap new (suc i) o p e f =
+    inl (ap (λ (x : Object TaggedValue). x.cells) (same_Some p o (sym f ∙ get_first heap (new ∷ []) i o e)))
+
+all_stay : (heap : Heap TaggedValue) (new : Object TaggedValue) → KeepsObjects heap (with_new heap new)
+all_stay heap new zero o e = absurd (none-some o e)
+all_stay heap new (suc i) o e =
+    is_still (with_new heap new) (suc i) o (get_first heap (new ∷ []) i o e)
+
+pub more_changes : (touches : List Touch) (heap : Heap TaggedValue) (new : Object TaggedValue)
+    → KeepsHeap touches heap (with_new heap new)
+more_changes touches heap new =
+    record { changes = more_changes_only touches heap new; kept = all_stay heap new }
+
+-- a component is stored, and the frame goes on
+pub stores : {C : Type 0} (h : Here C) (access : Access) (number : ℕ) (object : Object TaggedValue)
+    (mark : Option Mark) (index : ℕ) (v : TaggedValue) (vs : List TaggedValue)
+    → object_at h.machine.heap number ≡ Some object → IsWritten access (facts_of h object mark false)
+    → is_allowed (verdict_in h access (facts_of h object mark false)) ≡ true
+    → KeepsLaw h.around h.machine (touch_of h access number (verdict_in h access (facts_of h object mark false)) ∷ [])
+    (leaves_operands (stored_in h number object index v) vs)
+stores h access number object mark index v vs there written fine =
+    goes (stored_in h number object index v) h.next_pc h.machine.top.locals vs
+    (one_changes (touch_of h access number (verdict_in h access (facts_of h object mark false)) ∷ []) h.machine.heap
+    object index v number (is_accessed h access number object mark written fine) there)

@@ -6,7 +6,7 @@ use Rattle.std.proofs.lemmas.List.{length-replicate, length-set}
 use Rattle.std.proofs.lemmas.Option.{none-some, same_Some}
 use Rattle.std.specs.List.{AllByRecursion, list_all}
 use Rattle.std.specs.Option.{option_map_or}
-use Rattle.jc_api.specs.declared.class.ApiClass.TheVariants.{Applet}
+use Rattle.jc_api.specs.declared.class.ApiClass.TheVariants.{Applet, Object as ObjectClass}
 use Rattle.jc_base.specs.declared.declared_type.DeclaredType.{DeclaredType}
 use Rattle.jc_base.specs.declared.declared_type.DeclaredType.TheVariants as types
 use Rattle.jc_cap_desc.specs.Shape.{Shape}
@@ -26,8 +26,10 @@ use Rattle.jc_natives.proofs.Simulation.{passed_some}
 use Rattle.jc_natives.specs.Cells.{Write, put, put_all, written}
 use Rattle.jc_natives.specs.Kept.{Kept, is_aid, is_instance_number, is_same_owner}
 use Rattle.jc_natives.specs.Meaning.{blank_of, fits_command, fits_installing, fits_instance, fits_kept, has_applet, new_array}
-use Rattle.jc_natives.specs.Work.{NewArray}
+use Rattle.jc_natives.specs.Work.{NewArray, array_type}
 use Rattle.jc_natives.specs.declared.kept.Instance.{Instance}
+use Rattle.jc_natives.specs.declared.native.Elements.{Elements}
+use Rattle.jc_natives.specs.declared.native.Elements.TheVariants.{Booleans, Bytes, References, Shorts}
 use Rattle.jc_store.specs.Heap.{Heap, Object, object_at, with_cell, with_new, with_object}
 use Rattle.jc_store.specs.declared.kind.Kind.{Kind}
 use Rattle.jc_store.specs.declared.kind.ObjectType.{ObjectType}
@@ -230,13 +232,6 @@ write_typed world heap x fits typed = by_object (object_at heap x.object) refl
 
 -- ---- a new array
 
-abbrev pub FitsArray : ObjectType → Type 0
-FitsArray (OfClass c) = ⊥
-FitsArray BooleanArray = ⊤
-FitsArray ByteArray = ⊤
-FitsArray ShortArray = ⊤
-FitsArray (ReferenceArray c) = ⊤
-
 all_replicated : {A : Type 0} (P : A → Type 0) (n : ℕ) (x : A) → P x → AllByRecursion P (replicate n x)
 all_replicated P zero x p = tt
 all_replicated P (suc n) x p = (p, all_replicated P n x p)
@@ -246,30 +241,30 @@ all_behind P [] x all p = (p, tt)
 all_behind P (y ∷ xs) x all p = (all.0, all_behind P xs x all.1 p)
 
 module _ (world : List Shape) (heap : Heap TaggedValue) where
-  blanks_typed : (type : ObjectType) (n : ℕ) → FitsArray type → CellsTyped world heap (replicate n (blank_of type)) type
-  blanks_typed (OfClass c) n fits = absurd fits
-  blanks_typed BooleanArray n fits = all_replicated (λ v. is_byte v ≡ true) n (Word 0) refl
-  blanks_typed ByteArray n fits = all_replicated (λ v. is_byte v ≡ true) n (Word 0) refl
-  blanks_typed ShortArray n fits = all_replicated (λ v. is_word v ≡ true) n (Word 0) refl
-  blanks_typed (ReferenceArray c) n fits = all_replicated (λ v. leads_to heap (is_instance world c) v ≡ true) n Null refl
+  blanks_typed : (elements : Elements) (n : ℕ)
+      → CellsTyped world heap (replicate n (blank_of elements)) (array_type elements)
+  blanks_typed Booleans n = all_replicated (λ v. is_byte v ≡ true) n (Word 0) refl
+  blanks_typed Bytes n = all_replicated (λ v. is_byte v ≡ true) n (Word 0) refl
+  blanks_typed Shorts n = all_replicated (λ v. is_word v ≡ true) n (Word 0) refl
+  blanks_typed References n =
+      all_replicated (λ v. leads_to heap (is_instance world (Api ObjectClass)) v ≡ true) n Null refl
 
-  may_make : (type : ObjectType) → FitsArray type → may_be_made world type ≡ true
-  may_make (OfClass c) fits = absurd fits
-  may_make BooleanArray fits = refl
-  may_make ByteArray fits = refl
-  may_make ShortArray fits = refl
-  may_make (ReferenceArray c) fits = refl
+  may_make : (elements : Elements) → may_be_made world (array_type elements) ≡ true
+  may_make Booleans = refl
+  may_make Bytes = refl
+  may_make Shorts = refl
+  may_make References = refl
 
 pub array_typed : (world : List Shape) (heap : Heap TaggedValue) (owner : Owner) (array : NewArray)
-    → FitsArray array.type → array.size < 65536 → HeapTyped world heap
+    → array.size < 65536 → HeapTyped world heap
     → HeapTyped world (with_new heap (new_array owner array))
-array_typed world heap owner array fits small typed =
+array_typed world heap owner array small typed =
     let after = with_new heap (new_array owner array) in
-    let count = length-replicate array.size (blank_of array.type) in
+    let count = length-replicate array.size (blank_of array.elements) in
     all_behind (ObjectTyped world after) heap (new_array owner array)
     (objects_still world heap after (keeps_new heap (new_array owner array)) heap typed) (record {
-      made = may_make world heap array.type fits;
-      cells = blanks_typed world after array.type array.size fits;
+      made = may_make world heap array.elements;
+      cells = blanks_typed world after array.elements array.size;
       counted = λ is. omega (arith, small, count);
     })
 

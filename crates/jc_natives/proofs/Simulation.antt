@@ -39,11 +39,11 @@ use Rattle.jc_natives.specs.Work.{Asks, Does, Ending, GivesReference, GivesWord,
 use Rattle.jc_natives.specs.declared.ended.Ended.{Ended}
 use Rattle.jc_natives.specs.declared.ended.Ended.TheVariants as ends
 use Rattle.jc_natives.specs.declared.ended.Question.{Question}
+use Rattle.jc_natives.specs.declared.native.Elements.{Elements}
+use Rattle.jc_natives.specs.declared.native.Elements.TheVariants.{Booleans, Bytes, References, Shorts}
 use Rattle.jc_natives.specs.declared.native.Native.{Native}
 use Rattle.jc_store.specs.Heap.{Heap, Object, next_number, object_at, with_new}
 use Rattle.jc_store.specs.Store.{Store, fresh, with_made, with_objects}
-use Rattle.jc_store.specs.declared.kind.ObjectType.{ObjectType}
-use Rattle.jc_store.specs.declared.kind.ObjectType.TheVariants.{BooleanArray, ByteArray, Instance, ReferenceArray, ShortArray}
 use Rattle.jc_words.specs.Values.{Null, Ref, TaggedValue, Unset, Word}
 
 -- ---- the arguments of a call that may begin
@@ -130,21 +130,20 @@ reads_question (CallsBack callback) q e = record {
 
 -- ---- a work
 
-bare_blank : (type : ObjectType) (n : ℕ) → map bits (replicate n (blank_of type)) ≡ replicate n 0
-bare_blank type zero = refl
-bare_blank type (suc n) = ap (λ x. x ∷ map bits (replicate n (blank_of type))) (blank type)
-    ∙ ap (λ xs. 0 ∷ xs) (bare_blank type n)
+bare_blank : (elements : Elements) (n : ℕ) → map bits (replicate n (blank_of elements)) ≡ replicate n 0
+bare_blank elements zero = refl
+bare_blank elements (suc n) = ap (λ x. x ∷ map bits (replicate n (blank_of elements))) (blank elements)
+    ∙ ap (λ xs. 0 ∷ xs) (bare_blank elements n)
   where
-    blank : (type : ObjectType) → bits (blank_of type) ≡ 0
-    blank (Instance c) = refl
-    blank BooleanArray = refl
-    blank ByteArray = refl
-    blank ShortArray = refl
-    blank (ReferenceArray c) = refl
+    blank : (elements : Elements) → bits (blank_of elements) ≡ 0
+    blank Booleans = refl
+    blank Bytes = refl
+    blank Shorts = refl
+    blank References = refl
 
 bare_array : (owner : Owner) (array : NewArray) → fresh (kind_of array) owner array.size ≡ bare (new_array owner array)
 bare_array owner array =
-    ap (λ cells. record { kind = kind_of array; owner = owner; cells = cells }) (sym (bare_blank array.type array.size))
+    ap (λ cells. record { kind = kind_of array; owner = owner; cells = cells }) (sym (bare_blank array.elements array.size))
 
 -- the same state in the words of a call that agrees
 abbrev state_of : Done → WordState Kept

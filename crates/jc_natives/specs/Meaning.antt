@@ -26,16 +26,16 @@ use Rattle.jc_natives.specs.Seen.{Seen, arguments_of, seen_of}
 use Rattle.jc_natives.specs.System.{system_work}
 use Rattle.jc_natives.specs.Tests.{Tested, tested}
 use Rattle.jc_natives.specs.Utilities.{utility_work}
-use Rattle.jc_natives.specs.Work.{Asks, Does, Ending, GivesReference, GivesWord, Makes, NewArray, NoResult, Throws, Work, no_transient_space, throws_system}
+use Rattle.jc_natives.specs.Work.{Asks, Does, Ending, GivesReference, GivesWord, Makes, NewArray, NoResult, Throws, Work, array_type, no_transient_space, throws_system}
 use Rattle.jc_natives.specs.declared.ended.Question.{Question}
 use Rattle.jc_natives.specs.declared.kept.Installing.{Installing}
 use Rattle.jc_natives.specs.declared.kept.Instance.{Instance}
+use Rattle.jc_natives.specs.declared.native.Elements.{Elements}
+use Rattle.jc_natives.specs.declared.native.Elements.TheVariants.{Booleans, Bytes, References, Shorts}
 use Rattle.jc_natives.specs.declared.native.Native.{Native}
 use Rattle.jc_natives.specs.declared.native.Native.TheVariants.{OfAid, OfApdu, OfApplet, OfObject, OfSystem, OfUtility}
 use Rattle.jc_store.specs.Heap.{Heap, Object, next_number, object_at, with_new}
 use Rattle.jc_store.specs.declared.kind.Mark.TheVariants.{Plain}
-use Rattle.jc_store.specs.declared.kind.ObjectType.{ObjectType}
-use Rattle.jc_store.specs.declared.kind.ObjectType.TheVariants.{BooleanArray, ByteArray, Instance as OfClass, ReferenceArray, ShortArray}
 use Rattle.jc_words.specs.Values.{Null, Ref, TaggedValue, Word}
 
 -- ---- the work of a member
@@ -60,19 +60,18 @@ end_of (GivesReference number) = Gives (Some (reference number))
 end_of (Throws object) = ThrowsObject object
 
 -- what a component of a new array is
-abbrev pub blank_of : ObjectType → TaggedValue
-blank_of (OfClass c) = Word 0
-blank_of BooleanArray = Word 0
-blank_of ByteArray = Word 0
-blank_of ShortArray = Word 0
-blank_of (ReferenceArray c) = Null
+abbrev pub blank_of : Elements → TaggedValue
+blank_of Booleans = Word 0
+blank_of Bytes = Word 0
+blank_of Shorts = Word 0
+blank_of References = Null
 
 -- a transient array, of the active owner
 abbrev pub new_array : Owner → NewArray → Object TaggedValue
 new_array owner array = record {
-  kind = record { object = array.type; mark = Plain; clears = Some array.event };
+  kind = record { object = array_type array.elements; mark = Plain; clears = Some array.event };
   owner = owner;
-  cells = replicate array.size (blank_of array.type);
+  cells = replicate array.size (blank_of array.elements);
 }
 
 -- ---- the runtime's own accesses

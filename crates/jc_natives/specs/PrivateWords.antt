@@ -12,7 +12,7 @@ use Rattle.jc_natives.specs.Meaning.{answering_member, with_room, work_of}
 use Rattle.jc_natives.specs.Rows.{row_of}
 use Rattle.jc_natives.specs.Seen.{Seen}
 use Rattle.jc_natives.specs.Tests.{tested}
-use Rattle.jc_natives.specs.Work.{Asks, Does, Ending, GivesReference, GivesWord, Makes, NewArray, NoResult, Throws, Work, gives, throws}
+use Rattle.jc_natives.specs.Work.{Asks, Does, Ending, GivesReference, GivesWord, Makes, NewArray, NoResult, Throws, Work, array_type, gives, throws}
 use Rattle.jc_natives.specs.declared.ended.Ended.{Ended}
 use Rattle.jc_natives.specs.declared.ended.Ended.TheVariants as ends
 use Rattle.jc_natives.specs.declared.ended.Question.{Question}
@@ -52,7 +52,7 @@ ended_of (GivesReference number) = ends.Returned (Some number)
 ended_of (Throws object) = ends.Thrown object
 
 abbrev pub kind_of : NewArray → Kind
-kind_of array = record { object = array.type; mark = Plain; clears = Some array.event }
+kind_of array = record { object = array_type array.elements; mark = Plain; clears = Some array.event }
 
 abbrev pub did_on_words : Owner → Store → Kept → Work → Done
 did_on_words owner store k (Does writes runtime ending) =

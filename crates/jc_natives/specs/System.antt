@@ -2,9 +2,7 @@
 -- JCSystem).
 use Rattle.std.specs.Prelude.{ℕ, ◌==◌, Bool, true, false, List, Option, Some, None, if◌then◌else◌}
 use Rattle.std.specs.Option.{option_and_then, option_map_or}
-use Rattle.jc_api.specs.declared.class.ApiClass.TheVariants.{Object}
 use Rattle.jc_machine.specs.Runtime.{negative_size_exception}
-use Rattle.jc_names.specs.declared.name.ClassName.TheVariants.{Api}
 use Rattle.jc_natives.specs.Aids.{range_bytes}
 use Rattle.jc_natives.specs.Applets.{aid_object}
 use Rattle.jc_natives.specs.Cells.{aid_bytes, argument, extended, is_count}
@@ -12,13 +10,13 @@ use Rattle.jc_natives.specs.Kept.{Kept, instance_of, instance_with}
 use Rattle.jc_natives.specs.Seen.{Seen}
 use Rattle.jc_natives.specs.Work.{Asks, GivesReference, Makes, Work, gives, illegal_transient, illegal_value, throws, throws_system, unless_system}
 use Rattle.jc_natives.specs.declared.kept.Instance.{Instance}
+use Rattle.jc_natives.specs.declared.native.Elements.{Elements}
+use Rattle.jc_natives.specs.declared.native.Elements.TheVariants.{Booleans, Bytes, References, Shorts}
 use Rattle.jc_natives.specs.declared.native.SystemNative.{SystemNative}
 use Rattle.jc_natives.specs.declared.native.SystemNative.TheVariants.{AskForShareable, GetAid, GetPreviousAid, LookupAid, MakeBooleans, MakeBytes, MakeReferences, MakeShorts}
 use Rattle.jc_names.specs.declared.owner.Owner.{Owner}
 use Rattle.jc_store.specs.declared.kind.ClearingEvent.{ClearingEvent}
 use Rattle.jc_store.specs.declared.kind.ClearingEvent.TheVariants.{Deselect, Reset}
-use Rattle.jc_store.specs.declared.kind.ObjectType.{ObjectType}
-use Rattle.jc_store.specs.declared.kind.ObjectType.TheVariants.{BooleanArray, ByteArray, ReferenceArray, ShortArray}
 
 -- ---- AIDs of applets
 
@@ -52,15 +50,16 @@ abbrev pub may_make : Seen → ClearingEvent → Bool
 may_make s Reset = true
 may_make s Deselect = is_selected s
 
-abbrev pub makes : Seen → Kept → ObjectType → ℕ → Option ClearingEvent → Work
-makes s k type size None = throws_system k illegal_value
-makes s k type size (Some event) =
+abbrev pub makes : Seen → Kept → Elements → ℕ → Option ClearingEvent → Work
+makes s k elements size None = throws_system k illegal_value
+makes s k elements size (Some event) =
     unless_system k illegal_transient (may_make s event)
-    (if is_count size then Makes (record { type = type; event = event; size = size })
+    (if is_count size then Makes (record { elements = elements; event = event; size = size })
     else throws k negative_size_exception)
 
-abbrev pub makes_array : Seen → Kept → List ℕ → ObjectType → Work
-makes_array s k arguments type = makes s k type (argument arguments 0) (event_of (extended (argument arguments 1)))
+abbrev pub makes_array : Seen → Kept → List ℕ → Elements → Work
+makes_array s k arguments elements =
+    makes s k elements (argument arguments 0) (event_of (extended (argument arguments 1)))
 
 abbrev pub system_work : Seen → Kept → List ℕ → SystemNative → Work
 system_work s k arguments GetAid = gives k (GivesReference (aid_of_owner k (Some s.active)))
@@ -70,7 +69,7 @@ system_work s k arguments LookupAid =
 system_work s k arguments GetPreviousAid = gives k (GivesReference (aid_of_owner k s.previous))
 system_work s k arguments AskForShareable =
     asks s k (argument arguments 1) (instance_with k.instances (aid_bytes s.objects (argument arguments 0)))
-system_work s k arguments MakeBooleans = makes_array s k arguments BooleanArray
-system_work s k arguments MakeBytes = makes_array s k arguments ByteArray
-system_work s k arguments MakeShorts = makes_array s k arguments ShortArray
-system_work s k arguments MakeReferences = makes_array s k arguments (ReferenceArray (Api Object))
+system_work s k arguments MakeBooleans = makes_array s k arguments Booleans
+system_work s k arguments MakeBytes = makes_array s k arguments Bytes
+system_work s k arguments MakeShorts = makes_array s k arguments Shorts
+system_work s k arguments MakeReferences = makes_array s k arguments References

@@ -1,11 +1,16 @@
 -- What a native member does once its tests have passed, and how a work that is refused ends.
 use Rattle.std.specs.Prelude.{ℕ, Bool, List, [], ◌∷◌, if◌then◌else◌}
+use Rattle.jc_api.specs.declared.class.ApiClass.TheVariants.{Object}
 use Rattle.jc_machine.specs.Runtime.{apdu_exception, system_exception}
+use Rattle.jc_names.specs.declared.name.ClassName.TheVariants.{Api}
 use Rattle.jc_natives.specs.Cells.{Write}
 use Rattle.jc_natives.specs.Kept.{Kept}
 use Rattle.jc_natives.specs.declared.ended.Question.{Question}
+use Rattle.jc_natives.specs.declared.native.Elements.{Elements}
+use Rattle.jc_natives.specs.declared.native.Elements.TheVariants.{Booleans, Bytes, References, Shorts}
 use Rattle.jc_store.specs.declared.kind.ClearingEvent.{ClearingEvent}
 use Rattle.jc_store.specs.declared.kind.ObjectType.{ObjectType}
+use Rattle.jc_store.specs.declared.kind.ObjectType.TheVariants.{BooleanArray, ByteArray, ReferenceArray, ShortArray}
 
 -- how it ends: with nothing, a word, a reference, which is 0 for null, or an object that is thrown
 pub data Ending : Type 0 where
@@ -14,11 +19,17 @@ pub data Ending : Type 0 where
   GivesReference : (number : ℕ) → Ending
   Throws : (object : ℕ) → Ending
 
--- a transient array: what it is, the event that clears it, and how many components it has
+-- a transient array: what its components are, the event that clears it, and how many components it has
 pub record NewArray : Type 0 where
-  pub type : ObjectType
+  pub elements : Elements
   pub event : ClearingEvent
   pub size : ℕ
+
+abbrev pub array_type : Elements → ObjectType
+array_type Booleans = BooleanArray
+array_type Bytes = ByteArray
+array_type Shorts = ShortArray
+array_type References = ReferenceArray (Api Object)
 
 -- it writes, leaves what the runtime keeps, and ends; or it makes an array, and gives it; or it asks an applet for a
 -- shareable object, with the number of an AID or 0, and a word

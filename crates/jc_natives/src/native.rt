@@ -69,6 +69,16 @@ pub enum SystemNative {
     MakeReferences,
 }
 
+/// What the components of a transient array are.
+#[derive(Clone, Copy, Debug)]
+pub enum Elements {
+    Booleans,
+    Bytes,
+    Shorts,
+    /// References to objects of class Object.
+    References,
+}
+
 /// Members of Util.
 #[derive(Clone, Copy, Debug)]
 pub enum UtilityNative {

@@ -5,7 +5,7 @@ ghost use Rattle.jc_natives.specs.Cells.{argument, bytes_of, extended};
 ghost use Rattle.jc_natives.specs.Kept.{instance_with};
 ghost use Rattle.jc_natives.specs.PrivateWords.{done_of, seen_in};
 ghost use Rattle.jc_natives.specs.System.{aid_of, aid_of_owner, asks, event_of, makes, makes_array, may_make, system_work};
-ghost use Rattle.jc_natives.specs.Work.{Makes};
+ghost use Rattle.jc_natives.specs.Work.{Makes, array_type};
 ghost use Rattle.jc_natives.specs.declared.native.SystemNative.TheVariants as natives;
 
 use crate::aid::ILLEGAL_VALUE;
@@ -13,7 +13,7 @@ use crate::applet::aid_object;
 use crate::cells::{argument, cell, extended, is_count};
 use crate::ended::{Ended, Question, throw_system};
 use crate::kept::{Instance, Runtime};
-use crate::native::SystemNative;
+use crate::native::{Elements, SystemNative};
 use jc_api::ApiClass;
 use jc_link::World;
 use jc_machine::WordCall;
@@ -129,22 +129,34 @@ fn may_make(world: &World, store: &Store, call: &WordCall<'_>, event: ClearingEv
     }
 }
 
+// The type of an array with such components.
+fn array_type(elements: Elements) -> ObjectType
+    ensures { result ≡ array_type elements }
+{
+    match elements {
+        Elements::Booleans => ObjectType::BooleanArray,
+        Elements::Bytes => ObjectType::ByteArray,
+        Elements::Shorts => ObjectType::ShortArray,
+        Elements::References => ObjectType::ReferenceArray(OBJECT),
+    }
+}
+
 // Makes an array, where there is room for it.
 #[tactic(auto, using(crate::proofs::Room::full_has_none, crate::proofs::Room::not_full_has_some))]
 fn make_where_room(
     store: &mut Store,
     call: &WordCall<'_>,
     runtime: &Runtime,
-    object: ObjectType,
+    elements: Elements,
     size: u16,
     event: ClearingEvent,
 ) -> Ended
     ensures { record { store = store.new; kept = runtime.now; ended = result }
-        ≡ done_of call.now.active store.old runtime.now (Makes (record { type = object; event = event; size = size })) }
+        ≡ done_of call.now.active store.old runtime.now (Makes (record { elements = elements; event = event; size = size })) }
 {
     let _runtime = runtime;
     let kind = Kind {
-        object,
+        object: array_type(elements),
         mark: Mark::Plain,
         clears: Some(event),
     };
@@ -160,13 +172,13 @@ fn make(
     store: &mut Store,
     call: &WordCall<'_>,
     runtime: &Runtime,
-    object: ObjectType,
+    elements: Elements,
     size: u16,
     event: Option<ClearingEvent>,
 ) -> Ended
     ensures { record { store = store.new; kept = runtime.now; ended = result }
         ≡ done_of call.now.active store.old runtime.now
-        (makes (seen_in world.now store.old call.now) runtime.now object size event) }
+        (makes (seen_in world.now store.old call.now) runtime.now elements size event) }
 {
     let Some(event) = event else {
         return throw_system(store, ILLEGAL_VALUE);
@@ -177,7 +189,7 @@ fn make(
     if !is_count(size) {
         return Ended::Thrown(NEGATIVE_SIZE_EXCEPTION);
     }
-    make_where_room(store, call, runtime, object, size, event)
+    make_where_room(store, call, runtime, elements, size, event)
 }
 
 fn make_array(
@@ -185,15 +197,15 @@ fn make_array(
     store: &mut Store,
     call: &WordCall<'_>,
     runtime: &Runtime,
-    object: ObjectType,
+    elements: Elements,
 ) -> Ended
     ensures { record { store = store.new; kept = runtime.now; ended = result }
         ≡ done_of call.now.active store.old runtime.now
-        (makes_array (seen_in world.now store.old call.now) runtime.now call.now.arguments.now object) }
+        (makes_array (seen_in world.now store.old call.now) runtime.now call.now.arguments.now elements) }
 {
     let size = argument(call.arguments, 0);
     let event = event_of(extended(argument(call.arguments, 1)));
-    make(world, store, call, runtime, object, size, event)
+    make(world, store, call, runtime, elements, size, event)
 }
 
 /// Does the work of a member of JCSystem.
@@ -213,17 +225,11 @@ pub(crate) fn system_native(
         SystemNative::LookupAid => Ended::Returned(Some(lookup_aid(store, call, runtime))),
         SystemNative::GetPreviousAid => Ended::Returned(Some(aid_of_owner(runtime, call.previous))),
         SystemNative::AskForShareable => ask_for_shareable(world, store, call, runtime),
-        SystemNative::MakeBooleans => {
-            make_array(world, store, call, runtime, ObjectType::BooleanArray)
-        }
-        SystemNative::MakeBytes => {
-            make_array(world, store, call, runtime, ObjectType::ByteArray)
-        }
-        SystemNative::MakeShorts => {
-            make_array(world, store, call, runtime, ObjectType::ShortArray)
-        }
+        SystemNative::MakeBooleans => make_array(world, store, call, runtime, Elements::Booleans),
+        SystemNative::MakeBytes => make_array(world, store, call, runtime, Elements::Bytes),
+        SystemNative::MakeShorts => make_array(world, store, call, runtime, Elements::Shorts),
         SystemNative::MakeReferences => {
-            make_array(world, store, call, runtime, ObjectType::ReferenceArray(OBJECT))
+            make_array(world, store, call, runtime, Elements::References)
         }
     }
 }

@@ -9,3 +9,5 @@ mod Keeping
 mod Numbers
 mod ApiTypes
 mod Tables
+mod Suits
+mod Facts

@@ -59,7 +59,7 @@ front_blank (x ∷ xs) ys (suc n) f all h e = front_blank xs ys n f all.1 (omega
 
 -- ---- by the tables alone
 
-above_in : ℕ → ApiClass → ApiClass → Bool
+abbrev pub above_in : ℕ → ApiClass → ApiClass → Bool
 above_in zero d c = false
 above_in (suc n) d c = is_same_name (Api c) (Api d) || option_map_or (above_in n d) (tables.superclass_of c) false
 
@@ -106,13 +106,13 @@ module _ (world : List Shape) (there : (c : ApiClass) → StandsThere world c) w
   above_is zero d c = refl
   above_is (suc n) d c =
       ap (λ o. is_same_name (Api c) (Api d) || option_map_or (is_at_or_above world n (Api d)) o false) (there c).superclass
-      ∙ by_super (tables.superclass_of c)
+      ∙ by_super (λ e. above_is n d e) (tables.superclass_of c)
     where
-      by_super : (o : Option ApiClass)
+      by_super : ((e : ApiClass) → is_at_or_above world n (Api d) (Api e) ≡ above_in n d e) → (o : Option ApiClass)
           → (is_same_name (Api c) (Api d) || option_map_or (is_at_or_above world n (Api d)) (option_map Api o) false)
           ≡ (is_same_name (Api c) (Api d) || option_map_or (above_in n d) o false)
-      by_super None = refl
-      by_super (Some e) = ap (λ b. is_same_name (Api c) (Api d) || b) (above_is n d e)
+      by_super rest None = refl
+      by_super rest (Some e) = ap (λ b. is_same_name (Api c) (Api d) || b) (rest e)
 
   or_true : (a b : Bool) → b ≡ true → (a || b) ≡ true
   or_true true b e = refl
@@ -165,7 +165,7 @@ module _ (world : List Shape) (there : (c : ApiClass) → StandsThere world c) w
           (on d.0 d.2 (sym (ap (λ o. option_map_or (comes_to_end world n) o true) d.1) ∙ ends))
 
   -- a class below one with so many cells
-  blank_at : (x : ApiClass) (c : ClassName) (index : ℕ) → ((c : ClassName) → comes_to_end world most_classes c ≡ true)
+  pub blank_at : (x : ApiClass) (c : ClassName) (index : ℕ) → ((c : ClassName) → comes_to_end world most_classes c ≡ true)
       → is_at_or_above world most_classes (Api x) c ≡ true
       → ((n : ℕ) → comes_to_end world n (Api x) ≡ true → index < cells_within n x) → IsBlankAt world c index
   blank_at x c index ends below enough =
@@ -180,16 +180,16 @@ module _ (world : List Shape) (there : (c : ApiClass) → StandsThere world c) w
       }
 
   -- AIDs have 17 cells, and exceptions with a reason one
-  aid_cells : (n : ℕ) → comes_to_end world n (Api api.Aid) ≡ true → 17 ≤ cells_within n api.Aid
+  pub aid_cells : (n : ℕ) → comes_to_end world n (Api api.Aid) ≡ true → 17 ≤ cells_within n api.Aid
   aid_cells zero e = absurd cc
   aid_cells (suc n) e = omega arith
 
-  reason_cells : (n : ℕ) → comes_to_end world n (Api api.CardRuntimeException) ≡ true
+  pub reason_cells : (n : ℕ) → comes_to_end world n (Api api.CardRuntimeException) ≡ true
       → 1 ≤ cells_within n api.CardRuntimeException
   reason_cells zero e = absurd cc
   reason_cells (suc n) e = omega arith
 
-  below_reason : (x : ApiClass) → tables.superclass_of x ≡ Some api.CardRuntimeException → (n : ℕ)
+  pub below_reason : (x : ApiClass) → tables.superclass_of x ≡ Some api.CardRuntimeException → (n : ℕ)
       → comes_to_end world n (Api x) ≡ true → 1 ≤ cells_within n x
   below_reason x e zero f = absurd cc
   below_reason x e (suc n) f =

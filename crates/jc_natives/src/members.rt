@@ -18,7 +18,10 @@ use crate::system::system_native;
 use crate::tests::refusal;
 use crate::utility::utility_native;
 use arrayvec::ArrayVec;
-use jc_link::World;
+use jc_classes::growing_keeps_lookups;
+use jc_link::{
+    World, built_worlds_are_sound, built_worlds_have_the_api, growing_keeps_linking,
+};
 use jc_machine::{Natives, WordCall, WordCallback, WordOutcome};
 use jc_store::Store;
 
@@ -124,5 +127,10 @@ impl Natives for Runtime {
         outcome_of(call_member(world, store, call, self))
     }
 
-    fn law(&self) {}
+    fn law(&self) {
+        growing_keeps_lookups();
+        growing_keeps_linking();
+        built_worlds_have_the_api();
+        built_worlds_are_sound();
+    }
 }

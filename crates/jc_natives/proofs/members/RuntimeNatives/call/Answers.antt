@@ -18,7 +18,7 @@ returns-clause-classes c =
     (word_work (seen_in c.args.world.now c.args.store.now c.args.call.now) c.args.self.now c.args.call.now.arguments.now
     (numbered natives c.args.call.now.member))
     (record { store = c.call_member.new.store; kept = c.call_member.new.runtime; ended = c.call_member.result })
-    (sym c.objects_used.ensures.objects ∙ c.objects_used.ensures.classes) c.call_member.ensures
+    (sym c.objects_used-used.ensures.objects ∙ c.objects_used-used.ensures.classes) c.call_member.ensures
 
 pub returns-clause-limits : goal.returns-clause-limits
 returns-clause-limits c =

@@ -1,6 +1,6 @@
 -- Native members keep objects typed and what the runtime keeps fitting, and end as they are declared to.
 use Rattle.std.specs.Prelude.{⊤}
-use Rattle.std.proofs.Common.{◌≡◌, ◌≢◌, ◌⊎◌, inl, inr, ℕ, zero, suc, ◌+◌, ◌-◌, ◌*◌, ◌/◌, ◌%◌, ◌<◌, ◌≤◌, ◌==◌, ◌&&◌, not, Bool, true, false, cond, List, [], ◌∷◌, ◌++◌, length, map, get_or, replicate, slice_get, nat_le, nat_lt, is_some, unwrap_or, Option, Some, None, refl, sym, ap, subst, ◌∙◌, arith}
+use Rattle.std.proofs.Common.{◌≡◌, ◌≢◌, ◌⊎◌, inl, inr, ℕ, zero, suc, ◌+◌, ◌<◌, ◌≤◌, ◌==◌, ◌&&◌, ◌||◌, not, Bool, true, false, cond, List, [], ◌∷◌, ◌++◌, length, map, get_or, replicate, slice_get, nat_le, nat_lt, is_some, unwrap_or, Option, Some, None, refl, sym, ap, subst, ◌∙◌, arith}
 use Rattle.std.proofs.lemmas.Bool.{eqb-true, leb-true, lt-ltb, ltb-true, le-leb}
 use Rattle.std.proofs.lemmas.Option.{none-some, same_Some}
 use Rattle.std.specs.List.{find, list_all}
@@ -10,21 +10,27 @@ use Rattle.jc_api.specs.Numbered.{numbered}
 use Rattle.jc_api.specs.declared.class.ApiClass.{ApiClass}
 use Rattle.jc_api.specs.declared.class.ApiClass.TheVariants as api
 use Rattle.jc_api.specs.declared.member.MemberKind.TheVariants.{Constructor, Static, Virtual}
-use Rattle.jc_base.specs.Signature.{Signature, return_map, signature_map}
+use Rattle.jc_base.specs.Signature.{Signature, return_map, signature_map, type_map}
 use Rattle.jc_base.specs.declared.declared_type.DeclaredType.{DeclaredType}
 use Rattle.jc_base.specs.declared.declared_type.DeclaredType.TheVariants as types
 use Rattle.jc_base.specs.declared.declared_type.ReturnType.{ReturnType}
 use Rattle.jc_base.specs.declared.declared_type.ReturnType.TheVariants.{Void, Value}
 use Rattle.jc_classes.specs.Subtype.{comes_to_end, is_at_or_above, is_class_below}
 use Rattle.jc_classes.specs.Walk.{most_classes}
+use Rattle.jc_firewall.specs.Verdict.{verdict_of}
+use Rattle.jc_firewall.specs.declared.access.Verdict.{Verdict}
+use Rattle.jc_firewall.specs.declared.access.Verdict.TheVariants.{Allowed, AllowedSwitch, Denied}
 use Rattle.jc_link.specs.ApiClasses.{StandsThere, cells_within}
 use Rattle.jc_link.specs.Linked.{World}
 use Rattle.jc_machine.specs.Calls.{native_type, type_of_member}
-use Rattle.jc_machine.specs.Lookup.{are_of_types, is_given, is_of_class, is_throwable, leads_to}
+use Rattle.jc_machine.specs.Lookup.{are_of_types, is_byte_array, is_given, is_of_class, is_throwable, leads_to}
 use Rattle.jc_machine.specs.Machine.{Calls, Gives as GivesEnd, NativeAnswer, NativeCall, NativeEnd, ThrowsObject}
 use Rattle.jc_machine.specs.Natives.{EndsFit, IsFitAnswer, IsFitCall, IsFitCallback, IsThrown, KeepsObjects}
 use Rattle.jc_machine.specs.Runtime.{HasRuntimeObject, HasRuntimeObjects, RuntimeObject}
 use Rattle.jc_machine.specs.Typed.{HeapTyped}
+use Rattle.jc_cap_desc.specs.Shape.{Shape}
+use Rattle.jc_names.specs.Names.{is_same_name}
+use Rattle.jc_names.specs.declared.owner.Owner.{Owner}
 use Rattle.jc_names.specs.declared.name.ClassName.{ClassName}
 use Rattle.jc_names.specs.declared.name.ClassName.TheVariants.{Api}
 use Rattle.jc_natives.proofs.ApiTypes.{counted_name}
@@ -34,19 +40,28 @@ use Rattle.jc_natives.proofs.Guarding.{keeps_new, keeps_written}
 use Rattle.jc_natives.proofs.Keeping.{FitsCell, FitsWords, FitsWrite, IsBlankAt, array_typed, both_are, instances_still, kept_fits_still, leads_still, type_still, write_typed}
 use Rattle.jc_natives.proofs.Ranges.{length_of_bytes}
 use Rattle.jc_natives.proofs.Simulation.{passed_some}
-use Rattle.jc_natives.proofs.Suits.{Gives, HasObject, HasReason, IsBytes, Suits, aid, booleans, bytes, nothing, references, shareable, shorts, word}
-use Rattle.jc_natives.proofs.Tables.{above_in, aid_cells, below_is, below_reason, blank_at, reason_cells}
+use Rattle.jc_natives.proofs.Suits as suits
+use Rattle.jc_natives.proofs.Suits.{Gives, HasObject, HasReason, IsBytes, Suits, is_word_type}
+use Rattle.jc_natives.proofs.Tables.{above_in, above_is, aid_cells, below_is, below_reason, blank_at, reason_cells}
 use Rattle.jc_natives.specs.Cells as cells
 use Rattle.jc_natives.specs.Cells.{Write, aid_bytes, aid_count, argument, bit, byte_of, bytes_of, cell_of, extended, has_room, low, order_of, word_of_bytes, written}
-use Rattle.jc_natives.specs.Kept.{Kept, are_bytes, has_aid_length, is_aid, is_instance_number, with_instance}
+use Rattle.jc_natives.specs.Kept.{Kept, are_bytes, has_aid_length, instance_of, instance_with, is_aid, is_instance_number, is_same_owner, with_instance}
 use Rattle.jc_natives.specs.Meaning.{array_or_refusal, asked, begun, did, done, end_of, ended, fits_command, fits_installing, fits_instance, fits_kept, has_applet, made, meaning, new_array, reference, unchanged, with_room, work_of}
-use Rattle.jc_natives.specs.Seen.{Seen, arguments_of, seen_of}
+use Rattle.jc_natives.specs.Seen.{Seen, arguments_of, is_aid_object, seen_of}
+use Rattle.jc_natives.specs.System.{aid_of, aid_of_owner}
+use Rattle.jc_natives.specs.Tests.{Tested, access_of, by_verdict, facts_of, fails, followed, goes_on, is_in_range, on_object, passes, ranged, test, tested, used}
 use Rattle.jc_natives.specs.Work.{Asks, Does, Ending, GivesReference, GivesWord, Makes, NewArray, NoResult, Throws, Work, array_type}
 use Rattle.jc_natives.specs.declared.ended.Question.{Question}
 use Rattle.jc_natives.specs.declared.kept.Installing.{Installing}
 use Rattle.jc_natives.specs.declared.kept.Instance.{Instance}
 use Rattle.jc_natives.specs.declared.native.Elements.{Elements}
 use Rattle.jc_natives.specs.declared.native.Native.{Native}
+use Rattle.jc_natives.specs.declared.row.Range.{Range}
+use Rattle.jc_natives.specs.declared.row.Row.{Row}
+use Rattle.jc_natives.specs.declared.row.Test.{Test}
+use Rattle.jc_natives.specs.declared.row.Test.TheVariants as tests
+use Rattle.jc_natives.specs.declared.row.Way.{Way}
+use Rattle.jc_natives.specs.declared.row.Way.TheVariants as ways
 use Rattle.jc_store.specs.Heap.{Heap, Object, next_number, object_at, with_new}
 use Rattle.jc_store.specs.declared.kind.Kind.{Kind}
 use Rattle.jc_store.specs.declared.kind.ObjectType.{ObjectType}
@@ -55,14 +70,11 @@ use Rattle.jc_words.specs.Values.{Null, Ref, TaggedValue, Unset, Word}
 
 -- ---- numbers
 
-mod_low : (n m : ℕ) → 0 < m → n % m < m
-mod_low n m h = ?
-
 low_is : (n : ℕ) → low n < 256
-low_is n = mod_low n 256 (omega arith)
+low_is n = omega arith
 
 word_is : (n : ℕ) → cells.word n < 65536
-word_is n = mod_low n 65536 (omega arith)
+word_is n = omega arith
 
 extended_is : (n : ℕ) → extended n < 65536
 extended_is n = by_sign (nat_lt (low n) 128) refl
@@ -75,7 +87,7 @@ bit_is : (b : Bool) → bit b < 65536
 bit_is true = omega arith
 bit_is false = omega arith
 
-two_are : (x y : ℕ) → word_of_bytes (low x) (low y) < 65536
+pub two_are : (x y : ℕ) → word_of_bytes (low x) (low y) < 65536
 two_are x y = let a = low_is x in let b = low_is y in omega (arith, a, b)
 
 order_is : (xs ys : List ℕ) → order_of xs ys < 65536
@@ -91,17 +103,17 @@ order_is (x ∷ xs) (y ∷ ys) = by_first (nat_lt x y) (nat_lt y x) (order_is xs
 
 -- ---- words that fit
 
-bytes_fit : (world : List _) (from : ℕ) (objects : Heap ℕ) (number at count : ℕ)
+bytes_fit : (world : List Shape) (from : ℕ) (objects : Heap ℕ) (number at count : ℕ)
     → FitsWords world ByteArray from (bytes_of objects number at count)
 bytes_fit world from objects number at zero = tt
 bytes_fit world from objects number at (suc count) =
     (low_is (cell_of objects number at), bytes_fit world (from + 1) objects number (at + 1) count)
 
-same_bytes_fit : (world : List _) (from n b : ℕ) → b < 256 → FitsWords world ByteArray from (replicate n b)
+same_bytes_fit : (world : List Shape) (from n b : ℕ) → b < 256 → FitsWords world ByteArray from (replicate n b)
 same_bytes_fit world from zero b h = tt
 same_bytes_fit world from (suc n) b h = (h, same_bytes_fit world (from + 1) n b h)
 
-listed_bytes_fit : (world : List _) (from : ℕ) (bytes : List ℕ) → are_bytes bytes ≡ true → FitsWords world ByteArray from bytes
+listed_bytes_fit : (world : List Shape) (from : ℕ) (bytes : List ℕ) → are_bytes bytes ≡ true → FitsWords world ByteArray from bytes
 listed_bytes_fit world from [] e = tt
 listed_bytes_fit world from (b ∷ bytes) e =
     let s = both (nat_lt b 256) (are_bytes bytes) e in
@@ -114,7 +126,7 @@ bytes_are objects number at (suc count) =
     (bytes_are objects number (at + 1) count)
 
 -- bytes in cells of which no field is declared
-blank_fit : (world : List _) (c : ClassName) (from : ℕ) (words : List ℕ) → ((index : ℕ) → index < 17 → IsBlankAt world c index)
+blank_fit : (world : List Shape) (c : ClassName) (from : ℕ) (words : List ℕ) → ((index : ℕ) → index < 17 → IsBlankAt world c index)
     → from + length words ≤ 17 → are_bytes words ≡ true → FitsWords world (OfClass c) from words
 blank_fit world c from [] blank h e = tt
 blank_fit world c from (x ∷ words) blank h e =
@@ -125,13 +137,411 @@ blank_fit world c from (x ∷ words) blank h e =
 
 -- ---- a call that fits
 
--- which classes of exceptions are below Throwable, and AIDs below AID
-throwable_api : ℕ → Option ApiClass
-throwable_api 4 = Some api.ArrayIndexOutOfBoundsException
-throwable_api 5 = Some api.NegativeArraySizeException
-throwable_api 6 = Some api.NullPointerException
-throwable_api 7 = Some api.SecurityException
-throwable_api 8 = Some api.IsoException
-throwable_api 9 = Some api.SystemException
-throwable_api 10 = Some api.ApduException
-throwable_api n = None
+module _ (w : World) (call : NativeCall Kept) (there : (c : ApiClass) → StandsThere w.shapes c)
+    (ends : (c : ClassName) → comes_to_end w.shapes most_classes c ≡ true) (fit : IsFitCall meaning w call)
+    (given : Signature ClassName) where
+  -- ---- what is written
+
+  abbrev Writes : List Write → Type 0
+  Writes [] = ⊤
+  Writes (x ∷ []) = FitsWrite w.shapes call.heap x
+  Writes (x ∷ y ∷ writes) = ⊥
+
+  to_bytes : (number from : ℕ) (words : List ℕ) → LeadsToBytes call.heap number → FitsWords w.shapes ByteArray from words
+      → FitsWrite w.shapes call.heap (record { object = number; from = from; words = words })
+  to_bytes number from words leads fits o found =
+      subst (λ type. FitsWords w.shapes type from words) (sym (leads o found)) fits
+
+  -- words that fit objects of a class below one
+  to_class : (number from : ℕ) (words : List ℕ) (c : ApiClass) → LeadsToClass w.shapes call.heap number (Api c)
+      → ((type : ObjectType) → is_of_class w.shapes (Api c) type ≡ true → FitsWords w.shapes type from words)
+      → FitsWrite w.shapes call.heap (record { object = number; from = from; words = words })
+  to_class number from words c leads fits o found =
+      let same = same_Some leads.object o (sym leads.found ∙ found) in
+      fits o.kind.object (ap (λ (x : Object TaggedValue). is_of_class w.shapes (Api c) x.kind.object) (sym same) ∙ leads.below)
+
+  -- ---- the runtime's own objects
+
+  own_leads : (row : RuntimeObject) (c : ApiClass) → HasRuntimeObject call.heap row → row.type ≡ OfClass (Api c)
+      → above_in most_classes c c ≡ true → LeadsToClass w.shapes call.heap row.number (Api c)
+  own_leads row c has type itself = record {
+    object = has.object;
+    found = has.found;
+    below = ap (is_of_class w.shapes (Api c)) (has.type ∙ type) ∙ below_is w.shapes there c c itself;
+  }
+
+  own_thrown : (row : RuntimeObject) (c : ApiClass) → HasRuntimeObject call.heap row → row.type ≡ OfClass (Api c)
+      → above_in most_classes api.Throwable c ≡ true → IsThrown w call.heap row.number
+  own_thrown row c has type below = record {
+    object = has.object;
+    found = has.found;
+    throwable = ap (is_throwable w.shapes) (has.type ∙ type) ∙ below_is w.shapes there api.Throwable c below;
+  }
+
+  index_thrown : IsThrown w call.heap 4
+  unfolding most_classes
+  index_thrown =
+      own_thrown _ api.ArrayIndexOutOfBoundsException (own_object call.heap 3 _ fit.runtime_objects refl) refl refl
+
+  size_thrown : IsThrown w call.heap 5
+  unfolding most_classes
+  size_thrown =
+      own_thrown _ api.NegativeArraySizeException (own_object call.heap 4 _ fit.runtime_objects refl) refl refl
+
+  null_thrown : IsThrown w call.heap 6
+  unfolding most_classes
+  null_thrown = own_thrown _ api.NullPointerException (own_object call.heap 5 _ fit.runtime_objects refl) refl refl
+
+  security_thrown : IsThrown w call.heap 7
+  unfolding most_classes
+  security_thrown = own_thrown _ api.SecurityException (own_object call.heap 6 _ fit.runtime_objects refl) refl refl
+
+  iso_thrown : IsThrown w call.heap 8
+  unfolding most_classes
+  iso_thrown = own_thrown _ api.IsoException (own_object call.heap 7 _ fit.runtime_objects refl) refl refl
+
+  system_thrown : IsThrown w call.heap 9
+  unfolding most_classes
+  system_thrown = own_thrown _ api.SystemException (own_object call.heap 8 _ fit.runtime_objects refl) refl refl
+
+  apdu_thrown : IsThrown w call.heap 10
+  unfolding most_classes
+  apdu_thrown = own_thrown _ api.ApduException (own_object call.heap 9 _ fit.runtime_objects refl) refl refl
+
+  iso_leads : LeadsToClass w.shapes call.heap 8 (Api api.IsoException)
+  unfolding most_classes
+  iso_leads = own_leads _ api.IsoException (own_object call.heap 7 _ fit.runtime_objects refl) refl refl
+
+  system_leads : LeadsToClass w.shapes call.heap 9 (Api api.SystemException)
+  unfolding most_classes
+  system_leads = own_leads _ api.SystemException (own_object call.heap 8 _ fit.runtime_objects refl) refl refl
+
+  apdu_leads : LeadsToClass w.shapes call.heap 10 (Api api.ApduException)
+  unfolding most_classes
+  apdu_leads = own_leads _ api.ApduException (own_object call.heap 9 _ fit.runtime_objects refl) refl refl
+
+  buffer_leads : LeadsToBytes call.heap 12
+  buffer_leads o found =
+      let has = own_object call.heap 11 _ fit.runtime_objects refl in
+      ap (λ (x : Object TaggedValue). x.kind.object) (same_Some o has.object (sym found ∙ has.found)) ∙ has.type
+
+  aid_leads : (number : ℕ) → is_instance_number number ≡ true → LeadsToClass w.shapes call.heap (13 + number) (Api api.Aid)
+  unfolding most_classes
+  aid_leads number e = own_leads _ api.Aid (own_aid call.heap number fit.runtime_objects e) refl refl
+
+  -- ---- cells of AIDs and of exceptions
+
+  no_array : (c : ApiClass) → is_same_name (Api api.Object) (Api c) ≡ false → above_in most_classes c api.Object ≡ false
+      → is_class_below w.shapes (Api api.Object) (Api c) ≡ true → ⊥
+  no_array c other none e =
+      let one = ap (λ b. b || is_at_or_above w.shapes most_classes (Api c) (Api api.Object)) (sym other) ∙ e in
+      let two = sym (above_is w.shapes there most_classes c api.Object) ∙ one in
+      unequal (sym none ∙ two)
+    where
+      unequal : false ≡ true → ⊥
+      unequal g = cc
+
+  class_fits : (c : ApiClass) (words : List ℕ) → is_same_name (Api api.Object) (Api c) ≡ false
+      → above_in most_classes c api.Object ≡ false
+      → ((d : ClassName) → is_at_or_above w.shapes most_classes (Api c) d ≡ true → FitsWords w.shapes (OfClass d) 0 words)
+      → (type : ObjectType) → is_of_class w.shapes (Api c) type ≡ true → FitsWords w.shapes type 0 words
+  class_fits c words other none fits (OfClass d) e =
+      fits d (ap (λ b. b || is_at_or_above w.shapes most_classes (Api c) d) (sym other) ∙ e)
+  class_fits c words other none fits BooleanArray e = absurd (no_array c other none e)
+  class_fits c words other none fits ByteArray e = absurd (no_array c other none e)
+  class_fits c words other none fits ShortArray e = absurd (no_array c other none e)
+  class_fits c words other none fits (ReferenceArray d) e = absurd (no_array c other none e)
+
+  -- a reason
+  reason_written : (number n : ℕ) (c : ApiClass) → LeadsToClass w.shapes call.heap number (Api c) → n < 65536
+      → is_same_name (Api api.Object) (Api c) ≡ false → above_in most_classes c api.Object ≡ false
+      → ((k : ℕ) → comes_to_end w.shapes k (Api c) ≡ true → 1 ≤ cells_within k c)
+      → FitsWrite w.shapes call.heap (record { object = number; from = 0; words = n ∷ [] })
+  reason_written number n c leads small other none enough =
+      to_class number 0 (n ∷ []) c leads (class_fits c (n ∷ []) other none (λ d below.
+      ((blank_at w.shapes there c d 0 ends below (λ k f. let a = enough k f in omega (arith, a)), small), tt)))
+
+  runtime_reason : (number n : ℕ) → LeadsToClass w.shapes call.heap number (Api api.CardRuntimeException) → n < 65536
+      → FitsWrite w.shapes call.heap (record { object = number; from = 0; words = n ∷ [] })
+  unfolding most_classes
+  runtime_reason number n leads small =
+      reason_written number n api.CardRuntimeException leads small refl refl (reason_cells w.shapes there)
+
+  iso_reason : (number n : ℕ) → LeadsToClass w.shapes call.heap number (Api api.IsoException) → n < 65536
+      → FitsWrite w.shapes call.heap (record { object = number; from = 0; words = n ∷ [] })
+  unfolding most_classes
+  iso_reason number n leads small =
+      reason_written number n api.IsoException leads small refl refl (below_reason w.shapes there api.IsoException refl)
+
+  system_reason : (number n : ℕ) → LeadsToClass w.shapes call.heap number (Api api.SystemException) → n < 65536
+      → FitsWrite w.shapes call.heap (record { object = number; from = 0; words = n ∷ [] })
+  unfolding most_classes
+  system_reason number n leads small =
+      reason_written number n api.SystemException leads small refl refl (below_reason w.shapes there api.SystemException refl)
+
+  apdu_reason : (number n : ℕ) → LeadsToClass w.shapes call.heap number (Api api.ApduException) → n < 65536
+      → FitsWrite w.shapes call.heap (record { object = number; from = 0; words = n ∷ [] })
+  unfolding most_classes
+  apdu_reason number n leads small =
+      reason_written number n api.ApduException leads small refl refl (below_reason w.shapes there api.ApduException refl)
+
+  -- an AID: its length and its bytes
+  aid_written : (number : ℕ) (bytes : List ℕ) → LeadsToClass w.shapes call.heap number (Api api.Aid)
+      → length bytes ≤ 16 → are_bytes bytes ≡ true
+      → FitsWrite w.shapes call.heap (record { object = number; from = 0; words = length bytes ∷ bytes })
+  unfolding most_classes
+  aid_written number bytes leads short e =
+      to_class number 0 (length bytes ∷ bytes) api.Aid leads
+      (class_fits api.Aid (length bytes ∷ bytes) refl refl (λ d below.
+      blank_fit w.shapes d 0 (length bytes ∷ bytes)
+      (λ index low. blank_at w.shapes there api.Aid d index ends below
+      (λ k f. let a = aid_cells w.shapes there k f in omega (arith, a, low)))
+      (omega (arith, short))
+      (both_are (nat_lt (length bytes) 256) (are_bytes bytes) (lt-ltb (length bytes) 256 (omega (arith, short))) e)))
+
+  -- ---- what a work is to keep to
+
+  abbrev Ends : Ending → Type 0
+  Ends NoResult = is_given w.shapes call.heap given.result None ≡ true
+  Ends (GivesWord n) = is_given w.shapes call.heap given.result (Some (Word n)) ≡ true
+  Ends (GivesReference n) = is_given w.shapes call.heap given.result (Some (reference n)) ≡ true
+  Ends (Throws object) = IsThrown w call.heap object
+
+  -- the question is a call that fits
+  abbrev AsksWell : Question → Type 0
+  AsksWell q = IsFitCallback w call (asked call [] q) given
+      (record { member = 40; object = q.object; arguments = reference q.aid ∷ Word q.word ∷ [] })
+
+  abbrev Fits : Work → Type 0
+  Fits (Does writes k ending) = Writes writes × ((fits_kept w call.heap k ≡ true) × Ends ending)
+  Fits (Makes array) = (array.size < 65536)
+      × (is_given w.shapes (with_new call.heap (new_array call.active array)) given.result
+      (Some (Ref (next_number call.heap))) ≡ true)
+  Fits (Asks q) = AsksWell q
+
+  either_fits : (b : Bool) (x y : Work) → (b ≡ true → Fits x) → Fits y → Fits (cond b x y)
+  either_fits true x y p q = p refl
+  either_fits false x y p q = q
+
+  -- ---- an answer
+
+  abbrev Answers : NativeAnswer Kept → Type 0
+  Answers a = HeapTyped w.shapes a.heap × ((fits_kept w a.heap a.runtime ≡ true) × EndsFit w call a given a.ends)
+
+  thrown_still : (after : Heap TaggedValue) (object : ℕ) → KeepsObjects call.heap after → IsThrown w call.heap object
+      → IsThrown w after object
+  thrown_still after object stay thrown =
+      let s = stay object thrown.object thrown.found in
+      record {
+        object = s.object;
+        found = s.found;
+        throwable = ap (λ (kind : Kind). is_throwable w.shapes kind.object) s.kind ∙ thrown.throwable;
+      }
+
+  given_still : (after : Heap TaggedValue) (r : ReturnType ClassName) (v : Option TaggedValue)
+      → KeepsObjects call.heap after → is_given w.shapes call.heap r v ≡ true → is_given w.shapes after r v ≡ true
+  given_still after Void None stay e = e
+  given_still after Void (Some v) stay e = e
+  given_still after (Value t) None stay e = e
+  given_still after (Value t) (Some v) stay e = type_still w.shapes call.heap after stay t v e
+
+  ending_still : (a : NativeAnswer Kept) (ending : Ending) → KeepsObjects call.heap a.heap → Ends ending
+      → EndsFit w call a given (end_of ending)
+  ending_still a NoResult stay e = given_still a.heap given.result None stay e
+  ending_still a (GivesWord n) stay e = given_still a.heap given.result (Some (Word n)) stay e
+  ending_still a (GivesReference n) stay e = given_still a.heap given.result (Some (reference n)) stay e
+  ending_still a (Throws object) stay e = thrown_still a.heap object stay e
+
+  writes_typed : (writes : List Write) → Writes writes → HeapTyped w.shapes (written Word call.heap writes)
+  writes_typed [] fits = fit.heap
+  writes_typed (x ∷ []) fits = write_typed w.shapes call.heap x fits fit.heap
+  writes_typed (x ∷ y ∷ writes) fits = absurd fits
+
+  no_space : Fits (Does (record { object = 9; from = 0; words = 2 ∷ [] } ∷ []) call.runtime (Throws 9))
+  no_space = (system_reason 9 2 system_leads (omega arith), (fit.fits, system_thrown))
+
+  done_fits : (touches : List _) (work : Work) → Fits work → Answers (done call touches work)
+  done_fits touches (Does writes k ending) fits = (
+    writes_typed writes fits.0,
+    (
+      kept_fits_still w call.heap (written Word call.heap writes) k (keeps_written call.heap writes) (fits.1).0,
+      ending_still (did call touches writes k ending) ending (keeps_written call.heap writes) (fits.1).1,
+    ),
+  )
+  done_fits touches (Makes array) fits = (
+    array_typed w.shapes call.heap call.active array fits.0 fit.heap,
+    (
+      kept_fits_still w call.heap (with_new call.heap (new_array call.active array)) call.runtime
+      (keeps_new call.heap (new_array call.active array)) fit.fits,
+      fits.1,
+    ),
+  )
+  done_fits touches (Asks q) fits = (fit.heap, (fit.fits, record {
+    caller = fits.caller;
+    caller_is = fits.caller_is;
+    static = fits.static;
+    member = fits.member;
+    member_is = fits.member_is;
+    virtual = fits.virtual;
+    object = fits.object;
+    there = fits.there;
+    below = fits.below;
+    signature = fits.signature;
+    declared = fits.declared;
+    arguments = fits.arguments;
+    result = fits.result;
+  }))
+
+  roomy_fits : (touches : List _) (work : Work) → Fits work
+      → Answers (done call touches (with_room call.limits.objects call.limits.cells call.heap call.runtime work))
+  roomy_fits touches (Does writes k ending) fits = done_fits touches (Does writes k ending) fits
+  roomy_fits touches (Makes array) fits = by_room (has_room call.limits.objects call.limits.cells call.heap array.size)
+    where
+      by_room : (b : Bool) → Answers (done call touches (array_or_refusal b array call.runtime))
+      by_room true = done_fits touches (Makes array) fits
+      by_room false =
+          done_fits touches (Does (record { object = 9; from = 0; words = 2 ∷ [] } ∷ []) call.runtime (Throws 9)) no_space
+  roomy_fits touches (Asks q) fits = done_fits touches (Asks q) fits
+
+  -- ---- what tests throw
+
+  abbrev Thrown : Option ℕ → Type 0
+  Thrown None = ⊤
+  Thrown (Some object) = IsThrown w call.heap object
+
+  verdict_thrown : (s : Seen) (way : Way) (number : ℕ) (v : Verdict) → Thrown (by_verdict s way number v).thrown
+  verdict_thrown s way number Allowed = tt
+  verdict_thrown s way number (AllowedSwitch owner) = tt
+  verdict_thrown s way number (Denied rule) = security_thrown
+
+  object_thrown : (s : Seen) (way : Way) (number : ℕ) (o : Option (Object ℕ)) → Thrown (on_object s way number o).thrown
+  object_thrown s way number None = null_thrown
+  object_thrown s way number (Some o) =
+      verdict_thrown s way number (verdict_of (access_of way) s.active.context (facts_of s o))
+
+  either_thrown : (b : Bool) (t u : Tested) → Thrown t.thrown → Thrown u.thrown → Thrown (cond b t u).thrown
+  either_thrown true t u p q = p
+  either_thrown false t u p q = q
+
+  used_thrown : (s : Seen) (way : Way) (number : ℕ) → Thrown (used s way number).thrown
+  used_thrown s way number = object_thrown s way number (object_at s.objects number)
+
+  test_thrown : (s : Seen) (arguments : List ℕ) (one : Test) → Thrown (test s arguments one).thrown
+  test_thrown s arguments tests.Nothing = tt
+  test_thrown s arguments (tests.Object place way) = used_thrown s way (argument arguments place)
+  test_thrown s arguments (tests.ObjectOrNull place way) =
+      either_thrown (argument arguments place == 0) passes (used s way (argument arguments place)) tt
+      (used_thrown s way (argument arguments place))
+  test_thrown s arguments tests.BesideAid =
+      either_thrown (is_aid_object s (argument arguments 0) && is_aid_object s (argument arguments 1))
+      (used s ways.Calls (argument arguments 1)) passes (used_thrown s ways.Calls (argument arguments 1)) tt
+
+  range_thrown : (s : Seen) (arguments : List ℕ) (r : Option Range) → Thrown (ranged s arguments r).thrown
+  range_thrown s arguments None = tt
+  range_thrown s arguments (Some r) =
+      either_thrown (is_in_range s arguments r) passes (fails 4) tt index_thrown
+
+  followed_thrown : (t u : Tested) → Thrown t.thrown → Thrown u.thrown → Thrown (followed t u).thrown
+  followed_thrown t u p q = by_thrown t.thrown p
+    where
+      by_thrown : (o : Option ℕ) → Thrown o → Thrown (goes_on t.touches o u).thrown
+      by_thrown (Some object) r = r
+      by_thrown None r = q
+
+  tested_thrown : (s : Seen) (arguments : List ℕ) (row : Row) → Thrown (tested s arguments row).thrown
+  tested_thrown s arguments row =
+      followed_thrown (test s arguments row.first) _ (test_thrown s arguments row.first)
+      (followed_thrown (test s arguments row.second) _ (test_thrown s arguments row.second)
+      (followed_thrown (ranged s arguments row.first_range) (ranged s arguments row.second_range)
+      (range_thrown s arguments row.first_range) (range_thrown s arguments row.second_range)))
+
+  ended_fits : (touches : List _) (thrown : Option ℕ) (work : Work) → Thrown thrown → Fits work
+      → Answers (ended call touches thrown work)
+  ended_fits touches (Some object) work thrown fits = (fit.heap, (fit.fits, thrown))
+  ended_fits touches None work thrown fits = roomy_fits touches work fits
+
+  -- ---- what members give
+
+  module _ (r : ReturnType ApiClass) (is : given.result ≡ return_map counted_name r) where
+    gives_as : (s : ReturnType ApiClass) → r ≡ s → (v : Option TaggedValue) (heap : Heap TaggedValue)
+        → is_given w.shapes heap (return_map counted_name s) v ≡ true → is_given w.shapes heap given.result v ≡ true
+    gives_as s e v heap f =
+        ap (λ x. is_given w.shapes heap x v) (is ∙ ap (return_map counted_name) e) ∙ f
+
+    void_ends : Gives suits.nothing r → Ends NoResult
+    void_ends g = gives_as Void g None call.heap refl
+
+    word_ends : (n : ℕ) → n < 65536 → Gives suits.word r → Ends (GivesWord n)
+    word_ends n small g = gives_as (Value g.0) g.1 (Some (Word n)) call.heap (by_type g.0 g.2)
+      where
+        by_type : (t : DeclaredType ApiClass) → is_word_type t ≡ true
+            → is_given w.shapes call.heap (Value (type_map counted_name t)) (Some (Word n)) ≡ true
+        by_type types.Boolean e = lt-ltb n 65536 small
+        by_type types.Byte e = lt-ltb n 65536 small
+        by_type types.Short e = lt-ltb n 65536 small
+        by_type (types.Reference c) e = absurd cc
+        by_type types.BooleanArray e = absurd cc
+        by_type types.ByteArray e = absurd cc
+        by_type types.ShortArray e = absurd cc
+        by_type (types.ReferenceArray c) e = absurd cc
+
+    null_ends : Gives suits.shareable r → Ends (GivesReference 0)
+    null_ends g = gives_as (Value (types.Reference api.Shareable)) g (Some Null) call.heap refl
+
+    buffer_ends : Gives suits.bytes r → Ends (GivesReference 12)
+    buffer_ends g =
+        let has = own_object call.heap 11 _ fit.runtime_objects refl in
+        gives_as (Value types.ByteArray) g (Some (Ref 12)) call.heap
+        (ap (λ o. option_map_or (λ (p : Object TaggedValue). is_byte_array p.kind.object) o false) has.found
+        ∙ ap is_byte_array has.type)
+
+  -- ---- AIDs of applets
+
+  reference_leads : (n : ℕ) → LeadsToClass w.shapes call.heap n (Api api.Aid)
+      → leads_to call.heap (is_of_class w.shapes (Api api.Aid)) (reference n) ≡ true
+  reference_leads n leads = by_null (n == 0)
+    where
+      by_null : (b : Bool) → leads_to call.heap (is_of_class w.shapes (Api api.Aid)) (cond b Null (Ref n)) ≡ true
+      by_null true = refl
+      by_null false =
+          ap (λ o. option_map_or (λ (p : Object TaggedValue). is_of_class w.shapes (Api api.Aid) p.kind.object) o false) leads.found
+          ∙ leads.below
+
+  instances_fit : list_all (fits_instance w.shapes call.heap) call.runtime.instances ≡ true
+  instances_fit =
+      (both (list_all (fits_instance w.shapes call.heap) call.runtime.instances)
+      (option_map_or fits_installing call.runtime.installing true)
+      (both (list_all (fits_instance w.shapes call.heap) call.runtime.instances
+      && option_map_or fits_installing call.runtime.installing true) (fits_command call.runtime) fit.fits).0).0
+
+  installing_fits : option_map_or fits_installing call.runtime.installing true ≡ true
+  installing_fits =
+      (both (list_all (fits_instance w.shapes call.heap) call.runtime.instances)
+      (option_map_or fits_installing call.runtime.installing true)
+      (both (list_all (fits_instance w.shapes call.heap) call.runtime.instances
+      && option_map_or fits_installing call.runtime.installing true) (fits_command call.runtime) fit.fits).0).1
+
+  command_fits : fits_command call.runtime ≡ true
+  command_fits =
+      (both (list_all (fits_instance w.shapes call.heap) call.runtime.instances
+      && option_map_or fits_installing call.runtime.installing true) (fits_command call.runtime) fit.fits).1
+
+  instance_number : (i : Instance) → fits_instance w.shapes call.heap i ≡ true → is_instance_number i.owner.instance ≡ true
+  instance_number i e =
+      (both (is_aid i.aid) (is_instance_number i.owner.instance)
+      (both (is_aid i.aid && is_instance_number i.owner.instance)
+      (option_map_or (has_applet w.shapes i) (object_at call.heap i.object) false) e).0).1
+
+  aid_reference : (p : Instance → Bool) (o : Option Instance) → find p call.runtime.instances ≡ o
+      → leads_to call.heap (is_of_class w.shapes (Api api.Aid)) (reference (aid_of o)) ≡ true
+  aid_reference p None e = refl
+  aid_reference p (Some i) e =
+      reference_leads (13 + i.owner.instance)
+      (aid_leads i.owner.instance
+      (instance_number i (found_fits w.shapes call.heap p call.runtime.instances i instances_fit e)))
+
+  owner_reference : (owner : Option Owner)
+      → leads_to call.heap (is_of_class w.shapes (Api api.Aid)) (reference (aid_of_owner call.runtime owner)) ≡ true
+  owner_reference None = refl
+  owner_reference (Some owner) =
+      aid_reference (λ (i : Instance). is_same_owner i.owner owner) (instance_of call.runtime.instances owner) refl

@@ -11,3 +11,4 @@ mod ApiTypes
 mod Tables
 mod Suits
 mod Facts
+mod Fits

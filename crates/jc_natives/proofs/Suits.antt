@@ -33,7 +33,7 @@ pub data Result : Type 0 where
   aid : Result
   shareable : Result
 
-abbrev is_word_type : DeclaredType ApiClass → Bool
+abbrev pub is_word_type : DeclaredType ApiClass → Bool
 is_word_type types.Boolean = true
 is_word_type types.Byte = true
 is_word_type types.Short = true

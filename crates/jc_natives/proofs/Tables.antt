@@ -102,7 +102,7 @@ module _ (world : List Shape) (there : (c : ApiClass) → StandsThere world c) w
       (option_map_or (cells_within n) (tables.superclass_of c) 0) (tables.size_of c) above (own_blank c)
 
   -- which class of the API is below which
-  above_is : (n : ℕ) (d c : ApiClass) → is_at_or_above world n (Api d) (Api c) ≡ above_in n d c
+  pub above_is : (n : ℕ) (d c : ApiClass) → is_at_or_above world n (Api d) (Api c) ≡ above_in n d c
   above_is zero d c = refl
   above_is (suc n) d c =
       ap (λ o. is_same_name (Api c) (Api d) || option_map_or (is_at_or_above world n (Api d)) o false) (there c).superclass

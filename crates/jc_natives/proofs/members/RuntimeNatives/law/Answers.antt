@@ -1,5 +1,6 @@
 use Rattle.jc_natives.proofs.ApiTypes.{is_declared}
 use Rattle.jc_natives.proofs.Facts.{own_aid, found_fits}
+use Rattle.jc_natives.proofs.Fits.{two_are}
 use Rattle.jc_natives.proofs.Guarding.{answers_guarded}
 use Rattle.jc_natives.proofs.Keeping.{array_typed, kept_fits_still, write_typed}
 use Rattle.jc_natives.proofs.Suits.{suits}

@@ -1,7 +1,7 @@
 -- Native members keep objects typed and what the runtime keeps fitting, and end as they are declared to.
 use Rattle.std.specs.Prelude.{⊤}
 use Rattle.std.proofs.Common.{◌≡◌, ◌≢◌, ◌⊎◌, inl, inr, ℕ, zero, suc, ◌+◌, ◌<◌, ◌≤◌, ◌==◌, ◌&&◌, ◌||◌, not, Bool, true, false, cond, List, [], ◌∷◌, ◌++◌, length, map, get_or, replicate, slice_get, nat_le, nat_lt, is_some, unwrap_or, Option, Some, None, refl, sym, ap, subst, ◌∙◌, arith}
-use Rattle.std.proofs.lemmas.Bool.{eqb-true, leb-true, lt-ltb, ltb-true, le-leb}
+use Rattle.std.proofs.lemmas.Bool.{eq-eqb, eqb-true, leb-true, lt-ltb, ltb-true, le-leb}
 use Rattle.std.proofs.lemmas.Option.{none-some, same_Some}
 use Rattle.std.specs.List.{find, list_all}
 use Rattle.std.specs.Option.{option_and_then, option_map, option_map_or}
@@ -17,13 +17,13 @@ use Rattle.jc_base.specs.declared.declared_type.ReturnType.{ReturnType}
 use Rattle.jc_base.specs.declared.declared_type.ReturnType.TheVariants.{Void, Value}
 use Rattle.jc_classes.specs.Subtype.{comes_to_end, is_at_or_above, is_class_below}
 use Rattle.jc_classes.specs.Walk.{most_classes}
-use Rattle.jc_firewall.specs.Verdict.{verdict_of}
+use Rattle.jc_firewall.specs.Verdict.{runtime, verdict_of}
 use Rattle.jc_firewall.specs.declared.access.Verdict.{Verdict}
 use Rattle.jc_firewall.specs.declared.access.Verdict.TheVariants.{Allowed, AllowedSwitch, Denied}
 use Rattle.jc_link.specs.ApiClasses.{StandsThere, cells_within}
 use Rattle.jc_link.specs.Linked.{World}
 use Rattle.jc_machine.specs.Calls.{native_type, type_of_member}
-use Rattle.jc_machine.specs.Lookup.{are_of_types, is_byte_array, is_given, is_of_class, is_throwable, leads_to}
+use Rattle.jc_machine.specs.Lookup.{are_of_types, is_byte_array, is_given, is_of_class, is_of_type, is_throwable, leads_to}
 use Rattle.jc_machine.specs.Machine.{Calls, Gives as GivesEnd, NativeAnswer, NativeCall, NativeEnd, ThrowsObject}
 use Rattle.jc_machine.specs.Natives.{EndsFit, IsFitAnswer, IsFitCall, IsFitCallback, IsThrown, KeepsObjects}
 use Rattle.jc_machine.specs.Runtime.{HasRuntimeObject, HasRuntimeObjects, RuntimeObject}
@@ -43,12 +43,13 @@ use Rattle.jc_natives.proofs.Simulation.{passed_some}
 use Rattle.jc_natives.proofs.Suits as suits
 use Rattle.jc_natives.proofs.Suits.{Gives, HasObject, HasReason, IsBytes, Suits, is_word_type}
 use Rattle.jc_natives.proofs.Tables.{above_in, above_is, aid_cells, below_is, below_reason, blank_at, reason_cells}
+use Rattle.jc_natives.specs.Applets.{allowed, may_register, on_allowed, owner_of, registers, registers_range}
 use Rattle.jc_natives.specs.Cells as cells
-use Rattle.jc_natives.specs.Cells.{Write, aid_bytes, aid_count, argument, bit, byte_of, bytes_of, cell_of, extended, has_room, low, order_of, word_of_bytes, written}
-use Rattle.jc_natives.specs.Kept.{Kept, are_bytes, has_aid_length, instance_of, instance_with, is_aid, is_instance_number, is_same_owner, with_instance}
+use Rattle.jc_natives.specs.Cells.{Write, aid_bytes, aid_count, argument, bare, bared, bit, byte_of, bytes_of, cell_of, extended, has_room, is_count, low, order_of, word_of_bytes, written}
+use Rattle.jc_natives.specs.Kept.{Kept, are_bytes, has_aid_length, instance_of, instance_with, is_aid, is_instance_number, is_same_owner, now_registered, with_instance}
 use Rattle.jc_natives.specs.Meaning.{array_or_refusal, asked, begun, did, done, end_of, ended, fits_command, fits_installing, fits_instance, fits_kept, has_applet, made, meaning, new_array, reference, unchanged, with_room, work_of}
 use Rattle.jc_natives.specs.Seen.{Seen, arguments_of, is_aid_object, seen_of}
-use Rattle.jc_natives.specs.System.{aid_of, aid_of_owner}
+use Rattle.jc_natives.specs.System.{aid_of, aid_of_owner, asks, event_of, makes, may_make}
 use Rattle.jc_natives.specs.Tests.{Tested, access_of, by_verdict, facts_of, fails, followed, goes_on, is_in_range, on_object, passes, ranged, test, tested, used}
 use Rattle.jc_natives.specs.Work.{Asks, Does, Ending, GivesReference, GivesWord, Makes, NewArray, NoResult, Throws, Work, array_type}
 use Rattle.jc_natives.specs.declared.ended.Question.{Question}
@@ -63,6 +64,7 @@ use Rattle.jc_natives.specs.declared.row.Test.TheVariants as tests
 use Rattle.jc_natives.specs.declared.row.Way.{Way}
 use Rattle.jc_natives.specs.declared.row.Way.TheVariants as ways
 use Rattle.jc_store.specs.Heap.{Heap, Object, next_number, object_at, with_new}
+use Rattle.jc_store.specs.declared.kind.ClearingEvent.{ClearingEvent}
 use Rattle.jc_store.specs.declared.kind.Kind.{Kind}
 use Rattle.jc_store.specs.declared.kind.ObjectType.{ObjectType}
 use Rattle.jc_store.specs.declared.kind.ObjectType.TheVariants.{BooleanArray, ByteArray, Instance as OfClass, ReferenceArray, ShortArray}
@@ -545,3 +547,160 @@ module _ (w : World) (call : NativeCall Kept) (there : (c : ApiClass) → Stands
   owner_reference None = refl
   owner_reference (Some owner) =
       aid_reference (λ (i : Instance). is_same_owner i.owner owner) (instance_of call.runtime.instances owner) refl
+
+  -- ---- exceptions with a reason
+
+  system_throw : (reason : ℕ) → reason < 65536
+      → Fits (Does (record { object = 9; from = 0; words = reason ∷ [] } ∷ []) call.runtime (Throws 9))
+  system_throw reason small = (system_reason 9 reason system_leads small, (fit.fits, system_thrown))
+
+  apdu_throw : (reason : ℕ) → reason < 65536
+      → Fits (Does (record { object = 10; from = 0; words = reason ∷ [] } ∷ []) call.runtime (Throws 10))
+  apdu_throw reason small = (apdu_reason 10 reason apdu_leads small, (fit.fits, apdu_thrown))
+
+  iso_throw : (reason : ℕ) → reason < 65536
+      → Fits (Does (record { object = 8; from = 0; words = reason ∷ [] } ∷ []) call.runtime (Throws 8))
+  iso_throw reason small = (iso_reason 8 reason iso_leads small, (fit.fits, iso_thrown))
+
+  throw_fits : (object n : ℕ) → n < 65536 → (object ≡ 8) ⊎ ((object ≡ 9) ⊎ (object ≡ 10))
+      → Fits (Does (record { object = object; from = 0; words = n ∷ [] } ∷ []) call.runtime (Throws object))
+  throw_fits object n small (inl e) =
+      subst (λ o. Fits (Does (record { object = o; from = 0; words = n ∷ [] } ∷ []) call.runtime (Throws o))) (sym e)
+      (iso_throw n small)
+  throw_fits object n small (inr (inl e)) =
+      subst (λ o. Fits (Does (record { object = o; from = 0; words = n ∷ [] } ∷ []) call.runtime (Throws o))) (sym e)
+      (system_throw n small)
+  throw_fits object n small (inr (inr e)) =
+      subst (λ o. Fits (Does (record { object = o; from = 0; words = n ∷ [] } ∷ []) call.runtime (Throws o))) (sym e)
+      (apdu_throw n small)
+
+  -- ---- registration
+
+  listed_behind : (is : List Instance) (i : Instance) → list_all (fits_instance w.shapes call.heap) is ≡ true
+      → fits_instance w.shapes call.heap i ≡ true → list_all (fits_instance w.shapes call.heap) (is ++ i ∷ []) ≡ true
+  listed_behind [] i e f = both_are (fits_instance w.shapes call.heap i) true f refl
+  listed_behind (x ∷ is) i e f =
+      let b = both (fits_instance w.shapes call.heap x) (list_all (fits_instance w.shapes call.heap) is) e in
+      both_are (fits_instance w.shapes call.heap x) (list_all (fits_instance w.shapes call.heap) (is ++ i ∷ [])) b.0
+      (listed_behind is i b.1 f)
+
+  still_installing : (o : Option Installing) → option_map_or fits_installing o true ≡ true
+      → option_map_or fits_installing (option_map now_registered o) true ≡ true
+  still_installing None e = refl
+  still_installing (Some i) e = e
+
+  registered_fits : (i : Instance) → fits_instance w.shapes call.heap i ≡ true
+      → fits_kept w call.heap (with_instance call.runtime i) ≡ true
+  registered_fits i e =
+      both_are
+      (list_all (fits_instance w.shapes call.heap) (call.runtime.instances ++ i ∷ [])
+      && option_map_or fits_installing (option_map now_registered call.runtime.installing) true)
+      (fits_command call.runtime)
+      (both_are (list_all (fits_instance w.shapes call.heap) (call.runtime.instances ++ i ∷ []))
+      (option_map_or fits_installing (option_map now_registered call.runtime.installing) true)
+      (listed_behind call.runtime.instances i instances_fit e)
+      (still_installing call.runtime.installing installing_fits)) command_fits
+
+  itself : (n : ℕ) → (n == n) ≡ true
+  itself n = eq-eqb n n refl
+
+  -- the instance that is being installed, where it may register
+  record May (object : ℕ) (i : Installing) : Type 0 where
+    fits : fits_installing i ≡ true
+    number : ((owner_of (bared call.heap) object).instance == i.owner.instance) ≡ true
+
+  may_of : (object : ℕ) (o : Option Installing) (i : Installing) → option_map_or fits_installing o true ≡ true
+      → allowed (seen_of w call) object o ≡ Some i → May object i
+  may_of object None i e f = absurd (none-some i f)
+  may_of object (Some j) i e f = by_test (may_register (seen_of w call) object j) refl f
+    where
+      by_test : (b : Bool) → may_register (seen_of w call) object j ≡ b → cond b (Some j) None ≡ Some i → May object i
+      by_test true g h =
+          subst (May object) (same_Some j i h) (record {
+            fits = e;
+            number = (both (not j.registered) ((owner_of (bared call.heap) object).instance == j.owner.instance) g).1;
+          })
+      by_test false g h = absurd (none-some i h)
+
+  new_instance : (object : ℕ) (aid : List ℕ) (i : Installing) → May object i → is_aid aid ≡ true
+      → LeadsToClass w.shapes call.heap object (Api api.Applet)
+      → fits_instance w.shapes call.heap (record { aid = aid; object = object; owner = owner_of (bared call.heap) object }) ≡ true
+  new_instance object aid i may whole leads =
+      let owner : owner_of (bared call.heap) object ≡ (leads.object).owner =
+      ap (λ o. option_map_or (λ (p : Object ℕ). p.owner) o runtime) (bare_object call.heap object)
+      ∙ ap (λ o. option_map_or (λ (p : Object ℕ). p.owner) (option_map bare o) runtime) leads.found in
+      let own = owner_of (bared call.heap) object in
+      let number = (both (is_aid i.aid) (is_instance_number i.owner.instance) may.fits).1 in
+      both_are (is_aid aid && is_instance_number own.instance) _
+      (both_are (is_aid aid) (is_instance_number own.instance) whole
+      (ap is_instance_number (eqb-true own.instance i.owner.instance may.number) ∙ number))
+      (ap (λ o. option_map_or (λ (p : Object TaggedValue). is_of_class w.shapes (Api api.Applet) p.kind.object && is_same_owner p.owner own) o false) leads.found
+      ∙ both_are (is_of_class w.shapes (Api api.Applet) (leads.object).kind.object) (is_same_owner (leads.object).owner own)
+      leads.below
+      (ap (λ x. is_same_owner x own) (sym owner)
+      ∙ both_are (own.context == own.context) (own.instance == own.instance) (itself own.context) (itself own.instance)))
+
+  module _ (r : ReturnType ApiClass) (is : given.result ≡ return_map counted_name r) where
+    registers_fit : (object : ℕ) (aid : List ℕ) (i : Installing) → May object i → is_aid aid ≡ true
+        → LeadsToClass w.shapes call.heap object (Api api.Applet) → Gives suits.nothing r
+        → Fits (registers (seen_of w call) call.runtime i.owner.instance object aid)
+    registers_fit object aid i may whole leads g =
+        let number = (both (is_aid i.aid) (is_instance_number i.owner.instance) may.fits).1 in
+        let parts = both (has_aid_length (length aid)) (are_bytes aid) whole in
+        let short = leb-true (length aid) 16 (both (nat_le 5 (length aid)) (nat_le (length aid) 16) parts.0).1 in
+        either_fits (not (is_some (instance_with call.runtime.instances aid)) && nat_lt (length call.runtime.instances) 32) _ _
+        (λ e. (
+          aid_written (13 + i.owner.instance) aid (aid_leads i.owner.instance number) short parts.1,
+          (registered_fits _ (new_instance object aid i may whole leads), void_ends r is g),
+        ))
+        (system_throw 4 (omega arith))
+
+    on_allowed_fits : (object : ℕ) (go : Installing → Work) → ((i : Installing) → May object i → Fits (go i))
+        → Fits (on_allowed call.runtime (allowed (seen_of w call) object call.runtime.installing) go)
+    on_allowed_fits object go each = by_option (allowed (seen_of w call) object call.runtime.installing) refl
+      where
+        by_option : (o : Option Installing) → allowed (seen_of w call) object call.runtime.installing ≡ o
+            → Fits (on_allowed call.runtime o go)
+        by_option None e = system_throw 4 (omega arith)
+        by_option (Some i) e = each i (may_of object call.runtime.installing i installing_fits e)
+
+    installing_aid : (object : ℕ) (i : Installing) → May object i → is_aid i.aid ≡ true
+    installing_aid object i may = (both (is_aid i.aid) (is_instance_number i.owner.instance) may.fits).0
+
+    range_aid : (number at count : ℕ) → has_aid_length count ≡ true → is_aid (bytes_of (bared call.heap) number at count) ≡ true
+    range_aid number at count e =
+        both_are (has_aid_length (length (bytes_of (bared call.heap) number at count))) _
+        (ap has_aid_length (length_of_bytes (bared call.heap) number at count) ∙ e)
+        (bytes_are (bared call.heap) number at count)
+
+    -- ---- transient arrays
+
+    new_found : (heap : Heap TaggedValue) (o : Object TaggedValue) → object_at (heap ++ o ∷ []) (next_number heap) ≡ Some o
+    new_found [] o = refl
+    new_found (p ∷ heap) o = new_found heap o
+
+    abbrev MadeGiven : NewArray → Type 0
+    MadeGiven array = is_given w.shapes (with_new call.heap (new_array call.active array)) given.result
+        (Some (Ref (next_number call.heap))) ≡ true
+
+    made_given : (array : NewArray) (t : DeclaredType ApiClass) (test : ObjectType → Bool) → r ≡ Value t
+        → is_of_type w.shapes (with_new call.heap (new_array call.active array)) (type_map counted_name t)
+        (Ref (next_number call.heap))
+        ≡ option_map_or (λ (o : Object TaggedValue). test o.kind.object)
+        (object_at (with_new call.heap (new_array call.active array)) (next_number call.heap)) false
+        → test (array_type array.elements) ≡ true → MadeGiven array
+    made_given array t test g same e =
+        gives_as r is (Value t) g (Some (Ref (next_number call.heap))) (with_new call.heap (new_array call.active array))
+        (same ∙ ap (λ o. option_map_or (λ (o : Object TaggedValue). test o.kind.object) o false)
+        (new_found call.heap (new_array call.active array)) ∙ e)
+
+    makes_fit : (elements : Elements) (size : ℕ) (event : Option ClearingEvent)
+        → ((event : ClearingEvent) → MadeGiven (record { elements = elements; event = event; size = size }))
+        → Fits (makes (seen_of w call) call.runtime elements size event)
+    makes_fit elements size None given_so = system_throw 1 (omega arith)
+    makes_fit elements size (Some event) given_so =
+        either_fits (may_make (seen_of w call) event) _ _
+        (λ e. either_fits (is_count size) _ _
+        (λ f. let low = ltb-true size 32768 f in (omega (arith, low), given_so event))
+        (tt, (fit.fits, size_thrown)))
+        (system_throw 3 (omega arith))

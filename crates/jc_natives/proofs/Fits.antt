@@ -947,16 +947,20 @@ module _ (w : World) (call : NativeCall Kept) (there : (c : ApiClass) → Stands
         (instance_with k.instances (aid_bytes o (argument args 0))) refl g.0 g.1
     system_fits system.MakeBooleans g =
         makes_fit m.signature.result is elements.Booleans (argument args 0) (event_of (extended (argument args 1)))
-        (λ event. made_given m.signature.result is _ types.BooleanArray is_boolean_array g refl refl)
+        (λ event. made_given m.signature.result is
+        (record { elements = elements.Booleans; event = event; size = argument args 0 }) types.BooleanArray is_boolean_array g refl refl)
     system_fits system.MakeBytes g =
         makes_fit m.signature.result is elements.Bytes (argument args 0) (event_of (extended (argument args 1)))
-        (λ event. made_given m.signature.result is _ types.ByteArray is_byte_array g refl refl)
+        (λ event. made_given m.signature.result is
+        (record { elements = elements.Bytes; event = event; size = argument args 0 }) types.ByteArray is_byte_array g refl refl)
     system_fits system.MakeShorts g =
         makes_fit m.signature.result is elements.Shorts (argument args 0) (event_of (extended (argument args 1)))
-        (λ event. made_given m.signature.result is _ types.ShortArray is_short_array g refl refl)
+        (λ event. made_given m.signature.result is
+        (record { elements = elements.Shorts; event = event; size = argument args 0 }) types.ShortArray is_short_array g refl refl)
     system_fits system.MakeReferences g =
         makes_fit m.signature.result is elements.References (argument args 0) (event_of (extended (argument args 1)))
-        (λ event. made_given m.signature.result is _ (types.ReferenceArray api.Object)
+        (λ event. made_given m.signature.result is
+        (record { elements = elements.References; event = event; size = argument args 0 }) (types.ReferenceArray api.Object)
         (λ object. option_map_or (λ e. is_class_below w.shapes (counted w.shapes e) (Api api.Object)) (component_class object) false)
         g refl refl)
 

@@ -12,3 +12,4 @@ mod Tables
 mod Suits
 mod Facts
 mod Fits
+mod Law

@@ -1,15 +1,7 @@
-use Rattle.jc_natives.proofs.ApiTypes.{is_declared}
-use Rattle.jc_natives.proofs.Facts.{own_aid, found_fits}
-use Rattle.jc_natives.proofs.Fits.{two_are}
-use Rattle.jc_natives.proofs.Guarding.{answers_guarded}
-use Rattle.jc_natives.proofs.Keeping.{array_typed, kept_fits_still, write_typed}
-use Rattle.jc_natives.proofs.Suits.{suits}
-use Rattle.jc_natives.proofs.Tables.{below_is}
+use Rattle.jc_natives.proofs.Law.{lawful}
 use Rattle.jc_natives.proofs.members.RuntimeNatives.law.Goals as goal
 
 pub returns : goal.returns
-returns c = record {
-  guarded = answers_guarded;
-  fit = ?;
-  stable = kept_fits_still;
-}
+returns c =
+    lawful c.growing_keeps_lookups.ensures.kept c.growing_keeps_linking.ensures.kept
+    c.built_worlds_have_the_api.ensures c.built_worlds_are_sound.ensures

@@ -154,9 +154,10 @@ blank_fit : (world : List Shape) (c : ClassName) (from : ℕ) (words : List ℕ)
 blank_fit world c from [] blank h e = tt
 blank_fit world c from (x ∷ words) blank h e =
     let s = both (nat_lt x 256) (are_bytes words) e in
-    let small = ltb-true x 256 s.0 in
-    ((blank from (omega (arith, h)), omega (arith, small)),
-    blank_fit world c (from + 1) words blank (omega (arith, h)) s.1)
+    let small = ltb-true x 256 s.0 in (
+      (blank from (omega (arith, h)), omega (arith, small)),
+      blank_fit world c (from + 1) words blank (omega (arith, h)) s.1,
+    )
 
 -- ---- a call that fits
 
@@ -395,25 +396,31 @@ module _ (w : World) (call : NativeCall Kept) (there : (c : ApiClass) → Stands
     array_typed w.shapes call.heap call.active array fits.0 fit.heap,
     (
       kept_fits_still w call.heap (with_new call.heap (new_array call.active array)) call.runtime
-      (keeps_new call.heap (new_array call.active array)) fit.fits,
+          (keeps_new call.heap (new_array call.active array)) fit.fits,
       fits.1,
     ),
   )
-  done_fits touches (Asks q) fits = (fit.heap, (fit.fits, record {
-    caller = fits.caller;
-    caller_is = fits.caller_is;
-    static = fits.static;
-    member = fits.member;
-    member_is = fits.member_is;
-    virtual = fits.virtual;
-    object = fits.object;
-    there = fits.there;
-    below = fits.below;
-    signature = fits.signature;
-    declared = fits.declared;
-    arguments = fits.arguments;
-    result = fits.result;
-  }))
+  done_fits touches (Asks q) fits = (
+    fit.heap,
+    (
+      fit.fits,
+      record {
+        caller = fits.caller;
+        caller_is = fits.caller_is;
+        static = fits.static;
+        member = fits.member;
+        member_is = fits.member_is;
+        virtual = fits.virtual;
+        object = fits.object;
+        there = fits.there;
+        below = fits.below;
+        signature = fits.signature;
+        declared = fits.declared;
+        arguments = fits.arguments;
+        result = fits.result;
+      },
+    ),
+  )
 
   roomy_fits : (touches : List _) (work : Work) → Fits work
       → Answers (done call touches (with_room call.limits.objects call.limits.cells call.heap call.runtime work))
@@ -736,270 +743,270 @@ module _ (w : World) (call : NativeCall Kept) (there : (c : ApiClass) → Stands
       (asking_class : asking.class ≡ api.Applet) (asking_kind : asking.kind ≡ Virtual)
       (asking_signature : signature_map counted_name asking.signature
       ≡ record { parameters = types.Reference (Api api.Aid) ∷ types.Byte ∷ []; result = Value (types.Reference (Api api.Object)) })
-      where
-    abbrev s : Seen
-    s = seen_of w call
+    where
+      abbrev s : Seen
+      s = seen_of w call
 
-    abbrev args : List ℕ
-    args = arguments_of call
+      abbrev args : List ℕ
+      args = arguments_of call
 
-    abbrev k : Kept
-    k = call.runtime
+      abbrev k : Kept
+      k = call.runtime
 
-    abbrev o : Heap ℕ
-    o = bared call.heap
+      abbrev o : Heap ℕ
+      o = bared call.heap
 
-    nothing_given : Gives suits.nothing m.signature.result → Fits (Does [] k NoResult)
-    nothing_given g = (tt, (fit.fits, void_ends m.signature.result is g))
+      nothing_given : Gives suits.nothing m.signature.result → Fits (Does [] k NoResult)
+      nothing_given g = (tt, (fit.fits, void_ends m.signature.result is g))
 
-    word_given : (n : ℕ) → n < 65536 → Gives suits.word m.signature.result → Fits (Does [] k (GivesWord n))
-    word_given n small g = (tt, (fit.fits, word_ends m.signature.result is n small g))
+      word_given : (n : ℕ) → n < 65536 → Gives suits.word m.signature.result → Fits (Does [] k (GivesWord n))
+      word_given n small g = (tt, (fit.fits, word_ends m.signature.result is n small g))
 
-    null_given : Gives suits.shareable m.signature.result → Fits (Does [] k (GivesReference 0))
-    null_given g = (tt, (fit.fits, null_ends m.signature.result is g))
+      null_given : Gives suits.shareable m.signature.result → Fits (Does [] k (GivesReference 0))
+      null_given g = (tt, (fit.fits, null_ends m.signature.result is g))
 
-    aid_given : (n : ℕ) → leads_to call.heap (is_of_class w.shapes (Api api.Aid)) (reference n) ≡ true
-        → Gives suits.aid m.signature.result → Fits (Does [] k (GivesReference n))
-    aid_given n leads g =
-        (tt, (fit.fits, gives_as m.signature.result is (Value (types.Reference api.Aid)) g (Some (reference n)) call.heap leads))
+      aid_given : (n : ℕ) → leads_to call.heap (is_of_class w.shapes (Api api.Aid)) (reference n) ≡ true
+          → Gives suits.aid m.signature.result → Fits (Does [] k (GivesReference n))
+      aid_given n leads g =
+          (tt, (fit.fits, gives_as m.signature.result is (Value (types.Reference api.Aid)) g (Some (reference n)) call.heap leads))
 
-    -- the object of a member
-    object_is : (c : ApiClass) → HasObject m c → LeadsToClass w.shapes call.heap (argument args 0) (Api c)
-    object_is c has =
-        subst (λ d. LeadsToClass w.shapes call.heap (argument args 0) (Api d)) has.1
-        (object_class w.shapes call.heap m call.arguments typed has.0)
+      -- the object of a member
+      object_is : (c : ApiClass) → HasObject m c → LeadsToClass w.shapes call.heap (argument args 0) (Api c)
+      object_is c has =
+          subst (λ d. LeadsToClass w.shapes call.heap (argument args 0) (Api d)) has.1
+          (object_class w.shapes call.heap m call.arguments typed has.0)
 
-    reason_is : (n : ℕ) → n < 65536 → HasReason m
-        → FitsWrite w.shapes call.heap (record { object = argument args 0; from = 0; words = n ∷ [] })
-    reason_is n small has = by_class has.1
-      where
-        leads : (c : ApiClass) → m.class ≡ c → LeadsToClass w.shapes call.heap (argument args 0) (Api c)
-        leads c e =
-            subst (λ d. LeadsToClass w.shapes call.heap (argument args 0) (Api d)) e
-            (object_class w.shapes call.heap m call.arguments typed has.0)
+      reason_is : (n : ℕ) → n < 65536 → HasReason m
+          → FitsWrite w.shapes call.heap (record { object = argument args 0; from = 0; words = n ∷ [] })
+      reason_is n small has = by_class has.1
+        where
+          leads : (c : ApiClass) → m.class ≡ c → LeadsToClass w.shapes call.heap (argument args 0) (Api c)
+          leads c e =
+              subst (λ d. LeadsToClass w.shapes call.heap (argument args 0) (Api d)) e
+              (object_class w.shapes call.heap m call.arguments typed has.0)
 
-        by_class : (m.class ≡ api.CardRuntimeException)
-            ⊎ ((m.class ≡ api.IsoException) ⊎ ((m.class ≡ api.SystemException) ⊎ (m.class ≡ api.ApduException)))
-            → FitsWrite w.shapes call.heap (record { object = argument args 0; from = 0; words = n ∷ [] })
-        by_class (inl e) = runtime_reason (argument args 0) n (leads api.CardRuntimeException e) small
-        by_class (inr (inl e)) = iso_reason (argument args 0) n (leads api.IsoException e) small
-        by_class (inr (inr (inl e))) = system_reason (argument args 0) n (leads api.SystemException e) small
-        by_class (inr (inr (inr e))) = apdu_reason (argument args 0) n (leads api.ApduException e) small
+          by_class : (m.class ≡ api.CardRuntimeException)
+              ⊎ ((m.class ≡ api.IsoException) ⊎ ((m.class ≡ api.SystemException) ⊎ (m.class ≡ api.ApduException)))
+              → FitsWrite w.shapes call.heap (record { object = argument args 0; from = 0; words = n ∷ [] })
+          by_class (inl e) = runtime_reason (argument args 0) n (leads api.CardRuntimeException e) small
+          by_class (inr (inl e)) = iso_reason (argument args 0) n (leads api.IsoException e) small
+          by_class (inr (inr (inl e))) = system_reason (argument args 0) n (leads api.SystemException e) small
+          by_class (inr (inr (inr e))) = apdu_reason (argument args 0) n (leads api.ApduException e) small
 
-    reason_set : (n : ℕ) → n < 65536 → Gives suits.nothing m.signature.result → HasReason m
-        → Fits (Does (record { object = argument args 0; from = 0; words = n ∷ [] } ∷ []) k NoResult)
-    reason_set n small g has = (reason_is n small has, (fit.fits, void_ends m.signature.result is g))
+      reason_set : (n : ℕ) → n < 65536 → Gives suits.nothing m.signature.result → HasReason m
+          → Fits (Does (record { object = argument args 0; from = 0; words = n ∷ [] } ∷ []) k NoResult)
+      reason_set n small g has = (reason_is n small has, (fit.fits, void_ends m.signature.result is g))
 
-    -- ---- by class
+      -- ---- by class
 
-    object_fits : (native : ObjectNative) → Suits (OfObject native) m → Fits (object_work s k args native)
-    object_fits objects.Construct g = nothing_given g
-    object_fits objects.Equals g = word_given _ (bit_is (equals s (argument args 0) (argument args 1))) g
-    object_fits objects.ConstructWithReason g =
-        reason_set (cells.word (argument args 1)) (word_is (argument args 1)) g.0 g.1
-    object_fits objects.GetReason g = word_given _ (word_is (cell_of o (argument args 0) 0)) g
-    object_fits objects.SetReason g = reason_set (cells.word (argument args 1)) (word_is (argument args 1)) g.0 g.1
-    object_fits (objects.ThrowIt object) g =
-        throw_fits object (cells.word (argument args 0)) (word_is (argument args 0)) g.1
+      object_fits : (native : ObjectNative) → Suits (OfObject native) m → Fits (object_work s k args native)
+      object_fits objects.Construct g = nothing_given g
+      object_fits objects.Equals g = word_given _ (bit_is (equals s (argument args 0) (argument args 1))) g
+      object_fits objects.ConstructWithReason g =
+          reason_set (cells.word (argument args 1)) (word_is (argument args 1)) g.0 g.1
+      object_fits objects.GetReason g = word_given _ (word_is (cell_of o (argument args 0) 0)) g
+      object_fits objects.SetReason g = reason_set (cells.word (argument args 1)) (word_is (argument args 1)) g.0 g.1
+      object_fits (objects.ThrowIt object) g =
+          throw_fits object (cells.word (argument args 0)) (word_is (argument args 0)) g.1
 
-    constructs_fit : (array offset count : ℕ) → HasObject m api.Aid → Gives suits.nothing m.signature.result
-        → Fits (constructs s k (argument args 0) array offset count)
-    constructs_fit array offset count has g =
-        either_fits (has_aid_length count) _ _ (λ e. (written_so e, (fit.fits, void_ends m.signature.result is g)))
-        (system_throw 1 (omega arith))
-      where
-        written_so : has_aid_length count ≡ true
-            → FitsWrite w.shapes call.heap (record { object = argument args 0; from = 0; words = count ∷ bytes_of o array offset count })
-        written_so e =
-            let high = leb-true count 16 (both (nat_le 5 count) (nat_le count 16) e).1 in
-            let count_is = length_of_bytes o array offset count in
-            subst (λ n. FitsWrite w.shapes call.heap (record { object = argument args 0; from = 0; words = n ∷ bytes_of o array offset count }))
-            count_is
-            (aid_written (argument args 0) (bytes_of o array offset count) (object_is api.Aid has)
-            (omega (arith, high, count_is)) (bytes_are o array offset count))
+      constructs_fit : (array offset count : ℕ) → HasObject m api.Aid → Gives suits.nothing m.signature.result
+          → Fits (constructs s k (argument args 0) array offset count)
+      constructs_fit array offset count has g =
+          either_fits (has_aid_length count) _ _ (λ e. (written_so e, (fit.fits, void_ends m.signature.result is g)))
+          (system_throw 1 (omega arith))
+        where
+          written_so : has_aid_length count ≡ true
+              → FitsWrite w.shapes call.heap (record { object = argument args 0; from = 0; words = count ∷ bytes_of o array offset count })
+          written_so e =
+              let high = leb-true count 16 (both (nat_le 5 count) (nat_le count 16) e).1 in
+              let count_is = length_of_bytes o array offset count in
+              subst (λ n. FitsWrite w.shapes call.heap (record { object = argument args 0; from = 0; words = n ∷ bytes_of o array offset count }))
+              count_is
+              (aid_written (argument args 0) (bytes_of o array offset count) (object_is api.Aid has)
+              (omega (arith, high, count_is)) (bytes_are o array offset count))
 
-    aid_fits : (native : AidNative) → Suits (OfAid native) m → Fits (aid_work s k args native)
-    aid_fits aids.Construct g = constructs_fit (argument args 1) (argument args 2) (extended (argument args 3)) g.1 g.0
-    aid_fits aids.Equals g =
-        word_given _ (bit_is (is_range s (argument args 0) (argument args 1) (argument args 2) (extended (argument args 3)))) g
-    aid_fits aids.GetBytes g = (
-      to_bytes (argument args 1) (argument args 2) (aid_bytes o (argument args 0))
-      (object_bytes w.shapes call.heap m call.arguments typed (g.1).0 0 g.2)
-      (bytes_fit w.shapes (argument args 2) o (argument args 0) 1 (aid_count o (argument args 0))),
-      (fit.fits, word_ends m.signature.result is _ (word_is (aid_count o (argument args 0))) g.0),
-    )
+      aid_fits : (native : AidNative) → Suits (OfAid native) m → Fits (aid_work s k args native)
+      aid_fits aids.Construct g = constructs_fit (argument args 1) (argument args 2) (extended (argument args 3)) g.1 g.0
+      aid_fits aids.Equals g =
+          word_given _ (bit_is (is_range s (argument args 0) (argument args 1) (argument args 2) (extended (argument args 3)))) g
+      aid_fits aids.GetBytes g = (
+        to_bytes (argument args 1) (argument args 2) (aid_bytes o (argument args 0))
+            (object_bytes w.shapes call.heap m call.arguments typed (g.1).0 0 g.2)
+            (bytes_fit w.shapes (argument args 2) o (argument args 0) 1 (aid_count o (argument args 0))),
+        (fit.fits, word_ends m.signature.result is _ (word_is (aid_count o (argument args 0))) g.0),
+      )
 
-    expected_is : expected_of k < 65536
-    expected_is = by_none (k.expected == 0)
-      where
-        low_byte : k.expected < 256
-        low_byte =
-            ltb-true k.expected 256
-            (both (are_bytes k.incoming && nat_le (length k.incoming) 255) (nat_lt k.expected 256) command_fits).1
+      expected_is : expected_of k < 65536
+      expected_is = by_none (k.expected == 0)
+        where
+          low_byte : k.expected < 256
+          low_byte =
+              ltb-true k.expected 256
+              (both (are_bytes k.incoming && nat_le (length k.incoming) 255) (nat_lt k.expected 256) command_fits).1
 
-        by_none : (b : Bool) → cond b 256 k.expected < 65536
-        by_none true = omega arith
-        by_none false = let a = low_byte in omega (arith, a)
+          by_none : (b : Bool) → cond b 256 k.expected < 65536
+          by_none true = omega arith
+          by_none false = let a = low_byte in omega (arith, a)
 
-    apdu_fits : (native : ApduNative) → Suits (OfApdu native) m → Fits (apdu_work s k args native)
-    apdu_fits apdus.GetBuffer g = (tt, (fit.fits, buffer_ends m.signature.result is g))
-    apdu_fits apdus.SetIncomingAndReceive g =
-        let parts = both (are_bytes k.incoming) (nat_le (length k.incoming) 255)
-        (both (are_bytes k.incoming && nat_le (length k.incoming) 255) (nat_lt k.expected 256) command_fits).0 in
-        let short = leb-true (length k.incoming) 255 parts.1 in
-        either_fits (is_fresh k.state) _ _ (λ e. (
-          to_bytes 12 5 k.incoming buffer_leads (listed_bytes_fit w.shapes 5 k.incoming parts.0),
-          (fit.fits, word_ends m.signature.result is (length k.incoming) (omega (arith, short)) g),
-        )) (apdu_throw 1 (omega arith))
-    apdu_fits apdus.SetOutgoing g =
-        either_fits (is_incoming k.state) _ _
-        (λ e. (tt, (fit.fits, word_ends m.signature.result is (expected_of k) expected_is g))) (apdu_throw 1 (omega arith))
-    apdu_fits apdus.SetOutgoingLength g =
-        either_fits (is_outgoing k.state) _ _
-        (λ e. either_fits (nat_le (argument args 1) 256) _ _ (λ f. (tt, (fit.fits, void_ends m.signature.result is g)))
-        (apdu_throw 3 (omega arith))) (apdu_throw 1 (omega arith))
-    apdu_fits apdus.SendBytes g =
-        either_fits (is_length_set k.state) _ _
-        (λ e. either_fits (is_in_buffer s (argument args 1) (argument args 2)) _ _
-        (λ f. either_fits (nat_le (length k.sent + argument args 2) k.announced) _ _
-        (λ h. (tt, (fit.fits, void_ends m.signature.result is g))) (apdu_throw 1 (omega arith)))
-        (apdu_throw 2 (omega arith))) (apdu_throw 1 (omega arith))
-    apdu_fits apdus.SendBytesLong g =
-        either_fits (is_length_set k.state) _ _
-        (λ e. either_fits (nat_le (length k.sent + argument args 3) k.announced) _ _
-        (λ h. (tt, (fit.fits, void_ends m.signature.result is g))) (apdu_throw 1 (omega arith)))
-        (apdu_throw 1 (omega arith))
-    apdu_fits apdus.SetOutgoingAndSend g =
-        either_fits (is_incoming k.state) _ _
-        (λ e. either_fits (nat_le (argument args 2) 256) _ _
-        (λ f. either_fits (is_in_buffer s (argument args 1) (argument args 2)) _ _
-        (λ h. (tt, (fit.fits, void_ends m.signature.result is g))) (apdu_throw 2 (omega arith)))
-        (apdu_throw 3 (omega arith))) (apdu_throw 1 (omega arith))
+      apdu_fits : (native : ApduNative) → Suits (OfApdu native) m → Fits (apdu_work s k args native)
+      apdu_fits apdus.GetBuffer g = (tt, (fit.fits, buffer_ends m.signature.result is g))
+      apdu_fits apdus.SetIncomingAndReceive g =
+          let parts = both (are_bytes k.incoming) (nat_le (length k.incoming) 255)
+          (both (are_bytes k.incoming && nat_le (length k.incoming) 255) (nat_lt k.expected 256) command_fits).0 in
+          let short = leb-true (length k.incoming) 255 parts.1 in
+          either_fits (is_fresh k.state) _ _ (λ e. (
+            to_bytes 12 5 k.incoming buffer_leads (listed_bytes_fit w.shapes 5 k.incoming parts.0),
+            (fit.fits, word_ends m.signature.result is (length k.incoming) (omega (arith, short)) g),
+          )) (apdu_throw 1 (omega arith))
+      apdu_fits apdus.SetOutgoing g =
+          either_fits (is_incoming k.state) _ _
+          (λ e. (tt, (fit.fits, word_ends m.signature.result is (expected_of k) expected_is g))) (apdu_throw 1 (omega arith))
+      apdu_fits apdus.SetOutgoingLength g =
+          either_fits (is_outgoing k.state) _ _
+          (λ e. either_fits (nat_le (argument args 1) 256) _ _ (λ f. (tt, (fit.fits, void_ends m.signature.result is g)))
+          (apdu_throw 3 (omega arith))) (apdu_throw 1 (omega arith))
+      apdu_fits apdus.SendBytes g =
+          either_fits (is_length_set k.state) _ _
+          (λ e. either_fits (is_in_buffer s (argument args 1) (argument args 2)) _ _
+          (λ f. either_fits (nat_le (length k.sent + argument args 2) k.announced) _ _
+          (λ h. (tt, (fit.fits, void_ends m.signature.result is g))) (apdu_throw 1 (omega arith)))
+          (apdu_throw 2 (omega arith))) (apdu_throw 1 (omega arith))
+      apdu_fits apdus.SendBytesLong g =
+          either_fits (is_length_set k.state) _ _
+          (λ e. either_fits (nat_le (length k.sent + argument args 3) k.announced) _ _
+          (λ h. (tt, (fit.fits, void_ends m.signature.result is g))) (apdu_throw 1 (omega arith)))
+          (apdu_throw 1 (omega arith))
+      apdu_fits apdus.SetOutgoingAndSend g =
+          either_fits (is_incoming k.state) _ _
+          (λ e. either_fits (nat_le (argument args 2) 256) _ _
+          (λ f. either_fits (is_in_buffer s (argument args 1) (argument args 2)) _ _
+          (λ h. (tt, (fit.fits, void_ends m.signature.result is g))) (apdu_throw 2 (omega arith)))
+          (apdu_throw 3 (omega arith))) (apdu_throw 1 (omega arith))
 
-    applet_fits : (native : AppletNative) → Suits (OfApplet native) m → Fits (applet_work s k args native)
-    applet_fits applets.Register g =
-        on_allowed_fits m.signature.result is (argument args 0) _
-        (λ i may. registers_fit m.signature.result is (argument args 0) i.aid i may
-        (installing_aid m.signature.result is (argument args 0) i may) (object_is api.Applet g.1) g.0)
-    applet_fits applets.RegisterBytes g =
-        on_allowed_fits m.signature.result is (argument args 0) _
-        (λ i may. either_fits (has_aid_length (extended (argument args 3))) _ _
-        (λ e. registers_fit m.signature.result is (argument args 0)
-        (bytes_of o (argument args 1) (argument args 2) (extended (argument args 3))) i may
-        (range_aid m.signature.result is (argument args 1) (argument args 2) (extended (argument args 3)) e)
-        (object_is api.Applet g.1) g.0)
-        (system_throw 1 (omega arith)))
-    applet_fits applets.Select g = word_given 1 (omega arith) g
-    applet_fits applets.Deselect g = nothing_given g
-    applet_fits applets.Process g = nothing_given g
-    applet_fits applets.SelectingApplet g = word_given _ (bit_is k.selecting) g
-    applet_fits applets.GetShareable g = null_given g
+      applet_fits : (native : AppletNative) → Suits (OfApplet native) m → Fits (applet_work s k args native)
+      applet_fits applets.Register g =
+          on_allowed_fits m.signature.result is (argument args 0) _
+          (λ i may. registers_fit m.signature.result is (argument args 0) i.aid i may
+          (installing_aid m.signature.result is (argument args 0) i may) (object_is api.Applet g.1) g.0)
+      applet_fits applets.RegisterBytes g =
+          on_allowed_fits m.signature.result is (argument args 0) _
+          (λ i may. either_fits (has_aid_length (extended (argument args 3))) _ _
+          (λ e. registers_fit m.signature.result is (argument args 0)
+          (bytes_of o (argument args 1) (argument args 2) (extended (argument args 3))) i may
+          (range_aid m.signature.result is (argument args 1) (argument args 2) (extended (argument args 3)) e)
+          (object_is api.Applet g.1) g.0)
+          (system_throw 1 (omega arith)))
+      applet_fits applets.Select g = word_given 1 (omega arith) g
+      applet_fits applets.Deselect g = nothing_given g
+      applet_fits applets.Process g = nothing_given g
+      applet_fits applets.SelectingApplet g = word_given _ (bit_is k.selecting) g
+      applet_fits applets.GetShareable g = null_given g
 
-    -- a question to an applet that is registered
-    question_fits : (i : Instance) (n word : ℕ) → fits_instance w.shapes call.heap i ≡ true → word < 65536
-        → leads_to call.heap (is_of_class w.shapes (Api api.Aid)) (reference n) ≡ true
-        → Gives suits.shareable m.signature.result → m.kind ≡ Static
-        → AsksWell (record { object = i.object; aid = n; word = word })
-    question_fits i n word fits small leads g kind =
-        let a = both (is_aid i.aid && is_instance_number i.owner.instance)
-        (option_map_or (has_applet w.shapes i) (object_at call.heap i.object) false) fits in
-        let d = passed_some (has_applet w.shapes i) (object_at call.heap i.object) a.1 in
-        let below = (both (is_of_class w.shapes (Api api.Applet) (d.0).kind.object) (is_same_owner (d.0).owner i.owner) d.2).0 in
-        record {
-          caller = m;
-          caller_is = numbered_is;
-          static = kind;
-          member = asking;
-          member_is = asking_is;
-          virtual = asking_kind;
-          object = d.0;
-          there = d.1;
-          below = ap (λ c. is_of_class w.shapes (Api c) (d.0).kind.object) asking_class ∙ below;
-          signature = signature_map counted_name asking.signature;
-          declared = asked_type;
-          arguments =
-              ap (λ (x : Signature ClassName). are_of_types w.shapes call.heap x.parameters (reference n ∷ Word word ∷ [])) asking_signature
-              ∙ both_are (leads_to call.heap (is_of_class w.shapes (Api api.Aid)) (reference n)) _ leads
-              (both_are (nat_lt word 65536) true (lt-ltb word 65536 small) refl);
-          result =
-              ap (λ x. is_same_return x (signature_map counted_name asking.signature).result)
-              (is ∙ ap (return_map counted_name) g)
-              ∙ ap (λ (x : Signature ClassName). is_same_return (Value (types.Reference (Api api.Object))) x.result) asking_signature;
-        }
+      -- a question to an applet that is registered
+      question_fits : (i : Instance) (n word : ℕ) → fits_instance w.shapes call.heap i ≡ true → word < 65536
+          → leads_to call.heap (is_of_class w.shapes (Api api.Aid)) (reference n) ≡ true
+          → Gives suits.shareable m.signature.result → m.kind ≡ Static
+          → AsksWell (record { object = i.object; aid = n; word = word })
+      question_fits i n word fits small leads g kind =
+          let a = both (is_aid i.aid && is_instance_number i.owner.instance)
+          (option_map_or (has_applet w.shapes i) (object_at call.heap i.object) false) fits in
+          let d = passed_some (has_applet w.shapes i) (object_at call.heap i.object) a.1 in
+          let below = (both (is_of_class w.shapes (Api api.Applet) (d.0).kind.object) (is_same_owner (d.0).owner i.owner) d.2).0 in
+          record {
+            caller = m;
+            caller_is = numbered_is;
+            static = kind;
+            member = asking;
+            member_is = asking_is;
+            virtual = asking_kind;
+            object = d.0;
+            there = d.1;
+            below = ap (λ c. is_of_class w.shapes (Api c) (d.0).kind.object) asking_class ∙ below;
+            signature = signature_map counted_name asking.signature;
+            declared = asked_type;
+            arguments =
+                ap (λ (x : Signature ClassName). are_of_types w.shapes call.heap x.parameters (reference n ∷ Word word ∷ [])) asking_signature
+                ∙ both_are (leads_to call.heap (is_of_class w.shapes (Api api.Aid)) (reference n)) _ leads
+                (both_are (nat_lt word 65536) true (lt-ltb word 65536 small) refl);
+            result =
+                ap (λ x. is_same_return x (signature_map counted_name asking.signature).result)
+                (is ∙ ap (return_map counted_name) g)
+                ∙ ap (λ (x : Signature ClassName). is_same_return (Value (types.Reference (Api api.Object))) x.result) asking_signature;
+          }
 
-    asks_fit : (word : ℕ) (p : Instance → Bool) (x : Option Instance) → find p k.instances ≡ x
-        → Gives suits.shareable m.signature.result → m.kind ≡ Static → Fits (asks s k word x)
-    asks_fit word p None e g kind = null_given g
-    asks_fit word p (Some i) e g kind =
-        question_fits i (aid_of_owner k (Some call.active)) (extended word)
-        (found_fits w.shapes call.heap p k.instances i instances_fit e) (extended_is word)
-        (owner_reference (Some call.active)) g kind
+      asks_fit : (word : ℕ) (p : Instance → Bool) (x : Option Instance) → find p k.instances ≡ x
+          → Gives suits.shareable m.signature.result → m.kind ≡ Static → Fits (asks s k word x)
+      asks_fit word p None e g kind = null_given g
+      asks_fit word p (Some i) e g kind =
+          question_fits i (aid_of_owner k (Some call.active)) (extended word)
+          (found_fits w.shapes call.heap p k.instances i instances_fit e) (extended_is word)
+          (owner_reference (Some call.active)) g kind
 
-    system_fits : (native : SystemNative) → Suits (OfSystem native) m → Fits (system_work s k args native)
-    system_fits system.GetAid g = aid_given (aid_of_owner k (Some call.active)) (owner_reference (Some call.active)) g
-    system_fits system.LookupAid g =
-        aid_given _ (aid_reference
-        (λ (i : Instance). bytes_eq i.aid (bytes_of o (argument args 0) (argument args 1) (extended (argument args 2))))
-        (instance_with k.instances (bytes_of o (argument args 0) (argument args 1) (extended (argument args 2)))) refl) g
-    system_fits system.GetPreviousAid g = aid_given (aid_of_owner k call.previous) (owner_reference call.previous) g
-    system_fits system.AskForShareable g =
-        asks_fit (argument args 1) (λ (i : Instance). bytes_eq i.aid (aid_bytes o (argument args 0)))
-        (instance_with k.instances (aid_bytes o (argument args 0))) refl g.0 g.1
-    system_fits system.MakeBooleans g =
-        makes_fit m.signature.result is elements.Booleans (argument args 0) (event_of (extended (argument args 1)))
-        (λ event. made_given m.signature.result is
-        (record { elements = elements.Booleans; event = event; size = argument args 0 }) types.BooleanArray is_boolean_array g refl refl)
-    system_fits system.MakeBytes g =
-        makes_fit m.signature.result is elements.Bytes (argument args 0) (event_of (extended (argument args 1)))
-        (λ event. made_given m.signature.result is
-        (record { elements = elements.Bytes; event = event; size = argument args 0 }) types.ByteArray is_byte_array g refl refl)
-    system_fits system.MakeShorts g =
-        makes_fit m.signature.result is elements.Shorts (argument args 0) (event_of (extended (argument args 1)))
-        (λ event. made_given m.signature.result is
-        (record { elements = elements.Shorts; event = event; size = argument args 0 }) types.ShortArray is_short_array g refl refl)
-    system_fits system.MakeReferences g =
-        makes_fit m.signature.result is elements.References (argument args 0) (event_of (extended (argument args 1)))
-        (λ event. made_given m.signature.result is
-        (record { elements = elements.References; event = event; size = argument args 0 }) (types.ReferenceArray api.Object)
-        (λ object. option_map_or (λ e. is_class_below w.shapes (counted w.shapes e) (Api api.Object)) (component_class object) false)
-        g refl refl)
+      system_fits : (native : SystemNative) → Suits (OfSystem native) m → Fits (system_work s k args native)
+      system_fits system.GetAid g = aid_given (aid_of_owner k (Some call.active)) (owner_reference (Some call.active)) g
+      system_fits system.LookupAid g =
+          aid_given _ (aid_reference
+          (λ (i : Instance). bytes_eq i.aid (bytes_of o (argument args 0) (argument args 1) (extended (argument args 2))))
+          (instance_with k.instances (bytes_of o (argument args 0) (argument args 1) (extended (argument args 2)))) refl) g
+      system_fits system.GetPreviousAid g = aid_given (aid_of_owner k call.previous) (owner_reference call.previous) g
+      system_fits system.AskForShareable g =
+          asks_fit (argument args 1) (λ (i : Instance). bytes_eq i.aid (aid_bytes o (argument args 0)))
+          (instance_with k.instances (aid_bytes o (argument args 0))) refl g.0 g.1
+      system_fits system.MakeBooleans g =
+          makes_fit m.signature.result is elements.Booleans (argument args 0) (event_of (extended (argument args 1)))
+          (λ event. made_given m.signature.result is
+          (record { elements = elements.Booleans; event = event; size = argument args 0 }) types.BooleanArray is_boolean_array g refl refl)
+      system_fits system.MakeBytes g =
+          makes_fit m.signature.result is elements.Bytes (argument args 0) (event_of (extended (argument args 1)))
+          (λ event. made_given m.signature.result is
+          (record { elements = elements.Bytes; event = event; size = argument args 0 }) types.ByteArray is_byte_array g refl refl)
+      system_fits system.MakeShorts g =
+          makes_fit m.signature.result is elements.Shorts (argument args 0) (event_of (extended (argument args 1)))
+          (λ event. made_given m.signature.result is
+          (record { elements = elements.Shorts; event = event; size = argument args 0 }) types.ShortArray is_short_array g refl refl)
+      system_fits system.MakeReferences g =
+          makes_fit m.signature.result is elements.References (argument args 0) (event_of (extended (argument args 1)))
+          (λ event. made_given m.signature.result is
+          (record { elements = elements.References; event = event; size = argument args 0 }) (types.ReferenceArray api.Object)
+          (λ object. option_map_or (λ e. is_class_below w.shapes (counted w.shapes e) (Api api.Object)) (component_class object) false)
+          g refl refl)
 
-    utility_fits : (native : UtilityNative) → Suits (OfUtility native) m → Fits (utility_work s k args native)
-    utility_fits utilities.ArrayCopy g = (
-      to_bytes (argument args 2) (argument args 3) (bytes_of o (argument args 0) (argument args 1) (argument args 4))
-      (static_bytes w.shapes call.heap m call.arguments typed g.1 2 g.2)
-      (bytes_fit w.shapes (argument args 3) o (argument args 0) (argument args 1) (argument args 4)),
-      (fit.fits, word_ends m.signature.result is _ (word_is (argument args 3 + argument args 4)) g.0),
-    )
-    utility_fits utilities.ArrayFill g = (
-      to_bytes (argument args 0) (argument args 1) (replicate (argument args 2) (low (argument args 3)))
-      (static_bytes w.shapes call.heap m call.arguments typed g.1 0 g.2)
-      (same_bytes_fit w.shapes (argument args 1) (argument args 2) (low (argument args 3)) (low_is (argument args 3))),
-      (fit.fits, word_ends m.signature.result is _ (word_is (argument args 1 + argument args 2)) g.0),
-    )
-    utility_fits utilities.ArrayCompare g =
-        word_given _ (order_is (bytes_of o (argument args 0) (argument args 1) (argument args 4))
-        (bytes_of o (argument args 2) (argument args 3) (argument args 4))) g
-    utility_fits utilities.GetShort g =
-        word_given _ (two_are (cell_of o (argument args 0) (argument args 1))
-        (cell_of o (argument args 0) (argument args 1 + 1))) g
-    utility_fits utilities.SetShort g = (
-      to_bytes (argument args 0) (argument args 1) (high (argument args 2) ∷ low (argument args 2) ∷ [])
-      (static_bytes w.shapes call.heap m call.arguments typed g.1 0 g.2)
-      (low_is (argument args 2 / 256), (low_is (argument args 2), tt)),
-      (fit.fits, word_ends m.signature.result is _ (word_is (argument args 1 + 2)) g.0),
-    )
-    utility_fits utilities.MakeShort g = word_given _ (two_are (argument args 0) (argument args 1)) g
+      utility_fits : (native : UtilityNative) → Suits (OfUtility native) m → Fits (utility_work s k args native)
+      utility_fits utilities.ArrayCopy g = (
+        to_bytes (argument args 2) (argument args 3) (bytes_of o (argument args 0) (argument args 1) (argument args 4))
+            (static_bytes w.shapes call.heap m call.arguments typed g.1 2 g.2)
+            (bytes_fit w.shapes (argument args 3) o (argument args 0) (argument args 1) (argument args 4)),
+        (fit.fits, word_ends m.signature.result is _ (word_is (argument args 3 + argument args 4)) g.0),
+      )
+      utility_fits utilities.ArrayFill g = (
+        to_bytes (argument args 0) (argument args 1) (replicate (argument args 2) (low (argument args 3)))
+            (static_bytes w.shapes call.heap m call.arguments typed g.1 0 g.2)
+            (same_bytes_fit w.shapes (argument args 1) (argument args 2) (low (argument args 3)) (low_is (argument args 3))),
+        (fit.fits, word_ends m.signature.result is _ (word_is (argument args 1 + argument args 2)) g.0),
+      )
+      utility_fits utilities.ArrayCompare g =
+          word_given _ (order_is (bytes_of o (argument args 0) (argument args 1) (argument args 4))
+          (bytes_of o (argument args 2) (argument args 3) (argument args 4))) g
+      utility_fits utilities.GetShort g =
+          word_given _ (two_are (cell_of o (argument args 0) (argument args 1))
+          (cell_of o (argument args 0) (argument args 1 + 1))) g
+      utility_fits utilities.SetShort g = (
+        to_bytes (argument args 0) (argument args 1) (high (argument args 2) ∷ low (argument args 2) ∷ [])
+            (static_bytes w.shapes call.heap m call.arguments typed g.1 0 g.2)
+            (low_is (argument args 2 / 256), (low_is (argument args 2), tt)),
+        (fit.fits, word_ends m.signature.result is _ (word_is (argument args 1 + 2)) g.0),
+      )
+      utility_fits utilities.MakeShort g = word_given _ (two_are (argument args 0) (argument args 1)) g
 
-    work_fits : (native : Native) → Suits native m → Fits (work_of s k args native)
-    work_fits (OfObject native) g = object_fits native g
-    work_fits (OfAid native) g = aid_fits native g
-    work_fits (OfApdu native) g = apdu_fits native g
-    work_fits (OfApplet native) g = applet_fits native g
-    work_fits (OfSystem native) g = system_fits native g
-    work_fits (OfUtility native) g = utility_fits native g
+      work_fits : (native : Native) → Suits native m → Fits (work_of s k args native)
+      work_fits (OfObject native) g = object_fits native g
+      work_fits (OfAid native) g = aid_fits native g
+      work_fits (OfApdu native) g = apdu_fits native g
+      work_fits (OfApplet native) g = applet_fits native g
+      work_fits (OfSystem native) g = system_fits native g
+      work_fits (OfUtility native) g = utility_fits native g
 
-    pub begun_fits : (native : Native) → Suits native m → Answers (begun w call (Some native))
-    begun_fits native g =
-        ended_fits (tested s args (row_of native)).touches (tested s args (row_of native)).thrown (work_of s k args native)
-        (tested_thrown s args (row_of native)) (work_fits native g)
+      pub begun_fits : (native : Native) → Suits native m → Answers (begun w call (Some native))
+      begun_fits native g =
+          ended_fits (tested s args (row_of native)).touches (tested s args (row_of native)).thrown (work_of s k args native)
+          (tested_thrown s args (row_of native)) (work_fits native g)

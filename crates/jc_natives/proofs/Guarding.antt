@@ -375,7 +375,7 @@ module _ (w : World) (call : NativeCall Kept) where
       by_first rest (inl f) =
           let u = uses.0 in
           let same = same_found (object_at call.heap number) o u.native.object found
-              (ap (object_at call.heap) (sym (eqb-true t.object number f)) ∙ u.native.found) in
+          (ap (object_at call.heap) (sym (eqb-true t.object number f)) ∙ u.native.found) in
           record {
             place = 0;
             touch = t;

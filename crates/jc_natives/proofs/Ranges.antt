@@ -153,7 +153,7 @@ copied_back s l source source_from target target_from at count done word behind 
     let last : at ≡ count - (done + 1) = omega (arith, h, place) in
     let more : suc done ≡ done + 1 = omega arith in
     let whole : l ≡ copied s source source_from target target_from (at + 1) done = before
-        ∙ ap (λ n. copied s source source_from target target_from n done) first in
+    ∙ ap (λ n. copied s source source_from target target_from n done) first in
     ap (λ w. holds l (put l.objects target (target_from + at) w)) is
     ∙ ap (λ (o : Store). holds o (put o.objects target (target_from + at) (byte_of o.objects source (source_from + at))))
     whole

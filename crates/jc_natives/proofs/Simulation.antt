@@ -210,8 +210,8 @@ ended_agrees call touches s (Some object) work outcome objects most cells told =
     thrown_agrees call touches s call.runtime object outcome objects refl told
 ended_agrees call touches s None work outcome objects most cells told =
     let P : Work → Type 0 = λ x. TellsEnd outcome (did_on_words call.active s call.runtime x).ended
-        → AnswerAgrees (state_of (did_on_words call.active s call.runtime x)) outcome
-        (done call touches (with_room call.limits.objects call.limits.cells call.heap call.runtime work)) in
+    → AnswerAgrees (state_of (did_on_words call.active s call.runtime x)) outcome
+    (done call touches (with_room call.limits.objects call.limits.cells call.heap call.runtime work)) in
     subst P (sym (same_room call s work objects most cells))
     (did_agrees call touches s call.runtime
     (with_room call.limits.objects call.limits.cells call.heap call.runtime work) outcome objects refl) told
@@ -310,12 +310,12 @@ answered w s k word d outcome is told call agrees fit =
     let b = begins_of w call fit.begins in
     let whole : d ≡ done_of call.active s call.runtime
     (native_work (seen_of w call) call.runtime (arguments_of call) b.native) = is
-        ∙ ap (λ owner. done_of owner s k (word_work (seen_in w s word) k word.arguments.now (numbered natives word.member))) agrees.active
-        ∙ ap (λ x. done_of call.active s x (word_work (seen_in w s word) x word.arguments.now (numbered natives word.member))) agrees.runtime
-        ∙ ap (λ x. done_of call.active s call.runtime (word_work x call.runtime word.arguments.now (numbered natives word.member))) seen
-        ∙ ap (λ x. done_of call.active s call.runtime (word_work (seen_of w call) call.runtime x (numbered natives word.member))) arguments
-        ∙ ap (λ x. done_of call.active s call.runtime (word_work (seen_of w call) call.runtime (arguments_of call) (numbered natives x))) agrees.member
-        ∙ ap (λ x. done_of call.active s call.runtime (word_work (seen_of w call) call.runtime (arguments_of call) x)) b.numbered in
+    ∙ ap (λ owner. done_of owner s k (word_work (seen_in w s word) k word.arguments.now (numbered natives word.member))) agrees.active
+    ∙ ap (λ x. done_of call.active s x (word_work (seen_in w s word) x word.arguments.now (numbered natives word.member))) agrees.runtime
+    ∙ ap (λ x. done_of call.active s call.runtime (word_work x call.runtime word.arguments.now (numbered natives word.member))) seen
+    ∙ ap (λ x. done_of call.active s call.runtime (word_work (seen_of w call) call.runtime x (numbered natives word.member))) arguments
+    ∙ ap (λ x. done_of call.active s call.runtime (word_work (seen_of w call) call.runtime (arguments_of call) (numbered natives x))) agrees.member
+    ∙ ap (λ x. done_of call.active s call.runtime (word_work (seen_of w call) call.runtime (arguments_of call) x)) b.numbered in
     let answer : answer_of w call ≡ begun w call (Some b.native) =
     ap (λ x. answers w call x (numbered natives call.member)) fit.begins ∙ ap (λ o. answers w call true o) b.numbered in
     let P : Done → NativeAnswer Kept → Type 0 = λ d a. TellsEnd outcome d.ended → AnswerAgrees (state_of d) outcome a in

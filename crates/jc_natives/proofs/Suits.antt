@@ -126,35 +126,171 @@ gives_byte = (types.Byte, refl, refl)
 
 all_suit : AllSuit natives members
 all_suit = (
-  refl, (gives_boolean, (refl, (refl, (refl, (refl, (refl, (refl, (refl, (refl, (refl, (refl, (refl,
-  ((refl, (inl refl, inl refl)),
-  (gives_short,
-  ((refl, (inr refl, inl refl)),
-  ((refl, (inl refl, inr (inl refl))),
-  ((refl, inl refl),
-  ((refl, (inl refl, inr (inr (inl refl)))),
-  ((refl, inr (inl refl)),
-  ((refl, (inl refl, inr (inr (inr refl)))),
-  ((refl, inr (inr refl)),
-  ((refl, (inl refl, refl)),
-  (gives_boolean,
-  ((gives_byte, (inr refl, refl), refl),
-  (refl, (gives_short, (gives_short, (refl, (refl, (refl, (refl,
-  (refl,
-  ((refl, (inr refl, refl)),
-  ((refl, (inr refl, refl)),
-  (gives_boolean, (refl, (refl, (gives_boolean, (refl,
-  (refl, (refl, (refl,
-  ((refl, refl),
-  (refl, (refl, (refl, (refl,
-  ((gives_short, refl, refl),
-  ((gives_short, refl, refl),
-  ((gives_short, refl, refl),
-  (gives_byte,
-  (gives_short,
-  ((gives_short, refl, refl),
-  (gives_short,
-  tt)))))))))))))))))))))))))))))))))))))))))))))))))))))))
+  refl,
+  (
+    gives_boolean,
+    (
+      refl,
+      (
+        refl,
+        (
+          refl,
+          (
+            refl,
+            (
+              refl,
+              (
+                refl,
+                (
+                  refl,
+                  (
+                    refl,
+                    (
+                      refl,
+                      (
+                        refl,
+                        (
+                          refl,
+                          (
+                            (refl, (inl refl, inl refl)),
+                            (
+                              gives_short,
+                              (
+                                (refl, (inr refl, inl refl)),
+                                (
+                                  (refl, (inl refl, inr (inl refl))),
+                                  (
+                                    (refl, inl refl),
+                                    (
+                                      (refl, (inl refl, inr (inr (inl refl)))),
+                                      (
+                                        (refl, inr (inl refl)),
+                                        (
+                                          (refl, (inl refl, inr (inr (inr refl)))),
+                                          (
+                                            (refl, inr (inr refl)),
+                                            (
+                                              (refl, (inl refl, refl)),
+                                              (
+                                                gives_boolean,
+                                                (
+                                                  (gives_byte, (inr refl, refl), refl),
+                                                  (
+                                                    refl,
+                                                    (
+                                                      gives_short,
+                                                      (
+                                                        gives_short,
+                                                        (
+                                                          refl,
+                                                          (
+                                                            refl,
+                                                            (
+                                                              refl,
+                                                              (
+                                                                refl,
+                                                                (
+                                                                  refl,
+                                                                  (
+                                                                    (refl, (inr refl, refl)),
+                                                                    (
+                                                                      (refl, (inr refl, refl)),
+                                                                      (
+                                                                        gives_boolean,
+                                                                        (
+                                                                          refl,
+                                                                          (
+                                                                            refl,
+                                                                            (
+                                                                              gives_boolean,
+                                                                              (
+                                                                                refl,
+                                                                                (
+                                                                                  refl,
+                                                                                  (
+                                                                                    refl,
+                                                                                    (
+                                                                                      refl,
+                                                                                      (
+                                                                                        (refl, refl),
+                                                                                        (
+                                                                                          refl,
+                                                                                          (
+                                                                                            refl,
+                                                                                            (
+                                                                                              refl,
+                                                                                              (
+                                                                                                refl,
+                                                                                                (
+                                                                                                  (gives_short, refl, refl),
+                                                                                                  (
+                                                                                                    (gives_short, refl, refl),
+                                                                                                    (
+                                                                                                      (gives_short, refl, refl),
+                                                                                                      (
+                                                                                                        gives_byte,
+                                                                                                        (
+                                                                                                          gives_short,
+                                                                                                          (
+                                                                                                            (gives_short, refl, refl),
+                                                                                                            (
+                                                                                                              gives_short,
+                                                                                                              tt,
+                                                                                                            ),
+                                                                                                          ),
+                                                                                                        ),
+                                                                                                      ),
+                                                                                                    ),
+                                                                                                  ),
+                                                                                                ),
+                                                                                              ),
+                                                                                            ),
+                                                                                          ),
+                                                                                        ),
+                                                                                      ),
+                                                                                    ),
+                                                                                  ),
+                                                                                ),
+                                                                              ),
+                                                                            ),
+                                                                          ),
+                                                                        ),
+                                                                      ),
+                                                                    ),
+                                                                  ),
+                                                                ),
+                                                              ),
+                                                            ),
+                                                          ),
+                                                        ),
+                                                      ),
+                                                    ),
+                                                  ),
+                                                ),
+                                              ),
+                                            ),
+                                          ),
+                                        ),
+                                      ),
+                                    ),
+                                  ),
+                                ),
+                              ),
+                            ),
+                          ),
+                        ),
+                      ),
+                    ),
+                  ),
+                ),
+              ),
+            ),
+          ),
+        ),
+      ),
+    ),
+  ),
+)
 
 suit_at : (ns : List Native) (ms : List ApiMember) (i : ℕ) (n : Native) (m : ApiMember) → AllSuit ns ms
     → slice_get ns i ≡ Some n → slice_get ms i ≡ Some m → Suits n m

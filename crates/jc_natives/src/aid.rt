@@ -69,8 +69,7 @@ fn is_range(
     if array == 0 {
         return false;
     }
-    cell(store, aid, 0) == count
-        && same_bytes(store, aid, 1, array, usize::from(offset), count)
+    cell(store, aid, 0) == count && same_bytes(store, aid, 1, array, usize::from(offset), count)
 }
 
 fn equals(world: &World, store: &Store, call: &WordCall<'_>) -> bool

@@ -25,7 +25,9 @@ const MOST_SENT: u16 = 256;
 
 // The reasons of an APDUException.
 const ILLEGAL_USE: u16 = 1;
+
 const BUFFER_BOUNDS: u16 = 2;
+
 const BAD_LENGTH: u16 = 3;
 
 fn is_fresh(state: ApduState) -> bool
@@ -33,10 +35,8 @@ fn is_fresh(state: ApduState) -> bool
 {
     match state {
         ApduState::Fresh => true,
-        ApduState::Closed
-        | ApduState::Received
-        | ApduState::Outgoing
-        | ApduState::LengthSet => false,
+        ApduState::Closed | ApduState::Received | ApduState::Outgoing | ApduState::LengthSet =>
+            false,
     }
 }
 
@@ -54,10 +54,7 @@ fn is_outgoing(state: ApduState) -> bool
 {
     match state {
         ApduState::Outgoing => true,
-        ApduState::Closed
-        | ApduState::Fresh
-        | ApduState::Received
-        | ApduState::LengthSet => false,
+        ApduState::Closed | ApduState::Fresh | ApduState::Received | ApduState::LengthSet => false,
     }
 }
 
@@ -66,10 +63,7 @@ fn is_length_set(state: ApduState) -> bool
 {
     match state {
         ApduState::LengthSet => true,
-        ApduState::Closed
-        | ApduState::Fresh
-        | ApduState::Received
-        | ApduState::Outgoing => false,
+        ApduState::Closed | ApduState::Fresh | ApduState::Received | ApduState::Outgoing => false,
     }
 }
 
@@ -142,13 +136,7 @@ fn send(
 }
 
 // Whether a range lies in the buffer.
-fn is_in_buffer(
-    world: &World,
-    store: &Store,
-    call: &WordCall<'_>,
-    offset: u16,
-    count: u16,
-) -> bool
+fn is_in_buffer(world: &World, store: &Store, call: &WordCall<'_>, offset: u16, count: u16) -> bool
     ensures { result ≡ is_in_buffer (seen_in world.now store.now call.now) offset count }
 {
     let (_world, _call) = (world, call);

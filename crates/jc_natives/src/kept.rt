@@ -115,7 +115,13 @@ fn has_aid(instance: &Instance, aid: &[u8]) -> bool
 fn has_aid_in(instance: &Instance, store: &Store, number: u16, from: u16, count: u16) -> bool
     ensures { result ≡ bytes_eq instance.now.aid (bytes_of store.now.objects number from count) }
 {
-    are_bytes(store, number, usize::from(from), count, instance.aid.as_slice())
+    are_bytes(
+        store,
+        number,
+        usize::from(from),
+        count,
+        instance.aid.as_slice(),
+    )
 }
 
 // Whether an instance's object is an owner's.

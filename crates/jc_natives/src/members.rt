@@ -19,9 +19,7 @@ use crate::tests::refusal;
 use crate::utility::utility_native;
 use arrayvec::ArrayVec;
 use jc_classes::growing_keeps_lookups;
-use jc_link::{
-    World, built_worlds_are_sound, built_worlds_have_the_api, growing_keeps_linking,
-};
+use jc_link::{World, built_worlds_are_sound, built_worlds_have_the_api, growing_keeps_linking};
 use jc_machine::{Natives, WordCall, WordCallback, WordOutcome};
 use jc_store::Store;
 

@@ -6,7 +6,9 @@ ghost use Rattle.jc_natives.specs.Rows.{natives};
 
 /// The runtime's exceptions with a reason, by their numbers.
 pub(crate) const ISO_EXCEPTION: u16 = 8;
+
 pub(crate) const SYSTEM_EXCEPTION: u16 = 9;
+
 pub(crate) const APDU_EXCEPTION: u16 = 10;
 
 /// Members of Object and of exceptions.

@@ -22,6 +22,7 @@ use jc_store::{ClearingEvent, Kind, Mark, ObjectType, Store};
 
 // The reasons of a SystemException.
 const NO_TRANSIENT_SPACE: u16 = 2;
+
 const ILLEGAL_TRANSIENT: u16 = 3;
 
 const NEGATIVE_SIZE_EXCEPTION: u16 = 5;

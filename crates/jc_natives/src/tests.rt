@@ -23,10 +23,13 @@ use jc_names::ClassName;
 use jc_store::{ObjectType, Store};
 
 const NULL_POINTER_EXCEPTION: u16 = 6;
+
 const ARRAY_INDEX_EXCEPTION: u16 = 4;
+
 const SECURITY_EXCEPTION: u16 = 7;
 
 const AID: ClassName = ClassName::Api(ApiClass::Aid);
+
 const OBJECT: ClassName = ClassName::Api(ApiClass::Object);
 
 fn access_of(way: Way) -> Access

@@ -25,7 +25,14 @@ fn array_copy(world: &World, store: &mut Store, call: &WordCall<'_>, runtime: &R
     let target = argument(call.arguments, 2);
     let to = argument(call.arguments, 3);
     let count = argument(call.arguments, 4);
-    copy_bytes(store, source, usize::from(from), target, usize::from(to), count);
+    copy_bytes(
+        store,
+        source,
+        usize::from(from),
+        target,
+        usize::from(to),
+        count,
+    );
     Ended::Returned(Some(sum(to, count)))
 }
 
@@ -54,9 +61,7 @@ fn array_compare(world: &World, store: &mut Store, call: &WordCall<'_>, runtime:
     let other = argument(call.arguments, 2);
     let other_from = argument(call.arguments, 3);
     let count = argument(call.arguments, 4);
-    Ended::Returned(Some(compare_bytes(
-        store, one, one_from, other, other_from, count,
-    )))
+    Ended::Returned(Some(compare_bytes(store, one, one_from, other, other_from, count)))
 }
 
 fn get_short(world: &World, store: &mut Store, call: &WordCall<'_>, runtime: &Runtime) -> Ended

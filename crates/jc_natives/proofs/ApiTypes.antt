@@ -41,7 +41,8 @@ record StandsOn (world : List Shape) : Type 0 where
   clear : HasNoClash bound
   lies : LiesWithin (api_world bound) world
 
-first_two : (before : List Shape) (p : Shape) (b : Bound) → take 2 before ≡ api_world b → take 2 (before ++ p ∷ []) ≡ api_world b
+first_two : (before : List Shape) (p : Shape) (b : Bound) → take 2 before ≡ api_world b → take 2 (before ++ p ∷ [])
+    ≡ api_world b
 first_two [] p b e = absurd cc
 first_two (x ∷ []) p b e = absurd cc
 first_two (x ∷ y ∷ before) p b e = e
@@ -121,12 +122,14 @@ module _ (find : ClassRef → Option ClassName) (spell : ApiClass → ClassRef) 
 module _ (bound : Bound) (clear : HasNoClash bound) where
   counts : (c : ApiClass) → counted (api_world bound) (classes.Api c) ≡ counted_name c
   counts c =
-      ap (λ o. cond (option_map_or (λ (k : ClassShape). not (is_class k.body)) o false) (classes.Api Object) (classes.Api c))
+      ap (λ o. cond (option_map_or (λ (k : ClassShape). not (is_class k.body)) o false) (classes.Api Object)
+      (classes.Api c))
       (class_there bound c)
       ∙ ap (λ b. cond (not b) (classes.Api Object) (classes.Api c)) (class_body bound c)
       ∙ twice (is_interface c)
     where
-      twice : (b : Bool) → cond (not (not b)) (classes.Api Object) (classes.Api c) ≡ cond b (classes.Api Object) (classes.Api c)
+      twice : (b : Bool) → cond (not (not b)) (classes.Api Object) (classes.Api c)
+          ≡ cond b (classes.Api Object) (classes.Api c)
       twice true = refl
       twice false = refl
 
@@ -134,7 +137,8 @@ module _ (bound : Bound) (clear : HasNoClash bound) where
       → method_type_of (api_world bound) (Api n) ≡ Some (signature_map counted_name m.signature)
   api_type n m e =
       ap (option_and_then (declared_type_of (api_world bound))) (member_there bound n m e)
-      ∙ signature_is (type_class (api_world bound) (api_home (package_of m.class))) (spelled_in bound (package_of m.class))
+      ∙ signature_is (type_class (api_world bound) (api_home (package_of m.class)))
+      (spelled_in bound (package_of m.class))
       (is_seen (package_of m.class))
       (λ c seen. ap (option_map (counted (api_world bound))) (named bound clear (package_of m.class) c seen)
       ∙ ap Some (counts c))
@@ -159,7 +163,8 @@ module _ (lookups : (before after : List Shape) → LiesWithin before after → 
       let s = stands_on world built in
       record {
         method = made (classes.Api m.class) (method_in s.bound n m);
-        found = (lookups (api_world s.bound) world s.lies).methods (Api n) (within s.bound) ∙ member_there s.bound n m e;
+        found = (lookups (api_world s.bound) world s.lies).methods (Api n) (within s.bound)
+            ∙ member_there s.bound n m e;
         class = refl;
         static = refl;
         type = (linking (api_world s.bound) world s.lies).method_types (Api n) (within s.bound)

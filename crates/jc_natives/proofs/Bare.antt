@@ -107,7 +107,8 @@ argument_bits world heap (t ∷ ts) (w ∷ ws) (v ∷ vs) r e =
     ∙ ap (λ xs. bits v ∷ xs) (argument_bits world heap ts ws vs r.1 b.1)
 
 pub receiver_bits : (heap : Heap TaggedValue) (test : ObjectType → Bool) (w : ℕ) (v : TaggedValue) → Reads w v
-    → option_map_or (λ (o : Object TaggedValue). test o.kind.object) (option_and_then (object_at heap) (object_of v)) false ≡ true
+    → option_map_or (λ (o : Object TaggedValue). test o.kind.object) (option_and_then (object_at heap) (object_of v))
+    false ≡ true
     → w ≡ bits v
 receiver_bits heap test w (Word n) r e = r
 receiver_bits heap test w (Ref n) r e = r
@@ -118,12 +119,14 @@ module _ (world : List Shape) (heap : Heap TaggedValue) where
   cells_bits : (type : ObjectType) (ws : List ℕ) (vs : List TaggedValue) → Pointwise Reads ws vs
       → CellsTyped world heap vs type → ws ≡ map bits vs
   cells_bits (Instance c) ws vs r typed =
-      bits_beside (λ v field. is_cell world heap field v ≡ true) (λ v field. cell_written world heap field v) ws vs _ r typed
+      bits_beside (λ v field. is_cell world heap field v ≡ true) (λ v field. cell_written world heap field v) ws vs _ r
+      typed
   cells_bits BooleanArray ws vs r typed = bits_of (λ v. is_byte v ≡ true) byte_written ws vs r typed
   cells_bits ByteArray ws vs r typed = bits_of (λ v. is_byte v ≡ true) byte_written ws vs r typed
   cells_bits ShortArray ws vs r typed = bits_of (λ v. is_word v ≡ true) word_written ws vs r typed
   cells_bits (ReferenceArray c) ws vs r typed =
-      bits_of (λ v. leads_to heap (is_instance world c) v ≡ true) (λ v. lead_written heap (is_instance world c) v) ws vs r typed
+      bits_of (λ v. leads_to heap (is_instance world c) v ≡ true) (λ v. lead_written heap (is_instance world c) v) ws
+      vs r typed
 
   object_bits : (o : Object ℕ) (p : Object TaggedValue) → ReadsObject o p → ObjectTyped world heap p → o ≡ bare p
   object_bits o p reads typed =
@@ -163,7 +166,8 @@ got_mapped f [] n = refl
 got_mapped f (x ∷ xs) zero = refl
 got_mapped f (x ∷ xs) (suc n) = got_mapped f xs n
 
-pub bare_object : (heap : Heap TaggedValue) (number : ℕ) → object_at (bared heap) number ≡ option_map bare (object_at heap number)
+pub bare_object : (heap : Heap TaggedValue) (number : ℕ) → object_at (bared heap) number
+    ≡ option_map bare (object_at heap number)
 bare_object heap zero = refl
 bare_object heap (suc n) = got_mapped bare heap n
 
@@ -186,7 +190,8 @@ bare_put heap number index word =
     ∙ by_object (object_at heap number)
   where
     by_object : (o : Option (Object TaggedValue))
-        → option_map_or (λ object. with_object (bared heap) number (with_cell object index word)) (option_map bare o) (bared heap)
+        → option_map_or (λ object. with_object (bared heap) number (with_cell object index word)) (option_map bare o)
+        (bared heap)
         ≡ bared (option_map_or (λ object. with_object heap number (with_cell object index (Word word))) o heap)
     by_object None = refl
     by_object (Some object) =
@@ -200,7 +205,8 @@ bare_put_all heap number from (w ∷ words) =
     ap (λ h. put_all h number (from + 1) words) (bare_put heap number from w)
     ∙ bare_put_all (put heap number from (Word w)) number (from + 1) words
 
-pub bare_laid : (heap : Heap TaggedValue) (writes : List Write) → laid (bared heap) writes ≡ bared (written Word heap writes)
+pub bare_laid : (heap : Heap TaggedValue) (writes : List Write) → laid (bared heap) writes
+    ≡ bared (written Word heap writes)
 bare_laid heap [] = refl
 bare_laid heap (w ∷ writes) =
     ap (λ h. laid h writes) (bare_put_all heap w.object w.from w.words)
@@ -219,7 +225,8 @@ bare_length heap = length-map heap bare
 pub bare_cells : (heap : Heap TaggedValue) → cells_in (bared heap) ≡ cells_in heap
 bare_cells [] = refl
 bare_cells (o ∷ heap) =
-    ap (λ n. 1 + n + cells_in (bared heap)) (length-map o.cells bits) ∙ ap (λ n. 1 + length o.cells + n) (bare_cells heap)
+    ap (λ n. 1 + n + cells_in (bared heap)) (length-map o.cells bits)
+    ∙ ap (λ n. 1 + length o.cells + n) (bare_cells heap)
 
 pub bare_room : (objects cells : ℕ) (heap : Heap TaggedValue) (size : ℕ)
     → has_room objects cells (bared heap) size ≡ has_room objects cells heap size

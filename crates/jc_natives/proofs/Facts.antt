@@ -70,11 +70,13 @@ typed_lead : (world : List Shape) (heap : Heap TaggedValue) (ts : List (Declared
 typed_lead world heap [] vs place e f = absurd (none-some types.ByteArray f)
 typed_lead world heap (t ∷ ts) [] place e f = absurd cc
 typed_lead world heap (t ∷ ts) (v ∷ vs) zero e f =
-    let b = both (is_of_type world heap (type_map counted_name t) v) (are_of_types world heap (map (type_map counted_name) ts) vs) e in
+    let b = both (is_of_type world heap (type_map counted_name t) v)
+    (are_of_types world heap (map (type_map counted_name) ts) vs) e in
     bytes_lead world heap v
     (ap (λ x. is_of_type world heap (type_map counted_name x) v) (sym (same_Some t types.ByteArray f)) ∙ b.0)
 typed_lead world heap (t ∷ ts) (v ∷ vs) (suc place) e f =
-    let b = both (is_of_type world heap (type_map counted_name t) v) (are_of_types world heap (map (type_map counted_name) ts) vs) e in
+    let b = both (is_of_type world heap (type_map counted_name t) v)
+    (are_of_types world heap (map (type_map counted_name) ts) vs) e in
     typed_lead world heap ts vs place b.1 f
 
 object_lead : (world : List Shape) (heap : Heap TaggedValue) (c : ClassName) (v : TaggedValue)
@@ -128,7 +130,8 @@ pub object_bytes : (world : List Shape) (heap : Heap TaggedValue) (m : ApiMember
     → AreTyped world heap m vs → (m.kind ≡ Constructor) ⊎ (m.kind ≡ Virtual) → (place : ℕ) → IsBytes m place
     → LeadsToBytes heap (argument (map bits vs) (suc place))
 object_bytes world heap m vs typed kind place f =
-    of_instance_bytes world heap (Api m.class) m.signature.parameters vs place (object_typed world heap m vs typed kind) f
+    of_instance_bytes world heap (Api m.class) m.signature.parameters vs place
+    (object_typed world heap m vs typed kind) f
 
 pub object_class : (world : List Shape) (heap : Heap TaggedValue) (m : ApiMember) (vs : List TaggedValue)
     → AreTyped world heap m vs → (m.kind ≡ Constructor) ⊎ (m.kind ≡ Virtual)
@@ -139,7 +142,8 @@ object_class world heap m vs typed kind =
 
 -- ---- the runtime's own objects
 
-all_at : {A : Type 0} (P : A → Type 0) (xs : List A) (n : ℕ) (x : A) → AllByRecursion P xs → slice_get xs n ≡ Some x → P x
+all_at : {A : Type 0} (P : A → Type 0) (xs : List A) (n : ℕ) (x : A) → AllByRecursion P xs → slice_get xs n ≡ Some x
+    → P x
 all_at P [] n x all e = absurd (none-some x e)
 all_at P (y ∷ xs) zero x all e = subst P (same_Some y x e) all.0
 all_at P (y ∷ xs) (suc n) x all e = all_at P xs n x all.1 e
@@ -173,7 +177,8 @@ own_aid heap number has e =
 
 -- ---- instances
 
-pub found_fits : (world : List Shape) (heap : Heap TaggedValue) (p : Instance → Bool) (is : List Instance) (i : Instance)
+pub found_fits : (world : List Shape) (heap : Heap TaggedValue) (p : Instance → Bool) (is : List Instance)
+    (i : Instance)
     → list_all (fits_instance world heap) is ≡ true → find p is ≡ Some i → fits_instance world heap i ≡ true
 found_fits world heap p [] i e f = absurd (none-some i f)
 found_fits world heap p (x ∷ is) i e f =

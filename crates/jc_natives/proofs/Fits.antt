@@ -136,7 +136,8 @@ same_bytes_fit : (world : List Shape) (from n b : ℕ) → b < 256 → FitsWords
 same_bytes_fit world from zero b h = tt
 same_bytes_fit world from (suc n) b h = (h, same_bytes_fit world (from + 1) n b h)
 
-listed_bytes_fit : (world : List Shape) (from : ℕ) (bytes : List ℕ) → are_bytes bytes ≡ true → FitsWords world ByteArray from bytes
+listed_bytes_fit : (world : List Shape) (from : ℕ) (bytes : List ℕ) → are_bytes bytes ≡ true
+    → FitsWords world ByteArray from bytes
 listed_bytes_fit world from [] e = tt
 listed_bytes_fit world from (b ∷ bytes) e =
     let s = both (nat_lt b 256) (are_bytes bytes) e in
@@ -145,11 +146,13 @@ listed_bytes_fit world from (b ∷ bytes) e =
 bytes_are : (objects : Heap ℕ) (number at count : ℕ) → are_bytes (bytes_of objects number at count) ≡ true
 bytes_are objects number at zero = refl
 bytes_are objects number at (suc count) =
-    both_are (nat_lt (byte_of objects number at) 256) _ (lt-ltb (byte_of objects number at) 256 (low_is (cell_of objects number at)))
+    both_are (nat_lt (byte_of objects number at) 256) _
+    (lt-ltb (byte_of objects number at) 256 (low_is (cell_of objects number at)))
     (bytes_are objects number (at + 1) count)
 
 -- bytes in cells of which no field is declared
-blank_fit : (world : List Shape) (c : ClassName) (from : ℕ) (words : List ℕ) → ((index : ℕ) → index < 17 → IsBlankAt world c index)
+blank_fit : (world : List Shape) (c : ClassName) (from : ℕ) (words : List ℕ)
+    → ((index : ℕ) → index < 17 → IsBlankAt world c index)
     → from + length words ≤ 17 → are_bytes words ≡ true → FitsWords world (OfClass c) from words
 blank_fit world c from [] blank h e = tt
 blank_fit world c from (x ∷ words) blank h e =
@@ -171,7 +174,8 @@ module _ (w : World) (call : NativeCall Kept) (there : (c : ApiClass) → Stands
   Writes (x ∷ []) = FitsWrite w.shapes call.heap x
   Writes (x ∷ y ∷ writes) = ⊥
 
-  to_bytes : (number from : ℕ) (words : List ℕ) → LeadsToBytes call.heap number → FitsWords w.shapes ByteArray from words
+  to_bytes : (number from : ℕ) (words : List ℕ) → LeadsToBytes call.heap number
+      → FitsWords w.shapes ByteArray from words
       → FitsWrite w.shapes call.heap (record { object = number; from = from; words = words })
   to_bytes number from words leads fits o found =
       subst (λ type. FitsWords w.shapes type from words) (sym (leads o found)) fits
@@ -182,7 +186,8 @@ module _ (w : World) (call : NativeCall Kept) (there : (c : ApiClass) → Stands
       → FitsWrite w.shapes call.heap (record { object = number; from = from; words = words })
   to_class number from words c leads fits o found =
       let same = same_Some leads.object o (sym leads.found ∙ found) in
-      fits o.kind.object (ap (λ (x : Object TaggedValue). is_of_class w.shapes (Api c) x.kind.object) (sym same) ∙ leads.below)
+      fits o.kind.object (ap (λ (x : Object TaggedValue). is_of_class w.shapes (Api c) x.kind.object) (sym same)
+      ∙ leads.below)
 
   -- ---- the runtime's own objects
 
@@ -249,7 +254,8 @@ module _ (w : World) (call : NativeCall Kept) (there : (c : ApiClass) → Stands
       let has = own_object call.heap 11 _ fit.runtime_objects refl in
       ap (λ (x : Object TaggedValue). x.kind.object) (same_Some o has.object (sym found ∙ has.found)) ∙ has.type
 
-  aid_leads : (number : ℕ) → is_instance_number number ≡ true → LeadsToClass w.shapes call.heap (13 + number) (Api api.Aid)
+  aid_leads : (number : ℕ) → is_instance_number number ≡ true
+      → LeadsToClass w.shapes call.heap (13 + number) (Api api.Aid)
   unfolding most_classes
   aid_leads number e = own_leads _ api.Aid (own_aid call.heap number fit.runtime_objects e) refl refl
 
@@ -267,7 +273,8 @@ module _ (w : World) (call : NativeCall Kept) (there : (c : ApiClass) → Stands
 
   class_fits : (c : ApiClass) (words : List ℕ) → is_same_name (Api api.Object) (Api c) ≡ false
       → above_in most_classes c api.Object ≡ false
-      → ((d : ClassName) → is_at_or_above w.shapes most_classes (Api c) d ≡ true → FitsWords w.shapes (OfClass d) 0 words)
+      → ((d : ClassName) → is_at_or_above w.shapes most_classes (Api c) d ≡ true
+      → FitsWords w.shapes (OfClass d) 0 words)
       → (type : ObjectType) → is_of_class w.shapes (Api c) type ≡ true → FitsWords w.shapes type 0 words
   class_fits c words other none fits (OfClass d) e =
       fits d (ap (λ b. b || is_at_or_above w.shapes most_classes (Api c) d) (sym other) ∙ e)
@@ -301,13 +308,15 @@ module _ (w : World) (call : NativeCall Kept) (there : (c : ApiClass) → Stands
       → FitsWrite w.shapes call.heap (record { object = number; from = 0; words = n ∷ [] })
   unfolding most_classes
   system_reason number n leads small =
-      reason_written number n api.SystemException leads small refl refl (below_reason w.shapes there api.SystemException refl)
+      reason_written number n api.SystemException leads small refl refl
+      (below_reason w.shapes there api.SystemException refl)
 
   apdu_reason : (number n : ℕ) → LeadsToClass w.shapes call.heap number (Api api.ApduException) → n < 65536
       → FitsWrite w.shapes call.heap (record { object = number; from = 0; words = n ∷ [] })
   unfolding most_classes
   apdu_reason number n leads small =
-      reason_written number n api.ApduException leads small refl refl (below_reason w.shapes there api.ApduException refl)
+      reason_written number n api.ApduException leads small refl refl
+      (below_reason w.shapes there api.ApduException refl)
 
   -- an AID: its length and its bytes
   aid_written : (number : ℕ) (bytes : List ℕ) → LeadsToClass w.shapes call.heap number (Api api.Aid)
@@ -430,7 +439,8 @@ module _ (w : World) (call : NativeCall Kept) (there : (c : ApiClass) → Stands
       by_room : (b : Bool) → Answers (done call touches (array_or_refusal b array call.runtime))
       by_room true = done_fits touches (Makes array) fits
       by_room false =
-          done_fits touches (Does (record { object = 9; from = 0; words = 2 ∷ [] } ∷ []) call.runtime (Throws 9)) no_space
+          done_fits touches (Does (record { object = 9; from = 0; words = 2 ∷ [] } ∷ []) call.runtime (Throws 9))
+          no_space
   roomy_fits touches (Asks q) fits = done_fits touches (Asks q) fits
 
   -- ---- what tests throw
@@ -534,7 +544,8 @@ module _ (w : World) (call : NativeCall Kept) (there : (c : ApiClass) → Stands
       by_null : (b : Bool) → leads_to call.heap (is_of_class w.shapes (Api api.Aid)) (cond b Null (Ref n)) ≡ true
       by_null true = refl
       by_null false =
-          ap (λ o. option_map_or (λ (p : Object TaggedValue). is_of_class w.shapes (Api api.Aid) p.kind.object) o false) leads.found
+          ap (λ o. option_map_or (λ (p : Object TaggedValue). is_of_class w.shapes (Api api.Aid) p.kind.object) o
+          false) leads.found
           ∙ leads.below
 
   instances_fit : list_all (fits_instance w.shapes call.heap) call.runtime.instances ≡ true
@@ -556,7 +567,8 @@ module _ (w : World) (call : NativeCall Kept) (there : (c : ApiClass) → Stands
       (both (list_all (fits_instance w.shapes call.heap) call.runtime.instances
       && option_map_or fits_installing call.runtime.installing true) (fits_command call.runtime) fit.fits).1
 
-  instance_number : (i : Instance) → fits_instance w.shapes call.heap i ≡ true → is_instance_number i.owner.instance ≡ true
+  instance_number : (i : Instance) → fits_instance w.shapes call.heap i ≡ true → is_instance_number i.owner.instance
+      ≡ true
   instance_number i e =
       (both (is_aid i.aid) (is_instance_number i.owner.instance)
       (both (is_aid i.aid && is_instance_number i.owner.instance)
@@ -652,7 +664,8 @@ module _ (w : World) (call : NativeCall Kept) (there : (c : ApiClass) → Stands
 
   new_instance : (object : ℕ) (aid : List ℕ) (i : Installing) → May object i → is_aid aid ≡ true
       → LeadsToClass w.shapes call.heap object (Api api.Applet)
-      → fits_instance w.shapes call.heap (record { aid = aid; object = object; owner = owner_of (bared call.heap) object }) ≡ true
+      → fits_instance w.shapes call.heap
+      (record { aid = aid; object = object; owner = owner_of (bared call.heap) object }) ≡ true
   new_instance object aid i may whole leads =
       let owner : owner_of (bared call.heap) object ≡ (leads.object).owner =
       ap (λ o. option_map_or (λ (p : Object ℕ). p.owner) o runtime) (bare_object call.heap object)
@@ -662,11 +675,15 @@ module _ (w : World) (call : NativeCall Kept) (there : (c : ApiClass) → Stands
       both_are (is_aid aid && is_instance_number own.instance) _
       (both_are (is_aid aid) (is_instance_number own.instance) whole
       (ap is_instance_number (eqb-true own.instance i.owner.instance may.number) ∙ number))
-      (ap (λ o. option_map_or (λ (p : Object TaggedValue). is_of_class w.shapes (Api api.Applet) p.kind.object && is_same_owner p.owner own) o false) leads.found
-      ∙ both_are (is_of_class w.shapes (Api api.Applet) (leads.object).kind.object) (is_same_owner (leads.object).owner own)
+      (ap (λ o. option_map_or
+      (λ (p : Object TaggedValue). is_of_class w.shapes (Api api.Applet) p.kind.object && is_same_owner p.owner
+      own) o false) leads.found
+      ∙ both_are (is_of_class w.shapes (Api api.Applet) (leads.object).kind.object)
+      (is_same_owner (leads.object).owner own)
       leads.below
       (ap (λ x. is_same_owner x own) (sym owner)
-      ∙ both_are (own.context == own.context) (own.instance == own.instance) (itself own.context) (itself own.instance)))
+      ∙ both_are (own.context == own.context) (own.instance == own.instance) (itself own.context)
+      (itself own.instance)))
 
   module _ (r : ReturnType ApiClass) (is : given.result ≡ return_map counted_name r) where
     registers_fit : (object : ℕ) (aid : List ℕ) (i : Installing) → May object i → is_aid aid ≡ true
@@ -676,7 +693,8 @@ module _ (w : World) (call : NativeCall Kept) (there : (c : ApiClass) → Stands
         let number = (both (is_aid i.aid) (is_instance_number i.owner.instance) may.fits).1 in
         let parts = both (has_aid_length (length aid)) (are_bytes aid) whole in
         let short = leb-true (length aid) 16 (both (nat_le 5 (length aid)) (nat_le (length aid) 16) parts.0).1 in
-        either_fits (not (is_some (instance_with call.runtime.instances aid)) && nat_lt (length call.runtime.instances) 32) _ _
+        either_fits (not (is_some (instance_with call.runtime.instances aid)) && nat_lt (length call.runtime.instances)
+        32) _ _
         (λ e. (
           aid_written (13 + i.owner.instance) aid (aid_leads i.owner.instance number) short parts.1,
           (registered_fits _ (new_instance object aid i may whole leads), void_ends r is g),
@@ -695,7 +713,8 @@ module _ (w : World) (call : NativeCall Kept) (there : (c : ApiClass) → Stands
     installing_aid : (object : ℕ) (i : Installing) → May object i → is_aid i.aid ≡ true
     installing_aid object i may = (both (is_aid i.aid) (is_instance_number i.owner.instance) may.fits).0
 
-    range_aid : (number at count : ℕ) → has_aid_length count ≡ true → is_aid (bytes_of (bared call.heap) number at count) ≡ true
+    range_aid : (number at count : ℕ) → has_aid_length count ≡ true
+        → is_aid (bytes_of (bared call.heap) number at count) ≡ true
     range_aid number at count e =
         both_are (has_aid_length (length (bytes_of (bared call.heap) number at count))) _
         (ap has_aid_length (length_of_bytes (bared call.heap) number at count) ∙ e)
@@ -703,7 +722,8 @@ module _ (w : World) (call : NativeCall Kept) (there : (c : ApiClass) → Stands
 
     -- ---- transient arrays
 
-    new_found : (heap : Heap TaggedValue) (o : Object TaggedValue) → object_at (heap ++ o ∷ []) (next_number heap) ≡ Some o
+    new_found : (heap : Heap TaggedValue) (o : Object TaggedValue) → object_at (heap ++ o ∷ []) (next_number heap)
+        ≡ Some o
     new_found [] o = refl
     new_found (p ∷ heap) o = new_found heap o
 
@@ -718,7 +738,8 @@ module _ (w : World) (call : NativeCall Kept) (there : (c : ApiClass) → Stands
         (object_at (with_new call.heap (new_array call.active array)) (next_number call.heap)) false
         → test (array_type array.elements) ≡ true → MadeGiven array
     made_given array t test g same e =
-        gives_as r is (Value t) g (Some (Ref (next_number call.heap))) (with_new call.heap (new_array call.active array))
+        gives_as r is (Value t) g (Some (Ref (next_number call.heap)))
+        (with_new call.heap (new_array call.active array))
         (same ∙ ap (λ o. option_map_or (λ (o : Object TaggedValue). test o.kind.object) o false)
         (new_found call.heap (new_array call.active array)) ∙ e)
 
@@ -742,7 +763,11 @@ module _ (w : World) (call : NativeCall Kept) (there : (c : ApiClass) → Stands
       (asked_type : type_of_member w.shapes 40 ≡ Some (signature_map counted_name asking.signature))
       (asking_class : asking.class ≡ api.Applet) (asking_kind : asking.kind ≡ Virtual)
       (asking_signature : signature_map counted_name asking.signature
-      ≡ record { parameters = types.Reference (Api api.Aid) ∷ types.Byte ∷ []; result = Value (types.Reference (Api api.Object)) })
+      ≡ record {
+        parameters = types.Reference (Api api.Aid) ∷ types.Byte ∷ [];
+        result =
+            Value (types.Reference (Api api.Object));
+      })
     where
       abbrev s : Seen
       s = seen_of w call
@@ -767,8 +792,14 @@ module _ (w : World) (call : NativeCall Kept) (there : (c : ApiClass) → Stands
 
       aid_given : (n : ℕ) → leads_to call.heap (is_of_class w.shapes (Api api.Aid)) (reference n) ≡ true
           → Gives suits.aid m.signature.result → Fits (Does [] k (GivesReference n))
-      aid_given n leads g =
-          (tt, (fit.fits, gives_as m.signature.result is (Value (types.Reference api.Aid)) g (Some (reference n)) call.heap leads))
+      aid_given n leads g = (
+        tt,
+        (
+          fit.fits,
+          gives_as m.signature.result is (Value (types.Reference api.Aid)) g (Some (reference n))
+              call.heap leads,
+        ),
+      )
 
       -- the object of a member
       object_is : (c : ApiClass) → HasObject m c → LeadsToClass w.shapes call.heap (argument args 0) (Api c)
@@ -816,19 +847,23 @@ module _ (w : World) (call : NativeCall Kept) (there : (c : ApiClass) → Stands
           (system_throw 1 (omega arith))
         where
           written_so : has_aid_length count ≡ true
-              → FitsWrite w.shapes call.heap (record { object = argument args 0; from = 0; words = count ∷ bytes_of o array offset count })
+              → FitsWrite w.shapes call.heap
+              (record { object = argument args 0; from = 0; words = count ∷ bytes_of o array offset count })
           written_so e =
               let high = leb-true count 16 (both (nat_le 5 count) (nat_le count 16) e).1 in
               let count_is = length_of_bytes o array offset count in
-              subst (λ n. FitsWrite w.shapes call.heap (record { object = argument args 0; from = 0; words = n ∷ bytes_of o array offset count }))
+              subst (λ n. FitsWrite w.shapes call.heap
+              (record { object = argument args 0; from = 0; words = n ∷ bytes_of o array offset count }))
               count_is
               (aid_written (argument args 0) (bytes_of o array offset count) (object_is api.Aid has)
               (omega (arith, high, count_is)) (bytes_are o array offset count))
 
       aid_fits : (native : AidNative) → Suits (OfAid native) m → Fits (aid_work s k args native)
-      aid_fits aids.Construct g = constructs_fit (argument args 1) (argument args 2) (extended (argument args 3)) g.1 g.0
+      aid_fits aids.Construct g =
+          constructs_fit (argument args 1) (argument args 2) (extended (argument args 3)) g.1 g.0
       aid_fits aids.Equals g =
-          word_given _ (bit_is (is_range s (argument args 0) (argument args 1) (argument args 2) (extended (argument args 3)))) g
+          word_given _ (bit_is (is_range s (argument args 0) (argument args 1) (argument args 2)
+          (extended (argument args 3)))) g
       aid_fits aids.GetBytes g = (
         to_bytes (argument args 1) (argument args 2) (aid_bytes o (argument args 0))
             (object_bytes w.shapes call.heap m call.arguments typed (g.1).0 0 g.2)
@@ -860,10 +895,12 @@ module _ (w : World) (call : NativeCall Kept) (there : (c : ApiClass) → Stands
           )) (apdu_throw 1 (omega arith))
       apdu_fits apdus.SetOutgoing g =
           either_fits (is_incoming k.state) _ _
-          (λ e. (tt, (fit.fits, word_ends m.signature.result is (expected_of k) expected_is g))) (apdu_throw 1 (omega arith))
+          (λ e. (tt, (fit.fits, word_ends m.signature.result is (expected_of k) expected_is g)))
+          (apdu_throw 1 (omega arith))
       apdu_fits apdus.SetOutgoingLength g =
           either_fits (is_outgoing k.state) _ _
-          (λ e. either_fits (nat_le (argument args 1) 256) _ _ (λ f. (tt, (fit.fits, void_ends m.signature.result is g)))
+          (λ e. either_fits (nat_le (argument args 1) 256) _ _
+          (λ f. (tt, (fit.fits, void_ends m.signature.result is g)))
           (apdu_throw 3 (omega arith))) (apdu_throw 1 (omega arith))
       apdu_fits apdus.SendBytes g =
           either_fits (is_length_set k.state) _ _
@@ -911,7 +948,8 @@ module _ (w : World) (call : NativeCall Kept) (there : (c : ApiClass) → Stands
           let a = both (is_aid i.aid && is_instance_number i.owner.instance)
           (option_map_or (has_applet w.shapes i) (object_at call.heap i.object) false) fits in
           let d = passed_some (has_applet w.shapes i) (object_at call.heap i.object) a.1 in
-          let below = (both (is_of_class w.shapes (Api api.Applet) (d.0).kind.object) (is_same_owner (d.0).owner i.owner) d.2).0 in
+          let below = (both (is_of_class w.shapes (Api api.Applet) (d.0).kind.object)
+          (is_same_owner (d.0).owner i.owner) d.2).0 in
           record {
             caller = m;
             caller_is = numbered_is;
@@ -925,13 +963,15 @@ module _ (w : World) (call : NativeCall Kept) (there : (c : ApiClass) → Stands
             signature = signature_map counted_name asking.signature;
             declared = asked_type;
             arguments =
-                ap (λ (x : Signature ClassName). are_of_types w.shapes call.heap x.parameters (reference n ∷ Word word ∷ [])) asking_signature
+                ap (λ (x : Signature ClassName). are_of_types w.shapes call.heap x.parameters
+                (reference n ∷ Word word ∷ [])) asking_signature
                 ∙ both_are (leads_to call.heap (is_of_class w.shapes (Api api.Aid)) (reference n)) _ leads
                 (both_are (nat_lt word 65536) true (lt-ltb word 65536 small) refl);
             result =
                 ap (λ x. is_same_return x (signature_map counted_name asking.signature).result)
                 (is ∙ ap (return_map counted_name) g)
-                ∙ ap (λ (x : Signature ClassName). is_same_return (Value (types.Reference (Api api.Object))) x.result) asking_signature;
+                ∙ ap (λ (x : Signature ClassName). is_same_return (Value (types.Reference (Api api.Object))) x.result)
+                asking_signature;
           }
 
       asks_fit : (word : ℕ) (p : Instance → Bool) (x : Option Instance) → find p k.instances ≡ x
@@ -946,8 +986,10 @@ module _ (w : World) (call : NativeCall Kept) (there : (c : ApiClass) → Stands
       system_fits system.GetAid g = aid_given (aid_of_owner k (Some call.active)) (owner_reference (Some call.active)) g
       system_fits system.LookupAid g =
           aid_given _ (aid_reference
-          (λ (i : Instance). bytes_eq i.aid (bytes_of o (argument args 0) (argument args 1) (extended (argument args 2))))
-          (instance_with k.instances (bytes_of o (argument args 0) (argument args 1) (extended (argument args 2)))) refl) g
+          (λ (i : Instance). bytes_eq i.aid
+          (bytes_of o (argument args 0) (argument args 1) (extended (argument args 2))))
+          (instance_with k.instances (bytes_of o (argument args 0) (argument args 1) (extended (argument args 2))))
+          refl) g
       system_fits system.GetPreviousAid g = aid_given (aid_of_owner k call.previous) (owner_reference call.previous) g
       system_fits system.AskForShareable g =
           asks_fit (argument args 1) (λ (i : Instance). bytes_eq i.aid (aid_bytes o (argument args 0)))
@@ -955,20 +997,25 @@ module _ (w : World) (call : NativeCall Kept) (there : (c : ApiClass) → Stands
       system_fits system.MakeBooleans g =
           makes_fit m.signature.result is elements.Booleans (argument args 0) (event_of (extended (argument args 1)))
           (λ event. made_given m.signature.result is
-          (record { elements = elements.Booleans; event = event; size = argument args 0 }) types.BooleanArray is_boolean_array g refl refl)
+          (record { elements = elements.Booleans; event = event; size = argument args 0 }) types.BooleanArray
+          is_boolean_array g refl refl)
       system_fits system.MakeBytes g =
           makes_fit m.signature.result is elements.Bytes (argument args 0) (event_of (extended (argument args 1)))
           (λ event. made_given m.signature.result is
-          (record { elements = elements.Bytes; event = event; size = argument args 0 }) types.ByteArray is_byte_array g refl refl)
+          (record { elements = elements.Bytes; event = event; size = argument args 0 }) types.ByteArray is_byte_array g
+          refl refl)
       system_fits system.MakeShorts g =
           makes_fit m.signature.result is elements.Shorts (argument args 0) (event_of (extended (argument args 1)))
           (λ event. made_given m.signature.result is
-          (record { elements = elements.Shorts; event = event; size = argument args 0 }) types.ShortArray is_short_array g refl refl)
+          (record { elements = elements.Shorts; event = event; size = argument args 0 }) types.ShortArray
+          is_short_array g refl refl)
       system_fits system.MakeReferences g =
           makes_fit m.signature.result is elements.References (argument args 0) (event_of (extended (argument args 1)))
           (λ event. made_given m.signature.result is
-          (record { elements = elements.References; event = event; size = argument args 0 }) (types.ReferenceArray api.Object)
-          (λ object. option_map_or (λ e. is_class_below w.shapes (counted w.shapes e) (Api api.Object)) (component_class object) false)
+          (record { elements = elements.References; event = event; size = argument args 0 })
+          (types.ReferenceArray api.Object)
+          (λ object. option_map_or (λ e. is_class_below w.shapes (counted w.shapes e) (Api api.Object))
+          (component_class object) false)
           g refl refl)
 
       utility_fits : (native : UtilityNative) → Suits (OfUtility native) m → Fits (utility_work s k args native)
@@ -981,7 +1028,8 @@ module _ (w : World) (call : NativeCall Kept) (there : (c : ApiClass) → Stands
       utility_fits utilities.ArrayFill g = (
         to_bytes (argument args 0) (argument args 1) (replicate (argument args 2) (low (argument args 3)))
             (static_bytes w.shapes call.heap m call.arguments typed g.1 0 g.2)
-            (same_bytes_fit w.shapes (argument args 1) (argument args 2) (low (argument args 3)) (low_is (argument args 3))),
+            (same_bytes_fit w.shapes (argument args 1) (argument args 2) (low (argument args 3))
+            (low_is (argument args 3))),
         (fit.fits, word_ends m.signature.result is _ (word_is (argument args 1 + argument args 2)) g.0),
       )
       utility_fits utilities.ArrayCompare g =
@@ -1008,5 +1056,6 @@ module _ (w : World) (call : NativeCall Kept) (there : (c : ApiClass) → Stands
 
       pub begun_fits : (native : Native) → Suits native m → Answers (begun w call (Some native))
       begun_fits native g =
-          ended_fits (tested s args (row_of native)).touches (tested s args (row_of native)).thrown (work_of s k args native)
+          ended_fits (tested s args (row_of native)).touches (tested s args (row_of native)).thrown
+          (work_of s k args native)
           (tested_thrown s args (row_of native)) (work_fits native g)

@@ -53,7 +53,8 @@ allowed_both (x ∷ xs) ys e f =
     let b = both (is_allowed x.verdict) (are_allowed xs) e in
     ap (λ a. a && are_allowed (xs ++ ys)) b.0 ∙ allowed_both xs ys b.1 f
 
-denied_behind : (xs ys : List Touch) → are_allowed xs ≡ true → is_last_denied ys ≡ true → is_last_denied (xs ++ ys) ≡ true
+denied_behind : (xs ys : List Touch) → are_allowed xs ≡ true → is_last_denied ys ≡ true → is_last_denied (xs ++ ys)
+    ≡ true
 denied_behind [] ys e f = f
 denied_behind (x ∷ []) [] e f = absurd cc
 denied_behind (x ∷ []) (y ∷ ys) e f =
@@ -117,7 +118,8 @@ module _ (w : World) (call : NativeCall Kept) where
     active = refl;
   }
 
-  by_verdict_uses : (way : Way) (number : ℕ) (o : Object TaggedValue) (v : Verdict) → object_at call.heap number ≡ Some o
+  by_verdict_uses : (way : Way) (number : ℕ) (o : Object TaggedValue) (v : Verdict) → object_at call.heap number
+      ≡ Some o
       → verdict_of (access_of way) call.active.context (facts_of (seen_of w call) (bare o)) ≡ v
       → AreUses w call (by_verdict (seen_of w call) way number v)
   by_verdict_uses way number o Allowed found is =
@@ -305,14 +307,16 @@ either_is true b e = inl refl
 either_is false b e = inr e
 
 -- a plain object that a member may use is its context's own, or the runtime uses it
-by_fields : (by_runtime own : Bool) → is_allowed (cond by_runtime Allowed (cond own Allowed (Denied rules.Fields))) ≡ true
+by_fields : (by_runtime own : Bool) → is_allowed (cond by_runtime Allowed (cond own Allowed (Denied rules.Fields)))
+    ≡ true
     → (own ≡ true) ⊎ (by_runtime ≡ true)
 by_fields true own e = inr refl
 by_fields false true e = inl refl
 by_fields false false e = absurd cc
 
 by_components : (by_runtime out own global : Bool)
-    → is_allowed (cond by_runtime Allowed (cond out (Denied rules.Selection) (cond (own || global) Allowed (Denied rules.Components)))) ≡ true
+    → is_allowed (cond by_runtime Allowed
+    (cond out (Denied rules.Selection) (cond (own || global) Allowed (Denied rules.Components)))) ≡ true
     → global ≡ false → (own ≡ true) ⊎ (by_runtime ≡ true)
 by_components true out own global e f = inr refl
 by_components false true own global e f = absurd cc
@@ -408,7 +412,8 @@ module _ (w : World) (call : NativeCall Kept) where
       here f =
           ap (λ n. cond (is_touched touches n) []
           (option_map_or (λ object. own_touch x.object object ∷ []) (object_at call.heap n) [])) f
-          ∙ ap (λ b. cond b [] (option_map_or (λ object. own_touch x.object object ∷ []) (object_at call.heap number) [])) apart
+          ∙ ap (λ b. cond b [] (option_map_or (λ object. own_touch x.object object ∷ []) (object_at call.heap number)
+          [])) apart
           ∙ ap (λ p. option_map_or (λ object. own_touch x.object object ∷ []) p []) found
 
       by_first : (is_written_in writes number ≡ true → IsAccessed (own_touches touches call.heap writes) number o)
@@ -487,7 +492,8 @@ module _ (w : World) (call : NativeCall Kept) where
       by_array true = refl
       by_array false = refl
 
-  own_natives_of : (touches : List Touch) (x : Write) → AllByRecursion (IsNativeTouch w call) (own_touch_of touches call.heap x)
+  own_natives_of : (touches : List Touch) (x : Write)
+      → AllByRecursion (IsNativeTouch w call) (own_touch_of touches call.heap x)
   own_natives_of touches x = by_touched (is_touched touches x.object) (object_at call.heap x.object) refl
     where
       by_touched : (b : Bool) (o : Option (Object TaggedValue)) → object_at call.heap x.object ≡ o
@@ -525,7 +531,8 @@ sums_set : (heap : Heap TaggedValue) (n : ℕ) (before after : Object TaggedValu
     → length after.cells ≡ length before.cells → cells_in (set heap n after) ≡ cells_in heap
 sums_set [] n before after e same = refl
 sums_set (o ∷ heap) zero before after e same =
-    ap (λ k. 1 + k + cells_in heap) (same ∙ ap (λ (x : Object TaggedValue). length x.cells) (sym (same_Some o before e)))
+    ap (λ k. 1 + k + cells_in heap)
+    (same ∙ ap (λ (x : Object TaggedValue). length x.cells) (sym (same_Some o before e)))
 sums_set (o ∷ heap) (suc n) before after e same =
     ap (λ k. 1 + length o.cells + k) (sums_set heap n before after e same)
 
@@ -663,7 +670,8 @@ module _ (w : World) (call : NativeCall Kept) where
           call.runtime (Throws system_exception) uses fine
   done_guarded touches (Asks question) uses fine = unchanged_guarded touches _ uses (allowed fine)
 
-  ended_guarded : (t : Tested) (work : Work) → AreUses w call t → IsGuardedAnswer w call (ended call t.touches t.thrown work)
+  ended_guarded : (t : Tested) (work : Work) → AreUses w call t
+      → IsGuardedAnswer w call (ended call t.touches t.thrown work)
   ended_guarded t work are = by_thrown t.thrown refl are.verdicts
     where
       by_thrown : (thrown : Option ℕ) → t.thrown ≡ thrown → (are_allowed t.touches ≡ true) ⊎ Refuses t

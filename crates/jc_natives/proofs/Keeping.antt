@@ -236,7 +236,8 @@ all_replicated : {A : Type 0} (P : A → Type 0) (n : ℕ) (x : A) → P x → A
 all_replicated P zero x p = tt
 all_replicated P (suc n) x p = (p, all_replicated P n x p)
 
-all_behind : {A : Type 0} (P : A → Type 0) (xs : List A) (x : A) → AllByRecursion P xs → P x → AllByRecursion P (xs ++ x ∷ [])
+all_behind : {A : Type 0} (P : A → Type 0) (xs : List A) (x : A) → AllByRecursion P xs → P x
+    → AllByRecursion P (xs ++ x ∷ [])
 all_behind P [] x all p = (p, tt)
 all_behind P (y ∷ xs) x all p = (all.0, all_behind P xs x all.1 p)
 

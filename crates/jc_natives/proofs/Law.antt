@@ -85,7 +85,8 @@ module _ (lookups : (before after : List Shape) → LiesWithin before after → 
       (arguments_typed w call b d) asking refl a.type refl refl refl b.native
       (suits call.member b.native b.member b.numbered b.is) in
       let same : answer_of w call ≡ begun w call (Some b.native) =
-      ap (λ x. answers w call x (numbered natives call.member)) fit.begins ∙ ap (λ o. answers w call true o) b.numbered in
+      ap (λ x. answers w call x (numbered natives call.member)) fit.begins
+      ∙ ap (λ o. answers w call true o) b.numbered in
       subst (IsFitAnswer meaning w call) (sym same) (record {
         heap = done.0;
         fits = (done.1).0;

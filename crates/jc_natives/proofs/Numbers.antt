@@ -42,7 +42,8 @@ put_all_still_none : (heap : Heap ℕ) (number from other : ℕ) (words : List �
     → object_at (put_all heap number from words) other ≡ None
 put_all_still_none heap number from other [] e = e
 put_all_still_none heap number from other (w ∷ words) e =
-    put_all_still_none (put heap number from w) number (from + 1) other words (put_still_none heap number from w other e)
+    put_all_still_none (put heap number from w) number (from + 1) other words
+    (put_still_none heap number from w other e)
 
 laid_still_none : (heap : Heap ℕ) (writes : List Write) (other : ℕ) → object_at heap other ≡ None
     → object_at (laid heap writes) other ≡ None

@@ -140,7 +140,8 @@ put_past objects number index word h = by_object (object_at objects number) refl
     by_object (Some o) e =
         put_some objects number index word o e
         ∙ ap (λ cells. with_object objects number (cells_of_kind o cells))
-        (set_past o.cells index word (short (ap (λ x. option_map_or (λ (object : Object ℕ). length object.cells) x 0) (sym e))))
+        (set_past o.cells index word
+        (short (ap (λ x. option_map_or (λ (object : Object ℕ). length object.cells) x 0) (sym e))))
         ∙ same_heap objects number o e
       where
         short : length o.cells ≡ size_of objects number → length o.cells ≤ index

@@ -59,7 +59,8 @@ bytes_differ (x ∷ xs) (y ∷ ys) h = no_more (nat_eq x y) (bytes_eq xs ys) (by
 -- two ranges, byte by byte
 pub same_so_far : (objects : Heap ℕ) (one one_from other other_from at count : ℕ) (all : Bool) → at < count
     → byte_of objects one (one_from + at) ≡ byte_of objects other (other_from + at)
-    → all ≡ bytes_eq (bytes_of objects one (one_from + at) (count - at)) (bytes_of objects other (other_from + at) (count - at))
+    → all ≡ bytes_eq (bytes_of objects one (one_from + at) (count - at))
+    (bytes_of objects other (other_from + at) (count - at))
     → all ≡ bytes_eq (bytes_of objects one (one_from + (at + 1)) (count - (at + 1)))
     (bytes_of objects other (other_from + (at + 1)) (count - (at + 1)))
 same_so_far objects one one_from other other_from at count all h same e =
@@ -74,7 +75,8 @@ same_so_far objects one one_from other other_from at count all h same e =
     ∙ ap (λ b. b && bytes_eq xs ys) (eq-eqb x y same)
 
 pub order_so_far : (objects : Heap ℕ) (one one_from other other_from at count : ℕ) (all : ℕ) → at < count
-    → all ≡ order_of (bytes_of objects one (one_from + at) (count - at)) (bytes_of objects other (other_from + at) (count - at))
+    → all ≡ order_of (bytes_of objects one (one_from + at) (count - at))
+    (bytes_of objects other (other_from + at) (count - at))
     → all ≡ unwrap_or (byte_order (byte_of objects one (one_from + at)) (byte_of objects other (other_from + at)))
     (order_of (bytes_of objects one (one_from + (at + 1)) (count - (at + 1)))
     (bytes_of objects other (other_from + (at + 1)) (count - (at + 1))))
@@ -100,7 +102,8 @@ put_first s number from at word words =
     ap (λ f. holds s (put_all (put s.objects number (from + at) word) number f words)) on
 
 pub filled : (s : Store) (number from at count byte : ℕ) → at < count
-    → holds s (put_all (put s.objects number (from + at) byte) number (from + (at + 1)) (replicate (count - (at + 1)) byte))
+    → holds s (put_all (put s.objects number (from + at) byte) number (from + (at + 1))
+    (replicate (count - (at + 1)) byte))
     ≡ holds s (put_all s.objects number (from + at) (replicate (count - at) byte))
 filled s number from at count byte h =
     let more : suc (count - (at + 1)) ≡ count - at = omega (arith, h) in
@@ -155,14 +158,16 @@ copied_back s l source source_from target target_from at count done word behind 
     let whole : l ≡ copied s source source_from target target_from (at + 1) done = before
     ∙ ap (λ n. copied s source source_from target target_from n done) first in
     ap (λ w. holds l (put l.objects target (target_from + at) w)) is
-    ∙ ap (λ (o : Store). holds o (put o.objects target (target_from + at) (byte_of o.objects source (source_from + at))))
+    ∙ ap (λ (o : Store). holds o
+    (put o.objects target (target_from + at) (byte_of o.objects source (source_from + at))))
     whole
     ∙ put_in_front s source source_from target target_from at done behind
     ∙ ap (λ n. copied s source source_from target target_from n (suc done)) last
     ∙ ap (copied s source source_from target target_from (count - (done + 1))) more
 
 pub order_met : (objects : Heap ℕ) (one one_from other other_from at count all first second : ℕ) → at < count
-    → all ≡ order_of (bytes_of objects one (one_from + at) (count - at)) (bytes_of objects other (other_from + at) (count - at))
+    → all ≡ order_of (bytes_of objects one (one_from + at) (count - at))
+    (bytes_of objects other (other_from + at) (count - at))
     → first ≡ byte_of objects one (one_from + at) → second ≡ byte_of objects other (other_from + at)
     → (o : Option ℕ) → o ≡ byte_order first second
     → all ≡ unwrap_or o (order_of (bytes_of objects one (one_from + (at + 1)) (count - (at + 1)))

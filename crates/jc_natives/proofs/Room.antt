@@ -25,7 +25,8 @@ cases a b = by_test (nat_lt a b) refl
 
 pub not_full_has_some : (s : Store) (size : ℕ) → (IsFull s size → ⊥)
     → has_room s.most_objects s.most_cells s.objects size ≡ true
-not_full_has_some s size h = by_objects (cases (length s.objects) s.most_objects) (cases s.most_cells (cells_in s.objects + 1 + size))
+not_full_has_some s size h =
+    by_objects (cases (length s.objects) s.most_objects) (cases s.most_cells (cells_in s.objects + 1 + size))
   where
     by_objects : (length s.objects < s.most_objects) ⊎ (s.most_objects ≤ length s.objects)
         → (s.most_cells < cells_in s.objects + 1 + size) ⊎ (cells_in s.objects + 1 + size ≤ s.most_cells)
@@ -33,5 +34,6 @@ not_full_has_some s size h = by_objects (cases (length s.objects) s.most_objects
     by_objects (inr full) c = absurd (h (inl full))
     by_objects (inl low) (inl full) = absurd (h (inr full))
     by_objects (inl low) (inr fits) =
-        ap (λ b. b && nat_le (cells_in s.objects + 1 + size) s.most_cells) (lt-ltb (length s.objects) s.most_objects low)
+        ap (λ b. b && nat_le (cells_in s.objects + 1 + size) s.most_cells)
+        (lt-ltb (length s.objects) s.most_objects low)
         ∙ le-leb (cells_in s.objects + 1 + size) s.most_cells fits

@@ -73,9 +73,11 @@ arguments_are : (w : World) (call : NativeCall Kept) (ws : List ℕ) → Pointwi
     → IsFitCall meaning w call → ws ≡ arguments_of call
 arguments_are w call ws r fit =
     let begins = both (is_concrete w.shapes (Api call.member))
-    (option_map_or (λ d. may_begin_with w.shapes call.heap d call.arguments) (method_at w.shapes (Api call.member)) false)
+    (option_map_or (λ d. may_begin_with w.shapes call.heap d call.arguments) (method_at w.shapes (Api call.member))
+    false)
     fit.begins in
-    let d = passed_some (λ d. may_begin_with w.shapes call.heap d call.arguments) (method_at w.shapes (Api call.member)) begins.1 in
+    let d = passed_some (λ d. may_begin_with w.shapes call.heap d call.arguments)
+    (method_at w.shapes (Api call.member)) begins.1 in
     let s = passed_some (takes w call d.0) (declared_type_of w.shapes d.0) d.2 in
     by_kind (d.0).method.is_static d.0 s.0 s.2
   where
@@ -95,7 +97,8 @@ reads_reference number = by_null (number == 0) refl
     by_null true e = eqb-true number 0 e
     by_null false e = refl
 
-reads_end : (outcome : WordOutcome) (ending : Ending) → TellsEnd outcome (ended_of ending) → ReadsEnd outcome (end_of ending)
+reads_end : (outcome : WordOutcome) (ending : Ending) → TellsEnd outcome (ended_of ending)
+    → ReadsEnd outcome (end_of ending)
 reads_end (Returned word) NoResult e = subst (λ w. ReadsResult w None) (sym e) tt
 reads_end (Returned word) (GivesWord n) e = subst (λ w. ReadsResult w (Some (Word n))) (sym e) refl
 reads_end (Returned word) (GivesReference n) e =
@@ -117,7 +120,8 @@ reads_made (Thrown number) n m same e = absurd e
 reads_made (CallsBack callback) n m same e = absurd e
 
 reads_question : (outcome : WordOutcome) (q : Question) → TellsEnd outcome (ends.Asks q)
-    → ReadsEnd outcome (Calls (record { member = 40; object = q.object; arguments = reference q.aid ∷ Word q.word ∷ [] }))
+    → ReadsEnd outcome (Calls
+    (record { member = 40; object = q.object; arguments = reference q.aid ∷ Word q.word ∷ [] }))
 reads_question (Returned word) q e = absurd e
 reads_question (Thrown number) q e = absurd e
 reads_question (CallsBack callback) q e = record {
@@ -143,7 +147,8 @@ bare_blank elements (suc n) = ap (λ x. x ∷ map bits (replicate n (blank_of el
 
 bare_array : (owner : Owner) (array : NewArray) → fresh (kind_of array) owner array.size ≡ bare (new_array owner array)
 bare_array owner array =
-    ap (λ cells. record { kind = kind_of array; owner = owner; cells = cells }) (sym (bare_blank array.elements array.size))
+    ap (λ cells. record { kind = kind_of array; owner = owner; cells = cells })
+    (sym (bare_blank array.elements array.size))
 
 -- the same state in the words of a call that agrees
 abbrev state_of : Done → WordState Kept
@@ -184,8 +189,10 @@ same_room call s (Does writes runtime ending) objects most cells = refl
 same_room call s (Makes array) objects most cells =
     ap (λ n. array_or_refusal (has_room n s.most_cells s.objects array.size) array call.runtime) most
     ∙ ap (λ n. array_or_refusal (has_room call.limits.objects n s.objects array.size) array call.runtime) cells
-    ∙ ap (λ h. array_or_refusal (has_room call.limits.objects call.limits.cells h array.size) array call.runtime) objects
-    ∙ ap (λ b. array_or_refusal b array call.runtime) (bare_room call.limits.objects call.limits.cells call.heap array.size)
+    ∙ ap (λ h. array_or_refusal (has_room call.limits.objects call.limits.cells h array.size) array call.runtime)
+    objects
+    ∙ ap (λ b. array_or_refusal b array call.runtime)
+    (bare_room call.limits.objects call.limits.cells call.heap array.size)
 same_room call s (Asks question) objects most cells = refl
 
 -- ---- a call
@@ -222,12 +229,66 @@ same_seen : (w : World) (s : Store) (word : WordCall) (call : NativeCall Kept) �
     → s.most_objects ≡ call.limits.objects → s.most_cells ≡ call.limits.cells
     → seen_in w s word ≡ seen_of w call
 same_seen w s word call objects active previous selected most cells =
-    ap (λ x. record { shapes = w.shapes; objects = x; active = word.active; previous = word.previous; selected = word.selected; most_objects = s.most_objects; most_cells = s.most_cells }) objects
-    ∙ ap (λ x. record { shapes = w.shapes; objects = bared call.heap; active = x; previous = word.previous; selected = word.selected; most_objects = s.most_objects; most_cells = s.most_cells }) active
-    ∙ ap (λ x. record { shapes = w.shapes; objects = bared call.heap; active = call.active; previous = x; selected = word.selected; most_objects = s.most_objects; most_cells = s.most_cells }) previous
-    ∙ ap (λ x. record { shapes = w.shapes; objects = bared call.heap; active = call.active; previous = call.previous; selected = x; most_objects = s.most_objects; most_cells = s.most_cells }) selected
-    ∙ ap (λ x. record { shapes = w.shapes; objects = bared call.heap; active = call.active; previous = call.previous; selected = call.selected; most_objects = x; most_cells = s.most_cells }) most
-    ∙ ap (λ x. record { shapes = w.shapes; objects = bared call.heap; active = call.active; previous = call.previous; selected = call.selected; most_objects = call.limits.objects; most_cells = x }) cells
+    ap (λ x. record {
+      shapes = w.shapes;
+      objects = x;
+      active = word.active;
+      previous = word.previous;
+      selected =
+          word.selected;
+      most_objects = s.most_objects;
+      most_cells = s.most_cells;
+    }) objects
+    ∙ ap (λ x. record {
+      shapes = w.shapes;
+      objects = bared call.heap;
+      active = x;
+      previous = word.previous;
+      selected =
+          word.selected;
+      most_objects = s.most_objects;
+      most_cells = s.most_cells;
+    }) active
+    ∙ ap (λ x. record {
+      shapes = w.shapes;
+      objects = bared call.heap;
+      active = call.active;
+      previous = x;
+      selected =
+          word.selected;
+      most_objects = s.most_objects;
+      most_cells = s.most_cells;
+    }) previous
+    ∙ ap (λ x. record {
+      shapes = w.shapes;
+      objects = bared call.heap;
+      active = call.active;
+      previous =
+          call.previous;
+      selected = x;
+      most_objects = s.most_objects;
+      most_cells = s.most_cells;
+    }) selected
+    ∙ ap (λ x. record {
+      shapes = w.shapes;
+      objects = bared call.heap;
+      active = call.active;
+      previous =
+          call.previous;
+      selected = call.selected;
+      most_objects = x;
+      most_cells = s.most_cells;
+    }) most
+    ∙ ap (λ x. record {
+      shapes = w.shapes;
+      objects = bared call.heap;
+      active = call.active;
+      previous =
+          call.previous;
+      selected = call.selected;
+      most_objects = call.limits.objects;
+      most_cells = x;
+    }) cells
 
 -- without a member the meaning is stuck, which the law excludes of calls that fit: a member has a number up to 55
 begun_agrees : (w : World) (s : Store) (call : NativeCall Kept) (native : Native) (outcome : WordOutcome)
@@ -250,7 +311,8 @@ listed (z ∷ xs) [] n x e f = absurd (omega (arith, e))
 listed (z ∷ xs) (y ∷ ys) zero x e f = (y, refl)
 listed (z ∷ xs) (y ∷ ys) (suc n) x e f = listed xs ys n x (omega (arith, e)) f
 
-numbered_native : (n : ℕ) (m : ApiMember) → member_of n ≡ Some m → (native : Native) × (numbered natives n ≡ Some native)
+numbered_native : (n : ℕ) (m : ApiMember) → member_of n ≡ Some m
+    → (native : Native) × (numbered natives n ≡ Some native)
 numbered_native zero m e = absurd (none-some m e)
 numbered_native (suc n) m e = listed members natives n m refl e
 
@@ -276,12 +338,15 @@ pub record Begins (w : World) (call : NativeCall Kept) : Type 0 where
   pub native : Native
   pub numbered : numbered natives call.member ≡ Some native
 
-pub begins_of : (w : World) (call : NativeCall Kept) → native_may_begin w.shapes call.heap call.member call.arguments ≡ true
+pub begins_of : (w : World) (call : NativeCall Kept) → native_may_begin w.shapes call.heap call.member call.arguments
+    ≡ true
     → Begins w call
 begins_of w call e =
     let a = both (is_concrete w.shapes (Api call.member))
-    (option_map_or (λ d. may_begin_with w.shapes call.heap d call.arguments) (method_at w.shapes (Api call.member)) false) e in
-    let d = passed_some (λ d. may_begin_with w.shapes call.heap d call.arguments) (method_at w.shapes (Api call.member)) a.1 in
+    (option_map_or (λ d. may_begin_with w.shapes call.heap d call.arguments) (method_at w.shapes (Api call.member))
+    false) e in
+    let d = passed_some (λ d. may_begin_with w.shapes call.heap d call.arguments)
+    (method_at w.shapes (Api call.member)) a.1 in
     let m = member_there call.member w.shapes d.0 d.1 in
     let n = numbered_native call.member m.0 m.1 in
     record {
@@ -306,16 +371,23 @@ pub answered : (w : World) (s : Store) (k : Kept) (word : WordCall) (d : Done) (
 answered w s k word d outcome is told call agrees fit =
     let objects = heap_bits w.shapes call.heap s.objects call.heap agrees.heap fit.heap in
     let arguments = arguments_are w call word.arguments.now agrees.arguments fit in
-    let seen = same_seen w s word call objects agrees.active agrees.previous agrees.selected agrees.most_objects agrees.most_cells in
+    let seen = same_seen w s word call objects agrees.active agrees.previous agrees.selected agrees.most_objects
+    agrees.most_cells in
     let b = begins_of w call fit.begins in
     let whole : d ≡ done_of call.active s call.runtime
     (native_work (seen_of w call) call.runtime (arguments_of call) b.native) = is
-    ∙ ap (λ owner. done_of owner s k (word_work (seen_in w s word) k word.arguments.now (numbered natives word.member))) agrees.active
-    ∙ ap (λ x. done_of call.active s x (word_work (seen_in w s word) x word.arguments.now (numbered natives word.member))) agrees.runtime
-    ∙ ap (λ x. done_of call.active s call.runtime (word_work x call.runtime word.arguments.now (numbered natives word.member))) seen
-    ∙ ap (λ x. done_of call.active s call.runtime (word_work (seen_of w call) call.runtime x (numbered natives word.member))) arguments
-    ∙ ap (λ x. done_of call.active s call.runtime (word_work (seen_of w call) call.runtime (arguments_of call) (numbered natives x))) agrees.member
-    ∙ ap (λ x. done_of call.active s call.runtime (word_work (seen_of w call) call.runtime (arguments_of call) x)) b.numbered in
+    ∙ ap (λ owner. done_of owner s k
+    (word_work (seen_in w s word) k word.arguments.now (numbered natives word.member))) agrees.active
+    ∙ ap (λ x. done_of call.active s x
+    (word_work (seen_in w s word) x word.arguments.now (numbered natives word.member))) agrees.runtime
+    ∙ ap (λ x. done_of call.active s call.runtime
+    (word_work x call.runtime word.arguments.now (numbered natives word.member))) seen
+    ∙ ap (λ x. done_of call.active s call.runtime
+    (word_work (seen_of w call) call.runtime x (numbered natives word.member))) arguments
+    ∙ ap (λ x. done_of call.active s call.runtime
+    (word_work (seen_of w call) call.runtime (arguments_of call) (numbered natives x))) agrees.member
+    ∙ ap (λ x. done_of call.active s call.runtime (word_work (seen_of w call) call.runtime (arguments_of call) x))
+    b.numbered in
     let answer : answer_of w call ≡ begun w call (Some b.native) =
     ap (λ x. answers w call x (numbered natives call.member)) fit.begins ∙ ap (λ o. answers w call true o) b.numbered in
     let P : Done → NativeAnswer Kept → Type 0 = λ d a. TellsEnd outcome d.ended → AnswerAgrees (state_of d) outcome a in

@@ -66,7 +66,8 @@ HasObject m c = ((m.kind ≡ Constructor) ⊎ (m.kind ≡ Virtual)) × (m.class 
 -- it has a reason: of CardRuntimeException, or of a class right below it
 abbrev pub HasReason : ApiMember → Type 0
 HasReason m = ((m.kind ≡ Constructor) ⊎ (m.kind ≡ Virtual))
-    × ((m.class ≡ api.CardRuntimeException) ⊎ ((m.class ≡ api.IsoException) ⊎ ((m.class ≡ api.SystemException) ⊎ (m.class ≡ api.ApduException))))
+    × ((m.class ≡ api.CardRuntimeException) ⊎
+    ((m.class ≡ api.IsoException) ⊎ ((m.class ≡ api.SystemException) ⊎ (m.class ≡ api.ApduException))))
 
 -- what a native member asks of the member with its number
 abbrev pub Suits : Native → ApiMember → Type 0
@@ -75,7 +76,8 @@ Suits (OfObject objects.Equals) m = Gives word m.signature.result
 Suits (OfObject objects.ConstructWithReason) m = Gives nothing m.signature.result × HasReason m
 Suits (OfObject objects.GetReason) m = Gives word m.signature.result
 Suits (OfObject objects.SetReason) m = Gives nothing m.signature.result × HasReason m
-Suits (OfObject (objects.ThrowIt object)) m = Gives nothing m.signature.result × ((object ≡ 8) ⊎ ((object ≡ 9) ⊎ (object ≡ 10)))
+Suits (OfObject (objects.ThrowIt object)) m =
+    Gives nothing m.signature.result × ((object ≡ 8) ⊎ ((object ≡ 9) ⊎ (object ≡ 10)))
 Suits (OfAid aids.Construct) m = Gives nothing m.signature.result × HasObject m api.Aid
 Suits (OfAid aids.Equals) m = Gives word m.signature.result
 Suits (OfAid aids.GetBytes) m = Gives word m.signature.result × HasObject m api.Aid × IsBytes m 0

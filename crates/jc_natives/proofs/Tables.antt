@@ -105,7 +105,8 @@ module _ (world : List Shape) (there : (c : ApiClass) → StandsThere world c) w
   pub above_is : (n : ℕ) (d c : ApiClass) → is_at_or_above world n (Api d) (Api c) ≡ above_in n d c
   above_is zero d c = refl
   above_is (suc n) d c =
-      ap (λ o. is_same_name (Api c) (Api d) || option_map_or (is_at_or_above world n (Api d)) o false) (there c).superclass
+      ap (λ o. is_same_name (Api c) (Api d) || option_map_or (is_at_or_above world n (Api d)) o false)
+      (there c).superclass
       ∙ by_super (λ e. above_is n d e) (tables.superclass_of c)
     where
       by_super : ((e : ApiClass) → is_at_or_above world n (Api d) (Api e) ≡ above_in n d e) → (o : Option ApiClass)
@@ -165,7 +166,8 @@ module _ (world : List Shape) (there : (c : ApiClass) → StandsThere world c) w
           (on d.0 d.2 (sym (ap (λ o. option_map_or (comes_to_end world n) o true) d.1) ∙ ends))
 
   -- a class below one with so many cells
-  pub blank_at : (x : ApiClass) (c : ClassName) (index : ℕ) → ((c : ClassName) → comes_to_end world most_classes c ≡ true)
+  pub blank_at : (x : ApiClass) (c : ClassName) (index : ℕ)
+      → ((c : ClassName) → comes_to_end world most_classes c ≡ true)
       → is_at_or_above world most_classes (Api x) c ≡ true
       → ((n : ℕ) → comes_to_end world n (Api x) ≡ true → index < cells_within n x) → IsBlankAt world c index
   blank_at x c index ends below enough =
@@ -194,6 +196,7 @@ module _ (world : List Shape) (there : (c : ApiClass) → StandsThere world c) w
   below_reason x e zero f = absurd cc
   below_reason x e (suc n) f =
       let above = reason_cells n
-      (sym (ap (λ o. option_map_or (comes_to_end world n) o true) ((there x).superclass ∙ ap (option_map Api) e)) ∙ f) in
+      (sym (ap (λ o. option_map_or (comes_to_end world n) o true) ((there x).superclass ∙ ap (option_map Api) e)) ∙ f)
+      in
       let cells = ap (λ o. tables.size_of x + option_map_or (cells_within n) o 0) e in
       omega (arith, above, cells)

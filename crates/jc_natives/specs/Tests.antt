@@ -106,7 +106,8 @@ test s arguments BesideAid =
 
 -- ---- ranges
 
--- how many components: a short, the low byte of an argument with its sign, always so many, or as many as an AID has bytes
+-- how many components: a short, the low byte of an argument with its sign, always so many, or as many as an AID has
+-- bytes
 abbrev pub length_of : Seen → List ℕ → Length → ℕ
 length_of s arguments (ShortAt place) = argument arguments place
 length_of s arguments (ByteAt place) = extended (argument arguments place)

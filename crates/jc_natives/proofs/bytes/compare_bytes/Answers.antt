@@ -9,7 +9,8 @@ returns-in-Some c =
     let end = c.from-at-end.ensures in
     let o = c.args.store.now.objects in
     sym (order_met o c.args.one c.args.one_from c.args.other c.args.other_from c.loop-at.at c.args.count
-    (order_of (bytes_of o c.args.one c.args.one_from c.args.count) (bytes_of o c.args.other c.args.other_from c.args.count))
+    (order_of (bytes_of o c.args.one c.args.one_from c.args.count)
+    (bytes_of o c.args.other c.args.other_from c.args.count))
     c.byte-first.result c.byte-second.result (omega (arith, high, end)) c.loop-at.invariant
     (c.byte-first.ensures ∙ ap (λ f. byte_of o c.args.one (f + c.loop-at.at)) c.from.ensures)
     (c.byte-second.ensures ∙ ap (λ f. byte_of o c.args.other (f + c.loop-at.at)) c.from-in-loop-at.ensures)
@@ -21,7 +22,8 @@ loop-at-preserved c =
     let end = c.from-at-end.ensures in
     let o = c.args.store.now.objects in
     order_met o c.args.one c.args.one_from c.args.other c.args.other_from c.loop-at.at c.args.count
-    (order_of (bytes_of o c.args.one c.args.one_from c.args.count) (bytes_of o c.args.other c.args.other_from c.args.count))
+    (order_of (bytes_of o c.args.one c.args.one_from c.args.count)
+    (bytes_of o c.args.other c.args.other_from c.args.count))
     c.byte-first.result c.byte-second.result (omega (arith, high, end)) c.loop-at.invariant
     (c.byte-first.ensures ∙ ap (λ f. byte_of o c.args.one (f + c.loop-at.at)) c.from.ensures)
     (c.byte-second.ensures ∙ ap (λ f. byte_of o c.args.other (f + c.loop-at.at)) c.from-in-loop-at.ensures)

@@ -10,7 +10,9 @@ loop-at-preserved c =
     let end = c.from-at-end.ensures in
     ap (λ (p : Store). with_objects p (put_all p.objects c.args.number (c.args.from + (c.loop-at.at + 1))
     (replicate (c.args.count - (c.loop-at.at + 1)) c.args.byte))) c.put.ensures
-    ∙ ap (λ f. with_objects c.loop-at.store (put_all (put c.loop-at.store.objects c.args.number (f + c.loop-at.at) c.args.byte)
-    c.args.number (c.args.from + (c.loop-at.at + 1)) (replicate (c.args.count - (c.loop-at.at + 1)) c.args.byte))) c.from.ensures
+    ∙ ap (λ f. with_objects c.loop-at.store
+    (put_all (put c.loop-at.store.objects c.args.number (f + c.loop-at.at) c.args.byte)
+    c.args.number (c.args.from + (c.loop-at.at + 1)) (replicate (c.args.count - (c.loop-at.at + 1)) c.args.byte)))
+    c.from.ensures
     ∙ filled c.loop-at.store c.args.number c.args.from c.loop-at.at c.args.count c.args.byte (omega (arith, high, end))
     ∙ c.loop-at.invariant

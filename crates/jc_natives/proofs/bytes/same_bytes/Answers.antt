@@ -10,6 +10,7 @@ loop-at-preserved c =
     let end = c.from-at-end.ensures in
     let o = c.args.store.now.objects in
     same_so_far o c.args.one c.args.one_from c.args.other c.args.other_from c.loop-at.at c.args.count
-    (bytes_eq (bytes_of o c.args.one c.args.one_from c.args.count) (bytes_of o c.args.other c.args.other_from c.args.count))
+    (bytes_eq (bytes_of o c.args.one c.args.one_from c.args.count)
+    (bytes_of o c.args.other c.args.other_from c.args.count))
     (omega (arith, high, end)) (sym c.byte.ensures ∙ c.if-byte.false ∙ c.byte-in-loop-at.ensures)
     c.loop-at.invariant

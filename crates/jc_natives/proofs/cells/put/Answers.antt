@@ -9,4 +9,5 @@ returns-else-index-from c =
     let small = c.if-index-from.false in
     let one = c.from.ensures in
     let two = c.size.ensures in
-    ap (with_objects s) (sym (put_past s.objects c.args.number c.args.index c.args.word (omega (arith, small, one, two))))
+    ap (with_objects s) (sym
+    (put_past s.objects c.args.number c.args.index c.args.word (omega (arith, small, one, two))))

@@ -41,7 +41,6 @@ fn construct(world: &World, store: &mut Store, call: &WordCall<'_>, runtime: &Ru
         ≡ done_of call.now.active store.old runtime.now
         (aid_work (seen_in world.now store.old call.now) runtime.now call.now.arguments.now natives.Construct) }
 {
-    let (_world, _runtime) = (world, runtime);
     let aid = argument(call.arguments, 0);
     let array = argument(call.arguments, 1);
     let offset = argument(call.arguments, 2);
@@ -65,7 +64,6 @@ fn is_range(
 ) -> bool
     ensures { result ≡ is_range (seen_in world.now store.now call.now) aid array offset count }
 {
-    let (_world, _call) = (world, call);
     if array == 0 {
         return false;
     }
@@ -89,7 +87,6 @@ fn get_bytes(world: &World, store: &mut Store, call: &WordCall<'_>, runtime: &Ru
         ≡ done_of call.now.active store.old runtime.now
         (aid_work (seen_in world.now store.old call.now) runtime.now call.now.arguments.now natives.GetBytes) }
 {
-    let (_world, _runtime) = (world, runtime);
     let aid = argument(call.arguments, 0);
     let array = argument(call.arguments, 1);
     let offset = argument(call.arguments, 2);

@@ -70,9 +70,9 @@ fn is_length_set(state: ApduState) -> bool
 fn receive(world: &World, store: &mut Store, call: &WordCall<'_>, runtime: &mut Runtime) -> Ended
     ensures { record { store = store.new; kept = runtime.new; ended = result }
         ≡ done_of call.now.active store.old runtime.old
-        (apdu_work (seen_in world.now store.old call.now) runtime.old call.now.arguments.now natives.SetIncomingAndReceive) }
+        (apdu_work (seen_in world.now store.old call.now)
+        runtime.old call.now.arguments.now natives.SetIncomingAndReceive) }
 {
-    let (_world, _call) = (world, call);
     if !is_fresh(runtime.state()) {
         return throw_apdu(store, ILLEGAL_USE);
     }
@@ -87,7 +87,6 @@ fn turn(world: &World, store: &mut Store, call: &WordCall<'_>, runtime: &mut Run
         ≡ done_of call.now.active store.old runtime.old
         (apdu_work (seen_in world.now store.old call.now) runtime.old call.now.arguments.now natives.SetOutgoing) }
 {
-    let (_world, _call) = (world, call);
     if !is_incoming(runtime.state()) {
         return throw_apdu(store, ILLEGAL_USE);
     }
@@ -99,9 +98,9 @@ fn turn(world: &World, store: &mut Store, call: &WordCall<'_>, runtime: &mut Run
 fn set_length(world: &World, store: &mut Store, call: &WordCall<'_>, runtime: &mut Runtime) -> Ended
     ensures { record { store = store.new; kept = runtime.new; ended = result }
         ≡ done_of call.now.active store.old runtime.old
-        (apdu_work (seen_in world.now store.old call.now) runtime.old call.now.arguments.now natives.SetOutgoingLength) }
+        (apdu_work (seen_in world.now store.old call.now)
+        runtime.old call.now.arguments.now natives.SetOutgoingLength) }
 {
-    let _world = world;
     if !is_outgoing(runtime.state()) {
         return throw_apdu(store, ILLEGAL_USE);
     }
@@ -127,7 +126,6 @@ fn send(
         ≡ done_of call.now.active store.old runtime.old
         (sends (seen_in world.now store.old call.now) runtime.old array offset count) }
 {
-    let (_world, _call) = (world, call);
     if !runtime.may_send(count) {
         return throw_apdu(store, ILLEGAL_USE);
     }
@@ -139,7 +137,6 @@ fn send(
 fn is_in_buffer(world: &World, store: &Store, call: &WordCall<'_>, offset: u16, count: u16) -> bool
     ensures { result ≡ is_in_buffer (seen_in world.now store.now call.now) offset count }
 {
-    let (_world, _call) = (world, call);
     is_within(size(store, BUFFER), offset, count)
 }
 

@@ -52,7 +52,6 @@ fn may_register(
 ) -> bool
     ensures { result ≡ may_register (seen_in world.now store.now call.now) object installing.now }
 {
-    let (_world, _call) = (world, call);
     !installing.registered && owner_of(store, object).instance == installing.owner.instance
 }
 
@@ -96,7 +95,6 @@ fn register_as(
         ≡ done_of call.now.active store.old runtime.old
         (registers (seen_in world.now store.old call.now) runtime.old instance object aid) }
 {
-    let (_world, _call) = (world, call);
     if !is_free(runtime, aid.as_slice()) {
         return throw_system(store, ILLEGAL_AID);
     }

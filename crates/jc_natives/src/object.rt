@@ -49,7 +49,6 @@ pub(crate) fn object_native(
         ≡ done_of call.now.active store.old runtime.now
         (object_work (seen_in world.now store.old call.now) runtime.now call.now.arguments.now native) }
 {
-    let _runtime = runtime;
     let first = argument(call.arguments, 0);
     let second = argument(call.arguments, 1);
     match native {

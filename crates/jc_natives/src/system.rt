@@ -75,7 +75,6 @@ fn ask(
         ≡ done_of call.now.active store.old runtime.now
         (asks (seen_in world.now store.old call.now) runtime.now word instance) }
 {
-    let (_world, _store) = (world, store);
     match instance {
         None => Ended::Returned(Some(0)),
         Some(instance) => Ended::Asks(Question {
@@ -94,7 +93,8 @@ fn ask_for_shareable(
 ) -> Ended
     ensures { record { store = store.new; kept = runtime.now; ended = result }
         ≡ done_of call.now.active store.old runtime.now
-        (system_work (seen_in world.now store.old call.now) runtime.now call.now.arguments.now natives.AskForShareable) }
+        (system_work (seen_in world.now store.old call.now)
+        runtime.now call.now.arguments.now natives.AskForShareable) }
 {
     let aid = argument(call.arguments, 0);
     let word = argument(call.arguments, 1);
@@ -120,7 +120,6 @@ fn event_of(number: u16) -> Option<ClearingEvent>
 fn may_make(world: &World, store: &Store, call: &WordCall<'_>, event: ClearingEvent) -> bool
     ensures { result ≡ may_make (seen_in world.now store.now call.now) event }
 {
-    let (_world, _store) = (world, store);
     match event {
         ClearingEvent::Reset => true,
         ClearingEvent::Deselect => match call.selected {
@@ -153,9 +152,9 @@ fn make_where_room(
     event: ClearingEvent,
 ) -> Ended
     ensures { record { store = store.new; kept = runtime.now; ended = result }
-        ≡ done_of call.now.active store.old runtime.now (Makes (record { elements = elements; event = event; size = size })) }
+        ≡ done_of call.now.active store.old runtime.now
+        (Makes (record { elements = elements; event = event; size = size })) }
 {
-    let _runtime = runtime;
     let kind = Kind {
         object: array_type(elements),
         mark: Mark::Plain,

@@ -61,7 +61,6 @@ fn facts_of(world: &World, store: &Store, call: &WordCall<'_>, number: u16) -> F
     ensures { (object : heaps.Object ℕ) → object_at store.now.objects number ≡ Some object
         → result ≡ facts_of (seen_in world.now store.now call.now) object }
 {
-    let _world = world;
     let kind = store.class_of(number);
     Facts {
         owner: store.owner_of(number),
@@ -114,7 +113,6 @@ fn class_of(object: ObjectType) -> ClassName
 pub(crate) fn is_aid_object(world: &World, store: &Store, call: &WordCall<'_>, number: u16) -> bool
     ensures { result ≡ is_aid_object (seen_in world.now store.now call.now) number }
 {
-    let _call = call;
     is_there(store, number)
         && world
             .table()
@@ -157,7 +155,6 @@ fn beside_aid(world: &World, store: &Store, call: &WordCall<'_>) -> Option<u16>
 fn length_of(world: &World, store: &Store, call: &WordCall<'_>, length: Length) -> u16
     ensures { result ≡ length_of (seen_in world.now store.now call.now) call.now.arguments.now length }
 {
-    let _world = world;
     match length {
         Length::ShortAt(place) => argument(call.arguments, place),
         Length::ByteAt(place) => extended(argument(call.arguments, place)),

@@ -19,7 +19,6 @@ fn array_copy(world: &World, store: &mut Store, call: &WordCall<'_>, runtime: &R
         ≡ done_of call.now.active store.old runtime.now
         (utility_work (seen_in world.now store.old call.now) runtime.now call.now.arguments.now natives.ArrayCopy) }
 {
-    let (_world, _runtime) = (world, runtime);
     let source = argument(call.arguments, 0);
     let from = argument(call.arguments, 1);
     let target = argument(call.arguments, 2);
@@ -41,7 +40,6 @@ fn array_fill(world: &World, store: &mut Store, call: &WordCall<'_>, runtime: &R
         ≡ done_of call.now.active store.old runtime.now
         (utility_work (seen_in world.now store.old call.now) runtime.now call.now.arguments.now natives.ArrayFill) }
 {
-    let (_world, _runtime) = (world, runtime);
     let array = argument(call.arguments, 0);
     let from = argument(call.arguments, 1);
     let count = argument(call.arguments, 2);
@@ -55,7 +53,6 @@ fn array_compare(world: &World, store: &mut Store, call: &WordCall<'_>, runtime:
         ≡ done_of call.now.active store.old runtime.now
         (utility_work (seen_in world.now store.old call.now) runtime.now call.now.arguments.now natives.ArrayCompare) }
 {
-    let (_world, _runtime) = (world, runtime);
     let one = argument(call.arguments, 0);
     let one_from = argument(call.arguments, 1);
     let other = argument(call.arguments, 2);
@@ -69,7 +66,6 @@ fn get_short(world: &World, store: &mut Store, call: &WordCall<'_>, runtime: &Ru
         ≡ done_of call.now.active store.old runtime.now
         (utility_work (seen_in world.now store.old call.now) runtime.now call.now.arguments.now natives.GetShort) }
 {
-    let (_world, _runtime) = (world, runtime);
     let array = argument(call.arguments, 0);
     let at = usize::from(argument(call.arguments, 1));
     let first = byte(store, array, at);
@@ -82,7 +78,6 @@ fn set_short(world: &World, store: &mut Store, call: &WordCall<'_>, runtime: &Ru
         ≡ done_of call.now.active store.old runtime.now
         (utility_work (seen_in world.now store.old call.now) runtime.now call.now.arguments.now natives.SetShort) }
 {
-    let (_world, _runtime) = (world, runtime);
     let array = argument(call.arguments, 0);
     let from = argument(call.arguments, 1);
     let word = argument(call.arguments, 2);
@@ -96,7 +91,6 @@ fn make_short(world: &World, store: &mut Store, call: &WordCall<'_>, runtime: &R
         ≡ done_of call.now.active store.old runtime.now
         (utility_work (seen_in world.now store.old call.now) runtime.now call.now.arguments.now natives.MakeShort) }
 {
-    let (_world, _store, _runtime) = (world, store, runtime);
     let first = argument(call.arguments, 0);
     let second = argument(call.arguments, 1);
     Ended::Returned(Some(word_of((first % 256) as u8, (second % 256) as u8)))

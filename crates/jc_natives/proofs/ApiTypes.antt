@@ -1,7 +1,7 @@
 -- What members of the API are declared to take and give, in each world that is built: what the API's table says, where
 -- an interface counts as Object.
-use Rattle.std.proofs.Common.{◌≡◌, ℕ, zero, suc, ◌<◌, ◌&&◌, Bool, true, false, cond, not, List, [], ◌∷◌, ◌++◌, length, map, take, Option, Some, None, refl, sym, ap, subst, ◌∙◌, arith}
-use Rattle.std.proofs.lemmas.Option.{none-some, same_Some}
+use Rattle.std.proofs.Common.{◌≡◌, ℕ, ◌<◌, ◌&&◌, Bool, true, false, cond, not, List, [], ◌∷◌, ◌++◌, map, take, Option, Some, refl, sym, ap, subst, ◌∙◌}
+use Rattle.std.proofs.lemmas.Option.{same_Some}
 use Rattle.std.specs.List.{list_all}
 use Rattle.std.specs.Option.{option_and_then, option_map, option_map_or}
 use Rattle.jc_api.specs.Bound.{Bound}
@@ -18,10 +18,9 @@ use Rattle.jc_base.specs.declared.declared_type.ReturnType.{ReturnType}
 use Rattle.jc_base.specs.declared.declared_type.ReturnType.TheVariants.{Void, Value}
 use Rattle.jc_cap_class.specs.Component.{is_class}
 use Rattle.jc_cap_desc.specs.Shape.{ClassShape, Shape}
-use Rattle.jc_classes.specs.Api.{api_world, class_in_api, is_static, method_in, spelled_in}
+use Rattle.jc_classes.specs.Api.{api_world, is_static, method_in, spelled_in}
 use Rattle.jc_classes.specs.Growth.{IsMethodWithin, KeepsAllLookups, LiesWithin}
 use Rattle.jc_classes.specs.Members.{DeclaredMethod, method_at}
-use Rattle.jc_classes.specs.World.{class_named}
 use Rattle.jc_link.proofs.ApiClasses.{class_there, is_seen, named}
 use Rattle.jc_link.proofs.ApiMembers.{class_body, each_member, made, member_there}
 use Rattle.jc_link.proofs.SoundChains.{api_low}

@@ -1,22 +1,18 @@
 -- What is known of a call that fits: of its arguments, of the runtime's own objects, and of what the runtime keeps.
-use Rattle.std.specs.Prelude.{⊤}
-use Rattle.std.proofs.Common.{◌≡◌, ◌≢◌, ◌⊎◌, inl, inr, ℕ, zero, suc, ◌+◌, ◌-◌, ◌<◌, ◌≤◌, ◌==◌, ◌&&◌, Bool, true, false, cond, List, [], ◌∷◌, ◌++◌, length, map, get_or, slice_get, nat_le, nat_lt, Option, Some, None, refl, sym, ap, subst, ◌∙◌, arith}
-use Rattle.std.proofs.lemmas.Bool.{eqb-true, leb-true}
+use Rattle.std.proofs.Common.{◌≡◌, ◌⊎◌, inl, inr, ℕ, zero, suc, ◌+◌, ◌-◌, ◌<◌, Bool, true, false, cond, List, [], ◌∷◌, map, slice_get, nat_le, Some, refl, sym, ap, subst, ◌∙◌, arith}
+use Rattle.std.proofs.lemmas.Bool.{leb-true}
 use Rattle.std.proofs.lemmas.Option.{none-some, same_Some}
 use Rattle.std.specs.List.{AllByRecursion, find, list_all, range_with_len}
-use Rattle.std.specs.Option.{option_and_then, option_map, option_map_or}
+use Rattle.std.specs.Option.{option_map_or}
 use Rattle.jc_api.specs.Member.{ApiMember}
 use Rattle.jc_api.specs.declared.class.ApiClass.{ApiClass}
-use Rattle.jc_api.specs.declared.class.ApiClass.TheVariants as api
 use Rattle.jc_api.specs.declared.member.MemberKind.TheVariants.{Constructor, Static, Virtual}
 use Rattle.jc_base.specs.Signature.{type_map}
 use Rattle.jc_base.specs.declared.declared_type.DeclaredType.{DeclaredType}
 use Rattle.jc_base.specs.declared.declared_type.DeclaredType.TheVariants as types
 use Rattle.jc_cap_desc.specs.Shape.{Shape}
 use Rattle.jc_classes.specs.Api.{is_static}
-use Rattle.jc_link.specs.Linked.{World}
-use Rattle.jc_machine.specs.Lookup.{are_of_instance, are_of_types, is_byte_array, is_object_of, is_of_class, is_of_type, leads_to}
-use Rattle.jc_machine.specs.Machine.{NativeCall}
+use Rattle.jc_machine.specs.Lookup.{are_of_instance, are_of_types, is_byte_array, is_object_of, is_of_class, is_of_type}
 use Rattle.jc_machine.specs.Runtime.{HasRuntimeObject, HasRuntimeObjects, RuntimeObject, aid_object as aid_row, runtime_objects}
 use Rattle.jc_names.specs.declared.name.ClassName.{ClassName}
 use Rattle.jc_names.specs.declared.name.ClassName.TheVariants.{Api}
@@ -25,14 +21,13 @@ use Rattle.jc_natives.proofs.Bare.{both}
 use Rattle.jc_natives.proofs.Simulation.{passed_some}
 use Rattle.jc_natives.proofs.Suits.{IsBytes}
 use Rattle.jc_natives.specs.Cells.{argument, bits}
-use Rattle.jc_natives.specs.Kept.{Kept, is_instance_number}
-use Rattle.jc_natives.specs.Meaning.{fits_instance, has_applet}
-use Rattle.jc_natives.specs.Seen.{arguments_of}
+use Rattle.jc_natives.specs.Kept.{is_instance_number}
+use Rattle.jc_natives.specs.Meaning.{fits_instance}
 use Rattle.jc_natives.specs.declared.kept.Instance.{Instance}
 use Rattle.jc_store.specs.Heap.{Heap, Object, object_at}
 use Rattle.jc_store.specs.declared.kind.ObjectType.{ObjectType}
 use Rattle.jc_store.specs.declared.kind.ObjectType.TheVariants.{BooleanArray, ByteArray, Instance as OfClass, ReferenceArray, ShortArray}
-use Rattle.jc_words.specs.Values.{Null, Ref, TaggedValue, Unset, Word, object_of}
+use Rattle.jc_words.specs.Values.{Null, Ref, TaggedValue, Unset, Word}
 
 -- ---- arguments
 

@@ -1,15 +1,14 @@
 -- Native members keep objects typed and what the runtime keeps fitting, and end as they are declared to.
 use Rattle.std.specs.Prelude.{⊤}
-use Rattle.std.proofs.Common.{◌≡◌, ◌≢◌, ◌⊎◌, inl, inr, ℕ, zero, suc, ◌+◌, ◌/◌, ◌<◌, ◌≤◌, ◌==◌, ◌&&◌, ◌||◌, not, Bool, true, false, cond, List, [], ◌∷◌, ◌++◌, bytes_eq, length, map, get_or, replicate, slice_get, nat_le, nat_lt, is_some, unwrap_or, Option, Some, None, refl, sym, ap, subst, ◌∙◌, arith}
-use Rattle.std.proofs.lemmas.Bool.{eq-eqb, eqb-true, leb-true, lt-ltb, ltb-true, le-leb}
+use Rattle.std.proofs.Common.{◌≡◌, ◌⊎◌, inl, inr, ℕ, zero, suc, ◌+◌, ◌/◌, ◌<◌, ◌≤◌, ◌==◌, ◌&&◌, ◌||◌, not, Bool, true, false, cond, List, [], ◌∷◌, ◌++◌, bytes_eq, length, replicate, nat_le, nat_lt, is_some, unwrap_or, Option, Some, None, refl, sym, ap, subst, ◌∙◌, arith}
+use Rattle.std.proofs.lemmas.Bool.{eq-eqb, eqb-true, leb-true, lt-ltb, ltb-true}
 use Rattle.std.proofs.lemmas.Option.{none-some, same_Some}
 use Rattle.std.specs.List.{find, list_all}
-use Rattle.std.specs.Option.{option_and_then, option_map, option_map_or}
+use Rattle.std.specs.Option.{option_map, option_map_or}
 use Rattle.jc_api.specs.Member.{ApiMember, member_of}
-use Rattle.jc_api.specs.Numbered.{numbered}
 use Rattle.jc_api.specs.declared.class.ApiClass.{ApiClass}
 use Rattle.jc_api.specs.declared.class.ApiClass.TheVariants as api
-use Rattle.jc_api.specs.declared.member.MemberKind.TheVariants.{Constructor, Static, Virtual}
+use Rattle.jc_api.specs.declared.member.MemberKind.TheVariants.{Static, Virtual}
 use Rattle.jc_base.specs.Signature.{Signature, return_map, signature_map, type_map}
 use Rattle.jc_base.specs.declared.declared_type.DeclaredType.{DeclaredType}
 use Rattle.jc_base.specs.declared.declared_type.DeclaredType.TheVariants as types
@@ -24,11 +23,11 @@ use Rattle.jc_link.specs.ApiClasses.{StandsThere, cells_within}
 use Rattle.jc_link.specs.Found.{is_same_return}
 use Rattle.jc_link.specs.Linked.{World}
 use Rattle.jc_link.specs.MemberType.{counted}
-use Rattle.jc_machine.specs.Calls.{native_type, type_of_member}
+use Rattle.jc_machine.specs.Calls.{type_of_member}
 use Rattle.jc_machine.specs.Lookup.{are_of_types, component_class, is_boolean_array, is_byte_array, is_given, is_of_class, is_of_type, is_short_array, is_throwable, leads_to}
-use Rattle.jc_machine.specs.Machine.{Calls, Gives as GivesEnd, NativeAnswer, NativeCall, NativeEnd, ThrowsObject}
-use Rattle.jc_machine.specs.Natives.{EndsFit, IsFitAnswer, IsFitCall, IsFitCallback, IsThrown, KeepsObjects}
-use Rattle.jc_machine.specs.Runtime.{HasRuntimeObject, HasRuntimeObjects, RuntimeObject}
+use Rattle.jc_machine.specs.Machine.{NativeAnswer, NativeCall}
+use Rattle.jc_machine.specs.Natives.{EndsFit, IsFitCall, IsFitCallback, IsThrown, KeepsObjects}
+use Rattle.jc_machine.specs.Runtime.{HasRuntimeObject, RuntimeObject}
 use Rattle.jc_machine.specs.Typed.{HeapTyped}
 use Rattle.jc_cap_desc.specs.Shape.{Shape}
 use Rattle.jc_names.specs.Names.{is_same_name}
@@ -39,7 +38,7 @@ use Rattle.jc_natives.proofs.ApiTypes.{counted_name}
 use Rattle.jc_natives.proofs.Bare.{bare_object, both}
 use Rattle.jc_natives.proofs.Facts.{AreTyped, LeadsToBytes, LeadsToClass, found_fits, object_bytes, object_class, own_aid, own_object, static_bytes}
 use Rattle.jc_natives.proofs.Guarding.{keeps_new, keeps_written}
-use Rattle.jc_natives.proofs.Keeping.{FitsCell, FitsWords, FitsWrite, IsBlankAt, array_typed, both_are, instances_still, kept_fits_still, leads_still, type_still, write_typed}
+use Rattle.jc_natives.proofs.Keeping.{FitsWords, FitsWrite, IsBlankAt, array_typed, both_are, kept_fits_still, type_still, write_typed}
 use Rattle.jc_natives.proofs.Ranges.{length_of_bytes}
 use Rattle.jc_natives.proofs.Simulation.{passed_some}
 use Rattle.jc_natives.proofs.Suits as suits
@@ -47,11 +46,11 @@ use Rattle.jc_natives.proofs.Suits.{Gives, HasObject, HasReason, IsBytes, Suits,
 use Rattle.jc_natives.proofs.Tables.{above_in, above_is, aid_cells, below_is, below_reason, blank_at, reason_cells}
 use Rattle.jc_natives.specs.Aids.{aid_work, constructs, is_range}
 use Rattle.jc_natives.specs.Apdus.{apdu_work, is_fresh, is_in_buffer, is_incoming, is_length_set, is_outgoing}
-use Rattle.jc_natives.specs.Applets.{allowed, applet_work, may_register, on_allowed, owner_of, registers, registers_range}
+use Rattle.jc_natives.specs.Applets.{allowed, applet_work, may_register, on_allowed, owner_of, registers}
 use Rattle.jc_natives.specs.Cells as cells
 use Rattle.jc_natives.specs.Cells.{Write, aid_bytes, aid_count, argument, bare, bared, bit, byte_of, bytes_of, cell_of, extended, has_room, high, is_count, low, order_of, word_of_bytes, written}
 use Rattle.jc_natives.specs.Kept.{Kept, are_bytes, expected_of, has_aid_length, instance_of, instance_with, is_aid, is_instance_number, is_same_owner, now_registered, with_instance}
-use Rattle.jc_natives.specs.Meaning.{array_or_refusal, asked, begun, did, done, end_of, ended, fits_command, fits_installing, fits_instance, fits_kept, has_applet, made, meaning, new_array, reference, unchanged, with_room, work_of}
+use Rattle.jc_natives.specs.Meaning.{array_or_refusal, asked, begun, did, done, end_of, ended, fits_command, fits_installing, fits_instance, fits_kept, has_applet, meaning, new_array, reference, with_room, work_of}
 use Rattle.jc_natives.specs.Objects.{equals, object_work}
 use Rattle.jc_natives.specs.Rows.{row_of}
 use Rattle.jc_natives.specs.Seen.{Seen, arguments_of, is_aid_object, seen_of}
@@ -89,7 +88,7 @@ use Rattle.jc_store.specs.declared.kind.ClearingEvent.{ClearingEvent}
 use Rattle.jc_store.specs.declared.kind.Kind.{Kind}
 use Rattle.jc_store.specs.declared.kind.ObjectType.{ObjectType}
 use Rattle.jc_store.specs.declared.kind.ObjectType.TheVariants.{BooleanArray, ByteArray, Instance as OfClass, ReferenceArray, ShortArray}
-use Rattle.jc_words.specs.Values.{Null, Ref, TaggedValue, Unset, Word}
+use Rattle.jc_words.specs.Values.{Null, Ref, TaggedValue, Word}
 
 -- ---- numbers
 

@@ -1,7 +1,6 @@
 -- Elements of lists and objects of heaps, by their numbers.
-use Rattle.std.proofs.Common.{◌≡◌, ◌≢◌, ℕ, zero, suc, ◌<◌, ◌≤◌, List, [], ◌∷◌, length, set, slice_get, Option, Some, None, refl, sym, ap, ◌∙◌, arith}
-use Rattle.std.proofs.lemmas.Option.{none-some, same_Some, slice_get_past}
-use Rattle.std.specs.Option.{option_map}
+use Rattle.std.proofs.Common.{◌≡◌, ◌≢◌, ℕ, zero, suc, ◌<◌, ◌≤◌, List, [], ◌∷◌, length, set, slice_get, Some, None, refl, ap, arith}
+use Rattle.std.proofs.lemmas.Option.{none-some, slice_get_past}
 use Rattle.jc_store.specs.Heap.{Heap, Object, object_at, with_object}
 use Rattle.jc_store.specs.Store.{IsThere, Store}
 

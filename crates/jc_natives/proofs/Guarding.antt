@@ -1,13 +1,12 @@
 -- The law of accesses: each access of a native member is allowed or the last, and only what was accessed changes.
-use Rattle.std.proofs.Common.{◌≡◌, ◌≢◌, ◌⊎◌, inl, inr, ℕ, zero, suc, ◌+◌, ◌==◌, ◌≤◌, ◌<◌, ◌&&◌, ◌||◌, Bool, true, false, cond, List, [], ◌∷◌, ◌++◌, length, map, replicate, set, slice_get, nat_le, nat_lt, not, Option, Some, None, refl, sym, ap, subst, ◌∙◌, arith, length-append}
+use Rattle.std.proofs.Common.{◌≡◌, ◌≢◌, ◌⊎◌, inl, inr, ℕ, zero, suc, ◌+◌, ◌==◌, ◌&&◌, ◌||◌, Bool, true, false, cond, List, [], ◌∷◌, ◌++◌, length, map, set, slice_get, nat_le, nat_lt, Option, Some, None, refl, sym, ap, subst, ◌∙◌, arith, length-append}
 use Rattle.std.proofs.lemmas.Bool.{eq-eqb, eqb-true, leb-true, ltb-true}
 use Rattle.std.proofs.lemmas.List.{length-replicate, length-set}
-use Rattle.std.proofs.lemmas.Option.{none-some, same_Some, slice_get_within}
-use Rattle.std.specs.List.{AllByRecursion, list_all, list_any}
+use Rattle.std.proofs.lemmas.Option.{none-some, same_Some}
+use Rattle.std.specs.List.{AllByRecursion, list_any}
 use Rattle.std.specs.Option.{option_map, option_map_or}
 use Rattle.jc_api.specs.Numbered.{numbered}
 use Rattle.jc_firewall.specs.Verdict.{is_entry_point, is_global_array, is_out_of_selection, is_own, runtime, runtime_context, verdict_of}
-use Rattle.jc_firewall.specs.declared.access.Access.{Access}
 use Rattle.jc_firewall.specs.declared.access.Access.TheVariants.{PutField, StoreComponent}
 use Rattle.jc_firewall.specs.declared.access.Facts.{Facts}
 use Rattle.jc_firewall.specs.declared.access.Rule.TheVariants as rules
@@ -18,18 +17,18 @@ use Rattle.jc_machine.specs.Calls.{native_may_begin}
 use Rattle.jc_machine.specs.Going.{facts_in}
 use Rattle.jc_machine.specs.Guarded.{AreGuarded, ChangesAccessed, IsAccessed, allowed, are_allowed, denied, is_allowed, is_last_denied}
 use Rattle.jc_machine.specs.Lookup.{is_array}
-use Rattle.jc_machine.specs.Machine.{Callback, Calls, Gives, IsStuck, Limits, NativeAnswer, NativeCall, NativeEnd, ThrowsObject, Touch}
-use Rattle.jc_machine.specs.Natives.{IsGuardedAnswer, IsNativeTouch, IsRefusedAnswer, IsStill, IsUnchanged, IsWithin, KeepsObjects}
+use Rattle.jc_machine.specs.Machine.{Callback, Calls, IsStuck, Limits, NativeCall, NativeEnd, ThrowsObject, Touch}
+use Rattle.jc_machine.specs.Natives.{IsGuardedAnswer, IsNativeTouch, IsRefusedAnswer, IsStill, IsWithin, KeepsObjects}
 use Rattle.jc_machine.specs.Runtime.{security_exception, system_exception}
 use Rattle.jc_natives.proofs.Bare.{bare_object, both}
 use Rattle.jc_natives.proofs.Getting.{new_object, other_object}
 use Rattle.jc_natives.proofs.Putting.{put_none, put_some, same_or_not}
-use Rattle.jc_natives.specs.Cells.{Write, bare, bared, has_room, put, put_all, written}
+use Rattle.jc_natives.specs.Cells.{Write, bare, has_room, put, put_all, written}
 use Rattle.jc_natives.specs.Kept.{Kept}
-use Rattle.jc_natives.specs.Meaning.{answer_of, array_or_refusal, asked, begun, did, done, end_of, ended, is_touched, made, meaning, new_array, own_touch, own_touch_of, own_touches, unchanged, with_room, work_of, write_access}
+use Rattle.jc_natives.specs.Meaning.{answer_of, array_or_refusal, begun, did, done, end_of, ended, is_touched, made, new_array, own_touch, own_touch_of, own_touches, unchanged, with_room, work_of}
 use Rattle.jc_natives.specs.Rows.{natives, row_of}
-use Rattle.jc_natives.specs.Seen.{Seen, arguments_of, is_aid_object, seen_of}
-use Rattle.jc_natives.specs.Tests.{Tested, access_of, by_verdict, facts_of, fails, followed, goes_on, is_in_range, on_object, passes, ranged, test, tested, touch_of, used}
+use Rattle.jc_natives.specs.Seen.{arguments_of, seen_of}
+use Rattle.jc_natives.specs.Tests.{Tested, access_of, by_verdict, facts_of, followed, goes_on, on_object, ranged, test, tested, touch_of, used}
 use Rattle.jc_natives.specs.Work.{Asks, Does, Ending, GivesReference, GivesWord, Makes, NewArray, NoResult, Throws, Work, no_transient_space}
 use Rattle.jc_natives.specs.declared.native.Native.{Native}
 use Rattle.jc_natives.specs.declared.row.Range.{Range}
@@ -41,8 +40,7 @@ use Rattle.jc_natives.specs.declared.row.Way.{Way}
 use Rattle.jc_natives.specs.declared.row.Way.TheVariants as ways
 use Rattle.jc_names.specs.declared.owner.Owner.{Owner}
 use Rattle.jc_store.specs.Heap.{Heap, Object, cells_in, object_at, with_cell, with_new, with_object}
-use Rattle.jc_store.specs.declared.kind.Mark.{Mark}
-use Rattle.jc_store.specs.declared.kind.Mark.TheVariants.{GlobalArray, PermanentEntryPoint, Plain, TemporaryEntryPoint}
+use Rattle.jc_store.specs.declared.kind.Mark.TheVariants.{Plain}
 use Rattle.jc_words.specs.Values.{TaggedValue, Word}
 
 -- ---- lists of accesses

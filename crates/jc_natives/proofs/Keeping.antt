@@ -1,5 +1,5 @@
 -- Objects stay typed where words are written that fit, and where an array is made.
-use Rattle.std.proofs.Common.{◌≡◌, ◌⊎◌, inl, inr, ℕ, zero, suc, ◌+◌, ◌<◌, ◌&&◌, Bool, true, false, cond, List, [], ◌∷◌, ◌++◌, length, map, replicate, set, slice_get, nat_lt, Option, Some, None, refl, sym, ap, subst, ◌∙◌, arith}
+use Rattle.std.proofs.Common.{◌≡◌, ℕ, zero, suc, ◌+◌, ◌<◌, ◌&&◌, Bool, true, false, List, [], ◌∷◌, ◌++◌, map, replicate, set, slice_get, Option, Some, None, refl, sym, ap, subst, ◌∙◌, arith}
 use Rattle.std.specs.Prelude.{⊤}
 use Rattle.std.proofs.lemmas.Bool.{lt-ltb}
 use Rattle.std.proofs.lemmas.List.{length-replicate, length-set}
@@ -12,8 +12,8 @@ use Rattle.jc_base.specs.declared.declared_type.DeclaredType.TheVariants as type
 use Rattle.jc_cap_desc.specs.Shape.{Shape}
 use Rattle.jc_link.specs.Linked.{World}
 use Rattle.jc_machine.specs.Agree.{Pointwise}
-use Rattle.jc_machine.specs.Lookup.{component_class, fields_of, is_array, is_boolean_array, is_byte, is_byte_array, is_instance, is_kept_as, is_of_class, is_of_type, is_short_array, is_word, leads_to}
-use Rattle.jc_machine.specs.Natives.{IsStill, KeepsObjects}
+use Rattle.jc_machine.specs.Lookup.{fields_of, is_boolean_array, is_byte, is_byte_array, is_instance, is_kept_as, is_of_class, is_of_type, is_short_array, is_word, leads_to}
+use Rattle.jc_machine.specs.Natives.{KeepsObjects}
 use Rattle.jc_machine.specs.Typed.{CellsTyped, HeapTyped, ObjectTyped, is_cell, may_be_made}
 use Rattle.jc_names.specs.declared.name.ClassName.{ClassName}
 use Rattle.jc_names.specs.declared.name.ClassName.TheVariants.{Api}

@@ -1,19 +1,17 @@
 -- Native members keep the law of native members.
-use Rattle.std.proofs.Common.{◌≡◌, ℕ, Bool, true, false, cond, List, [], ◌∷◌, Option, Some, None, refl, sym, ap, subst, ◌∙◌}
+use Rattle.std.proofs.Common.{◌≡◌, Bool, true, false, cond, List, [], ◌∷◌, Option, Some, None, refl, sym, ap, subst, ◌∙◌}
 use Rattle.std.proofs.lemmas.Option.{same_Some}
 use Rattle.std.specs.Option.{option_and_then, option_map_or}
 use Rattle.jc_api.specs.Numbered.{numbered}
-use Rattle.jc_api.specs.Member.{ApiMember, member_of, virtual}
+use Rattle.jc_api.specs.Member.{ApiMember, virtual}
 use Rattle.jc_api.specs.declared.class.ApiClass.{ApiClass}
 use Rattle.jc_api.specs.declared.class.ApiClass.TheVariants as api
 use Rattle.jc_base.specs.Signature.{Signature, signature_map}
 use Rattle.jc_base.specs.declared.declared_type.DeclaredType.TheVariants as types
 use Rattle.jc_base.specs.declared.declared_type.ReturnType.TheVariants.{Value}
 use Rattle.jc_cap_desc.specs.Shape.{Shape}
-use Rattle.jc_classes.specs.Api.{is_static}
 use Rattle.jc_classes.specs.Growth.{KeepsAllLookups, LiesWithin}
 use Rattle.jc_classes.specs.Limits.{IsSmall}
-use Rattle.jc_classes.specs.Members.{DeclaredMethod}
 use Rattle.jc_link.specs.ApiClasses.{StandsThere}
 use Rattle.jc_link.specs.Built.{IsBuilt}
 use Rattle.jc_link.specs.Growth.{KeepsAllLinking}
@@ -24,11 +22,9 @@ use Rattle.jc_machine.specs.Accepted.{IsAccepted}
 use Rattle.jc_machine.specs.Calls.{type_of_member}
 use Rattle.jc_machine.specs.Lookup.{are_of_instance, are_of_types, may_begin_with}
 use Rattle.jc_machine.specs.Machine.{IsStuck, NativeAnswer, NativeCall}
-use Rattle.jc_machine.specs.Natives.{EndsFit, IsFitAnswer, IsFitCall, IsLawful}
-use Rattle.jc_machine.specs.Typed.{HeapTyped}
+use Rattle.jc_machine.specs.Natives.{IsFitAnswer, IsFitCall, IsLawful}
 use Rattle.jc_names.specs.declared.name.ClassName.{ClassName}
 use Rattle.jc_names.specs.declared.name.ClassName.TheVariants as classes
-use Rattle.jc_names.specs.declared.name.MethodName.TheVariants.{Api}
 use Rattle.jc_natives.proofs.ApiTypes.{IsDeclared, counted_name, is_declared}
 use Rattle.jc_natives.proofs.Facts.{AreTyped}
 use Rattle.jc_natives.proofs.Fits.{begun_fits}
@@ -37,7 +33,7 @@ use Rattle.jc_natives.proofs.Keeping.{kept_fits_still}
 use Rattle.jc_natives.proofs.Simulation.{Begins, begins_of}
 use Rattle.jc_natives.proofs.Suits.{suits}
 use Rattle.jc_natives.specs.Kept.{Kept}
-use Rattle.jc_natives.specs.Meaning.{answer_of, begun, fits_kept, meaning, unchanged}
+use Rattle.jc_natives.specs.Meaning.{answer_of, begun, meaning, unchanged}
 use Rattle.jc_natives.specs.Rows.{natives}
 use Rattle.jc_natives.specs.declared.native.Native.{Native}
 

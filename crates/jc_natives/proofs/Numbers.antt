@@ -13,7 +13,7 @@ use Rattle.jc_natives.specs.PrivateWords.{Done, did_on_words, done_of, laid}
 use Rattle.jc_natives.specs.Work.{Asks, Does, Makes, Work, array_type}
 use Rattle.jc_natives.specs.declared.native.Elements.{Elements}
 use Rattle.jc_natives.specs.declared.native.Elements.TheVariants.{Booleans, Bytes, References, Shorts}
-use Rattle.jc_store.specs.Heap.{Heap, Object, object_at, with_cell, with_object}
+use Rattle.jc_store.specs.Heap.{Heap, Object, object_at, with_cell}
 use Rattle.jc_store.specs.Store.{Store, class_number_at}
 
 -- ---- what a work makes is an array

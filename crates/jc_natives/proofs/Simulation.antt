@@ -1,5 +1,5 @@
 -- What is done on words is what members mean on tagged values.
-use Rattle.std.proofs.Common.{◌≡◌, ℕ, zero, suc, ◌==◌, ◌&&◌, Bool, true, false, cond, List, [], ◌∷◌, ◌++◌, length, map, replicate, slice_get, Option, Some, None, refl, sym, ap, subst, ◌∙◌, arith}
+use Rattle.std.proofs.Common.{◌≡◌, ℕ, zero, suc, ◌==◌, Bool, true, false, cond, List, [], ◌∷◌, ◌++◌, length, map, replicate, slice_get, Option, Some, None, refl, sym, ap, subst, ◌∙◌, arith}
 use Rattle.std.proofs.lemmas.Bool.{eqb-true}
 use Rattle.std.proofs.lemmas.Option.{none-some}
 use Rattle.std.specs.Option.{option_and_then, option_map, option_map_or}
@@ -12,13 +12,12 @@ use Rattle.jc_cap_desc.specs.Shape.{Shape}
 use Rattle.jc_link.specs.Linked.{World}
 use Rattle.jc_link.specs.MemberType.{declared_type_of}
 use Rattle.jc_link.specs.Named.{is_concrete}
-use Rattle.jc_machine.specs.Accepted.{IsAccepted}
 use Rattle.jc_machine.specs.Agree.{HeapReads, Pointwise, Reads}
 use Rattle.jc_machine.specs.Following.{ReadsResult}
 use Rattle.jc_machine.specs.Lookup.{are_of_instance, are_of_types, is_object_of, may_begin_with}
-use Rattle.jc_machine.specs.Machine.{Callback, Calls, Gives, IsStuck, NativeAnswer, NativeCall, NativeEnd, ThrowsObject}
+use Rattle.jc_machine.specs.Machine.{Calls, Gives, IsStuck, NativeAnswer, NativeCall, ThrowsObject}
 use Rattle.jc_machine.specs.Natives.{IsFitCall}
-use Rattle.jc_machine.specs.WordNatives.{AnswerAgrees, CallAgrees, ReadsCallback, ReadsEnd, WordState}
+use Rattle.jc_machine.specs.WordNatives.{AnswerAgrees, CallAgrees, ReadsEnd, WordState}
 use Rattle.jc_machine.specs.declared.natives.WordCall.{WordCall}
 use Rattle.jc_machine.specs.declared.natives.WordOutcome.{WordOutcome}
 use Rattle.jc_machine.specs.declared.natives.WordOutcome.TheVariants.{CallsBack, Returned, Thrown}
@@ -28,23 +27,22 @@ use Rattle.jc_names.specs.declared.name.ClassName.{ClassName}
 use Rattle.jc_names.specs.declared.name.MethodName.TheVariants.{Api}
 use Rattle.jc_names.specs.declared.owner.Owner.{Owner}
 use Rattle.jc_natives.proofs.Bare.{argument_bits, bare_laid, bare_length, bare_new, bare_room, both, heap_bits, reads_heap, receiver_bits}
-use Rattle.jc_natives.specs.Cells.{Write, bare, bared, bits, has_room, written}
+use Rattle.jc_natives.specs.Cells.{bare, bared, bits, has_room, written}
 use Rattle.jc_natives.specs.Kept.{Kept}
-use Rattle.jc_natives.specs.Meaning.{answer_of, array_or_refusal, asked, begun, blank_of, did, done, end_of, ended, made, meaning, new_array, reference, unchanged, with_room, work_of}
-use Rattle.jc_natives.specs.PrivateWords.{AsksSo, Done, TellsEnd, did_on_words, done_of, ended_of, kind_of, laid, native_work, seen_in, tested_work, word_work}
+use Rattle.jc_natives.specs.Meaning.{answer_of, array_or_refusal, begun, blank_of, done, end_of, ended, meaning, new_array, reference, unchanged, with_room, work_of}
+use Rattle.jc_natives.specs.PrivateWords.{Done, TellsEnd, did_on_words, done_of, ended_of, kind_of, laid, native_work, seen_in, tested_work, word_work}
 use Rattle.jc_natives.specs.Rows.{natives, row_of}
-use Rattle.jc_natives.specs.Seen.{Seen, arguments_of, seen_of}
+use Rattle.jc_natives.specs.Seen.{arguments_of, seen_of}
 use Rattle.jc_natives.specs.Tests.{tested}
 use Rattle.jc_natives.specs.Work.{Asks, Does, Ending, GivesReference, GivesWord, Makes, NewArray, NoResult, Throws, Work}
-use Rattle.jc_natives.specs.declared.ended.Ended.{Ended}
 use Rattle.jc_natives.specs.declared.ended.Ended.TheVariants as ends
 use Rattle.jc_natives.specs.declared.ended.Question.{Question}
 use Rattle.jc_natives.specs.declared.native.Elements.{Elements}
 use Rattle.jc_natives.specs.declared.native.Elements.TheVariants.{Booleans, Bytes, References, Shorts}
 use Rattle.jc_natives.specs.declared.native.Native.{Native}
-use Rattle.jc_store.specs.Heap.{Heap, Object, next_number, object_at, with_new}
-use Rattle.jc_store.specs.Store.{Store, fresh, with_made, with_objects}
-use Rattle.jc_words.specs.Values.{Null, Ref, TaggedValue, Unset, Word}
+use Rattle.jc_store.specs.Heap.{Heap, next_number, with_new}
+use Rattle.jc_store.specs.Store.{Store, fresh}
+use Rattle.jc_words.specs.Values.{Null, Ref, TaggedValue, Word}
 
 -- ---- the arguments of a call that may begin
 

@@ -1,5 +1,5 @@
 -- AIDs (Java Card API Specification, AID).
-use Rattle.std.specs.Prelude.{ℕ, ◌==◌, ◌&&◌, Bool, false, List, [], ◌∷◌, bytes_eq, if◌then◌else◌}
+use Rattle.std.specs.Prelude.{ℕ, ◌==◌, ◌&&◌, Bool, false, List, ◌∷◌, bytes_eq, if◌then◌else◌}
 use Rattle.jc_natives.specs.Cells.{aid_bytes, aid_count, argument, bit, bytes_of, extended, word}
 use Rattle.jc_natives.specs.Kept.{Kept, has_aid_length}
 use Rattle.jc_natives.specs.Seen.{Seen}

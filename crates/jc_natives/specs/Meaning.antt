@@ -24,7 +24,7 @@ use Rattle.jc_natives.specs.Objects.{object_work}
 use Rattle.jc_natives.specs.Rows.{natives, row_of}
 use Rattle.jc_natives.specs.Seen.{Seen, arguments_of, seen_of}
 use Rattle.jc_natives.specs.System.{system_work}
-use Rattle.jc_natives.specs.Tests.{Tested, tested}
+use Rattle.jc_natives.specs.Tests.{tested}
 use Rattle.jc_natives.specs.Utilities.{utility_work}
 use Rattle.jc_natives.specs.Work.{Asks, Does, Ending, GivesReference, GivesWord, Makes, NewArray, NoResult, Throws, Work, array_type, no_transient_space, throws_system}
 use Rattle.jc_natives.specs.declared.ended.Question.{Question}

@@ -1,4 +1,4 @@
-use Rattle.std.proofs.Common.{◌∷◌, ap, arith, ◌∙◌}
+use Rattle.std.proofs.Common.{ap, arith, ◌∙◌}
 use Rattle.jc_natives.specs.Cells.{bytes_of, put, put_all}
 use Rattle.jc_natives.proofs.Putting.{put_before}
 use Rattle.jc_natives.proofs.aid.keep.Goals as goal

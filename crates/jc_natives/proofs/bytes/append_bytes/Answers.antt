@@ -1,4 +1,4 @@
-use Rattle.std.proofs.Common.{◌+◌, ◌-◌, ◌++◌, ◌∷◌, [], ◌∙◌, ap, arith, length}
+use Rattle.std.proofs.Common.{◌+◌, ◌-◌, ◌++◌, ◌∷◌, [], ◌∙◌, ap, arith}
 use Rattle.jc_natives.specs.Cells.{byte_of, bytes_of}
 use Rattle.jc_natives.proofs.Ranges.{appended}
 use Rattle.jc_natives.proofs.bytes.append_bytes.Goals as goal

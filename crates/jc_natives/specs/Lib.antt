@@ -11,4 +11,5 @@ pub mod Applets
 pub mod System
 pub mod Utilities
 pub mod Meaning
+pub mod Examples
 pub mod PrivateWords

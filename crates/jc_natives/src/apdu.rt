@@ -105,7 +105,7 @@ fn set_length(world: &World, store: &mut Store, call: &WordCall<'_>, runtime: &m
         return throw_apdu(store, ILLEGAL_USE);
     }
     let count = argument(call.arguments, 1);
-    if count > MOST_SENT {
+    if MOST_SENT < count {
         return throw_apdu(store, BAD_LENGTH);
     }
     runtime.announce(count);

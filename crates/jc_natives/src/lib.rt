@@ -7,6 +7,7 @@ mod applet;
 mod bytes;
 mod cells;
 mod ended;
+mod examples;
 mod kept;
 mod laws;
 mod members;
@@ -18,5 +19,6 @@ mod system;
 mod tests;
 mod utility;
 
+pub use examples::{arguments_are_tested, bytes_are_written, members_refuse, ranges_and_signs};
 pub use kept::{ApduState, Installing, Instance, Runtime};
 pub use laws::{kept_stays_fit, members_are_guarded};

@@ -12,7 +12,7 @@ use Rattle.jc_link.specs.Built.IsBuilt.{api}
 use Rattle.jc_link.specs.Linked.{IsBoundTo, IsWorld, Linked, LinkedBody, World, with_linked}
 use Rattle.jc_classes.specs.Limits.{IsSmall}
 use Rattle.jc_machine.proofs.SmallWorlds.{api_is_small}
-use Rattle.jc_machine.specs.Accepted.{IsAccepted, IsAcceptedPackage, api_alone, linked_as}
+use Rattle.jc_machine.specs.Accepted.{HaveByteTokens, IsAccepted, IsAcceptedPackage, api_alone, linked_as}
 use Rattle.jc_machine.specs.Lookup.{body_at, of_package}
 
 no_body : (number : ℕ) (body : LinkedBody) → of_package [] number ≡ Some body → ⊥
@@ -37,12 +37,13 @@ placed (z ∷ xs) y x (suc n) e =
     (λ h. inr (ap suc h.0, h.1)) (placed xs y x n e)
 
 module _ (w : World) (l : Linked) (accepted : IsAccepted w) (bound : IsBoundTo w l) (world : IsWorld (with_linked w l))
-    (small : IsSmall l.world) (carried : IsPackageCarried l) (typed : IsPackageTyped l) where
+    (small : IsSmall l.world) (tokens : HaveByteTokens l.body.kept.pool) (carried : IsPackageCarried l) (typed : IsPackageTyped l) where
   -- a package is known as it was linked
   as_linked : (n : ℕ) (body : LinkedBody) (linked : Linked) → linked_as (with_linked w l) (suc n) body ≡ linked
-      → IsPackageCarried linked → IsPackageTyped linked → IsAcceptedPackage (with_linked w l) (suc n) body
-  as_linked n body linked same carried typed =
-      record { carried = subst IsPackageCarried (sym same) carried; typed = subst IsPackageTyped (sym same) typed }
+      → HaveByteTokens body.kept.pool → IsPackageCarried linked → IsPackageTyped linked
+      → IsAcceptedPackage (with_linked w l) (suc n) body
+  as_linked n body linked same tokens carried typed =
+      record { tokens = tokens; carried = subst IsPackageCarried (sym same) carried; typed = subst IsPackageTyped (sym same) typed }
 
   with_body : LinkedBody → List Shape → Linked
   with_body body world = record { world = world; body = body }
@@ -55,7 +56,7 @@ module _ (w : World) (l : Linked) (accepted : IsAccepted w) (bound : IsBoundTo w
       let first = ap (take (suc (suc (suc n)))) bound.1
       ∙ take-append-le (suc (suc (suc n))) w.shapes (bound.0 ∷ []) (omega (arith, low, count)) in
       as_linked n body (linked_as w (suc n) body) (ap (λ world. record { world = world; body = body }) first)
-      known.carried known.typed
+      known.tokens known.carried known.typed
 
   last : (n : ℕ) (body : LinkedBody) → n ≡ length w.bodies → l.body ≡ body
       → IsAcceptedPackage (with_linked w l) (suc n) body
@@ -66,7 +67,7 @@ module _ (w : World) (l : Linked) (accepted : IsAccepted w) (bound : IsBoundTo w
       as_linked n body l
       (ap (λ world. record { world = world; body = body }) whole
       ∙ ap (λ body. record { world = l.world; body = body }) (sym is))
-      carried typed
+      (subst (λ (b : LinkedBody). HaveByteTokens b.kept.pool) is tokens) carried typed
 
   by_number : (number : ℕ) (body : LinkedBody) → body_at (with_linked w l) number ≡ Some body
       → IsAcceptedPackage (with_linked w l) number body

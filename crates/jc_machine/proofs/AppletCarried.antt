@@ -1,5 +1,5 @@
 -- An applet's package behind the API's packages is carried by a certificate without rows, and well typed.
-use Rattle.std.proofs.Common.{◌≡◌, ℕ, ◌==◌, Bool, true, false, cond, List, [], ◌∷◌, Option, Some, None}
+use Rattle.std.proofs.Common.{◌≡◌, ℕ, zero, suc, ◌==◌, ◌<◌, Bool, true, false, cond, List, [], ◌∷◌, Option, Some, None}
 use Rattle.std.proofs.Common.{if◌then◌else◌, refl, sym, subst, arith, eqb-true}
 use Rattle.std.proofs.lemmas.Option.{none-some, same_Some}
 use Rattle.jc_api.specs.Bound.{default_binding}
@@ -32,8 +32,8 @@ use Rattle.jc_step.specs.Objects.{object_row}
 use Rattle.jc_step.specs.Row.{after, applied}
 use Rattle.jc_types.specs.State.{Types}
 use Rattle.jc_types.specs.declared.ty.Ty.TheVariants as types
-use Rattle.jc_machine.specs.Accepted.{IsAccepted, api_alone}
-use Rattle.jc_machine.specs.TypedExamples.{applet_world}
+use Rattle.jc_machine.specs.Accepted.{HaveByteTokens, IsAccepted, api_alone}
+use Rattle.jc_machine.specs.TypedExamples.{applet_body, applet_world}
 use Rattle.jc_machine.proofs.SmallWorlds.{applet_is_small}
 use Rattle.jc_machine.proofs.Accepting.{api_is_accepted, grown_is_accepted}
 use Rattle.jc_machine.proofs.AppletKnown.{applet_is_world, each_body, process_code}
@@ -240,8 +240,14 @@ typed = record {
       (record { typing = process_typing; typed = process_typed; shaped = process_shaped });
 }
 
+byte_tokens : HaveByteTokens applet_body.kept.pool
+byte_tokens zero ref e = absurd cc
+byte_tokens (suc zero) ref e =
+    let token : 1 ≡ ref.token = cc in omega (arith, token)
+byte_tokens (suc (suc n)) ref e = absurd cc
+
 pub applet_accepted : IsWellFormed (api_world default_binding) applet → HasNoClash default_binding
     → IsAccepted applet_world
 applet_accepted fine clear =
     grown_is_accepted (api_alone default_binding) applet_linked (api_is_accepted default_binding clear)
-    (applet.shape, refl) (applet_is_world fine clear) applet_is_small carried typed
+    (applet.shape, refl) (applet_is_world fine clear) applet_is_small byte_tokens carried typed

@@ -1,7 +1,10 @@
 -- The worlds whose packages a machine runs: each loaded package was linked, and its code was checked.
-use Rattle.std.specs.Prelude.{◌≡◌, ℕ, suc, [], take, false, Some, IsSome}
+use Rattle.std.specs.Prelude.{◌≡◌, ℕ, suc, ◌<◌, List, [], slice_get, take, false, Some, IsSome}
 use Rattle.jc_api.specs.Bound.{Bound}
 use Rattle.jc_cap_method.specs.declared.header.MethodHeader.{MethodHeader}
+use Rattle.jc_cap_pool.specs.declared.entry.MemberRef.{MemberRef}
+use Rattle.jc_cap_pool.specs.declared.entry.PoolEntry.{PoolEntry}
+use Rattle.jc_cap_pool.specs.declared.entry.PoolEntry.TheVariants.{VirtualMethodref}
 use Rattle.jc_check.specs.Checked.{IsPackageCarried, IsPackageTyped}
 use Rattle.jc_classes.specs.Api.{api_world}
 use Rattle.jc_classes.specs.Limits.{IsSmall}
@@ -19,8 +22,14 @@ api_alone bound = record { shapes = api_world bound; bodies = [] }
 abbrev pub linked_as : World → ℕ → LinkedBody → Linked
 linked_as w number body = record { world = take (suc (home_at number)) w.shapes; body = body }
 
+-- tokens of virtual methods in a constant pool are bytes, as they are spelled
+abbrev pub HaveByteTokens : List PoolEntry → Type 0
+HaveByteTokens pool = (index : ℕ) (ref : MemberRef) → slice_get pool index ≡ Some (VirtualMethodref ref)
+    → ref.token < 256
+
 -- a loaded package that some certificate carries, and whose methods with code are well typed, as it was linked
 pub record IsAcceptedPackage (w : World) (number : ℕ) (body : LinkedBody) : Type 0 where
+  pub tokens : HaveByteTokens body.kept.pool
   pub carried : IsPackageCarried (linked_as w number body)
   pub typed : IsPackageTyped (linked_as w number body)
 

@@ -11,7 +11,7 @@ ghost use Rattle.jc_code.specs.Instructions.{instr_at};
 ghost use Rattle.jc_code.specs.Listing.{IsListing, PlacedInstr, placed_at};
 ghost use Rattle.jc_code.specs.declared.instr.Instr.{Instr};
 ghost use Rattle.jc_link.specs.Built.{IsBuilt};
-ghost use Rattle.jc_machine.specs.Accepted.{HaveCode, IsAccepted, api_alone, linked_as};
+ghost use Rattle.jc_machine.specs.Accepted.{HaveByteTokens, HaveCode, IsAccepted, api_alone, linked_as};
 ghost use Rattle.jc_machine.specs.Guarded.{IsGuarded, IsRefused, KeepsPlain, are_allowed, machine_of};
 ghost use Rattle.jc_machine.specs.Lookup.{body_at, code_at, instruction_at};
 ghost use Rattle.jc_machine.specs.Machine.{Machine, MethodPlace, Surroundings};
@@ -42,12 +42,12 @@ pub fn accepted_methods_are_typed()
 {}
 
 /// The world of the API alone is accepted. So is an accepted world with a linked package behind it that was bound to it
-/// as it stands, within the limits of a world, that some certificate carries, and whose methods are well typed. It does
-/// nothing.
+/// as it stands, within the limits of a world, whose pool's tokens are bytes, that some certificate carries, and whose
+/// methods are well typed. It does nothing.
 pub fn accepted_worlds_grow()
     ensures api { (bound : Bound) → HasNoClash bound → IsAccepted (api_alone bound) }
     ensures grown { (w : World) (l : Linked) → IsAccepted w → IsBoundTo w l → IsLast l → IsSmall l.world
-        → IsPackageCarried l → IsPackageTyped l → IsAccepted (with_linked w l) }
+        → HaveByteTokens l.body.kept.pool → IsPackageCarried l → IsPackageTyped l → IsAccepted (with_linked w l) }
 {
     growing_keeps_lookups();
     growing_keeps_linking();

@@ -13,3 +13,4 @@ mod Suits
 mod Facts
 mod Fits
 mod Law
+mod Between

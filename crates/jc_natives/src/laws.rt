@@ -1,10 +1,11 @@
 //! What holds of all native members.
 
-ghost use Rattle.std.specs.Prelude.{◌≡◌, true};
+ghost use Rattle.std.specs.Prelude.{◌≡◌, ◌<◌, ◌≤◌, ℕ, Bool, List, length, true};
 ghost use Rattle.jc_link.specs.Linked.{World};
 ghost use Rattle.jc_machine.specs.Machine.{NativeCall};
 ghost use Rattle.jc_machine.specs.Natives.{IsGuardedAnswer, KeepsObjects};
-ghost use Rattle.jc_natives.specs.Kept.{Kept};
+ghost use Rattle.jc_names.specs.declared.owner.Owner.{Owner};
+ghost use Rattle.jc_natives.specs.Kept.{Kept, after_install, are_bytes, is_aid, is_instance_number, nothing_kept, with_command, with_install, without_command};
 ghost use Rattle.jc_natives.specs.Meaning.{meaning};
 ghost use Rattle.jc_store.specs.Heap.{Heap};
 ghost use Rattle.jc_words.specs.Values.{TaggedValue};
@@ -21,4 +22,21 @@ pub fn members_are_guarded()
 pub fn kept_stays_fit()
     ensures { (w : World) (before after : Heap TaggedValue) (kept : Kept) → KeepsObjects before after
         → meaning.fits w before kept ≡ true → meaning.fits w after kept ≡ true }
+{}
+
+/// What the runtime keeps fits the objects when a card is new, and behind each call of the runtime itself: an install
+/// that begins and ends, and a command that comes and goes. It does nothing.
+pub fn calls_keep_fitting()
+    ensures new { (w : World) (heap : Heap TaggedValue) → meaning.fits w heap nothing_kept ≡ true }
+    ensures begun { (w : World) (heap : Heap TaggedValue) (k : Kept) → meaning.fits w heap k ≡ true
+        → (owner : Owner) (aid : List ℕ) → is_aid aid ≡ true → is_instance_number owner.instance ≡ true
+        → meaning.fits w heap (with_install k owner aid) ≡ true }
+    ensures over { (w : World) (heap : Heap TaggedValue) (k : Kept) → meaning.fits w heap k ≡ true
+        → (succeeds : Bool) → meaning.fits w heap (after_install k succeeds) ≡ true }
+    ensures opened { (w : World) (heap : Heap TaggedValue) (k : Kept) → meaning.fits w heap k ≡ true
+        → (incoming : List ℕ) (expected : ℕ) (selecting : Bool) → are_bytes incoming ≡ true
+        → length incoming ≤ 255 → expected < 256
+        → meaning.fits w heap (with_command k incoming expected selecting) ≡ true }
+    ensures closed { (w : World) (heap : Heap TaggedValue) (k : Kept) → meaning.fits w heap k ≡ true
+        → meaning.fits w heap (without_command k) ≡ true }
 {}

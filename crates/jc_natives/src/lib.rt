@@ -21,4 +21,4 @@ mod utility;
 
 pub use examples::{arguments_are_tested, bytes_are_written, members_refuse, ranges_and_signs};
 pub use kept::{ApduState, Installing, Instance, Runtime};
-pub use laws::{kept_stays_fit, members_are_guarded};
+pub use laws::{calls_keep_fitting, kept_stays_fit, members_are_guarded};

@@ -1,0 +1,72 @@
+-- What the runtime keeps fits the objects behind its own calls too.
+use Rattle.std.proofs.Common.{◌≡◌, ℕ, zero, suc, ◌-◌, ◌<◌, ◌≤◌, ◌&&◌, not, Bool, true, false, List, [], ◌∷◌, length, nat_le, nat_lt, refl, take}
+use Rattle.std.proofs.lemmas.Bool.{le-leb, lt-ltb}
+use Rattle.std.specs.List.{list_all}
+use Rattle.std.specs.Option.{option_map_or}
+use Rattle.jc_link.specs.Linked.{World}
+use Rattle.jc_names.specs.declared.owner.Owner.{Owner}
+use Rattle.jc_natives.proofs.Bare.{both}
+use Rattle.jc_natives.proofs.Keeping.{both_are}
+use Rattle.jc_natives.specs.Kept.{Kept, after_install, are_bytes, has_registered, is_aid, is_instance_number, kept_instances, with_command, with_install}
+use Rattle.jc_natives.specs.Meaning.{fits_command, fits_installing, fits_instance, fits_kept}
+use Rattle.jc_natives.specs.declared.kept.Instance.{Instance}
+use Rattle.jc_store.specs.Heap.{Heap}
+use Rattle.jc_words.specs.Values.{TaggedValue}
+
+all_taken : {A : Type 0} (p : A → Bool) (xs : List A) (n : ℕ) → list_all p xs ≡ true → list_all p (take n xs) ≡ true
+all_taken p [] zero e = refl
+all_taken p [] (suc n) e = refl
+all_taken p (x ∷ xs) zero e = refl
+all_taken p (x ∷ xs) (suc n) e =
+    let b = both (p x) (list_all p xs) e in both_are (p x) (list_all p (take n xs)) b.0 (all_taken p xs n b.1)
+
+module _ (w : World) (heap : Heap TaggedValue) (k : Kept) (fits : fits_kept w heap k ≡ true) where
+  instances_are : list_all (fits_instance w.shapes heap) k.instances ≡ true
+  instances_are =
+      (both (list_all (fits_instance w.shapes heap) k.instances) (option_map_or fits_installing k.installing true)
+      (both (list_all (fits_instance w.shapes heap) k.instances && option_map_or fits_installing k.installing true)
+      (fits_command k) fits).0).0
+
+  installing_is : option_map_or fits_installing k.installing true ≡ true
+  installing_is =
+      (both (list_all (fits_instance w.shapes heap) k.instances) (option_map_or fits_installing k.installing true)
+      (both (list_all (fits_instance w.shapes heap) k.instances && option_map_or fits_installing k.installing true)
+      (fits_command k) fits).0).1
+
+  command_is : fits_command k ≡ true
+  command_is =
+      (both (list_all (fits_instance w.shapes heap) k.instances && option_map_or fits_installing k.installing true)
+      (fits_command k) fits).1
+
+  pub begun_fits : (owner : Owner) (aid : List ℕ) → is_aid aid ≡ true → is_instance_number owner.instance ≡ true
+      → fits_kept w heap (with_install k owner aid) ≡ true
+  begun_fits owner aid e f =
+      both_are (list_all (fits_instance w.shapes heap) k.instances && (is_aid aid && is_instance_number owner.instance))
+      (fits_command k)
+      (both_are (list_all (fits_instance w.shapes heap) k.instances) (is_aid aid && is_instance_number owner.instance)
+      instances_are (both_are (is_aid aid) (is_instance_number owner.instance) e f))
+      command_is
+
+  some_instances : (b : Bool) → list_all (fits_instance w.shapes heap) (kept_instances k.instances b) ≡ true
+  some_instances true = all_taken (fits_instance w.shapes heap) k.instances (length k.instances - 1) instances_are
+  some_instances false = instances_are
+
+  pub over_fits : (succeeds : Bool) → fits_kept w heap (after_install k succeeds) ≡ true
+  over_fits succeeds =
+      let left = kept_instances k.instances (has_registered k && not succeeds) in
+      both_are (list_all (fits_instance w.shapes heap) left && true) (fits_command k)
+      (both_are (list_all (fits_instance w.shapes heap) left) true
+      (some_instances (has_registered k && not succeeds)) refl)
+      command_is
+
+  pub opened_fits : (incoming : List ℕ) (expected : ℕ) (selecting : Bool) → are_bytes incoming ≡ true
+      → length incoming ≤ 255 → expected < 256
+      → fits_kept w heap (with_command k incoming expected selecting) ≡ true
+  opened_fits incoming expected selecting bytes short low =
+      both_are (list_all (fits_instance w.shapes heap) k.instances && option_map_or fits_installing k.installing true)
+      (are_bytes incoming && nat_le (length incoming) 255 && nat_lt expected 256)
+      (both_are (list_all (fits_instance w.shapes heap) k.instances) (option_map_or fits_installing k.installing true)
+      instances_are installing_is)
+      (both_are (are_bytes incoming && nat_le (length incoming) 255) (nat_lt expected 256)
+      (both_are (are_bytes incoming) (nat_le (length incoming) 255) bytes (le-leb (length incoming) 255 short))
+      (lt-ltb expected 256 low))

@@ -1,0 +1,51 @@
+-- Elements of lists and objects of heaps, by their numbers.
+use Rattle.std.proofs.Common.{◌≡◌, ◌≢◌, ℕ, zero, suc, ◌<◌, ◌≤◌, List, [], ◌∷◌, length, set, slice_get, Some, None, refl, ap, arith}
+use Rattle.std.proofs.lemmas.Option.{none-some, slice_get_past}
+use Rattle.jc_store.specs.Heap.{Heap, Object, object_at, with_object}
+use Rattle.jc_store.specs.Store.{IsThere, Store}
+
+-- ---- lists
+
+pub got : {A : Type 0} (xs : List A) (n : ℕ) → n < length xs → (x : A) × (slice_get xs n ≡ Some x)
+got [] n h = absurd (omega (arith, h))
+got (x ∷ xs) zero h = (x, refl)
+got (x ∷ xs) (suc n) h = got xs n (omega (arith, h))
+
+pub got_set_same : {A : Type 0} (xs : List A) (n : ℕ) (x y : A) → slice_get xs n ≡ Some x
+    → slice_get (set xs n y) n ≡ Some y
+got_set_same [] n x y e = absurd (none-some x e)
+got_set_same (z ∷ xs) zero x y e = refl
+got_set_same (z ∷ xs) (suc n) x y e = got_set_same xs n x y e
+
+pub got_set_other : {A : Type 0} (xs : List A) (n m : ℕ) (y : A) → n ≢ m → slice_get (set xs n y) m ≡ slice_get xs m
+got_set_other [] n m y h = refl
+got_set_other (z ∷ xs) zero zero y h = absurd (h refl)
+got_set_other (z ∷ xs) zero (suc m) y h = refl
+got_set_other (z ∷ xs) (suc n) zero y h = refl
+got_set_other (z ∷ xs) (suc n) (suc m) y h = got_set_other xs n m y (λ e. h (ap suc e))
+
+-- ---- heaps
+
+pub there : (s : Store) (number : ℕ) → number ≢ 0 → number ≤ length s.objects → IsThere s number
+there s zero h low = absurd (h refl)
+there s (suc n) h low = let g = got s.objects n (omega (arith, low)) in record { object = g.0; is = g.1 }
+
+pub not_there : {V : Type 0} (heap : Heap V) (number : ℕ) → length heap < number → object_at heap number ≡ None
+not_there heap zero h = refl
+not_there heap (suc n) h = slice_get_past heap n (omega (arith, h))
+
+pub same_object : {V : Type 0} (heap : Heap V) (number : ℕ) (object : Object V) → object_at heap number ≡ Some object
+    → object_at (with_object heap number object) number ≡ Some object
+same_object heap zero object e = absurd (none-some object e)
+same_object heap (suc n) object e = got_set_same heap n object object e
+
+pub new_object : {V : Type 0} (heap : Heap V) (number : ℕ) (before after : Object V)
+    → object_at heap number ≡ Some before → object_at (with_object heap number after) number ≡ Some after
+new_object heap zero before after e = absurd (none-some before e)
+new_object heap (suc n) before after e = got_set_same heap n before after e
+
+pub other_object : {V : Type 0} (heap : Heap V) (number other : ℕ) (object : Object V) → number ≢ other
+    → object_at (with_object heap number object) other ≡ object_at heap other
+other_object heap zero other object h = refl
+other_object heap (suc n) zero object h = refl
+other_object heap (suc n) (suc m) object h = got_set_other heap n m object (λ e. h (ap suc e))

@@ -1,0 +1,311 @@
+-- Objects stay typed where words are written that fit, and where an array is made.
+use Rattle.std.proofs.Common.{◌≡◌, ℕ, zero, suc, ◌+◌, ◌<◌, ◌&&◌, Bool, true, false, List, [], ◌∷◌, ◌++◌, map, replicate, set, slice_get, Option, Some, None, refl, sym, ap, subst, ◌∙◌, arith}
+use Rattle.std.specs.Prelude.{⊤}
+use Rattle.std.proofs.lemmas.Bool.{lt-ltb}
+use Rattle.std.proofs.lemmas.List.{length-replicate, length-set}
+use Rattle.std.proofs.lemmas.Option.{none-some, same_Some}
+use Rattle.std.specs.List.{AllByRecursion, list_all}
+use Rattle.std.specs.Option.{option_map_or}
+use Rattle.jc_api.specs.declared.class.ApiClass.TheVariants.{Applet, Object as ObjectClass}
+use Rattle.jc_base.specs.declared.declared_type.DeclaredType.{DeclaredType}
+use Rattle.jc_base.specs.declared.declared_type.DeclaredType.TheVariants as types
+use Rattle.jc_cap_desc.specs.Shape.{Shape}
+use Rattle.jc_link.specs.Linked.{World}
+use Rattle.jc_machine.specs.Agree.{Pointwise}
+use Rattle.jc_machine.specs.Lookup.{fields_of, is_boolean_array, is_byte, is_byte_array, is_instance, is_kept_as, is_of_class, is_of_type, is_short_array, is_word, leads_to}
+use Rattle.jc_machine.specs.Natives.{KeepsObjects}
+use Rattle.jc_machine.specs.Typed.{CellsTyped, HeapTyped, ObjectTyped, is_cell, may_be_made}
+use Rattle.jc_names.specs.declared.name.ClassName.{ClassName}
+use Rattle.jc_names.specs.declared.name.ClassName.TheVariants.{Api}
+use Rattle.jc_names.specs.declared.owner.Owner.{Owner}
+use Rattle.jc_natives.proofs.Bare.{both}
+use Rattle.jc_natives.proofs.Getting.{new_object}
+use Rattle.jc_natives.proofs.Guarding.{keeps_new, keeps_put}
+use Rattle.jc_natives.proofs.Putting.{put_none, put_some}
+use Rattle.jc_natives.proofs.Simulation.{passed_some}
+use Rattle.jc_natives.specs.Cells.{Write, put, put_all, written}
+use Rattle.jc_natives.specs.Kept.{Kept, is_aid, is_instance_number, is_same_owner}
+use Rattle.jc_natives.specs.Meaning.{blank_of, fits_command, fits_installing, fits_instance, fits_kept, has_applet, new_array}
+use Rattle.jc_natives.specs.Work.{NewArray, array_type}
+use Rattle.jc_natives.specs.declared.kept.Instance.{Instance}
+use Rattle.jc_natives.specs.declared.native.Elements.{Elements}
+use Rattle.jc_natives.specs.declared.native.Elements.TheVariants.{Booleans, Bytes, References, Shorts}
+use Rattle.jc_store.specs.Heap.{Heap, Object, object_at, with_cell, with_new, with_object}
+use Rattle.jc_store.specs.declared.kind.Kind.{Kind}
+use Rattle.jc_store.specs.declared.kind.ObjectType.{ObjectType}
+use Rattle.jc_store.specs.declared.kind.ObjectType.TheVariants.{BooleanArray, ByteArray, Instance as OfClass, ReferenceArray, ShortArray}
+use Rattle.jc_words.specs.Values.{Null, Ref, TaggedValue, Unset, Word}
+
+-- ---- where objects stay values are of the types that they were of
+
+module _ (world : List Shape) (before after : Heap TaggedValue) (stay : KeepsObjects before after) where
+  pub leads_still : (test : ObjectType → Bool) (v : TaggedValue) → leads_to before test v ≡ true
+      → leads_to after test v ≡ true
+  leads_still test (Word n) e = e
+  leads_still test (Ref n) e =
+      let a = passed_some (λ (o : Object TaggedValue). test o.kind.object) (object_at before n) e in
+      let s = stay n a.0 a.1 in
+      ap (λ o. option_map_or (λ (o : Object TaggedValue). test o.kind.object) o false) s.found
+      ∙ ap (λ kind. test kind.object) s.kind ∙ a.2
+  leads_still test Null e = refl
+  leads_still test Unset e = e
+
+  pub type_still : (t : DeclaredType ClassName) (v : TaggedValue) → is_of_type world before t v ≡ true
+      → is_of_type world after t v ≡ true
+  type_still types.Boolean v e = e
+  type_still types.Byte v e = e
+  type_still types.Short v e = e
+  type_still (types.Reference c) v e = leads_still (is_of_class world c) v e
+  type_still types.BooleanArray v e = leads_still is_boolean_array v e
+  type_still types.ByteArray v e = leads_still is_byte_array v e
+  type_still types.ShortArray v e = leads_still is_short_array v e
+  type_still (types.ReferenceArray c) v e = leads_still _ v e
+
+  kept_still : (t : DeclaredType ClassName) (v : TaggedValue) → is_kept_as world before t v ≡ true
+      → is_kept_as world after t v ≡ true
+  kept_still types.Boolean v e = e
+  kept_still types.Byte v e = e
+  kept_still types.Short v e = e
+  kept_still (types.Reference c) v e = leads_still (is_of_class world c) v e
+  kept_still types.BooleanArray v e = leads_still is_boolean_array v e
+  kept_still types.ByteArray v e = leads_still is_byte_array v e
+  kept_still types.ShortArray v e = leads_still is_short_array v e
+  kept_still (types.ReferenceArray c) v e = leads_still _ v e
+
+  cell_still : (field : Option (DeclaredType ClassName)) (v : TaggedValue) → is_cell world before field v ≡ true
+      → is_cell world after field v ≡ true
+  cell_still None v e = e
+  cell_still (Some t) v e = kept_still t v e
+
+  fields_still : (cells : List TaggedValue) (fields : List (Option (DeclaredType ClassName)))
+      → Pointwise (λ v field. is_cell world before field v ≡ true) cells fields
+      → Pointwise (λ v field. is_cell world after field v ≡ true) cells fields
+  fields_still [] [] typed = tt
+  fields_still [] (f ∷ fields) typed = absurd typed
+  fields_still (v ∷ cells) [] typed = absurd typed
+  fields_still (v ∷ cells) (f ∷ fields) typed = (cell_still f v typed.0, fields_still cells fields typed.1)
+
+  references_still : (c : ClassName) (cells : List TaggedValue)
+      → AllByRecursion (λ v. leads_to before (is_instance world c) v ≡ true) cells
+      → AllByRecursion (λ v. leads_to after (is_instance world c) v ≡ true) cells
+  references_still c [] typed = tt
+  references_still c (v ∷ cells) typed = (leads_still (is_instance world c) v typed.0, references_still c cells typed.1)
+
+  cells_still : (type : ObjectType) (cells : List TaggedValue) → CellsTyped world before cells type
+      → CellsTyped world after cells type
+  cells_still (OfClass c) cells typed = fields_still cells (fields_of world c) typed
+  cells_still BooleanArray cells typed = typed
+  cells_still ByteArray cells typed = typed
+  cells_still ShortArray cells typed = typed
+  cells_still (ReferenceArray c) cells typed = references_still c cells typed
+
+  object_still : (o : Object TaggedValue) → ObjectTyped world before o → ObjectTyped world after o
+  object_still o typed = record {
+    made = typed.made;
+    cells = cells_still o.kind.object o.cells typed.cells;
+    counted = typed.counted;
+  }
+
+  objects_still : (os : Heap TaggedValue) → AllByRecursion (ObjectTyped world before) os
+      → AllByRecursion (ObjectTyped world after) os
+  objects_still [] typed = tt
+  objects_still (o ∷ os) typed = (object_still o typed.0, objects_still os typed.1)
+
+-- ---- one word
+
+all_got : {A : Type 0} (P : A → Type 0) (xs : List A) (n : ℕ) (x : A) → AllByRecursion P xs → slice_get xs n ≡ Some x
+    → P x
+all_got P [] n x all e = absurd (none-some x e)
+all_got P (y ∷ xs) zero x all e = subst P (same_Some y x e) all.0
+all_got P (y ∷ xs) (suc n) x all e = all_got P xs n x all.1 e
+
+all_set : {A : Type 0} (P : A → Type 0) (xs : List A) (n : ℕ) (x : A) → AllByRecursion P xs → P x
+    → AllByRecursion P (set xs n x)
+all_set P [] n x all p = tt
+all_set P (y ∷ xs) zero x all p = (p, all.1)
+all_set P (y ∷ xs) (suc n) x all p = (all.0, all_set P xs n x all.1 p)
+
+-- a word may stand in a component: a byte in an array of bytes, any in a cell of which no field is declared
+pub record IsBlankAt (world : List Shape) (c : ClassName) (index : ℕ) : Type 0 where
+  pub blank : (f : Option (DeclaredType ClassName)) → slice_get (fields_of world c) index ≡ Some f → f ≡ None
+
+abbrev pub FitsCell : List Shape → ObjectType → ℕ → ℕ → Type 0
+FitsCell world (OfClass c) index word = IsBlankAt world c index × (word < 65536)
+FitsCell world BooleanArray index word = ⊥
+FitsCell world ByteArray index word = word < 256
+FitsCell world ShortArray index word = ⊥
+FitsCell world (ReferenceArray c) index word = ⊥
+
+abbrev pub FitsWords : List Shape → ObjectType → ℕ → List ℕ → Type 0
+FitsWords world type from [] = ⊤
+FitsWords world type from (word ∷ words) = FitsCell world type from word × FitsWords world type (from + 1) words
+
+-- what is written fits the object, if there is one
+abbrev pub FitsWrite : List Shape → Heap TaggedValue → Write → Type 0
+FitsWrite world heap x =
+    (o : Object TaggedValue) → object_at heap x.object ≡ Some o → FitsWords world o.kind.object x.from x.words
+
+abbrev Fields : Type 0
+Fields = List (Option (DeclaredType ClassName))
+
+module _ (world : List Shape) (heap : Heap TaggedValue) where
+  fields_set : (cells : List TaggedValue) (fields : Fields) (index word : ℕ)
+      → ((f : Option (DeclaredType ClassName)) → slice_get fields index ≡ Some f → f ≡ None) → word < 65536
+      → Pointwise (λ v field. is_cell world heap field v ≡ true) cells fields
+      → Pointwise (λ v field. is_cell world heap field v ≡ true) (set cells index (Word word)) fields
+  fields_set [] [] index word blank small typed = tt
+  fields_set [] (f ∷ fields) index word blank small typed = absurd typed
+  fields_set (v ∷ cells) [] index word blank small typed = absurd typed
+  fields_set (v ∷ cells) (f ∷ fields) zero word blank small typed =
+      (ap (λ g. is_cell world heap g (Word word)) (blank f refl) ∙ lt-ltb word 65536 small, typed.1)
+  fields_set (v ∷ cells) (f ∷ fields) (suc index) word blank small typed =
+      (typed.0, fields_set cells fields index word blank small typed.1)
+
+  cells_set : (type : ObjectType) (cells : List TaggedValue) (index word : ℕ) → FitsCell world type index word
+      → CellsTyped world heap cells type → CellsTyped world heap (set cells index (Word word)) type
+  cells_set (OfClass c) cells index word fits typed =
+      fields_set cells (fields_of world c) index word (fits.0).blank fits.1 typed
+  cells_set BooleanArray cells index word fits typed = absurd fits
+  cells_set ByteArray cells index word fits typed =
+      all_set (λ v. is_byte v ≡ true) cells index (Word word) typed (lt-ltb word 256 fits)
+  cells_set ShortArray cells index word fits typed = absurd fits
+  cells_set (ReferenceArray c) cells index word fits typed = absurd fits
+
+  object_set : (o : Object TaggedValue) (index word : ℕ) → FitsCell world o.kind.object index word
+      → ObjectTyped world heap o → ObjectTyped world heap (with_cell o index (Word word))
+  object_set o index word fits typed =
+      let same = length-set o.cells index (Word word) in
+      let count = typed.counted in
+      record {
+        made = typed.made;
+        cells = cells_set o.kind.object o.cells index word fits typed.cells;
+        counted = λ is. let low = count is in omega (arith, low, same);
+      }
+
+  heap_set : (number : ℕ) (o p : Object TaggedValue) → object_at heap number ≡ Some o → ObjectTyped world heap p
+      → HeapTyped world heap → AllByRecursion (ObjectTyped world heap) (with_object heap number p)
+  heap_set zero o p e typed all = all
+  heap_set (suc n) o p e typed all = all_set (ObjectTyped world heap) heap n p all typed
+
+  object_typed : (number : ℕ) (o : Object TaggedValue) → object_at heap number ≡ Some o → HeapTyped world heap
+      → ObjectTyped world heap o
+  object_typed zero o e all = absurd (none-some o e)
+  object_typed (suc n) o e all = all_got (ObjectTyped world heap) heap n o all e
+
+put_typed : (world : List Shape) (heap : Heap TaggedValue) (number index word : ℕ) (o : Object TaggedValue)
+    → object_at heap number ≡ Some o → FitsCell world o.kind.object index word → HeapTyped world heap
+    → HeapTyped world (put heap number index (Word word))
+put_typed world heap number index word o found fits typed =
+    let set = heap_set world heap number o (with_cell o index (Word word)) found
+    (object_set world heap o index word fits (object_typed world heap number o found typed)) typed in
+    subst (λ h. AllByRecursion (ObjectTyped world (put heap number index (Word word))) h)
+    (sym (put_some heap number index (Word word) o found))
+    (objects_still world heap (put heap number index (Word word)) (keeps_put heap number index (Word word))
+    (with_object heap number (with_cell o index (Word word))) set)
+
+put_all_typed : (world : List Shape) (heap : Heap TaggedValue) (number from : ℕ) (words : List ℕ)
+    (o : Object TaggedValue) → object_at heap number ≡ Some o → FitsWords world o.kind.object from words
+    → HeapTyped world heap → HeapTyped world (put_all heap number from (map Word words))
+put_all_typed world heap number from [] o found fits typed = typed
+put_all_typed world heap number from (x ∷ words) o found fits typed =
+    put_all_typed world (put heap number from (Word x)) number (from + 1) words (with_cell o from (Word x))
+    (ap (λ h. object_at h number) (put_some heap number from (Word x) o found)
+    ∙ new_object heap number o (with_cell o from (Word x)) found)
+    fits.1 (put_typed world heap number from x o found fits.0 typed)
+
+put_all_none : (heap : Heap TaggedValue) (number from : ℕ) (values : List TaggedValue) → object_at heap number ≡ None
+    → put_all heap number from values ≡ heap
+put_all_none heap number from [] e = refl
+put_all_none heap number from (v ∷ values) e =
+    ap (λ h. put_all h number (from + 1) values) (put_none heap number from v e)
+    ∙ put_all_none heap number (from + 1) values e
+
+pub write_typed : (world : List Shape) (heap : Heap TaggedValue) (x : Write) → FitsWrite world heap x
+    → HeapTyped world heap → HeapTyped world (written Word heap (x ∷ []))
+write_typed world heap x fits typed = by_object (object_at heap x.object) refl
+  where
+    by_object : (o : Option (Object TaggedValue)) → object_at heap x.object ≡ o
+        → HeapTyped world (put_all heap x.object x.from (map Word x.words))
+    by_object None e =
+        subst (HeapTyped world) (sym (put_all_none heap x.object x.from (map Word x.words) e)) typed
+    by_object (Some o) e = put_all_typed world heap x.object x.from x.words o e (fits o e) typed
+
+-- ---- a new array
+
+all_replicated : {A : Type 0} (P : A → Type 0) (n : ℕ) (x : A) → P x → AllByRecursion P (replicate n x)
+all_replicated P zero x p = tt
+all_replicated P (suc n) x p = (p, all_replicated P n x p)
+
+all_behind : {A : Type 0} (P : A → Type 0) (xs : List A) (x : A) → AllByRecursion P xs → P x
+    → AllByRecursion P (xs ++ x ∷ [])
+all_behind P [] x all p = (p, tt)
+all_behind P (y ∷ xs) x all p = (all.0, all_behind P xs x all.1 p)
+
+module _ (world : List Shape) (heap : Heap TaggedValue) where
+  blanks_typed : (elements : Elements) (n : ℕ)
+      → CellsTyped world heap (replicate n (blank_of elements)) (array_type elements)
+  blanks_typed Booleans n = all_replicated (λ v. is_byte v ≡ true) n (Word 0) refl
+  blanks_typed Bytes n = all_replicated (λ v. is_byte v ≡ true) n (Word 0) refl
+  blanks_typed Shorts n = all_replicated (λ v. is_word v ≡ true) n (Word 0) refl
+  blanks_typed References n =
+      all_replicated (λ v. leads_to heap (is_instance world (Api ObjectClass)) v ≡ true) n Null refl
+
+  may_make : (elements : Elements) → may_be_made world (array_type elements) ≡ true
+  may_make Booleans = refl
+  may_make Bytes = refl
+  may_make Shorts = refl
+  may_make References = refl
+
+pub array_typed : (world : List Shape) (heap : Heap TaggedValue) (owner : Owner) (array : NewArray)
+    → array.size < 65536 → HeapTyped world heap
+    → HeapTyped world (with_new heap (new_array owner array))
+array_typed world heap owner array small typed =
+    let after = with_new heap (new_array owner array) in
+    let count = length-replicate array.size (blank_of array.elements) in
+    all_behind (ObjectTyped world after) heap (new_array owner array)
+    (objects_still world heap after (keeps_new heap (new_array owner array)) heap typed) (record {
+      made = may_make world heap array.elements;
+      cells = blanks_typed world after array.elements array.size;
+      counted = λ is. omega (arith, small, count);
+    })
+
+-- ---- what the runtime keeps fits still
+
+pub both_are : (a b : Bool) → a ≡ true → b ≡ true → (a && b) ≡ true
+both_are true b e f = f
+both_are false b e f = absurd cc
+
+instance_still : (world : List Shape) (before after : Heap TaggedValue) → KeepsObjects before after → (i : Instance)
+    → fits_instance world before i ≡ true → fits_instance world after i ≡ true
+instance_still world before after stay i e =
+    let a = both (is_aid i.aid && is_instance_number i.owner.instance)
+    (option_map_or (has_applet world i) (object_at before i.object) false) e in
+    let d = passed_some (has_applet world i) (object_at before i.object) a.1 in
+    let s = stay i.object d.0 d.1 in
+    both_are (is_aid i.aid && is_instance_number i.owner.instance)
+    (option_map_or (has_applet world i) (object_at after i.object) false) a.0
+    (ap (λ o. option_map_or (has_applet world i) o false) s.found
+    ∙ ap (λ (kind : Kind). is_of_class world (Api Applet) kind.object && is_same_owner (s.object).owner i.owner) s.kind
+    ∙ ap (λ owner. is_of_class world (Api Applet) (d.0).kind.object && is_same_owner owner i.owner) s.owner
+    ∙ d.2)
+
+pub instances_still : (world : List Shape) (before after : Heap TaggedValue) → KeepsObjects before after
+    → (is : List Instance) → list_all (fits_instance world before) is ≡ true
+    → list_all (fits_instance world after) is ≡ true
+instances_still world before after stay [] e = refl
+instances_still world before after stay (i ∷ is) e =
+    let a = both (fits_instance world before i) (list_all (fits_instance world before) is) e in
+    both_are (fits_instance world after i) (list_all (fits_instance world after) is)
+    (instance_still world before after stay i a.0) (instances_still world before after stay is a.1)
+
+abbrev rest_fits : Kept → Bool
+rest_fits k = option_map_or fits_installing k.installing true
+
+pub kept_fits_still : (w : World) (before after : Heap TaggedValue) (k : Kept) → KeepsObjects before after
+    → fits_kept w before k ≡ true → fits_kept w after k ≡ true
+kept_fits_still w before after k stay e =
+    let a = both (list_all (fits_instance w.shapes before) k.instances && rest_fits k) (fits_command k) e in
+    let b = both (list_all (fits_instance w.shapes before) k.instances) (rest_fits k) a.0 in
+    both_are (list_all (fits_instance w.shapes after) k.instances && rest_fits k) (fits_command k)
+    (both_are (list_all (fits_instance w.shapes after) k.instances) (rest_fits k)
+    (instances_still w.shapes before after stay k.instances b.0) b.1) a.1

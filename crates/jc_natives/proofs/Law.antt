@@ -1,0 +1,95 @@
+-- Native members keep the law of native members.
+use Rattle.std.proofs.Common.{◌≡◌, Bool, true, false, cond, List, [], ◌∷◌, Option, Some, None, refl, sym, ap, subst, ◌∙◌}
+use Rattle.std.proofs.lemmas.Option.{same_Some}
+use Rattle.std.specs.Option.{option_and_then, option_map_or}
+use Rattle.jc_api.specs.Numbered.{numbered}
+use Rattle.jc_api.specs.Member.{ApiMember, virtual}
+use Rattle.jc_api.specs.declared.class.ApiClass.{ApiClass}
+use Rattle.jc_api.specs.declared.class.ApiClass.TheVariants as api
+use Rattle.jc_base.specs.Signature.{Signature, signature_map}
+use Rattle.jc_base.specs.declared.declared_type.DeclaredType.TheVariants as types
+use Rattle.jc_base.specs.declared.declared_type.ReturnType.TheVariants.{Value}
+use Rattle.jc_cap_desc.specs.Shape.{Shape}
+use Rattle.jc_classes.specs.Growth.{KeepsAllLookups, LiesWithin}
+use Rattle.jc_classes.specs.Limits.{IsSmall}
+use Rattle.jc_link.specs.ApiClasses.{StandsThere}
+use Rattle.jc_link.specs.Built.{IsBuilt}
+use Rattle.jc_link.specs.Growth.{KeepsAllLinking}
+use Rattle.jc_link.specs.Linked.{World}
+use Rattle.jc_link.specs.MemberType.{declared_type_of}
+use Rattle.jc_link.specs.Sound.{IsSound}
+use Rattle.jc_machine.specs.Accepted.{IsAccepted}
+use Rattle.jc_machine.specs.Calls.{type_of_member}
+use Rattle.jc_machine.specs.Lookup.{are_of_instance, are_of_types, may_begin_with}
+use Rattle.jc_machine.specs.Machine.{IsStuck, NativeAnswer, NativeCall}
+use Rattle.jc_machine.specs.Natives.{IsFitAnswer, IsFitCall, IsLawful}
+use Rattle.jc_names.specs.declared.name.ClassName.{ClassName}
+use Rattle.jc_names.specs.declared.name.ClassName.TheVariants as classes
+use Rattle.jc_natives.proofs.ApiTypes.{IsDeclared, counted_name, is_declared}
+use Rattle.jc_natives.proofs.Facts.{AreTyped}
+use Rattle.jc_natives.proofs.Fits.{begun_fits}
+use Rattle.jc_natives.proofs.Guarding.{answers_guarded}
+use Rattle.jc_natives.proofs.Keeping.{kept_fits_still}
+use Rattle.jc_natives.proofs.Simulation.{Begins, begins_of}
+use Rattle.jc_natives.proofs.Suits.{suits}
+use Rattle.jc_natives.specs.Kept.{Kept}
+use Rattle.jc_natives.specs.Meaning.{answer_of, begun, meaning, unchanged}
+use Rattle.jc_natives.specs.Rows.{natives}
+use Rattle.jc_natives.specs.declared.native.Native.{Native}
+
+-- the member that answers questions for shareable objects
+abbrev asking : ApiMember
+asking = virtual api.Applet (types.Reference api.Aid ∷ types.Byte ∷ []) (Value (types.Reference api.Shareable))
+
+abbrev given_of : ApiMember → Signature ClassName
+given_of m = signature_map counted_name m.signature
+
+-- the arguments of a call that begins are of the types of its member
+arguments_typed : (w : World) (call : NativeCall Kept) (b : Begins w call) → IsDeclared w.shapes call.member b.member
+    → AreTyped w.shapes call.heap b.member call.arguments
+arguments_typed w call b d =
+    let same = same_Some b.method d.method (sym b.found ∙ d.found) in
+    let type : declared_type_of w.shapes d.method ≡ Some (given_of b.member) =
+    sym (ap (option_and_then (declared_type_of w.shapes)) d.found) ∙ d.type in
+    let begins : may_begin_with w.shapes call.heap d.method call.arguments ≡ true =
+    ap (λ x. may_begin_with w.shapes call.heap x call.arguments) (sym same) ∙ b.begins in
+    sym (ap (λ x. takes x (classes.Api b.member.class) (given_of b.member)) d.static)
+    ∙ sym (ap (λ c. takes (d.method).method.is_static c (given_of b.member)) d.class)
+    ∙ sym (ap (λ o. option_map_or (takes (d.method).method.is_static (d.method).class) o false) type) ∙ begins
+  where
+    takes : Bool → ClassName → Signature ClassName → Bool
+    takes static c s =
+        cond static (are_of_types w.shapes call.heap s.parameters call.arguments)
+        (are_of_instance w.shapes call.heap c s.parameters call.arguments)
+
+abbrev answers : World → NativeCall Kept → Bool → Option Native → NativeAnswer Kept
+answers w call b o = cond b (begun w call o) (unchanged call [] IsStuck)
+
+module _ (lookups : (before after : List Shape) → LiesWithin before after → KeepsAllLookups before after)
+    (linking : (before after : List Shape) → LiesWithin before after → KeepsAllLinking before after)
+    (stands : (world : List Shape) → IsBuilt world → (c : ApiClass) → StandsThere world c)
+    (sound : (world : List Shape) → IsSmall world → IsBuilt world → IsSound world) where
+  answers_fit : (w : World) (call : NativeCall Kept) → IsAccepted w → IsFitCall meaning w call
+      → IsFitAnswer meaning w call (answer_of w call)
+  answers_fit w call accepted fit =
+      let built = accepted.world.built in
+      let b = begins_of w call fit.begins in
+      let d = is_declared lookups linking w.shapes built call.member b.member b.is in
+      let a = is_declared lookups linking w.shapes built 40 asking refl in
+      let ends = (sound w.shapes accepted.small built).superclasses.orderly.ends in
+      let done = begun_fits w call (stands w.shapes built) ends fit (given_of b.member) b.member b.is refl
+      (arguments_typed w call b d) asking refl a.type refl refl refl b.native
+      (suits call.member b.native b.member b.numbered b.is) in
+      let same : answer_of w call ≡ begun w call (Some b.native) =
+      ap (λ x. answers w call x (numbered natives call.member)) fit.begins
+      ∙ ap (λ o. answers w call true o) b.numbered in
+      subst (IsFitAnswer meaning w call) (sym same) (record {
+        heap = done.0;
+        fits = (done.1).0;
+        given = given_of b.member;
+        declared = ap (λ x. cond x (type_of_member w.shapes call.member) None) b.concrete ∙ d.type;
+        ends = (done.1).1;
+      })
+
+  pub lawful : IsLawful meaning
+  lawful = record { guarded = answers_guarded; fit = answers_fit; stable = kept_fits_still }

@@ -1,0 +1,16 @@
+mod Getting
+mod Putting
+mod Ranges
+mod Room
+mod Bare
+mod Simulation
+mod Guarding
+mod Keeping
+mod Numbers
+mod ApiTypes
+mod Tables
+mod Suits
+mod Facts
+mod Fits
+mod Law
+mod Between

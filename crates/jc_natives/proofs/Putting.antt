@@ -1,0 +1,148 @@
+-- Words that are put into components: which stay as they are, and that the order doesn't matter.
+use Rattle.std.proofs.Common.{◌≡◌, ◌≢◌, ◌⊎◌, inl, inr, ℕ, zero, suc, ◌+◌, ◌<◌, ◌≤◌, List, [], ◌∷◌, length, get_or, set, slice_get, Option, Some, None, refl, sym, ap, ◌∙◌, arith}
+use Rattle.std.proofs.lemmas.List.{get_or-set_other, set-set, set_comm, set_past}
+use Rattle.std.proofs.lemmas.Option.{same_Some}
+use Rattle.std.specs.Option.{option_map_or}
+use Rattle.jc_natives.proofs.Getting.{new_object, other_object}
+use Rattle.jc_natives.specs.Cells.{byte_of, bytes_of, cell_of, low, put, put_all, size_of}
+use Rattle.jc_store.specs.Heap.{Heap, Object, object_at, with_cell, with_object}
+
+-- a heap with an object that was found, and one where there is none
+pub put_some : {V : Type 0} (heap : Heap V) (number index : ℕ) (value : V) (object : Object V)
+    → object_at heap number ≡ Some object
+    → put heap number index value ≡ with_object heap number (with_cell object index value)
+put_some heap number index value object e =
+    ap (λ o. option_map_or (λ object. with_object heap number (with_cell object index value)) o heap) e
+
+pub put_none : {V : Type 0} (heap : Heap V) (number index : ℕ) (value : V) → object_at heap number ≡ None
+    → put heap number index value ≡ heap
+put_none heap number index value e =
+    ap (λ o. option_map_or (λ object. with_object heap number (with_cell object index value)) o heap) e
+
+twice : {V : Type 0} (heap : Heap V) (number : ℕ) (one other : Object V)
+    → with_object (with_object heap number one) number other ≡ with_object heap number other
+twice heap zero one other = refl
+twice heap (suc n) one other = set-set heap n one other
+
+-- ---- the order doesn't matter
+
+abbrev cells_of_kind : {V : Type 0} → Object V → List V → Object V
+cells_of_kind object cells = record { kind = object.kind; owner = object.owner; cells = cells }
+
+pub put_swaps : {V : Type 0} (heap : Heap V) (number one other : ℕ) (v w : V) → one ≢ other
+    → put (put heap number one v) number other w ≡ put (put heap number other w) number one v
+put_swaps heap number one other v w apart = by_object (object_at heap number) refl
+  where
+    by_object : (o : Option (Object _)) → object_at heap number ≡ o
+        → put (put heap number one v) number other w ≡ put (put heap number other w) number one v
+    by_object None e =
+        ap (λ h. put h number other w) (put_none heap number one v e) ∙ put_none heap number other w e
+        ∙ sym (put_none heap number one v e) ∙ ap (λ h. put h number one v) (sym (put_none heap number other w e))
+    by_object (Some o) e =
+        ap (λ h. put h number other w) (put_some heap number one v o e)
+        ∙ put_some (with_object heap number (with_cell o one v)) number other w (with_cell o one v)
+        (new_object heap number o (with_cell o one v) e)
+        ∙ twice heap number (with_cell o one v) (with_cell (with_cell o one v) other w)
+        ∙ ap (λ cells. with_object heap number (cells_of_kind o cells)) (set_comm o.cells one other v w apart)
+        ∙ sym (twice heap number (with_cell o other w) (with_cell (with_cell o other w) one v))
+        ∙ sym (put_some (with_object heap number (with_cell o other w)) number one v (with_cell o other w)
+        (new_object heap number o (with_cell o other w) e))
+        ∙ ap (λ h. put h number one v) (sym (put_some heap number other w o e))
+
+-- what is put before many
+pub put_before : {V : Type 0} (heap : Heap V) (number index from : ℕ) (v : V) (values : List V) → index < from
+    → put (put_all heap number from values) number index v ≡ put_all (put heap number index v) number from values
+put_before heap number index from v [] h = refl
+put_before heap number index from v (w ∷ values) h =
+    put_before (put heap number from w) number index (from + 1) v values (omega (arith, h))
+    ∙ ap (λ o. put_all o number (from + 1) values) (put_swaps heap number from index w v (apart h))
+  where
+    apart : index < from → from ≢ index
+    apart h e = omega (arith, h, e)
+
+-- ---- other components stay
+
+pub same_or_not : (m n : ℕ) → (m ≢ n) ⊎ (m ≡ n)
+same_or_not zero zero = inr refl
+same_or_not zero (suc n) = inl (λ e. omega (arith, e))
+same_or_not (suc m) zero = inl (λ e. omega (arith, e))
+same_or_not (suc m) (suc n) = next (same_or_not m n)
+  where
+    next : (m ≢ n) ⊎ (m ≡ n) → (suc m ≢ suc n) ⊎ (suc m ≡ suc n)
+    next (inl h) = inl (λ e. h (omega (arith, e)))
+    next (inr h) = inr (ap suc h)
+
+pub cell_stays : (objects : Heap ℕ) (number index word other at : ℕ) → index ≢ at
+    → cell_of (put objects number index word) other at ≡ cell_of objects other at
+cell_stays objects number index word other at apart = by_object (object_at objects number) refl
+  where
+    by_number : (o : Object ℕ) → object_at objects number ≡ Some o → (n : ℕ) → (number ≢ n) ⊎ (number ≡ n)
+        → cell_of (with_object objects number (with_cell o index word)) n at ≡ cell_of objects n at
+    by_number o e n (inl h) =
+        ap (λ x. option_map_or (λ (object : Object ℕ). get_or object.cells at 0) x 0)
+        (other_object objects number n (with_cell o index word) h)
+    by_number o e n (inr h) =
+        ap (λ m. cell_of (with_object objects number (with_cell o index word)) m at) (sym h)
+        ∙ ap (λ x. option_map_or (λ (object : Object ℕ). get_or object.cells at 0) x 0)
+        (new_object objects number o (with_cell o index word) e)
+        ∙ get_or-set_other o.cells index at word 0 (λ f. apart (sym f))
+        ∙ ap (λ x. option_map_or (λ (object : Object ℕ). get_or object.cells at 0) x 0) (sym e)
+        ∙ ap (λ m. cell_of objects m at) h
+
+    by_object : (o : Option (Object ℕ)) → object_at objects number ≡ o
+        → cell_of (put objects number index word) other at ≡ cell_of objects other at
+    by_object None e = ap (λ h. cell_of h other at) (put_none objects number index word e)
+    by_object (Some o) e =
+        ap (λ h. cell_of h other at) (put_some objects number index word o e)
+        ∙ by_number o e other (same_or_not number other)
+
+-- bytes behind an index that is written, and a component before
+pub bytes_stay : (objects : Heap ℕ) (number index word other from count : ℕ) → index < from
+    → bytes_of (put objects number index word) other from count ≡ bytes_of objects other from count
+bytes_stay objects number index word other from zero h = refl
+bytes_stay objects number index word other from (suc count) h =
+    ap (λ c. low c ∷ bytes_of (put objects number index word) other (from + 1) count)
+    (cell_stays objects number index word other from (apart h))
+    ∙ ap (λ bytes. byte_of objects other from ∷ bytes)
+    (bytes_stay objects number index word other (from + 1) count (omega (arith, h)))
+  where
+    apart : index < from → index ≢ from
+    apart h e = omega (arith, h, e)
+
+pub cell_before : (objects : Heap ℕ) (number from : ℕ) (words : List ℕ) (other at : ℕ) → at < from
+    → cell_of (put_all objects number from words) other at ≡ cell_of objects other at
+cell_before objects number from [] other at h = refl
+cell_before objects number from (w ∷ words) other at h =
+    cell_before (put objects number from w) number (from + 1) words other at (omega (arith, h))
+    ∙ cell_stays objects number from w other at (apart h)
+  where
+    apart : at < from → from ≢ at
+    apart h e = omega (arith, h, e)
+
+-- ---- where there is no such component
+
+same_set : {A : Type 0} (xs : List A) (n : ℕ) (x : A) → slice_get xs n ≡ Some x → set xs n x ≡ xs
+same_set [] n x e = refl
+same_set (y ∷ xs) zero x e = ap (λ z. z ∷ xs) (sym (same_Some y x e))
+same_set (y ∷ xs) (suc n) x e = ap (λ zs. y ∷ zs) (same_set xs n x e)
+
+same_heap : {V : Type 0} (heap : Heap V) (number : ℕ) (object : Object V) → object_at heap number ≡ Some object
+    → with_object heap number object ≡ heap
+same_heap heap zero object e = refl
+same_heap heap (suc n) object e = same_set heap n object e
+
+pub put_past : (objects : Heap ℕ) (number index word : ℕ) → size_of objects number ≤ index
+    → put objects number index word ≡ objects
+put_past objects number index word h = by_object (object_at objects number) refl
+  where
+    by_object : (o : Option (Object ℕ)) → object_at objects number ≡ o → put objects number index word ≡ objects
+    by_object None e = put_none objects number index word e
+    by_object (Some o) e =
+        put_some objects number index word o e
+        ∙ ap (λ cells. with_object objects number (cells_of_kind o cells))
+        (set_past o.cells index word
+        (short (ap (λ x. option_map_or (λ (object : Object ℕ). length object.cells) x 0) (sym e))))
+        ∙ same_heap objects number o e
+      where
+        short : length o.cells ≡ size_of objects number → length o.cells ≤ index
+        short f = omega (arith, f, h)

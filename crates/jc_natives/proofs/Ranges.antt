@@ -1,0 +1,181 @@
+-- Bytes of objects one by one, and what is written one by one.
+use Rattle.std.proofs.Common.{◌≡◌, ◌≢◌, ℕ, zero, suc, ◌+◌, ◌-◌, ◌<◌, ◌≤◌, ◌&&◌, Bool, true, false, List, [], ◌∷◌, ◌++◌, bytes_eq, length, nat_eq, replicate, Option, unwrap_or, refl, sym, ap, ◌∙◌, arith, append_assoc}
+use Rattle.std.proofs.lemmas.Bool.{eq-eqb}
+use Rattle.jc_natives.proofs.Putting.{bytes_stay, cell_before, put_before}
+use Rattle.jc_natives.specs.Cells.{byte_of, byte_order, bytes_of, low, order_of, put, put_all}
+use Rattle.jc_store.specs.Heap.{Heap}
+use Rattle.jc_store.specs.Store.{Store, with_objects}
+
+-- ---- the next byte of a range
+
+pub next_bytes : (objects : Heap ℕ) (number from at count : ℕ) → at < count
+    → bytes_of objects number (from + at) (count - at)
+    ≡ byte_of objects number (from + at) ∷ bytes_of objects number (from + (at + 1)) (count - (at + 1))
+next_bytes objects number from at count h =
+    let more : count - at ≡ suc (count - (at + 1)) = omega (arith, h) in
+    let on : from + at + 1 ≡ from + (at + 1) = omega arith in
+    ap (bytes_of objects number (from + at)) more
+    ∙ ap (λ f. byte_of objects number (from + at) ∷ bytes_of objects number f (count - (at + 1))) on
+
+pub no_bytes : (objects : Heap ℕ) (number from at count : ℕ) → count ≤ at
+    → bytes_of objects number from (count - at) ≡ []
+no_bytes objects number from at count h =
+    let none : count - at ≡ 0 = omega (arith, h) in ap (bytes_of objects number from) none
+
+pub first_bytes : (objects : Heap ℕ) (number from count : ℕ)
+    → bytes_of objects number (from + 0) (count - 0) ≡ bytes_of objects number from count
+first_bytes objects number from count =
+    let a : from + 0 ≡ from = omega arith in
+    let b : count - 0 ≡ count = omega arith in
+    ap (λ f. bytes_of objects number f (count - 0)) a ∙ ap (bytes_of objects number from) b
+
+-- ---- appended
+
+pub appended : (objects : Heap ℕ) (number from at count : ℕ) (bytes all : List ℕ) → at < count
+    → bytes ++ bytes_of objects number (from + at) (count - at) ≡ all
+    → (bytes ++ byte_of objects number (from + at) ∷ [])
+    ++ bytes_of objects number (from + (at + 1)) (count - (at + 1)) ≡ all
+appended objects number from at count bytes all h e =
+    append_assoc bytes (byte_of objects number (from + at) ∷ [])
+    (bytes_of objects number (from + (at + 1)) (count - (at + 1)))
+    ∙ ap (λ more. bytes ++ more) (sym (next_bytes objects number from at count h)) ∙ e
+
+-- ---- compared
+
+pub length_of_bytes : (objects : Heap ℕ) (number from count : ℕ) → length (bytes_of objects number from count) ≡ count
+length_of_bytes objects number from zero = refl
+length_of_bytes objects number from (suc count) = ap suc (length_of_bytes objects number (from + 1) count)
+
+no_more : (a b : Bool) → b ≡ false → (a && b) ≡ false
+no_more true b e = e
+no_more false b e = refl
+
+pub bytes_differ : (xs ys : List ℕ) → length xs ≢ length ys → bytes_eq xs ys ≡ false
+bytes_differ [] [] h = absurd (h refl)
+bytes_differ [] (y ∷ ys) h = refl
+bytes_differ (x ∷ xs) [] h = refl
+bytes_differ (x ∷ xs) (y ∷ ys) h = no_more (nat_eq x y) (bytes_eq xs ys) (bytes_differ xs ys (λ e. h (ap suc e)))
+
+-- two ranges, byte by byte
+pub same_so_far : (objects : Heap ℕ) (one one_from other other_from at count : ℕ) (all : Bool) → at < count
+    → byte_of objects one (one_from + at) ≡ byte_of objects other (other_from + at)
+    → all ≡ bytes_eq (bytes_of objects one (one_from + at) (count - at))
+    (bytes_of objects other (other_from + at) (count - at))
+    → all ≡ bytes_eq (bytes_of objects one (one_from + (at + 1)) (count - (at + 1)))
+    (bytes_of objects other (other_from + (at + 1)) (count - (at + 1)))
+same_so_far objects one one_from other other_from at count all h same e =
+    let x = byte_of objects one (one_from + at) in
+    let y = byte_of objects other (other_from + at) in
+    let xs = bytes_of objects one (one_from + (at + 1)) (count - (at + 1)) in
+    let ys = bytes_of objects other (other_from + (at + 1)) (count - (at + 1)) in
+    e
+    ∙ ap (λ bytes. bytes_eq bytes (bytes_of objects other (other_from + at) (count - at)))
+    (next_bytes objects one one_from at count h)
+    ∙ ap (λ bytes. bytes_eq (x ∷ xs) bytes) (next_bytes objects other other_from at count h)
+    ∙ ap (λ b. b && bytes_eq xs ys) (eq-eqb x y same)
+
+pub order_so_far : (objects : Heap ℕ) (one one_from other other_from at count : ℕ) (all : ℕ) → at < count
+    → all ≡ order_of (bytes_of objects one (one_from + at) (count - at))
+    (bytes_of objects other (other_from + at) (count - at))
+    → all ≡ unwrap_or (byte_order (byte_of objects one (one_from + at)) (byte_of objects other (other_from + at)))
+    (order_of (bytes_of objects one (one_from + (at + 1)) (count - (at + 1)))
+    (bytes_of objects other (other_from + (at + 1)) (count - (at + 1))))
+order_so_far objects one one_from other other_from at count all h e =
+    let x = byte_of objects one (one_from + at) in
+    let xs = bytes_of objects one (one_from + (at + 1)) (count - (at + 1)) in
+    e
+    ∙ ap (λ bytes. order_of bytes (bytes_of objects other (other_from + at) (count - at)))
+    (next_bytes objects one one_from at count h)
+    ∙ ap (λ bytes. order_of (x ∷ xs) bytes) (next_bytes objects other other_from at count h)
+
+-- ---- written
+
+abbrev holds : Store → Heap ℕ → Store
+holds s objects = with_objects s objects
+
+-- one more is put in front of the rest
+put_first : (s : Store) (number from at word : ℕ) (words : List ℕ)
+    → holds s (put_all (put s.objects number (from + at) word) number (from + (at + 1)) words)
+    ≡ holds s (put_all s.objects number (from + at) (word ∷ words))
+put_first s number from at word words =
+    let on : from + (at + 1) ≡ from + at + 1 = omega arith in
+    ap (λ f. holds s (put_all (put s.objects number (from + at) word) number f words)) on
+
+pub filled : (s : Store) (number from at count byte : ℕ) → at < count
+    → holds s (put_all (put s.objects number (from + at) byte) number (from + (at + 1))
+    (replicate (count - (at + 1)) byte))
+    ≡ holds s (put_all s.objects number (from + at) (replicate (count - at) byte))
+filled s number from at count byte h =
+    let more : suc (count - (at + 1)) ≡ count - at = omega (arith, h) in
+    put_first s number from at byte (replicate (count - (at + 1)) byte)
+    ∙ ap (λ n. holds s (put_all s.objects number (from + at) (replicate n byte))) more
+
+-- copied from the front: what is read is behind what was written
+pub copied_on : (s : Store) (source source_from target target_from at count word : ℕ) → at < count
+    → target_from ≤ source_from → word ≡ byte_of s.objects source (source_from + at)
+    → holds s (put_all (put s.objects target (target_from + at) word) target (target_from + (at + 1))
+    (bytes_of (put s.objects target (target_from + at) word) source (source_from + (at + 1)) (count - (at + 1))))
+    ≡ holds s (put_all s.objects target (target_from + at) (bytes_of s.objects source (source_from + at) (count - at)))
+copied_on s source source_from target target_from at count word h before is =
+    ap (λ bytes. holds s (put_all (put s.objects target (target_from + at) word) target (target_from + (at + 1)) bytes))
+    (bytes_stay s.objects target (target_from + at) word source (source_from + (at + 1)) (count - (at + 1))
+    (omega (arith, before)))
+    ∙ put_first s target target_from at word (bytes_of s.objects source (source_from + (at + 1)) (count - (at + 1)))
+    ∙ ap (λ w. holds s (put_all s.objects target (target_from + at)
+    (w ∷ bytes_of s.objects source (source_from + (at + 1)) (count - (at + 1))))) is
+    ∙ ap (λ bytes. holds s (put_all s.objects target (target_from + at) bytes))
+    (sym (next_bytes s.objects source source_from at count h))
+
+-- copied from the back: what is read is in front of what was written
+abbrev copied : Store → ℕ → ℕ → ℕ → ℕ → ℕ → ℕ → Store
+copied s source source_from target target_from at done =
+    holds s (put_all s.objects target (target_from + at) (bytes_of s.objects source (source_from + at) done))
+
+put_in_front : (s : Store) (source source_from target target_from at done : ℕ) → source_from ≤ target_from
+    → holds s (put (copied s source source_from target target_from (at + 1) done).objects target (target_from + at)
+    (byte_of (copied s source source_from target target_from (at + 1) done).objects source (source_from + at)))
+    ≡ copied s source source_from target target_from at (suc done)
+put_in_front s source source_from target target_from at done behind =
+    let bytes = bytes_of s.objects source (source_from + (at + 1)) done in
+    let word = byte_of s.objects source (source_from + at) in
+    let on : source_from + (at + 1) ≡ source_from + at + 1 = omega arith in
+    ap (λ c. holds s (put (put_all s.objects target (target_from + (at + 1)) bytes) target (target_from + at) (low c)))
+    (cell_before s.objects target (target_from + (at + 1)) bytes source (source_from + at) (omega (arith, behind)))
+    ∙ ap (holds s) (put_before s.objects target (target_from + at) (target_from + (at + 1)) word bytes (omega arith))
+    ∙ put_first s target target_from at word bytes
+    ∙ ap (λ f. holds s (put_all s.objects target (target_from + at) (word ∷ bytes_of s.objects source f done))) on
+
+pub copied_back : (s l : Store) (source source_from target target_from at count done word : ℕ)
+    → source_from ≤ target_from → done < count → at ≡ count - done - 1
+    → l ≡ copied s source source_from target target_from (count - done) done
+    → word ≡ byte_of l.objects source (source_from + at)
+    → holds l (put l.objects target (target_from + at) word)
+    ≡ copied s source source_from target target_from (count - (done + 1)) (done + 1)
+copied_back s l source source_from target target_from at count done word behind h place before is =
+    let first : count - done ≡ at + 1 = omega (arith, h, place) in
+    let last : at ≡ count - (done + 1) = omega (arith, h, place) in
+    let more : suc done ≡ done + 1 = omega arith in
+    let whole : l ≡ copied s source source_from target target_from (at + 1) done = before
+    ∙ ap (λ n. copied s source source_from target target_from n done) first in
+    ap (λ w. holds l (put l.objects target (target_from + at) w)) is
+    ∙ ap (λ (o : Store). holds o
+    (put o.objects target (target_from + at) (byte_of o.objects source (source_from + at))))
+    whole
+    ∙ put_in_front s source source_from target target_from at done behind
+    ∙ ap (λ n. copied s source source_from target target_from n (suc done)) last
+    ∙ ap (copied s source source_from target target_from (count - (done + 1))) more
+
+pub order_met : (objects : Heap ℕ) (one one_from other other_from at count all first second : ℕ) → at < count
+    → all ≡ order_of (bytes_of objects one (one_from + at) (count - at))
+    (bytes_of objects other (other_from + at) (count - at))
+    → first ≡ byte_of objects one (one_from + at) → second ≡ byte_of objects other (other_from + at)
+    → (o : Option ℕ) → o ≡ byte_order first second
+    → all ≡ unwrap_or o (order_of (bytes_of objects one (one_from + (at + 1)) (count - (at + 1)))
+    (bytes_of objects other (other_from + (at + 1)) (count - (at + 1))))
+order_met objects one one_from other other_from at count all first second h e f g o is =
+    let rest = order_of (bytes_of objects one (one_from + (at + 1)) (count - (at + 1)))
+    (bytes_of objects other (other_from + (at + 1)) (count - (at + 1))) in
+    order_so_far objects one one_from other other_from at count all h e
+    ∙ ap (λ b. unwrap_or (byte_order b (byte_of objects other (other_from + at))) rest) (sym f)
+    ∙ ap (λ b. unwrap_or (byte_order first b) rest) (sym g)
+    ∙ ap (λ x. unwrap_or x rest) (sym is)

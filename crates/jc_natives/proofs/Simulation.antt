@@ -1,0 +1,394 @@
+-- What is done on words is what members mean on tagged values.
+use Rattle.std.proofs.Common.{◌≡◌, ℕ, zero, suc, ◌==◌, Bool, true, false, cond, List, [], ◌∷◌, ◌++◌, length, map, replicate, slice_get, Option, Some, None, refl, sym, ap, subst, ◌∙◌, arith}
+use Rattle.std.proofs.lemmas.Bool.{eqb-true}
+use Rattle.std.proofs.lemmas.Option.{none-some}
+use Rattle.std.specs.Option.{option_and_then, option_map, option_map_or}
+use Rattle.jc_api.specs.Class.{package_of}
+use Rattle.jc_api.specs.Member.{ApiMember, member_of, members}
+use Rattle.jc_api.specs.Numbered.{numbered}
+use Rattle.jc_base.specs.Signature.{Signature}
+use Rattle.jc_classes.specs.Members.{DeclaredMethod, declared_in, method_at}
+use Rattle.jc_cap_desc.specs.Shape.{Shape}
+use Rattle.jc_link.specs.Linked.{World}
+use Rattle.jc_link.specs.MemberType.{declared_type_of}
+use Rattle.jc_link.specs.Named.{is_concrete}
+use Rattle.jc_machine.specs.Agree.{HeapReads, Pointwise, Reads}
+use Rattle.jc_machine.specs.Following.{ReadsResult}
+use Rattle.jc_machine.specs.Lookup.{are_of_instance, are_of_types, is_object_of, may_begin_with}
+use Rattle.jc_machine.specs.Machine.{Calls, Gives, IsStuck, NativeAnswer, NativeCall, ThrowsObject}
+use Rattle.jc_machine.specs.Natives.{IsFitCall}
+use Rattle.jc_machine.specs.WordNatives.{AnswerAgrees, CallAgrees, ReadsEnd, WordState}
+use Rattle.jc_machine.specs.declared.natives.WordCall.{WordCall}
+use Rattle.jc_machine.specs.declared.natives.WordOutcome.{WordOutcome}
+use Rattle.jc_machine.specs.declared.natives.WordOutcome.TheVariants.{CallsBack, Returned, Thrown}
+use Rattle.jc_machine.specs.Calls.{native_may_begin}
+use Rattle.jc_names.specs.Names.{api_home}
+use Rattle.jc_names.specs.declared.name.ClassName.{ClassName}
+use Rattle.jc_names.specs.declared.name.MethodName.TheVariants.{Api}
+use Rattle.jc_names.specs.declared.owner.Owner.{Owner}
+use Rattle.jc_natives.proofs.Bare.{argument_bits, bare_laid, bare_length, bare_new, bare_room, both, heap_bits, reads_heap, receiver_bits}
+use Rattle.jc_natives.specs.Cells.{bare, bared, bits, has_room, written}
+use Rattle.jc_natives.specs.Kept.{Kept}
+use Rattle.jc_natives.specs.Meaning.{answer_of, array_or_refusal, begun, blank_of, done, end_of, ended, meaning, new_array, reference, unchanged, with_room, work_of}
+use Rattle.jc_natives.specs.PrivateWords.{Done, TellsEnd, did_on_words, done_of, ended_of, kind_of, laid, native_work, seen_in, tested_work, word_work}
+use Rattle.jc_natives.specs.Rows.{natives, row_of}
+use Rattle.jc_natives.specs.Seen.{arguments_of, seen_of}
+use Rattle.jc_natives.specs.Tests.{tested}
+use Rattle.jc_natives.specs.Work.{Asks, Does, Ending, GivesReference, GivesWord, Makes, NewArray, NoResult, Throws, Work}
+use Rattle.jc_natives.specs.declared.ended.Ended.TheVariants as ends
+use Rattle.jc_natives.specs.declared.ended.Question.{Question}
+use Rattle.jc_natives.specs.declared.native.Elements.{Elements}
+use Rattle.jc_natives.specs.declared.native.Elements.TheVariants.{Booleans, Bytes, References, Shorts}
+use Rattle.jc_natives.specs.declared.native.Native.{Native}
+use Rattle.jc_store.specs.Heap.{Heap, next_number, with_new}
+use Rattle.jc_store.specs.Store.{Store, fresh}
+use Rattle.jc_words.specs.Values.{Null, Ref, TaggedValue, Word}
+
+-- ---- the arguments of a call that may begin
+
+pub passed_some : {A : Type 0} (test : A → Bool) (o : Option A) → option_map_or test o false ≡ true
+    → (x : A) × (o ≡ Some x) × (test x ≡ true)
+passed_some test None e = absurd cc
+passed_some test (Some x) e = (x, refl, e)
+
+abbrev takes : World → NativeCall Kept → DeclaredMethod → Signature ClassName → Bool
+takes w call d signature =
+    cond d.method.is_static (are_of_types w.shapes call.heap signature.parameters call.arguments)
+    (are_of_instance w.shapes call.heap d.class signature.parameters call.arguments)
+
+instance_bits : (w : World) (call : NativeCall Kept) (class : ClassName) (s : Signature ClassName) (ws : List ℕ)
+    (vs : List TaggedValue) → Pointwise Reads ws vs
+    → are_of_instance w.shapes call.heap class s.parameters vs ≡ true → ws ≡ map bits vs
+instance_bits w call class s [] [] r e = refl
+instance_bits w call class s [] (v ∷ vs) r e = absurd r
+instance_bits w call class s (x ∷ ws) [] r e = absurd r
+instance_bits w call class s (x ∷ ws) (v ∷ vs) r e =
+    let b = both (is_object_of w.shapes call.heap class v) (are_of_types w.shapes call.heap s.parameters vs) e in
+    ap (λ n. n ∷ ws) (receiver_bits call.heap _ x v r.0 b.0)
+    ∙ ap (λ ns. bits v ∷ ns) (argument_bits w.shapes call.heap s.parameters ws vs r.1 b.1)
+
+arguments_are : (w : World) (call : NativeCall Kept) (ws : List ℕ) → Pointwise Reads ws call.arguments
+    → IsFitCall meaning w call → ws ≡ arguments_of call
+arguments_are w call ws r fit =
+    let begins = both (is_concrete w.shapes (Api call.member))
+    (option_map_or (λ d. may_begin_with w.shapes call.heap d call.arguments) (method_at w.shapes (Api call.member))
+    false)
+    fit.begins in
+    let d = passed_some (λ d. may_begin_with w.shapes call.heap d call.arguments)
+    (method_at w.shapes (Api call.member)) begins.1 in
+    let s = passed_some (takes w call d.0) (declared_type_of w.shapes d.0) d.2 in
+    by_kind (d.0).method.is_static d.0 s.0 s.2
+  where
+    by_kind : (b : Bool) (d : DeclaredMethod) (s : Signature ClassName)
+        → cond b (are_of_types w.shapes call.heap s.parameters call.arguments)
+        (are_of_instance w.shapes call.heap d.class s.parameters call.arguments) ≡ true
+        → ws ≡ arguments_of call
+    by_kind true d s e = argument_bits w.shapes call.heap s.parameters ws call.arguments r e
+    by_kind false d s e = instance_bits w call d.class s ws call.arguments r e
+
+-- ---- how a work ends
+
+reads_reference : (number : ℕ) → Reads number (reference number)
+reads_reference number = by_null (number == 0) refl
+  where
+    by_null : (b : Bool) → (number == 0) ≡ b → Reads number (cond b Null (Ref number))
+    by_null true e = eqb-true number 0 e
+    by_null false e = refl
+
+reads_end : (outcome : WordOutcome) (ending : Ending) → TellsEnd outcome (ended_of ending)
+    → ReadsEnd outcome (end_of ending)
+reads_end (Returned word) NoResult e = subst (λ w. ReadsResult w None) (sym e) tt
+reads_end (Returned word) (GivesWord n) e = subst (λ w. ReadsResult w (Some (Word n))) (sym e) refl
+reads_end (Returned word) (GivesReference n) e =
+    subst (λ w. ReadsResult w (Some (reference n))) (sym e) (reads_reference n)
+reads_end (Returned word) (Throws object) e = absurd e
+reads_end (Thrown number) NoResult e = absurd e
+reads_end (Thrown number) (GivesWord n) e = absurd e
+reads_end (Thrown number) (GivesReference n) e = absurd e
+reads_end (Thrown number) (Throws object) e = e
+reads_end (CallsBack callback) NoResult e = absurd e
+reads_end (CallsBack callback) (GivesWord n) e = absurd e
+reads_end (CallsBack callback) (GivesReference n) e = absurd e
+reads_end (CallsBack callback) (Throws object) e = absurd e
+
+reads_made : (outcome : WordOutcome) (n m : ℕ) → n ≡ m → TellsEnd outcome (ends.Returned (Some n))
+    → ReadsEnd outcome (Gives (Some (Ref m)))
+reads_made (Returned word) n m same e = subst (λ w. ReadsResult w (Some (Ref m))) (sym e) same
+reads_made (Thrown number) n m same e = absurd e
+reads_made (CallsBack callback) n m same e = absurd e
+
+reads_question : (outcome : WordOutcome) (q : Question) → TellsEnd outcome (ends.Asks q)
+    → ReadsEnd outcome (Calls
+    (record { member = 40; object = q.object; arguments = reference q.aid ∷ Word q.word ∷ [] }))
+reads_question (Returned word) q e = absurd e
+reads_question (Thrown number) q e = absurd e
+reads_question (CallsBack callback) q e = record {
+  member = e.member;
+  object = e.object;
+  arguments =
+      subst (λ ws. Pointwise Reads ws (reference q.aid ∷ Word q.word ∷ [])) (sym e.arguments)
+      (reads_reference q.aid, (refl, tt));
+}
+
+-- ---- a work
+
+bare_blank : (elements : Elements) (n : ℕ) → map bits (replicate n (blank_of elements)) ≡ replicate n 0
+bare_blank elements zero = refl
+bare_blank elements (suc n) = ap (λ x. x ∷ map bits (replicate n (blank_of elements))) (blank elements)
+    ∙ ap (λ xs. 0 ∷ xs) (bare_blank elements n)
+  where
+    blank : (elements : Elements) → bits (blank_of elements) ≡ 0
+    blank Booleans = refl
+    blank Bytes = refl
+    blank Shorts = refl
+    blank References = refl
+
+bare_array : (owner : Owner) (array : NewArray) → fresh (kind_of array) owner array.size ≡ bare (new_array owner array)
+bare_array owner array =
+    ap (λ cells. record { kind = kind_of array; owner = owner; cells = cells })
+    (sym (bare_blank array.elements array.size))
+
+-- the same state in the words of a call that agrees
+abbrev state_of : Done → WordState Kept
+state_of d = record { store = d.store; runtime = d.kept }
+
+did_agrees : (call : NativeCall Kept) (touches : List _) (s : Store) (k : Kept) (work : Work) (outcome : WordOutcome)
+    → s.objects ≡ bared call.heap → k ≡ call.runtime
+    → TellsEnd outcome (did_on_words call.active s k work).ended
+    → AnswerAgrees (state_of (did_on_words call.active s k work)) outcome (done call touches work)
+did_agrees call touches s k (Does writes runtime ending) outcome objects same told = record {
+  heap = subst (λ h. HeapReads h (written Word call.heap writes))
+      (sym (ap (λ h. laid h writes) objects ∙ bare_laid call.heap writes)) (reads_heap (written Word call.heap writes));
+  runtime = refl;
+  ends = reads_end outcome ending told;
+}
+did_agrees call touches s k (Makes array) outcome objects same told = record {
+  heap = subst (λ h. HeapReads h (with_new call.heap (new_array call.active array)))
+      (sym (ap (λ h. h ++ fresh (kind_of array) call.active array.size ∷ []) objects
+      ∙ ap (λ o. bared call.heap ++ o ∷ []) (bare_array call.active array)
+      ∙ bare_new call.heap (new_array call.active array)))
+      (reads_heap (with_new call.heap (new_array call.active array)));
+  runtime = same;
+  ends = reads_made outcome (next_number s.objects) (next_number call.heap)
+      (ap (λ (h : Heap ℕ). suc (length h)) objects ∙ ap suc (bare_length call.heap)) told;
+}
+did_agrees call touches s k (Asks q) outcome objects same told = record {
+  heap = subst (λ h. HeapReads h call.heap) (sym objects) (reads_heap call.heap);
+  runtime = same;
+  ends = reads_question outcome q told;
+}
+
+-- room is the same with tags and without
+same_room : (call : NativeCall Kept) (s : Store) (work : Work) → s.objects ≡ bared call.heap
+    → s.most_objects ≡ call.limits.objects → s.most_cells ≡ call.limits.cells
+    → with_room s.most_objects s.most_cells s.objects call.runtime work
+    ≡ with_room call.limits.objects call.limits.cells call.heap call.runtime work
+same_room call s (Does writes runtime ending) objects most cells = refl
+same_room call s (Makes array) objects most cells =
+    ap (λ n. array_or_refusal (has_room n s.most_cells s.objects array.size) array call.runtime) most
+    ∙ ap (λ n. array_or_refusal (has_room call.limits.objects n s.objects array.size) array call.runtime) cells
+    ∙ ap (λ h. array_or_refusal (has_room call.limits.objects call.limits.cells h array.size) array call.runtime)
+    objects
+    ∙ ap (λ b. array_or_refusal b array call.runtime)
+    (bare_room call.limits.objects call.limits.cells call.heap array.size)
+same_room call s (Asks question) objects most cells = refl
+
+-- ---- a call
+
+-- what is thrown by a test
+thrown_agrees : (call : NativeCall Kept) (touches : List _) (s : Store) (k : Kept) (object : ℕ) (outcome : WordOutcome)
+    → s.objects ≡ bared call.heap → k ≡ call.runtime → TellsEnd outcome (ends.Thrown object)
+    → AnswerAgrees (record { store = s; runtime = k }) outcome (unchanged call touches (ThrowsObject object))
+thrown_agrees call touches s k object outcome objects same told = record {
+  heap = subst (λ h. HeapReads h call.heap) (sym objects) (reads_heap call.heap);
+  runtime = same;
+  ends = reads_end outcome (Throws object) told;
+}
+
+ended_agrees : (call : NativeCall Kept) (touches : List _) (s : Store) (thrown : Option ℕ) (work : Work)
+    (outcome : WordOutcome) → s.objects ≡ bared call.heap
+    → s.most_objects ≡ call.limits.objects → s.most_cells ≡ call.limits.cells
+    → TellsEnd outcome (done_of call.active s call.runtime (tested_work call.runtime thrown work)).ended
+    → AnswerAgrees (state_of (done_of call.active s call.runtime (tested_work call.runtime thrown work))) outcome
+    (ended call touches thrown work)
+ended_agrees call touches s (Some object) work outcome objects most cells told =
+    thrown_agrees call touches s call.runtime object outcome objects refl told
+ended_agrees call touches s None work outcome objects most cells told =
+    let P : Work → Type 0 = λ x. TellsEnd outcome (did_on_words call.active s call.runtime x).ended
+    → AnswerAgrees (state_of (did_on_words call.active s call.runtime x)) outcome
+    (done call touches (with_room call.limits.objects call.limits.cells call.heap call.runtime work)) in
+    subst P (sym (same_room call s work objects most cells))
+    (did_agrees call touches s call.runtime
+    (with_room call.limits.objects call.limits.cells call.heap call.runtime work) outcome objects refl) told
+
+-- what a call shows is the same
+same_seen : (w : World) (s : Store) (word : WordCall) (call : NativeCall Kept) → s.objects ≡ bared call.heap
+    → word.active ≡ call.active → word.previous ≡ call.previous → word.selected ≡ call.selected
+    → s.most_objects ≡ call.limits.objects → s.most_cells ≡ call.limits.cells
+    → seen_in w s word ≡ seen_of w call
+same_seen w s word call objects active previous selected most cells =
+    ap (λ x. record {
+      shapes = w.shapes;
+      objects = x;
+      active = word.active;
+      previous = word.previous;
+      selected =
+          word.selected;
+      most_objects = s.most_objects;
+      most_cells = s.most_cells;
+    }) objects
+    ∙ ap (λ x. record {
+      shapes = w.shapes;
+      objects = bared call.heap;
+      active = x;
+      previous = word.previous;
+      selected =
+          word.selected;
+      most_objects = s.most_objects;
+      most_cells = s.most_cells;
+    }) active
+    ∙ ap (λ x. record {
+      shapes = w.shapes;
+      objects = bared call.heap;
+      active = call.active;
+      previous = x;
+      selected =
+          word.selected;
+      most_objects = s.most_objects;
+      most_cells = s.most_cells;
+    }) previous
+    ∙ ap (λ x. record {
+      shapes = w.shapes;
+      objects = bared call.heap;
+      active = call.active;
+      previous =
+          call.previous;
+      selected = x;
+      most_objects = s.most_objects;
+      most_cells = s.most_cells;
+    }) selected
+    ∙ ap (λ x. record {
+      shapes = w.shapes;
+      objects = bared call.heap;
+      active = call.active;
+      previous =
+          call.previous;
+      selected = call.selected;
+      most_objects = x;
+      most_cells = s.most_cells;
+    }) most
+    ∙ ap (λ x. record {
+      shapes = w.shapes;
+      objects = bared call.heap;
+      active = call.active;
+      previous =
+          call.previous;
+      selected = call.selected;
+      most_objects = call.limits.objects;
+      most_cells = x;
+    }) cells
+
+-- without a member the meaning is stuck, which the law excludes of calls that fit: a member has a number up to 55
+begun_agrees : (w : World) (s : Store) (call : NativeCall Kept) (native : Native) (outcome : WordOutcome)
+    → s.objects ≡ bared call.heap
+    → s.most_objects ≡ call.limits.objects → s.most_cells ≡ call.limits.cells
+    → TellsEnd outcome (done_of call.active s call.runtime
+    (native_work (seen_of w call) call.runtime (arguments_of call) native)).ended
+    → AnswerAgrees (state_of (done_of call.active s call.runtime
+    (native_work (seen_of w call) call.runtime (arguments_of call) native))) outcome (begun w call (Some native))
+begun_agrees w s call native outcome objects most cells told =
+    let t = tested (seen_of w call) (arguments_of call) (row_of native) in
+    ended_agrees call t.touches s t.thrown (work_of (seen_of w call) call.runtime (arguments_of call) native) outcome
+    objects most cells told
+
+-- a member that may begin has a number up to 55, and is a native member
+listed : {A B : Type 0} (xs : List A) (ys : List B) (n : ℕ) (x : A) → length xs ≡ length ys → slice_get xs n ≡ Some x
+    → (y : B) × (slice_get ys n ≡ Some y)
+listed [] ys n x e f = absurd (none-some x f)
+listed (z ∷ xs) [] n x e f = absurd (omega (arith, e))
+listed (z ∷ xs) (y ∷ ys) zero x e f = (y, refl)
+listed (z ∷ xs) (y ∷ ys) (suc n) x e f = listed xs ys n x (omega (arith, e)) f
+
+numbered_native : (n : ℕ) (m : ApiMember) → member_of n ≡ Some m
+    → (native : Native) × (numbered natives n ≡ Some native)
+numbered_native zero m e = absurd (none-some m e)
+numbered_native (suc n) m e = listed members natives n m refl e
+
+member_there : (n : ℕ) (world : List Shape) (d : DeclaredMethod) → method_at world (Api n) ≡ Some d
+    → (m : ApiMember) × (member_of n ≡ Some m)
+member_there n world d e = by_member (member_of n) e
+  where
+    by_member : (o : Option ApiMember)
+        → option_and_then (λ home. option_and_then (declared_in home n) (slice_get world home))
+        (option_map (λ (m : ApiMember). api_home (package_of m.class)) o) ≡ Some d
+        → (m : ApiMember) × (o ≡ Some m)
+    by_member None f = absurd (none-some d f)
+    by_member (Some m) f = (m, refl)
+
+-- of a call that fits the member, and where it is declared
+pub record Begins (w : World) (call : NativeCall Kept) : Type 0 where
+  pub concrete : is_concrete w.shapes (Api call.member) ≡ true
+  pub method : DeclaredMethod
+  pub found : method_at w.shapes (Api call.member) ≡ Some method
+  pub begins : may_begin_with w.shapes call.heap method call.arguments ≡ true
+  pub member : ApiMember
+  pub is : member_of call.member ≡ Some member
+  pub native : Native
+  pub numbered : numbered natives call.member ≡ Some native
+
+pub begins_of : (w : World) (call : NativeCall Kept) → native_may_begin w.shapes call.heap call.member call.arguments
+    ≡ true
+    → Begins w call
+begins_of w call e =
+    let a = both (is_concrete w.shapes (Api call.member))
+    (option_map_or (λ d. may_begin_with w.shapes call.heap d call.arguments) (method_at w.shapes (Api call.member))
+    false) e in
+    let d = passed_some (λ d. may_begin_with w.shapes call.heap d call.arguments)
+    (method_at w.shapes (Api call.member)) a.1 in
+    let m = member_there call.member w.shapes d.0 d.1 in
+    let n = numbered_native call.member m.0 m.1 in
+    record {
+      concrete = a.0;
+      method = d.0;
+      found = d.1;
+      begins = d.2;
+      member = m.0;
+      is = m.1;
+      native = n.0;
+      numbered = n.1;
+    }
+
+abbrev answers : World → NativeCall Kept → Bool → Option Native → NativeAnswer Kept
+answers w call b o = cond b (begun w call o) (unchanged call [] IsStuck)
+
+-- what the code did is what the member means
+pub answered : (w : World) (s : Store) (k : Kept) (word : WordCall) (d : Done) (outcome : WordOutcome)
+    → d ≡ done_of word.active s k (word_work (seen_in w s word) k word.arguments.now (numbered natives word.member))
+    → TellsEnd outcome d.ended → (call : NativeCall Kept) → CallAgrees (record { store = s; runtime = k }) word call
+    → IsFitCall meaning w call → AnswerAgrees (state_of d) outcome (answer_of w call)
+answered w s k word d outcome is told call agrees fit =
+    let objects = heap_bits w.shapes call.heap s.objects call.heap agrees.heap fit.heap in
+    let arguments = arguments_are w call word.arguments.now agrees.arguments fit in
+    let seen = same_seen w s word call objects agrees.active agrees.previous agrees.selected agrees.most_objects
+    agrees.most_cells in
+    let b = begins_of w call fit.begins in
+    let whole : d ≡ done_of call.active s call.runtime
+    (native_work (seen_of w call) call.runtime (arguments_of call) b.native) = is
+    ∙ ap (λ owner. done_of owner s k
+    (word_work (seen_in w s word) k word.arguments.now (numbered natives word.member))) agrees.active
+    ∙ ap (λ x. done_of call.active s x
+    (word_work (seen_in w s word) x word.arguments.now (numbered natives word.member))) agrees.runtime
+    ∙ ap (λ x. done_of call.active s call.runtime
+    (word_work x call.runtime word.arguments.now (numbered natives word.member))) seen
+    ∙ ap (λ x. done_of call.active s call.runtime
+    (word_work (seen_of w call) call.runtime x (numbered natives word.member))) arguments
+    ∙ ap (λ x. done_of call.active s call.runtime
+    (word_work (seen_of w call) call.runtime (arguments_of call) (numbered natives x))) agrees.member
+    ∙ ap (λ x. done_of call.active s call.runtime (word_work (seen_of w call) call.runtime (arguments_of call) x))
+    b.numbered in
+    let answer : answer_of w call ≡ begun w call (Some b.native) =
+    ap (λ x. answers w call x (numbered natives call.member)) fit.begins ∙ ap (λ o. answers w call true o) b.numbered in
+    let P : Done → NativeAnswer Kept → Type 0 = λ d a. TellsEnd outcome d.ended → AnswerAgrees (state_of d) outcome a in
+    subst (λ a. P d a) (sym answer)
+    (subst (λ x. P x (begun w call (Some b.native))) (sym whole)
+    (begun_agrees w s call b.native outcome objects agrees.most_objects agrees.most_cells)) told

@@ -1,0 +1,37 @@
+-- AIDs (Java Card API Specification, AID).
+use Rattle.std.specs.Prelude.{ℕ, ◌==◌, ◌&&◌, Bool, false, List, ◌∷◌, bytes_eq, if◌then◌else◌}
+use Rattle.jc_natives.specs.Cells.{aid_bytes, aid_count, argument, bit, bytes_of, extended, word}
+use Rattle.jc_natives.specs.Kept.{Kept, has_aid_length}
+use Rattle.jc_natives.specs.Seen.{Seen}
+use Rattle.jc_natives.specs.Work.{GivesWord, NoResult, Work, gives, illegal_value, unless_system, writes_to}
+use Rattle.jc_natives.specs.declared.native.AidNative.{AidNative}
+use Rattle.jc_natives.specs.declared.native.AidNative.TheVariants.{Construct, Equals, GetBytes}
+
+-- so many bytes of an array, from an offset on
+abbrev pub range_bytes : Seen → ℕ → ℕ → ℕ → List ℕ
+range_bytes s array offset count = bytes_of s.objects array offset count
+
+-- an AID is exactly the bytes of a range; it is no bytes of null
+abbrev pub is_range : Seen → ℕ → ℕ → ℕ → ℕ → Bool
+is_range s aid array offset count =
+    if array == 0 then false
+    else aid_count s.objects aid == count && bytes_eq (aid_bytes s.objects aid) (range_bytes s array offset count)
+
+-- so many bytes of an array are kept, behind their count
+abbrev pub constructs : Seen → Kept → ℕ → ℕ → ℕ → ℕ → Work
+constructs s k aid array offset count =
+    unless_system k illegal_value (has_aid_length count)
+    (writes_to k aid 0 (count ∷ range_bytes s array offset count) NoResult)
+
+-- the constructor keeps 5 to 16 bytes, behind their count; equals compares all bytes; getBytes writes all of them, and
+-- gives their number
+abbrev pub aid_work : Seen → Kept → List ℕ → AidNative → Work
+aid_work s k arguments Construct =
+    constructs s k (argument arguments 0) (argument arguments 1) (argument arguments 2)
+    (extended (argument arguments 3))
+aid_work s k arguments Equals =
+    gives k (GivesWord (bit (is_range s (argument arguments 0) (argument arguments 1) (argument arguments 2)
+    (extended (argument arguments 3)))))
+aid_work s k arguments GetBytes =
+    writes_to k (argument arguments 1) (argument arguments 2) (aid_bytes s.objects (argument arguments 0))
+    (GivesWord (word (aid_count s.objects (argument arguments 0))))

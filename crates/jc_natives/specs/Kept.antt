@@ -1,0 +1,133 @@
+-- What the runtime keeps beside the objects: which instances of applets there are, the one that is being installed, and
+-- where the exchange of a command and its answer stands (Java Card Runtime Environment Specification, Applet Isolation
+-- and Object Sharing: Contexts; Java Card API Specification, APDU, Applet).
+use Rattle.std.specs.Prelude.{ℕ, ◌-◌, ◌==◌, ◌&&◌, Bool, true, false, not, List, [], ◌∷◌, ◌++◌, length, take, Option, Some, None, bytes_eq, nat_le, nat_lt, if◌then◌else◌}
+use Rattle.std.specs.List.{find, list_all}
+use Rattle.std.specs.Option.{option_map, option_map_or}
+use Rattle.jc_names.specs.declared.owner.Owner.{Owner}
+use Rattle.jc_natives.specs.declared.kept.ApduState.{ApduState}
+use Rattle.jc_natives.specs.declared.kept.ApduState.TheVariants.{Closed, Fresh}
+use Rattle.jc_natives.specs.declared.kept.Installing.{Installing}
+use Rattle.jc_natives.specs.declared.kept.Instance.{Instance}
+
+-- the registered instances in their order; the instance that is being installed; the state of the APDU; the data that
+-- came with the command; its Le, 0 for none; the length of the answer that was announced; the data sent so far; and
+-- whether an applet has the SELECT that selected it before it
+pub record Kept : Type 0 where
+  pub instances : List Instance
+  pub installing : Option Installing
+  pub state : ApduState
+  pub incoming : List ℕ
+  pub expected : ℕ
+  pub announced : ℕ
+  pub sent : List ℕ
+  pub selecting : Bool
+
+-- ---- what it keeps, with another part
+
+abbrev pub with_state : Kept → ApduState → Kept
+with_state k state = record k { state = state }
+
+abbrev pub with_announced : Kept → ApduState → ℕ → Kept
+with_announced k state announced = record k { state = state; announced = announced }
+
+abbrev pub with_sent : Kept → List ℕ → Kept
+with_sent k sent = record k { sent = sent }
+
+-- one instance more, and the one that is being installed has registered
+abbrev pub now_registered : Installing → Installing
+now_registered i = record i { registered = true }
+
+abbrev pub with_instance : Kept → Instance → Kept
+with_instance k instance =
+    record k { instances = k.instances ++ instance ∷ []; installing = option_map now_registered k.installing }
+
+-- ---- between calls
+
+-- of a card that is new
+abbrev pub nothing_kept : Kept
+nothing_kept = record {
+  instances = [];
+  installing = None;
+  state = Closed;
+  incoming = [];
+  expected = 0;
+  announced = 0;
+  sent = [];
+  selecting = false;
+}
+
+-- an install begins: of an instance, whose applet has this AID
+abbrev pub with_install : Kept → Owner → List ℕ → Kept
+with_install k owner aid =
+    record k { installing = Some (record { owner = owner; aid = aid; registered = false }) }
+
+-- an instance has registered in the install that goes on
+abbrev pub has_registered : Kept → Bool
+has_registered k = option_map_or (λ (i : Installing). i.registered) k.installing false
+
+-- an install is over: where it failed the instance that registered is none, and it was the last
+abbrev pub kept_instances : List Instance → Bool → List Instance
+kept_instances instances true = take (length instances - 1) instances
+kept_instances instances false = instances
+
+abbrev pub after_install : Kept → Bool → Kept
+after_install k succeeds = record k {
+  instances = kept_instances k.instances (has_registered k && not succeeds);
+  installing = None;
+}
+
+-- a command is before an applet: its data, its Le, and whether it is the SELECT that selected
+abbrev pub with_command : Kept → List ℕ → ℕ → Bool → Kept
+with_command k incoming expected selecting = record {
+  instances = k.instances;
+  installing = k.installing;
+  state = Fresh;
+  incoming = incoming;
+  expected = expected;
+  announced = 0;
+  sent = [];
+  selecting = selecting;
+}
+
+-- no command is; what was sent stays until the next
+abbrev pub without_command : Kept → Kept
+without_command k = record k { state = Closed; selecting = false }
+
+-- ---- what is sent
+
+-- where a command has no Le, or 0, as many bytes are expected as may be
+abbrev pub most_sent : ℕ
+most_sent = 256
+
+abbrev pub expected_of : Kept → ℕ
+expected_of k = if k.expected == 0 then most_sent else k.expected
+
+-- ---- AIDs
+
+-- bytes of 8 bits
+abbrev pub are_bytes : List ℕ → Bool
+are_bytes bytes = list_all (λ b. nat_lt b 256) bytes
+
+-- an AID has 5 to 16 bytes
+abbrev pub has_aid_length : ℕ → Bool
+has_aid_length count = nat_le 5 count && nat_le count 16
+
+abbrev pub is_aid : List ℕ → Bool
+is_aid bytes = has_aid_length (length bytes) && are_bytes bytes
+
+-- ---- instances
+
+abbrev pub is_same_owner : Owner → Owner → Bool
+is_same_owner one other = one.context == other.context && one.instance == other.instance
+
+-- the registered instance with an AID, and that of an owner
+abbrev pub instance_with : List Instance → List ℕ → Option Instance
+instance_with instances aid = find (λ (i : Instance). bytes_eq i.aid aid) instances
+
+abbrev pub instance_of : List Instance → Owner → Option Instance
+instance_of instances owner = find (λ (i : Instance). is_same_owner i.owner owner) instances
+
+-- instances have numbers from 1 to 32
+abbrev pub is_instance_number : ℕ → Bool
+is_instance_number number = nat_le 1 number && nat_le number 32

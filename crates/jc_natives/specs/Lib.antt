@@ -1,0 +1,15 @@
+pub mod Kept
+pub mod Cells
+pub mod Seen
+pub mod Tests
+pub mod Rows
+pub mod Work
+pub mod Objects
+pub mod Aids
+pub mod Apdus
+pub mod Applets
+pub mod System
+pub mod Utilities
+pub mod Meaning
+pub mod Examples
+pub mod PrivateWords

@@ -1,0 +1,191 @@
+-- What the native members mean: each tests its arguments, and then does its work.
+use Rattle.std.specs.Prelude.{ℕ, ◌==◌, ◌&&◌, Bool, false, true, List, [], ◌∷◌, ◌++◌, length, Option, Some, None, nat_le, nat_lt, replicate, if◌then◌else◌}
+use Rattle.std.specs.List.{list_all, list_any}
+use Rattle.std.specs.Option.{option_map_or}
+use Rattle.jc_api.specs.Numbered.{numbered}
+use Rattle.jc_api.specs.declared.class.ApiClass.TheVariants.{Applet}
+use Rattle.jc_cap_desc.specs.Shape.{Shape}
+use Rattle.jc_firewall.specs.Verdict.{runtime_context}
+use Rattle.jc_firewall.specs.declared.access.Access.{Access}
+use Rattle.jc_firewall.specs.declared.access.Access.TheVariants.{PutField, StoreComponent}
+use Rattle.jc_firewall.specs.declared.access.Verdict.TheVariants.{Allowed}
+use Rattle.jc_link.specs.Linked.{World}
+use Rattle.jc_machine.specs.Calls.{native_may_begin}
+use Rattle.jc_machine.specs.Lookup.{is_array, is_of_class}
+use Rattle.jc_machine.specs.Machine.{Calls, Gives, IsStuck, NativeAnswer, NativeCall, NativeEnd, Natives, ThrowsObject, Touch}
+use Rattle.jc_names.specs.declared.name.ClassName.TheVariants.{Api}
+use Rattle.jc_names.specs.declared.owner.Owner.{Owner}
+use Rattle.jc_natives.specs.Aids.{aid_work}
+use Rattle.jc_natives.specs.Apdus.{apdu_work}
+use Rattle.jc_natives.specs.Applets.{applet_work}
+use Rattle.jc_natives.specs.Cells.{Write, has_room, written}
+use Rattle.jc_natives.specs.Kept.{Kept, are_bytes, is_aid, is_instance_number, is_same_owner}
+use Rattle.jc_natives.specs.Objects.{object_work}
+use Rattle.jc_natives.specs.Rows.{natives, row_of}
+use Rattle.jc_natives.specs.Seen.{Seen, arguments_of, seen_of}
+use Rattle.jc_natives.specs.System.{system_work}
+use Rattle.jc_natives.specs.Tests.{tested}
+use Rattle.jc_natives.specs.Utilities.{utility_work}
+use Rattle.jc_natives.specs.Work.{Asks, Does, Ending, GivesReference, GivesWord, Makes, NewArray, NoResult, Throws, Work, array_type, no_transient_space, throws_system}
+use Rattle.jc_natives.specs.declared.ended.Question.{Question}
+use Rattle.jc_natives.specs.declared.kept.Installing.{Installing}
+use Rattle.jc_natives.specs.declared.kept.Instance.{Instance}
+use Rattle.jc_natives.specs.declared.native.Elements.{Elements}
+use Rattle.jc_natives.specs.declared.native.Elements.TheVariants.{Booleans, Bytes, References, Shorts}
+use Rattle.jc_natives.specs.declared.native.Native.{Native}
+use Rattle.jc_natives.specs.declared.native.Native.TheVariants.{OfAid, OfApdu, OfApplet, OfObject, OfSystem, OfUtility}
+use Rattle.jc_store.specs.Heap.{Heap, Object, next_number, object_at, with_new}
+use Rattle.jc_store.specs.declared.kind.Mark.TheVariants.{Plain}
+use Rattle.jc_words.specs.Values.{Null, Ref, TaggedValue, Word}
+
+-- ---- the work of a member
+
+abbrev pub work_of : Seen → Kept → List ℕ → Native → Work
+work_of s k arguments (OfObject native) = object_work s k arguments native
+work_of s k arguments (OfAid native) = aid_work s k arguments native
+work_of s k arguments (OfApdu native) = apdu_work s k arguments native
+work_of s k arguments (OfApplet native) = applet_work s k arguments native
+work_of s k arguments (OfSystem native) = system_work s k arguments native
+work_of s k arguments (OfUtility native) = utility_work s k arguments native
+
+-- ---- values
+
+abbrev pub reference : ℕ → TaggedValue
+reference number = if number == 0 then Null else Ref number
+
+abbrev pub end_of : Ending → NativeEnd
+end_of NoResult = Gives None
+end_of (GivesWord word) = Gives (Some (Word word))
+end_of (GivesReference number) = Gives (Some (reference number))
+end_of (Throws object) = ThrowsObject object
+
+-- what a component of a new array is
+abbrev pub blank_of : Elements → TaggedValue
+blank_of Booleans = Word 0
+blank_of Bytes = Word 0
+blank_of Shorts = Word 0
+blank_of References = Null
+
+-- a transient array, of the active owner
+abbrev pub new_array : Owner → NewArray → Object TaggedValue
+new_array owner array = record {
+  kind = record { object = array_type array.elements; mark = Plain; clears = Some array.event };
+  owner = owner;
+  cells = replicate array.size (blank_of array.elements);
+}
+
+-- ---- the runtime's own accesses
+
+-- an object that is written is one that was tested, or the runtime writes it in its own name
+abbrev pub is_touched : List Touch → ℕ → Bool
+is_touched touches number = list_any (λ (t : Touch). t.object == number) touches
+
+abbrev pub write_access : Object TaggedValue → Access
+write_access object = if is_array object.kind.object then StoreComponent else PutField
+
+abbrev pub own_touch : ℕ → Object TaggedValue → Touch
+own_touch number object =
+    record { active = runtime_context; access = write_access object; object = number; verdict = Allowed }
+
+abbrev pub own_touch_of : List Touch → Heap TaggedValue → Write → List Touch
+own_touch_of touches heap w =
+    if is_touched touches w.object then []
+    else option_map_or (λ object. own_touch w.object object ∷ []) (object_at heap w.object) []
+
+abbrev pub own_touches : List Touch → Heap TaggedValue → List Write → List Touch
+own_touches touches heap [] = []
+own_touches touches heap (w ∷ writes) = own_touch_of touches heap w ++ own_touches touches heap writes
+
+-- ---- answers
+
+-- it is stuck, or throws, and nothing changes
+abbrev pub unchanged : NativeCall Kept → List Touch → NativeEnd → NativeAnswer Kept
+unchanged call touches ends = record { touches = touches; heap = call.heap; runtime = call.runtime; ends = ends }
+
+abbrev pub did : NativeCall Kept → List Touch → List Write → Kept → Ending → NativeAnswer Kept
+did call touches writes k ending = record {
+  touches = touches ++ own_touches touches call.heap writes;
+  heap = written Word call.heap writes;
+  runtime = k;
+  ends = end_of ending;
+}
+
+abbrev pub made : NativeCall Kept → List Touch → NewArray → NativeAnswer Kept
+made call touches array = record {
+  touches = touches;
+  heap = with_new call.heap (new_array call.active array);
+  runtime = call.runtime;
+  ends = Gives (Some (Ref (next_number call.heap)));
+}
+
+-- the member that applets answer such a question by: getShareableInterfaceObject
+abbrev pub answering_member : ℕ
+answering_member = 40
+
+abbrev pub asked : NativeCall Kept → List Touch → Question → NativeAnswer Kept
+asked call touches q =
+    unchanged call touches
+    (Calls (record { member = answering_member; object = q.object; arguments = reference q.aid ∷ Word q.word ∷ [] }))
+
+-- an array is made where there is room for it
+abbrev pub array_or_refusal : Bool → NewArray → Kept → Work
+array_or_refusal true array k = Makes array
+array_or_refusal false array k = throws_system k no_transient_space
+
+-- where there is no room for an array the work is to throw
+abbrev pub with_room : {V : Type 0} → ℕ → ℕ → Heap V → Kept → Work → Work
+with_room objects cells heap k (Does writes runtime ending) = Does writes runtime ending
+with_room objects cells heap k (Makes array) =
+    array_or_refusal (has_room objects cells heap array.size) array k
+with_room objects cells heap k (Asks question) = Asks question
+
+abbrev pub done : NativeCall Kept → List Touch → Work → NativeAnswer Kept
+done call touches (Does writes k ending) = did call touches writes k ending
+done call touches (Makes array) = made call touches array
+done call touches (Asks question) = asked call touches question
+
+-- where a test fails that is the end; else the work is done
+abbrev pub ended : NativeCall Kept → List Touch → Option ℕ → Work → NativeAnswer Kept
+ended call touches (Some object) work = unchanged call touches (ThrowsObject object)
+ended call touches None work =
+    done call touches (with_room call.limits.objects call.limits.cells call.heap call.runtime work)
+
+abbrev pub begun : World → NativeCall Kept → Option Native → NativeAnswer Kept
+begun w call None = unchanged call [] IsStuck
+begun w call (Some native) =
+    let t = tested (seen_of w call) (arguments_of call) (row_of native) in
+    ended call t.touches t.thrown (work_of (seen_of w call) call.runtime (arguments_of call) native)
+
+-- a member is stuck only where it is none, or its arguments aren't of its types
+abbrev pub answer_of : World → NativeCall Kept → NativeAnswer Kept
+answer_of w call =
+    if native_may_begin w.shapes call.heap call.member call.arguments
+    then begun w call (numbered natives call.member) else unchanged call [] IsStuck
+
+-- ---- what the runtime keeps fits the objects
+
+-- a registered instance has an AID and a number, and its object is there: of class Applet or below it, and its own
+abbrev pub has_applet : List Shape → Instance → Object TaggedValue → Bool
+has_applet shapes i object = is_of_class shapes (Api Applet) object.kind.object && is_same_owner object.owner i.owner
+
+abbrev pub fits_instance : List Shape → Heap TaggedValue → Instance → Bool
+fits_instance shapes heap i =
+    is_aid i.aid && is_instance_number i.owner.instance
+    && option_map_or (has_applet shapes i) (object_at heap i.object) false
+
+abbrev pub fits_installing : Installing → Bool
+fits_installing i = is_aid i.aid && is_instance_number i.owner.instance
+
+-- data of a command are at most 255 bytes, and its Le is a byte
+abbrev pub fits_command : Kept → Bool
+fits_command k = are_bytes k.incoming && nat_le (length k.incoming) 255 && nat_lt k.expected 256
+
+abbrev pub fits_kept : World → Heap TaggedValue → Kept → Bool
+fits_kept w heap k =
+    list_all (fits_instance w.shapes heap) k.instances && option_map_or fits_installing k.installing true
+    && fits_command k
+
+-- ---- the members
+
+abbrev pub meaning : Natives Kept
+meaning = record { answer = answer_of; fits = fits_kept }

@@ -1,0 +1,33 @@
+-- Object and the exceptions (Java Card API Specification, Object, Throwable and its subclasses, CardRuntimeException,
+-- ISOException, SystemException, APDUException).
+use Rattle.std.specs.Prelude.{ℕ, ◌==◌, ◌&&◌, ◌||◌, Bool, List, [], ◌∷◌, bytes_eq}
+use Rattle.jc_natives.specs.Cells.{aid_bytes, aid_count, argument, bit, cell_of, word}
+use Rattle.jc_natives.specs.Kept.{Kept}
+use Rattle.jc_natives.specs.Seen.{Seen, is_aid_object}
+use Rattle.jc_natives.specs.Work.{GivesWord, NoResult, Work, gives, throws_with, writes_to}
+use Rattle.jc_natives.specs.declared.native.ObjectNative.{ObjectNative}
+use Rattle.jc_natives.specs.declared.native.ObjectNative.TheVariants.{Construct, ConstructWithReason, Equals, GetReason, SetReason, ThrowIt}
+use Rattle.jc_store.specs.Heap.{Heap}
+
+-- objects have the same bytes as AIDs; and they are AIDs that do
+abbrev pub have_same_aid : Heap ℕ → ℕ → ℕ → Bool
+have_same_aid objects one other =
+    aid_count objects one == aid_count objects other && bytes_eq (aid_bytes objects one) (aid_bytes objects other)
+
+abbrev pub are_same_aids : Seen → ℕ → ℕ → Bool
+are_same_aids s one other = (is_aid_object s one && is_aid_object s other) && have_same_aid s.objects one other
+
+-- the same object, or two AIDs of the same bytes
+abbrev pub equals : Seen → ℕ → ℕ → Bool
+equals s one other = one == other || are_same_aids s one other
+
+-- constructors do nothing, or set the reason; throwIt sets the reason of the runtime's exception, and throws it
+abbrev pub object_work : Seen → Kept → List ℕ → ObjectNative → Work
+object_work s k arguments Construct = gives k NoResult
+object_work s k arguments Equals = gives k (GivesWord (bit (equals s (argument arguments 0) (argument arguments 1))))
+object_work s k arguments ConstructWithReason =
+    writes_to k (argument arguments 0) 0 (word (argument arguments 1) ∷ []) NoResult
+object_work s k arguments GetReason = gives k (GivesWord (word (cell_of s.objects (argument arguments 0) 0)))
+object_work s k arguments SetReason =
+    writes_to k (argument arguments 0) 0 (word (argument arguments 1) ∷ []) NoResult
+object_work s k arguments (ThrowIt object) = throws_with k object (word (argument arguments 0))

@@ -1,0 +1,100 @@
+-- What a work leaves on words: what the code is proved against.
+use Rattle.std.specs.Prelude.{◌≡◌, ℕ, List, [], ◌∷◌, Option, Some, None}
+use Rattle.jc_link.specs.Linked.{World}
+use Rattle.jc_machine.specs.declared.natives.WordCall.{WordCall}
+use Rattle.jc_machine.specs.declared.natives.WordCallback.{WordCallback}
+use Rattle.jc_machine.specs.declared.natives.WordOutcome.{WordOutcome}
+use Rattle.jc_machine.specs.declared.natives.WordOutcome.TheVariants.{CallsBack, Returned, Thrown}
+use Rattle.jc_names.specs.declared.owner.Owner.{Owner}
+use Rattle.jc_natives.specs.Cells.{Write, put_all}
+use Rattle.jc_natives.specs.Kept.{Kept}
+use Rattle.jc_natives.specs.Meaning.{answering_member, with_room, work_of}
+use Rattle.jc_natives.specs.Rows.{row_of}
+use Rattle.jc_natives.specs.Seen.{Seen}
+use Rattle.jc_natives.specs.Tests.{tested}
+use Rattle.jc_natives.specs.Work.{Asks, Does, Ending, GivesReference, GivesWord, Makes, NewArray, NoResult, Throws, Work, array_type, gives, throws}
+use Rattle.jc_natives.specs.declared.ended.Ended.{Ended}
+use Rattle.jc_natives.specs.declared.ended.Ended.TheVariants as ends
+use Rattle.jc_natives.specs.declared.ended.Question.{Question}
+use Rattle.jc_natives.specs.declared.native.Native.{Native}
+use Rattle.jc_store.specs.Heap.{Heap, next_number}
+use Rattle.jc_store.specs.Store.{Store, fresh, with_made, with_objects}
+use Rattle.jc_store.specs.declared.kind.Kind.{Kind}
+use Rattle.jc_store.specs.declared.kind.Mark.TheVariants.{Plain}
+
+-- what a call on words shows
+abbrev pub seen_in : World → Store → WordCall → Seen
+seen_in w store call = record {
+  shapes = w.shapes;
+  objects = store.objects;
+  active = call.active;
+  previous = call.previous;
+  selected = call.selected;
+  most_objects = store.most_objects;
+  most_cells = store.most_cells;
+}
+
+-- the store and what the runtime keeps behind a work, and how it ends
+pub record Done : Type 0 where
+  pub store : Store
+  pub kept : Kept
+  pub ended : Ended
+
+-- words that are written one behind the other
+abbrev pub laid : Heap ℕ → List Write → Heap ℕ
+laid objects [] = objects
+laid objects (w ∷ writes) = laid (put_all objects w.object w.from w.words) writes
+
+abbrev pub ended_of : Ending → Ended
+ended_of NoResult = ends.Returned None
+ended_of (GivesWord word) = ends.Returned (Some word)
+ended_of (GivesReference number) = ends.Returned (Some number)
+ended_of (Throws object) = ends.Thrown object
+
+abbrev pub kind_of : NewArray → Kind
+kind_of array = record { object = array_type array.elements; mark = Plain; clears = Some array.event }
+
+abbrev pub did_on_words : Owner → Store → Kept → Work → Done
+did_on_words owner store k (Does writes runtime ending) =
+    record { store = with_objects store (laid store.objects writes); kept = runtime; ended = ended_of ending }
+did_on_words owner store k (Makes array) = record {
+  store = with_made store (fresh (kind_of array) owner array.size) 0;
+  kept = k;
+  ended = ends.Returned (Some (next_number store.objects));
+}
+did_on_words owner store k (Asks question) = record { store = store; kept = k; ended = ends.Asks question }
+
+abbrev pub done_of : Owner → Store → Kept → Work → Done
+done_of owner store k work =
+    did_on_words owner store k (with_room store.most_objects store.most_cells store.objects k work)
+
+-- the work of a member whose arguments are tested: to throw, where a test fails
+abbrev pub tested_work : Kept → Option ℕ → Work → Work
+tested_work k (Some object) work = throws k object
+tested_work k None work = work
+
+abbrev pub native_work : Seen → Kept → List ℕ → Native → Work
+native_work s k arguments native =
+    tested_work k (tested s arguments (row_of native)).thrown (work_of s k arguments native)
+
+-- without a member there is nothing to do
+abbrev pub word_work : Seen → Kept → List ℕ → Option Native → Work
+word_work s k arguments None = gives k NoResult
+word_work s k arguments (Some native) = native_work s k arguments native
+
+-- a question as a call, and an end as it is told
+pub record AsksSo (callback : WordCallback) (q : Question) : Type 0 where
+  pub member : callback.member ≡ answering_member
+  pub object : callback.object ≡ q.object
+  pub arguments : callback.arguments.items ≡ q.aid ∷ q.word ∷ []
+
+abbrev pub TellsEnd : WordOutcome → Ended → Type 0
+TellsEnd (Returned word) (ends.Returned given) = word ≡ given
+TellsEnd (Returned word) (ends.Thrown object) = ⊥
+TellsEnd (Returned word) (ends.Asks question) = ⊥
+TellsEnd (Thrown number) (ends.Returned given) = ⊥
+TellsEnd (Thrown number) (ends.Thrown object) = number ≡ object
+TellsEnd (Thrown number) (ends.Asks question) = ⊥
+TellsEnd (CallsBack callback) (ends.Returned given) = ⊥
+TellsEnd (CallsBack callback) (ends.Thrown object) = ⊥
+TellsEnd (CallsBack callback) (ends.Asks question) = AsksSo callback question

@@ -1,0 +1,172 @@
+-- The native members by their numbers, and what each tests, as data (Java Card API Specification).
+use Rattle.std.specs.Prelude.{ℕ, List, [], ◌∷◌, Option, Some, None}
+use Rattle.jc_machine.specs.Runtime.{apdu_exception, iso_exception, system_exception}
+use Rattle.jc_natives.specs.declared.native.AidNative.{AidNative}
+use Rattle.jc_natives.specs.declared.native.AidNative.TheVariants as aids
+use Rattle.jc_natives.specs.declared.native.ApduNative.{ApduNative}
+use Rattle.jc_natives.specs.declared.native.ApduNative.TheVariants as apdus
+use Rattle.jc_natives.specs.declared.native.AppletNative.{AppletNative}
+use Rattle.jc_natives.specs.declared.native.AppletNative.TheVariants as applets
+use Rattle.jc_natives.specs.declared.native.Native.{Native}
+use Rattle.jc_natives.specs.declared.native.Native.TheVariants.{OfAid, OfApdu, OfApplet, OfObject, OfSystem, OfUtility}
+use Rattle.jc_natives.specs.declared.native.ObjectNative.{ObjectNative}
+use Rattle.jc_natives.specs.declared.native.ObjectNative.TheVariants as objects
+use Rattle.jc_natives.specs.declared.native.SystemNative.{SystemNative}
+use Rattle.jc_natives.specs.declared.native.SystemNative.TheVariants as system
+use Rattle.jc_natives.specs.declared.native.UtilityNative.{UtilityNative}
+use Rattle.jc_natives.specs.declared.native.UtilityNative.TheVariants as utilities
+use Rattle.jc_natives.specs.declared.row.Length.{Length}
+use Rattle.jc_natives.specs.declared.row.Length.TheVariants.{ByteAt, Fixed, OfAid as AsAid, ShortAt}
+use Rattle.jc_natives.specs.declared.row.Range.{Range}
+use Rattle.jc_natives.specs.declared.row.Row.{Row}
+use Rattle.jc_natives.specs.declared.row.Test.{Test}
+use Rattle.jc_natives.specs.declared.row.Test.TheVariants.{BesideAid, Nothing, Object, ObjectOrNull}
+use Rattle.jc_natives.specs.declared.row.Way.TheVariants.{Calls, Fields, Loads, Stores}
+
+-- ---- the members
+
+abbrev pub natives : List Native
+natives =
+    OfObject objects.Construct  -- 1 Object
+    ∷ OfObject objects.Equals  -- 2 equals
+    ∷ OfObject objects.Construct  -- 3 Throwable
+    ∷ OfObject objects.Construct  -- 4 Exception
+    ∷ OfObject objects.Construct  -- 5 RuntimeException
+    ∷ OfObject objects.Construct  -- 6 ArithmeticException
+    ∷ OfObject objects.Construct  -- 7 ArrayStoreException
+    ∷ OfObject objects.Construct  -- 8 ClassCastException
+    ∷ OfObject objects.Construct  -- 9 IndexOutOfBoundsException
+    ∷ OfObject objects.Construct  -- 10 ArrayIndexOutOfBoundsException
+    ∷ OfObject objects.Construct  -- 11 NegativeArraySizeException
+    ∷ OfObject objects.Construct  -- 12 NullPointerException
+    ∷ OfObject objects.Construct  -- 13 SecurityException
+    ∷ OfObject objects.ConstructWithReason  -- 14 CardRuntimeException
+    ∷ OfObject objects.GetReason  -- 15 getReason
+    ∷ OfObject objects.SetReason  -- 16 setReason
+    ∷ OfObject objects.ConstructWithReason  -- 17 ISOException
+    ∷ OfObject (objects.ThrowIt iso_exception)  -- 18 throwIt
+    ∷ OfObject objects.ConstructWithReason  -- 19 SystemException
+    ∷ OfObject (objects.ThrowIt system_exception)  -- 20 throwIt
+    ∷ OfObject objects.ConstructWithReason  -- 21 APDUException
+    ∷ OfObject (objects.ThrowIt apdu_exception)  -- 22 throwIt
+    ∷ OfAid aids.Construct  -- 23 AID
+    ∷ OfAid aids.Equals  -- 24 equals
+    ∷ OfAid aids.GetBytes  -- 25 getBytes
+    ∷ OfApdu apdus.GetBuffer  -- 26 getBuffer
+    ∷ OfApdu apdus.SetIncomingAndReceive  -- 27 setIncomingAndReceive
+    ∷ OfApdu apdus.SetOutgoing  -- 28 setOutgoing
+    ∷ OfApdu apdus.SetOutgoingLength  -- 29 setOutgoingLength
+    ∷ OfApdu apdus.SendBytes  -- 30 sendBytes
+    ∷ OfApdu apdus.SendBytesLong  -- 31 sendBytesLong
+    ∷ OfApdu apdus.SetOutgoingAndSend  -- 32 setOutgoingAndSend
+    ∷ OfObject objects.Construct  -- 33 Applet
+    ∷ OfApplet applets.Register  -- 34 register
+    ∷ OfApplet applets.RegisterBytes  -- 35 register
+    ∷ OfApplet applets.Select  -- 36 select
+    ∷ OfApplet applets.Deselect  -- 37 deselect
+    ∷ OfApplet applets.Process  -- 38 process
+    ∷ OfApplet applets.SelectingApplet  -- 39 selectingApplet
+    ∷ OfApplet applets.GetShareable  -- 40 getShareableInterfaceObject
+    ∷ OfSystem system.GetAid  -- 41 getAID
+    ∷ OfSystem system.LookupAid  -- 42 lookupAID
+    ∷ OfSystem system.GetPreviousAid  -- 43 getPreviousContextAID
+    ∷ OfSystem system.AskForShareable  -- 44 getAppletShareableInterfaceObject
+    ∷ OfSystem system.MakeBooleans  -- 45 makeTransientBooleanArray
+    ∷ OfSystem system.MakeBytes  -- 46 makeTransientByteArray
+    ∷ OfSystem system.MakeShorts  -- 47 makeTransientShortArray
+    ∷ OfSystem system.MakeReferences  -- 48 makeTransientObjectArray
+    ∷ OfUtility utilities.ArrayCopy  -- 49 arrayCopy
+    ∷ OfUtility utilities.ArrayCopy  -- 50 arrayCopyNonAtomic
+    ∷ OfUtility utilities.ArrayFill  -- 51 arrayFillNonAtomic
+    ∷ OfUtility utilities.ArrayCompare  -- 52 arrayCompare
+    ∷ OfUtility utilities.GetShort  -- 53 getShort
+    ∷ OfUtility utilities.SetShort  -- 54 setShort
+    ∷ OfUtility utilities.MakeShort ∷ []  -- 55 makeShort
+
+-- ---- rows
+
+abbrev pub rows_of : Test → Test → Option Range → Option Range → Row
+rows_of first second first_range second_range =
+    record { first = first; second = second; first_range = first_range; second_range = second_range }
+
+abbrev pub range : ℕ → ℕ → Length → Option Range
+range array offset count = Some (record { array = array; offset = offset; length = count })
+
+-- nothing is tested
+abbrev pub untested : Row
+untested = rows_of Nothing Nothing None None
+
+-- the object that is constructed, and that whose member is called
+abbrev pub constructed : Row
+constructed = rows_of (Object 0 Fields) Nothing None None
+
+abbrev pub called : Row
+called = rows_of (Object 0 Calls) Nothing None None
+
+-- an object whose member is called, or that is constructed, and a range in the array that is its first argument
+abbrev pub called_on : Test → Length → Row
+called_on array count = rows_of (Object 0 Calls) array (range 1 2 count) None
+
+-- a range in the one array of a static member, and ranges in two
+abbrev pub on_array : Test → Length → Row
+on_array array count = rows_of array Nothing (range 0 1 count) None
+
+abbrev pub on_arrays : Test → Test → Row
+on_arrays source target = rows_of source target (range 0 1 (ShortAt 4)) (range 2 3 (ShortAt 4))
+
+abbrev pub object_row : ObjectNative → Row
+object_row objects.Construct = constructed
+object_row objects.Equals = rows_of (Object 0 Calls) BesideAid None None
+object_row objects.ConstructWithReason = constructed
+object_row objects.GetReason = called
+object_row objects.SetReason = called
+object_row (objects.ThrowIt object) = untested
+
+abbrev pub aid_row : AidNative → Row
+aid_row aids.Construct = rows_of (Object 0 Fields) (Object 1 Loads) (range 1 2 (ByteAt 3)) None
+aid_row aids.Equals = called_on (ObjectOrNull 1 Loads) (ByteAt 3)
+aid_row aids.GetBytes = called_on (Object 1 Stores) (AsAid 0)
+
+abbrev pub apdu_row : ApduNative → Row
+apdu_row apdus.GetBuffer = called
+apdu_row apdus.SetIncomingAndReceive = called
+apdu_row apdus.SetOutgoing = called
+apdu_row apdus.SetOutgoingLength = called
+apdu_row apdus.SendBytes = called
+apdu_row apdus.SendBytesLong = called_on (Object 1 Loads) (ShortAt 3)
+apdu_row apdus.SetOutgoingAndSend = called
+
+abbrev pub applet_row : AppletNative → Row
+applet_row applets.Register = called
+applet_row applets.RegisterBytes = called_on (Object 1 Loads) (ByteAt 3)
+applet_row applets.Select = called
+applet_row applets.Deselect = called
+applet_row applets.Process = called
+applet_row applets.SelectingApplet = called
+applet_row applets.GetShareable = called
+
+abbrev pub system_row : SystemNative → Row
+system_row system.GetAid = untested
+system_row system.LookupAid = on_array (Object 0 Loads) (ByteAt 2)
+system_row system.GetPreviousAid = untested
+system_row system.AskForShareable = called
+system_row system.MakeBooleans = untested
+system_row system.MakeBytes = untested
+system_row system.MakeShorts = untested
+system_row system.MakeReferences = untested
+
+abbrev pub utility_row : UtilityNative → Row
+utility_row utilities.ArrayCopy = on_arrays (Object 0 Loads) (Object 2 Stores)
+utility_row utilities.ArrayFill = on_array (Object 0 Stores) (ShortAt 2)
+utility_row utilities.ArrayCompare = on_arrays (Object 0 Loads) (Object 2 Loads)
+utility_row utilities.GetShort = on_array (Object 0 Loads) (Fixed 2)
+utility_row utilities.SetShort = on_array (Object 0 Stores) (Fixed 2)
+utility_row utilities.MakeShort = untested
+
+abbrev pub row_of : Native → Row
+row_of (OfObject native) = object_row native
+row_of (OfAid native) = aid_row native
+row_of (OfApdu native) = apdu_row native
+row_of (OfApplet native) = applet_row native
+row_of (OfSystem native) = system_row native
+row_of (OfUtility native) = utility_row native

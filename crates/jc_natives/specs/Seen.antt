@@ -1,0 +1,44 @@
+-- What a native member sees of its call: words, and objects without tags. No member looks at a tag: arguments are of
+-- their types before it begins, and the components that it uses are words.
+use Rattle.std.specs.Prelude.{ℕ, Bool, false, List, map, Option}
+use Rattle.std.specs.Option.{option_map_or}
+use Rattle.jc_api.specs.declared.class.ApiClass.TheVariants.{Aid}
+use Rattle.jc_cap_desc.specs.Shape.{Shape}
+use Rattle.jc_link.specs.Linked.{World}
+use Rattle.jc_machine.specs.Lookup.{is_of_class}
+use Rattle.jc_machine.specs.Machine.{NativeCall}
+use Rattle.jc_names.specs.declared.name.ClassName.TheVariants.{Api}
+use Rattle.jc_names.specs.declared.owner.Owner.{Owner}
+use Rattle.jc_natives.specs.Cells.{bared, bits}
+use Rattle.jc_store.specs.Heap.{Heap, object_at}
+
+-- the packages; the objects; the owner that is active, and the one before the last switch; the context of the applet
+-- that is selected; and the most objects and cells
+pub record Seen : Type 0 where
+  pub shapes : List Shape
+  pub objects : Heap ℕ
+  pub active : Owner
+  pub previous : Option Owner
+  pub selected : Option ℕ
+  pub most_objects : ℕ
+  pub most_cells : ℕ
+
+-- what a call on tagged values shows, and its arguments
+abbrev pub seen_of : {C : Type 0} → World → NativeCall C → Seen
+seen_of w call = record {
+  shapes = w.shapes;
+  objects = bared call.heap;
+  active = call.active;
+  previous = call.previous;
+  selected = call.selected;
+  most_objects = call.limits.objects;
+  most_cells = call.limits.cells;
+}
+
+abbrev pub arguments_of : {C : Type 0} → NativeCall C → List ℕ
+arguments_of call = map bits call.arguments
+
+-- whether a number is that of an AID: of an object of class AID or below it
+abbrev pub is_aid_object : Seen → ℕ → Bool
+is_aid_object s number =
+    option_map_or (λ object. is_of_class s.shapes (Api Aid) object.kind.object) (object_at s.objects number) false

@@ -1,0 +1,31 @@
+-- Arrays of bytes and shorts (Java Card API Specification, Util).
+use Rattle.std.specs.Prelude.{ℕ, ◌+◌, List, [], ◌∷◌, replicate}
+use Rattle.jc_natives.specs.Aids.{range_bytes}
+use Rattle.jc_natives.specs.Cells.{argument, byte_of, high, low, order_of, word, word_of_bytes}
+use Rattle.jc_natives.specs.Kept.{Kept}
+use Rattle.jc_natives.specs.Seen.{Seen}
+use Rattle.jc_natives.specs.Work.{GivesWord, Work, gives, writes_to}
+use Rattle.jc_natives.specs.declared.native.UtilityNative.{UtilityNative}
+use Rattle.jc_natives.specs.declared.native.UtilityNative.TheVariants.{ArrayCompare, ArrayCopy, ArrayFill, GetShort, MakeShort, SetShort}
+
+-- a copy is as through a copy of the source; what is written ends behind the offset that is given
+abbrev pub utility_work : Seen → Kept → List ℕ → UtilityNative → Work
+utility_work s k arguments ArrayCopy =
+    writes_to k (argument arguments 2) (argument arguments 3)
+    (range_bytes s (argument arguments 0) (argument arguments 1) (argument arguments 4))
+    (GivesWord (word (argument arguments 3 + argument arguments 4)))
+utility_work s k arguments ArrayFill =
+    writes_to k (argument arguments 0) (argument arguments 1)
+    (replicate (argument arguments 2) (low (argument arguments 3)))
+    (GivesWord (word (argument arguments 1 + argument arguments 2)))
+utility_work s k arguments ArrayCompare =
+    gives k (GivesWord (order_of (range_bytes s (argument arguments 0) (argument arguments 1) (argument arguments 4))
+    (range_bytes s (argument arguments 2) (argument arguments 3) (argument arguments 4))))
+utility_work s k arguments GetShort =
+    gives k (GivesWord (word_of_bytes (byte_of s.objects (argument arguments 0) (argument arguments 1))
+    (byte_of s.objects (argument arguments 0) (argument arguments 1 + 1))))
+utility_work s k arguments SetShort =
+    writes_to k (argument arguments 0) (argument arguments 1)
+    (high (argument arguments 2) ∷ low (argument arguments 2) ∷ []) (GivesWord (word (argument arguments 1 + 2)))
+utility_work s k arguments MakeShort =
+    gives k (GivesWord (word_of_bytes (low (argument arguments 0)) (low (argument arguments 1))))

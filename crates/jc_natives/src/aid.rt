@@ -1,0 +1,115 @@
+//! Members of AID (Java Card API Specification, AID).
+
+ghost use Rattle.std.specs.Prelude.{◌≡◌, ◌∷◌};
+ghost use Rattle.jc_natives.specs.Aids.{aid_work, is_range};
+ghost use Rattle.jc_natives.specs.Cells.{argument, bytes_of, extended, put_all};
+ghost use Rattle.jc_natives.specs.Kept.{has_aid_length};
+ghost use Rattle.jc_natives.specs.PrivateWords.{done_of, seen_in};
+ghost use Rattle.jc_natives.specs.declared.native.AidNative.TheVariants as natives;
+ghost use Rattle.jc_store.specs.Store.{with_objects};
+
+use crate::bytes::{copy_bytes, same_bytes};
+use crate::cells::{argument, bit, cell, extended, put};
+use crate::ended::{Ended, throw_system};
+use crate::kept::Runtime;
+use crate::native::AidNative;
+use jc_link::World;
+use jc_machine::WordCall;
+use jc_store::Store;
+
+/// The reason of a SystemException where a value isn't allowed.
+pub(crate) const ILLEGAL_VALUE: u16 = 1;
+
+/// Whether an AID may have so many bytes.
+pub(crate) fn has_aid_length(count: u16) -> bool
+    ensures { result ≡ has_aid_length count }
+{
+    5 <= count && count <= 16
+}
+
+// Keeps so many bytes of an array in an AID, behind their count.
+fn keep(store: &mut Store, aid: u16, array: u16, offset: u16, count: u16)
+    ensures { store.new ≡ with_objects store.old (put_all store.old.objects aid 0
+        (count ∷ bytes_of store.old.objects array offset count)) }
+{
+    copy_bytes(store, array, usize::from(offset), aid, 1, count);
+    put(store, aid, 0, count);
+}
+
+fn construct(world: &World, store: &mut Store, call: &WordCall<'_>, runtime: &Runtime) -> Ended
+    ensures { record { store = store.new; kept = runtime.now; ended = result }
+        ≡ done_of call.now.active store.old runtime.now
+        (aid_work (seen_in world.now store.old call.now) runtime.now call.now.arguments.now natives.Construct) }
+{
+    let aid = argument(call.arguments, 0);
+    let array = argument(call.arguments, 1);
+    let offset = argument(call.arguments, 2);
+    let count = extended(argument(call.arguments, 3));
+    if !has_aid_length(count) {
+        return throw_system(store, ILLEGAL_VALUE);
+    }
+    keep(store, aid, array, offset, count);
+    Ended::Returned(None)
+}
+
+// Whether an AID is exactly the bytes of a range.
+fn is_range(
+    world: &World,
+    store: &Store,
+    call: &WordCall<'_>,
+    aid: u16,
+    array: u16,
+    offset: u16,
+    count: u16,
+) -> bool
+    ensures { result ≡ is_range (seen_in world.now store.now call.now) aid array offset count }
+{
+    if array == 0 {
+        return false;
+    }
+    cell(store, aid, 0) == count && same_bytes(store, aid, 1, array, usize::from(offset), count)
+}
+
+fn equals(world: &World, store: &Store, call: &WordCall<'_>) -> bool
+    ensures { result ≡ is_range (seen_in world.now store.now call.now) (argument call.now.arguments.now 0)
+        (argument call.now.arguments.now 1) (argument call.now.arguments.now 2)
+        (extended (argument call.now.arguments.now 3)) }
+{
+    let aid = argument(call.arguments, 0);
+    let array = argument(call.arguments, 1);
+    let offset = argument(call.arguments, 2);
+    let count = extended(argument(call.arguments, 3));
+    is_range(world, store, call, aid, array, offset, count)
+}
+
+fn get_bytes(world: &World, store: &mut Store, call: &WordCall<'_>, runtime: &Runtime) -> Ended
+    ensures { record { store = store.new; kept = runtime.now; ended = result }
+        ≡ done_of call.now.active store.old runtime.now
+        (aid_work (seen_in world.now store.old call.now) runtime.now call.now.arguments.now natives.GetBytes) }
+{
+    let aid = argument(call.arguments, 0);
+    let array = argument(call.arguments, 1);
+    let offset = argument(call.arguments, 2);
+    let count = cell(store, aid, 0);
+    copy_bytes(store, aid, 1, array, usize::from(offset), count);
+    Ended::Returned(Some(count))
+}
+
+/// Does the work of a member of AID.
+pub(crate) fn aid_native(
+    world: &World,
+    store: &mut Store,
+    call: &WordCall<'_>,
+    runtime: &Runtime,
+    native: AidNative,
+) -> Ended
+    ensures { record { store = store.new; kept = runtime.now; ended = result }
+        ≡ done_of call.now.active store.old runtime.now
+        (aid_work (seen_in world.now store.old call.now) runtime.now call.now.arguments.now native) }
+{
+    match native {
+        AidNative::Construct => construct(world, store, call, runtime),
+        AidNative::Equals => Ended::Returned(Some(bit(equals(world, store, call)))),
+        AidNative::GetBytes => get_bytes(world, store, call, runtime),
+    }
+}

@@ -1,0 +1,197 @@
+//! Members of Applet (Java Card API Specification, Applet).
+
+ghost use Rattle.std.specs.Prelude.{◌≡◌, ◌&&◌, None, Some, if◌then◌else◌, is_some, length, nat_lt, not};
+ghost use Rattle.jc_machine.specs.Runtime.{most_instances};
+ghost use Rattle.jc_natives.specs.Applets.{aid_object, allowed, applet_work, may_register, owner_of, registers, registers_range};
+ghost use Rattle.jc_natives.specs.Cells.{bytes_of};
+ghost use Rattle.jc_natives.specs.Kept.{has_aid_length, instance_with};
+ghost use Rattle.jc_natives.specs.PrivateWords.{done_of, seen_in};
+ghost use Rattle.jc_natives.specs.declared.native.AppletNative.TheVariants as natives;
+
+use crate::aid::{ILLEGAL_VALUE, has_aid_length};
+use crate::bytes::{append_bytes, put_bytes};
+use crate::cells::{argument, bit, extended, is_there, put};
+use crate::ended::{Ended, throw_system};
+use crate::kept::{Installing, Instance, Runtime};
+use crate::native::AppletNative;
+use arrayvec::ArrayVec;
+use jc_base::Aid;
+use jc_link::World;
+use jc_machine::WordCall;
+use jc_names::Owner;
+use jc_store::Store;
+
+/// The reason of a SystemException where an applet may not register.
+const ILLEGAL_AID: u16 = 4;
+
+/// The AID object of the instance with a number, from 1 on.
+pub(crate) fn aid_object(number: u8) -> u16
+    ensures { result ≡ aid_object number }
+{
+    13 + u16::from(number)
+}
+
+// The owner of an object; of none the runtime.
+fn owner_of(store: &Store, number: u16) -> Owner
+    ensures { result ≡ owner_of store.now.objects number }
+{
+    if is_there(store, number) {
+        store.owner_of(number)
+    } else {
+        Owner::RUNTIME
+    }
+}
+
+// Whether an object belongs to the instance that is being installed, which hasn't registered.
+fn may_register(
+    world: &World,
+    store: &Store,
+    call: &WordCall<'_>,
+    object: u16,
+    installing: &Installing,
+) -> bool
+    ensures { result ≡ may_register (seen_in world.now store.now call.now) object installing.now }
+{
+    !installing.registered && owner_of(store, object).instance == installing.owner.instance
+}
+
+// The instance that is being installed, if an object may register in its name.
+fn allowed(
+    world: &World,
+    store: &Store,
+    call: &WordCall<'_>,
+    runtime: &Runtime,
+    object: u16,
+) -> Option<Installing>
+    ensures { result ≡ allowed (seen_in world.now store.now call.now) object runtime.now.installing }
+{
+    let installing = runtime.installing()?;
+    if may_register(world, store, call, object, &installing) {
+        Some(installing)
+    } else {
+        None
+    }
+}
+
+// Whether an instance may register under an AID.
+fn is_free(runtime: &Runtime, aid: &[u8]) -> bool
+    ensures { result ≡ not (is_some (instance_with runtime.now.instances aid.now))
+        && nat_lt (length runtime.now.instances) most_instances }
+{
+    !runtime.instance_with(aid).is_some() && runtime.has_place()
+}
+
+// Registers the instance with a number under an AID that no registered instance has.
+fn register_as(
+    world: &World,
+    store: &mut Store,
+    call: &WordCall<'_>,
+    runtime: &mut Runtime,
+    instance: u8,
+    object: u16,
+    aid: Aid,
+) -> Ended
+    ensures { record { store = store.new; kept = runtime.new; ended = result }
+        ≡ done_of call.now.active store.old runtime.old
+        (registers (seen_in world.now store.old call.now) runtime.old instance object aid) }
+{
+    if !is_free(runtime, aid.as_slice()) {
+        return throw_system(store, ILLEGAL_AID);
+    }
+    let owner = owner_of(store, object);
+    let number = aid_object(instance);
+    put(store, number, 0, aid.len() as u16);
+    put_bytes(store, number, 1, aid.as_slice());
+    runtime.register(Instance { aid, object, owner });
+    Ended::Returned(None)
+}
+
+fn register(world: &World, store: &mut Store, call: &WordCall<'_>, runtime: &mut Runtime) -> Ended
+    ensures { record { store = store.new; kept = runtime.new; ended = result }
+        ≡ done_of call.now.active store.old runtime.old
+        (applet_work (seen_in world.now store.old call.now) runtime.old call.now.arguments.now natives.Register) }
+{
+    let object = argument(call.arguments, 0);
+    match allowed(world, store, call, runtime, object) {
+        None => throw_system(store, ILLEGAL_AID),
+        Some(installing) => {
+            let number = installing.owner.instance;
+            register_as(world, store, call, runtime, number, object, installing.aid)
+        }
+    }
+}
+
+// The AID whose bytes stand in an array, from an offset on, if they are one.
+fn aid_in(store: &Store, array: u16, offset: u16, count: u16) -> Option<Aid>
+    ensures { result ≡ (if has_aid_length count then Some (bytes_of store.now.objects array offset count) else None) }
+{
+    if !has_aid_length(count) {
+        return None;
+    }
+    let mut bytes = ArrayVec::new();
+    append_bytes(&mut bytes, store, array, offset, count);
+    Aid::from_slice(bytes.as_slice())
+}
+
+// Registers the instance with a number under the bytes of a range.
+fn register_range(
+    world: &World,
+    store: &mut Store,
+    call: &WordCall<'_>,
+    runtime: &mut Runtime,
+    instance: u8,
+) -> Ended
+    ensures { record { store = store.new; kept = runtime.new; ended = result }
+        ≡ done_of call.now.active store.old runtime.old
+        (registers_range (seen_in world.now store.old call.now) runtime.old call.now.arguments.now instance) }
+{
+    let object = argument(call.arguments, 0);
+    let array = argument(call.arguments, 1);
+    let offset = argument(call.arguments, 2);
+    let count = extended(argument(call.arguments, 3));
+    match aid_in(store, array, offset, count) {
+        None => throw_system(store, ILLEGAL_VALUE),
+        Some(aid) => register_as(world, store, call, runtime, instance, object, aid),
+    }
+}
+
+fn register_bytes(
+    world: &World,
+    store: &mut Store,
+    call: &WordCall<'_>,
+    runtime: &mut Runtime,
+) -> Ended
+    ensures { record { store = store.new; kept = runtime.new; ended = result }
+        ≡ done_of call.now.active store.old runtime.old
+        (applet_work (seen_in world.now store.old call.now) runtime.old call.now.arguments.now natives.RegisterBytes) }
+{
+    let object = argument(call.arguments, 0);
+    match allowed(world, store, call, runtime, object) {
+        None => throw_system(store, ILLEGAL_AID),
+        Some(installing) => {
+            register_range(world, store, call, runtime, installing.owner.instance)
+        }
+    }
+}
+
+/// Does the work of a member of Applet.
+pub(crate) fn applet_native(
+    world: &World,
+    store: &mut Store,
+    call: &WordCall<'_>,
+    runtime: &mut Runtime,
+    native: AppletNative,
+) -> Ended
+    ensures { record { store = store.new; kept = runtime.new; ended = result }
+        ≡ done_of call.now.active store.old runtime.old
+        (applet_work (seen_in world.now store.old call.now) runtime.old call.now.arguments.now native) }
+{
+    match native {
+        AppletNative::Register => register(world, store, call, runtime),
+        AppletNative::RegisterBytes => register_bytes(world, store, call, runtime),
+        AppletNative::Select => Ended::Returned(Some(1)),
+        AppletNative::Deselect | AppletNative::Process => Ended::Returned(None),
+        AppletNative::SelectingApplet => Ended::Returned(Some(bit(runtime.is_selecting()))),
+        AppletNative::GetShareable => Ended::Returned(Some(0)),
+    }
+}

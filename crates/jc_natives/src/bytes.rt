@@ -1,0 +1,188 @@
+//! Bytes of objects, many at once.
+
+ghost use Rattle.std.specs.Prelude.{◌≡◌, ◌+◌, ◌++◌, ◌≤◌, bytes_eq, length, replicate};
+ghost use Rattle.arrayvec.specs.ArrayVec.{array_vec_len};
+ghost use Rattle.jc_natives.specs.Cells.{byte_order, bytes_of, order_of, put_all};
+ghost use Rattle.jc_store.specs.Store.{with_objects};
+
+use crate::cells::{byte, put};
+use crate::kept::MOST_SENT;
+use arrayvec::ArrayVec;
+use jc_store::Store;
+
+/// Whether so many bytes of an object, from an index on, are these.
+pub(crate) fn are_bytes(store: &Store, number: u16, from: usize, count: u16, bytes: &[u8]) -> bool
+    requires { from ≤ 65536 }
+    ensures { result ≡ bytes_eq bytes.now (bytes_of store.now.objects number from count) }
+{
+    bytes.len() == usize::from(count) && begins_with(store, number, from, bytes)
+}
+
+// Whether the bytes of an object, from an index on, begin with these.
+fn begins_with(store: &Store, number: u16, from: usize, bytes: &[u8]) -> bool
+    requires { from ≤ 65536 }
+    ensures { result ≡ bytes_eq bytes.now (bytes_of store.now.objects number from (length bytes.now)) }
+{
+    for at in 0..bytes.len() {
+        if bytes[at] != byte(store, number, from + at) {
+            return false;
+        }
+    }
+    true
+}
+
+/// Whether two objects have the same bytes, so many from an index on.
+pub(crate) fn same_bytes(
+    store: &Store,
+    one: u16,
+    one_from: usize,
+    other: u16,
+    other_from: usize,
+    count: u16,
+) -> bool
+    requires one_low { one_from ≤ 65536 }
+    requires other_low { other_from ≤ 65536 }
+    ensures { result ≡ bytes_eq (bytes_of store.now.objects one one_from count)
+        (bytes_of store.now.objects other other_from count) }
+{
+    for at in 0..usize::from(count) {
+        if byte(store, one, one_from + at) != byte(store, other, other_from + at) {
+            return false;
+        }
+    }
+    true
+}
+
+// How two bytes compare, if they differ: -1 or 1.
+fn order_of_bytes(one: u8, other: u8) -> Option<u16>
+    ensures { result ≡ byte_order one other }
+{
+    if one < other {
+        Some(65535)
+    } else if other < one {
+        Some(1)
+    } else {
+        None
+    }
+}
+
+/// How so many bytes of two objects compare, from an index on: -1, 0 or 1.
+pub(crate) fn compare_bytes(
+    store: &Store,
+    one: u16,
+    one_from: u16,
+    other: u16,
+    other_from: u16,
+    count: u16,
+) -> u16
+    ensures { result ≡ order_of (bytes_of store.now.objects one one_from count)
+        (bytes_of store.now.objects other other_from count) }
+{
+    for at in 0..usize::from(count) {
+        let first = byte(store, one, usize::from(one_from) + at);
+        let second = byte(store, other, usize::from(other_from) + at);
+        if let Some(order) = order_of_bytes(first, second) {
+            return order;
+        }
+    }
+    0
+}
+
+/// Puts so many bytes of an object behind others.
+pub(crate) fn append_bytes(
+    bytes: &mut ArrayVec<u8, MOST_SENT>,
+    store: &Store,
+    number: u16,
+    from: u16,
+    count: u16,
+)
+    requires { array_vec_len bytes.old + count ≤ 256 }
+    ensures { bytes.new.items ≡ bytes.old.items ++ bytes_of store.now.objects number from count }
+{
+    for at in 0..usize::from(count) {
+        bytes.push(byte(store, number, usize::from(from) + at));
+    }
+}
+
+/// Writes bytes to an object, from an index on.
+pub(crate) fn put_bytes(store: &mut Store, number: u16, from: usize, bytes: &[u8])
+    requires { from ≤ 65536 }
+    ensures { store.new ≡ with_objects store.old (put_all store.old.objects number from bytes.now) }
+{
+    for at in 0..bytes.len() {
+        put(store, number, from + at, u16::from(bytes[at]));
+    }
+}
+
+/// Writes a byte to so many components of an object, from an index on.
+pub(crate) fn fill_bytes(store: &mut Store, number: u16, from: u16, count: u16, byte: u16)
+    ensures { store.new ≡ with_objects store.old (put_all store.old.objects number from (replicate count byte)) }
+{
+    for at in 0..usize::from(count) {
+        put(store, number, usize::from(from) + at, byte);
+    }
+}
+
+// Copies from the front.
+fn copy_forward(
+    store: &mut Store,
+    source: u16,
+    source_from: usize,
+    target: u16,
+    target_from: usize,
+    count: u16,
+)
+    requires source_low { source_from ≤ 65536 }
+    requires target_low { target_from ≤ 65536 }
+    requires before { target_from ≤ source_from }
+    ensures { store.new ≡ with_objects store.old (put_all store.old.objects target target_from
+        (bytes_of store.old.objects source source_from count)) }
+{
+    for at in 0..usize::from(count) {
+        let word = u16::from(byte(store, source, source_from + at));
+        put(store, target, target_from + at, word);
+    }
+}
+
+// Copies from the back.
+fn copy_backward(
+    store: &mut Store,
+    source: u16,
+    source_from: usize,
+    target: u16,
+    target_from: usize,
+    count: u16,
+)
+    requires source_low { source_from ≤ 65536 }
+    requires target_low { target_from ≤ 65536 }
+    requires behind { source_from ≤ target_from }
+    ensures { store.new ≡ with_objects store.old (put_all store.old.objects target target_from
+        (bytes_of store.old.objects source source_from count)) }
+{
+    for done in 0..usize::from(count) {
+        let at = usize::from(count) - done - 1;
+        let word = u16::from(byte(store, source, source_from + at));
+        put(store, target, target_from + at, word);
+    }
+}
+
+/// Copies so many bytes of an object to an object, from indexes on, as through a copy of the source.
+pub(crate) fn copy_bytes(
+    store: &mut Store,
+    source: u16,
+    source_from: usize,
+    target: u16,
+    target_from: usize,
+    count: u16,
+)
+    requires source_low { source_from ≤ 65536 }
+    requires target_low { target_from ≤ 65536 }
+    ensures { store.new ≡ with_objects store.old (put_all store.old.objects target target_from
+        (bytes_of store.old.objects source source_from count)) }
+{
+    if target_from <= source_from {
+        copy_forward(store, source, source_from, target, target_from, count);
+    } else {
+        copy_backward(store, source, source_from, target, target_from, count);
+    }
+}

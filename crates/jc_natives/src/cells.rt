@@ -1,0 +1,115 @@
+//! The components of objects, as members read and write them: whatever number and index they are handed.
+
+ghost use Rattle.std.specs.Prelude.{◌≡◌, ◌+◌, true, false, None};
+ghost use Rattle.jc_natives.specs.Cells.{argument, bit, byte_of, cell_of, extended, high, is_count, is_within, put, size_of, word, word_of_bytes};
+ghost use Rattle.jc_store.specs.Heap.{object_at};
+ghost use Rattle.jc_store.specs.Store.{IsThere, with_objects};
+
+use jc_store::Store;
+
+/// Whether an object is there.
+pub(crate) fn is_there(store: &Store, number: u16) -> bool
+    ensures yes { result ≡ true → IsThere store.now number }
+    ensures no { result ≡ false → object_at store.now.objects number ≡ None }
+{
+    number != 0 && number <= store.objects_used()
+}
+
+/// How many components an object has; 0 where there is none.
+pub(crate) fn size(store: &Store, number: u16) -> u16
+    ensures { result ≡ size_of store.now.objects number }
+{
+    if is_there(store, number) {
+        store.len(number)
+    } else {
+        0
+    }
+}
+
+/// The component of an object at an index; 0 where there is none.
+pub(crate) fn cell(store: &Store, number: u16, index: usize) -> u16
+    ensures { result ≡ cell_of store.now.objects number index }
+{
+    if index < usize::from(size(store, number)) {
+        store.get(number, index as u16)
+    } else {
+        0
+    }
+}
+
+/// Its low byte.
+pub(crate) fn byte(store: &Store, number: u16, index: usize) -> u8
+    ensures { result ≡ byte_of store.now.objects number index }
+{
+    (cell(store, number, index) % 256) as u8
+}
+
+/// Puts a word into the component of an object at an index, where there is one.
+pub(crate) fn put(store: &mut Store, number: u16, index: usize, word: u16)
+    ensures { store.new ≡ with_objects store.old (put store.old.objects number index word) }
+{
+    if index < usize::from(size(store, number)) {
+        store.set(number, index as u16, word);
+    }
+}
+
+/// The argument at a place; 0 where there is none.
+pub(crate) fn argument(arguments: &[u16], place: usize) -> u16
+    ensures argument { result ≡ argument arguments.now place }
+    ensures word { result ≡ word (argument arguments.now place) }
+{
+    match arguments.get(place) {
+        Some(word) => *word,
+        None => 0,
+    }
+}
+
+/// The low byte of a word, with its sign.
+pub(crate) fn extended(word: u16) -> u16
+    ensures { result ≡ extended word }
+{
+    let low = word % 256;
+    if low < 128 { low } else { low + 65280 }
+}
+
+/// Two bytes as a word, the high one first.
+pub(crate) fn word_of(high: u8, low: u8) -> u16
+    ensures { result ≡ word_of_bytes high low }
+{
+    256 * u16::from(high) + u16::from(low)
+}
+
+/// The high byte of a word.
+pub(crate) fn high(word: u16) -> u16
+    ensures { result ≡ high word }
+{
+    word / 256 % 256
+}
+
+/// The sum of two words, as a word.
+pub(crate) fn sum(one: u16, other: u16) -> u16
+    ensures { result ≡ word (one + other) }
+{
+    one.wrapping_add(other)
+}
+
+/// 1 for true.
+pub(crate) fn bit(truth: bool) -> u16
+    ensures { result ≡ bit truth }
+{
+    if truth { 1 } else { 0 }
+}
+
+/// Whether a word is no negative short.
+pub(crate) fn is_count(word: u16) -> bool
+    ensures { result ≡ is_count word }
+{
+    word < 32768
+}
+
+/// Whether so many components from an index on lie within so many; a negative short is no number of components.
+pub(crate) fn is_within(size: u16, from: u16, count: u16) -> bool
+    ensures { result ≡ is_within size from count }
+{
+    is_count(from) && is_count(count) && from + count <= size
+}

@@ -1,0 +1,42 @@
+//! What holds of all native members.
+
+ghost use Rattle.std.specs.Prelude.{◌≡◌, ◌<◌, ◌≤◌, ℕ, Bool, List, length, true};
+ghost use Rattle.jc_link.specs.Linked.{World};
+ghost use Rattle.jc_machine.specs.Machine.{NativeCall};
+ghost use Rattle.jc_machine.specs.Natives.{IsGuardedAnswer, KeepsObjects};
+ghost use Rattle.jc_names.specs.declared.owner.Owner.{Owner};
+ghost use Rattle.jc_natives.specs.Kept.{Kept, after_install, are_bytes, is_aid, is_instance_number, nothing_kept, with_command, with_install, without_command};
+ghost use Rattle.jc_natives.specs.Meaning.{meaning};
+ghost use Rattle.jc_store.specs.Heap.{Heap};
+ghost use Rattle.jc_words.specs.Values.{TaggedValue};
+
+/// Each access of a native member is allowed, or is its last and changes nothing; and only objects change that were
+/// accessed. It does nothing.
+#[tactic(auto, using(crate::proofs::Guarding::answers_guarded))]
+pub fn members_are_guarded()
+    ensures { (w : World) (call : NativeCall Kept) → IsGuardedAnswer w call (meaning.answer w call) }
+{}
+
+/// What the runtime keeps fits the objects as long as these stay. It does nothing.
+#[tactic(auto, using(crate::proofs::Keeping::kept_fits_still))]
+pub fn kept_stays_fit()
+    ensures { (w : World) (before after : Heap TaggedValue) (kept : Kept) → KeepsObjects before after
+        → meaning.fits w before kept ≡ true → meaning.fits w after kept ≡ true }
+{}
+
+/// What the runtime keeps fits the objects when a card is new, and behind each call of the runtime itself: an install
+/// that begins and ends, and a command that comes and goes. It does nothing.
+pub fn calls_keep_fitting()
+    ensures new { (w : World) (heap : Heap TaggedValue) → meaning.fits w heap nothing_kept ≡ true }
+    ensures begun { (w : World) (heap : Heap TaggedValue) (k : Kept) → meaning.fits w heap k ≡ true
+        → (owner : Owner) (aid : List ℕ) → is_aid aid ≡ true → is_instance_number owner.instance ≡ true
+        → meaning.fits w heap (with_install k owner aid) ≡ true }
+    ensures over { (w : World) (heap : Heap TaggedValue) (k : Kept) → meaning.fits w heap k ≡ true
+        → (succeeds : Bool) → meaning.fits w heap (after_install k succeeds) ≡ true }
+    ensures opened { (w : World) (heap : Heap TaggedValue) (k : Kept) → meaning.fits w heap k ≡ true
+        → (incoming : List ℕ) (expected : ℕ) (selecting : Bool) → are_bytes incoming ≡ true
+        → length incoming ≤ 255 → expected < 256
+        → meaning.fits w heap (with_command k incoming expected selecting) ≡ true }
+    ensures closed { (w : World) (heap : Heap TaggedValue) (k : Kept) → meaning.fits w heap k ≡ true
+        → meaning.fits w heap (without_command k) ≡ true }
+{}

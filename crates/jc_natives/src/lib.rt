@@ -1,0 +1,24 @@
+//! The native members of the card's API.
+#![tactic(auto)]
+
+mod aid;
+mod apdu;
+mod applet;
+mod bytes;
+mod cells;
+mod ended;
+mod examples;
+mod kept;
+mod laws;
+mod members;
+mod native;
+mod object;
+mod row;
+mod rows;
+mod system;
+mod tests;
+mod utility;
+
+pub use examples::{arguments_are_tested, bytes_are_written, members_refuse, ranges_and_signs};
+pub use kept::{ApduState, Installing, Instance, Runtime};
+pub use laws::{calls_keep_fitting, kept_stays_fit, members_are_guarded};

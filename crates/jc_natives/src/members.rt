@@ -1,0 +1,134 @@
+//! The native members of a card, over what its runtime keeps.
+
+ghost use Rattle.std.specs.Prelude.{◌≡◌};
+ghost use Rattle.jc_api.specs.Numbered.{numbered};
+ghost use Rattle.jc_natives.specs.Meaning.{work_of};
+ghost use Rattle.jc_natives.specs.PrivateWords.{AsksSo, TellsEnd, done_of, native_work, seen_in, word_work};
+ghost use Rattle.jc_natives.specs.Rows.{natives};
+
+use crate::aid::aid_native;
+use crate::apdu::apdu_native;
+use crate::applet::applet_native;
+use crate::ended::{Ended, Question};
+use crate::kept::Runtime;
+use crate::native::{Native, native_of};
+use crate::object::object_native;
+use crate::rows::row_of;
+use crate::system::system_native;
+use crate::tests::refusal;
+use crate::utility::utility_native;
+use arrayvec::ArrayVec;
+use jc_classes::growing_keeps_lookups;
+use jc_link::{World, built_worlds_are_sound, built_worlds_have_the_api, growing_keeps_linking};
+use jc_machine::{Natives, WordCall, WordCallback, WordOutcome};
+use jc_store::Store;
+
+// The member that applets answer questions for shareable objects by.
+const ANSWERING_MEMBER: u16 = 40;
+
+// Does the work of a member whose tests have passed.
+fn work(
+    world: &World,
+    store: &mut Store,
+    call: &WordCall<'_>,
+    runtime: &mut Runtime,
+    native: Native,
+) -> Ended
+    ensures { record { store = store.new; kept = runtime.new; ended = result }
+        ≡ done_of call.now.active store.old runtime.old
+        (work_of (seen_in world.now store.old call.now) runtime.old call.now.arguments.now native) }
+{
+    match native {
+        Native::OfObject(native) => object_native(world, store, call, runtime, native),
+        Native::OfAid(native) => aid_native(world, store, call, runtime, native),
+        Native::OfApdu(native) => apdu_native(world, store, call, runtime, native),
+        Native::OfApplet(native) => applet_native(world, store, call, runtime, native),
+        Native::OfSystem(native) => system_native(world, store, call, runtime, native),
+        Native::OfUtility(native) => utility_native(world, store, call, runtime, native),
+    }
+}
+
+// Tests the arguments of a member, and does its work.
+fn tested(
+    world: &World,
+    store: &mut Store,
+    call: &WordCall<'_>,
+    runtime: &mut Runtime,
+    native: Native,
+) -> Ended
+    ensures { record { store = store.new; kept = runtime.new; ended = result }
+        ≡ done_of call.now.active store.old runtime.old
+        (native_work (seen_in world.now store.old call.now) runtime.old call.now.arguments.now native) }
+{
+    match refusal(world, store, call, &row_of(native)) {
+        Some(object) => Ended::Thrown(object),
+        None => work(world, store, call, runtime, native),
+    }
+}
+
+// Calls the member with a number, if there is one.
+fn call_member(
+    world: &World,
+    store: &mut Store,
+    call: &WordCall<'_>,
+    runtime: &mut Runtime,
+) -> Ended
+    ensures { record { store = store.new; kept = runtime.new; ended = result }
+        ≡ done_of call.now.active store.old runtime.old
+        (word_work (seen_in world.now store.old call.now) runtime.old call.now.arguments.now
+        (numbered natives call.now.member)) }
+{
+    match native_of(call.member) {
+        Some(native) => tested(world, store, call, runtime, native),
+        None => Ended::Returned(None),
+    }
+}
+
+// A question as a call of the member that answers it.
+fn callback_of(question: Question) -> WordCallback
+    ensures { AsksSo result question }
+{
+    let mut arguments = ArrayVec::new();
+    arguments.push(question.aid);
+    arguments.push(question.word);
+    WordCallback {
+        member: ANSWERING_MEMBER,
+        object: question.object,
+        arguments,
+    }
+}
+
+// How a member ends, as an interpreter is told it.
+fn outcome_of(ended: Ended) -> WordOutcome
+    ensures { TellsEnd result ended }
+{
+    match ended {
+        Ended::Returned(word) => WordOutcome::Returned(word),
+        Ended::Thrown(object) => WordOutcome::Thrown(object),
+        Ended::Asks(question) => WordOutcome::CallsBack(callback_of(question)),
+    }
+}
+
+impl Natives for Runtime {
+    ghost use Rattle.jc_natives.specs.Kept.{Kept};
+    ghost use Rattle.jc_natives.specs.Meaning.{meaning};
+
+    ghost Kept = { Kept };
+
+    ghost kept = { λ runtime. runtime };
+
+    ghost meaning = { meaning };
+
+    fn call(&mut self, world: &World, store: &mut Store, call: &WordCall<'_>) -> WordOutcome {
+        // each object has a number for its class
+        let _used = store.objects_used();
+        outcome_of(call_member(world, store, call, self))
+    }
+
+    fn law(&self) {
+        growing_keeps_lookups();
+        growing_keeps_linking();
+        built_worlds_have_the_api();
+        built_worlds_are_sound();
+    }
+}

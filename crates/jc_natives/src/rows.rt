@@ -1,0 +1,184 @@
+//! What each member tests.
+
+ghost use Rattle.std.specs.Prelude.{◌≡◌, Some};
+ghost use Rattle.jc_natives.specs.Rows.{aid_row, apdu_row, applet_row, called, called_on, constructed, object_row, on_array, on_arrays, range, row_of, system_row, untested, utility_row};
+
+use crate::native::{
+    AidNative, ApduNative, AppletNative, Native, ObjectNative, SystemNative, UtilityNative,
+};
+use crate::row::{Length, Range, Row, Test, Way};
+
+// A range in an array, whose array and offset stand at these places.
+fn range(array: usize, offset: usize, length: Length) -> Option<Range>
+    ensures { result ≡ range array offset length }
+{
+    Some(Range {
+        array,
+        offset,
+        length,
+    })
+}
+
+const UNTESTED: Row = Row {
+    first: Test::Nothing,
+    second: Test::Nothing,
+    first_range: None,
+    second_range: None,
+};
+
+fn constructed() -> Row
+    ensures { result ≡ constructed }
+{
+    Row {
+        first: Test::Object(0, Way::Fields),
+        ..UNTESTED
+    }
+}
+
+fn called() -> Row
+    ensures { result ≡ called }
+{
+    Row {
+        first: Test::Object(0, Way::Calls),
+        ..UNTESTED
+    }
+}
+
+fn called_on(array: Test, length: Length) -> Row
+    ensures { result ≡ called_on array length }
+{
+    Row {
+        first: Test::Object(0, Way::Calls),
+        second: array,
+        first_range: range(1, 2, length),
+        second_range: None,
+    }
+}
+
+fn on_array(array: Test, length: Length) -> Row
+    ensures { result ≡ on_array array length }
+{
+    Row {
+        first: array,
+        second: Test::Nothing,
+        first_range: range(0, 1, length),
+        second_range: None,
+    }
+}
+
+fn on_arrays(source: Test, target: Test) -> Row
+    ensures { result ≡ on_arrays source target }
+{
+    Row {
+        first: source,
+        second: target,
+        first_range: range(0, 1, Length::ShortAt(4)),
+        second_range: range(2, 3, Length::ShortAt(4)),
+    }
+}
+
+fn object_row(native: ObjectNative) -> Row
+    ensures { result ≡ object_row native }
+{
+    match native {
+        ObjectNative::Construct | ObjectNative::ConstructWithReason => constructed(),
+        ObjectNative::Equals => Row {
+            first: Test::Object(0, Way::Calls),
+            second: Test::BesideAid,
+            ..UNTESTED
+        },
+        ObjectNative::GetReason | ObjectNative::SetReason => called(),
+        ObjectNative::ThrowIt(_) => UNTESTED,
+    }
+}
+
+fn aid_row(native: AidNative) -> Row
+    ensures { result ≡ aid_row native }
+{
+    match native {
+        AidNative::Construct => Row {
+            first: Test::Object(0, Way::Fields),
+            second: Test::Object(1, Way::Loads),
+            first_range: range(1, 2, Length::ByteAt(3)),
+            second_range: None,
+        },
+        AidNative::Equals => called_on(Test::ObjectOrNull(1, Way::Loads), Length::ByteAt(3)),
+        AidNative::GetBytes => called_on(Test::Object(1, Way::Stores), Length::OfAid(0)),
+    }
+}
+
+fn apdu_row(native: ApduNative) -> Row
+    ensures { result ≡ apdu_row native }
+{
+    match native {
+        ApduNative::SendBytesLong => called_on(Test::Object(1, Way::Loads), Length::ShortAt(3)),
+        ApduNative::GetBuffer
+        | ApduNative::SetIncomingAndReceive
+        | ApduNative::SetOutgoing
+        | ApduNative::SetOutgoingLength
+        | ApduNative::SendBytes
+        | ApduNative::SetOutgoingAndSend => called(),
+    }
+}
+
+fn applet_row(native: AppletNative) -> Row
+    ensures { result ≡ applet_row native }
+{
+    match native {
+        AppletNative::RegisterBytes => called_on(Test::Object(1, Way::Loads), Length::ByteAt(3)),
+        AppletNative::Register
+        | AppletNative::Select
+        | AppletNative::Deselect
+        | AppletNative::Process
+        | AppletNative::SelectingApplet
+        | AppletNative::GetShareable => called(),
+    }
+}
+
+fn system_row(native: SystemNative) -> Row
+    ensures { result ≡ system_row native }
+{
+    match native {
+        SystemNative::LookupAid => on_array(Test::Object(0, Way::Loads), Length::ByteAt(2)),
+        SystemNative::AskForShareable => called(),
+        SystemNative::GetAid
+        | SystemNative::GetPreviousAid
+        | SystemNative::MakeBooleans
+        | SystemNative::MakeBytes
+        | SystemNative::MakeShorts
+        | SystemNative::MakeReferences => UNTESTED,
+    }
+}
+
+fn utility_row(native: UtilityNative) -> Row
+    ensures { result ≡ utility_row native }
+{
+    match native {
+        UtilityNative::ArrayCopy => on_arrays(
+            Test::Object(0, Way::Loads),
+            Test::Object(2, Way::Stores),
+        ),
+        UtilityNative::ArrayFill => on_array(Test::Object(0, Way::Stores), Length::ShortAt(2)),
+        UtilityNative::ArrayCompare => on_arrays(
+            Test::Object(0, Way::Loads),
+            Test::Object(2, Way::Loads),
+        ),
+        UtilityNative::GetShort => on_array(Test::Object(0, Way::Loads), Length::Fixed(2)),
+        UtilityNative::SetShort => on_array(Test::Object(0, Way::Stores), Length::Fixed(2)),
+        UtilityNative::MakeShort => UNTESTED,
+    }
+}
+
+/// What a member tests of its arguments.
+pub(crate) fn row_of(native: Native) -> Row
+    ensures { result ≡ row_of native }
+{
+    match native {
+        Native::OfObject(native) => object_row(native),
+        Native::OfAid(native) => aid_row(native),
+        Native::OfApdu(native) => apdu_row(native),
+        Native::OfApplet(native) => applet_row(native),
+        Native::OfSystem(native) => system_row(native),
+        Native::OfUtility(native) => utility_row(native),
+    }
+}

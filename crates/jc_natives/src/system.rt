@@ -1,0 +1,235 @@
+//! Members of JCSystem (Java Card API Specification, JCSystem).
+
+ghost use Rattle.std.specs.Prelude.{◌≡◌};
+ghost use Rattle.jc_natives.specs.Cells.{argument, bytes_of, extended};
+ghost use Rattle.jc_natives.specs.Kept.{instance_with};
+ghost use Rattle.jc_natives.specs.PrivateWords.{done_of, seen_in};
+ghost use Rattle.jc_natives.specs.System.{aid_of, aid_of_owner, asks, event_of, makes, makes_array, may_make, system_work};
+ghost use Rattle.jc_natives.specs.Work.{Makes, array_type};
+ghost use Rattle.jc_natives.specs.declared.native.SystemNative.TheVariants as natives;
+
+use crate::aid::ILLEGAL_VALUE;
+use crate::applet::aid_object;
+use crate::cells::{argument, cell, extended, is_count};
+use crate::ended::{Ended, Question, throw_system};
+use crate::kept::{Instance, Runtime};
+use crate::native::{Elements, SystemNative};
+use jc_api::ApiClass;
+use jc_link::World;
+use jc_machine::WordCall;
+use jc_names::{ClassName, Owner};
+use jc_store::{ClearingEvent, Kind, Mark, ObjectType, Store};
+
+// The reasons of a SystemException.
+const NO_TRANSIENT_SPACE: u16 = 2;
+
+const ILLEGAL_TRANSIENT: u16 = 3;
+
+const NEGATIVE_SIZE_EXCEPTION: u16 = 5;
+
+/// What stands for the class of an array where classes have numbers.
+const NUMBER_OF_OBJECT: u16 = 0;
+
+const OBJECT: ClassName = ClassName::Api(ApiClass::Object);
+
+// The AID object of a registered instance; 0 where there is none.
+fn aid_of(instance: Option<Instance>) -> u16
+    ensures { result ≡ aid_of instance }
+{
+    match instance {
+        Some(instance) => aid_object(instance.owner.instance),
+        None => 0,
+    }
+}
+
+fn aid_of_owner(runtime: &Runtime, owner: Option<Owner>) -> u16
+    ensures { result ≡ aid_of_owner runtime.now owner }
+{
+    match owner {
+        Some(owner) => aid_of(runtime.instance_of(owner)),
+        None => 0,
+    }
+}
+
+fn lookup_aid(store: &Store, call: &WordCall<'_>, runtime: &Runtime) -> u16
+    ensures { result ≡ aid_of (instance_with runtime.now.instances (bytes_of store.now.objects
+        (argument call.now.arguments.now 0) (argument call.now.arguments.now 1)
+        (extended (argument call.now.arguments.now 2)))) }
+{
+    let array = argument(call.arguments, 0);
+    let offset = argument(call.arguments, 1);
+    let count = extended(argument(call.arguments, 2));
+    aid_of(runtime.instance_in(store, array, offset, count))
+}
+
+// Asks an applet for a shareable object, if it is there.
+fn ask(
+    world: &World,
+    store: &mut Store,
+    call: &WordCall<'_>,
+    runtime: &Runtime,
+    word: u16,
+    instance: Option<Instance>,
+) -> Ended
+    ensures { record { store = store.new; kept = runtime.now; ended = result }
+        ≡ done_of call.now.active store.old runtime.now
+        (asks (seen_in world.now store.old call.now) runtime.now word instance) }
+{
+    match instance {
+        None => Ended::Returned(Some(0)),
+        Some(instance) => Ended::Asks(Question {
+            object: instance.object,
+            aid: aid_of_owner(runtime, Some(call.active)),
+            word: extended(word),
+        }),
+    }
+}
+
+fn ask_for_shareable(
+    world: &World,
+    store: &mut Store,
+    call: &WordCall<'_>,
+    runtime: &Runtime,
+) -> Ended
+    ensures { record { store = store.new; kept = runtime.now; ended = result }
+        ≡ done_of call.now.active store.old runtime.now
+        (system_work (seen_in world.now store.old call.now)
+        runtime.now call.now.arguments.now natives.AskForShareable) }
+{
+    let aid = argument(call.arguments, 0);
+    let word = argument(call.arguments, 1);
+    let count = cell(store, aid, 0);
+    let instance = runtime.instance_in(store, aid, 1, count);
+    ask(world, store, call, runtime, word, instance)
+}
+
+// The event that a number stands for.
+fn event_of(number: u16) -> Option<ClearingEvent>
+    ensures { result ≡ event_of number }
+{
+    if number == 1 {
+        Some(ClearingEvent::Reset)
+    } else if number == 2 {
+        Some(ClearingEvent::Deselect)
+    } else {
+        None
+    }
+}
+
+// Whether an array that an event clears may be made.
+fn may_make(world: &World, store: &Store, call: &WordCall<'_>, event: ClearingEvent) -> bool
+    ensures { result ≡ may_make (seen_in world.now store.now call.now) event }
+{
+    match event {
+        ClearingEvent::Reset => true,
+        ClearingEvent::Deselect => match call.selected {
+            Some(selected) => selected == call.active.context,
+            None => false,
+        },
+    }
+}
+
+// The type of an array with such components.
+fn array_type(elements: Elements) -> ObjectType
+    ensures { result ≡ array_type elements }
+{
+    match elements {
+        Elements::Booleans => ObjectType::BooleanArray,
+        Elements::Bytes => ObjectType::ByteArray,
+        Elements::Shorts => ObjectType::ShortArray,
+        Elements::References => ObjectType::ReferenceArray(OBJECT),
+    }
+}
+
+// Makes an array, where there is room for it.
+#[tactic(auto, using(crate::proofs::Room::full_has_none, crate::proofs::Room::not_full_has_some))]
+fn make_where_room(
+    store: &mut Store,
+    call: &WordCall<'_>,
+    runtime: &Runtime,
+    elements: Elements,
+    size: u16,
+    event: ClearingEvent,
+) -> Ended
+    ensures { record { store = store.new; kept = runtime.now; ended = result }
+        ≡ done_of call.now.active store.old runtime.now
+        (Makes (record { elements = elements; event = event; size = size })) }
+{
+    let kind = Kind {
+        object: array_type(elements),
+        mark: Mark::Plain,
+        clears: Some(event),
+    };
+    match store.make(kind, call.active, usize::from(size), NUMBER_OF_OBJECT) {
+        Some(number) => Ended::Returned(Some(number)),
+        None => throw_system(store, NO_TRANSIENT_SPACE),
+    }
+}
+
+// Makes an array that an event clears.
+fn make(
+    world: &World,
+    store: &mut Store,
+    call: &WordCall<'_>,
+    runtime: &Runtime,
+    elements: Elements,
+    size: u16,
+    event: Option<ClearingEvent>,
+) -> Ended
+    ensures { record { store = store.new; kept = runtime.now; ended = result }
+        ≡ done_of call.now.active store.old runtime.now
+        (makes (seen_in world.now store.old call.now) runtime.now elements size event) }
+{
+    let Some(event) = event else {
+        return throw_system(store, ILLEGAL_VALUE);
+    };
+    if !may_make(world, store, call, event) {
+        return throw_system(store, ILLEGAL_TRANSIENT);
+    }
+    if !is_count(size) {
+        return Ended::Thrown(NEGATIVE_SIZE_EXCEPTION);
+    }
+    make_where_room(store, call, runtime, elements, size, event)
+}
+
+fn make_array(
+    world: &World,
+    store: &mut Store,
+    call: &WordCall<'_>,
+    runtime: &Runtime,
+    elements: Elements,
+) -> Ended
+    ensures { record { store = store.new; kept = runtime.now; ended = result }
+        ≡ done_of call.now.active store.old runtime.now
+        (makes_array (seen_in world.now store.old call.now) runtime.now call.now.arguments.now elements) }
+{
+    let size = argument(call.arguments, 0);
+    let event = event_of(extended(argument(call.arguments, 1)));
+    make(world, store, call, runtime, elements, size, event)
+}
+
+/// Does the work of a member of JCSystem.
+pub(crate) fn system_native(
+    world: &World,
+    store: &mut Store,
+    call: &WordCall<'_>,
+    runtime: &Runtime,
+    native: SystemNative,
+) -> Ended
+    ensures { record { store = store.new; kept = runtime.now; ended = result }
+        ≡ done_of call.now.active store.old runtime.now
+        (system_work (seen_in world.now store.old call.now) runtime.now call.now.arguments.now native) }
+{
+    match native {
+        SystemNative::GetAid => Ended::Returned(Some(aid_of_owner(runtime, Some(call.active)))),
+        SystemNative::LookupAid => Ended::Returned(Some(lookup_aid(store, call, runtime))),
+        SystemNative::GetPreviousAid => Ended::Returned(Some(aid_of_owner(runtime, call.previous))),
+        SystemNative::AskForShareable => ask_for_shareable(world, store, call, runtime),
+        SystemNative::MakeBooleans => make_array(world, store, call, runtime, Elements::Booleans),
+        SystemNative::MakeBytes => make_array(world, store, call, runtime, Elements::Bytes),
+        SystemNative::MakeShorts => make_array(world, store, call, runtime, Elements::Shorts),
+        SystemNative::MakeReferences => {
+            make_array(world, store, call, runtime, Elements::References)
+        }
+    }
+}

@@ -1,0 +1,200 @@
+//! What all members test, by one rule.
+
+ghost use Rattle.std.specs.Prelude.{◌≡◌, ℕ, Some};
+ghost use Rattle.jc_natives.specs.PrivateWords.{seen_in};
+ghost use Rattle.jc_natives.specs.Seen.{is_aid_object};
+ghost use Rattle.jc_natives.specs.Tests.{access_of, by_verdict, facts_of, is_in_range, length_of, ranged, test, tested, used};
+ghost use Rattle.jc_natives.specs.declared.row.Test.TheVariants.{BesideAid};
+ghost use Rattle.jc_link.specs.Linked as linked;
+ghost use Rattle.jc_machine.specs.Lookup.{class_of, is_array};
+ghost use Rattle.jc_machine.specs.declared.natives.WordCall as words;
+ghost use Rattle.jc_store.specs.Heap as heaps;
+ghost use Rattle.jc_store.specs.Heap.{object_at};
+ghost use Rattle.jc_store.specs.Store as stores;
+ghost use Rattle.jc_store.specs.Store.{IsThere};
+
+use crate::cells::{argument, cell, extended, is_there, is_within, size};
+use crate::row::{Length, Range, Row, Test, Way};
+use jc_api::ApiClass;
+use jc_firewall::{Access, Facts, Verdict, decide};
+use jc_link::World;
+use jc_machine::WordCall;
+use jc_names::ClassName;
+use jc_store::{ObjectType, Store};
+
+const NULL_POINTER_EXCEPTION: u16 = 6;
+
+const ARRAY_INDEX_EXCEPTION: u16 = 4;
+
+const SECURITY_EXCEPTION: u16 = 7;
+
+const AID: ClassName = ClassName::Api(ApiClass::Aid);
+
+const OBJECT: ClassName = ClassName::Api(ApiClass::Object);
+
+fn access_of(way: Way) -> Access
+    ensures { result ≡ access_of way }
+{
+    match way {
+        Way::Fields => Access::PutField,
+        Way::Loads => Access::LoadComponent,
+        Way::Stores => Access::StoreComponent,
+        Way::Calls => Access::InvokeVirtual,
+    }
+}
+
+fn is_array(object: ObjectType) -> bool
+    ensures { result ≡ is_array object }
+{
+    match object {
+        ObjectType::Instance(_) => false,
+        ObjectType::BooleanArray
+        | ObjectType::ByteArray
+        | ObjectType::ShortArray
+        | ObjectType::ReferenceArray(_) => true,
+    }
+}
+
+// What the firewall asks of an object that is there.
+fn facts_of(world: &World, store: &Store, call: &WordCall<'_>, number: u16) -> Facts
+    requires { IsThere store.now number }
+    ensures { (object : heaps.Object ℕ) → object_at store.now.objects number ≡ Some object
+        → result ≡ facts_of (seen_in world.now store.now call.now) object }
+{
+    let kind = store.class_of(number);
+    Facts {
+        owner: store.owner_of(number),
+        mark: kind.mark,
+        is_array: is_array(kind.object),
+        clears: kind.clears,
+        stored: None,
+        is_shareable: false,
+        is_shared_interface: false,
+        selected: call.selected,
+    }
+}
+
+// What is thrown by a verdict, if it denies.
+fn thrown_by(verdict: Verdict) -> Option<u16>
+    ensures { (world : linked.World) (store : stores.Store) (call : words.WordCall) (way : Way) (number : ℕ)
+        → result ≡ (by_verdict (seen_in world store call) way number verdict).thrown }
+{
+    match verdict {
+        Verdict::Allowed | Verdict::AllowedSwitch(_) => None,
+        Verdict::Denied(_) => Some(SECURITY_EXCEPTION),
+    }
+}
+
+// Tests a use of an object.
+fn used(world: &World, store: &Store, call: &WordCall<'_>, way: Way, number: u16) -> Option<u16>
+    ensures { result ≡ (used (seen_in world.now store.now call.now) way number).thrown }
+{
+    if !is_there(store, number) {
+        return Some(NULL_POINTER_EXCEPTION);
+    }
+    let facts = facts_of(world, store, call, number);
+    thrown_by(decide(access_of(way), call.active.context, &facts))
+}
+
+// The class whose methods an object has.
+fn class_of(object: ObjectType) -> ClassName
+    ensures { result ≡ class_of object }
+{
+    match object {
+        ObjectType::Instance(class) => class,
+        ObjectType::BooleanArray
+        | ObjectType::ByteArray
+        | ObjectType::ShortArray
+        | ObjectType::ReferenceArray(_) => OBJECT,
+    }
+}
+
+/// Whether a number is that of an AID.
+pub(crate) fn is_aid_object(world: &World, store: &Store, call: &WordCall<'_>, number: u16) -> bool
+    ensures { result ≡ is_aid_object (seen_in world.now store.now call.now) number }
+{
+    is_there(store, number)
+        && world
+            .table()
+            .is_class_below(class_of(store.class_of(number).object), AID)
+}
+
+// Makes one test.
+fn test(world: &World, store: &Store, call: &WordCall<'_>, wanted: Test) -> Option<u16>
+    ensures { result ≡ (test (seen_in world.now store.now call.now) call.now.arguments.now wanted).thrown }
+{
+    match wanted {
+        Test::Nothing => None,
+        Test::Object(place, way) => used(world, store, call, way, argument(call.arguments, place)),
+        Test::ObjectOrNull(place, way) => {
+            let number = argument(call.arguments, place);
+            if number == 0 {
+                None
+            } else {
+                used(world, store, call, way, number)
+            }
+        }
+        Test::BesideAid => beside_aid(world, store, call),
+    }
+}
+
+// The second argument may be called, where both are AIDs.
+fn beside_aid(world: &World, store: &Store, call: &WordCall<'_>) -> Option<u16>
+    ensures { result ≡ (test (seen_in world.now store.now call.now) call.now.arguments.now BesideAid).thrown }
+{
+    let one = argument(call.arguments, 0);
+    let other = argument(call.arguments, 1);
+    if is_aid_object(world, store, call, one) && is_aid_object(world, store, call, other) {
+        used(world, store, call, Way::Calls, other)
+    } else {
+        None
+    }
+}
+
+// How many components a range has.
+fn length_of(world: &World, store: &Store, call: &WordCall<'_>, length: Length) -> u16
+    ensures { result ≡ length_of (seen_in world.now store.now call.now) call.now.arguments.now length }
+{
+    match length {
+        Length::ShortAt(place) => argument(call.arguments, place),
+        Length::ByteAt(place) => extended(argument(call.arguments, place)),
+        Length::Fixed(count) => count,
+        Length::OfAid(place) => cell(store, argument(call.arguments, place), 0),
+    }
+}
+
+fn is_in_range(world: &World, store: &Store, call: &WordCall<'_>, range: Range) -> bool
+    ensures { result ≡ is_in_range (seen_in world.now store.now call.now) call.now.arguments.now range }
+{
+    let array = argument(call.arguments, range.array);
+    let offset = argument(call.arguments, range.offset);
+    let count = length_of(world, store, call, range.length);
+    array == 0 || is_within(size(store, array), offset, count)
+}
+
+fn ranged(world: &World, store: &Store, call: &WordCall<'_>, range: Option<Range>) -> Option<u16>
+    ensures { result ≡ (ranged (seen_in world.now store.now call.now) call.now.arguments.now range).thrown }
+{
+    let range = range?;
+    if is_in_range(world, store, call, range) {
+        None
+    } else {
+        Some(ARRAY_INDEX_EXCEPTION)
+    }
+}
+
+/// Makes the tests of a member. What is thrown is told where one fails.
+pub(crate) fn refusal(world: &World, store: &Store, call: &WordCall<'_>, row: &Row) -> Option<u16>
+    ensures { result ≡ (tested (seen_in world.now store.now call.now) call.now.arguments.now row.now).thrown }
+{
+    if let Some(object) = test(world, store, call, row.first) {
+        return Some(object);
+    }
+    if let Some(object) = test(world, store, call, row.second) {
+        return Some(object);
+    }
+    if let Some(object) = ranged(world, store, call, row.first_range) {
+        return Some(object);
+    }
+    ranged(world, store, call, row.second_range)
+}

@@ -1,0 +1,119 @@
+//! Members of Util (Java Card API Specification, Util).
+
+ghost use Rattle.std.specs.Prelude.{◌≡◌};
+ghost use Rattle.jc_natives.specs.PrivateWords.{done_of, seen_in};
+ghost use Rattle.jc_natives.specs.Utilities.{utility_work};
+ghost use Rattle.jc_natives.specs.declared.native.UtilityNative.TheVariants as natives;
+
+use crate::bytes::{compare_bytes, copy_bytes, fill_bytes};
+use crate::cells::{argument, byte, high, put, sum, word_of};
+use crate::ended::Ended;
+use crate::kept::Runtime;
+use crate::native::UtilityNative;
+use jc_link::World;
+use jc_machine::WordCall;
+use jc_store::Store;
+
+fn array_copy(world: &World, store: &mut Store, call: &WordCall<'_>, runtime: &Runtime) -> Ended
+    ensures { record { store = store.new; kept = runtime.now; ended = result }
+        ≡ done_of call.now.active store.old runtime.now
+        (utility_work (seen_in world.now store.old call.now) runtime.now call.now.arguments.now natives.ArrayCopy) }
+{
+    let source = argument(call.arguments, 0);
+    let from = argument(call.arguments, 1);
+    let target = argument(call.arguments, 2);
+    let to = argument(call.arguments, 3);
+    let count = argument(call.arguments, 4);
+    copy_bytes(
+        store,
+        source,
+        usize::from(from),
+        target,
+        usize::from(to),
+        count,
+    );
+    Ended::Returned(Some(sum(to, count)))
+}
+
+fn array_fill(world: &World, store: &mut Store, call: &WordCall<'_>, runtime: &Runtime) -> Ended
+    ensures { record { store = store.new; kept = runtime.now; ended = result }
+        ≡ done_of call.now.active store.old runtime.now
+        (utility_work (seen_in world.now store.old call.now) runtime.now call.now.arguments.now natives.ArrayFill) }
+{
+    let array = argument(call.arguments, 0);
+    let from = argument(call.arguments, 1);
+    let count = argument(call.arguments, 2);
+    let word = argument(call.arguments, 3);
+    fill_bytes(store, array, from, count, word % 256);
+    Ended::Returned(Some(sum(from, count)))
+}
+
+fn array_compare(world: &World, store: &mut Store, call: &WordCall<'_>, runtime: &Runtime) -> Ended
+    ensures { record { store = store.new; kept = runtime.now; ended = result }
+        ≡ done_of call.now.active store.old runtime.now
+        (utility_work (seen_in world.now store.old call.now) runtime.now call.now.arguments.now natives.ArrayCompare) }
+{
+    let one = argument(call.arguments, 0);
+    let one_from = argument(call.arguments, 1);
+    let other = argument(call.arguments, 2);
+    let other_from = argument(call.arguments, 3);
+    let count = argument(call.arguments, 4);
+    Ended::Returned(Some(compare_bytes(store, one, one_from, other, other_from, count)))
+}
+
+fn get_short(world: &World, store: &mut Store, call: &WordCall<'_>, runtime: &Runtime) -> Ended
+    ensures { record { store = store.new; kept = runtime.now; ended = result }
+        ≡ done_of call.now.active store.old runtime.now
+        (utility_work (seen_in world.now store.old call.now) runtime.now call.now.arguments.now natives.GetShort) }
+{
+    let array = argument(call.arguments, 0);
+    let at = usize::from(argument(call.arguments, 1));
+    let first = byte(store, array, at);
+    let second = byte(store, array, at + 1);
+    Ended::Returned(Some(word_of(first, second)))
+}
+
+fn set_short(world: &World, store: &mut Store, call: &WordCall<'_>, runtime: &Runtime) -> Ended
+    ensures { record { store = store.new; kept = runtime.now; ended = result }
+        ≡ done_of call.now.active store.old runtime.now
+        (utility_work (seen_in world.now store.old call.now) runtime.now call.now.arguments.now natives.SetShort) }
+{
+    let array = argument(call.arguments, 0);
+    let from = argument(call.arguments, 1);
+    let word = argument(call.arguments, 2);
+    put(store, array, usize::from(from), high(word));
+    put(store, array, usize::from(from) + 1, word % 256);
+    Ended::Returned(Some(sum(from, 2)))
+}
+
+fn make_short(world: &World, store: &mut Store, call: &WordCall<'_>, runtime: &Runtime) -> Ended
+    ensures { record { store = store.new; kept = runtime.now; ended = result }
+        ≡ done_of call.now.active store.old runtime.now
+        (utility_work (seen_in world.now store.old call.now) runtime.now call.now.arguments.now natives.MakeShort) }
+{
+    let first = argument(call.arguments, 0);
+    let second = argument(call.arguments, 1);
+    Ended::Returned(Some(word_of((first % 256) as u8, (second % 256) as u8)))
+}
+
+/// Does the work of a member of Util.
+pub(crate) fn utility_native(
+    world: &World,
+    store: &mut Store,
+    call: &WordCall<'_>,
+    runtime: &Runtime,
+    native: UtilityNative,
+) -> Ended
+    ensures { record { store = store.new; kept = runtime.now; ended = result }
+        ≡ done_of call.now.active store.old runtime.now
+        (utility_work (seen_in world.now store.old call.now) runtime.now call.now.arguments.now native) }
+{
+    match native {
+        UtilityNative::ArrayCopy => array_copy(world, store, call, runtime),
+        UtilityNative::ArrayFill => array_fill(world, store, call, runtime),
+        UtilityNative::ArrayCompare => array_compare(world, store, call, runtime),
+        UtilityNative::GetShort => get_short(world, store, call, runtime),
+        UtilityNative::SetShort => set_short(world, store, call, runtime),
+        UtilityNative::MakeShort => make_short(world, store, call, runtime),
+    }
+}

@@ -1,10 +1,10 @@
 -- The places of what classes are below.
 use Rattle.std.proofs.Common.{◌≡◌, ◌≢◌, ℕ, zero, suc, ◌+◌, ◌<◌, ◌||◌, Bool, true, false}
-use Rattle.std.proofs.Common.{List, [], ◌∷◌, ◌++◌, length, drop, map, Some, slice_get, get_or, unwrap_or}
+use Rattle.std.proofs.Common.{List, [], ◌∷◌, ◌++◌, length, drop, Some, slice_get, get_or, unwrap_or}
 use Rattle.std.proofs.Common.{None, refl, sym, ap, ◌∙◌, arith, ◌↔◌}
 use Rattle.std.proofs.lemmas.Bool.{eq-eqb, ne_eqb}
-use Rattle.std.proofs.lemmas.Option.{slice_get-map}
-use Rattle.std.specs.Option.{option_map}
+use Rattle.std.proofs.lemmas.List.{append_assoc}
+use Rattle.std.proofs.lemmas.Option.{slice_get_within}
 use Rattle.jc_cap_desc.specs.Shape.{Shape}
 use Rattle.jc_api.specs.declared.class.ApiClass.TheVariants.{Object}
 use Rattle.jc_classes.specs.Subtype.{IsOrderly, is_subtype}
@@ -12,14 +12,11 @@ use Rattle.jc_classes.specs.World.{superclass_of}
 use Rattle.jc_link.specs.Sound.{IsSound}
 use Rattle.jc_names.specs.declared.name.ClassName.TheVariants.{Api}
 use Rattle.jc_names.specs.declared.name.ClassName.{ClassName}
-use Rattle.jc_loaded.specs.PrivateSupertypes.{places_above, places_from, taken_if}
+use Rattle.jc_loaded.specs.PrivateCalled.{AreListed}
+use Rattle.jc_loaded.specs.PrivateSupertypes.{IsPlacesAbove, places_from, taken_if}
 use Rattle.jc_loaded.specs.Supertypes.{AreSupertypes, has_number, is_listed}
 
 -- ---- a list that is made
-
-both_parts : {A : Type 0} (xs ys zs : List A) → (xs ++ ys) ++ zs ≡ xs ++ (ys ++ zs)
-both_parts [] ys zs = refl
-both_parts (x ∷ xs) ys zs = ap (λ l. x ∷ l) (both_parts xs ys zs)
 
 module _ (passes : ClassName → Bool) where
   next_place : (names : List ClassName) (so_far total : List ℕ) (i place : ℕ) (c : ClassName)
@@ -28,7 +25,7 @@ module _ (passes : ClassName → Bool) where
   next_place [] so_far total i place c all less at = absurd (omega (arith, less))
   next_place (d ∷ names) so_far total zero place c all less at =
       let is : c ≡ d = at in
-      both_parts so_far (taken_if (passes c) place) (places_from passes (suc place) names)
+      append_assoc so_far (taken_if (passes c) place) (places_from passes (suc place) names)
       ∙ ap (λ k. so_far ++ (taken_if (passes k) place ++ places_from passes (suc place) names)) is ∙ all
   next_place (d ∷ names) so_far total (suc i) place c all less at =
       next_place names so_far total i place c all (omega (arith, less)) at
@@ -70,21 +67,18 @@ module _ (passes : ClassName → Bool) where
 
 -- ---- all lists
 
-pub are_supertypes : (world : List Shape) (names : List ClassName) (lists : List (List ℕ))
-    → lists ≡ map (places_above world names) names → AreSupertypes world names lists
-are_supertypes world names lists are number other c d here there =
-    ap (λ ls. is_listed ls number other) are
-    ∙ ap (λ o. has_number other (unwrap_or o [])) (slice_get-map (places_above world names) names number
-    ∙ ap (option_map (places_above world names)) here)
+pub listed_there : (world : List Shape) (names : List ClassName) (lists : List (List ℕ)) (made number other : ℕ)
+    (c d : ClassName)
+    → AreListed (IsPlacesAbove world names) names made lists → number < made → slice_get names number ≡ Some c
+    → slice_get names other ≡ Some d → is_listed lists number other ≡ is_subtype world c d
+listed_there world names lists made number other c d are less here there =
+    ap (λ list. has_number other list) (are.there number c less here)
     ∙ has_place (is_subtype world c) names 0 other other d (omega arith) there
 
-pub as_many : (world : List Shape) (names : List ClassName) (lists : List (List ℕ))
-    → lists ≡ map (places_above world names) names → length lists ≡ length names
-as_many world names lists are = ap (λ ls. length ls) are ∙ count names
-  where
-    count : (cs : List ClassName) → length (map (places_above world names) cs) ≡ length cs
-    count [] = refl
-    count (c ∷ cs) = ap suc (count cs)
+pub are_supertypes : (world : List Shape) (names : List ClassName) (lists : List (List ℕ))
+    → AreListed (IsPlacesAbove world names) names (length names) lists → AreSupertypes world names lists
+are_supertypes world names lists are number other c d here there =
+    listed_there world names lists (length names) number other c d are (slice_get_within names number c here) here there
 
 -- ---- two ways to say that a test passes
 

@@ -4,7 +4,15 @@ mod Laying
 mod Numbering
 mod Entering
 mod Finding
+mod Growing
 mod Covering
 mod Naming
 mod Calling
+mod Keying
+mod Chaining
+mod Same
+mod Counting
+mod Interfacing
+mod Showing
 mod Above
+mod Climbing

@@ -1,14 +1,14 @@
 -- Names of classes by number, and numbers by name.
 use Rattle.std.proofs.Common.{◌*◌, length-append, ◌≡◌, ◌≢◌, ◌⊎◌, inl, inr, ℕ, zero, suc, ◌+◌, ◌<◌, ◌≤◌, ◌==◌, ◌&&◌}
-use Rattle.std.proofs.Common.{Bool, true, false, cond, List, [], ◌∷◌, ◌++◌, length, take, drop, Option, Some, None}
-use Rattle.std.proofs.Common.{slice_get, get_or, unwrap_or, nat_lt, refl, sym, ap, ◌∙◌, arith}
+use Rattle.std.proofs.Common.{Bool, true, false, cond, List, [], ◌∷◌, ◌++◌, length, drop, Option, Some, None}
+use Rattle.std.proofs.Common.{slice_get, get_or, nat_lt, refl, sym, ap, ◌∙◌, arith}
 use Rattle.std.proofs.Math.Path.{fun_ext}
 use Rattle.std.proofs.lemmas.Bool.{ltb-true, ne_eqb}
 use Rattle.std.proofs.lemmas.Bool.Decides.{eqb_tells}
-use Rattle.std.proofs.lemmas.List.{length-take-le}
-use Rattle.std.proofs.lemmas.Option.{slice_get_within}
+use Rattle.std.proofs.lemmas.List.{append-nil, append_assoc}
+use Rattle.std.proofs.lemmas.Option.{same_Some}
 use Rattle.std.specs.List.{cons_option, filter_map, position, position_or_len}
-use Rattle.std.specs.Option.{option_map_or, option_or, option_to_list}
+use Rattle.std.specs.Option.{option_map_or, option_to_list}
 use Rattle.jc_cap_desc.specs.Shape.{Shape}
 use Rattle.jc_api.specs.Class.{number_of}
 use Rattle.jc_names.specs.Names.{is_same_name, offset_of}
@@ -17,21 +17,12 @@ use Rattle.jc_names.specs.declared.name.ClassName.TheVariants.{Api, Loaded}
 use Rattle.jc_classes.specs.Limits.{IsSmall}
 use Rattle.jc_classes.specs.Members.{name_of}
 use Rattle.jc_loaded.specs.Classes.{class_names, class_number, names_from, names_in}
-use Rattle.jc_loaded.specs.PrivateClasses.{AreClassNumbers, AreNumbered, is_placed, table_of}
+use Rattle.jc_loaded.specs.PrivateClasses.{AreNumbered, is_placed, table_of}
 use Rattle.jc_loaded.specs.PrivateLaid.{number_in}
-use Rattle.jc_loaded.proofs.Numbering.{first_more, or_none, take_one}
 
 -- ---- names of one package
 
-both_parts : {A : Type 0} (xs ys zs : List A) → (xs ++ ys) ++ zs ≡ xs ++ (ys ++ zs)
-both_parts [] ys zs = refl
-both_parts (x ∷ xs) ys zs = ap (λ l. x ∷ l) (both_parts xs ys zs)
-
-no_more : {A : Type 0} (xs : List A) → xs ++ [] ≡ xs
-no_more [] = refl
-no_more (x ∷ xs) = ap (λ l. x ∷ l) (no_more xs)
-
-first_option : {B : Type 0} (o : Option B) (rest : List B) → option_to_list o ++ rest ≡ cons_option o rest
+pub first_option : {B : Type 0} (o : Option B) (rest : List B) → option_to_list o ++ rest ≡ cons_option o rest
 first_option None rest = refl
 first_option (Some b) rest = refl
 
@@ -42,7 +33,7 @@ named_more : {A B : Type 0} (h : A → Option B) (xs : List A) (so_far total : L
 named_more h [] so_far total i x all less at = absurd (omega (arith, less))
 named_more h (y ∷ xs) so_far total zero x all less at =
     let is : x ≡ y = at in
-    both_parts so_far (option_to_list (h x)) (filter_map h xs)
+    append_assoc so_far (option_to_list (h x)) (filter_map h xs)
     ∙ ap (λ k. so_far ++ (option_to_list (h k) ++ filter_map h xs)) is
     ∙ ap (λ l. so_far ++ l) (first_option (h y) (filter_map h xs)) ∙ all
 named_more h (y ∷ xs) so_far total (suc i) x all less at =
@@ -58,8 +49,8 @@ one_more h xs so_far total i x all less at =
 
 pub all_named : {A B : Type 0} (h : A → Option B) (xs : List A) (so_far total : List B) (i : ℕ)
     → so_far ++ filter_map h (drop i xs) ≡ total → length xs ≤ i → so_far ≡ total
-all_named h [] so_far total zero all less = sym (no_more so_far) ∙ all
-all_named h [] so_far total (suc i) all less = sym (no_more so_far) ∙ all
+all_named h [] so_far total zero all less = sym (append-nil so_far) ∙ all
+all_named h [] so_far total (suc i) all less = sym (append-nil so_far) ∙ all
 all_named h (x ∷ xs) so_far total zero all less = absurd (omega (arith, less))
 all_named h (x ∷ xs) so_far total (suc i) all less = all_named h xs so_far total i all (omega (arith, less))
 
@@ -71,7 +62,7 @@ one_package : (shapes : List Shape) (so_far total : List ClassName) (i place : �
     (drop (suc i) shapes) ≡ total
 one_package [] so_far total i place all less = absurd (omega (arith, less))
 one_package (s ∷ shapes) so_far total zero place all less =
-    both_parts so_far (names_in place s) (names_from (suc place) shapes) ∙ all
+    append_assoc so_far (names_in place s) (names_from (suc place) shapes) ∙ all
 one_package (s ∷ shapes) so_far total (suc i) place all less =
     one_package shapes so_far total i place all (omega (arith, less))
 
@@ -113,27 +104,6 @@ few_names world names are small =
 
 -- ---- numbers
 
--- one class more has its number, if none before it has its name
-pub class_numbers_more : (old new : List (List (Option ℕ))) (names : List ClassName) (at : ℕ) (c : ClassName)
-    → slice_get names at ≡ Some c
-    → AreClassNumbers old (take at names)
-    → ((p i : ℕ) → number_in new p i ≡ cond (table_of c == p && offset_of c == i)
-    (option_or (number_in old p i) (Some at)) (number_in old p i))
-    → AreClassNumbers new (take (at + 1) names)
-class_numbers_more old new names at c there before put p i =
-    let one : suc at ≡ at + 1 = omega arith in
-    put p i ∙ by_place (is_placed p i c) (number_in old p i)
-    ∙ ap (λ o. option_or o (cond (is_placed p i c) (Some at) None)) (before p i)
-    ∙ ap (λ k. option_or (position (is_placed p i) (take at names)) (cond (is_placed p i c) (Some k) None))
-    (sym (length-take-le at names (let w = slice_get_within names at c there in omega (arith, w))))
-    ∙ sym (first_more (is_placed p i) (take at names) c)
-    ∙ ap (position (is_placed p i)) (sym (take_one names at c there))
-    ∙ ap (λ k. position (is_placed p i) (take k names)) one
-  where
-    by_place : (b : Bool) (o : Option ℕ) → cond b (option_or o (Some at)) o ≡ option_or o (cond b (Some at) None)
-    by_place true o = refl
-    by_place false o = or_none o
-
 next_same : (a b : ℕ) → (suc a == suc b) ≡ (a == b)
 next_same a b = by_tests (eqb_tells (suc a) (suc b)) (eqb_tells a b)
   where
@@ -156,16 +126,13 @@ pub number_is : (tables : List (List (Option ℕ))) (names : List ClassName) (c 
 number_is tables names c are =
     are.numbers (table_of c) (offset_of c) ∙ ap (λ p. position p names) (fun_ext (placed_same c))
 
-some_is : {A : Type 0} (a b : A) → Some a ≡ Some b → a ≡ b
-some_is a b e = ap (λ k. unwrap_or k a) e
-
 pub position_below : {A : Type 0} (p : A → Bool) (xs : List A) (n : ℕ) → position p xs ≡ Some n → n < length xs
 position_below p xs n e =
     by_place (nat_lt (position_or_len p xs) (length xs)) (ltb-true (position_or_len p xs) (length xs)) e
   where
     by_place : (b : Bool) → (b ≡ true → position_or_len p xs < length xs)
         → cond b (Some (position_or_len p xs)) None ≡ Some n → n < length xs
-    by_place true h e = let k = some_is (position_or_len p xs) n e in let l = h refl in omega (arith, k, l)
+    by_place true h e = let k = same_Some (position_or_len p xs) n e in let l = h refl in omega (arith, k, l)
     by_place false h e = absurd cc
 
 pub number_below : (tables : List (List (Option ℕ))) (names : List ClassName) (c : ClassName) (n : ℕ)

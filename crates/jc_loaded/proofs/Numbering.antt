@@ -1,4 +1,4 @@
--- Numbers of methods by their names.
+-- Numbers of methods and classes by their places.
 use Rattle.std.proofs.Common.{◌≡◌, ◌≢◌, ◌⊎◌, inl, inr, ℕ, zero, suc, ◌+◌, ◌<◌, ◌==◌, ◌&&◌, Bool, true, false, cond}
 use Rattle.std.proofs.Common.{List, [], ◌∷◌, ◌++◌, length, take, set, unwrap_or, Option, Some, None, slice_get, refl}
 use Rattle.std.proofs.Common.{sym, ap, ◌∙◌, arith}
@@ -8,8 +8,7 @@ use Rattle.std.proofs.lemmas.Bool.Decides.{eqb_tells}
 use Rattle.std.proofs.lemmas.List.{length-take-le}
 use Rattle.std.proofs.lemmas.Option.{slice_get_within}
 use Rattle.std.specs.Option.{option_and_then, option_or}
-use Rattle.jc_loaded.specs.Methods.{LoadedMethod, is_named}
-use Rattle.jc_loaded.specs.PrivateLaid.{AreNumbers, number_in, place_at}
+use Rattle.jc_loaded.specs.PrivateLaid.{number_in, place_at}
 
 -- ---- the first of a list with one element more
 
@@ -26,7 +25,7 @@ after_first p (x ∷ xs) y n = by_first (p x) (after_first p xs y (n + 1))
     by_first false rest = rest ∙ ap (λ k. option_or (position_from p (n + 1) xs) (cond (p y) (Some k) None))
         (omega arith)
 
-pub first_more : {A : Type 0} (p : A → Bool) (xs : List A) (y : A)
+first_more : {A : Type 0} (p : A → Bool) (xs : List A) (y : A)
     → position p (xs ++ y ∷ []) ≡ option_or (position p xs) (cond (p y) (Some (length xs)) None)
 first_more p xs y =
     position_from-zero p (xs ++ y ∷ []) ∙ after_first p xs y 0
@@ -35,36 +34,37 @@ first_more p xs y =
 
 -- ---- tables of numbers
 
-pub take_one : {A : Type 0} (xs : List A) (n : ℕ) (x : A) → slice_get xs n ≡ Some x
+take_one : {A : Type 0} (xs : List A) (n : ℕ) (x : A) → slice_get xs n ≡ Some x
     → take (suc n) xs ≡ take n xs ++ x ∷ []
 take_one [] n x at = absurd cc
 take_one (y ∷ xs) zero x at = ap (λ k. unwrap_or k y ∷ []) at
 take_one (y ∷ xs) (suc n) x at = ap (λ ys. y ∷ ys) (take_one xs n x at)
 
-pub or_none : {A : Type 0} (o : Option A) → o ≡ option_or o None
+or_none : {A : Type 0} (o : Option A) → o ≡ option_or o None
 or_none None = refl
 or_none (Some x) = refl
 
--- one method more has its number, if none before it has its name
-pub numbers_more : (old new : List (List (Option ℕ))) (methods : List LoadedMethod) (at : ℕ) (m : LoadedMethod)
-    → slice_get methods at ≡ Some m
-    → AreNumbers old (take at methods)
-    → ((p i : ℕ) → number_in new p i ≡ cond (m.number == p && m.offset == i)
-    (option_or (number_in old p i) (Some at)) (number_in old p i))
-    → AreNumbers new (take (at + 1) methods)
-numbers_more old new methods at m there before put p i =
+-- one item more has its number, if none before it has its place
+pub number_behind : {A : Type 0} (is_at : ℕ → ℕ → A → Bool) (old new : List (List (Option ℕ))) (items : List A)
+    (at : ℕ) (item : A)
+    → slice_get items at ≡ Some item
+    → ((p i : ℕ) → number_in old p i ≡ position (is_at p i) (take at items))
+    → ((p i : ℕ) → number_in new p i
+    ≡ cond (is_at p i item) (option_or (number_in old p i) (Some at)) (number_in old p i))
+    → (p i : ℕ) → number_in new p i ≡ position (is_at p i) (take (at + 1) items)
+number_behind is_at old new items at item there before put p i =
     let one : suc at ≡ at + 1 = omega arith in
-    put p i ∙ by_name (is_named p i m) (number_in old p i)
-    ∙ ap (λ o. option_or o (cond (is_named p i m) (Some at) None)) (before p i)
-    ∙ ap (λ k. option_or (position (is_named p i) (take at methods)) (cond (is_named p i m) (Some k) None))
-    (sym (length-take-le at methods (let w = slice_get_within methods at m there in omega (arith, w))))
-    ∙ sym (first_more (is_named p i) (take at methods) m)
-    ∙ ap (position (is_named p i)) (sym (take_one methods at m there))
-    ∙ ap (λ k. position (is_named p i) (take k methods)) one
+    put p i ∙ by_place (is_at p i item) (number_in old p i)
+    ∙ ap (λ o. option_or o (cond (is_at p i item) (Some at) None)) (before p i)
+    ∙ ap (λ k. option_or (position (is_at p i) (take at items)) (cond (is_at p i item) (Some k) None))
+    (sym (length-take-le at items (let w = slice_get_within items at item there in omega (arith, w))))
+    ∙ sym (first_more (is_at p i) (take at items) item)
+    ∙ ap (position (is_at p i)) (sym (take_one items at item there))
+    ∙ ap (λ k. position (is_at p i) (take k items)) one
   where
-    by_name : (b : Bool) (o : Option ℕ) → cond b (option_or o (Some at)) o ≡ option_or o (cond b (Some at) None)
-    by_name true o = refl
-    by_name false o = or_none o
+    by_place : (b : Bool) (o : Option ℕ) → cond b (option_or o (Some at)) o ≡ option_or o (cond b (Some at) None)
+    by_place true o = refl
+    by_place false o = or_none o
 
 -- another table in place of one
 number_here : (tables : List (List (Option ℕ))) (k : ℕ) (t : List (Option ℕ)) → k < length tables → (i : ℕ)

@@ -4,7 +4,9 @@ pub mod Entries
 pub mod PrivateEntries
 pub mod Classes
 pub mod PrivateClasses
+pub mod Growth
 pub mod Called
 pub mod PrivateCalled
+pub mod PrivateChain
 pub mod Supertypes
 pub mod PrivateSupertypes

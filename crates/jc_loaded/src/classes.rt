@@ -134,7 +134,6 @@ fn put_name(
 }
 
 /// The numbers of classes by their names; of two with one name the first.
-#[tactic(auto, using(crate::proofs::Naming::class_numbers_more))]
 fn class_numbers_of(alloc: Global, names: &[ClassName]) -> Result<Vec<OffsetTable>, AllocError>
     requires few { length names.now < 0x10000 }
     ensures { IfOk result (λ tables. AreClassNumbers tables.items names.now) }

@@ -1,10 +1,18 @@
-//! What holds of lists of loaded methods.
+//! What holds of lists of loaded methods and of classes.
 
-ghost use Rattle.std.specs.Prelude.{ℕ, List};
+ghost use Rattle.std.specs.Prelude.{◌≡◌, ℕ, List, Some};
+ghost use Rattle.jc_api.specs.declared.class.ApiClass.TheVariants.{Object};
 ghost use Rattle.jc_cap_desc.specs.Shape.{Shape};
 ghost use Rattle.jc_cap_method.specs.declared.handler.Handler.{Handler};
-ghost use Rattle.jc_link.specs.Linked.{LinkedBody, World};
+ghost use Rattle.jc_link.specs.Built.{IsBuilt};
+ghost use Rattle.jc_link.specs.Linked.{IsBoundTo, IsWorld, Linked, LinkedBody, World};
+ghost use Rattle.jc_loaded.specs.Classes.{HaveNumbers, KeepsNumbers, class_names, class_number};
+ghost use Rattle.jc_loaded.specs.Growth.{KeepsLoaded};
 ghost use Rattle.jc_loaded.specs.Methods.{CoversSame, AreFound, AreLoaded, LoadedMethod};
+ghost use Rattle.jc_names.specs.declared.name.ClassName.TheVariants.{Api};
+
+use jc_classes::adding_keeps_lookups;
+use jc_link::adding_keeps_linking;
 
 /// The position of a name leads to the method that is looked up anew by that name in the world.
 #[tactic(auto, using(crate::proofs::Finding::are_found))]
@@ -18,3 +26,20 @@ pub fn loaded_handlers_cover_the_same()
     ensures { (world : List Shape) (number : ℕ) (body : LinkedBody) (code_offset : ℕ) (h : Handler)
         → CoversSame world number body code_offset h }
 {}
+
+/// Each class that is looked up in a world has a number, and each number is that of a class that is there. A package
+/// behind the others leaves the numbers as they are. In a world that is built the number of Object is 0.
+pub fn classes_have_numbers()
+    ensures numbers { (world : List Shape) → HaveNumbers world }
+    ensures object { (world : List Shape) → IsBuilt world → class_number (class_names world) (Api Object) ≡ Some 0 }
+    ensures kept { (world : List Shape) (more : Shape) → KeepsNumbers world more }
+{}
+
+/// A linked package behind the others of a world leaves their methods and what their entries lead to as they are: its
+/// own methods come behind those of the others.
+pub fn loading_keeps_methods()
+    ensures { (w : World) (l : Linked) → IsWorld w → IsBoundTo w l → KeepsLoaded w l }
+{
+    adding_keeps_lookups();
+    adding_keeps_linking();
+}

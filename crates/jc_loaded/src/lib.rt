@@ -1,10 +1,14 @@
 //! What a machine runs of loaded packages, one step from a name to what it names.
 #![tactic(auto)]
 
+mod called;
+mod chain;
 mod classes;
 mod entries;
 mod entry;
 mod handler;
+mod interfaces;
+mod keyed;
 mod laid;
 mod laws;
 mod loading;
@@ -13,15 +17,23 @@ mod numbers;
 mod row;
 mod superclasses;
 mod supertypes;
+mod tables;
 mod virtuals;
+mod visible;
 
+pub use called::Called;
 pub use classes::{ClassNumber, Classes};
 pub use entries::Entries;
 pub use entry::Entry;
 pub use handler::{Caught, LoadedHandler};
-pub use laws::{loaded_handlers_cover_the_same, loaded_methods_are_found};
+pub use interfaces::{InterfaceCall, InterfaceMethods};
+pub use laws::{
+    classes_have_numbers, loaded_handlers_cover_the_same, loaded_methods_are_found,
+    loading_keeps_methods,
+};
 pub use methods::{MethodNumber, Methods};
 pub use row::LoadedMethod;
 pub use superclasses::Superclasses;
 pub use supertypes::Supertypes;
-pub use virtuals::{Called, VirtualMethods};
+pub use virtuals::VirtualMethods;
+pub use visible::VisibleMethods;

@@ -1,8 +1,6 @@
 //! The methods of all packages, laid.
 
-ghost use Rattle.std.specs.Prelude.{◌≡◌, ℕ, ◌≤◌, true, [], ◌∷◌, ◌++◌, map, is_some, slice_get, Some, IfOk};
-ghost use Rattle.std.specs.Option.{option_and_then};
-ghost use Rattle.jc_cap_desc.specs.Shape.{MethodBody};
+ghost use Rattle.std.specs.Prelude.{◌≡◌, ◌≤◌, true, [], ◌∷◌, ◌++◌, map, is_some, Some, IfOk};
 ghost use Rattle.jc_link.specs.Linked.{IsKnown, IsResolved};
 ghost use Rattle.jc_loaded.specs.Methods.{AreLoaded, header_at, loaded_method, methods_of};
 ghost use Rattle.jc_loaded.specs.PrivateLaid.{HaveHeaders};

@@ -1,5 +1,6 @@
 use Rattle.std.proofs.Common.{◌≡◌, Some, sym, ap, ◌∙◌, arith}
-use Rattle.jc_loaded.proofs.Numbering.{numbers_more}
+use Rattle.jc_loaded.specs.Methods.{is_named}
+use Rattle.jc_loaded.proofs.Numbering.{number_behind}
 use Rattle.jc_loaded.proofs.numbers.numbers_of.Goals as goal
 
 pub loop-at-preserved : goal.loop-at-preserved
@@ -10,6 +11,6 @@ loop-at-preserved c =
     let two : c.from.result ≡ c.method.inside.«package» = omega (arith, f) in
     let three : c.from-in-loop-at.result ≡ c.method.inside.offset = omega (arith, g) in
     let one : c.in-Ok.number ≡ c.loop-at.at = omega (arith, n) in
-    numbers_more c.loop-at.tables.items c.put_number.new.tables.items c.args.laid.now c.loop-at.at _
+    number_behind is_named c.loop-at.tables.items c.put_number.new.tables.items c.args.laid.now c.loop-at.at _
     (c.method-method.ensures ∙ ap Some (sym c.method.view_is)) c.loop-at.invariant
     (λ p i. rw (← one, ← two, ← three) (c.in_ok-put_number.ensures p i))

@@ -5,5 +5,5 @@ use Rattle.jc_loaded.proofs.supertypes.list_of.Given as goal
 
 abbrev pub invariant-loop-at : goal.invariant-loop-at
 invariant-loop-at l =
-    l.numbers.items ++ places_from (is_subtype l.table l.class) l.at (drop l.at l.names)
-    ≡ places_above l.table l.names l.class
+    l.numbers.items ++ places_from (is_subtype l.table l.class) l.at (drop l.at l.classes)
+    ≡ places_above l.table l.classes l.class

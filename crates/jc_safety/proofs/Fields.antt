@@ -1,0 +1,357 @@
+-- Instructions on fields are safe.
+use Rattle.std.proofs.Common.{◌≡◌, ℕ, zero, suc, ◌<◌, List, [], ◌∷◌, length, set, slice_get, drop}
+use Rattle.std.proofs.Common.{Bool, true, Option, Some, nat_lt, refl, sym, ap, ◌∙◌, subst}
+use Rattle.std.proofs.Common.{arith}
+use Rattle.std.proofs.lemmas.Bool.{lt-ltb}
+use Rattle.jc_api.specs.declared.class.ApiClass.TheVariants as api
+use Rattle.jc_base.specs.declared.declared_type.DeclaredType.{DeclaredType}
+use Rattle.jc_base.specs.declared.declared_type.DeclaredType.TheVariants as Declared
+use Rattle.jc_cap_desc.specs.Shape.{Shape}
+use Rattle.jc_classes.specs.Members.{DeclaredMethod}
+use Rattle.jc_code.specs.declared.object.Form.{Form}
+use Rattle.jc_code.specs.declared.object.Form.TheVariants as Forms
+use Rattle.jc_firewall.specs.declared.access.Access.TheVariants.{GetField}
+use Rattle.jc_classes.specs.Subtype.{is_class_below}
+use Rattle.jc_names.specs.declared.name.ClassName.{ClassName}
+use Rattle.jc_names.specs.declared.name.ClassName.TheVariants.{Api}
+use Rattle.jc_step.specs.Objects.{if_form, is_form_of}
+use Rattle.jc_step.specs.Row.{Row, after}
+use Rattle.jc_step.specs.declared.row.Demand.{Demand}
+use Rattle.jc_step.specs.declared.row.Given.{Given}
+use Rattle.jc_step.specs.Words.{reads, takes}
+use Rattle.jc_step.specs.declared.row.Demand.TheVariants.{Below}
+use Rattle.jc_step.specs.declared.row.Given.TheVariants.{Exactly, Nothing}
+use Rattle.jc_store.specs.Heap.{Heap, object_at}
+use Rattle.jc_store.specs.declared.kind.ObjectType.{ObjectType}
+use Rattle.jc_store.specs.declared.kind.ObjectType.TheVariants.{BooleanArray, ByteArray, Instance, ReferenceArray, ShortArray}
+use Rattle.jc_types.specs.State.{Types}
+use Rattle.jc_types.specs.Ty.{is_below, type_of_declared}
+use Rattle.jc_types.specs.declared.ty.Ty.{Ty}
+use Rattle.jc_types.specs.declared.ty.Ty.TheVariants as types
+use Rattle.jc_machine.specs.Arrays.{loaded_as, stored_as}
+use Rattle.jc_machine.specs.Fields.{InstanceField, gets, puts, putting}
+use Rattle.jc_machine.specs.Going.{Here, check, gives, on_reference, on_reference_local, on_top}
+use Rattle.jc_machine.specs.Lookup.{fields_of, is_byte, is_kept_as, is_of_class, is_of_type, is_word, leads_to, mark_of}
+use Rattle.jc_machine.specs.Machine.{Machine, Surroundings}
+use Rattle.jc_machine.specs.Typed.{CellsTyped, HaveTypes, HoldTypes, IsOperand, IsTyped, has_type, is_cell}
+use Rattle.jc_words.specs.Shorts.{low_byte, signed_byte}
+use Rattle.jc_words.specs.Values.{Null, Ref, TaggedValue, Unset, Word, is_reference}
+use Rattle.jc_safety.proofs.Blank.{no_field}
+use Rattle.jc_safety.proofs.Bounds.{byte_bound, low_bound}
+use Rattle.jc_safety.proofs.Goes.{placed, room_left, safe_gives}
+use Rattle.jc_safety.proofs.Locals.{local_there, local_type, reads_nothing, reads_one}
+use Rattle.jc_safety.proofs.Upward.{type_up}
+use Rattle.jc_safety.proofs.Ground.{Ground}
+use Rattle.jc_safety.proofs.Lists.{across, put_points}
+use Rattle.jc_safety.proofs.References.{leads_written}
+use Rattle.jc_safety.proofs.Returning.{of_declared}
+use Rattle.jc_safety.proofs.Rows as rows
+use Rattle.jc_safety.proofs.Safe.{IsSafe, safe_check, safe_some}
+use Rattle.jc_safety.proofs.Taking.{Applied, leaves_nothing, take_one, take_two}
+use Rattle.jc_safety.proofs.Writing.{IsNumber, byte_number, ref_case, typed_at, word_number}
+
+-- ---- what a field holds, as it is loaded and stored
+
+module _ (world : List Shape) (heap : Heap TaggedValue) where
+  number_typed : (v : TaggedValue) → IsNumber 65536 v → IsOperand world heap v types.Word
+  number_typed v k =
+      subst (λ (x : TaggedValue). IsOperand world heap x types.Word) (sym k.is)
+      (record { type = lt-ltb k.number 65536 k.small; written = refl })
+
+  byte_typed : (v : TaggedValue) → IsNumber 256 v → IsOperand world heap (loaded_as Forms.Byte v) types.Word
+  byte_typed v k =
+      subst (λ (x : TaggedValue). IsOperand world heap (loaded_as Forms.Byte x) types.Word) (sym k.is)
+      (record { type = lt-ltb (signed_byte k.number) 65536 (byte_bound k.number); written = refl })
+
+  reference_typed : (test : ObjectType → Bool) (u : Ty) (v : TaggedValue) → leads_to heap test v ≡ true
+      → has_type world heap v u ≡ true → IsOperand world heap v u
+  reference_typed test u v h k = record { type = k; written = leads_written heap test v h }
+
+  -- of a form's fields
+  pub loaded_typed : (form : Form) (declared : DeclaredType ClassName) (v : TaggedValue)
+      → is_form_of form declared ≡ true → is_kept_as world heap declared v ≡ true
+      → IsOperand world heap (loaded_as form v) (type_of_declared declared)
+  loaded_typed Forms.Reference Declared.Boolean v f h = absurd cc
+  loaded_typed Forms.Reference Declared.Byte v f h = absurd cc
+  loaded_typed Forms.Reference Declared.Short v f h = absurd cc
+  loaded_typed Forms.Reference (Declared.Reference c) v f h = record { type = h; written = leads_written heap _ v h }
+  loaded_typed Forms.Reference Declared.BooleanArray v f h = record { type = h; written = leads_written heap _ v h }
+  loaded_typed Forms.Reference Declared.ByteArray v f h = record { type = h; written = leads_written heap _ v h }
+  loaded_typed Forms.Reference Declared.ShortArray v f h = record { type = h; written = leads_written heap _ v h }
+  loaded_typed Forms.Reference (Declared.ReferenceArray c) v f h =
+      record { type = h; written = leads_written heap _ v h }
+  loaded_typed Forms.Byte Declared.Boolean v f h = byte_typed v (byte_number v h)
+  loaded_typed Forms.Byte Declared.Byte v f h = byte_typed v (byte_number v h)
+  loaded_typed Forms.Byte Declared.Short v f h = absurd cc
+  loaded_typed Forms.Byte (Declared.Reference c) v f h = absurd cc
+  loaded_typed Forms.Byte Declared.BooleanArray v f h = absurd cc
+  loaded_typed Forms.Byte Declared.ByteArray v f h = absurd cc
+  loaded_typed Forms.Byte Declared.ShortArray v f h = absurd cc
+  loaded_typed Forms.Byte (Declared.ReferenceArray c) v f h = absurd cc
+  loaded_typed Forms.Short Declared.Boolean v f h = absurd cc
+  loaded_typed Forms.Short Declared.Byte v f h = absurd cc
+  loaded_typed Forms.Short Declared.Short v f h = number_typed v (word_number v h)
+  loaded_typed Forms.Short (Declared.Reference c) v f h = absurd cc
+  loaded_typed Forms.Short Declared.BooleanArray v f h = absurd cc
+  loaded_typed Forms.Short Declared.ByteArray v f h = absurd cc
+  loaded_typed Forms.Short Declared.ShortArray v f h = absurd cc
+  loaded_typed Forms.Short (Declared.ReferenceArray c) v f h = absurd cc
+
+  stored_byte : (v : TaggedValue) → is_word v ≡ true → is_byte (stored_as Forms.Byte v) ≡ true
+  stored_byte (Word n) h = lt-ltb (low_byte n) 256 (low_bound n)
+  stored_byte (Ref n) h = absurd cc
+  stored_byte Null h = absurd cc
+  stored_byte Unset h = absurd cc
+
+  pub stored_typed : (form : Form) (declared : DeclaredType ClassName) (v : TaggedValue)
+      → is_form_of form declared ≡ true → has_type world heap v (type_of_declared declared) ≡ true
+      → is_kept_as world heap declared (stored_as form v) ≡ true
+  stored_typed Forms.Reference Declared.Boolean v f h = absurd cc
+  stored_typed Forms.Reference Declared.Byte v f h = absurd cc
+  stored_typed Forms.Reference Declared.Short v f h = absurd cc
+  stored_typed Forms.Reference (Declared.Reference c) v f h = h
+  stored_typed Forms.Reference Declared.BooleanArray v f h = h
+  stored_typed Forms.Reference Declared.ByteArray v f h = h
+  stored_typed Forms.Reference Declared.ShortArray v f h = h
+  stored_typed Forms.Reference (Declared.ReferenceArray c) v f h = h
+  stored_typed Forms.Byte Declared.Boolean v f h = stored_byte v h
+  stored_typed Forms.Byte Declared.Byte v f h = stored_byte v h
+  stored_typed Forms.Byte Declared.Short v f h = absurd cc
+  stored_typed Forms.Byte (Declared.Reference c) v f h = absurd cc
+  stored_typed Forms.Byte Declared.BooleanArray v f h = absurd cc
+  stored_typed Forms.Byte Declared.ByteArray v f h = absurd cc
+  stored_typed Forms.Byte Declared.ShortArray v f h = absurd cc
+  stored_typed Forms.Byte (Declared.ReferenceArray c) v f h = absurd cc
+  stored_typed Forms.Short Declared.Boolean v f h = absurd cc
+  stored_typed Forms.Short Declared.Byte v f h = absurd cc
+  stored_typed Forms.Short Declared.Short v f h = h
+  stored_typed Forms.Short (Declared.Reference c) v f h = absurd cc
+  stored_typed Forms.Short Declared.BooleanArray v f h = absurd cc
+  stored_typed Forms.Short Declared.ByteArray v f h = absurd cc
+  stored_typed Forms.Short Declared.ShortArray v f h = absurd cc
+  stored_typed Forms.Short (Declared.ReferenceArray c) v f h = absurd cc
+
+leads_is_reference : (heap : Heap TaggedValue) (test : ObjectType → Bool) (v : TaggedValue)
+    → leads_to heap test v ≡ true
+    → is_reference v ≡ true
+leads_is_reference heap test (Word n) e = absurd cc
+leads_is_reference heap test (Ref n) e = refl
+leads_is_reference heap test Null e = refl
+leads_is_reference heap test Unset e = absurd cc
+
+within_length : (xs : List TaggedValue) (n : ℕ) (x : TaggedValue) → slice_get xs n ≡ Some x
+    → nat_lt n (length xs) ≡ true
+within_length xs n x e = lt-ltb n (length xs) (below_length xs n x e)
+  where
+    below_length : (xs : List TaggedValue) (n : ℕ) (x : TaggedValue) → slice_get xs n ≡ Some x → n < length xs
+    below_length [] n x e = absurd cc
+    below_length (y ∷ xs) zero x e = omega arith
+    below_length (y ∷ xs) (suc n) x e = let k = below_length xs n x e in omega arith
+
+-- ---- rows that apply whatever else has to hold
+
+pub unformed : (below : ClassName → ClassName → Bool) (most : ℕ) (b : Bool) (row : Row) (s t : Types) → row.fits ≡ true
+    → Applied below most (if_form b row) s t → Applied below most row s t
+unfolding after
+unformed below most b row s t fits a = record {
+  there = a.there;
+  enough = a.enough;
+  fits = fits;
+  local_met = a.local_met;
+  operands_met = a.operands_met;
+  room = a.room;
+  is = a.is;
+}
+
+module _ {C : Type 0} (s : Surroundings C) (ground : Ground s) (m : Machine C) (t : IsTyped s m) (d : DeclaredMethod)
+    (next : ℕ) where
+  abbrev at : List TaggedValue → Here C
+  at vs = rows.here s ground m t d next vs
+
+  abbrev shapes : List Shape
+  shapes = s.world.shapes
+
+  abbrev most : ℕ
+  most = rows.most s ground m t
+
+  abbrev state : Types
+  state = rows.state s ground m t
+
+  abbrev below : ClassName → ClassName → Bool
+  below = rows.below s ground m t
+
+  abbrev LeadsTo : Types → ℕ → Type 0
+  LeadsTo after pc = rows.LeadsTo s ground m t after pc
+
+  -- ---- objects that have the field
+
+  module _ (class : ClassName) (cell : ℕ) (declared : DeclaredType ClassName)
+      (has : (c : ClassName) → is_class_below shapes c class ≡ true
+      → slice_get (fields_of shapes c) cell ≡ Some (Some declared)) where
+    -- no array has it
+    no_array : (A : Type 0) → is_class_below shapes (Api api.Object) class ≡ true → A
+    no_array A e =
+        let h = has (Api api.Object) e in
+        let none = no_field shapes ground.api api.Object cell (Some declared) h in
+        absurd cc
+
+    -- what its cell holds
+    cell_has : (o : ObjectType) (cells : List TaggedValue) → is_of_class shapes class o ≡ true
+        → CellsTyped shapes m.heap cells o
+        → (v : TaggedValue) × (slice_get cells cell ≡ Some v) × (is_kept_as shapes m.heap declared v ≡ true)
+    cell_has (Instance c) cells e typed =
+        let a = across (λ v field. is_cell shapes m.heap field v ≡ true) cells (fields_of shapes c) cell (Some declared)
+        typed (has c e) in
+        (a.value, a.there, a.related)
+    cell_has BooleanArray cells e typed = no_array _ e
+    cell_has ByteArray cells e typed = no_array _ e
+    cell_has ShortArray cells e typed = no_array _ e
+    cell_has (ReferenceArray c) cells e typed = no_array _ e
+
+    -- with a value of its type in that cell it is typed
+    cell_put : (o : ObjectType) (cells : List TaggedValue) (v : TaggedValue) → is_of_class shapes class o ≡ true
+        → is_kept_as shapes m.heap declared v ≡ true → CellsTyped shapes m.heap cells o
+        → CellsTyped shapes m.heap (set cells cell v) o
+    cell_put (Instance c) cells v e fits typed =
+        put_points (λ v field. is_cell shapes m.heap field v ≡ true) cell cells (fields_of shapes c) v typed
+        (λ field there.
+        let h = has c e in
+        let same : Some declared ≡ field = cc in
+        subst (λ (f : Option (DeclaredType ClassName)). is_cell shapes m.heap f v ≡ true) same fits)
+    cell_put BooleanArray cells v e fits typed = no_array _ e
+    cell_put ByteArray cells v e fits typed = no_array _ e
+    cell_put ShortArray cells v e fits typed = no_array _ e
+    cell_put (ReferenceArray c) cells v e fits typed = no_array _ e
+
+    abbrev field : InstanceField
+    field = record { class = class; cell = cell; declared = declared }
+
+    gets_safe : (form : Form) (us vs : List TaggedValue) (v : TaggedValue)
+        → leads_to m.heap (is_of_class shapes class) v ≡ true
+        → ((x : TaggedValue) → is_kept_as shapes m.heap declared x ≡ true
+        → IsSafe s (gives (at us) (loaded_as form x) vs))
+        → IsSafe s (gets (at us) form field v vs)
+    gets_safe form us vs v leads go =
+        ref_case m.heap (is_of_class shapes class) (λ x. IsSafe s (gets (at us) form field x vs)) v leads
+        (rows.safe_null s ground m t d next us)
+        (λ n o found of_class.
+        let c = cell_has o.kind.object o.cells of_class (typed_at shapes m.heap t.beside.heap n o found).cells in
+        safe_some s (object_at m.heap n) o _ found
+        (safe_check s (is_of_class shapes class o.kind.object) _ of_class
+        (rows.safe_accessed s ground m t d next us GetField n o _
+        (safe_some s (slice_get o.cells cell) c.0 _ c.1 (go c.0 c.2)))))
+
+    puts_safe : (form : Form) (us vs : List TaggedValue) (v x : TaggedValue) (after_it : Types)
+        → is_form_of form declared ≡ true → has_type shapes m.heap x (type_of_declared declared) ≡ true
+        → leads_to m.heap (is_of_class shapes class) v ≡ true
+        → HaveTypes shapes m.heap m.top.locals after_it.locals → HoldTypes shapes m.heap vs after_it.operands
+        → LeadsTo after_it next → IsSafe s (puts (at us) form field v x vs)
+    puts_safe form us vs v x after_it of_form x_typed leads has_locals holds goes =
+        ref_case m.heap (is_of_class shapes class) (λ y. IsSafe s (puts (at us) form field y x vs)) v leads
+        (rows.safe_null s ground m t d next us)
+        (λ n o found of_class.
+        let typed = (typed_at shapes m.heap t.beside.heap n o found).cells in
+        let c = cell_has o.kind.object o.cells of_class typed in
+        let fits = stored_typed shapes m.heap form declared x of_form x_typed in
+        safe_some s (object_at m.heap n) o _ found
+        (safe_check s (is_of_class shapes class o.kind.object) _ of_class
+        (rows.safe_to_store s ground m t d next us (putting form) n o (mark_of m.heap x) _
+        (safe_check s (nat_lt cell (length o.cells)) _ (within_length o.cells cell c.0 c.1)
+        (rows.leaves_stored s ground m t d next us vs after_it n o cell (stored_as form x) found
+        (cell_put o.kind.object o.cells (stored_as form x) of_class fits typed) has_locals holds goes)))))
+
+    -- ---- the instructions
+
+    pub get_operand : (form : Form) (after_it : Types) → is_form_of form declared ≡ true
+        → Applied below most (takes (Below (types.Class class) ∷ []) (Exactly (type_of_declared declared))) state after_it
+        → LeadsTo after_it next
+        → IsSafe s (on_reference m.top.operands (gets (at m.top.operands) form field))
+    get_operand form after_it of_form a leads =
+        take_one shapes m.heap (λ us. IsSafe s (on_reference us (gets (at m.top.operands) form field)))
+        (Below (types.Class class)) m.top.operands state.operands t.top.operands_typed a.enough
+        (rows.met_by s ground m t (takes (Below (types.Class class) ∷ []) (Exactly (type_of_declared declared)))
+        after_it a)
+        (λ v vs is rest.
+        safe_check s (is_reference v) _ (leads_is_reference m.heap (is_of_class shapes class) v is.type)
+        (gets_safe form m.top.operands vs v is.type (λ x kept.
+        rows.gives_it s ground m t d next (Below (types.Class class) ∷ []) m.top.operands vs (loaded_as form x)
+        (type_of_declared declared) after_it a (loaded_typed shapes m.heap form declared x of_form kept) rest leads)))
+
+    pub put_operand : (form : Form) (after_it : Types) → is_form_of form declared ≡ true
+        → Applied below most (takes (Below (types.Class class) ∷ Below (type_of_declared declared) ∷ []) Nothing) state after_it
+        → LeadsTo after_it next
+        → IsSafe s (on_top m.top.operands (λ x us. check (is_of_type shapes m.heap declared x)
+        (on_reference us (λ v vs. puts (at m.top.operands) form field v x vs))))
+    put_operand form after_it of_form a leads =
+        let ds = Below (types.Class class) ∷ Below (type_of_declared declared) ∷ [] in
+        let l = leaves_nothing below most ds state after_it a in
+        take_two shapes m.heap (λ us. IsSafe s (on_top us (λ x us. check (is_of_type shapes m.heap declared x)
+        (on_reference us (λ v vs. puts (at m.top.operands) form field v x vs)))))
+        (Below (types.Class class)) (Below (type_of_declared declared)) m.top.operands state.operands
+        t.top.operands_typed a.enough (rows.met_by s ground m t (takes ds Nothing) after_it a)
+        (λ x v vs x_is is rest.
+        safe_check s (is_of_type shapes m.heap declared x) _ (of_declared shapes m.heap declared x x_is.type)
+        (safe_check s (is_reference v) _ (leads_is_reference m.heap (is_of_class shapes class) v is.type)
+        (puts_safe form m.top.operands vs v x after_it of_form x_is.type is.type
+        (rows.locals_still s ground m t after_it.locals l.locals_are)
+        (rows.held s ground m t (drop 2 state.operands) after_it.operands vs l.operands_are rest) leads)))
+
+    -- of the object in local 0
+    this_there : (given : Given) (ds : List Demand) (after_it : Types)
+        → Applied below most (reads 0 (Below (types.Class class)) ds given) state after_it
+        → (v : TaggedValue) × (slice_get m.top.locals 0 ≡ Some v) × (leads_to m.heap (is_of_class shapes class) v ≡ true)
+    this_there given ds after_it a =
+        let l = local_there shapes m.heap m.top.locals state.locals 0 (placed s ground m t).locals_typed a.there in
+        let is_type = local_type state.locals 0 l.type l.type_there in
+        let met : is_below below l.type (types.Class class) ≡ true =
+        ap (λ (u : Ty). is_below below u (types.Class class)) (sym is_type) ∙ a.local_met in (
+          l.value,
+          l.there,
+          type_up shapes ground.order m.heap l.value l.type (types.Class class)
+              ((rows.orders s ground m t).up l.type (types.Class class) met) l.has,
+        )
+
+    pub get_this : (form : Form) (after_it : Types) → is_form_of form declared ≡ true
+        → Applied below most (reads 0 (Below (types.Class class)) [] (Exactly (type_of_declared declared))) state after_it
+        → LeadsTo after_it next
+        → IsSafe s (on_reference_local (slice_get m.top.locals 0) (λ v. gets (at m.top.operands) form field v m.top.operands))
+    get_this form after_it of_form a leads =
+        let l = this_there (Exactly (type_of_declared declared)) [] after_it a in
+        let r = reads_one shapes (rows.before s ground m t) most 0 (Below (types.Class class)) [] state after_it
+        (type_of_declared declared) a in
+        let P : Option TaggedValue → Type 0 =
+        λ o. IsSafe s (on_reference_local o (λ v. gets (at m.top.operands) form field v m.top.operands)) in
+        subst P (sym l.1)
+        (safe_check s (is_reference l.0) _ (leads_is_reference m.heap (is_of_class shapes class) l.0 l.2)
+        (gets_safe form m.top.operands m.top.operands l.0 l.2 (λ x kept.
+        safe_gives s ground m t d most next m.top.operands after_it (loaded_as form x) m.top.operands
+        (room_left shapes m.heap most 0 state.operands m.top.operands a.enough a.room t.top.operands_typed)
+        (rows.locals_still s ground m t after_it.locals r.locals_are)
+        (rows.held s ground m t (type_of_declared declared ∷ state.operands) after_it.operands
+        (loaded_as form x ∷ m.top.operands) r.operands_are
+        (loaded_typed shapes m.heap form declared x of_form kept, t.top.operands_typed))
+        leads)))
+
+    pub put_this : (form : Form) (after_it : Types) → is_form_of form declared ≡ true
+        → Applied below most (reads 0 (Below (types.Class class)) (Below (type_of_declared declared) ∷ []) Nothing) state after_it
+        → LeadsTo after_it next
+        → IsSafe s (on_top m.top.operands (λ x us. check (is_of_type shapes m.heap declared x)
+        (on_reference_local (slice_get m.top.locals 0) (λ v. puts (at m.top.operands) form field v x us))))
+    put_this form after_it of_form a leads =
+        let ds = Below (type_of_declared declared) ∷ [] in
+        let l = this_there Nothing ds after_it a in
+        let r = reads_nothing shapes (rows.before s ground m t) most 0 (Below (types.Class class)) ds state after_it a
+        in
+        take_one shapes m.heap (λ us. IsSafe s (on_top us (λ x us. check (is_of_type shapes m.heap declared x)
+        (on_reference_local (slice_get m.top.locals 0) (λ v. puts (at m.top.operands) form field v x us)))))
+        (Below (type_of_declared declared)) m.top.operands state.operands t.top.operands_typed a.enough
+        (rows.met_by s ground m t (reads 0 (Below (types.Class class)) ds Nothing) after_it a)
+        (λ x vs x_is rest.
+        let P : Option TaggedValue → Type 0 =
+        λ o. IsSafe s (on_reference_local o (λ v. puts (at m.top.operands) form field v x vs)) in
+        safe_check s (is_of_type shapes m.heap declared x) _ (of_declared shapes m.heap declared x x_is.type)
+        (subst P (sym l.1)
+        (safe_check s (is_reference l.0) _ (leads_is_reference m.heap (is_of_class shapes class) l.0 l.2)
+        (puts_safe form m.top.operands vs l.0 x after_it of_form x_is.type l.2
+        (rows.locals_still s ground m t after_it.locals r.locals_are)
+        (rows.held s ground m t (drop 1 state.operands) after_it.operands vs r.operands_are rest) leads))))

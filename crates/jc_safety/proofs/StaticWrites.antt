@@ -1,0 +1,190 @@
+-- Static fields with another value in one of them are typed.
+use Rattle.std.proofs.Common.{◌≡◌, ◌⊎◌, ℕ, zero, suc, ◌==◌, List, [], ◌∷◌, length, map, set, slice_get}
+use Rattle.std.proofs.Common.{Bool, true, false, cond, Option, Some, find, is_some, refl, sym, ap, ◌∙◌, subst}
+use Rattle.std.proofs.Common.{inl, inr, if◌then◌else◌, eqb-true, length-set}
+use Rattle.std.specs.List.{AllByRecursion}
+use Rattle.std.specs.Option.{option_and_then, option_map_or}
+use Rattle.jc_base.specs.declared.declared_type.DeclaredType.{DeclaredType}
+use Rattle.jc_link.specs.Linked.{World}
+use Rattle.jc_link.specs.Target.{static_type_of}
+use Rattle.jc_link.specs.declared.named.StaticPlace.{StaticPlace}
+use Rattle.jc_names.specs.Names.{home_at, number_at}
+use Rattle.jc_names.specs.declared.name.ClassName.{ClassName}
+use Rattle.jc_store.specs.Heap.{Heap}
+use Rattle.jc_machine.specs.Fields.{static_at, with_static, with_value, with_value_in}
+use Rattle.jc_machine.specs.Lookup.{is_kept_as, of_package, with_package}
+use Rattle.jc_machine.specs.Machine.{StaticValue}
+use Rattle.jc_machine.specs.Typed.{StaticTyped, StaticsTyped}
+use Rattle.jc_words.specs.Values.{TaggedValue}
+use Rattle.jc_safety.proofs.Statics.{held, home_back, value_there}
+
+-- a member of a list of which one was changed
+set_get : {A : Type 0} (xs : List A) (n i : ℕ) (x y : A) → slice_get (set xs n x) i ≡ Some y
+    → (slice_get xs i ≡ Some y) ⊎ ((i ≡ n) × (x ≡ y))
+set_get [] n i x y e = absurd cc
+set_get (z ∷ xs) zero zero x y e = inr (refl, cc)
+set_get (z ∷ xs) zero (suc i) x y e = inl e
+set_get (z ∷ xs) (suc n) zero x y e = inl e
+set_get (z ∷ xs) (suc n) (suc i) x y e = elim (set_get xs n i x y e) [
+  | inl a ↦ inl a
+  | inr a ↦ inr (ap suc a.0, a.1)
+]
+
+package_get : {A : Type 0} (xs : List A) (n i : ℕ) (x y : A) → of_package (with_package xs n x) i ≡ Some y
+    → (of_package xs i ≡ Some y) ⊎ ((i ≡ n) × (x ≡ y))
+package_get xs zero i x y e = inl e
+package_get xs (suc n) zero x y e = absurd cc
+package_get xs (suc n) (suc i) x y e = elim (set_get xs n i x y e) [
+  | inl a ↦ inl a
+  | inr a ↦ inr (ap suc a.0, a.1)
+]
+
+-- ---- what is found is found still, with its offset
+
+find_still : (offset at : ℕ) (v : TaggedValue) (fields : List StaticValue)
+    → is_some (find (λ (s : StaticValue). s.offset == at) fields) ≡ true
+    → is_some (find (λ (s : StaticValue). s.offset == at) (map (with_value offset v) fields)) ≡ true
+find_still offset at v [] e = absurd cc
+find_still offset at v (x ∷ fields) e =
+    by_test (x.offset == at) (by_change (x.offset == offset) refl) (find_still offset at v fields) e
+  where
+    by_change : (b : Bool) → (x.offset == offset) ≡ b
+        → (if b then record { offset = offset; value = v } else x).offset ≡ x.offset
+    by_change true t = sym (eqb-true x.offset offset t)
+    by_change false t = refl
+
+    by_test : (b : Bool) → (with_value offset v x).offset ≡ x.offset
+        → (is_some (find (λ (s : StaticValue). s.offset == at) fields) ≡ true
+        → is_some (find (λ (s : StaticValue). s.offset == at) (map (with_value offset v) fields)) ≡ true)
+        → is_some (cond (x.offset == at) (Some x) (find (λ (s : StaticValue). s.offset == at) fields)) ≡ true
+        → is_some (cond ((with_value offset v x).offset == at) (Some (with_value offset v x))
+        (find (λ (s : StaticValue). s.offset == at) (map (with_value offset v) fields))) ≡ true
+    by_test b same later e =
+        let P : ℕ → Type 0 =
+        λ o. is_some (cond (o == at) (Some (with_value offset v x))
+        (find (λ (s : StaticValue). s.offset == at) (map (with_value offset v) fields))) ≡ true in
+        subst P (sym same) (by_offset (x.offset == at) refl later e)
+      where
+        by_offset : (b : Bool) → (x.offset == at) ≡ b
+            → (is_some (find (λ (s : StaticValue). s.offset == at) fields) ≡ true
+            → is_some (find (λ (s : StaticValue). s.offset == at) (map (with_value offset v) fields)) ≡ true)
+            → is_some (cond b (Some x) (find (λ (s : StaticValue). s.offset == at) fields)) ≡ true
+            → is_some (cond b (Some (with_value offset v x))
+            (find (λ (s : StaticValue). s.offset == at) (map (with_value offset v) fields))) ≡ true
+        by_offset true t later e = refl
+        by_offset false t later e = later e
+
+module _ (w : World) (heap : Heap TaggedValue) (statics : List (List StaticValue)) (typed : StaticsTyped w heap statics)
+    (place : StaticPlace) (declared : DeclaredType ClassName)
+    (said : static_type_of w.shapes place ≡ Some declared) (v : TaggedValue)
+    (fits : is_kept_as w.shapes heap declared v ≡ true) where
+  -- each field of a package is typed, with the value in that one
+  one_typed : (number : ℕ) → number_at place.home ≡ Some number → (x : StaticValue)
+      → StaticTyped w.shapes heap (home_at number) x
+      → StaticTyped w.shapes heap (home_at number) (with_value place.offset v x)
+  one_typed number is x t = by_test (x.offset == place.offset) refl
+    where
+      by_test : (b : Bool) → (x.offset == place.offset) ≡ b
+          → StaticTyped w.shapes heap (home_at number)
+          (if b then record { offset = place.offset; value = v } else x)
+      by_test true e = record {
+        declared = declared;
+        found =
+            ap (λ (h : ℕ). static_type_of w.shapes (record { home = h; offset = place.offset }))
+            (home_back place.home number is)
+            ∙ said;
+        typed = fits;
+      }
+      by_test false e = t
+
+  all_typed : (number : ℕ) → number_at place.home ≡ Some number → (fields : List StaticValue)
+      → AllByRecursion (StaticTyped w.shapes heap (home_at number)) fields
+      → AllByRecursion (StaticTyped w.shapes heap (home_at number)) (map (with_value place.offset v) fields)
+  all_typed number is [] h = tt
+  all_typed number is (x ∷ fields) h = (one_typed number is x h.0, all_typed number is fields h.1)
+
+  module _ (number : ℕ) (is : number_at place.home ≡ Some number) (fields : List StaticValue)
+      (there : of_package statics number ≡ Some fields) where
+    abbrev changed : List (List StaticValue)
+    changed = with_package statics number (map (with_value place.offset v) fields)
+
+    changed_count : (n : ℕ) → length (with_package statics n (map (with_value place.offset v) fields)) ≡ length statics
+    changed_count zero = refl
+    changed_count (suc n) = length-set statics n (map (with_value place.offset v) fields)
+
+    changed_typed : (k : ℕ) (others : List StaticValue) → of_package changed k ≡ Some others
+        → AllByRecursion (StaticTyped w.shapes heap (home_at k)) others
+    changed_typed k others e = elim (package_get statics number k (map (with_value place.offset v) fields) others e) [
+      | inl same ↦ typed.typed k others same
+      | inr new ↦
+          let each = all_typed number is fields (typed.typed number fields there) in
+          let here = subst
+          (λ (n : ℕ). AllByRecursion (StaticTyped w.shapes heap (home_at n)) (map (with_value place.offset v) fields))
+          (sym new.0) each in
+          subst (λ (xs : List StaticValue). AllByRecursion (StaticTyped w.shapes heap (home_at k)) xs) new.1 here
+    ]
+
+    -- a package's fields are found as before, or are those with the value
+    package_still : (n k : ℕ) (others : List StaticValue) → of_package statics k ≡ Some others
+        → of_package statics n ≡ Some fields
+        → (of_package (with_package statics n (map (with_value place.offset v) fields)) k ≡ Some others)
+        ⊎ ((fields ≡ others) × (of_package (with_package statics n (map (with_value place.offset v) fields)) k ≡ Some
+        (map (with_value place.offset v) fields)))
+    package_still zero k others e f = inl e
+    package_still (suc n) zero others e f = absurd cc
+    package_still (suc n) (suc k) others e f = by_place statics n k e f
+      where
+        by_place : (xs : List (List StaticValue)) (n k : ℕ) → slice_get xs k ≡ Some others
+            → slice_get xs n ≡ Some fields
+            → (slice_get (set xs n (map (with_value place.offset v) fields)) k ≡ Some others)
+            ⊎ ((fields ≡ others) × (slice_get (set xs n (map (with_value place.offset v) fields)) k ≡ Some
+            (map (with_value place.offset v) fields)))
+        by_place [] n k e f = absurd cc
+        by_place (x ∷ xs) zero zero e f = inr (cc, refl)
+        by_place (x ∷ xs) zero (suc k) e f = inl e
+        by_place (x ∷ xs) (suc n) zero e f = inl e
+        by_place (x ∷ xs) (suc n) (suc k) e f = by_place xs n k e f
+
+    changed_present : (p : StaticPlace) (d : DeclaredType ClassName) → static_type_of w.shapes p ≡ Some d
+        → is_some (static_at changed p.home p.offset) ≡ true
+    changed_present p d says =
+        let x = value_there w heap statics typed p d says in
+        let h = held statics p x.0 x.1 in
+        let found_it : is_some (find (λ (s : StaticValue). s.offset == p.offset) h.fields) ≡ true =
+        ap (λ (o : Option StaticValue). is_some o) h.found in
+        let by_number : (o : Option (List StaticValue)) → of_package changed h.number ≡ o
+        → is_some (option_and_then (find (λ (s : StaticValue). s.offset == p.offset)) o) ≡ true
+        → is_some (static_at changed p.home p.offset) ≡ true =
+        λ o e k.
+        ap (λ (n : Option ℕ). is_some (option_and_then (find (λ (s : StaticValue). s.offset == p.offset))
+        (option_and_then (of_package changed) n))) h.is_number
+        ∙ ap (λ (o : Option (List StaticValue)). is_some
+        (option_and_then (find (λ (s : StaticValue). s.offset == p.offset)) o)) e
+        ∙ k in
+        elim (package_still number h.number h.fields h.of_number there) [
+          | inl same ↦ by_number (Some h.fields) same found_it
+          | inr new ↦
+              by_number (Some (map (with_value place.offset v) fields)) new.1
+              (find_still place.offset p.offset v fields
+              (subst (λ (xs : List StaticValue). is_some (find (λ (s : StaticValue). s.offset == p.offset) xs) ≡ true)
+              (sym new.0) found_it))
+        ]
+
+    changed_all : StaticsTyped w heap changed
+    changed_all = record {
+      count = changed_count number ∙ typed.count;
+      typed = changed_typed;
+      present = changed_present;
+    }
+
+  pub put_typed : StaticsTyped w heap (with_static statics place.home place.offset v)
+  put_typed =
+      let x = value_there w heap statics typed place declared said in
+      let h = held statics place x.0 x.1 in
+      let P : Option ℕ → Type 0 =
+      λ n. StaticsTyped w heap (option_map_or (λ (number : ℕ). with_value_in statics number place.offset v) n statics)
+      in
+      let Q : Option (List StaticValue) → Type 0 =
+      λ o. StaticsTyped w heap (option_map_or (λ (fields : List StaticValue). with_package statics h.number
+      (map (with_value place.offset v) fields)) o statics) in
+      subst P (sym h.is_number) (subst Q (sym h.of_number) (changed_all h.number h.is_number h.fields h.of_number))

@@ -1,0 +1,277 @@
+-- A step of a well-typed machine is safe, whichever instruction it makes.
+use Rattle.std.proofs.Common.{◌≡◌, ℕ, zero, suc, ℤ, ◌<◌, List, [], ◌∷◌, map, Bool, true, Option, Some, Ok, refl, ap, subst}
+use Rattle.std.specs.List.{AllByRecursion}
+use Rattle.jc_check.specs.Typing.{BranchLeads, IsFineAt}
+use Rattle.jc_classes.specs.Members.{DeclaredMethod}
+use Rattle.jc_code.specs.Targets.{falls_of, object_falls, object_offsets, offsets_of, target_of, targets_of, word_falls, word_offsets}
+use Rattle.jc_code.specs.declared.instr.Operation.{Operation}
+use Rattle.jc_code.specs.declared.instr.Operation.TheVariants as operations
+use Rattle.jc_code.specs.declared.instr.Shuffle.TheVariants.{Duplicate, Pop, Swap}
+use Rattle.jc_code.specs.declared.instr.When.TheVariants.{Always, Compare, Zero}
+use Rattle.jc_code.specs.declared.instr.WordOperation.{WordOperation}
+use Rattle.jc_code.specs.declared.instr.WordOperation.TheVariants as ops
+use Rattle.jc_code.specs.declared.object.Form.TheVariants as Forms
+use Rattle.jc_code.specs.declared.object.Invocation.{Invocation}
+use Rattle.jc_code.specs.declared.object.ObjectOperation.{ObjectOperation}
+use Rattle.jc_code.specs.declared.object.ObjectOperation.TheVariants as objects
+use Rattle.jc_step.specs.Effect.{effect_of}
+use Rattle.jc_step.specs.Objects.{Setting, invocation_row, object_row}
+use Rattle.jc_step.specs.Row.{applied}
+use Rattle.jc_step.specs.Words.{word_effect}
+use Rattle.jc_step.specs.Method.{result_of}
+use Rattle.jc_types.specs.State.{Types}
+use Rattle.jc_types.specs.declared.ty.Ty.{Ty}
+use Rattle.jc_names.specs.declared.name.ClassName.{ClassName}
+use Rattle.jc_machine.specs.Going.{Here}
+use Rattle.jc_machine.specs.Lookup.{code_at, declared_at, instruction_at}
+use Rattle.jc_machine.specs.Machine.{Ends, Machine, Next, Outcome, Stuck, Surroundings, Throws, UsedUp}
+use Rattle.jc_machine.specs.Objects.{act_object}
+use Rattle.jc_machine.specs.Step.{Called, act, act_at, continued, defensive_step, settled, steps_of}
+use Rattle.jc_machine.specs.Typed.{IsTyped}
+use Rattle.jc_machine.specs.Words.{act_word}
+use Rattle.jc_words.specs.Shorts.{word_of}
+use Rattle.jc_safety.proofs.Arrays as arrays
+use Rattle.jc_safety.proofs.Calling.{IsCall, call_safe}
+use Rattle.jc_safety.proofs.Casting as casts
+use Rattle.jc_safety.proofs.FieldRows.{field_safe}
+use Rattle.jc_safety.proofs.Goes as goes
+use Rattle.jc_safety.proofs.Goes.{method, placed}
+use Rattle.jc_safety.proofs.Ground.{Ground, MethodOf, method_of_code}
+use Rattle.jc_safety.proofs.Making.{create, setting}
+use Rattle.jc_safety.proofs.Members.{HaveMembers}
+use Rattle.jc_safety.proofs.References as references
+use Rattle.jc_safety.proofs.Returning as returning
+use Rattle.jc_safety.proofs.Rows as rows
+use Rattle.jc_safety.proofs.Safe.{IsSafe, safe_some}
+use Rattle.jc_safety.proofs.Safe as safe
+use Rattle.jc_safety.proofs.Taking.{has_row, row_applied}
+use Rattle.jc_safety.proofs.Unwinding.{settles}
+use Rattle.jc_safety.proofs.Words as words
+use Rattle.jc_safety.specs.Safety.{EndsTyped, StaysTyped}
+
+unmapped : {A B : Type 0} (P : B → Type 0) (f : A → B) (xs : List A) → AllByRecursion P (map f xs)
+    → AllByRecursion (λ x. P (f x)) xs
+unmapped P f [] h = tt
+unmapped P f (x ∷ xs) h = (h.0, unmapped P f xs h.1)
+
+module _ {C : Type 0} (s : Surroundings C) (ground : Ground s) (m : Machine C) (t : IsTyped s m) (d : DeclaredMethod)
+    (next : ℕ) where
+  abbrev at : Here C
+  at = rows.here s ground m t d next m.top.operands
+
+  abbrev most : ℕ
+  most = rows.most s ground m t
+
+  abbrev state : Types
+  state = rows.state s ground m t
+
+  abbrev below : ClassName → ClassName → Bool
+  below = rows.below s ground m t
+
+  abbrev returned : Option Ty
+  returned = (method s ground m t).returned
+
+  abbrev LeadsTo : Types → ℕ → Type 0
+  LeadsTo after pc = rows.LeadsTo s ground m t after pc
+
+  abbrev BranchesTo : Types → ℤ → Type 0
+  BranchesTo after offset = rows.BranchesTo s ground m t after offset
+
+  module _ (members : HaveMembers s.world.shapes) (found : declared_at s.world m.top.method ≡ Some d)
+      (gives : returned ≡ result_of s.world.shapes d) (after : Types) where
+    -- ---- instructions on words
+
+    word_safe : (operation : WordOperation) → ((value : ℤ) → operation ≡ ops.Push value → word_of value < 65536)
+        → word_effect below most returned operation state ≡ Ok after
+        → AllByRecursion (BranchesTo after) (word_offsets operation)
+        → (word_falls operation ≡ true → LeadsTo after next) → IsSafe s (act_word at operation)
+    unfolding word_effect act_word
+    word_safe ops.Nop small e branches falls = words.nop s ground m t d next after e branches falls
+    word_safe (ops.Push value) small e branches falls =
+        words.push s ground m t d next value (small value refl) after e branches falls
+    word_safe (ops.Load local) small e branches falls = words.load s ground m t d next local after e branches falls
+    word_safe (ops.Store local) small e branches falls = words.store s ground m t d next local after e branches falls
+    word_safe (ops.Increment local by) small e branches falls =
+        words.increment s ground m t d next local by after e branches falls
+    word_safe (ops.Shuffle (Pop count)) small e branches falls =
+        words.shuffle_pop s ground m t d next count after e branches falls
+    word_safe (ops.Shuffle (Duplicate count depth)) small e branches falls =
+        words.shuffle_duplicate s ground m t d next count depth after e branches falls
+    word_safe (ops.Shuffle (Swap upper lower)) small e branches falls =
+        words.shuffle_swap s ground m t d next upper lower after e branches falls
+    word_safe (ops.Binary operator) small e branches falls =
+        words.binary s ground m t d next operator after e branches falls
+    word_safe (ops.Unary operator) small e branches falls =
+        words.unary s ground m t d next operator after e branches falls
+    word_safe (ops.Branch Always offset) small e branches falls =
+        words.goto s ground m t d next offset after e branches falls
+    word_safe (ops.Branch (Zero condition) offset) small e branches falls =
+        words.branch_zero s ground m t d next condition offset after e branches falls
+    word_safe (ops.Branch (Compare condition) offset) small e branches falls =
+        words.branch_compare s ground m t d next condition offset after e branches falls
+    word_safe (ops.StableSwitch default low offsets) small e branches falls =
+        words.stable_switch s ground m t d next default low offsets after e branches falls
+    word_safe (ops.LookupSwitch default cases) small e branches falls =
+        words.lookup_switch s ground m t d next default cases after e branches falls
+    word_safe ops.ReturnWord small e branches falls =
+        returning.return_word s ground m t d next found gives after
+        (row_applied below most _ state after e)
+
+    -- ---- instructions on objects
+
+    abbrev set : Setting
+    set = setting s ground m t d next
+
+    object_safe : (operation : ObjectOperation)
+        → ((invocation : Invocation) → operation ≡ objects.Invoke invocation
+        → IsCall s ground m t invocation after next)
+        → applied below most (object_row set operation) state ≡ Ok after
+        → AllByRecursion (BranchesTo after) (object_offsets operation)
+        → (object_falls operation ≡ true → LeadsTo after next) → IsSafe s (act_object at operation)
+    unfolding object_row act_object
+    object_safe objects.PushNull called e branches falls =
+        references.push_null s ground m t d next after (row_applied below most _ state after e) (falls refl)
+    object_safe (objects.Load local) called e branches falls =
+        references.load s ground m t d next local after (row_applied below most _ state after e) (falls refl)
+    object_safe (objects.Store local) called e branches falls =
+        references.store s ground m t d next local after (row_applied below most _ state after e) (falls refl)
+    object_safe (objects.LoadComponent Forms.Reference) called e branches falls =
+        arrays.load_reference s ground m t d next m.top.operands state.operands after t.top.operands_typed
+        (row_applied below most _ state after e) (falls refl)
+    object_safe (objects.LoadComponent Forms.Byte) called e branches falls =
+        arrays.load_number s ground m t d next Forms.Byte after refl (row_applied below most _ state after e)
+        (falls refl)
+    object_safe (objects.LoadComponent Forms.Short) called e branches falls =
+        arrays.load_number s ground m t d next Forms.Short after refl (row_applied below most _ state after e)
+        (falls refl)
+    object_safe (objects.StoreComponent Forms.Reference) called e branches falls =
+        arrays.store_reference s ground m t d next after (row_applied below most _ state after e) (falls refl)
+    object_safe (objects.StoreComponent Forms.Byte) called e branches falls =
+        arrays.store_number s ground m t d next Forms.Byte after refl (row_applied below most _ state after e)
+        (falls refl)
+    object_safe (objects.StoreComponent Forms.Short) called e branches falls =
+        arrays.store_number s ground m t d next Forms.Short after refl (row_applied below most _ state after e)
+        (falls refl)
+    object_safe objects.ArrayLength called e branches falls =
+        arrays.array_length s ground m t d next after (row_applied below most _ state after e) (falls refl)
+    object_safe (objects.Branch when offset) called e branches falls =
+        references.branch s ground m t d next when offset after (row_applied below most _ state after e) branches.0
+        (falls refl)
+    object_safe (objects.Field access index) called e branches falls =
+        field_safe s ground m t d next access index after (has_row below most _ state after e) (falls refl)
+    object_safe (objects.Invoke invocation) called e branches falls =
+        let h = has_row below most (invocation_row set invocation) state after e in
+        call_safe s ground m t d next members set refl refl invocation h.found after h.is h.applied
+        (called invocation refl)
+    object_safe (objects.Create creation) called e branches falls =
+        create s ground m t d next creation after (has_row below most _ state after e) (falls refl)
+    object_safe (objects.CheckCast type) called e branches falls =
+        casts.check_cast s ground m t d next type after (has_row below most _ state after e) (falls refl)
+    object_safe (objects.InstanceOf type) called e branches falls =
+        casts.instance_of s ground m t d next type after (has_row below most _ state after e) (falls refl)
+    object_safe objects.Throw called e branches falls =
+        references.throw s ground m t d next after (row_applied below most _ state after e)
+    object_safe objects.ReturnReference called e branches falls =
+        returning.return_reference s ground m t d next found gives after (row_applied below most _ state after e)
+    object_safe objects.ReturnVoid called e branches falls =
+        returning.return_void s ground m t d next found gives after (row_applied below most _ state after e)
+
+    -- ---- any instruction
+
+    act_safe : (operation : Operation)
+        → ((value : ℤ) → operation ≡ operations.Word (ops.Push value) → word_of value < 65536)
+        → ((invocation : Invocation) → operation ≡ operations.Object (objects.Invoke invocation)
+        → IsCall s ground m t invocation after next)
+        → effect_of set most operation state ≡ Ok after → AllByRecursion (BranchesTo after) (offsets_of operation)
+        → (falls_of operation ≡ true → LeadsTo after next) → IsSafe s (act at operation)
+    unfolding effect_of
+    act_safe (operations.Word operation) small called e branches falls =
+        word_safe operation (λ value is. small value (ap operations.Word is)) e branches falls
+    act_safe (operations.Object operation) small called e branches falls =
+        object_safe operation (λ invocation is. called invocation (ap operations.Object is)) e branches falls
+
+-- ---- a step
+
+module _ {C : Type 0} (s : Surroundings C) (ground : Ground s) (members : HaveMembers s.world.shapes) where
+  -- what an instruction came to, with what it throws caught
+  settled_fine : (outcome : Outcome C) → safe.IsFine s outcome → StaysTyped s (settled s outcome)
+  settled_fine (Next m) h = h
+  settled_fine (Throws m number) h = settles s ground m number h
+  settled_fine (Ends m value) h = h
+  settled_fine (UsedUp m) h = h
+  settled_fine Stuck h = h
+
+  module _ (m : Machine C) (t : IsTyped s m) where
+    its_method : MethodOf s.world m.top.method (placed s ground m t).body (placed s ground m t).code
+    its_method =
+        let p = placed s ground m t in
+        method_of_code s.world m.top.method.offset p.body p.code m.top.method.number p.loaded
+        (ground.packages m.top.method.number p.body p.loaded) p.there
+
+    its_instruction : IsFineAt (goes.rules s ground m t) (method s ground m t) (placed s ground m t).typing
+        (placed s ground m t).typed.listing m.top.pc (placed s ground m t).state
+    its_instruction = (placed s ground m t).typed.each m.top.pc (placed s ground m t).state (placed s ground m t).stated
+
+    acts : IsSafe s (act_at s m)
+    unfolding act_at
+    acts =
+        let p = placed s ground m t in
+        let me = its_method in
+        let x = its_instruction in
+        let listing = p.typed.listing in
+        let listed = ground.listed p.code.code listing m.top.pc x.instr p.typed.whole x.stands in
+        let begins = ground.begins p.code.code listing m.top.pc x.instr p.typed.whole x.stands in
+        let constant = λ (value : ℤ) (is : x.instr.instr.operation ≡ operations.Word (ops.Push value)).
+        ground.constants p.code.code listing m.top.pc x.instr value p.typed.whole x.stands is in
+        let called : (invocation : Invocation) → x.instr.instr.operation ≡ operations.Object (objects.Invoke invocation)
+        → IsCall s ground m t invocation x.fine.after x.instr.instr.next_pc =
+        λ invocation is. record {
+          call = x.instr.instr;
+          stands = listed;
+          invokes = is;
+          behind = refl;
+          effect = x.fine.effect;
+          leads = x.fine.falls (ap falls_of is);
+        } in
+        let branches = subst
+        (λ (pc : ℕ). AllByRecursion (BranchLeads (goes.rules s ground m t) p.typing x.fine.after)
+        (targets_of pc x.instr.instr.operation))
+        begins x.fine.branches in
+        let S : ℕ → Type 0 = λ most. IsSafe s (act (record {
+          around = s;
+          machine = m;
+          method = me.declared;
+          max_stack = most;
+          next_pc = x.instr.instr.next_pc;
+        }) x.instr.instr.operation) in
+        safe_some s (declared_at s.world m.top.method) me.declared _ me.found
+        (safe_some s me.declared.method.header me.header _ me.header_is
+        (safe_some s (code_at s.world m.top.method) p.code _ p.there
+        (safe_some s (instruction_at p.code.code m.top.pc) x.instr.instr _ listed
+        (subst S me.max_stack
+        (act_safe s ground m t me.declared x.instr.instr.next_pc members me.found me.returned x.fine.after
+        x.instr.instr.operation constant called x.fine.effect
+        (unmapped (BranchLeads (goes.rules s ground m t) p.typing x.fine.after) (target_of m.top.pc)
+        (offsets_of x.instr.instr.operation) branches)
+        x.fine.falls)))))
+
+    pub steps_safely : StaysTyped s (defensive_step s m).outcome
+    unfolding defensive_step
+    steps_safely = settled_fine (act_at s m).outcome acts.fine
+
+  -- ---- many steps
+
+  goes_on_safely : (go : Machine C → Called C) (outcome : Outcome C)
+      → ((m : Machine C) → IsTyped s m → EndsTyped s (go m).ends) → StaysTyped s outcome
+      → EndsTyped s (continued go outcome).ends
+  goes_on_safely go (Next m) each h = each m h
+  goes_on_safely go (Throws m number) each h = h
+  goes_on_safely go (Ends m value) each h = h
+  goes_on_safely go (UsedUp m) each h = h
+  goes_on_safely go Stuck each h = h
+
+  pub runs_safely : (n : ℕ) (m : Machine C) → IsTyped s m → EndsTyped s (steps_of s n m).ends
+  unfolding steps_of
+  runs_safely zero m t = t.beside
+  runs_safely (suc n) m t =
+      goes_on_safely (steps_of s n) (defensive_step s m).outcome (runs_safely n) (steps_safely m t)

@@ -9,7 +9,6 @@ use Rattle.jc_natives.proofs.Bare.{both}
 use Rattle.jc_natives.proofs.Keeping.{both_are}
 use Rattle.jc_natives.specs.Kept.{Kept, after_install, are_bytes, has_registered, is_aid, is_instance_number, kept_instances, with_command, with_install}
 use Rattle.jc_natives.specs.Meaning.{fits_command, fits_installing, fits_instance, fits_kept}
-use Rattle.jc_natives.specs.declared.kept.Instance.{Instance}
 use Rattle.jc_store.specs.Heap.{Heap}
 use Rattle.jc_words.specs.Values.{TaggedValue}
 

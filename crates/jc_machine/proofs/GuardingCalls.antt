@@ -20,7 +20,8 @@ use Rattle.jc_machine.specs.Calls.{MethodTarget, VirtualTarget, act_call, act_in
 use Rattle.jc_machine.specs.Calls.{act_static_call, act_virtual, active_in, after_native, called_as, callback_fits}
 use Rattle.jc_machine.specs.Calls.{calls_back, entered, enters, found_for, frame_of, has_interface, has_room}
 use Rattle.jc_machine.specs.Calls.{inner_native_ends, invokes, is_in_place_of, native_answer, native_ends, native_gives}
-use Rattle.jc_machine.specs.Calls.{native_type, on_native, previous_in, special_target, static_target, type_of_member}
+use Rattle.jc_machine.specs.Calls.{native_may_begin, native_type, on_native, previous_in, special_target}
+use Rattle.jc_machine.specs.Calls.{static_target, type_of_member}
 use Rattle.jc_machine.specs.Calls.{virtual_member, virtual_target, with_arguments, with_given, with_receiver}
 use Rattle.jc_machine.specs.Going.{Here, moved, plain, throws, touched, with_machine}
 use Rattle.jc_machine.specs.Guarded.{AreGuarded, IsActive, IsJudged, of_callee, of_frame, of_runtime}
@@ -237,10 +238,11 @@ inner_keeps : {C : Type 0} {before : List Touch} (h : Here C) → AreNativesGuar
     → IsActive h.machine active.context → (previous : Option Owner) (member : ℕ) (arguments operands : List TaggedValue)
     → KeepsLaw h.around h.machine before (on_native h active previous member arguments (inner_native_ends operands))
 inner_keeps h natives active may previous member arguments operands =
-    at_some (native_type h.around.world.shapes member) _ (λ signature e.
+    at_check (native_may_begin h.around.world.shapes h.machine.heap member arguments) _
+    (at_some (native_type h.around.world.shapes member) _ (λ signature e.
     inner_end_keeps h (native_answer h active previous member arguments) signature operands
     (fine_answer h natives active may previous member arguments)
-    (native_answer h active previous member arguments).ends refl)
+    (native_answer h active previous member arguments).ends refl))
 
 called_as_keeps : {C : Type 0} {before : List Touch} (h : Here C) → AreNativesGuarded h.around.natives
     → (owner : Owner) → IsActive h.machine owner.context → (method : MethodName) (arguments operands : List TaggedValue)
@@ -287,10 +289,11 @@ native_keeps : {C : Type 0} {before : List Touch} (h : Here C) → AreNativesGua
     (arguments operands : List TaggedValue)
     → KeepsLaw h.around h.machine before (on_native h active previous member arguments (native_ends operands))
 native_keeps h natives active may previous member arguments operands =
-    at_some (native_type h.around.world.shapes member) _ (λ signature e.
+    at_check (native_may_begin h.around.world.shapes h.machine.heap member arguments) _
+    (at_some (native_type h.around.world.shapes member) _ (λ signature e.
     end_keeps h natives (native_answer h active previous member arguments) signature operands
     (fine_answer h natives active may previous member arguments)
-    (native_answer h active previous member arguments).ends refl)
+    (native_answer h active previous member arguments).ends refl))
 
 -- ---- a method that was found
 

@@ -28,7 +28,7 @@ use Rattle.jc_store.specs.declared.kind.ObjectType.{ObjectType}
 use Rattle.jc_store.specs.declared.kind.ObjectType.TheVariants.{Instance, BooleanArray, ByteArray, ShortArray}
 use Rattle.jc_store.specs.declared.kind.ObjectType.TheVariants.{ReferenceArray}
 use Rattle.jc_machine.specs.Accepted.{api_alone}
-use Rattle.jc_machine.specs.Agree.{Pointwise}
+use Rattle.jc_machine.specs.Reading.{Pointwise}
 use Rattle.jc_machine.specs.Lookup.{fields_of, fields_within, is_byte, of_package, own_fields}
 use Rattle.jc_machine.specs.Machine.{Frame, StaticValue}
 use Rattle.jc_machine.specs.Runtime.{HasRuntimeObject, HasRuntimeObjects, RuntimeObject, runtime_objects}

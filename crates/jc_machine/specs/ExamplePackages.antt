@@ -146,7 +146,7 @@ client = a_package 2 (default_lang ∷ info 1 ∷ []) [] (clients ∷ [])
     ∷ [])
 
 -- ---- a package of code that no check would accept, and of code that throws: Probe's static methods, each for one end, and Open, whose
--- method is abstract
+-- method is abstract; and Mistaken, whose row for the interface Asked leads to Object's equals, which takes no short
 
 abbrev pub probes : List ℕ → List MethodShape
 probes [] = []
@@ -159,6 +159,7 @@ probe_of offset = a_method offset 0 true (Reference object_ref ∷ []) 1 0 2
 abbrev pub probe_class : ClassShape
 probe_class = a_class 0 object_ref 0 [] [] [] (
     probe_of 200 ∷ probe_of 210 ∷ probe_of 220 ∷ a_method 230 0 true (Reference (Internal 0) ∷ []) 1 0 1 ∷ probe_of 240 ∷ probe_of 250
+    ∷ probe_of 260
     ∷ a_method 1 0 true [] 0 1 1 ∷ a_method 130 0 true [] 0 0 0
     ∷ probes (10 ∷ 20 ∷ 30 ∷ 40 ∷ 50 ∷ 60 ∷ 70 ∷ 80 ∷ 100 ∷ 120 ∷ 140 ∷ 160 ∷ 180 ∷ []))
 
@@ -171,10 +172,23 @@ open_class = a_class 30 object_ref 0 (300 ∷ []) [] [] (record {
   signature = takes [];
 } ∷ [])
 
+abbrev pub asked_interface : ClassShape
+asked_interface = record {
+  offset = 50;
+  body = Records.Interface (record { superinterfaces = [] });
+  is_abstract = true;
+  fields = [];
+  methods = record { token = 0; is_static = false; offset = 0; header = None; signature = takes (Short ∷ []) } ∷ [];
+}
+
+abbrev pub mistaken_class : ClassShape
+mistaken_class = a_class 60 object_ref 0 [] (record { interface = Internal 50; indexes = 0 ∷ [] } ∷ []) [] []
+
 abbrev pub probe : Package
-probe = a_package 1 (default_framework ∷ default_lang ∷ []) [] (probe_class ∷ open_class ∷ [])
+probe = a_package 1 (default_framework ∷ default_lang ∷ []) []
+    (probe_class ∷ open_class ∷ asked_interface ∷ mistaken_class ∷ [])
     (Classref (Internal 0) ∷ VirtualMethodref (record { class = Internal 30; token = 1 })
-    ∷ StaticMethodref (places.Internal 230) ∷ StaticMethodref (places.Internal 140) ∷ [])
+    ∷ StaticMethodref (places.Internal 230) ∷ StaticMethodref (places.Internal 140) ∷ Classref (Internal 50) ∷ [])
     (code 1 (0x04 ∷ 0x04 ∷ 0x78 ∷ []) []  -- an operand more than the one that it may have
     ∷ code 10 (0x78 ∷ []) []  -- an operand is missing
     ∷ code 20 (0x1C ∷ 0x78 ∷ []) []  -- local 0 was never written
@@ -198,6 +212,7 @@ probe = a_package 1 (default_framework ∷ default_lang ∷ []) [] (probe_class 
     ∷ code 230 (0x04 ∷ 0x78 ∷ []) []
     ∷ code 240 (0x18 ∷ 0x8B ∷ 0 ∷ 1 ∷ 0x78 ∷ []) []  -- a method that is abstract, or another class's
     ∷ code 250 (0x18 ∷ 0x94 ∷ 0 ∷ 0 ∷ 0 ∷ 0x3B ∷ 0x04 ∷ 0x78 ∷ []) []  -- a cast
+    ∷ code 260 (0x18 ∷ 0x03 ∷ 0x8E ∷ 2 ∷ 0 ∷ 4 ∷ 0 ∷ 0x78 ∷ []) []  -- a method of Asked, on 0
     ∷ [])
 
 -- ---- a package that asks the runtime for the shareable object of an applet: a static method of JCSystem, and then 1

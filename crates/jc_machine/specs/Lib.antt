@@ -9,12 +9,12 @@ pub mod Fields
 pub mod Calls
 pub mod Objects
 pub mod Step
-pub mod Agree
+pub mod Reading
 pub mod Accepted
 pub mod Typed
 pub mod Guarded
 pub mod Natives
-pub mod Following
+pub mod Running
 pub mod Uncounted
 pub mod WordNatives
 pub mod Idle

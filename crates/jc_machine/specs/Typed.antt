@@ -26,7 +26,7 @@ use Rattle.jc_types.specs.State.{Types}
 use Rattle.jc_types.specs.declared.ty.Ty.{Ty}
 use Rattle.jc_types.specs.declared.ty.Ty.TheVariants as types
 use Rattle.jc_machine.specs.Accepted.{linked_as}
-use Rattle.jc_machine.specs.Agree.{Pointwise}
+use Rattle.jc_machine.specs.Reading.{Pointwise}
 use Rattle.jc_machine.specs.Fields.{static_at}
 use Rattle.jc_names.specs.Names.{home_at}
 use Rattle.jc_machine.specs.Lookup.{body_at, code_at, component_class, declared_at, fields_of, instruction_at, is_array, is_boolean_array, is_byte, is_byte_array, is_instance, is_kept_as, is_of_class, is_short_array, is_word, leads_to, of_package}

@@ -4,12 +4,11 @@ use Rattle.jc_link.specs.Linked.{World}
 use Rattle.jc_store.specs.Heap.{Object, object_at}
 use Rattle.jc_store.specs.Store.{Store, class_number_at}
 use Rattle.jc_machine.specs.Accepted.{IsAccepted}
-use Rattle.jc_machine.specs.Agree.{HeapReads, Pointwise, Reads}
-use Rattle.jc_machine.specs.Following.{ReadsResult}
 use Rattle.jc_machine.specs.Lookup.{is_array}
 use Rattle.jc_machine.specs.Machine.{Callback, NativeAnswer, NativeCall, Natives}
 use Rattle.jc_machine.specs.Machine.{Calls, Gives, IsStuck, NativeEnd, ThrowsObject}
 use Rattle.jc_machine.specs.Natives.{IsFitCall}
+use Rattle.jc_machine.specs.Reading.{HeapReads, Pointwise, Reads, ReadsResult}
 use Rattle.jc_machine.specs.declared.natives.WordCall.{WordCall}
 use Rattle.jc_machine.specs.declared.natives.WordCallback.{WordCallback}
 use Rattle.jc_machine.specs.declared.natives.WordOutcome.{WordOutcome}

@@ -7,7 +7,7 @@ ghost use Rattle.jc_names.specs.declared.name.MethodName.TheVariants.{Api, Loade
 ghost use Rattle.jc_firewall.specs.declared.access.Access.TheVariants.{CheckCast, GetField, InvokeInterface, InvokeVirtual, LoadComponent, PutField, StoreComponent};
 ghost use Rattle.jc_firewall.specs.declared.access.Rule.TheVariants.{Fields};
 ghost use Rattle.jc_firewall.specs.declared.access.Verdict.TheVariants.{Allowed, AllowedSwitch, Denied};
-ghost use Rattle.jc_machine.specs.ExamplePackages.{asker, client, server};
+ghost use Rattle.jc_machine.specs.ExamplePackages.{asker, client, probe, server};
 ghost use Rattle.jc_machine.specs.Examples.{a_value, an_object, asking, exceptions, have_their_sizes, is_stuck_with, owner, probed, probed_on, run, run_with, start_of, stuck, untouched, used_up, with_served};
 ghost use Rattle.jc_machine.specs.Idle.{idle};
 ghost use Rattle.jc_machine.specs.Typed.{IsOperand};
@@ -19,7 +19,7 @@ ghost use Rattle.jc_api.specs.Bound.{Bound, default_binding};
 ghost use Rattle.jc_api.specs.NoClash.{HasNoClash};
 ghost use Rattle.jc_link.specs.Built.{IsBuilt};
 ghost use Rattle.jc_machine.specs.Accepted.{api_alone};
-ghost use Rattle.jc_machine.specs.Following.{MayRun};
+ghost use Rattle.jc_machine.specs.Running.{MayRun};
 ghost use Rattle.jc_machine.specs.Machine.{Frame};
 ghost use Rattle.jc_machine.specs.Runtime.{HasRuntimeObjects};
 ghost use Rattle.jc_machine.specs.Typed.{HeapTyped, IsTyped, IsTypedBeside};
@@ -121,6 +121,12 @@ pub fn stuck_runs()
     ensures a_first_argument_is_missing { probed 200 ≡ untouched stuck }
     ensures no_room_for_what_is_caught { probed 130 ≡ untouched stuck }
     ensures a_catch_type_is_missing { probed 160 ≡ untouched stuck }
+    ensures a_native_argument_of_another_type { run_with idle (probe ∷ []) 20
+        (start_of (with_served 60) (owner 1 1) (Loaded 1 260) (Ref 11 ∷ []))
+        ≡ record {
+          touches = record { active = 1; access = InvokeInterface; object = 11; verdict = Allowed } ∷ [];
+          end = stuck;
+        } }
     ensures an_abstract_method { probed_on 30 240 ≡ record { touches = record { active = 1; access = InvokeVirtual; object = 11; verdict = Allowed } ∷ []; end = stuck } }
 {}
 

@@ -1,6 +1,6 @@
 //! Native members that do nothing.
 
-ghost use Rattle.jc_machine.specs.Following.{ReadsResult};
+ghost use Rattle.jc_machine.specs.Reading.{ReadsResult};
 ghost use Rattle.jc_machine.specs.Idle.{idle_result, idle_value};
 
 use crate::member::member_with;

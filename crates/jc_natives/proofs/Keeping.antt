@@ -11,7 +11,7 @@ use Rattle.jc_base.specs.declared.declared_type.DeclaredType.{DeclaredType}
 use Rattle.jc_base.specs.declared.declared_type.DeclaredType.TheVariants as types
 use Rattle.jc_cap_desc.specs.Shape.{Shape}
 use Rattle.jc_link.specs.Linked.{World}
-use Rattle.jc_machine.specs.Agree.{Pointwise}
+use Rattle.jc_machine.specs.Reading.{Pointwise}
 use Rattle.jc_machine.specs.Lookup.{fields_of, is_boolean_array, is_byte, is_byte_array, is_instance, is_kept_as, is_of_class, is_of_type, is_short_array, is_word, leads_to}
 use Rattle.jc_machine.specs.Natives.{KeepsObjects}
 use Rattle.jc_machine.specs.Typed.{CellsTyped, HeapTyped, ObjectTyped, is_cell, may_be_made}

@@ -59,7 +59,7 @@ use Rattle.jc_types.specs.State.{Types}
 use Rattle.jc_types.specs.Ty.{type_of_declared}
 use Rattle.jc_types.specs.declared.ty.Ty.{Ty}
 use Rattle.jc_types.specs.declared.ty.Ty.TheVariants as types
-use Rattle.jc_machine.specs.Agree.{Pointwise}
+use Rattle.jc_machine.specs.Reading.{Pointwise}
 use Rattle.jc_machine.specs.Calls.{act_call, act_interface, act_of_interface, act_special}
 use Rattle.jc_machine.specs.Calls.{act_static_call, act_virtual, found_for, has_interface, invokes, special_target}
 use Rattle.jc_machine.specs.Calls.{static_target}

@@ -11,7 +11,7 @@ use Rattle.jc_cap_desc.specs.Shape.{Shape}
 use Rattle.jc_names.specs.declared.name.ClassName.{ClassName}
 use Rattle.jc_store.specs.Heap.{Heap}
 use Rattle.jc_store.specs.declared.kind.ObjectType.TheVariants.{BooleanArray, ByteArray, Instance, ReferenceArray, ShortArray}
-use Rattle.jc_machine.specs.Agree.{Pointwise}
+use Rattle.jc_machine.specs.Reading.{Pointwise}
 use Rattle.jc_machine.specs.Lookup.{fields_of, is_byte, is_instance, is_word, leads_to}
 use Rattle.jc_machine.specs.Objects.{cells_of, initial}
 use Rattle.jc_machine.specs.Typed.{CellsTyped, is_cell}

@@ -23,7 +23,7 @@ use Rattle.jc_names.specs.declared.name.ClassName.TheVariants.{Api}
 use Rattle.jc_step.specs.Growth.{KeepsAllMembers, KeepsAllOrders, KeepsOwnMethods}
 use Rattle.jc_store.specs.Heap.{Heap}
 use Rattle.jc_machine.specs.Accepted.{HaveCode, IsAccepted, linked_as}
-use Rattle.jc_machine.specs.Following.{MayRun}
+use Rattle.jc_machine.specs.Running.{MayRun}
 use Rattle.jc_machine.specs.Lookup.{body_at, code_at, instruction_at}
 use Rattle.jc_machine.specs.Machine.{MethodPlace, Surroundings}
 use Rattle.jc_machine.specs.Natives.{KeepsObjects}

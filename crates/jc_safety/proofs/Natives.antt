@@ -40,8 +40,8 @@ use Rattle.jc_store.specs.declared.kind.ObjectType.TheVariants.{ShortArray}
 use Rattle.jc_types.specs.State.{Types, all_below}
 use Rattle.jc_types.specs.declared.ty.Ty.{Ty}
 use Rattle.jc_machine.specs.Calls.{callback_fits, called_as, calls_back, inner_native_ends, invokes, is_in_place_of}
-use Rattle.jc_machine.specs.Calls.{native_ends, native_gives, native_type, on_native, type_of_member}
-use Rattle.jc_machine.specs.Calls.{virtual_member, with_given}
+use Rattle.jc_machine.specs.Calls.{native_ends, native_gives, native_may_begin, native_type, on_native}
+use Rattle.jc_machine.specs.Calls.{type_of_member, virtual_member, with_given}
 use Rattle.jc_machine.specs.Going.{Here, leaves_operands, moved}
 use Rattle.jc_machine.specs.Lookup.{are_of_instance, are_of_types, class_of, is_given, is_object_of, is_of_class}
 use Rattle.jc_machine.specs.Lookup.{is_of_type, may_begin_with}
@@ -318,6 +318,7 @@ module _ {C : Type 0} (s : Surroundings C) (ground : Ground s) (m : Machine C) (
   }
 
   record Answered (member : ℕ) (result : Option Ty) (call : NativeCall C) : Type 0 where
+    begins : native_may_begin shapes call.heap member call.arguments ≡ true
     beside : Beside s ground m t (s.natives.answer s.world call).heap (s.natives.answer s.world call).runtime
     given : Signature ClassName
     declared : native_type shapes member ≡ Some given
@@ -341,6 +342,7 @@ module _ {C : Type 0} (s : Surroundings C) (ground : Ground s) (m : Machine C) (
       let a = ground.lawful.fit s.world call ground.accepted fit in
       let kept = (ground.lawful.guarded s.world call).kept in
       let after = (s.natives.answer s.world call).heap in record {
+        begins = fit.begins;
         beside = record {
           typed = a.heap;
           statics = statics_still s.world heap after kept m.statics b.statics;
@@ -474,12 +476,13 @@ module _ {C : Type 0} (s : Surroundings C) (ground : Ground s) (m : Machine C) (
         let call = native_call member arguments active previous heap runtime in
         let a = s.natives.answer s.world call in
         let x = answered heap runtime b member result arguments may active previous in
-        safe_some s (native_type shapes member) x.given _ x.declared
+        safe_check s (native_may_begin shapes heap member arguments) _ x.begins
+        (safe_some s (native_type shapes member) x.given _ x.declared
         (safe_touched s a.touches (inner_native_ends vs (spot a.heap a.runtime x.beside us) x.given a.ends)
         (inner_ends a.heap a.runtime x.beside call a refl x.given result x.result_is us vs site a.ends x.ends
         (λ callback fit.
         no_calls members heap runtime member active previous may.declared arguments may.there instance a x.given
-        callback fit)))
+        callback fit))))
 
     -- ---- a call that a native member makes
 
@@ -611,6 +614,7 @@ module _ {C : Type 0} (s : Surroundings C) (ground : Ground s) (m : Machine C) (
         let call = native_call member arguments m.top.active m.top.previous heap runtime in
         let a = s.natives.answer s.world call in
         let x = answered heap runtime b member result arguments may m.top.active m.top.previous in
-        safe_some s (native_type shapes member) x.given _ x.declared
+        safe_check s (native_may_begin shapes heap member arguments) _ x.begins
+        (safe_some s (native_type shapes member) x.given _ x.declared
         (safe_touched s a.touches (native_ends vs (spot a.heap a.runtime x.beside us) x.given a.ends)
-        (ends_safe members a.heap a.runtime x.beside call a refl x.given result x.result_is us vs site a.ends x.ends))
+        (ends_safe members a.heap a.runtime x.beside call a refl x.given result x.result_is us vs site a.ends x.ends)))

@@ -23,7 +23,7 @@ use Rattle.jc_store.specs.declared.kind.Mark.{Mark}
 use Rattle.jc_types.specs.State.{Types}
 use Rattle.jc_types.specs.declared.ty.Ty.{Ty}
 use Rattle.jc_machine.specs.Accepted.{linked_as}
-use Rattle.jc_machine.specs.Agree.{Pointwise}
+use Rattle.jc_machine.specs.Reading.{Pointwise}
 use Rattle.jc_machine.specs.Going.{Here, accessed, accessed_to_store, branches, facts_of, gives, leaves_operands, on_target, throws}
 use Rattle.jc_machine.specs.Going.{require, stored_in}
 use Rattle.jc_machine.specs.Lookup.{body_at, target_at}

@@ -19,7 +19,7 @@ use Rattle.jc_types.specs.State.{Types}
 use Rattle.jc_types.specs.Ty.{is_below}
 use Rattle.jc_types.specs.declared.ty.Ty.{Ty}
 use Rattle.jc_types.specs.declared.ty.Ty.TheVariants as types
-use Rattle.jc_machine.specs.Agree.{Pointwise}
+use Rattle.jc_machine.specs.Reading.{Pointwise}
 use Rattle.jc_machine.specs.Arrays.{is_array_of}
 use Rattle.jc_machine.specs.Lookup.{is_array, is_boolean_array, is_byte_array, is_of_class, is_short_array, leads_to}
 use Rattle.jc_machine.specs.Typed.{HoldTypes, IsOperand, has_type}

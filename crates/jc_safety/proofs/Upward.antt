@@ -16,7 +16,7 @@ use Rattle.jc_types.specs.State.{all_below}
 use Rattle.jc_types.specs.Ty.{is_below}
 use Rattle.jc_types.specs.declared.ty.Ty.{Ty}
 use Rattle.jc_types.specs.declared.ty.Ty.TheVariants as types
-use Rattle.jc_machine.specs.Agree.{Pointwise}
+use Rattle.jc_machine.specs.Reading.{Pointwise}
 use Rattle.jc_machine.specs.Lookup.{class_of, component_class, is_boolean_array, is_byte_array, is_of_class}
 use Rattle.jc_machine.specs.Lookup.{is_short_array, leads_to}
 use Rattle.jc_machine.specs.Objects.{is_null}

@@ -2,7 +2,7 @@
 #![tactic(auto)]
 
 ghost use Rattle.std.specs.Prelude.{ℕ};
-ghost use Rattle.jc_machine.specs.Following.{MayRun};
+ghost use Rattle.jc_machine.specs.Running.{MayRun};
 ghost use Rattle.jc_machine.specs.Machine.{Machine, Surroundings};
 ghost use Rattle.jc_machine.specs.Step.{defensive_step, steps_of};
 ghost use Rattle.jc_machine.specs.Typed.{IsTyped};

@@ -2,3 +2,5 @@ mod Words
 mod Places
 mod Lending
 mod Pushing
+mod Operands
+mod Tops

@@ -51,3 +51,15 @@ pub record HasRoom (s : Frames) (size : FrameSize) : Type 0 where
 -- words with others in place of some of them, from one on
 abbrev pub put_at : List ℕ → ℕ → List ℕ → List ℕ
 put_at words start others = take start words ++ (others ++ drop (start + length others) words)
+
+-- the words of a place lie within the words
+abbrev pub IsWithin : FramePlace → List ℕ → Type 0
+IsWithin p words = p.start + p.locals + p.operands ≤ length words
+
+-- the frame at a place was changed; its words are where they were, and those before are as they were
+pub record IsChanged (change : Frame → Frame) (p : FramePlace) (words : List ℕ) (q : FramePlace) (others : List ℕ) : Type 0 where
+  pub frame : frame_in others q ≡ change (frame_in words p)
+  pub before : take p.start others ≡ take p.start words
+  pub start : q.start ≡ p.start
+  pub locals : q.locals ≡ p.locals
+  pub operands : q.operands ≡ p.operands

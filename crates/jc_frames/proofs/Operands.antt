@@ -43,9 +43,9 @@ drop_reversed xs d count le = which (leb_tells count d)
         let l : length (reverse upper) ≡ count =
         length-reverse upper ∙ length-take-le count (drop rest xs) (let m = length-drop rest xs in omega (arith, m, le, few)) in
         sym (
-          ap (λ k. drop count (reverse (take k xs))) (sym whole) ∙ ap (λ ys. drop count (reverse ys)) (sym (take_both xs rest count))
-          ∙ ap (drop count) (reverse-append (take rest xs) upper) ∙ ap (λ k. drop k (reverse upper ++ reverse (take rest xs))) (sym l)
-          ∙ drop_first (reverse upper) (reverse (take rest xs))
+        ap (λ k. drop count (reverse (take k xs))) (sym whole) ∙ ap (λ ys. drop count (reverse ys)) (sym (take_both xs rest count))
+        ∙ ap (drop count) (reverse-append (take rest xs) upper) ∙ ap (λ k. drop k (reverse upper ++ reverse (take rest xs))) (sym l)
+        ∙ drop_first (reverse upper) (reverse (take rest xs))
         )
     which (inr h) =
         let many = h.1 in

@@ -21,6 +21,11 @@ abbrev pub AreLaid : List FramePlace → ℕ → Type 0
 AreLaid [] end = end ≡ 0
 AreLaid (p ∷ below) end = (end ≡ p.start + p.locals + p.operands) × AreLaid below p.start
 
+-- where the words of the first of some places begin
+abbrev pub first_word : List FramePlace → ℕ
+first_word [] = 0
+first_word (p ∷ below) = p.start
+
 -- how much of the frames is used: the lengths of the arrays, and how many places there is room for; the word behind the top frame; and
 -- the most frames and words
 pub record Sizes : Type 0 where

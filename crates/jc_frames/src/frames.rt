@@ -11,7 +11,7 @@ use crate::frame_words::{
     depth_at, duplicate_at, local_at, operand_at, push_at, set_local_at, swap_at,
 };
 use crate::header::{FrameHeader, FrameSize};
-use crate::place::{FramePlace, copy_arguments, put_arguments, top_of};
+use crate::place::{FramePlace, copy_arguments, put_arguments, top_of, top_start};
 use std::alloc::{AllocError, Global};
 use std::marker::Model;
 
@@ -322,11 +322,9 @@ impl Frames {
         ensures* given_back { sem 𝓛 (LendsWords self.entry result) }
         ensures words { result.now ≡ of_top [] words_of self.old }
     {
-        let start = match self.places.last() {
-            Some(place) => usize::from(place.start),
-            None => 0,
-        };
-        self.words.slice_mut(start..usize::from(self.used))
+        let start = usize::from(top_start(&self.places));
+        let end = usize::from(self.used);
+        self.words.slice_mut(start..end)
     }
 
     /// Puts a frame on top, if there is room for it: its first locals are so many operands in use of the frame that was on top, which

@@ -4,3 +4,4 @@ mod Lending
 mod Pushing
 mod Operands
 mod Tops
+mod Calls

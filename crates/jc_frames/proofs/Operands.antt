@@ -1,8 +1,8 @@
 -- The operands in use of the frame at a place, and the words that hold them.
-use Rattle.std.proofs.Common.{◌≡◌, ◌⊎◌, ℕ, suc, ◌+◌, ◌-◌, ◌<◌, ◌≤◌, min, inl, inr, Bool, true, false, ◌&&◌, if◌then◌else◌, nat_lt, nat_le, List, [], ◌∷◌, ◌++◌, length, take, drop, reverse, set, refl, sym, ap, ◌∙◌, arith}
+use Rattle.std.proofs.Common.{◌≡◌, ◌⊎◌, ℕ, suc, ◌+◌, ◌-◌, ◌<◌, ◌≤◌, min, inl, inr, true, false, ◌&&◌, if◌then◌else◌, nat_lt, nat_le, List, [], ◌∷◌, ◌++◌, length, take, drop, reverse, set, refl, sym, ap, ◌∙◌, arith}
 use Rattle.std.proofs.lemmas.Bool.{and_from, le-leb, lt-ltb}
 use Rattle.std.proofs.lemmas.Bool.Decides.{leb_tells}
-use Rattle.std.proofs.lemmas.List.{append_assoc, drop-set-add, drop-set-lt, length-append, length-drop, length-reverse, length-set, length-take, length-take-le, reverse-append, reverse-reverse, set_split, take-append-drop, take-set-le}
+use Rattle.std.proofs.lemmas.List.{append_assoc, drop-set-add, drop-set-lt, length-append, length-drop, length-reverse, length-take, length-take-le, reverse-append, reverse-reverse, set_split, take-append-drop, take-set-le}
 use Rattle.std.proofs.Math.Seq.{take-set-lt}
 use Rattle.jc_base.specs.Stack.{duplicated, swapped}
 use Rattle.jc_frames.specs.Frames.{Frame}
@@ -31,7 +31,7 @@ put_part new words n le =
     (let l = length-append new (drop (length new) (take n words)) in let m = length-drop (length new) (take n words) in let k = length-take n words in omega (arith, l, m, k, le))
 
 -- without the first of a list in reverse
-drop_reversed : (xs : List ℕ) (d count : ℕ) → d ≤ length xs → reverse (take (d - count) xs) ≡ drop count (reverse (take d xs))
+pub drop_reversed : (xs : List ℕ) (d count : ℕ) → d ≤ length xs → reverse (take (d - count) xs) ≡ drop count (reverse (take d xs))
 drop_reversed xs d count le = which (leb_tells count d)
   where
     which : ((nat_le count d ≡ true) × (count ≤ d)) ⊎ ((nat_le count d ≡ false) × (d < count)) → reverse (take (d - count) xs) ≡ drop count (reverse (take d xs))

@@ -1,16 +1,24 @@
 -- The top frame changed, and the others as they were.
-use Rattle.std.proofs.Common.{◌≡◌, ℕ, zero, suc, ◌+◌, ◌-◌, ◌<◌, ◌≤◌, List, [], ◌∷◌, get_or, ◌++◌, length, map, take, drop, reverse, set, Some, slice_get, refl, sym, ap, subst, ◌∙◌, arith}
-use Rattle.jc_frames.specs.Frames.{Frame, Frames}
+use Rattle.std.proofs.Common.{◌≡◌, ℕ, zero, suc, ◌-◌, ◌<◌, List, [], ◌∷◌, get_or, ◌++◌, length, map, take, drop, reverse, set, Some, slice_get, refl, sym, ap, subst, ◌∙◌, arith}
+use Rattle.jc_frames.specs.Frames.{Frame, Frames, HasTop}
 use Rattle.jc_frames.specs.Operands.{on_top, with_top}
 use Rattle.jc_frames.specs.PrivateLaid.{IsChanged, IsLaid, IsWithin, Sizes, frame_in, frames_in}
 use Rattle.jc_frames.specs.declared.place.FramePlace.{FramePlace}
-use Rattle.jc_frames.proofs.Places.{last_first, same_frames, top_ends}
+use Rattle.jc_frames.proofs.Places.{frame_count, last_first, same_frames, top_ends}
 use Rattle.jc_frames.proofs.Pushing.{as_held, other_header, still_laid}
 use Rattle.jc_frames.proofs.Words.{take_first}
 
 -- a slice of as many words as there were is what the words are
 refilled : (words now : List ℕ) (len : ℕ) → len ≡ length words → length now ≡ length words → take len (now ++ drop (length now) words) ≡ now
 refilled words now len is same = ap (λ k. take k (now ++ drop (length now) words)) (is ∙ sym same) ∙ take_first now (drop (length now) words)
+
+-- there is a frame where there is a place
+pub has_top : (places : List FramePlace) (words : List ℕ) (now : Frames) → frames_in words places ≡ now.frames → 0 < length places → HasTop now
+has_top places words now view some = which now.frames refl (let n = frame_count words places in let k = ap (λ (fs : List Frame). length fs) view in omega (arith, n, k, some))
+  where
+    which : (fs : List Frame) → now.frames ≡ fs → 0 < length fs → HasTop now
+    which [] is lt = absurd (omega (arith, lt))
+    which (f ∷ fs) is lt = record { top = f; below = fs; is = is }
 
 -- the place that was lent is the last one
 pub last_is : (places : List FramePlace) (count : ℕ) (p : FramePlace) → count ≡ length places → 0 < count → p ≡ get_or places (count - 1) p → slice_get places (length places - 1) ≡ Some p
@@ -24,6 +32,9 @@ last_is places count p counts some is = at places (length places - 1) (omega (ar
 module _ (places : List FramePlace) (words : List ℕ) (s : Sizes) (laid : IsLaid places words s) (p : FramePlace) (at : slice_get places (length places - 1) ≡ Some p) where
   pub top_within : IsWithin p words
   top_within = let e = (top_ends places s.used p laid.laid at).0 in let z = laid.sized in let w = laid.within in omega (arith, e, z, w)
+
+  pub top_held : (now : Frames) → as_held places words s laid ≡ now → now.frames ≡ frame_in words p ∷ frames_in words (take (length places - 1) places)
+  top_held now view = sym (ap (λ (x : Frames). x.frames) view) ∙ ap (map (frame_in words)) (last_first places p at)
 
   module _ (change : Frame → Frame) (q : FramePlace) (others : List ℕ) (changed : IsChanged change p words q others) (count : ℕ) (counts : count ≡ s.places) where
     same_count : length places ≡ count

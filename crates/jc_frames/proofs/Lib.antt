@@ -5,3 +5,4 @@ mod Pushing
 mod Operands
 mod Tops
 mod Calls
+mod Inside

@@ -62,7 +62,8 @@ abbrev pub IsWithin : FramePlace → List ℕ → Type 0
 IsWithin p words = p.start + p.locals + p.operands ≤ length words
 
 -- the frame at a place was changed; its words are where they were, and those before are as they were
-pub record IsChanged (change : Frame → Frame) (p : FramePlace) (words : List ℕ) (q : FramePlace) (others : List ℕ) : Type 0 where
+pub record IsChanged (change : Frame → Frame) (p : FramePlace) (words : List ℕ) (q : FramePlace) (others : List ℕ)
+    : Type 0 where
   pub frame : frame_in others q ≡ change (frame_in words p)
   pub before : take p.start others ≡ take p.start words
   pub start : q.start ≡ p.start

@@ -1,7 +1,7 @@
 //! The words of the frame at a place.
 
 ghost use Rattle.std.specs.Prelude.{◌≡◌, ◌+◌, ◌≤◌, length, min};
-ghost use Rattle.jc_frames.specs.Operands.{at_pc, dropped, in_use, local_in, operand_in, placed, pushed, with_duplicated, with_local, with_swapped};
+ghost use Rattle.jc_frames.specs.Operands.{local_in, operand_in, pushed, with_duplicated, with_local, with_swapped};
 ghost use Rattle.jc_frames.specs.PrivateLaid.{IsChanged, IsWithin, frame_in};
 
 use crate::place::FramePlace;

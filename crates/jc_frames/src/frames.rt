@@ -1,10 +1,13 @@
 //! The frames of the methods that run.
 
-ghost use Rattle.std.specs.Prelude.{◌≡◌, ◌+◌, ◌≤◌, ℕ, List, true, false, [], ◌∷◌, Some, None, length, take, drop, reverse, slice_get, slice_range, IfOk};
+ghost use Rattle.std.specs.Prelude.{◌≡◌, ◌+◌, ◌≤◌, ℕ, List, true, false, [], ◌∷◌, Some, None};
+ghost use Rattle.std.specs.Prelude.{length, take, drop, reverse, slice_get, slice_range, IfOk};
 ghost use Rattle.std.specs.Borrow.{sem};
 ghost use Rattle.jc_frames.specs.Frames.{Frame, HasOperands, HasTop, IsFull, IsPushed, with_frames, with_header, with_locals, with_locals_left, with_operands, with_operands_left};
 ghost use Rattle.jc_frames.specs.Lending.{LendsLocals, LendsOperands, LendsWords};
-ghost use Rattle.jc_frames.specs.Operands.{HasInUse, at_pc, dropped, in_use, local_in, of_top, on_top, operand_in, placed, pushed, with_duplicated, with_in_use, with_local, with_swapped, with_words, words_of};
+ghost use Rattle.jc_frames.specs.Operands.{HasInUse, at_pc, dropped, in_use, local_in, of_top, on_top, operand_in};
+ghost use Rattle.jc_frames.specs.Operands.{placed, pushed, with_duplicated, with_in_use, with_local, with_swapped};
+ghost use Rattle.jc_frames.specs.Operands.{with_words, words_of};
 ghost use Rattle.jc_frames.specs.PrivateLaid.{HasRoom};
 
 use crate::frame_words::{
@@ -259,8 +262,8 @@ impl Frames {
         place.header.depth = depth_at(place).saturating_sub(count);
     }
 
-    /// Puts so many of the top operands again, below so many of the top ones; below none is on top. Nothing is changed where they
-    /// aren't there, or there is no room.
+    /// Puts so many of the top operands again, below so many of the top ones; below none is on top. Nothing is changed
+    /// where they aren't there, or there is no room.
     #[inline]
     pub fn duplicate_operands(&mut self, count: u8, below: u8)
         ensures { self.new ≡ on_top (with_duplicated count below) self.old }
@@ -327,15 +330,17 @@ impl Frames {
         self.words.slice_mut(start..end)
     }
 
-    /// Puts a frame on top, if there is room for it: its first locals are so many operands in use of the frame that was on top, which
-    /// loses them, and its other words hold anything. Where the operands aren't there, or there are fewer locals, the answer is false.
+    /// Puts a frame on top, if there is room for it: its first locals are so many of the top operands of the frame that
+    /// was on top, which loses them; its other words hold anything. Where the operands aren't there, or there are fewer
+    /// locals, the answer is false.
     #[inline]
     pub fn enter_call(&mut self, header: FrameHeader, size: FrameSize, words: u8) -> bool
-        ensures pushed { (top : Frame) (below : List Frame) → self.old.frames ≡ top ∷ below → words ≤ length (in_use top)
-            → words ≤ size.locals → result ≡ true
-            → IsPushed (with_frames self.old (dropped words top ∷ below)) header size (reverse (take words (in_use top))) self.new }
-        ensures full { (top : Frame) (below : List Frame) → self.old.frames ≡ top ∷ below → words ≤ length (in_use top)
-            → words ≤ size.locals → result ≡ false → IsFull self.old size }
+        ensures pushed { (top : Frame) (below : List Frame) → self.old.frames ≡ top ∷ below
+            → words ≤ length (in_use top) → words ≤ size.locals → result ≡ true
+            → IsPushed (with_frames self.old (dropped words top ∷ below)) header size
+            (reverse (take words (in_use top))) self.new }
+        ensures full { (top : Frame) (below : List Frame) → self.old.frames ≡ top ∷ below
+            → words ≤ length (in_use top) → words ≤ size.locals → result ≡ false → IsFull self.old size }
         ensures there { result ≡ true → HasInUse self.old words }
         ensures fit { result ≡ true → words ≤ size.locals }
         ensures room { result ≡ true → IsFull self.old size → ⊥ }
@@ -379,8 +384,8 @@ pub fn lending_laws()
         → with_locals_left (top ∷ below) left ≡ with_locals top left ∷ below }
     ensures operands { (top : Frame) (below : List Frame) (left : List ℕ) → length left ≡ length top.operands
         → with_operands_left (top ∷ below) left ≡ with_operands top left ∷ below }
-    ensures words { (top : Frame) (below : List Frame) (left : List ℕ) → length left ≡ length top.locals + length top.operands
-        → with_locals_left (top ∷ below) left ≡ with_words top left ∷ below }
+    ensures words { (top : Frame) (below : List Frame) (left : List ℕ)
+        → length left ≡ length top.locals + length top.operands → with_locals_left (top ∷ below) left ≡ with_words top left ∷ below }
 {}
 
 /// What holds of the operands in use, and of the locals.

@@ -1,9 +1,10 @@
 -- What is left in words that were lent out of the top frame.
-use Rattle.std.proofs.Common.{◌≡◌, ℕ, ◌+◌, ◌-◌, ◌≤◌, List, ◌∷◌, ◌++◌, length, map, take, drop, reverse, Some, slice_get, refl, sym, ap, ◌∙◌, arith}
+use Rattle.std.proofs.Common.{◌≡◌, ◌⊎◌, inl, inr, suc, subst, [], ℕ, ◌+◌, ◌-◌, ◌≤◌, List, ◌∷◌, ◌++◌, length, map, take, drop, reverse, Some, slice_get, refl, sym, ap, ◌∙◌, arith}
 use Rattle.std.proofs.lemmas.List.{length-append}
 use Rattle.std.specs.List.{refill}
 use Rattle.jc_frames.specs.Frames.{Frame, with_locals_left, with_operands, with_operands_left, written_over}
-use Rattle.jc_frames.specs.PrivateLaid.{AreLaid, frame_in, frames_in, part}
+use Rattle.jc_frames.specs.Operands.{of_first, words_of}
+use Rattle.jc_frames.specs.PrivateLaid.{AreLaid, first_word, frame_in, frames_in, part}
 use Rattle.jc_frames.specs.declared.place.FramePlace.{FramePlace}
 use Rattle.jc_frames.proofs.Places.{last_first, same_frames, top_ends}
 use Rattle.jc_frames.proofs.Words.{drop_first, drop_taken, drop_twice, filled_before, filled_part, left_over, part_before, part_length, take_both, take_first, take_less, take_long}
@@ -72,6 +73,52 @@ module _ (places : List FramePlace) (words : List ℕ) (used : ℕ) (laid : AreL
       ∙ ap (λ xs. record { header = p.header; locals = xs; operands = part (filled start) (start + p.locals) p.operands } ∷ frames_in words (take (length places - 1) places)) locals
       ∙ ap (λ xs. record { header = p.header; locals = take (length (part words start p.locals)) (written_over (frame_in words p) left); operands = xs } ∷ frames_in words (take (length places - 1) places)) operands
       ∙ ap (λ fs. with_locals_left fs left) (sym was)
+
+-- ---- locals and operands in one, also where there is no frame
+
+ends_in : (places : List FramePlace) → (places ≡ []) ⊎ ((p : FramePlace) × (slice_get places (length places - 1) ≡ Some p))
+ends_in [] = inl refl
+ends_in (x ∷ places) = inr (last x places)
+  where
+    last : (x : FramePlace) (ps : List FramePlace) → (p : FramePlace) × (slice_get (x ∷ ps) (length (x ∷ ps) - 1) ≡ Some p)
+    last x [] = (x, refl)
+    last x (y ∷ ps) =
+        let next = last y ps in
+        let pre : length (x ∷ y ∷ ps) - 1 ≡ suc (length (y ∷ ps) - 1) = omega arith in
+        (next.0, ap (slice_get (x ∷ y ∷ ps)) pre ∙ next.1)
+
+module _ (places : List FramePlace) (words : List ℕ) (used : ℕ) (laid : AreLaid (reverse places) used) (within : used ≤ length words) where
+  abbrev from : ℕ
+  from = first_word (reverse places)
+
+  -- what is left over the words from a place on, for some places
+  abbrev IsLeft : List ℕ → List FramePlace → ℕ → Type 0
+  IsLeft left ps start = frames_in (take (length words) (left_over words start left ++ drop (length (left_over words start left)) words)) ps ≡ with_locals_left (frames_in words ps) left
+
+  pub words_left : (left : List ℕ) → IsLeft left places from
+  words_left left = which (ends_in places)
+    where
+      which : (places ≡ []) ⊎ ((p : FramePlace) × (slice_get places (length places - 1) ≡ Some p)) → IsLeft left places from
+      which (inl none) = subst (λ ps. IsLeft left ps (first_word (reverse ps))) (sym none) refl
+      which (inr h) = subst (IsLeft left places) (sym (ap first_word (last_first places h.0 h.1))) (locals_left places words used laid within h.0 h.1 left)
+
+  pub words_lent : take (used - from) (drop from words) ≡ of_first [] words_of (frames_in words places)
+  words_lent = which (ends_in places)
+    where
+      which : (places ≡ []) ⊎ ((p : FramePlace) × (slice_get places (length places - 1) ≡ Some p)) → take (used - from) (drop from words) ≡ of_first [] words_of (frames_in words places)
+      which (inl none) =
+          let unused : used ≡ 0 = subst (λ ps. AreLaid (reverse ps) used) none laid in
+          let nothing : used - from ≡ 0 = omega (arith, unused) in
+          ap (λ k. take k (drop from words)) nothing ∙ ap (λ ps. of_first [] words_of (frames_in words ps)) (sym none)
+      which (inr h) =
+          let p = h.0 in
+          let end = (top_ends places used p laid h.1).0 in
+          let start : from ≡ p.start = ap first_word (last_first places p h.1) in
+          let size : used - from ≡ p.locals + p.operands = omega (arith, end, start) in
+          ap (λ k. take k (drop from words)) size ∙ ap (λ k. take (p.locals + p.operands) (drop k words)) start
+          ∙ sym (take_both (drop p.start words) p.locals p.operands)
+          ∙ ap (λ xs. part words p.start p.locals ++ take p.operands xs) (sym (drop_twice words p.start p.locals))
+          ∙ ap (λ ps. of_first [] words_of (map (frame_in words) ps)) (sym (last_first places p h.1))
 
 -- where as many words are left as were lent, they are the locals, or the operands
 pub same_locals : (f : Frame) (below : List Frame) (left : List ℕ) → length left ≡ length f.locals → with_locals_left (f ∷ below) left ≡ record { header = f.header; locals = left; operands = f.operands } ∷ below

@@ -16,3 +16,4 @@ mod Interfacing
 mod Showing
 mod Above
 mod Climbing
+mod Summing

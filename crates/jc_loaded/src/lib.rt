@@ -3,6 +3,7 @@
 
 mod called;
 mod chain;
+mod class_rows;
 mod classes;
 mod entries;
 mod entry;
@@ -14,6 +15,7 @@ mod laws;
 mod loading;
 mod methods;
 mod numbers;
+mod program;
 mod row;
 mod superclasses;
 mod supertypes;
@@ -22,6 +24,7 @@ mod virtuals;
 mod visible;
 
 pub use called::Called;
+pub use class_rows::{ClassRow, ClassRows};
 pub use classes::{ClassNumber, Classes};
 pub use entries::Entries;
 pub use entry::Entry;
@@ -32,6 +35,7 @@ pub use laws::{
     loading_keeps_methods,
 };
 pub use methods::{MethodNumber, Methods};
+pub use program::Program;
 pub use row::LoadedMethod;
 pub use superclasses::Superclasses;
 pub use supertypes::Supertypes;

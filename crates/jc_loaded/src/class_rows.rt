@@ -136,7 +136,6 @@ fn class_row_of(
 }
 
 /// The rows of classes: each is made with those before it.
-#[tactic(auto, using(crate::proofs::Summing::row_more))]
 fn rows_of(
     alloc: Global,
     table: &ClassTable,

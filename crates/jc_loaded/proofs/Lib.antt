@@ -17,3 +17,5 @@ mod Showing
 mod Above
 mod Climbing
 mod Summing
+mod Following
+mod Descending

@@ -31,8 +31,8 @@ pub use entry::Entry;
 pub use handler::{Caught, LoadedHandler};
 pub use interfaces::{InterfaceCall, InterfaceMethods};
 pub use laws::{
-    classes_have_numbers, loaded_handlers_cover_the_same, loaded_methods_are_found,
-    loading_keeps_methods,
+    class_subtypes_are_below, classes_have_numbers, loaded_handlers_cover_the_same,
+    loaded_methods_are_found, loading_keeps_methods, program_laws,
 };
 pub use methods::{MethodNumber, Methods};
 pub use program::Program;

@@ -1,16 +1,16 @@
--- What follows of the tables of a world.
+-- What the tables of a world answer by number and name.
 use Rattle.std.proofs.Common.{◌≡◌, List, Option, Some, None, slice_get, unwrap_or, sym, ap, subst, ◌∙◌}
 use Rattle.std.proofs.lemmas.Option.{slice_get-map}
 use Rattle.std.specs.Option.{option_map}
 use Rattle.jc_link.specs.Linked.{World}
 use Rattle.jc_names.specs.declared.name.ClassName.{ClassName}
 use Rattle.jc_loaded.specs.Classes.{HasNumber, superclass_at, superclass_number}
-use Rattle.jc_loaded.specs.Program.{FollowsOf, IsProgramOf}
+use Rattle.jc_loaded.specs.Program.{AnswersFor, IsProgramOf}
 use Rattle.jc_loaded.specs.declared.program.Program.{Program}
 use Rattle.jc_loaded.proofs.Counting.{numbered}
 use Rattle.jc_loaded.proofs.Finding.{are_found}
 
-pub follows : (w : World) (p : Program) → IsProgramOf w p → FollowsOf w p
+pub follows : (w : World) (p : Program) → IsProgramOf w p → AnswersFor w p
 follows w p is = record {
   methods = are_found w p.methods is.methods;
   numbers = λ c k less at.

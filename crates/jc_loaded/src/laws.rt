@@ -11,7 +11,7 @@ ghost use Rattle.jc_link.specs.Linked.{IsBoundTo, IsWorld, Linked, LinkedBody, W
 ghost use Rattle.jc_loaded.specs.Classes.{HaveNumbers, KeepsNumbers, class_names, class_number};
 ghost use Rattle.jc_loaded.specs.Growth.{KeepsLoaded};
 ghost use Rattle.jc_loaded.specs.Methods.{CoversSame, AreFound, AreLoaded, LoadedMethod};
-ghost use Rattle.jc_loaded.specs.Program.{FollowsOf, IsProgramOf};
+ghost use Rattle.jc_loaded.specs.Program.{AnswersFor, IsProgramOf};
 ghost use Rattle.jc_loaded.specs.declared.program.Program.{Program};
 ghost use Rattle.jc_names.specs.declared.name.ClassName.{ClassName};
 ghost use Rattle.jc_names.specs.declared.name.ClassName.TheVariants.{Api};
@@ -49,10 +49,10 @@ pub fn loading_keeps_methods()
     adding_keeps_linking();
 }
 
-/// Of the tables of a world it follows what they say by number and name.
+/// What the tables of a world answer by number and name.
 #[tactic(auto, using(crate::proofs::Following::follows))]
 pub fn program_laws()
-    ensures { (w : World) (p : Program) → IsProgramOf w p → FollowsOf w p }
+    ensures { (w : World) (p : Program) → IsProgramOf w p → AnswersFor w p }
 {}
 
 /// In a world that is built, what is above a class by its supertypes is above it by superclasses, unless it is an

@@ -5,8 +5,8 @@ use Rattle.std.specs.Option.{option_map_or}
 use Rattle.jc_api.specs.declared.class.ApiClass.TheVariants.{Object}
 use Rattle.jc_cap_class.specs.Component.{is_class}
 use Rattle.jc_cap_desc.specs.Shape.{ClassShape, Shape}
-use Rattle.jc_classes.specs.Subtype.{IsSubtype, by_interface, by_superclass, is_at_or_above, is_class_at, is_class_below}
-use Rattle.jc_classes.specs.Subtype.{is_interface_at, is_subtype, object, same}
+use Rattle.jc_classes.specs.Subtype.{IsSubtype, by_interface, by_superclass, is_at_or_above, is_class_at}
+use Rattle.jc_classes.specs.Subtype.{is_class_below, is_interface_at, is_subtype, object, same}
 use Rattle.jc_classes.specs.Walk.{most_classes}
 use Rattle.jc_classes.specs.World.{class_at, superclass_of}
 use Rattle.jc_link.specs.Sound.{IsSound}

@@ -1,5 +1,5 @@
--- What a machine asks of a class, by its number (Java Card Virtual Machine Specification, new, invokeinterface; Java Card
--- Runtime Environment Specification, Shareable Interfaces).
+-- What a machine asks of a class, by its number (Java Card Virtual Machine Specification, new, invokeinterface; Java
+-- Card Runtime Environment Specification, Shareable Interfaces).
 use Rattle.std.specs.Prelude.{◌≡◌, ℕ, ◌+◌, false, List, Some, slice_get, unwrap_or}
 use Rattle.jc_api.specs.declared.class.ApiClass.TheVariants.{Shareable}
 use Rattle.jc_cap_desc.specs.Shape.{Shape}

@@ -77,8 +77,8 @@ fn cells_made(
     }
 }
 
-/// How many cells an object of a class takes: its own, and those of its superclasses up to one whose row is made. A chain
-/// of more classes than there are has a cycle, which linking refuses.
+/// How many cells an object of a class takes: its own, and those of its superclasses up to one whose row is made. A
+/// chain of more classes than there are has a cycle, which linking refuses.
 #[tactic(auto, using(crate::proofs::Summing::cells_alone, crate::proofs::Summing::cells_up))]
 fn cells_of(
     rows: &[ClassRow],

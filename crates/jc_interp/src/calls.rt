@@ -9,7 +9,7 @@ use crate::casts::is_shared_interface;
 use crate::ends::{CLASS_CAST_EXCEPTION, NULL_POINTER_EXCEPTION, SECURITY_EXCEPTION};
 use crate::here::Here;
 use crate::machine::WordMachine;
-use crate::seen::{Seen, class_named, seen, verdict};
+use crate::seen::{Seen, class_named, look_at, verdict};
 use jc_code::Invocation;
 use jc_firewall::{Access, Verdict};
 use jc_loaded::{Called, ClassNumber, Entry, InterfaceCall};
@@ -90,7 +90,7 @@ impl WordMachine {
     fn receiver(&self, words: u8) -> Option<Seen>
         ensures { result ≡ receiver self.now words }
     {
-        seen(&self.store, self.operand(words.saturating_sub(1)))
+        look_at(&self.store, self.operand(words.saturating_sub(1)))
     }
 
     /// invokevirtual
@@ -99,8 +99,10 @@ impl WordMachine {
     {
         let (token, words) = match here.program.entries.at(here.frame.method.package, index) {
             Some(Entry::VirtualMethod { token, words }) => (token, words),
-            Some(Entry::Class(_) | Entry::Field { .. } | Entry::StaticField { .. }) => return Plan::Nothing,
-            Some(Entry::Method { .. } | Entry::NativeMethod { .. } | Entry::AbstractMethod) => return Plan::Nothing,
+            Some(Entry::Class(_) | Entry::Field { .. } | Entry::StaticField { .. }) =>
+                return Plan::Nothing,
+            Some(Entry::Method { .. } | Entry::NativeMethod { .. } | Entry::AbstractMethod) =>
+                return Plan::Nothing,
             None => return Plan::Nothing,
         };
         let Some(object) = self.receiver(words) else {
@@ -147,7 +149,8 @@ impl WordMachine {
                 switch: None,
                 words,
             },
-            Some(Entry::Class(_) | Entry::Field { .. } | Entry::StaticField { .. }) => Plan::Nothing,
+            Some(Entry::Class(_) | Entry::Field { .. } | Entry::StaticField { .. }) =>
+                Plan::Nothing,
             Some(Entry::VirtualMethod { .. } | Entry::AbstractMethod) => Plan::Nothing,
             None => Plan::Nothing,
         }

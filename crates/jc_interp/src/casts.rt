@@ -9,7 +9,7 @@ ghost use Rattle.jc_interp.specs.PrivateDone.{done, operand};
 use crate::ends::{CLASS_CAST_EXCEPTION, SECURITY_EXCEPTION, StepEnd};
 use crate::here::Here;
 use crate::machine::WordMachine;
-use crate::seen::{Seen, class_named, is_below, seen, verdict};
+use crate::seen::{Seen, class_named, is_below, look_at, verdict};
 use jc_code::{TestedType, WordKind};
 use jc_firewall::{Access, Verdict};
 use jc_loaded::Program;
@@ -56,7 +56,9 @@ fn test_of(here: &Here<'_>, type_: TestedType) -> Option<Test>
     match type_ {
         TestedType::Class { index } => class_named(here, index).map(Test::OfClass),
         TestedType::WordArray(kind) => Some(Test::OfWordArray(kind)),
-        TestedType::ReferenceArray { index } => class_named(here, index).map(Test::OfReferenceArray),
+        TestedType::ReferenceArray { index } => class_named(here, index).map(
+            Test::OfReferenceArray,
+        ),
     }
 }
 
@@ -99,7 +101,11 @@ fn passes(here: &Here<'_>, test: Test, object: Seen) -> bool
     match test {
         Test::OfClass(class) => is_below(here.program, object.class, class),
         Test::OfWordArray(kind) => is_word_array(kind, object.kind.object),
-        Test::OfReferenceArray(class) => is_reference_array(here.program, class, object.kind.object),
+        Test::OfReferenceArray(class) => is_reference_array(
+            here.program,
+            class,
+            object.kind.object,
+        ),
     }
 }
 
@@ -115,7 +121,7 @@ fn is_shared(here: &Here<'_>, test: Test) -> bool
 fn cast_by(here: &Here<'_>, store: &Store, access: Access, test: Test, word: u16) -> Cast
     ensures { result ≡ cast_by here.now store.now access test word }
 {
-    let Some(object) = seen(store, word) else {
+    let Some(object) = look_at(store, word) else {
         return Cast::OfNull;
     };
     match verdict(here, access, object, None, is_shared(here, test)) {

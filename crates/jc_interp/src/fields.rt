@@ -10,7 +10,7 @@ use crate::arrays::{loaded, stored};
 use crate::ends::{NULL_POINTER_EXCEPTION, SECURITY_EXCEPTION, StepEnd};
 use crate::here::Here;
 use crate::machine::WordMachine;
-use crate::seen::{allows, cell, mark_of, put, seen};
+use crate::seen::{allows, cell, look_at, mark_of, put};
 use jc_code::{FieldAccess, FieldAction, Form, Holder};
 use jc_firewall::Access;
 use jc_loaded::Entry;
@@ -44,7 +44,7 @@ fn may_put_static(here: &Here<'_>, store: &Store, form: Form, word: u16) -> bool
 {
     match form {
         Form::Byte | Form::Short => true,
-        Form::Reference => match seen(store, word) {
+        Form::Reference => match look_at(store, word) {
             Some(object) => allows(
                 here,
                 Access::PutStaticReference,
@@ -101,10 +101,17 @@ impl WordMachine {
     }
 
     /// getfield, which takes so many operands
-    fn get_field(&mut self, here: &Here<'_>, form: Form, cell_index: u32, number: u16, count: u8) -> StepEnd
+    fn get_field(
+        &mut self,
+        here: &Here<'_>,
+        form: Form,
+        cell_index: u32,
+        number: u16,
+        count: u8,
+    ) -> StepEnd
         ensures { done self.new result ≡ do_get here.now form cell_index number count self.old }
     {
-        let Some(object) = seen(&self.store, number) else {
+        let Some(object) = look_at(&self.store, number) else {
             return StepEnd::Throws(NULL_POINTER_EXCEPTION);
         };
         if !allows(here, Access::GetField, object, None) {
@@ -115,18 +122,30 @@ impl WordMachine {
     }
 
     /// putfield, which takes so many operands
-    fn put_field(&mut self, here: &Here<'_>, form: Form, cell_index: u32, number: u16, count: u8) -> StepEnd
+    fn put_field(
+        &mut self,
+        here: &Here<'_>,
+        form: Form,
+        cell_index: u32,
+        number: u16,
+        count: u8,
+    ) -> StepEnd
         ensures { done self.new result ≡ do_put here.now form cell_index number (operand self.old 0) count self.old }
     {
         let word = self.operand(0);
-        let Some(object) = seen(&self.store, number) else {
+        let Some(object) = look_at(&self.store, number) else {
             return StepEnd::Throws(NULL_POINTER_EXCEPTION);
         };
         let mark = stored_mark(&self.store, form, word);
         if !allows(here, putting(form), object, mark) {
             return StepEnd::Throws(SECURITY_EXCEPTION);
         }
-        put(&mut self.store, number, cell_index as usize, stored(form, word));
+        put(
+            &mut self.store,
+            number,
+            cell_index as usize,
+            stored(form, word),
+        );
         self.leaves(here, count)
     }
 
@@ -155,18 +174,26 @@ impl WordMachine {
     }
 
     /// getstatic, putstatic, getfield, putfield
-    pub(crate) fn perform_field(&mut self, here: &Here<'_>, access: FieldAccess, index: u16) -> StepEnd
+    pub(crate) fn perform_field(
+        &mut self,
+        here: &Here<'_>,
+        access: FieldAccess,
+        index: u16,
+    ) -> StepEnd
         ensures { done self.new result ≡ do_field here.now access index self.old }
     {
         match here.program.entries.at(here.frame.method.package, index) {
             Some(Entry::Field { cell }) => self.use_field(here, access, cell),
-            Some(Entry::StaticField {
-                package,
-                offset,
-                is_byte: _,
-            }) => self.use_static(here, access, package, offset),
+            Some(
+                Entry::StaticField {
+                    package,
+                    offset,
+                    is_byte: _,
+                },
+            ) => self.use_static(here, access, package, offset),
             Some(Entry::Class(_) | Entry::AbstractMethod) => StepEnd::UsedUp,
-            Some(Entry::VirtualMethod { .. } | Entry::Method { .. } | Entry::NativeMethod { .. }) => StepEnd::UsedUp,
+            Some(Entry::VirtualMethod { .. } | Entry::Method { .. } | Entry::NativeMethod { .. }) =>
+                StepEnd::UsedUp,
             None => StepEnd::UsedUp,
         }
     }

@@ -8,7 +8,7 @@ ghost use Rattle.jc_interp.specs.PrivateObjects.{do_reference_branch, do_throw};
 use crate::ends::{NULL_POINTER_EXCEPTION, SECURITY_EXCEPTION, StepEnd};
 use crate::here::Here;
 use crate::machine::WordMachine;
-use crate::seen::{allows, seen};
+use crate::seen::{allows, look_at};
 use jc_code::ReferenceCondition;
 use jc_firewall::Access;
 
@@ -38,7 +38,7 @@ impl WordMachine {
         ensures { done self.new result ≡ do_throw here.now (operand self.old 0) self.old }
     {
         let number = self.operand(0);
-        let Some(object) = seen(&self.store, number) else {
+        let Some(object) = look_at(&self.store, number) else {
             return StepEnd::Throws(NULL_POINTER_EXCEPTION);
         };
         if allows(here, Access::Throw, object, None) {

@@ -33,7 +33,7 @@ fn is_there(store: &Store, number: u16) -> bool
 
 /// The object that a word refers to; none for null.
 #[inline]
-pub(crate) fn seen(store: &Store, number: u16) -> Option<Seen>
+pub(crate) fn look_at(store: &Store, number: u16) -> Option<Seen>
     ensures { result ≡ seen_of store.now number }
 {
     if !is_there(store, number) {
@@ -101,7 +101,7 @@ pub(crate) fn class_named(here: &Here<'_>, index: u16) -> Option<ClassName>
 pub(crate) fn mark_of(store: &Store, number: u16) -> Option<Mark>
     ensures { result ≡ mark_of store.now number }
 {
-    match seen(store, number) {
+    match look_at(store, number) {
         Some(object) => Some(object.kind.mark),
         None => None,
     }

@@ -59,7 +59,8 @@ impl Statics {
         ensures done { IfOk result (λ u. self.new ≡ self.old ++ words.items ∷ []) }
         ensures kept { IfErr result (λ e. self.new ≡ self.old) }
     {
-        self.images.push(Image { words })
+        self.images.push(Image { words })?;
+        Ok(())
     }
 
     /// The word of the field at an offset, of the package with a number; 0 where there is none.

@@ -10,25 +10,25 @@ use Rattle.jc_frames.proofs.Pushing.{as_held, other_header, still_laid}
 use Rattle.jc_frames.proofs.Words.{take_first}
 
 -- a slice of as many words as there were is what the words are
-refilled : (words now : List ℕ) (len : ℕ) → len ≡ length words → length now ≡ length words → take len
-    (now ++ drop (length now) words) ≡ now
-refilled words now len is same = ap (λ k. take k (now ++ drop (length now) words)) (is ∙ sym same) ∙ take_first now
-    (drop (length now) words)
+refilled : (words now : List ℕ) (len : ℕ) → len ≡ length words → length now ≡ length words
+    → take len (now ++ drop (length now) words) ≡ now
+refilled words now len is same = ap (λ k. take k (now ++ drop (length now) words)) (is ∙ sym same)
+    ∙ take_first now (drop (length now) words)
 
 -- there is a frame where there is a place
-pub has_top : (places : List FramePlace) (words : List ℕ) (now : Frames) → frames_in words places ≡ now.frames → 0 <
-    length places → HasTop now
+pub has_top : (places : List FramePlace) (words : List ℕ) (now : Frames) → frames_in words places ≡ now.frames
+    → 0 < length places → HasTop now
 has_top places words now view some = which now.frames refl
-    (let n = frame_count words places in let k = ap (λ (fs : List Frame). length fs) view in omega
-    (arith, n, k, some))
+    (let n = frame_count words places in let k = ap (λ (fs : List Frame). length fs) view in
+    omega (arith, n, k, some))
   where
     which : (fs : List Frame) → now.frames ≡ fs → 0 < length fs → HasTop now
     which [] is lt = absurd (omega (arith, lt))
     which (f ∷ fs) is lt = record { top = f; below = fs; is = is }
 
 -- the place that was lent is the last one
-pub last_is : (places : List FramePlace) (count : ℕ) (p : FramePlace) → count ≡ length places → 0 < count → p ≡
-    get_or places (count - 1) p → slice_get places (length places - 1) ≡ Some p
+pub last_is : (places : List FramePlace) (count : ℕ) (p : FramePlace) → count ≡ length places → 0 < count
+    → p ≡ get_or places (count - 1) p → slice_get places (length places - 1) ≡ Some p
 last_is places count p counts some is = at places (length places - 1) (omega (arith, counts, some))
     (is ∙ ap (λ k. get_or places (k - 1) p) counts)
   where
@@ -43,8 +43,8 @@ module _ (places : List FramePlace) (words : List ℕ) (s : Sizes) (laid : IsLai
   top_within = let e = (top_ends places s.used p laid.laid at).0 in let z = laid.sized in let w = laid.within in
       omega (arith, e, z, w)
 
-  pub top_held : (now : Frames) → as_held places words s laid ≡ now → now.frames ≡ frame_in words p ∷ frames_in words
-      (take (length places - 1) places)
+  pub top_held : (now : Frames) → as_held places words s laid ≡ now
+      → now.frames ≡ frame_in words p ∷ frames_in words (take (length places - 1) places)
   top_held now view = sym (ap (λ (x : Frames). x.frames) view) ∙ ap (map (frame_in words)) (last_first places p at)
 
   module _ (change : Frame → Frame) (q : FramePlace) (others : List ℕ) (changed : IsChanged change p words q others)
@@ -83,8 +83,8 @@ module _ (places : List FramePlace) (words : List ℕ) (s : Sizes) (laid : IsLai
         changed.operands)
         ∙ ap (λ fs. frame_in others q ∷ fs) (same_frames (reverse rest) p.start words others
         (top_ends places s.used p laid.laid at).1 changed.before)
-        ∙ ap (λ g. g ∷ frames_in words rest) changed.frame ∙ ap (λ ps. with_top change (map (frame_in words) ps))
-        (sym (last_first places p at)))
+        ∙ ap (λ g. g ∷ frames_in words rest) changed.frame
+        ∙ ap (λ ps. with_top change (map (frame_in words) ps)) (sym (last_first places p at)))
         ∙ ap (on_top change) view
 
   -- the same of words that were handed on as a slice

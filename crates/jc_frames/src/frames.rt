@@ -378,14 +378,15 @@ impl Frames {
     }
 }
 
-/// As many words as were lent are left in a slice, so what is left are the locals, or the operands.
+/// As many words as were lent are left in a slice, so what is left are the locals, or the operands, or both.
 pub fn lending_laws()
     ensures locals { (top : Frame) (below : List Frame) (left : List ℕ) → length left ≡ length top.locals
         → with_locals_left (top ∷ below) left ≡ with_locals top left ∷ below }
     ensures operands { (top : Frame) (below : List Frame) (left : List ℕ) → length left ≡ length top.operands
         → with_operands_left (top ∷ below) left ≡ with_operands top left ∷ below }
     ensures words { (top : Frame) (below : List Frame) (left : List ℕ)
-        → length left ≡ length top.locals + length top.operands → with_locals_left (top ∷ below) left ≡ with_words top left ∷ below }
+        → length left ≡ length top.locals + length top.operands
+        → with_locals_left (top ∷ below) left ≡ with_words top left ∷ below }
 {}
 
 /// What holds of the operands in use, and of the locals.

@@ -17,8 +17,8 @@ returns-then-count-place c =
     let end = c.from.ensures in
     let size : from + c.from.result - from ≡ n = omega (arith, end) in
     let old : List ℕ = take (from + c.from.result - from) (drop from words) in
-    let depth = c.from-then-count-place.ensures in let again = c.from-then-count-place-2.ensures in let under =
-    c.from-then-count-place-3.ensures in
+    let depth = c.from-then-count-place.ensures in let again = c.from-then-count-place-2.ensures in
+    let under = c.from-then-count-place-3.ensures in
     let few = c.depth_at-depth.ensures in let start = c.operands_at-start.ensures in let within = c.requires in
     let left = length-drop from words in
     let some = c.if-count-depth.true in let deep = c.if-below-depth.true in let room = c.if-count-place.true in
@@ -29,7 +29,8 @@ returns-then-count-place c =
     (c.duplicate_top.auto.slots ∙ length-take-le (from + c.from.result - from) (drop from words)
     (omega (arith, left, size, start, few, within, room)) ∙ size)
     (ap (λ k. take from words ++ (new ++ drop k (drop from words))) size) count below refl some deep
-    (ap (λ k. reverse (take k new)) (sym ends) ∙ c.duplicate_top.ensures ∙ ap
-    (λ k. duplicated k c.from-then-count-place-3.result (reverse (take c.from-then-count-place.result old))) again
-    ∙ ap (λ k. duplicated count k (reverse (take c.from-then-count-place.result old))) under ∙ ap
-    (λ k. duplicated count below (reverse (take k old))) depth)
+    (ap (λ k. reverse (take k new)) (sym ends) ∙ c.duplicate_top.ensures
+    ∙ ap (λ k. duplicated k c.from-then-count-place-3.result (reverse (take c.from-then-count-place.result old)))
+    again
+    ∙ ap (λ k. duplicated count k (reverse (take c.from-then-count-place.result old))) under
+    ∙ ap (λ k. duplicated count below (reverse (take k old))) depth)

@@ -16,8 +16,8 @@ returns-then-lower-depth c =
     let end = c.from.ensures in
     let size : from + c.from.result - from ≡ d = omega (arith, end) in
     let old : List ℕ = take (from + c.from.result - from) (drop from words) in
-    let depth = c.from-then-lower-depth.ensures in let above = c.from-then-lower-depth-2.ensures in let under =
-    c.from-then-lower-depth-3.ensures in
+    let depth = c.from-then-lower-depth.ensures in let above = c.from-then-lower-depth-2.ensures in
+    let under = c.from-then-lower-depth-3.ensures in
     let few = c.depth_at-depth.ensures in let start = c.operands_at-start.ensures in let within = c.requires in
     let left = length-drop from words in
     let some = c.if-upper-depth.true in let more = c.if-lower-depth.true in
@@ -27,7 +27,8 @@ returns-then-lower-depth c =
     (c.swap_top.auto.slots ∙ length-take-le (from + c.from.result - from) (drop from words)
     (omega (arith, left, size, start, few, within)) ∙ size)
     (ap (λ k. take from words ++ (new ++ drop k (drop from words))) size) upper lower refl (omega (arith, some, more))
-    (ap (λ k. reverse (take k new)) (sym depth) ∙ c.swap_top.ensures ∙ ap
-    (λ k. swapped k c.from-then-lower-depth-3.result (reverse (take c.from-then-lower-depth.result old))) above
-    ∙ ap (λ k. swapped upper k (reverse (take c.from-then-lower-depth.result old))) under ∙ ap
-    (λ k. swapped upper lower (reverse (take k old))) depth)
+    (ap (λ k. reverse (take k new)) (sym depth) ∙ c.swap_top.ensures
+    ∙ ap (λ k. swapped k c.from-then-lower-depth-3.result (reverse (take c.from-then-lower-depth.result old)))
+    above
+    ∙ ap (λ k. swapped upper k (reverse (take c.from-then-lower-depth.result old))) under
+    ∙ ap (λ k. swapped upper lower (reverse (take k old))) depth)

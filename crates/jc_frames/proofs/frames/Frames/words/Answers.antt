@@ -12,8 +12,8 @@ returns c =
     let words : List ℕ = c.self.inside.words.items in
     let n = c.self.invariant.word_count in let s = c.self.invariant.sized in let w = c.self.invariant.within in
     let fits : c.self.inside.used ≤ length words = omega (arith, s, w) in
-    let start : c.from-start.result ≡ first_word (reverse places) = c.from-start.ensures ∙ c.top_start.ensures ∙ ap
-    (λ ps. first_word (reverse ps)) c.deref.ensures.value in
+    let start : c.from-start.result ≡ first_word (reverse places) = c.from-start.ensures ∙ c.top_start.ensures
+    ∙ ap (λ ps. first_word (reverse ps)) c.deref.ensures.value in
     let room : List Frame → Frames = λ frames. record
     { frames = frames; most_frames = c.self.inside.most_frames; most_words = c.self.inside.most_words } in (
       (

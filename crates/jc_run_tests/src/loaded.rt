@@ -6,6 +6,7 @@ use jc_link::{World, link};
 use jc_loaded::*;
 use jc_names::ClassName;
 use std::alloc::Global;
+use std::mem::size_of;
 use std::test::*;
 
 /// An applet whose install makes it and registers it; it answers nothing.
@@ -80,7 +81,10 @@ fn methods_and_entries_of_an_applet(rt: HostRuntime) -> Result<(), Fail> {
     assert_eq!(rt; methods.number_of(1, 10).map(|n| n.index()), Some(1));
     assert_eq!(rt; methods.number_of(1, 2).map(|n| n.index()), None);
     assert_eq!(rt; methods.number_of(2, 1).map(|n| n.index()), None);
-    assert_eq!(rt; methods.get(MethodNumber::new(1)).map(|m| m.offset), Some(10));
+    assert_eq!(rt;
+        methods.get(MethodNumber::new(1)).map(|m| m.offset),
+        Some(10)
+    );
     assert!(rt; methods.get(MethodNumber::new(2)).is_none());
     let entries = Entries::new(rt.alloc(), &world, &methods)?;
     assert!(rt; matches!(entries.at(1, 0), Some(Entry::Class(_))));
@@ -167,5 +171,13 @@ fn the_program_of_an_applet(rt: HostRuntime) -> Result<(), Fail> {
     assert_eq!(rt; method_called(called), Some(1));
     assert_eq!(rt; program.rows.len(), program.classes.len());
     assert!(rt; program.entries.at(1, 1).is_some());
+    Ok(())
+}
+
+#[test]
+fn sizes_of_rows(rt: HostRuntime) -> Result<(), Fail> {
+    assert_eq!(rt; size_of::<Entry>(), 8);
+    assert_eq!(rt; size_of::<Called>(), 8);
+    assert_eq!(rt; size_of::<ClassRow>(), 8);
     Ok(())
 }

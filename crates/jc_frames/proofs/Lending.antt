@@ -1,14 +1,18 @@
 -- What is left in words that were lent out of the top frame.
-use Rattle.std.proofs.Common.{◌≡◌, ℕ, ◌+◌, ◌-◌, ◌≤◌, List, ◌∷◌, ◌++◌, length, map, take, drop, reverse, Some, slice_get, refl, sym, ap, ◌∙◌, arith}
+use Rattle.std.proofs.Common.{◌≡◌, ◌⊎◌, inl, inr, suc, subst, [], ℕ, ◌+◌, ◌-◌, ◌≤◌, List, ◌∷◌, ◌++◌, length, map}
+use Rattle.std.proofs.Common.{take, drop, reverse, Some, slice_get, refl, sym, ap, ◌∙◌, arith}
 use Rattle.std.proofs.lemmas.List.{length-append}
 use Rattle.std.specs.List.{refill}
 use Rattle.jc_frames.specs.Frames.{Frame, with_locals_left, with_operands, with_operands_left, written_over}
-use Rattle.jc_frames.specs.PrivateLaid.{AreLaid, frame_in, frames_in, part}
+use Rattle.jc_frames.specs.Operands.{of_first, words_of}
+use Rattle.jc_frames.specs.PrivateLaid.{AreLaid, first_word, frame_in, frames_in, part}
 use Rattle.jc_frames.specs.declared.place.FramePlace.{FramePlace}
 use Rattle.jc_frames.proofs.Places.{last_first, same_frames, top_ends}
-use Rattle.jc_frames.proofs.Words.{drop_first, drop_taken, drop_twice, filled_before, filled_part, left_over, part_before, part_length, take_both, take_first, take_less, take_long}
+use Rattle.jc_frames.proofs.Words.{drop_first, drop_taken, drop_twice, filled_before, filled_part, left_over}
+use Rattle.jc_frames.proofs.Words.{part_before, part_length, take_both, take_first, take_less, take_long}
 
-module _ (places : List FramePlace) (words : List ℕ) (used : ℕ) (laid : AreLaid (reverse places) used) (within : used ≤ length words) (p : FramePlace)
+module _ (places : List FramePlace) (words : List ℕ) (used : ℕ) (laid : AreLaid (reverse places) used)
+    (within : used ≤ length words) (p : FramePlace)
     (at : slice_get places (length places - 1) ≡ Some p) (left : List ℕ) where
   abbrev filled : ℕ → List ℕ
   filled start = take (length words) (left_over words start left ++ drop (length (left_over words start left)) words)
@@ -16,10 +20,12 @@ module _ (places : List FramePlace) (words : List ℕ) (used : ℕ) (laid : AreL
   ends : used ≡ p.start + p.locals + p.operands
   ends = (top_ends places used p laid at).0
 
-  frames_are : (others : List ℕ) → take p.start others ≡ take p.start words → frames_in others places ≡ frame_in others p ∷ frames_in words (take (length places - 1) places)
+  frames_are : (others : List ℕ) → take p.start others ≡ take p.start words
+      → frames_in others places ≡ frame_in others p ∷ frames_in words (take (length places - 1) places)
   frames_are others same =
       ap (map (frame_in others)) (last_first places p at)
-      ∙ ap (λ fs. frame_in others p ∷ fs) (same_frames (reverse (take (length places - 1) places)) p.start words others (top_ends places used p laid at).1 same)
+      ∙ ap (λ fs. frame_in others p ∷ fs) (same_frames (reverse (take (length places - 1) places)) p.start words
+      others (top_ends places used p laid at).1 same)
 
   was : frames_in words places ≡ frame_in words p ∷ frames_in words (take (length places - 1) places)
   was = frames_are words refl
@@ -30,21 +36,35 @@ module _ (places : List FramePlace) (words : List ℕ) (used : ℕ) (laid : AreL
   locals_length : length (part words p.start p.locals) ≡ p.locals
   locals_length = let e = ends in part_length words p.start p.locals (omega (arith, e, within))
 
-  pub operands_left : frames_in (filled (p.start + p.locals)) places ≡ with_operands_left (frames_in words places) left
+  pub operands_left : frames_in (filled (p.start + p.locals)) places
+      ≡ with_operands_left (frames_in words places) left
   operands_left =
       let e = ends in
       let start : ℕ = p.start + p.locals in
       let fits : start ≤ length words = omega (arith, e, within) in
       let n : length (part words start p.operands) ≡ p.operands = operands_length in
-      let before : take start (filled start) ≡ take start words = filled_before words start left fits (length words) fits in
-      let own : part (filled start) start p.operands ≡ refill p.operands (part words start p.operands) left = filled_part words start left fits (length words) p.operands (omega (arith, e, within)) in
+      let before : take start (filled start) ≡ take start words = filled_before words start left fits (length words)
+      fits in
+      let own : part (filled start) start p.operands
+      ≡ refill p.operands (part words start p.operands) left = filled_part words start left fits (length words)
+      p.operands (omega (arith, e, within)) in
       let locals : part (filled start) p.start p.locals ≡ part words p.start p.locals =
-      sym (part_before (filled start) p.start p.locals start (omega arith)) ∙ ap (λ xs. part xs p.start p.locals) before ∙ part_before words p.start p.locals start (omega arith) in
-      let lower : take p.start (filled start) ≡ take p.start words = sym (take_less (filled start) p.start start (omega arith)) ∙ ap (take p.start) before ∙ take_less words p.start start (omega arith) in
+      sym (part_before (filled start) p.start p.locals start (omega arith))
+      ∙ ap (λ xs. part xs p.start p.locals) before ∙ part_before words p.start p.locals start (omega arith) in
+      let lower : take p.start (filled start) ≡ take p.start words = sym
+      (take_less (filled start) p.start start (omega arith)) ∙ ap (take p.start) before
+      ∙ take_less words p.start start (omega arith) in
       frames_are (filled start) lower
-      ∙ ap (λ xs. record { header = p.header; locals = xs; operands = part (filled start) start p.operands } ∷ frames_in words (take (length places - 1) places)) locals
-      ∙ ap (λ xs. record { header = p.header; locals = part words p.start p.locals; operands = xs } ∷ frames_in words (take (length places - 1) places)) own
-      ∙ ap (λ k. record { header = p.header; locals = part words p.start p.locals; operands = refill k (part words start p.operands) left } ∷ frames_in words (take (length places - 1) places)) (sym n)
+      ∙ ap (λ xs. record { header = p.header; locals = xs; operands = part (filled start) start p.operands } ∷
+      frames_in words (take (length places - 1) places)) locals
+      ∙ ap (λ xs. record { header = p.header; locals = part words p.start p.locals; operands = xs } ∷ frames_in words
+      (take (length places - 1) places)) own
+      ∙ ap (λ k. record {
+        header = p.header;
+        locals = part words p.start p.locals;
+        operands = refill k
+            (part words start p.operands) left;
+      } ∷ frames_in words (take (length places - 1) places)) (sym n)
       ∙ ap (λ fs. with_operands_left fs left) (sym was)
 
   pub locals_left : frames_in (filled p.start) places ≡ with_locals_left (frames_in words places) left
@@ -55,36 +75,120 @@ module _ (places : List FramePlace) (words : List ℕ) (used : ℕ) (laid : AreL
       let fits : start ≤ length words = omega (arith, e, within) in
       let n = locals_length in
       let m = operands_length in
-      let before : take start (filled start) ≡ take start words = filled_before words start left fits (length words) fits in
-      let own : part (filled start) start both ≡ refill both (part words start both) left = filled_part words start left fits (length words) both (omega (arith, e, within)) in
+      let before : take start (filled start) ≡ take start words = filled_before words start left fits (length words)
+      fits in
+      let own : part (filled start) start both ≡ refill both (part words start both) left = filled_part words start
+      left fits (length words) both (omega (arith, e, within)) in
       let was_both : part words start p.locals ++ part words (start + p.locals) p.operands ≡ part words start both =
-      ap (λ xs. part words start p.locals ++ take p.operands xs) (drop_twice words start p.locals) ∙ take_both (drop start words) p.locals p.operands in
+      ap (λ xs. part words start p.locals ++ take p.operands xs) (drop_twice words start p.locals)
+      ∙ take_both (drop start words) p.locals p.operands in
       let over : refill both (part words start both) left ≡ written_over (frame_in words p) left =
       ap (λ xs. refill both xs left) (sym was_both)
-      ∙ ap (λ k. refill (k + p.operands) (part words start p.locals ++ part words (start + p.locals) p.operands) left) (sym n)
-      ∙ ap (λ k. refill (length (part words start p.locals) + k) (part words start p.locals ++ part words (start + p.locals) p.operands) left) (sym m) in
-      let locals : part (filled start) start p.locals ≡ take (length (part words start p.locals)) (written_over (frame_in words p) left) =
-      sym (take_less (drop start (filled start)) p.locals both (omega arith)) ∙ ap (take p.locals) (own ∙ over) ∙ ap (λ k. take k (written_over (frame_in words p) left)) (sym n) in
-      let operands : part (filled start) (start + p.locals) p.operands ≡ drop (length (part words start p.locals)) (written_over (frame_in words p) left) =
-      ap (take p.operands) (drop_twice (filled start) start p.locals) ∙ sym (drop_taken (drop start (filled start)) p.locals p.operands)
+      ∙ ap (λ k. refill (k + p.operands) (part words start p.locals ++ part words (start + p.locals) p.operands)
+      left) (sym n)
+      ∙ ap (λ k. refill (length (part words start p.locals) + k)
+      (part words start p.locals ++ part words (start + p.locals) p.operands) left) (sym m) in
+      let locals : part (filled start) start p.locals
+      ≡ take (length (part words start p.locals)) (written_over (frame_in words p) left) =
+      sym (take_less (drop start (filled start)) p.locals both (omega arith)) ∙ ap (take p.locals) (own ∙ over)
+      ∙ ap (λ k. take k (written_over (frame_in words p) left)) (sym n) in
+      let operands : part (filled start) (start + p.locals) p.operands
+      ≡ drop (length (part words start p.locals)) (written_over (frame_in words p) left) =
+      ap (take p.operands) (drop_twice (filled start) start p.locals)
+      ∙ sym (drop_taken (drop start (filled start)) p.locals p.operands)
       ∙ ap (drop p.locals) (own ∙ over) ∙ ap (λ k. drop k (written_over (frame_in words p) left)) (sym n) in
       frames_are (filled start) before
-      ∙ ap (λ xs. record { header = p.header; locals = xs; operands = part (filled start) (start + p.locals) p.operands } ∷ frames_in words (take (length places - 1) places)) locals
-      ∙ ap (λ xs. record { header = p.header; locals = take (length (part words start p.locals)) (written_over (frame_in words p) left); operands = xs } ∷ frames_in words (take (length places - 1) places)) operands
+      ∙ ap (λ xs. record {
+        header = p.header;
+        locals = xs;
+        operands = part (filled start) (start + p.locals)
+            p.operands;
+      } ∷ frames_in words (take (length places - 1) places)) locals
+      ∙ ap (λ xs. record {
+        header = p.header;
+        locals = take (length (part words start p.locals))
+            (written_over (frame_in words p) left);
+        operands = xs;
+      } ∷ frames_in words
+      (take (length places - 1) places)) operands
       ∙ ap (λ fs. with_locals_left fs left) (sym was)
 
+-- ---- locals and operands in one, also where there is no frame
+
+ends_in : (places : List FramePlace) → (places ≡ []) ⊎
+    ((p : FramePlace) × (slice_get places (length places - 1) ≡ Some p))
+ends_in [] = inl refl
+ends_in (x ∷ places) = inr (last x places)
+  where
+    last : (x : FramePlace) (ps : List FramePlace)
+        → (p : FramePlace) × (slice_get (x ∷ ps) (length (x ∷ ps) - 1) ≡ Some p)
+    last x [] = (x, refl)
+    last x (y ∷ ps) =
+        let next = last y ps in
+        let pre : length (x ∷ y ∷ ps) - 1 ≡ suc (length (y ∷ ps) - 1) = omega arith in
+        (next.0, ap (slice_get (x ∷ y ∷ ps)) pre ∙ next.1)
+
+module _ (places : List FramePlace) (words : List ℕ) (used : ℕ) (laid : AreLaid (reverse places) used)
+    (within : used ≤ length words) where
+  abbrev from : ℕ
+  from = first_word (reverse places)
+
+  -- what is left over the words from a place on, for some places
+  abbrev IsLeft : List ℕ → List FramePlace → ℕ → Type 0
+  IsLeft left ps start = frames_in (take (length words)
+      (left_over words start left ++ drop (length (left_over words start left)) words)) ps
+      ≡ with_locals_left (frames_in words ps) left
+
+  pub words_left : (left : List ℕ) → IsLeft left places from
+  words_left left = which (ends_in places)
+    where
+      which : (places ≡ []) ⊎ ((p : FramePlace) × (slice_get places (length places - 1) ≡ Some p))
+          → IsLeft left places from
+      which (inl none) = subst (λ ps. IsLeft left ps (first_word (reverse ps))) (sym none) refl
+      which (inr h) = subst (IsLeft left places) (sym (ap first_word (last_first places h.0 h.1)))
+          (locals_left places words used laid within h.0 h.1 left)
+
+  pub words_lent : take (used - from) (drop from words) ≡ of_first [] words_of (frames_in words places)
+  words_lent = which (ends_in places)
+    where
+      which : (places ≡ []) ⊎ ((p : FramePlace) × (slice_get places (length places - 1) ≡ Some p))
+          → take (used - from) (drop from words) ≡ of_first [] words_of (frames_in words places)
+      which (inl none) =
+          let unused : used ≡ 0 = subst (λ ps. AreLaid (reverse ps) used) none laid in
+          let nothing : used - from ≡ 0 = omega (arith, unused) in
+          ap (λ k. take k (drop from words)) nothing ∙ ap (λ ps. of_first [] words_of (frames_in words ps)) (sym none)
+      which (inr h) =
+          let p = h.0 in
+          let end = (top_ends places used p laid h.1).0 in
+          let start : from ≡ p.start = ap first_word (last_first places p h.1) in
+          let size : used - from ≡ p.locals + p.operands = omega (arith, end, start) in
+          ap (λ k. take k (drop from words)) size ∙ ap (λ k. take (p.locals + p.operands) (drop k words)) start
+          ∙ sym (take_both (drop p.start words) p.locals p.operands)
+          ∙ ap (λ xs. part words p.start p.locals ++ take p.operands xs) (sym (drop_twice words p.start p.locals))
+          ∙ ap (λ ps. of_first [] words_of (map (frame_in words) ps)) (sym (last_first places p h.1))
+
 -- where as many words are left as were lent, they are the locals, or the operands
-pub same_locals : (f : Frame) (below : List Frame) (left : List ℕ) → length left ≡ length f.locals → with_locals_left (f ∷ below) left ≡ record { header = f.header; locals = left; operands = f.operands } ∷ below
+pub same_locals : (f : Frame) (below : List Frame) (left : List ℕ) → length left ≡ length f.locals
+    → with_locals_left (f ∷ below) left ≡ record { header = f.header; locals = left; operands = f.operands } ∷ below
 same_locals f below left n =
     let both : written_over f left ≡ left ++ f.operands =
-    ap (take (length f.locals + length f.operands)) (ap (λ xs. left ++ xs) (ap (λ k. drop k (f.locals ++ f.operands)) n ∙ drop_first f.locals f.operands))
-    ∙ take_long (left ++ f.operands) (length f.locals + length f.operands) (let l : length (left ++ f.operands) ≡ length left + length f.operands = length-append left f.operands in omega (arith, l, n)) in
-    let locals : take (length f.locals) (written_over f left) ≡ left = ap (take (length f.locals)) both ∙ ap (λ k. take k (left ++ f.operands)) (sym n) ∙ take_first left f.operands in
-    let operands : drop (length f.locals) (written_over f left) ≡ f.operands = ap (drop (length f.locals)) both ∙ ap (λ k. drop k (left ++ f.operands)) (sym n) ∙ drop_first left f.operands in
-    ap (λ xs. record { header = f.header; locals = xs; operands = drop (length f.locals) (written_over f left) } ∷ below) locals
+    ap (take (length f.locals + length f.operands))
+    (ap (λ xs. left ++ xs) (ap (λ k. drop k (f.locals ++ f.operands)) n ∙ drop_first f.locals f.operands))
+    ∙ take_long (left ++ f.operands) (length f.locals + length f.operands)
+    (let l : length (left ++ f.operands) ≡ length left + length f.operands = length-append left f.operands in
+    omega (arith, l, n)) in
+    let locals : take (length f.locals) (written_over f left) ≡ left = ap (take (length f.locals)) both
+    ∙ ap (λ k. take k (left ++ f.operands)) (sym n) ∙ take_first left f.operands in
+    let operands : drop (length f.locals) (written_over f left) ≡ f.operands = ap (drop (length f.locals)) both
+    ∙ ap (λ k. drop k (left ++ f.operands)) (sym n) ∙ drop_first left f.operands in
+    ap (λ xs. record { header = f.header; locals = xs; operands = drop (length f.locals) (written_over f left) } ∷
+    below) locals
     ∙ ap (λ xs. record { header = f.header; locals = left; operands = xs } ∷ below) operands
 
-pub same_operands : (f : Frame) (below : List Frame) (left : List ℕ) → length left ≡ length f.operands → with_operands_left (f ∷ below) left ≡ with_operands f left ∷ below
+pub same_operands : (f : Frame) (below : List Frame) (left : List ℕ) → length left ≡ length f.operands
+    → with_operands_left (f ∷ below) left ≡ with_operands f left ∷ below
 same_operands f below left n =
     ap (λ xs. with_operands f xs ∷ below)
-    (ap (λ k. take (length f.operands) (left ++ drop k f.operands)) n ∙ ap (λ k. take k (left ++ drop (length f.operands) f.operands)) (sym n) ∙ take_first left (drop (length f.operands) f.operands))
+    (ap (λ k. take (length f.operands) (left ++ drop k f.operands)) n
+    ∙ ap (λ k. take k (left ++ drop (length f.operands) f.operands)) (sym n)
+    ∙ take_first left (drop (length f.operands) f.operands))

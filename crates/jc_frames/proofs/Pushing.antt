@@ -10,7 +10,7 @@ use Rattle.jc_frames.proofs.Places.{frame_count, last_first, more_first, same_fr
 use Rattle.jc_frames.proofs.Words.{part_length, put_before, put_here, put_length, take_less}
 
 module _ (places : List FramePlace) (words : List ℕ) (s : Sizes) (laid : IsLaid places words s) where
-  abbrev as_held : Frames
+  abbrev pub as_held : Frames
   as_held = record { frames = frames_in words places; most_frames = s.most_frames; most_words = s.most_words }
 
   abbrev end_within : s.used ≤ length words

@@ -9,3 +9,7 @@ LendsLocals s r = Lends the_row (Array u16 0) s r (λ left. with_frames s.now (w
 
 abbrev pub LendsOperands : MutBor Frames → MutBor (List ℕ) → Fml
 LendsOperands s r = Lends the_row (Array u16 0) s r (λ left. with_frames s.now (with_operands_left s.now.frames left))
+
+-- the same of the locals with the operands behind them
+abbrev pub LendsWords : MutBor Frames → MutBor (List ℕ) → Fml
+LendsWords s r = LendsLocals s r

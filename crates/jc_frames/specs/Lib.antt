@@ -1,3 +1,4 @@
 pub mod Frames
 pub mod Lending
+pub mod Operands
 pub mod PrivateLaid

@@ -21,6 +21,11 @@ abbrev pub AreLaid : List FramePlace → ℕ → Type 0
 AreLaid [] end = end ≡ 0
 AreLaid (p ∷ below) end = (end ≡ p.start + p.locals + p.operands) × AreLaid below p.start
 
+-- where the words of the first of some places begin
+abbrev pub first_word : List FramePlace → ℕ
+first_word [] = 0
+first_word (p ∷ below) = p.start
+
 -- how much of the frames is used: the lengths of the arrays, and how many places there is room for; the word behind the top frame; and
 -- the most frames and words
 pub record Sizes : Type 0 where
@@ -51,3 +56,16 @@ pub record HasRoom (s : Frames) (size : FrameSize) : Type 0 where
 -- words with others in place of some of them, from one on
 abbrev pub put_at : List ℕ → ℕ → List ℕ → List ℕ
 put_at words start others = take start words ++ (others ++ drop (start + length others) words)
+
+-- the words of a place lie within the words
+abbrev pub IsWithin : FramePlace → List ℕ → Type 0
+IsWithin p words = p.start + p.locals + p.operands ≤ length words
+
+-- the frame at a place was changed; its words are where they were, and those before are as they were
+pub record IsChanged (change : Frame → Frame) (p : FramePlace) (words : List ℕ) (q : FramePlace) (others : List ℕ)
+    : Type 0 where
+  pub frame : frame_in others q ≡ change (frame_in words p)
+  pub before : take p.start others ≡ take p.start words
+  pub start : q.start ≡ p.start
+  pub locals : q.locals ≡ p.locals
+  pub operands : q.operands ≡ p.operands

@@ -1,13 +1,20 @@
 //! The frames of the methods that run.
 
-ghost use Rattle.std.specs.Prelude.{◌≡◌, ◌+◌, ◌≤◌, ℕ, List, true, false, [], ◌∷◌, Some, length, slice_get, slice_range, IfOk};
+ghost use Rattle.std.specs.Prelude.{◌≡◌, ◌+◌, ◌≤◌, ℕ, List, true, false, [], ◌∷◌, Some, None};
+ghost use Rattle.std.specs.Prelude.{length, take, drop, reverse, slice_get, slice_range, IfOk};
 ghost use Rattle.std.specs.Borrow.{sem};
 ghost use Rattle.jc_frames.specs.Frames.{Frame, HasOperands, HasTop, IsFull, IsPushed, with_frames, with_header, with_locals, with_locals_left, with_operands, with_operands_left};
-ghost use Rattle.jc_frames.specs.Lending.{LendsLocals, LendsOperands};
+ghost use Rattle.jc_frames.specs.Lending.{LendsLocals, LendsOperands, LendsWords};
+ghost use Rattle.jc_frames.specs.Operands.{HasInUse, at_pc, dropped, in_use, local_in, of_top, on_top, operand_in};
+ghost use Rattle.jc_frames.specs.Operands.{placed, pushed, with_duplicated, with_in_use, with_local, with_swapped};
+ghost use Rattle.jc_frames.specs.Operands.{with_words, words_of};
 ghost use Rattle.jc_frames.specs.PrivateLaid.{HasRoom};
 
+use crate::frame_words::{
+    depth_at, duplicate_at, local_at, operand_at, push_at, set_local_at, swap_at,
+};
 use crate::header::{FrameHeader, FrameSize};
-use crate::place::{FramePlace, copy_arguments, put_arguments, top_of};
+use crate::place::{FramePlace, copy_arguments, put_arguments, top_of, top_start};
 use std::alloc::{AllocError, Global};
 use std::marker::Model;
 
@@ -161,6 +168,19 @@ impl Frames {
         if !self.has_room(size) {
             return false;
         }
+        self.put_call(header, size, first, count);
+        true
+    }
+
+    // The same where there is room.
+    #[inline]
+    fn put_call(&mut self, header: FrameHeader, size: FrameSize, first: u8, count: u8)
+        requires there { HasOperands self.old first count }
+        requires fit { count ≤ size.locals }
+        requires room { HasRoom self.old size }
+        ensures { (top : Frame) (below : List Frame) → self.old.frames ≡ top ∷ below
+            → IsPushed self.old header size (slice_range top.operands first (first + count)) self.new }
+    {
         let place = top_of(&self.places);
         let from = usize::from(place.start) + usize::from(place.locals) + usize::from(first);
         let start = self.used;
@@ -177,7 +197,6 @@ impl Frames {
             usize::from(count),
             usize::from(start),
         );
-        true
     }
 
     /// Takes the top frame away.
@@ -189,12 +208,194 @@ impl Frames {
         self.used = top_of(&self.places).start;
         let _ = self.places.pop();
     }
+
+    /// What is known of the top frame, if there is one.
+    #[inline]
+    pub fn top(&self) -> Option<FrameHeader>
+        ensures { result ≡ of_top None (λ f. Some f.header) self.now }
+    {
+        let place = self.places.last()?;
+        Some(place.header)
+    }
+
+    /// The operand of the top frame with an index, counted from the top; 0 where there is none.
+    #[inline]
+    pub fn operand(&self, index: u8) -> u16
+        ensures { result ≡ of_top 0 (operand_in index) self.now }
+    {
+        let Some(place) = self.places.last() else {
+            return 0;
+        };
+        operand_at(place, &self.words, index)
+    }
+
+    /// The local of the top frame with an index; 0 where there is none.
+    #[inline]
+    pub fn local(&self, index: u8) -> u16
+        ensures { result ≡ of_top 0 (local_in index) self.now }
+    {
+        let Some(place) = self.places.last() else {
+            return 0;
+        };
+        local_at(place, &self.words, index)
+    }
+
+    /// Puts an operand on top, where there is room for it.
+    #[inline]
+    pub fn push_operand(&mut self, word: u16)
+        ensures { self.new ≡ on_top (pushed word) self.old }
+    {
+        let Some(place) = self.places.last_mut() else {
+            return;
+        };
+        push_at(place, &mut self.words, word);
+    }
+
+    /// Takes so many operands away, or all where there are fewer.
+    #[inline]
+    pub fn drop_operands(&mut self, count: u8)
+        ensures { self.new ≡ on_top (dropped count) self.old }
+    {
+        let Some(place) = self.places.last_mut() else {
+            return;
+        };
+        place.header.depth = depth_at(place).saturating_sub(count);
+    }
+
+    /// Puts so many of the top operands again, below so many of the top ones; below none is on top. Nothing is changed
+    /// where they aren't there, or there is no room.
+    #[inline]
+    pub fn duplicate_operands(&mut self, count: u8, below: u8)
+        ensures { self.new ≡ on_top (with_duplicated count below) self.old }
+    {
+        let Some(place) = self.places.last_mut() else {
+            return;
+        };
+        duplicate_at(place, &mut self.words, count, below);
+    }
+
+    /// So many of the top operands and so many below them change places, where they are there.
+    #[inline]
+    pub fn swap_operands(&mut self, upper: u8, lower: u8)
+        ensures { self.new ≡ on_top (with_swapped upper lower) self.old }
+    {
+        let Some(place) = self.places.last_mut() else {
+            return;
+        };
+        swap_at(place, &mut self.words, upper, lower);
+    }
+
+    /// Writes a local of the top frame, where there is one with the index.
+    #[inline]
+    pub fn set_local(&mut self, index: u8, word: u16)
+        ensures { self.new ≡ on_top (with_local index word) self.old }
+    {
+        let Some(place) = self.places.last_mut() else {
+            return;
+        };
+        set_local_at(place, &mut self.words, index, word);
+    }
+
+    /// The top frame is at another pc.
+    #[inline]
+    pub fn set_pc(&mut self, pc: u16)
+        ensures { self.new ≡ on_top (at_pc pc) self.old }
+    {
+        let Some(place) = self.places.last_mut() else {
+            return;
+        };
+        place.header.pc = pc;
+    }
+
+    /// The top frame is at another pc, and so many operands are in use.
+    #[inline]
+    pub fn place_top(&mut self, pc: u16, depth: u8)
+        ensures { self.new ≡ on_top (placed pc depth) self.old }
+    {
+        let Some(place) = self.places.last_mut() else {
+            return;
+        };
+        place.header.pc = pc;
+        place.header.depth = depth;
+    }
+
+    /// The locals of the top frame and behind them its operands, for writing; no words where there is no frame.
+    #[inline]
+    pub fn words(&mut self) -> &mut [u16]
+        ensures* given_back { sem 𝓛 (LendsWords self.entry result) }
+        ensures words { result.now ≡ of_top [] words_of self.old }
+    {
+        let start = usize::from(top_start(&self.places));
+        let end = usize::from(self.used);
+        self.words.slice_mut(start..end)
+    }
+
+    /// Puts a frame on top, if there is room for it: its first locals are so many of the top operands of the frame that
+    /// was on top, which loses them; its other words hold anything. Where the operands aren't there, or there are fewer
+    /// locals, the answer is false.
+    #[inline]
+    pub fn enter_call(&mut self, header: FrameHeader, size: FrameSize, words: u8) -> bool
+        ensures pushed { (top : Frame) (below : List Frame) → self.old.frames ≡ top ∷ below
+            → words ≤ length (in_use top) → words ≤ size.locals → result ≡ true
+            → IsPushed (with_frames self.old (dropped words top ∷ below)) header size
+            (reverse (take words (in_use top))) self.new }
+        ensures full { (top : Frame) (below : List Frame) → self.old.frames ≡ top ∷ below
+            → words ≤ length (in_use top) → words ≤ size.locals → result ≡ false → IsFull self.old size }
+        ensures there { result ≡ true → HasInUse self.old words }
+        ensures fit { result ≡ true → words ≤ size.locals }
+        ensures room { result ≡ true → IsFull self.old size → ⊥ }
+        ensures kept { result ≡ false → self.new ≡ self.old }
+    {
+        let Some(caller) = self.places.last() else {
+            return false;
+        };
+        let depth = depth_at(caller);
+        if depth < words || size.locals < u16::from(words) || !self.has_room(size) {
+            return false;
+        }
+        self.drop_operands(words);
+        self.put_call(header, size, depth - words, words);
+        true
+    }
+
+    /// Takes the top frame away, if there is one.
+    #[inline]
+    pub fn drop_frame(&mut self)
+        ensures { self.new ≡ with_frames self.old (drop 1 self.old.frames) }
+    {
+        if !self.places.is_empty() {
+            self.pop_frame();
+        }
+    }
+
+    /// Takes all frames away.
+    #[inline]
+    pub fn clear(&mut self)
+        ensures { self.new ≡ with_frames self.old [] }
+    {
+        self.places.clear();
+        self.used = 0;
+    }
 }
 
-/// As many words as were lent are left in a slice, so what is left are the locals, or the operands.
+/// As many words as were lent are left in a slice, so what is left are the locals, or the operands, or both.
 pub fn lending_laws()
     ensures locals { (top : Frame) (below : List Frame) (left : List ℕ) → length left ≡ length top.locals
         → with_locals_left (top ∷ below) left ≡ with_locals top left ∷ below }
     ensures operands { (top : Frame) (below : List Frame) (left : List ℕ) → length left ≡ length top.operands
         → with_operands_left (top ∷ below) left ≡ with_operands top left ∷ below }
+    ensures words { (top : Frame) (below : List Frame) (left : List ℕ)
+        → length left ≡ length top.locals + length top.operands
+        → with_locals_left (top ∷ below) left ≡ with_words top left ∷ below }
+{}
+
+/// What holds of the operands in use, and of the locals.
+pub fn operand_laws()
+    ensures in_use { (f : Frame) (words : List ℕ) → in_use (with_in_use f words) ≡ words }
+    ensures within { (f : Frame) → length (in_use f) ≤ length f.operands }
+    ensures room { (f : Frame) (words : List ℕ) → length words ≤ length f.operands
+        → length (with_in_use f words).operands ≡ length f.operands }
+    ensures at_pc { (f : Frame) (pc : ℕ) → in_use (at_pc pc f) ≡ in_use f }
+    ensures with_local { (f : Frame) (index word : ℕ) → in_use (with_local index word f) ≡ in_use f }
+    ensures locals { (f : Frame) (index word : ℕ) → length (with_local index word f).locals ≡ length f.locals }
 {}

@@ -1,7 +1,7 @@
 //! Where frames lie among the words.
 
-ghost use Rattle.std.specs.Prelude.{◌≡◌, ◌+◌, ◌-◌, ◌<◌, ◌≤◌, Some, length, slice_get, vec_len};
-ghost use Rattle.jc_frames.specs.PrivateLaid.{part, put_at};
+ghost use Rattle.std.specs.Prelude.{◌≡◌, ◌+◌, ◌-◌, ◌<◌, ◌≤◌, Some, length, reverse, slice_get, vec_len};
+ghost use Rattle.jc_frames.specs.PrivateLaid.{first_word, part, put_at};
 
 use crate::header::FrameHeader;
 
@@ -21,6 +21,17 @@ pub(crate) fn top_of(places: &[FramePlace]) -> FramePlace
     ensures { slice_get places.now (length places.now - 1) ≡ Some result }
 {
     places[places.len() - 1]
+}
+
+/// Where the words of the top frame begin; at the first word where there is no frame.
+#[inline]
+pub(crate) fn top_start(places: &[FramePlace]) -> u16
+    ensures { result ≡ first_word (reverse places.now) }
+{
+    match places.last() {
+        Some(place) => place.start,
+        None => 0,
+    }
 }
 
 /// Puts the arguments into the words from one on.

@@ -9,7 +9,7 @@ use Rattle.jc_classes.specs.World.{superclass_of}
 use Rattle.jc_names.specs.declared.name.ClassName.{ClassName}
 use Rattle.jc_loaded.specs.PrivateChain.{chain_of, chain_within}
 
-most_is : most_classes ≡ 17_085
+pub most_is : most_classes ≡ 17_085
 unfolding most_classes
 most_is = refl
 

@@ -16,3 +16,6 @@ mod Interfacing
 mod Showing
 mod Above
 mod Climbing
+mod Summing
+mod Following
+mod Descending

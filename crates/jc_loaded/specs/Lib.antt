@@ -10,3 +10,6 @@ pub mod PrivateCalled
 pub mod PrivateChain
 pub mod Supertypes
 pub mod PrivateSupertypes
+pub mod ClassRows
+pub mod PrivateClassRows
+pub mod Program

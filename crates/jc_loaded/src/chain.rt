@@ -8,7 +8,7 @@ use jc_names::ClassName;
 use std::alloc::{AllocError, Global};
 
 /// How many classes and interfaces there are at most.
-const MOST_CLASSES: u16 = 17_085;
+pub(crate) const MOST_CLASSES: u16 = 17_085;
 
 /// A class and its superclasses, the nearest first.
 pub(crate) fn chain_of(

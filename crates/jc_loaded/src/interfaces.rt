@@ -200,7 +200,7 @@ impl InterfaceMethods {
     }
 
     /// What a call of the method with a token of the interface with a number leads to, for an object of the class with
-    /// a number.
+    /// a number. A number of no class lists nothing.
     #[inline]
     pub fn interface_method(
         &self,
@@ -208,7 +208,6 @@ impl InterfaceMethods {
         interface: ClassNumber,
         token: u8,
     ) -> InterfaceCall
-        requires there { class < length self.now }
         ensures { result ≡ interface_call_at self.now class interface token }
     {
         match self

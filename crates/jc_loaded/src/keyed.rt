@@ -1,6 +1,6 @@
 //! For each class some tables that are found by their keys.
 
-ghost use Rattle.std.specs.Prelude.{◌≡◌, ◌<◌, ◌∷◌, [], length, IfOk};
+ghost use Rattle.std.specs.Prelude.{◌≡◌, ◌∷◌, [], length, slice_get, IfOk};
 ghost use Rattle.jc_loaded.specs.Called.{keyed_at};
 ghost use Rattle.jc_loaded.specs.PrivateCalled.{no_lists, with_last, with_tables};
 
@@ -15,6 +15,14 @@ use std::marker::Model;
 pub(crate) struct Window {
     pub(crate) start: u32,
     pub(crate) count: u16,
+}
+
+/// The window with an index.
+#[inline]
+fn window_at(windows: &[Window], index: usize) -> Option<Window>
+    ensures { result ≡ slice_get windows.now index }
+{
+    windows.get(index).copied()
 }
 
 /// Tables of classes, those of one class behind those of another. First come those of whole classes, and behind them
@@ -77,15 +85,18 @@ impl KeyedLists {
         Ok(())
     }
 
-    /// What the first table with a key has at a token, of those of the class with a number.
+    /// What the first table with a key has at a token, of those of the class with a number; none where no class has it.
     #[inline]
     pub(crate) fn find(&self, number: usize, key: u16, token: u8) -> Option<Called>
-        requires there { number < length self.now.whole }
         ensures { result ≡ keyed_at self.now.whole number key token }
     {
-        let window = self.windows[number];
-        let first = window.start as usize;
-        self.tables
-            .find(first, usize::from(window.count), key, token)
+        match window_at(&self.windows, number) {
+            Some(window) => {
+                let first = window.start as usize;
+                self.tables
+                    .find(first, usize::from(window.count), key, token)
+            }
+            None => None,
+        }
     }
 }

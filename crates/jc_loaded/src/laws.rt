@@ -1,18 +1,23 @@
 //! What holds of lists of loaded methods and of classes.
 
-ghost use Rattle.std.specs.Prelude.{◌≡◌, ℕ, List, Some};
+ghost use Rattle.std.specs.Prelude.{◌≡◌, ℕ, List, Some, false};
 ghost use Rattle.jc_api.specs.declared.class.ApiClass.TheVariants.{Object};
 ghost use Rattle.jc_cap_desc.specs.Shape.{Shape};
 ghost use Rattle.jc_cap_method.specs.declared.handler.Handler.{Handler};
+ghost use Rattle.jc_classes.specs.Limits.{IsSmall};
+ghost use Rattle.jc_classes.specs.Subtype.{is_class_below, is_interface_at, is_subtype};
 ghost use Rattle.jc_link.specs.Built.{IsBuilt};
 ghost use Rattle.jc_link.specs.Linked.{IsBoundTo, IsWorld, Linked, LinkedBody, World};
 ghost use Rattle.jc_loaded.specs.Classes.{HaveNumbers, KeepsNumbers, class_names, class_number};
 ghost use Rattle.jc_loaded.specs.Growth.{KeepsLoaded};
 ghost use Rattle.jc_loaded.specs.Methods.{CoversSame, AreFound, AreLoaded, LoadedMethod};
+ghost use Rattle.jc_loaded.specs.Program.{AnswersFor, IsProgramOf};
+ghost use Rattle.jc_loaded.specs.declared.program.Program.{Program};
+ghost use Rattle.jc_names.specs.declared.name.ClassName.{ClassName};
 ghost use Rattle.jc_names.specs.declared.name.ClassName.TheVariants.{Api};
 
-use jc_classes::adding_keeps_lookups;
-use jc_link::adding_keeps_linking;
+use jc_classes::{adding_keeps_lookups, found_subtypes_are_subtypes};
+use jc_link::{adding_keeps_linking, built_worlds_are_sound};
 
 /// The position of a name leads to the method that is looked up anew by that name in the world.
 #[tactic(auto, using(crate::proofs::Finding::are_found))]
@@ -42,4 +47,20 @@ pub fn loading_keeps_methods()
 {
     adding_keeps_lookups();
     adding_keeps_linking();
+}
+
+/// What the tables of a world answer by number and name.
+#[tactic(auto, using(crate::proofs::Following::follows))]
+pub fn program_laws()
+    ensures { (w : World) (p : Program) → IsProgramOf w p → AnswersFor w p }
+{}
+
+/// In a world that is built, what is above a class by its supertypes is above it by superclasses, unless it is an
+/// interface.
+pub fn class_subtypes_are_below()
+    ensures { (world : List Shape) → IsSmall world → IsBuilt world → (c d : ClassName)
+        → is_interface_at world d ≡ false → is_class_below world c d ≡ is_subtype world c d }
+{
+    built_worlds_are_sound();
+    found_subtypes_are_subtypes();
 }

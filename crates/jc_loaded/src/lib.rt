@@ -3,6 +3,7 @@
 
 mod called;
 mod chain;
+mod class_rows;
 mod classes;
 mod entries;
 mod entry;
@@ -14,6 +15,7 @@ mod laws;
 mod loading;
 mod methods;
 mod numbers;
+mod program;
 mod row;
 mod superclasses;
 mod supertypes;
@@ -22,16 +24,18 @@ mod virtuals;
 mod visible;
 
 pub use called::Called;
+pub use class_rows::{ClassRow, ClassRows};
 pub use classes::{ClassNumber, Classes};
 pub use entries::Entries;
 pub use entry::Entry;
 pub use handler::{Caught, LoadedHandler};
 pub use interfaces::{InterfaceCall, InterfaceMethods};
 pub use laws::{
-    classes_have_numbers, loaded_handlers_cover_the_same, loaded_methods_are_found,
-    loading_keeps_methods,
+    class_subtypes_are_below, classes_have_numbers, loaded_handlers_cover_the_same,
+    loaded_methods_are_found, loading_keeps_methods, program_laws,
 };
 pub use methods::{MethodNumber, Methods};
+pub use program::Program;
 pub use row::LoadedMethod;
 pub use superclasses::Superclasses;
 pub use supertypes::Supertypes;

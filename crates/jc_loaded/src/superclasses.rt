@@ -1,7 +1,7 @@
 //! The superclasses of a world's classes, by number.
 
-ghost use Rattle.std.specs.Prelude.{◌≡◌, ◌<◌, ◌==◌, Some, length, map, slice_get, IfOk};
-ghost use Rattle.jc_loaded.specs.Classes.{superclass_number};
+ghost use Rattle.std.specs.Prelude.{◌≡◌, ◌==◌, length, map, IfOk};
+ghost use Rattle.jc_loaded.specs.Classes.{superclass_at, superclass_number};
 
 use crate::classes::{ClassNumber, Classes};
 use jc_classes::ClassTable;
@@ -74,9 +74,11 @@ impl Superclasses {
     /// The number of the superclass of the class with a number, if it has one.
     #[inline]
     pub fn superclass(&self, number: ClassNumber) -> Option<ClassNumber>
-        requires there { number < length self.now }
-        ensures { slice_get self.now number ≡ Some result }
+        ensures { result ≡ superclass_at self.now number }
     {
-        self.above[usize::from(number.index())]
+        self.above
+            .get(usize::from(number.index()))
+            .copied()
+            .unwrap_or(None)
     }
 }

@@ -61,7 +61,7 @@ fn is_class_at(table: &ClassTable, class: ClassName) -> bool
 /// Whether a class is another one or below it. Below a class it is along superclasses, and they are walked; for an
 /// interface all classes are passed over.
 #[tactic(auto, using(crate::proofs::Above::same_answer, crate::proofs::Above::orderly, crate::proofs::Above::top))]
-fn is_subtype(table: &ClassTable, class: ClassName, above: ClassName) -> bool
+pub(crate) fn is_subtype(table: &ClassTable, class: ClassName, above: ClassName) -> bool
     requires small { IsSmall table.now }
     requires sound { IsSound table.now }
     ensures { result ≡ is_subtype table.now class above }
@@ -74,13 +74,15 @@ fn is_subtype(table: &ClassTable, class: ClassName, above: ClassName) -> bool
     }
 }
 
-/// Whether the list of the class with a number has another number.
+/// Whether the list of the class with a number has another number; no class's number has none.
 #[inline]
 fn is_listed(lists: &[NumberList], place: ClassNumber, number: ClassNumber) -> bool
-    requires there { place < length lists.now }
     ensures { result ≡ is_listed lists.now place number }
 {
-    lists[usize::from(place.index())].has(number)
+    match lists.get(usize::from(place.index())) {
+        Some(list) => list.has(number),
+        None => false,
+    }
 }
 
 /// Whether a class is the one with a number or below it: read from the class's list if that is made, and else found
@@ -336,10 +338,9 @@ impl Supertypes {
         self.lists.len() == 0
     }
 
-    /// Whether the class with a number is the other one, or below it.
+    /// Whether the class with a number is the other one, or below it; false where no class has it.
     #[inline]
     pub fn is_subtype(&self, number: ClassNumber, other: ClassNumber) -> bool
-        requires there { number < length self.now }
         ensures { result ≡ is_listed self.now number other }
     {
         is_listed(&self.lists, number, other)

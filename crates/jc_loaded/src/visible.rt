@@ -1,6 +1,6 @@
 //! The package-visible virtual methods of a world's classes, by number, token and package.
 
-ghost use Rattle.std.specs.Prelude.{◌≡◌, ℕ, ◌<◌, ◌==◌, ◌||◌, [], length, IfOk};
+ghost use Rattle.std.specs.Prelude.{◌≡◌, ℕ, ◌==◌, ◌||◌, [], length, IfOk};
 ghost use Rattle.std.specs.Option.{option_to_list};
 ghost use Rattle.jc_loaded.specs.Called.{AreVisible, visible_at};
 ghost use Rattle.jc_loaded.specs.PrivateCalled.{AreListed};
@@ -185,10 +185,9 @@ impl VisibleMethods {
     }
 
     /// What a call of the method with a package-visible token, from 128 on, leads to for an object of the class with a
-    /// number, where a method of the loaded package with a number makes it.
+    /// number, where a method of the loaded package with a number makes it; nothing where no class has its number.
     #[inline]
     pub fn visible_method(&self, number: ClassNumber, token: u8, package: u8) -> Called
-        requires there { number < length self.now }
         ensures { result ≡ visible_at self.now number token «package» }
     {
         let asker = PackagePlace::of_loaded(package).index() as u16;

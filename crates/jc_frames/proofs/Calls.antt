@@ -1,0 +1,62 @@
+-- The operands that a call takes.
+use Rattle.std.proofs.Common.{◌≡◌, ℕ, ◌+◌, ◌-◌, ◌≤◌, min, List, ◌++◌, length, take, drop, reverse, slice_range, sym}
+use Rattle.std.proofs.Common.{ap, ◌∙◌, arith}
+use Rattle.std.proofs.lemmas.List.{length-drop, length-reverse, length-take, length-take-le, reverse-append}
+use Rattle.std.proofs.lemmas.List.{reverse-reverse, take-append-drop, take_min}
+use Rattle.jc_frames.specs.Frames.{Frame}
+use Rattle.jc_frames.specs.Operands.{dropped, in_use}
+use Rattle.jc_frames.proofs.Operands.{drop_reversed}
+use Rattle.jc_frames.proofs.Words.{take_both, take_first}
+
+-- the first of a list in reverse
+turned : (xs : List ℕ) (d count : ℕ) → count ≤ d → d ≤ length xs
+    → reverse (take count (reverse (take d xs))) ≡ take count (drop (d - count) xs)
+turned xs d count few le =
+    let rest : ℕ = d - count in
+    let whole : d ≡ rest + count = omega (arith, few) in
+    let upper : List ℕ = take count (drop rest xs) in
+    let l : count ≡ length (reverse upper) =
+    sym (length-reverse upper ∙ length-take-le count (drop rest xs)
+    (let m = length-drop rest xs in omega (arith, m, le, few))) in
+    ap (λ k. reverse (take count (reverse (take k xs)))) whole
+    ∙ ap (λ ys. reverse (take count (reverse ys))) (sym (take_both xs rest count))
+    ∙ ap (λ ys. reverse (take count ys)) (reverse-append (take rest xs) upper)
+    ∙ ap (λ k. reverse (take k (reverse upper ++ reverse (take rest xs)))) l
+    ∙ ap reverse (take_first (reverse upper) (reverse (take rest xs))) ∙ reverse-reverse upper
+
+module _ (f : Frame) where
+  abbrev n : ℕ
+  n = min f.header.depth (length f.operands)
+
+  in_use_are : in_use f ≡ reverse (take n f.operands)
+  in_use_are = ap reverse (sym (take_min f.header.depth f.operands))
+
+  in_use_count : length (in_use f) ≡ n
+  in_use_count = let l = length-reverse (take f.header.depth f.operands) in
+      let m = length-take f.header.depth f.operands in omega (arith, l, m)
+
+  pub in_use_within : length (in_use f) ≤ length f.operands
+  in_use_within = let m = in_use_count in omega (arith, m)
+
+  -- what is dropped stays in its place
+  pub dropped_operands : (count : ℕ) → (dropped count f).operands ≡ f.operands
+  dropped_operands count =
+      let k : ℕ = n - count in
+      let ws : List ℕ = drop count (in_use f) in
+      let are : ws ≡ reverse (take k f.operands) = ap (drop count) in_use_are
+      ∙ sym (drop_reversed f.operands n count (omega arith)) in
+      let back : reverse ws ≡ take k f.operands = ap reverse are ∙ reverse-reverse (take k f.operands) in
+      let len : length ws ≡ k = ap (λ (xs : List ℕ). length xs) are ∙ length-reverse (take k f.operands)
+      ∙ length-take-le k f.operands (omega arith) in
+      ap (λ xs. xs ++ drop (length ws) f.operands) back ∙ ap (λ j. take k f.operands ++ drop j f.operands) len
+      ∙ take-append-drop k f.operands
+
+  pub arguments_are : (first count : ℕ) → count ≤ length (in_use f) → first ≡ length (in_use f) - count
+      → slice_range f.operands first (first + count) ≡ reverse (take count (in_use f))
+  arguments_are first count few is =
+      let m = in_use_count in
+      let size : first + count - first ≡ count = omega arith in
+      let start : first ≡ n - count = omega (arith, is, m) in
+      ap (λ k. take k (drop first f.operands)) size ∙ ap (λ k. take count (drop k f.operands)) start
+      ∙ sym (turned f.operands n count (omega (arith, few, m)) (omega arith))
+      ∙ ap (λ xs. reverse (take count xs)) (sym in_use_are)

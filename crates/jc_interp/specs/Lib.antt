@@ -1,0 +1,14 @@
+pub mod Statics
+pub mod Agree
+pub mod Following
+pub mod PrivateSeen
+pub mod PrivateDone
+pub mod PrivateReturns
+pub mod PrivateWords
+pub mod PrivateArrays
+pub mod PrivateFields
+pub mod PrivateCasts
+pub mod PrivateCreation
+pub mod PrivateObjects
+pub mod PrivateCalls
+pub mod PrivateSimulates

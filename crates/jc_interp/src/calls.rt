@@ -1,0 +1,203 @@
+//! Which method a call leads to (Java Card Virtual Machine Specification, invokevirtual, invokespecial, invokestatic,
+//! invokeinterface).
+
+ghost use Rattle.std.specs.Prelude.{◌≡◌, ◌-◌};
+ghost use Rattle.jc_interp.specs.PrivateCalls.{guarded_call, interface_plan, listed_plan, on_interface, plan_of, receiver};
+ghost use Rattle.jc_interp.specs.PrivateCalls.{special_plan, static_plan, virtual_called, virtual_plan};
+
+use crate::casts::is_shared_interface;
+use crate::ends::{CLASS_CAST_EXCEPTION, NULL_POINTER_EXCEPTION, SECURITY_EXCEPTION};
+use crate::here::Here;
+use crate::machine::WordMachine;
+use crate::seen::{Seen, class_named, look_at, verdict};
+use jc_code::Invocation;
+use jc_firewall::{Access, Verdict};
+use jc_loaded::{Called, ClassNumber, Entry, InterfaceCall};
+use jc_names::{ClassName, Owner};
+
+/// Tokens from here on are package-visible.
+const PACKAGE_VISIBLE: u8 = 128;
+
+/// What a call comes to before a frame is made.
+#[derive(Clone, Copy)]
+pub(crate) enum Plan {
+    /// It throws.
+    Throws(u16),
+    /// Nothing is called.
+    Nothing,
+    /// What is called, with so many operands.
+    Calls {
+        called: Called,
+        /// The owner that becomes active, if one does.
+        switch: Option<Owner>,
+        words: u8,
+    },
+}
+
+/// What an object's class has at a virtual token, for the package whose method runs.
+#[inline]
+fn virtual_called(here: &Here<'_>, class: u16, token: u8) -> Called
+    ensures { result ≡ virtual_called here.now class token }
+{
+    let number = ClassNumber::new(class);
+    if token < PACKAGE_VISIBLE {
+        here.program.virtual_methods.virtual_method(number, token)
+    } else {
+        let package = here.frame.method.package;
+        here.program
+            .visible_methods
+            .visible_method(number, token, package)
+    }
+}
+
+/// What is called, where the firewall allows it.
+#[inline]
+fn guarded_call(verdict: Verdict, called: Called, words: u8) -> Plan
+    ensures { result ≡ guarded_call verdict called words }
+{
+    match verdict {
+        Verdict::Allowed => Plan::Calls {
+            called,
+            switch: None,
+            words,
+        },
+        Verdict::AllowedSwitch(owner) => Plan::Calls {
+            called,
+            switch: Some(owner),
+            words,
+        },
+        Verdict::Denied(_) => Plan::Throws(SECURITY_EXCEPTION),
+    }
+}
+
+/// What an interface's method leads to, where the firewall allows it.
+#[inline]
+fn listed_plan(verdict: Verdict, call: InterfaceCall, words: u8) -> Plan
+    ensures { result ≡ listed_plan verdict call words }
+{
+    match call {
+        InterfaceCall::Listed(called) => guarded_call(verdict, called, words),
+        InterfaceCall::NotListed => match verdict {
+            Verdict::Allowed | Verdict::AllowedSwitch(_) => Plan::Throws(CLASS_CAST_EXCEPTION),
+            Verdict::Denied(_) => Plan::Throws(SECURITY_EXCEPTION),
+        },
+    }
+}
+
+impl WordMachine {
+    /// The object of a call of so many words.
+    #[inline]
+    fn receiver(&self, words: u8) -> Option<Seen>
+        ensures { result ≡ receiver self.now words }
+    {
+        look_at(&self.store, self.operand(words.saturating_sub(1)))
+    }
+
+    /// invokevirtual
+    fn plan_virtual(&self, here: &Here<'_>, index: u16) -> Plan
+        ensures { result ≡ virtual_plan here.now index self.now }
+    {
+        let (token, words) = match here.program.entries.at(here.frame.method.package, index) {
+            Some(Entry::VirtualMethod { token, words }) => (token, words),
+            Some(Entry::Class(_) | Entry::Field { .. } | Entry::StaticField { .. }) =>
+                return Plan::Nothing,
+            Some(Entry::Method { .. } | Entry::NativeMethod { .. } | Entry::AbstractMethod) =>
+                return Plan::Nothing,
+            None => return Plan::Nothing,
+        };
+        let Some(object) = self.receiver(words) else {
+            return Plan::Throws(NULL_POINTER_EXCEPTION);
+        };
+        let verdict = verdict(here, Access::InvokeVirtual, object, None, false);
+        guarded_call(verdict, virtual_called(here, object.class, token), words)
+    }
+
+    /// invokespecial: no access is tested, and no owner changes.
+    fn plan_special(&self, here: &Here<'_>, index: u16) -> Plan
+        ensures { result ≡ special_plan here.now index self.now }
+    {
+        match self.plan_static(here, index) {
+            Plan::Calls {
+                called,
+                switch,
+                words,
+            } => match self.receiver(words) {
+                Some(_) => Plan::Calls {
+                    called,
+                    switch,
+                    words,
+                },
+                None => Plan::Throws(NULL_POINTER_EXCEPTION),
+            },
+            Plan::Throws(object) => Plan::Throws(object),
+            Plan::Nothing => Plan::Nothing,
+        }
+    }
+
+    /// invokestatic
+    fn plan_static(&self, here: &Here<'_>, index: u16) -> Plan
+        ensures { result ≡ static_plan here.now index }
+    {
+        match here.program.entries.at(here.frame.method.package, index) {
+            Some(Entry::Method { number, words }) => Plan::Calls {
+                called: Called::Method(number),
+                switch: None,
+                words,
+            },
+            Some(Entry::NativeMethod { member, words }) => Plan::Calls {
+                called: Called::NativeMethod { member },
+                switch: None,
+                words,
+            },
+            Some(Entry::Class(_) | Entry::Field { .. } | Entry::StaticField { .. }) =>
+                Plan::Nothing,
+            Some(Entry::VirtualMethod { .. } | Entry::AbstractMethod) => Plan::Nothing,
+            None => Plan::Nothing,
+        }
+    }
+
+    fn plan_on_interface(&self, here: &Here<'_>, words: u8, token: u8, interface: ClassName) -> Plan
+        ensures { result ≡ on_interface here.now words token self.now interface }
+    {
+        let Some(number) = here.program.classes.number_of(interface) else {
+            return Plan::Nothing;
+        };
+        let Some(object) = self.receiver(words) else {
+            return Plan::Throws(NULL_POINTER_EXCEPTION);
+        };
+        let is_shared = is_shared_interface(here.program, interface);
+        let verdict = verdict(here, Access::InvokeInterface, object, None, is_shared);
+        let class = ClassNumber::new(object.class);
+        let call = here
+            .program
+            .interface_methods
+            .interface_method(class, number, token);
+        listed_plan(verdict, call, words)
+    }
+
+    /// invokeinterface
+    fn plan_interface(&self, here: &Here<'_>, words: u8, index: u16, token: u8) -> Plan
+        ensures { result ≡ interface_plan here.now words index token self.now }
+    {
+        match class_named(here, index) {
+            Some(interface) => self.plan_on_interface(here, words, token, interface),
+            None => Plan::Nothing,
+        }
+    }
+
+    /// What a call comes to before a frame is made.
+    pub(crate) fn plan(&self, here: &Here<'_>, invocation: Invocation) -> Plan
+        ensures { result ≡ plan_of here.now invocation self.now }
+    {
+        match invocation {
+            Invocation::Virtual { index } => self.plan_virtual(here, index),
+            Invocation::Special { index } => self.plan_special(here, index),
+            Invocation::Static { index } => self.plan_static(here, index),
+            Invocation::Interface {
+                arguments,
+                index,
+                token,
+            } => self.plan_interface(here, arguments, index, token),
+        }
+    }
+}

@@ -1,0 +1,176 @@
+//! References that are tested against types (Java Card Virtual Machine Specification, checkcast, instanceof).
+
+ghost use Rattle.std.specs.Prelude.{◌≡◌};
+ghost use Rattle.jc_interp.specs.PrivateCasts.{bit, cast_by, cast_of, do_check_cast, do_instance_of, is_name_below};
+ghost use Rattle.jc_interp.specs.PrivateCasts.{is_reference_array, is_shared, is_shared_interface, is_word_array, passes};
+ghost use Rattle.jc_interp.specs.PrivateCasts.{test_of};
+ghost use Rattle.jc_interp.specs.PrivateDone.{done, operand};
+
+use crate::ends::{CLASS_CAST_EXCEPTION, SECURITY_EXCEPTION, StepEnd};
+use crate::here::Here;
+use crate::machine::WordMachine;
+use crate::seen::{Seen, class_named, is_below, look_at, verdict};
+use jc_code::{TestedType, WordKind};
+use jc_firewall::{Access, Verdict};
+use jc_loaded::Program;
+use jc_names::ClassName;
+use jc_store::{ObjectType, Store};
+
+/// What a reference is tested against.
+#[derive(Clone, Copy)]
+pub(crate) enum Test {
+    OfClass(ClassName),
+    OfWordArray(WordKind),
+    OfReferenceArray(ClassName),
+}
+
+/// What comes of a test.
+#[derive(Clone, Copy)]
+pub(crate) enum Cast {
+    /// The reference is null.
+    OfNull,
+    /// Whether its object is of the type.
+    OfObject(bool),
+    /// The firewall denies the access.
+    Denied,
+    /// The type is none.
+    OfNoType,
+}
+
+/// Whether a class is Shareable, or an interface that extends it.
+pub(crate) fn is_shared_interface(program: &Program, class: ClassName) -> bool
+    ensures { result ≡ is_shared_interface program.now class }
+{
+    match program.classes.number_of(class) {
+        Some(number) => {
+            let row = program.rows.row(number);
+            row.is_interface && row.is_shareable
+        }
+        None => false,
+    }
+}
+
+fn test_of(here: &Here<'_>, type_: TestedType) -> Option<Test>
+    ensures { result ≡ test_of here.now type_ }
+{
+    match type_ {
+        TestedType::Class { index } => class_named(here, index).map(Test::OfClass),
+        TestedType::WordArray(kind) => Some(Test::OfWordArray(kind)),
+        TestedType::ReferenceArray { index } => class_named(here, index).map(
+            Test::OfReferenceArray,
+        ),
+    }
+}
+
+/// Whether an object is an array of words of a kind.
+fn is_word_array(kind: WordKind, object: ObjectType) -> bool
+    ensures { result ≡ is_word_array kind object }
+{
+    match kind {
+        WordKind::Boolean => object == ObjectType::BooleanArray,
+        WordKind::Byte => object == ObjectType::ByteArray,
+        WordKind::Short => object == ObjectType::ShortArray,
+    }
+}
+
+/// Whether a class is another one, or below it.
+fn is_name_below(program: &Program, class: ClassName, other: ClassName) -> bool
+    ensures { result ≡ is_name_below program.now other class }
+{
+    match program.classes.number_of(class) {
+        Some(number) => is_below(program, number.index(), other),
+        None => false,
+    }
+}
+
+/// Whether an object is an array of references to objects of a class or below it.
+fn is_reference_array(program: &Program, class: ClassName, object: ObjectType) -> bool
+    ensures { result ≡ is_reference_array program.now class object }
+{
+    match object {
+        ObjectType::ReferenceArray(component) => is_name_below(program, component, class),
+        ObjectType::Instance(_) => false,
+        ObjectType::BooleanArray | ObjectType::ByteArray | ObjectType::ShortArray => false,
+    }
+}
+
+/// Whether an object is of a type.
+fn passes(here: &Here<'_>, test: Test, object: Seen) -> bool
+    ensures { result ≡ passes here.now test object }
+{
+    match test {
+        Test::OfClass(class) => is_below(here.program, object.class, class),
+        Test::OfWordArray(kind) => is_word_array(kind, object.kind.object),
+        Test::OfReferenceArray(class) => is_reference_array(
+            here.program,
+            class,
+            object.kind.object,
+        ),
+    }
+}
+
+fn is_shared(here: &Here<'_>, test: Test) -> bool
+    ensures { result ≡ is_shared here.now test }
+{
+    match test {
+        Test::OfClass(class) => is_shared_interface(here.program, class),
+        Test::OfWordArray(_) | Test::OfReferenceArray(_) => false,
+    }
+}
+
+fn cast_by(here: &Here<'_>, store: &Store, access: Access, test: Test, word: u16) -> Cast
+    ensures { result ≡ cast_by here.now store.now access test word }
+{
+    let Some(object) = look_at(store, word) else {
+        return Cast::OfNull;
+    };
+    match verdict(here, access, object, None, is_shared(here, test)) {
+        Verdict::Allowed | Verdict::AllowedSwitch(_) => Cast::OfObject(passes(here, test, object)),
+        Verdict::Denied(_) => Cast::Denied,
+    }
+}
+
+/// Tests a reference against a type.
+fn cast_of(here: &Here<'_>, store: &Store, access: Access, type_: TestedType, word: u16) -> Cast
+    ensures { result ≡ cast_of here.now store.now access type_ word }
+{
+    match test_of(here, type_) {
+        Some(test) => cast_by(here, store, access, test, word),
+        None => Cast::OfNoType,
+    }
+}
+
+/// 1 for true.
+fn bit(truth: bool) -> u16
+    ensures { result ≡ bit truth }
+{
+    if truth { 1 } else { 0 }
+}
+
+impl WordMachine {
+    /// checkcast
+    pub(crate) fn check_cast(&mut self, here: &Here<'_>, type_: TestedType) -> StepEnd
+        ensures { done self.new result ≡ do_check_cast here.now type_ (operand self.old 0) self.old }
+    {
+        let word = self.operand(0);
+        match cast_of(here, &self.store, Access::CheckCast, type_, word) {
+            Cast::OfNull | Cast::OfObject(true) => self.gives(here, 1, word),
+            Cast::OfObject(false) => StepEnd::Throws(CLASS_CAST_EXCEPTION),
+            Cast::Denied => StepEnd::Throws(SECURITY_EXCEPTION),
+            Cast::OfNoType => StepEnd::UsedUp,
+        }
+    }
+
+    /// instanceof
+    pub(crate) fn instance_of(&mut self, here: &Here<'_>, type_: TestedType) -> StepEnd
+        ensures { done self.new result ≡ do_instance_of here.now type_ (operand self.old 0) self.old }
+    {
+        let word = self.operand(0);
+        match cast_of(here, &self.store, Access::InstanceOf, type_, word) {
+            Cast::OfNull => self.gives(here, 1, 0),
+            Cast::OfObject(truth) => self.gives(here, 1, bit(truth)),
+            Cast::Denied => StepEnd::Throws(SECURITY_EXCEPTION),
+            Cast::OfNoType => StepEnd::UsedUp,
+        }
+    }
+}

@@ -1,0 +1,111 @@
+//! New objects (Java Card Virtual Machine Specification, new, newarray, anewarray).
+
+ghost use Rattle.std.specs.Prelude.{◌≡◌};
+ghost use Rattle.jc_interp.specs.PrivateCreation.{do_create, do_create_array, do_creation, do_new, is_count, made_in};
+ghost use Rattle.jc_interp.specs.PrivateCreation.{Made, word_array};
+ghost use Rattle.jc_interp.specs.PrivateDone.{done, operand};
+
+use crate::ends::{NEGATIVE_SIZE_EXCEPTION, NO_RESOURCE, SYSTEM_EXCEPTION, StepEnd};
+use crate::here::Here;
+use crate::machine::WordMachine;
+use crate::seen::{class_named, put};
+use jc_code::{Creation, WordKind};
+use jc_loaded::ClassNumber;
+use jc_names::{ClassName, Owner};
+use jc_store::{Kind, Mark, ObjectType, Store};
+
+/// The number of Object, whose class arrays are of: it is the first of a world's classes.
+const OBJECT: u16 = 0;
+
+#[inline]
+fn word_array(kind: WordKind) -> ObjectType
+    ensures { result ≡ word_array kind }
+{
+    match kind {
+        WordKind::Boolean => ObjectType::BooleanArray,
+        WordKind::Byte => ObjectType::ByteArray,
+        WordKind::Short => ObjectType::ShortArray,
+    }
+}
+
+/// Whether a word is no negative short.
+#[inline]
+fn is_count(word: u16) -> bool
+    ensures { result ≡ is_count word }
+{
+    word.cast_signed() >= 0
+}
+
+/// Makes a plain object, where there is room for it. The answer is its number.
+#[inline]
+fn make(store: &mut Store, object: ObjectType, owner: Owner, len: usize, class: u16) -> Option<u16>
+    ensures { made store.new result ≡ made_in store.old object owner len class }
+{
+    let kind = Kind {
+        object,
+        mark: Mark::Plain,
+        clears: None,
+    };
+    store.make(kind, owner, len, class)
+}
+
+impl WordMachine {
+    /// A new object of the active owner in place of so many operands; without room the runtime throws SystemException.
+    fn create(
+        &mut self,
+        here: &Here<'_>,
+        object: ObjectType,
+        len: usize,
+        class: u16,
+        count: u8,
+    ) -> StepEnd
+        ensures { done self.new result ≡ do_create here.now object len class count self.old }
+    {
+        match make(&mut self.store, object, here.frame.active, len, class) {
+            Some(number) => self.gives(here, count, number),
+            None => {
+                put(&mut self.store, SYSTEM_EXCEPTION, 0, NO_RESOURCE);
+                StepEnd::Throws(SYSTEM_EXCEPTION)
+            }
+        }
+    }
+
+    /// A new array of so many components as the top operand says.
+    fn create_array(&mut self, here: &Here<'_>, object: ObjectType) -> StepEnd
+        ensures { done self.new result ≡ do_create_array here.now object (operand self.old 0) self.old }
+    {
+        let count = self.operand(0);
+        if !is_count(count) {
+            return StepEnd::Throws(NEGATIVE_SIZE_EXCEPTION);
+        }
+        self.create(here, object, usize::from(count), OBJECT, 1)
+    }
+
+    /// new
+    fn create_object(&mut self, here: &Here<'_>, class: ClassName) -> StepEnd
+        ensures { done self.new result ≡ do_new here.now class self.old }
+    {
+        let Some(number) = here.program.classes.number_of(class) else {
+            return StepEnd::UsedUp;
+        };
+        let len = here.program.rows.row(number).cells as usize;
+        self.create(here, ObjectType::Instance(class), len, number.index(), 0)
+    }
+
+    /// new, newarray, anewarray
+    pub(crate) fn perform_creation(&mut self, here: &Here<'_>, creation: Creation) -> StepEnd
+        ensures { done self.new result ≡ do_creation here.now creation self.old }
+    {
+        match creation {
+            Creation::Object { index } => match class_named(here, index) {
+                Some(class) => self.create_object(here, class),
+                None => StepEnd::UsedUp,
+            },
+            Creation::WordArray(kind) => self.create_array(here, word_array(kind)),
+            Creation::ReferenceArray { index } => match class_named(here, index) {
+                Some(class) => self.create_array(here, ObjectType::ReferenceArray(class)),
+                None => StepEnd::UsedUp,
+            },
+        }
+    }
+}

@@ -1,0 +1,34 @@
+//! What a step comes to.
+
+/// What a step comes to.
+#[derive(Clone, Copy, Debug, PartialEq, Eq)]
+pub enum StepEnd {
+    /// The machine goes on.
+    GoesOn,
+    /// The object with this number is thrown.
+    Throws(u16),
+    /// The first frame's method ends with a word, or without one.
+    Gives(Option<u16>),
+    /// The call is used up: a frame has no room.
+    UsedUp,
+}
+
+/// The runtime's own exceptions, by their objects.
+pub(crate) const ARITHMETIC_EXCEPTION: u16 = 1;
+
+pub(crate) const ARRAY_STORE_EXCEPTION: u16 = 2;
+
+pub(crate) const CLASS_CAST_EXCEPTION: u16 = 3;
+
+pub(crate) const ARRAY_INDEX_EXCEPTION: u16 = 4;
+
+pub(crate) const NEGATIVE_SIZE_EXCEPTION: u16 = 5;
+
+pub(crate) const NULL_POINTER_EXCEPTION: u16 = 6;
+
+pub(crate) const SECURITY_EXCEPTION: u16 = 7;
+
+pub(crate) const SYSTEM_EXCEPTION: u16 = 9;
+
+/// The reason of the runtime's SystemException where there is no room for an object.
+pub(crate) const NO_RESOURCE: u16 = 5;

@@ -1,0 +1,200 @@
+//! Instructions on fields (Java Card Virtual Machine Specification, getstatic, putstatic, getfield, putfield, and the
+//! latter two on this).
+
+ghost use Rattle.std.specs.Prelude.{◌≡◌};
+ghost use Rattle.jc_interp.specs.PrivateDone.{done, operand};
+ghost use Rattle.jc_interp.specs.PrivateFields.{do_field, do_get, do_instance, do_put, do_put_static, do_static};
+ghost use Rattle.jc_interp.specs.PrivateFields.{holder_word, may_put_static, putting, stored_mark};
+
+use crate::arrays::{loaded, stored};
+use crate::ends::{NULL_POINTER_EXCEPTION, SECURITY_EXCEPTION, StepEnd};
+use crate::here::Here;
+use crate::machine::WordMachine;
+use crate::seen::{allows, cell, look_at, mark_of, put};
+use jc_code::{FieldAccess, FieldAction, Form, Holder};
+use jc_firewall::Access;
+use jc_loaded::Entry;
+use jc_store::{Mark, Store};
+
+/// What is done where a field is written.
+#[inline]
+fn putting(form: Form) -> Access
+    ensures { result ≡ putting form }
+{
+    match form {
+        Form::Reference => Access::PutReferenceField,
+        Form::Byte | Form::Short => Access::PutField,
+    }
+}
+
+/// The mark of the object that is stored, if a reference is.
+#[inline]
+fn stored_mark(store: &Store, form: Form, word: u16) -> Option<Mark>
+    ensures { result ≡ stored_mark store.now form word }
+{
+    match form {
+        Form::Reference => mark_of(store, word),
+        Form::Byte | Form::Short => None,
+    }
+}
+
+/// Whether a word may be put into a static field.
+fn may_put_static(here: &Here<'_>, store: &Store, form: Form, word: u16) -> bool
+    ensures { result ≡ may_put_static here.now store.now form word }
+{
+    match form {
+        Form::Byte | Form::Short => true,
+        Form::Reference => match look_at(store, word) {
+            Some(object) => allows(
+                here,
+                Access::PutStaticReference,
+                object,
+                Some(object.kind.mark),
+            ),
+            None => true,
+        },
+    }
+}
+
+impl WordMachine {
+    /// putstatic, of the field at an offset of the package with a number
+    fn put_static(&mut self, here: &Here<'_>, form: Form, package: u8, offset: u16) -> StepEnd
+        ensures { done self.new result
+            ≡ do_put_static here.now form «package» offset (operand self.old 0) self.old }
+    {
+        let word = self.operand(0);
+        if !may_put_static(here, &self.store, form, word) {
+            return StepEnd::Throws(SECURITY_EXCEPTION);
+        }
+        self.statics.set(package, offset, stored(form, word));
+        self.leaves(here, 1)
+    }
+
+    /// getstatic, putstatic
+    fn use_static(
+        &mut self,
+        here: &Here<'_>,
+        access: FieldAccess,
+        package: u8,
+        offset: u16,
+    ) -> StepEnd
+        ensures { done self.new result ≡ do_static here.now access «package» offset access.action self.old }
+    {
+        match access.action {
+            FieldAction::Get => {
+                let word = loaded(access.form, self.statics.get(package, offset));
+                self.puts(here, word)
+            }
+            FieldAction::Put => self.put_static(here, access.form, package, offset),
+        }
+    }
+
+    /// The object whose field is used: an operand below so many, or local 0.
+    #[inline]
+    fn holder(&self, holder: Holder, below: u8) -> u16
+        ensures { result ≡ holder_word holder below self.now }
+    {
+        match holder {
+            Holder::Operand => self.operand(below),
+            Holder::This | Holder::Class => self.local(0),
+        }
+    }
+
+    /// getfield, which takes so many operands
+    fn get_field(
+        &mut self,
+        here: &Here<'_>,
+        form: Form,
+        cell_index: u32,
+        number: u16,
+        count: u8,
+    ) -> StepEnd
+        ensures { done self.new result ≡ do_get here.now form cell_index number count self.old }
+    {
+        let Some(object) = look_at(&self.store, number) else {
+            return StepEnd::Throws(NULL_POINTER_EXCEPTION);
+        };
+        if !allows(here, Access::GetField, object, None) {
+            return StepEnd::Throws(SECURITY_EXCEPTION);
+        }
+        let word = cell(&self.store, number, cell_index as usize);
+        self.gives(here, count, loaded(form, word))
+    }
+
+    /// putfield, which takes so many operands
+    fn put_field(
+        &mut self,
+        here: &Here<'_>,
+        form: Form,
+        cell_index: u32,
+        number: u16,
+        count: u8,
+    ) -> StepEnd
+        ensures { done self.new result ≡ do_put here.now form cell_index number (operand self.old 0) count self.old }
+    {
+        let word = self.operand(0);
+        let Some(object) = look_at(&self.store, number) else {
+            return StepEnd::Throws(NULL_POINTER_EXCEPTION);
+        };
+        let mark = stored_mark(&self.store, form, word);
+        if !allows(here, putting(form), object, mark) {
+            return StepEnd::Throws(SECURITY_EXCEPTION);
+        }
+        put(
+            &mut self.store,
+            number,
+            cell_index as usize,
+            stored(form, word),
+        );
+        self.leaves(here, count)
+    }
+
+    /// getfield, putfield
+    fn use_field(&mut self, here: &Here<'_>, access: FieldAccess, cell_index: u32) -> StepEnd
+        ensures { done self.new result ≡ do_instance here.now access.form cell_index access.action access.holder self.old }
+    {
+        match (access.action, access.holder) {
+            (FieldAction::Get, Holder::Operand) => {
+                let number = self.holder(access.holder, 0);
+                self.get_field(here, access.form, cell_index, number, 1)
+            }
+            (FieldAction::Get, Holder::This | Holder::Class) => {
+                let number = self.holder(access.holder, 0);
+                self.get_field(here, access.form, cell_index, number, 0)
+            }
+            (FieldAction::Put, Holder::Operand) => {
+                let number = self.holder(access.holder, 1);
+                self.put_field(here, access.form, cell_index, number, 2)
+            }
+            (FieldAction::Put, Holder::This | Holder::Class) => {
+                let number = self.holder(access.holder, 1);
+                self.put_field(here, access.form, cell_index, number, 1)
+            }
+        }
+    }
+
+    /// getstatic, putstatic, getfield, putfield
+    pub(crate) fn perform_field(
+        &mut self,
+        here: &Here<'_>,
+        access: FieldAccess,
+        index: u16,
+    ) -> StepEnd
+        ensures { done self.new result ≡ do_field here.now access index self.old }
+    {
+        match here.program.entries.at(here.frame.method.package, index) {
+            Some(Entry::Field { cell }) => self.use_field(here, access, cell),
+            Some(
+                Entry::StaticField {
+                    package,
+                    offset,
+                    is_byte: _,
+                },
+            ) => self.use_static(here, access, package, offset),
+            Some(Entry::Class(_) | Entry::AbstractMethod) => StepEnd::UsedUp,
+            Some(Entry::VirtualMethod { .. } | Entry::Method { .. } | Entry::NativeMethod { .. }) =>
+                StepEnd::UsedUp,
+            None => StepEnd::UsedUp,
+        }
+    }
+}

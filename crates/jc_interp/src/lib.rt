@@ -1,0 +1,23 @@
+//! The interpreter: checked packages run on words of 16 bits, without a tag and without a test of types.
+#![tactic(auto)]
+
+mod arrays;
+mod calls;
+mod casts;
+mod creation;
+mod ends;
+mod fetch;
+mod fields;
+mod going;
+mod here;
+mod machine;
+mod objects;
+mod references;
+mod returns;
+mod seen;
+mod statics;
+mod words;
+
+pub use ends::StepEnd;
+pub use machine::WordMachine;
+pub use statics::Statics;

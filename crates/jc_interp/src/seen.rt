@@ -1,0 +1,168 @@
+//! What an instruction sees of an object, and what the firewall says of an access to it.
+
+ghost use Rattle.std.specs.Prelude.{◌≡◌, true, false, None};
+ghost use Rattle.jc_interp.specs.PrivateSeen.{allows, cell_in, class_named, facts_seen, is_array, is_below, mark_of, seen_of, verdict_on, with_put};
+ghost use Rattle.jc_store.specs.Heap.{object_at};
+ghost use Rattle.jc_store.specs.Store.{IsThere, with_objects};
+
+use crate::here::Here;
+use jc_firewall::{Access, Facts, Verdict, decide};
+use jc_loaded::{ClassNumber, Entry, Program};
+use jc_names::{ClassName, Owner};
+use jc_store::{Kind, Mark, ObjectType, Store};
+
+/// What is seen of an object.
+#[derive(Clone, Copy)]
+pub(crate) struct Seen {
+    pub(crate) kind: Kind,
+    pub(crate) owner: Owner,
+    /// How many components it has.
+    pub(crate) len: u16,
+    /// The number of its class; an array is of class Object.
+    pub(crate) class: u16,
+}
+
+/// Whether an object is there.
+#[inline]
+fn is_there(store: &Store, number: u16) -> bool
+    ensures yes { result ≡ true → IsThere store.now number }
+    ensures no { result ≡ false → object_at store.now.objects number ≡ None }
+{
+    number != 0 && number <= store.objects_used()
+}
+
+/// The object that a word refers to; none for null.
+#[inline]
+pub(crate) fn look_at(store: &Store, number: u16) -> Option<Seen>
+    ensures { result ≡ seen_of store.now number }
+{
+    if !is_there(store, number) {
+        return None;
+    }
+    Some(Seen {
+        kind: store.class_of(number),
+        owner: store.owner_of(number),
+        len: store.len(number),
+        class: store.class_number(number),
+    })
+}
+
+/// The component of an object at an index; 0 where there is none.
+#[inline]
+pub(crate) fn cell(store: &Store, number: u16, index: usize) -> u16
+    ensures { result ≡ cell_in store.now number index }
+{
+    if is_there(store, number) && index < usize::from(store.len(number)) {
+        store.get(number, index as u16)
+    } else {
+        0
+    }
+}
+
+/// Puts a word into the component of an object at an index, where there is one.
+#[inline]
+pub(crate) fn put(store: &mut Store, number: u16, index: usize, word: u16)
+    ensures { store.new ≡ with_put store.old number index word }
+{
+    if is_there(store, number) && index < usize::from(store.len(number)) {
+        store.set(number, index as u16, word);
+    }
+}
+
+/// Whether the class with a number is another one, or below it.
+#[inline]
+pub(crate) fn is_below(program: &Program, class: u16, other: ClassName) -> bool
+    ensures { result ≡ is_below program.now class other }
+{
+    match program.classes.number_of(other) {
+        Some(number) => program
+            .supertypes
+            .is_subtype(ClassNumber::new(class), number),
+        None => false,
+    }
+}
+
+/// The class or interface that an entry of the constant pool names.
+#[inline]
+pub(crate) fn class_named(here: &Here<'_>, index: u16) -> Option<ClassName>
+    ensures { result ≡ class_named here.now index }
+{
+    match here.program.entries.at(here.frame.method.package, index) {
+        Some(Entry::Class(class)) => Some(class),
+        Some(Entry::Field { .. } | Entry::StaticField { .. }) => None,
+        Some(Entry::VirtualMethod { .. } | Entry::Method { .. }) => None,
+        Some(Entry::NativeMethod { .. } | Entry::AbstractMethod) => None,
+        None => None,
+    }
+}
+
+/// The mark of the object that a word refers to, if it refers to one.
+#[inline]
+pub(crate) fn mark_of(store: &Store, number: u16) -> Option<Mark>
+    ensures { result ≡ mark_of store.now number }
+{
+    match look_at(store, number) {
+        Some(object) => Some(object.kind.mark),
+        None => None,
+    }
+}
+
+#[inline]
+fn is_array(object: ObjectType) -> bool
+    ensures { result ≡ is_array object }
+{
+    match object {
+        ObjectType::Instance(_) => false,
+        ObjectType::BooleanArray | ObjectType::ByteArray => true,
+        ObjectType::ShortArray | ObjectType::ReferenceArray(_) => true,
+    }
+}
+
+/// What the verdict on an access hangs on.
+fn facts(here: &Here<'_>, object: Seen, stored: Option<Mark>, is_shared_interface: bool) -> Facts
+    ensures { result ≡ facts_seen here.now object stored is_shared_interface }
+{
+    Facts {
+        owner: object.owner,
+        mark: object.kind.mark,
+        is_array: is_array(object.kind.object),
+        clears: object.kind.clears,
+        stored,
+        is_shareable: here
+            .program
+            .rows
+            .row(ClassNumber::new(object.class))
+            .is_shareable,
+        is_shared_interface,
+        selected: here.selected,
+    }
+}
+
+/// The firewall's verdict on an access in the active context.
+#[inline]
+pub(crate) fn verdict(
+    here: &Here<'_>,
+    access: Access,
+    object: Seen,
+    stored: Option<Mark>,
+    is_shared_interface: bool,
+) -> Verdict
+    ensures { result ≡ verdict_on here.now access object stored is_shared_interface }
+{
+    decide(
+        access,
+        here.frame.active.context,
+        &facts(here, object, stored, is_shared_interface),
+    )
+}
+
+/// Whether an access is allowed that calls nothing and casts to nothing.
+#[inline]
+pub(crate) fn allows(here: &Here<'_>, access: Access, object: Seen, stored: Option<Mark>) -> bool
+    ensures { result ≡ allows here.now access object stored }
+{
+    match verdict(here, access, object, stored, false) {
+        Verdict::Allowed | Verdict::AllowedSwitch(_) => true,
+        Verdict::Denied(_) => false,
+    }
+}

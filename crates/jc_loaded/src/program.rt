@@ -1,0 +1,58 @@
+//! All tables of a world together.
+
+ghost use Rattle.std.specs.Prelude.{IfOk};
+ghost use Rattle.jc_loaded.specs.Program.{IsProgramOf};
+
+use crate::class_rows::ClassRows;
+use crate::classes::Classes;
+use crate::entries::Entries;
+use crate::interfaces::InterfaceMethods;
+use crate::methods::Methods;
+use crate::superclasses::Superclasses;
+use crate::supertypes::Supertypes;
+use crate::virtuals::VirtualMethods;
+use crate::visible::VisibleMethods;
+use jc_link::World;
+use std::alloc::{AllocError, Global};
+
+/// What a machine runs of a world: its methods and entries by number, and what it asks of a class by its number.
+#[derive(Drop)]
+pub struct Program {
+    pub methods: Methods,
+    pub entries: Entries,
+    pub classes: Classes,
+    pub superclasses: Superclasses,
+    pub virtual_methods: VirtualMethods,
+    pub visible_methods: VisibleMethods,
+    pub interface_methods: InterfaceMethods,
+    pub supertypes: Supertypes,
+    pub rows: ClassRows,
+}
+
+impl Program {
+    /// All tables of a world.
+    pub fn new(alloc: Global, world: &World) -> Result<Program, AllocError>
+        ensures { IfOk result (λ program. IsProgramOf world.now program) }
+    {
+        let methods = Methods::new(alloc, world)?;
+        let entries = Entries::new(alloc, world, &methods)?;
+        let classes = Classes::new(alloc, world)?;
+        let superclasses = Superclasses::new(alloc, world, &classes)?;
+        let virtual_methods = VirtualMethods::new(alloc, world, &methods, &classes)?;
+        let visible_methods = VisibleMethods::new(alloc, world, &methods, &classes)?;
+        let interface_methods = InterfaceMethods::new(alloc, world, &methods, &classes)?;
+        let supertypes = Supertypes::new(alloc, world, &classes)?;
+        let rows = ClassRows::new(alloc, world, &classes)?;
+        Ok(Program {
+            methods,
+            entries,
+            classes,
+            superclasses,
+            virtual_methods,
+            visible_methods,
+            interface_methods,
+            supertypes,
+            rows,
+        })
+    }
+}

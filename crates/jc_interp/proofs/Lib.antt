@@ -1,0 +1,2 @@
+mod Finding
+mod Cases

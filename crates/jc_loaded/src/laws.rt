@@ -1,6 +1,6 @@
 //! What holds of lists of loaded methods and of classes.
 
-ghost use Rattle.std.specs.Prelude.{◌≡◌, ℕ, List, Some, false};
+ghost use Rattle.std.specs.Prelude.{◌≡◌, ℕ, List, Some, false, slice_get};
 ghost use Rattle.jc_api.specs.declared.class.ApiClass.TheVariants.{Object};
 ghost use Rattle.jc_cap_desc.specs.Shape.{Shape};
 ghost use Rattle.jc_cap_method.specs.declared.handler.Handler.{Handler};
@@ -33,11 +33,14 @@ pub fn loaded_handlers_cover_the_same()
 {}
 
 /// Each class that is looked up in a world has a number, and each number is that of a class that is there. A package
-/// behind the others leaves the numbers as they are. In a world that is built the number of Object is 0.
+/// behind the others leaves the numbers as they are. In a world that is built the number of Object is 0. In any list of
+/// names the one at a class's number is the class's.
 pub fn classes_have_numbers()
     ensures numbers { (world : List Shape) → HaveNumbers world }
     ensures object { (world : List Shape) → IsBuilt world → class_number (class_names world) (Api Object) ≡ Some 0 }
     ensures kept { (world : List Shape) (more : Shape) → KeepsNumbers world more }
+    ensures named { (names : List ClassName) (c : ClassName) (n : ℕ)
+        → class_number names c ≡ Some n → slice_get names n ≡ Some c }
 {}
 
 /// A linked package behind the others of a world leaves their methods and what their entries lead to as they are: its

@@ -12,6 +12,7 @@ mod Keying
 mod Chaining
 mod Same
 mod Wording
+mod Unknown
 mod Counting
 mod Interfacing
 mod Showing

@@ -1,11 +1,12 @@
 //! What holds of lists of loaded methods and of classes.
 
-ghost use Rattle.std.specs.Prelude.{◌≡◌, ℕ, List, Some, false, slice_get};
+ghost use Rattle.std.specs.Prelude.{◌≡◌, ◌||◌, ℕ, List, None, Some, false, slice_get};
 ghost use Rattle.jc_api.specs.declared.class.ApiClass.TheVariants.{Object};
 ghost use Rattle.jc_cap_desc.specs.Shape.{Shape};
 ghost use Rattle.jc_cap_method.specs.declared.handler.Handler.{Handler};
 ghost use Rattle.jc_classes.specs.Limits.{IsSmall};
 ghost use Rattle.jc_classes.specs.Subtype.{is_class_below, is_interface_at, is_subtype};
+ghost use Rattle.jc_classes.specs.World.{class_at};
 ghost use Rattle.jc_link.specs.Built.{IsBuilt};
 ghost use Rattle.jc_link.specs.Linked.{IsBoundTo, IsWorld, Linked, LinkedBody, World};
 ghost use Rattle.jc_loaded.specs.Classes.{HaveNumbers, KeepsNumbers, class_names, class_number};
@@ -13,6 +14,7 @@ ghost use Rattle.jc_loaded.specs.Growth.{KeepsLoaded};
 ghost use Rattle.jc_loaded.specs.Methods.{CoversSame, AreFound, AreLoaded, LoadedMethod};
 ghost use Rattle.jc_loaded.specs.Program.{AnswersFor, IsProgramOf};
 ghost use Rattle.jc_loaded.specs.declared.program.Program.{Program};
+ghost use Rattle.jc_names.specs.Names.{is_same_name};
 ghost use Rattle.jc_names.specs.declared.name.ClassName.{ClassName};
 ghost use Rattle.jc_names.specs.declared.name.ClassName.TheVariants.{Api};
 
@@ -67,3 +69,9 @@ pub fn class_subtypes_are_below()
     built_worlds_are_sound();
     found_subtypes_are_subtypes();
 }
+
+/// A class that isn't there is below itself and Object, and below no other.
+pub fn unknown_classes_are_below_themselves()
+    ensures { (world : List Shape) (c : ClassName) → class_at world c ≡ None → (d : ClassName)
+        → is_subtype world c d ≡ (is_same_name (Api Object) d || is_same_name c d) }
+{}

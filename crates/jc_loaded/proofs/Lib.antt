@@ -11,6 +11,8 @@ mod Calling
 mod Keying
 mod Chaining
 mod Same
+mod Wording
+mod Unknown
 mod Counting
 mod Interfacing
 mod Showing

@@ -3,9 +3,10 @@
 ghost use Rattle.std.specs.Prelude.{◌≡◌, ℕ, ◌<◌, ◌==◌, ◌&&◌, ◌++◌, [], length, slice_get, Some, if◌then◌else◌, IfOk};
 ghost use Rattle.std.specs.List.{filter_map};
 ghost use Rattle.std.specs.Option.{option_map_or, option_or, option_to_list};
+ghost use Rattle.jc_cap_desc.specs.Shape.{Shape};
 ghost use Rattle.jc_classes.specs.Limits.{IsSmall};
 ghost use Rattle.jc_classes.specs.Members.{name_of};
-ghost use Rattle.jc_loaded.specs.Classes.{class_names, class_number, names_in};
+ghost use Rattle.jc_loaded.specs.Classes.{HaveWordOffsets, StandAtWords, class_names, class_number, names_in};
 ghost use Rattle.jc_loaded.specs.PrivateClasses.{AreClassNumbers, table_of};
 ghost use Rattle.jc_loaded.specs.PrivateLaid.{number_in};
 ghost use Rattle.jc_names.specs.Names.{offset_of};
@@ -13,7 +14,7 @@ ghost use Rattle.jc_names.specs.Names.{offset_of};
 use crate::numbers::{OffsetTable, number_in, put_number};
 use jc_classes::{Class, ClassTable};
 use jc_link::World;
-use jc_names::{ClassName, PackagePlace};
+use jc_names::{ClassName, PackagePlace, name_in};
 use std::alloc::{AllocError, Global};
 use std::marker::Model;
 
@@ -67,22 +68,23 @@ fn put_class(
     home: PackagePlace,
     class: &Class,
 ) -> Result<(), AllocError>
-    ensures { IfOk result (λ u. names.new.items ≡ names.old.items ++ option_to_list (name_of home class.now)) }
+    ensures names { IfOk result (λ u. names.new.items ≡ names.old.items ++ option_to_list (name_of home class.now)) }
+    ensures offset { class.now.offset < 0x10000 }
 {
-    if let Some(name) = class.name(home) {
+    if let Some(name) = name_in(home, class.offset()) {
         names.push(name)?;
     }
     Ok(())
 }
 
 /// Puts the names of classes behind others.
-#[tactic(auto, using(crate::proofs::Naming::one_more))]
 fn put_classes(
     names: &mut Vec<ClassName>,
     home: PackagePlace,
     classes: &[Class],
 ) -> Result<(), AllocError>
-    ensures { IfOk result (λ u. names.new.items ≡ names.old.items ++ filter_map (name_of home) classes.now) }
+    ensures names { IfOk result (λ u. names.new.items ≡ names.old.items ++ filter_map (name_of home) classes.now) }
+    ensures offsets { IfOk result (λ u. StandAtWords classes.now) }
 {
     for class in classes {
         put_class(names, home, class)?;
@@ -96,8 +98,10 @@ fn put_package(
     table: &ClassTable,
     home: PackagePlace,
 ) -> Result<(), AllocError>
-    ensures { IfOk result (λ u. names.new.items
+    ensures names { IfOk result (λ u. names.new.items
         ≡ names.old.items ++ option_map_or (names_in home) (slice_get table.now home) []) }
+    ensures offsets { IfOk result (λ u. (shape : Shape) → slice_get table.now home ≡ Some shape
+        → StandAtWords shape.classes) }
 {
     match table.shape(home) {
         Some(shape) => put_classes(names, home, shape.classes()),
@@ -106,9 +110,9 @@ fn put_package(
 }
 
 /// The names of the classes of all packages.
-#[tactic(auto, using(crate::proofs::Naming::package_more))]
 fn names_of(alloc: Global, table: &ClassTable) -> Result<Vec<ClassName>, AllocError>
     ensures names { IfOk result (λ names. names.items ≡ class_names table.now) }
+    ensures offsets { IfOk result (λ names. HaveWordOffsets table.now) }
     ensures small { IsSmall table.now }
 {
     let mut names = Vec::new(alloc);
@@ -168,7 +172,8 @@ impl Classes {
     /// The classes of a world: for each package, in their order, those of its records.
     #[tactic(auto, using(crate::proofs::Naming::few_names))]
     pub fn new(alloc: Global, world: &World) -> Result<Classes, AllocError>
-        ensures { IfOk result (λ classes. classes ≡ class_names world.now.shapes) }
+        ensures names { IfOk result (λ classes. classes ≡ class_names world.now.shapes) }
+        ensures offsets { IfOk result (λ classes. HaveWordOffsets world.now.shapes) }
     {
         let names = names_of(alloc, world.table())?;
         let numbers = class_numbers_of(alloc, &names)?;

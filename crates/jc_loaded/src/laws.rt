@@ -1,11 +1,12 @@
 //! What holds of lists of loaded methods and of classes.
 
-ghost use Rattle.std.specs.Prelude.{◌≡◌, ℕ, List, Some, false};
+ghost use Rattle.std.specs.Prelude.{◌≡◌, ◌||◌, ℕ, List, None, Some, false, slice_get};
 ghost use Rattle.jc_api.specs.declared.class.ApiClass.TheVariants.{Object};
 ghost use Rattle.jc_cap_desc.specs.Shape.{Shape};
 ghost use Rattle.jc_cap_method.specs.declared.handler.Handler.{Handler};
 ghost use Rattle.jc_classes.specs.Limits.{IsSmall};
 ghost use Rattle.jc_classes.specs.Subtype.{is_class_below, is_interface_at, is_subtype};
+ghost use Rattle.jc_classes.specs.World.{class_at};
 ghost use Rattle.jc_link.specs.Built.{IsBuilt};
 ghost use Rattle.jc_link.specs.Linked.{IsBoundTo, IsWorld, Linked, LinkedBody, World};
 ghost use Rattle.jc_loaded.specs.Classes.{HaveNumbers, KeepsNumbers, class_names, class_number};
@@ -14,6 +15,7 @@ ghost use Rattle.jc_loaded.specs.MemberTokens.{HavePublicTokens};
 ghost use Rattle.jc_loaded.specs.Methods.{CoversSame, AreFound, AreLoaded, LoadedMethod};
 ghost use Rattle.jc_loaded.specs.Program.{AnswersFor, IsProgramOf};
 ghost use Rattle.jc_loaded.specs.declared.program.Program.{Program};
+ghost use Rattle.jc_names.specs.Names.{is_same_name};
 ghost use Rattle.jc_names.specs.declared.name.ClassName.{ClassName};
 ghost use Rattle.jc_names.specs.declared.name.ClassName.TheVariants.{Api};
 
@@ -34,11 +36,14 @@ pub fn loaded_handlers_cover_the_same()
 {}
 
 /// Each class that is looked up in a world has a number, and each number is that of a class that is there. A package
-/// behind the others leaves the numbers as they are. In a world that is built the number of Object is 0.
+/// behind the others leaves the numbers as they are. In a world that is built the number of Object is 0. In any list of
+/// names the one at a class's number is the class's.
 pub fn classes_have_numbers()
     ensures numbers { (world : List Shape) → HaveNumbers world }
     ensures object { (world : List Shape) → IsBuilt world → class_number (class_names world) (Api Object) ≡ Some 0 }
     ensures kept { (world : List Shape) (more : Shape) → KeepsNumbers world more }
+    ensures named { (names : List ClassName) (c : ClassName) (n : ℕ)
+        → class_number names c ≡ Some n → slice_get names n ≡ Some c }
 {}
 
 /// A linked package behind the others of a world leaves their methods and what their entries lead to as they are: its
@@ -71,3 +76,9 @@ pub fn class_subtypes_are_below()
     built_worlds_are_sound();
     found_subtypes_are_subtypes();
 }
+
+/// A class that isn't there is below itself and Object, and below no other.
+pub fn unknown_classes_are_below_themselves()
+    ensures { (world : List Shape) (c : ClassName) → class_at world c ≡ None → (d : ClassName)
+        → is_subtype world c d ≡ (is_same_name (Api Object) d || is_same_name c d) }
+{}

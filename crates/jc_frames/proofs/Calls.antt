@@ -4,9 +4,12 @@ use Rattle.std.proofs.Common.{ap, ◌∙◌, arith}
 use Rattle.std.proofs.lemmas.List.{length-drop, length-reverse, length-take, length-take-le, reverse-append}
 use Rattle.std.proofs.lemmas.List.{reverse-reverse, take-append-drop, take_min}
 use Rattle.jc_frames.specs.Frames.{Frame}
-use Rattle.jc_frames.specs.Operands.{dropped, in_use}
+use Rattle.jc_frames.specs.Operands.{arguments_in, dropped, in_use}
+use Rattle.jc_frames.specs.PrivateLaid.{IsWithin, frame_in}
+use Rattle.jc_frames.specs.declared.place.FramePlace.{FramePlace}
+use Rattle.jc_frames.proofs.Operands as operands
 use Rattle.jc_frames.proofs.Operands.{drop_reversed}
-use Rattle.jc_frames.proofs.Words.{take_both, take_first}
+use Rattle.jc_frames.proofs.Words.{drop_twice, take_both, take_first}
 
 -- the first of a list in reverse
 turned : (xs : List ℕ) (d count : ℕ) → count ≤ d → d ≤ length xs
@@ -60,3 +63,22 @@ module _ (f : Frame) where
       ap (λ k. take k (drop first f.operands)) size ∙ ap (λ k. take count (drop k f.operands)) start
       ∙ sym (turned f.operands n count (omega (arith, few, m)) (omega arith))
       ∙ ap (λ xs. reverse (take count xs)) (sym in_use_are)
+
+-- ---- operands that are lent
+
+-- so many of the top operands of the frame at a place, or all
+pub lent_words : (p : FramePlace) (words : List ℕ) → IsWithin p words → (from d count k : ℕ) → from ≡ p.start + p.locals
+    → d ≡ min p.header.depth p.operands → k ≡ min d count
+    → take k (drop (from + d - k) words) ≡ arguments_in count (frame_in words p)
+lent_words p words within from d count k from_is d_is k_is =
+    let f : Frame = frame_in words p in
+    let size : length (in_use f) ≡ d = operands.in_use_count p words within from d from_is d_is in
+    let left = length-drop from words in
+    let here : from + d - k ≡ from + (d - k) = omega (arith, k_is) in
+    let many : k ≡ min count (length (in_use f)) = omega (arith, k_is, size) in
+    ap (λ j. take k (drop j words)) here
+    ∙ ap (take k) (drop_twice words from (d - k))
+    ∙ sym (turned (drop from words) d k (omega (arith, k_is)) (omega (arith, left, within, from_is, d_is)))
+    ∙ ap (λ ys. reverse (take k ys)) (sym (operands.in_use_are p words within from d from_is d_is))
+    ∙ ap (λ j. reverse (take j (in_use f))) many
+    ∙ ap reverse (take_min count (in_use f))

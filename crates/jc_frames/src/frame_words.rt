@@ -1,7 +1,8 @@
 //! The words of the frame at a place.
 
 ghost use Rattle.std.specs.Prelude.{◌≡◌, ◌+◌, ◌≤◌, length, min};
-ghost use Rattle.jc_frames.specs.Operands.{local_in, operand_in, pushed, with_duplicated, with_local, with_swapped};
+ghost use Rattle.jc_frames.specs.Operands.{arguments_in, local_in, operand_in, pushed, with_duplicated, with_local};
+ghost use Rattle.jc_frames.specs.Operands.{with_swapped};
 ghost use Rattle.jc_frames.specs.PrivateLaid.{IsChanged, IsWithin, frame_in};
 
 use crate::place::FramePlace;
@@ -35,6 +36,17 @@ pub(crate) fn operand_at(place: &FramePlace, words: &[u16], index: u8) -> u16
     } else {
         0
     }
+}
+
+/// So many of the top operands, the deepest first; all that are in use where there are fewer.
+#[inline]
+pub(crate) fn arguments_at<'w>(place: &FramePlace, words: &'w [u16], count: u8) -> &'w [u16]
+    requires { IsWithin place.now words.now }
+    ensures { result.now ≡ arguments_in count (frame_in words.now place.now) }
+{
+    let depth = depth_at(place);
+    let end = operands_at(place) + usize::from(depth);
+    &words[end - usize::from(depth.min(count))..end]
 }
 
 /// The local with an index; 0 where there is none.

@@ -5,13 +5,14 @@ ghost use Rattle.std.specs.Prelude.{length, take, drop, reverse, slice_get, slic
 ghost use Rattle.std.specs.Borrow.{sem};
 ghost use Rattle.jc_frames.specs.Frames.{Frame, HasOperands, HasTop, IsFull, IsPushed, with_frames, with_header, with_locals, with_locals_left, with_operands, with_operands_left};
 ghost use Rattle.jc_frames.specs.Lending.{LendsLocals, LendsOperands, LendsWords};
-ghost use Rattle.jc_frames.specs.Operands.{HasInUse, at_pc, dropped, in_use, local_in, of_top, on_top, operand_in};
-ghost use Rattle.jc_frames.specs.Operands.{placed, pushed, with_duplicated, with_in_use, with_local, with_swapped};
+ghost use Rattle.jc_frames.specs.Operands.{HasInUse, arguments_in, at_pc, dropped, in_use, local_in, of_top, on_top};
+ghost use Rattle.jc_frames.specs.Operands.{operand_in, placed, pushed, with_duplicated, with_in_use, with_local};
+ghost use Rattle.jc_frames.specs.Operands.{with_swapped};
 ghost use Rattle.jc_frames.specs.Operands.{with_words, words_of};
 ghost use Rattle.jc_frames.specs.PrivateLaid.{HasRoom};
 
 use crate::frame_words::{
-    depth_at, duplicate_at, local_at, operand_at, push_at, set_local_at, swap_at,
+    arguments_at, depth_at, duplicate_at, local_at, operand_at, push_at, set_local_at, swap_at,
 };
 use crate::header::{FrameHeader, FrameSize};
 use crate::place::{FramePlace, copy_arguments, put_arguments, top_of, top_start};
@@ -240,6 +241,17 @@ impl Frames {
         local_at(place, &self.words, index)
     }
 
+    /// So many of the top operands of the top frame, the deepest first; all that are in use where there are fewer.
+    #[inline]
+    pub fn arguments(&self, count: u8) -> &[u16]
+        ensures { result.now ≡ of_top [] (arguments_in count) self.now }
+    {
+        let Some(place) = self.places.last() else {
+            return &[];
+        };
+        arguments_at(place, &self.words, count)
+    }
+
     /// Puts an operand on top, where there is room for it.
     #[inline]
     pub fn push_operand(&mut self, word: u16)
@@ -356,6 +368,31 @@ impl Frames {
         self.drop_operands(words);
         self.put_call(header, size, depth - words, words);
         true
+    }
+
+    /// Puts a frame on top, if there is room for it: the arguments are its first locals, and its other words hold
+    /// anything. The frame that was on top loses so many operands, or all where there are fewer. Where there are fewer
+    /// locals than arguments, the answer is false.
+    #[inline]
+    pub fn enter_with(
+        &mut self,
+        header: FrameHeader,
+        size: FrameSize,
+        words: u8,
+        arguments: &[u16],
+    ) -> bool
+        ensures pushed { result ≡ true
+            → IsPushed (on_top (dropped words) self.old) header size arguments.now self.new }
+        ensures fit { result ≡ true → length arguments.now ≤ size.locals }
+        ensures room { result ≡ true → IsFull self.old size → ⊥ }
+        ensures full { length arguments.now ≤ size.locals → result ≡ false → IsFull self.old size }
+        ensures kept { result ≡ false → self.new ≡ self.old }
+    {
+        if arguments.len() > usize::from(size.locals) || !self.has_room(size) {
+            return false;
+        }
+        self.drop_operands(words);
+        self.push_frame(header, size, arguments)
     }
 
     /// Takes the top frame away, if there is one.

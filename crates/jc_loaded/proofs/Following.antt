@@ -1,5 +1,5 @@
 -- What the tables of a world answer by number and name.
-use Rattle.std.proofs.Common.{◌≡◌, List, Option, Some, None, slice_get, unwrap_or, sym, ap, subst, ◌∙◌}
+use Rattle.std.proofs.Common.{◌≡◌, List, Some, None, slice_get, unwrap_or, sym, ap, subst, ◌∙◌}
 use Rattle.std.proofs.lemmas.Option.{slice_get-map}
 use Rattle.std.specs.Option.{option_map}
 use Rattle.jc_link.specs.Linked.{World}

@@ -19,3 +19,4 @@ mod Climbing
 mod Summing
 mod Following
 mod Descending
+mod Tokening

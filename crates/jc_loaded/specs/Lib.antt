@@ -13,4 +13,6 @@ pub mod Supertypes
 pub mod PrivateSupertypes
 pub mod ClassRows
 pub mod PrivateClassRows
+pub mod MemberTokens
+pub mod PrivateMemberTokens
 pub mod Program

@@ -10,6 +10,7 @@ ghost use Rattle.jc_link.specs.Built.{IsBuilt};
 ghost use Rattle.jc_link.specs.Linked.{IsBoundTo, IsWorld, Linked, LinkedBody, World};
 ghost use Rattle.jc_loaded.specs.Classes.{HaveNumbers, KeepsNumbers, class_names, class_number};
 ghost use Rattle.jc_loaded.specs.Growth.{KeepsLoaded};
+ghost use Rattle.jc_loaded.specs.MemberTokens.{HavePublicTokens};
 ghost use Rattle.jc_loaded.specs.Methods.{CoversSame, AreFound, AreLoaded, LoadedMethod};
 ghost use Rattle.jc_loaded.specs.Program.{AnswersFor, IsProgramOf};
 ghost use Rattle.jc_loaded.specs.declared.program.Program.{Program};
@@ -48,6 +49,12 @@ pub fn loading_keeps_methods()
     adding_keeps_lookups();
     adding_keeps_linking();
 }
+
+/// In a world that is built no member of the API has a package-visible token.
+#[tactic(auto, using(crate::proofs::Tokening::public_tokens))]
+pub fn api_tokens_are_public()
+    ensures { (world : List Shape) → IsBuilt world → HavePublicTokens world }
+{}
 
 /// What the tables of a world answer by number and name.
 #[tactic(auto, using(crate::proofs::Following::follows))]

@@ -13,6 +13,7 @@ mod keyed;
 mod laid;
 mod laws;
 mod loading;
+mod member_tokens;
 mod methods;
 mod numbers;
 mod program;
@@ -31,9 +32,10 @@ pub use entry::{Entry, EntryCall};
 pub use handler::{Caught, LoadedHandler};
 pub use interfaces::{InterfaceCall, InterfaceMethods};
 pub use laws::{
-    class_subtypes_are_below, classes_have_numbers, loaded_handlers_cover_the_same,
-    loaded_methods_are_found, loading_keeps_methods, program_laws,
+    api_tokens_are_public, class_subtypes_are_below, classes_have_numbers,
+    loaded_handlers_cover_the_same, loaded_methods_are_found, loading_keeps_methods, program_laws,
 };
+pub use member_tokens::MemberTokens;
 pub use methods::{MethodNumber, Methods};
 pub use program::Program;
 pub use row::LoadedMethod;

@@ -7,6 +7,7 @@ use crate::class_rows::ClassRows;
 use crate::classes::Classes;
 use crate::entries::Entries;
 use crate::interfaces::InterfaceMethods;
+use crate::member_tokens::MemberTokens;
 use crate::methods::Methods;
 use crate::superclasses::Superclasses;
 use crate::supertypes::Supertypes;
@@ -27,6 +28,7 @@ pub struct Program {
     pub interface_methods: InterfaceMethods,
     pub supertypes: Supertypes,
     pub rows: ClassRows,
+    pub member_tokens: MemberTokens,
 }
 
 impl Program {
@@ -43,6 +45,7 @@ impl Program {
         let interface_methods = InterfaceMethods::new(alloc, world, &methods, &classes)?;
         let supertypes = Supertypes::new(alloc, world, &classes)?;
         let rows = ClassRows::new(alloc, world, &classes)?;
+        let member_tokens = MemberTokens::new(alloc, world)?;
         Ok(Program {
             methods,
             entries,
@@ -53,6 +56,7 @@ impl Program {
             interface_methods,
             supertypes,
             rows,
+            member_tokens,
         })
     }
 }

@@ -1,4 +1,4 @@
-use Rattle.std.proofs.Common.{◌≡◌, ap, subst, sym, ◌∙◌}
+use Rattle.std.proofs.Common.{ap, subst, sym, ◌∙◌}
 use Rattle.jc_machine.specs.declared.natives.WordOutcome.TheVariants.{CallsBack}
 use Rattle.jc_interp.specs.PrivateDone.{done, throws, with_store}
 use Rattle.jc_interp.specs.PrivateNatives.{EndsNative, done_with, native_gives, state_of}

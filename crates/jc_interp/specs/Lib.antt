@@ -11,4 +11,8 @@ pub mod PrivateCasts
 pub mod PrivateCreation
 pub mod PrivateObjects
 pub mod PrivateCalls
+pub mod PrivateUnwinding
+pub mod PrivateEntering
+pub mod PrivateNatives
+pub mod PrivatePerform
 pub mod PrivateSimulates

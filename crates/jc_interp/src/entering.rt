@@ -1,0 +1,117 @@
+//! Frames for methods that are called (Java Card Virtual Machine Specification, Frames).
+
+ghost use Rattle.std.specs.Prelude.{◌≡◌};
+ghost use Rattle.jc_interp.specs.PrivateDone.{done};
+ghost use Rattle.jc_interp.specs.PrivateEntering.{Enters, EntersWith, header_of, owners_of, size_of};
+
+use crate::ends::StepEnd;
+use crate::here::Here;
+use crate::machine::WordMachine;
+use jc_cap_method::MethodHeader;
+use jc_frames::{CodePlace, FrameHeader, FrameSize};
+use jc_loaded::{LoadedMethod, MethodNumber};
+use jc_names::Owner;
+
+/// The owners of a called frame.
+#[derive(Clone, Copy)]
+pub(crate) struct Owners {
+    pub(crate) active: Owner,
+    /// The owner that was active before the last switch, if there was one.
+    pub(crate) previous: Option<Owner>,
+}
+
+/// Those of its caller, or one that becomes active in place of the caller's.
+#[inline]
+pub(crate) fn owners_of(here: &Here<'_>, switch: Option<Owner>) -> Owners
+    ensures { result ≡ owners_of here.now switch }
+{
+    match switch {
+        None => Owners {
+            active: here.frame.active,
+            previous: here.frame.previous,
+        },
+        Some(owner) => Owners {
+            active: owner,
+            previous: Some(here.frame.active),
+        },
+    }
+}
+
+/// A frame at the start of a method.
+#[inline]
+fn header_of(method: &LoadedMethod<'_>, owners: Owners) -> FrameHeader
+    ensures { result ≡ header_of method.now owners }
+{
+    FrameHeader {
+        method: CodePlace {
+            package: method.package,
+            offset: method.offset,
+        },
+        pc: 0,
+        depth: 0,
+        active: owners.active,
+        previous: owners.previous,
+    }
+}
+
+/// Its size, with so many words of arguments.
+#[inline]
+fn size_of(header: MethodHeader, words: u8) -> FrameSize
+    ensures { result ≡ size_of header words }
+{
+    FrameSize {
+        locals: u16::from(words) + u16::from(header.max_locals),
+        operands: header.max_stack,
+    }
+}
+
+impl WordMachine {
+    /// Calls a method on so many of the operands, which the caller loses.
+    pub(crate) fn enter(
+        &mut self,
+        here: &Here<'_>,
+        number: MethodNumber,
+        owners: Owners,
+        words: u8,
+    ) -> StepEnd
+        ensures { Enters here.now number owners words self.old (done self.new result) }
+    {
+        let Some(method) = here.program.methods.get(number) else {
+            return StepEnd::UsedUp;
+        };
+        let header = header_of(&method, owners);
+        let size = size_of(method.header, words);
+        if self.frames.enter_call(header, size, words) {
+            StepEnd::GoesOn
+        } else {
+            StepEnd::UsedUp
+        }
+    }
+
+    /// Calls a method on arguments for a native member, whose own arguments were so many of the operands: the caller
+    /// loses these.
+    pub(crate) fn enter_with(
+        &mut self,
+        here: &Here<'_>,
+        number: MethodNumber,
+        owners: Owners,
+        arguments: &[u16],
+        words: u8,
+    ) -> StepEnd
+        ensures { EntersWith here.now number owners arguments.now words self.old (done self.new result) }
+    {
+        let Some(method) = here.program.methods.get(number) else {
+            return StepEnd::UsedUp;
+        };
+        let Ok(count) = u8::try_from(arguments.len()) else {
+            return StepEnd::UsedUp;
+        };
+        let header = header_of(&method, owners);
+        let size = size_of(method.header, count);
+        if self.frames.enter_with(header, size, words, arguments) {
+            StepEnd::GoesOn
+        } else {
+            StepEnd::UsedUp
+        }
+    }
+}

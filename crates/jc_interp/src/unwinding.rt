@@ -1,0 +1,91 @@
+//! What is thrown, outward over the frames to the nearest handler (Java Card Virtual Machine Specification, Exceptions,
+//! athrow).
+
+ghost use Rattle.std.specs.Prelude.{◌≡◌};
+ghost use Rattle.jc_interp.specs.PrivateDone.{done};
+ghost use Rattle.jc_interp.specs.PrivateUnwinding.{catches, do_unwind, handled, handler_for, handler_in, is_caught};
+ghost use Rattle.jc_interp.specs.PrivateUnwinding.{unwinds};
+
+use crate::ends::StepEnd;
+use crate::fetch::method_of;
+use crate::machine::WordMachine;
+use crate::seen::{is_below, look_at};
+use jc_frames::FrameHeader;
+use jc_loaded::{Caught, LoadedHandler, LoadedMethod, Program};
+
+/// Whether a handler of this kind catches objects of the class with a number.
+fn is_caught(program: &Program, class: u16, caught: Caught) -> bool
+    ensures { result ≡ is_caught program.now class caught }
+{
+    match caught {
+        Caught::All => true,
+        Caught::OfClass(other) => is_below(program, class, other),
+        Caught::Nothing => false,
+    }
+}
+
+/// Whether a handler covers a pc and catches objects of the class with a number.
+fn catches(program: &Program, class: u16, pc: u16, handler: LoadedHandler) -> bool
+    ensures { result ≡ catches program.now class pc handler }
+{
+    handler.covers(pc) && is_caught(program, class, handler.caught)
+}
+
+/// The first handler of a method that does.
+fn handler_for(
+    program: &Program,
+    class: u16,
+    pc: u16,
+    method: &LoadedMethod<'_>,
+) -> Option<LoadedHandler>
+    ensures { result ≡ handler_for program.now class pc method.now }
+{
+    method
+        .handlers
+        .iter()
+        .copied()
+        .find(|handler| catches(program, class, pc, *handler))
+}
+
+/// The handler of a frame's method for objects of the class with a number, at the frame's pc.
+fn handler_in(program: &Program, class: u16, frame: FrameHeader) -> Option<LoadedHandler>
+    ensures { result ≡ handler_in program.now class frame }
+{
+    let method = method_of(&program.methods, frame)?;
+    handler_for(program, class, frame.pc, &method)
+}
+
+impl WordMachine {
+    /// The top frame goes on at a handler, with the object as its one operand.
+    fn handle(&mut self, object: u16, handler: LoadedHandler)
+        ensures { self.new ≡ handled object handler self.old }
+    {
+        self.frames.place_top(handler.goes_on, 0);
+        self.frames.push_operand(object);
+    }
+
+    /// An object of the class with a number is thrown.
+    fn unwind_for(&mut self, program: &Program, object: u16, class: u16) -> StepEnd
+        ensures { done self.new result ≡ unwinds program.now object class self.old }
+    {
+        while let Some(frame) = self.frames.top() {
+            if let Some(handler) = handler_in(program, class, frame) {
+                self.handle(object, handler);
+                return StepEnd::GoesOn;
+            }
+            self.frames.drop_frame();
+        }
+        StepEnd::Throws(object)
+    }
+
+    /// An object is thrown: the nearest frame with a handler for it goes on there, and the frames within are dropped.
+    /// Where none has one it is thrown out of the call.
+    pub(crate) fn unwind(&mut self, program: &Program, object: u16) -> StepEnd
+        ensures { done self.new result ≡ do_unwind program.now object self.old }
+    {
+        match look_at(&self.store, object) {
+            Some(seen) => self.unwind_for(program, object, seen.class),
+            None => StepEnd::UsedUp,
+        }
+    }
+}

@@ -15,4 +15,5 @@ pub mod PrivateUnwinding
 pub mod PrivateEntering
 pub mod PrivateNatives
 pub mod PrivatePerform
+pub mod PrivateStep
 pub mod PrivateSimulates

@@ -112,7 +112,7 @@ impl WordMachine {
         guarded_call(verdict, virtual_called(here, object.class, token), words)
     }
 
-    /// invokespecial: no access is tested, and no owner changes.
+    /// invokespecial: no access is tested, and no owner changes. Where no method is found the object is taken for null.
     fn plan_special(&self, here: &Here<'_>, index: u16) -> Plan
         ensures { result ≡ special_plan here.now index self.now }
     {
@@ -130,7 +130,7 @@ impl WordMachine {
                 None => Plan::Throws(NULL_POINTER_EXCEPTION),
             },
             Plan::Throws(object) => Plan::Throws(object),
-            Plan::Nothing => Plan::Nothing,
+            Plan::Nothing => Plan::Throws(NULL_POINTER_EXCEPTION),
         }
     }
 

@@ -10,6 +10,7 @@ use crate::ends::{CLASS_CAST_EXCEPTION, SECURITY_EXCEPTION, StepEnd};
 use crate::here::Here;
 use crate::machine::WordMachine;
 use crate::seen::{Seen, class_named, is_below, look_at, verdict};
+use jc_api::ApiClass;
 use jc_code::{TestedType, WordKind};
 use jc_firewall::{Access, Verdict};
 use jc_loaded::Program;
@@ -73,13 +74,13 @@ fn is_word_array(kind: WordKind, object: ObjectType) -> bool
     }
 }
 
-/// Whether a class is another one, or below it.
+/// Whether a class is another one, or below it. A class that isn't there is below itself and Object alone.
 fn is_name_below(program: &Program, class: ClassName, other: ClassName) -> bool
     ensures { result ≡ is_name_below program.now other class }
 {
     match program.classes.number_of(class) {
         Some(number) => is_below(program, number.index(), other),
-        None => false,
+        None => ClassName::Api(ApiClass::Object).is(other) || class.is(other),
     }
 }
 

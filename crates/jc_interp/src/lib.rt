@@ -17,6 +17,7 @@ mod objects;
 mod perform;
 mod references;
 mod returns;
+mod scratch;
 mod seen;
 mod statics;
 mod unwinding;

@@ -3,8 +3,8 @@ use Rattle.jc_interp.specs.PrivateDone.{done}
 use Rattle.jc_interp.specs.PrivateNatives.{CallsBackBy, done_with, words_of}
 use Rattle.jc_interp.proofs.machine.WordMachine.call_back.Goals as goal
 
-pub returns : goal.returns
-returns g c =
+pub returns-clause-calls : goal.returns-clause-calls
+returns-clause-calls g c =
     let h = c.args.here.now in
     let u = c.args.self.now in
     let kept = g.N.Natives.kept c.args.natives.now in
@@ -12,4 +12,4 @@ returns g c =
     subst (CallsBackBy g.N.Natives.meaning h c.args.words (words_of c.args.callback.now) u kept d)
     (sym c.in-Some.is ∙ c.called_back.ensures)
     (subst (λ xs. CallsBackBy g.N.Natives.meaning h c.args.words xs u kept d (Some c.in-Some.callee))
-    (c.as_slice.ensures.value ∙ c.arguments_of-arguments.ensures) c.call_callee.ensures)
+    (c.as_slice.ensures.value ∙ c.arguments_of-arguments.ensures.words) c.call_callee.ensures)

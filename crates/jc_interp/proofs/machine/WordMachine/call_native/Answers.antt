@@ -42,5 +42,6 @@ returns-in-CallsBack g c =
       answer = c.ask.ensures.answer;
       goes_on = subst (EndsNative g.N.Natives.meaning c.args.here.now c.args.words u kept d) (sym c.in-CallsBack.is)
           (subst (λ v. EndsNative g.N.Natives.meaning c.args.here.now c.args.words v kept d
-          (CallsBack c.in-CallsBack.callback)) c.ask.ensures.frames c.call_back.ensures);
+          (CallsBack c.in-CallsBack.callback)) c.ask.ensures.frames
+          (record { few = c.call_back.ensures.few; calls = c.call_back.ensures.calls }));
     }

@@ -16,4 +16,5 @@ pub mod PrivateEntering
 pub mod PrivateNatives
 pub mod PrivatePerform
 pub mod PrivateStep
+pub mod PrivateKnows
 pub mod PrivateSimulates

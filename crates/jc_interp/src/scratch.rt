@@ -3,7 +3,8 @@
 ghost use Rattle.std.specs.Prelude.{◌≡◌, true};
 
 #[tactic(auto, using(
-    crate::proofs::MatchingInvocations::at_call,
+    crate::proofs::MatchingSteps::follows,
+    crate::proofs::MatchingSteps::at_nothing,
     crate::proofs::MatchingObjects::at_object_operation,
     crate::proofs::MatchingWords::at_word_operation,
     crate::proofs::MatchingThrows::outward,

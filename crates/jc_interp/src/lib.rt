@@ -17,9 +17,9 @@ mod objects;
 mod perform;
 mod references;
 mod returns;
-mod scratch;
 mod seen;
 mod statics;
+mod step;
 mod unwinding;
 mod words;
 

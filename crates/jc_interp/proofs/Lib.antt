@@ -24,3 +24,4 @@ mod MatchingNatives
 mod VirtualTokens
 mod MatchingInvocations
 mod MatchingSteps
+mod Running

@@ -18,3 +18,4 @@ pub mod PrivatePerform
 pub mod PrivateStep
 pub mod PrivateKnows
 pub mod PrivateSimulates
+pub mod PrivateRuns

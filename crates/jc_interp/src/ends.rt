@@ -13,6 +13,17 @@ pub enum StepEnd {
     UsedUp,
 }
 
+/// How a call ends.
+#[derive(Clone, Copy, Debug, PartialEq, Eq)]
+pub enum RunEnd {
+    /// The object with this number was thrown, and no frame caught it.
+    Threw(u16),
+    /// The first frame's method gave a word, or nothing.
+    Gave(Option<u16>),
+    /// The call was used up: a frame had no room, or the steps were spent.
+    RanOut,
+}
+
 /// The runtime's own exceptions, by their objects.
 pub(crate) const ARITHMETIC_EXCEPTION: u16 = 1;
 

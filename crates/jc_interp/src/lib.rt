@@ -17,12 +17,13 @@ mod objects;
 mod perform;
 mod references;
 mod returns;
+mod run;
 mod seen;
 mod statics;
 mod step;
 mod unwinding;
 mod words;
 
-pub use ends::StepEnd;
+pub use ends::{RunEnd, StepEnd};
 pub use machine::WordMachine;
 pub use statics::Statics;

@@ -2,7 +2,8 @@
 
 ghost use Rattle.std.specs.Prelude.{◌≡◌};
 ghost use Rattle.jc_interp.specs.PrivateCasts.{bit, cast_by, cast_of, do_check_cast, do_instance_of, is_name_below};
-ghost use Rattle.jc_interp.specs.PrivateCasts.{is_reference_array, is_shared, is_shared_interface, is_word_array, passes};
+ghost use Rattle.jc_interp.specs.PrivateCasts.{is_reference_array, is_shared, is_shared_interface, is_word_array};
+ghost use Rattle.jc_interp.specs.PrivateCasts.{passes};
 ghost use Rattle.jc_interp.specs.PrivateCasts.{test_of};
 ghost use Rattle.jc_interp.specs.PrivateDone.{done, operand};
 

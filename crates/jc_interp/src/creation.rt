@@ -1,7 +1,8 @@
 //! New objects (Java Card Virtual Machine Specification, new, newarray, anewarray).
 
 ghost use Rattle.std.specs.Prelude.{◌≡◌};
-ghost use Rattle.jc_interp.specs.PrivateCreation.{do_create, do_create_array, do_creation, do_new, is_count, made, made_in};
+ghost use Rattle.jc_interp.specs.PrivateCreation.{do_create, do_create_array, do_creation, do_new, is_count, made};
+ghost use Rattle.jc_interp.specs.PrivateCreation.{made_in};
 ghost use Rattle.jc_interp.specs.PrivateCreation.{word_array};
 ghost use Rattle.jc_interp.specs.PrivateDone.{done, operand};
 

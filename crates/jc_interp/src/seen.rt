@@ -1,7 +1,8 @@
 //! What an instruction sees of an object, and what the firewall says of an access to it.
 
 ghost use Rattle.std.specs.Prelude.{◌≡◌, true, false, None};
-ghost use Rattle.jc_interp.specs.PrivateSeen.{allows, cell_in, class_named, facts_seen, is_array, is_below, mark_of, seen_of, verdict_on, with_put};
+ghost use Rattle.jc_interp.specs.PrivateSeen.{allows, cell_in, class_named, facts_seen, is_array, is_below, mark_of};
+ghost use Rattle.jc_interp.specs.PrivateSeen.{seen_of, verdict_on, with_put};
 ghost use Rattle.jc_store.specs.Heap.{object_at};
 ghost use Rattle.jc_store.specs.Store.{IsThere, with_objects};
 

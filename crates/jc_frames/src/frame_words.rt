@@ -1,10 +1,11 @@
 //! The words of the frame at a place.
 
 ghost use Rattle.std.specs.Prelude.{◌≡◌, ◌+◌, ◌≤◌, length, min};
-ghost use Rattle.jc_frames.specs.Operands.{arguments_in, local_in, operand_in, pushed, with_duplicated, with_local};
+ghost use Rattle.jc_frames.specs.Operands.{arguments_in, in_use, local_in, operand_in, pushed, with_duplicated, with_local};
 ghost use Rattle.jc_frames.specs.Operands.{with_swapped};
 ghost use Rattle.jc_frames.specs.PrivateLaid.{IsChanged, IsWithin, frame_in};
 
+use crate::header::FrameSize;
 use crate::place::FramePlace;
 use jc_base::stack::{duplicate_top, swap_top};
 
@@ -14,6 +15,30 @@ pub(crate) fn depth_at(place: &FramePlace) -> u8
     ensures { result ≡ min place.now.header.depth place.now.operands }
 {
     place.header.depth.min(place.operands)
+}
+
+/// How many locals the frame at a place has, and how many operands it may have.
+#[inline]
+#[tactic(auto, using(crate::proofs::Words::part_length))]
+pub(crate) fn size_at(place: &FramePlace, _words: &[u16]) -> FrameSize
+    requires { IsWithin place.now _words.now }
+    ensures locals { result.locals ≡ length (frame_in _words.now place.now).locals }
+    ensures operands { result.operands ≡ length (frame_in _words.now place.now).operands }
+{
+    FrameSize {
+        locals: place.locals,
+        operands: place.operands,
+    }
+}
+
+/// How many operands of the frame at a place are in use.
+#[inline]
+#[tactic(auto, using(crate::proofs::Words::part_length))]
+pub(crate) fn in_use_at(place: &FramePlace, _words: &[u16]) -> u8
+    requires { IsWithin place.now _words.now }
+    ensures { result ≡ length (in_use (frame_in _words.now place.now)) }
+{
+    depth_at(place)
 }
 
 // Where the operands begin among the words.

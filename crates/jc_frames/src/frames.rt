@@ -12,7 +12,8 @@ ghost use Rattle.jc_frames.specs.Operands.{with_words, words_of};
 ghost use Rattle.jc_frames.specs.PrivateLaid.{HasRoom};
 
 use crate::frame_words::{
-    arguments_at, depth_at, duplicate_at, local_at, operand_at, push_at, set_local_at, swap_at,
+    arguments_at, depth_at, duplicate_at, in_use_at, local_at, operand_at, push_at, set_local_at,
+    size_at, swap_at,
 };
 use crate::header::{FrameHeader, FrameSize};
 use crate::place::{FramePlace, copy_arguments, put_arguments, top_of, top_start};
@@ -217,6 +218,32 @@ impl Frames {
     {
         let place = self.places.last()?;
         Some(place.header)
+    }
+
+    /// How many locals the top frame has, and how many operands it may have; none where there is no frame.
+    #[inline]
+    pub fn top_size(&self) -> FrameSize
+        ensures locals { result.locals ≡ of_top 0 (λ f. length f.locals) self.now }
+        ensures operands { result.operands ≡ of_top 0 (λ f. length f.operands) self.now }
+    {
+        let Some(place) = self.places.last() else {
+            return FrameSize {
+                locals: 0,
+                operands: 0,
+            };
+        };
+        size_at(place, &self.words)
+    }
+
+    /// How many operands of the top frame are in use; none where there is no frame.
+    #[inline]
+    pub fn depth(&self) -> u8
+        ensures { result ≡ of_top 0 (λ f. length (in_use f)) self.now }
+    {
+        let Some(place) = self.places.last() else {
+            return 0;
+        };
+        in_use_at(place, &self.words)
     }
 
     /// The operand of the top frame with an index, counted from the top; 0 where there is none.

@@ -25,3 +25,5 @@ mod VirtualTokens
 mod MatchingInvocations
 mod MatchingSteps
 mod Running
+mod Leafing
+mod LeafRuns

@@ -19,3 +19,4 @@ pub mod PrivateStep
 pub mod PrivateKnows
 pub mod PrivateSimulates
 pub mod PrivateRuns
+pub mod PrivateLeaf

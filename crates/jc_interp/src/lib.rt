@@ -11,6 +11,7 @@ mod fetch;
 mod fields;
 mod going;
 mod here;
+mod leaf;
 mod machine;
 mod natives;
 mod objects;

@@ -5,7 +5,8 @@ use Rattle.std.proofs.Common.{◌/◌, ◌%◌}
 use Rattle.std.proofs.lemmas.Bool.{ltb-true}
 use Rattle.jc_base.specs.Cursor.{Read, next_s1, next_s2, next_u1}
 use Rattle.jc_base.specs.Results.{◌>>=◌}
-use Rattle.jc_code.specs.Decoding.{done, is_duplicate, is_swap, listed, next_arithmetic, next_branch, next_constant, next_control}
+use Rattle.jc_code.specs.Decoding.{done, is_duplicate, is_swap, listed, next_arithmetic, next_branch, next_constant}
+use Rattle.jc_code.specs.Decoding.{next_control}
 use Rattle.jc_code.specs.Decoding.{next_local, next_lookup_switch, next_shuffle, next_stable_switch, next_wide_branch}
 use Rattle.jc_code.specs.Decoding.{next_wide_increment, next_word_operation, operator_of, when_of}
 use Rattle.jc_code.specs.Instructions.{instr_of, word_instr_at}
@@ -15,7 +16,8 @@ use Rattle.jc_code.specs.declared.instr.Instr.{Instr}
 use Rattle.jc_code.specs.declared.instr.Operation.{Operation}
 use Rattle.jc_code.specs.declared.instr.Operation.TheVariants.{Object, Word}
 use Rattle.jc_code.specs.declared.instr.WordOperation.{WordOperation}
-use Rattle.jc_code.specs.declared.instr.WordOperation.TheVariants.{Binary, Branch, Increment, Load, LookupSwitch, Nop, Push}
+use Rattle.jc_code.specs.declared.instr.WordOperation.TheVariants.{Binary, Branch, Increment, Load, LookupSwitch}
+use Rattle.jc_code.specs.declared.instr.WordOperation.TheVariants.{Nop, Push}
 use Rattle.jc_code.specs.declared.instr.WordOperation.TheVariants.{ReturnWord, Shuffle, StableSwitch, Store, Unary}
 use Rattle.jc_words.specs.Shorts.{word_of}
 use Rattle.jc_alone.proofs.Bounds.{IsShort, bits_bound, byte_is_short, signed_is_short}

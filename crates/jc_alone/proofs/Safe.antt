@@ -14,8 +14,8 @@ use Rattle.jc_types.specs.State.{Types, all_below}
 use Rattle.jc_types.specs.declared.ty.Ty.{Ty}
 use Rattle.jc_types.specs.declared.ty.Ty.TheVariants as types
 use Rattle.jc_words.specs.Values.{TaggedValue, Word}
-use Rattle.jc_machine.specs.Going.{Here, branches, check, gives, goes_on, jumps, leaves_operands, moved, on_some, throws}
-use Rattle.jc_machine.specs.Going.{with_top}
+use Rattle.jc_machine.specs.Going.{Here, branches, check, gives, goes_on, jumps, leaves_operands, moved, on_some}
+use Rattle.jc_machine.specs.Going.{throws, with_top}
 use Rattle.jc_machine.specs.Machine.{Frame, Machine, Stepped}
 use Rattle.jc_machine.specs.Returns.{returns_to, returns_value}
 use Rattle.jc_machine.specs.Runtime.{arithmetic_exception}

@@ -1,10 +1,12 @@
 -- What a row that applies to a state says of the values of that state.
-use Rattle.std.proofs.Common.{◌≡◌, ℕ, zero, suc, ◌+◌, ◌-◌, ◌<◌, List, [], ◌∷◌, length, take, drop, reverse, set, not, slice_get}
+use Rattle.std.proofs.Common.{◌≡◌, ℕ, zero, suc, ◌+◌, ◌-◌, ◌<◌, List, [], ◌∷◌, length, take, drop, reverse, set}
+use Rattle.std.proofs.Common.{not, slice_get}
 use Rattle.std.proofs.Common.{Bool, true, false, ◌&&◌, if◌then◌else◌, Some, Ok, Err, nat_lt, unwrap_or}
 use Rattle.std.proofs.Common.{refl, ap, sym, subst, arith, length-drop}
 use Rattle.std.proofs.lemmas.Bool.{lt-ltb, ltb-false, ltb-true}
 use Rattle.jc_base.specs.declared.reason.Reason.TheVariants.{BadLocal, StackOver, StackUnder, WrongType}
-use Rattle.jc_step.specs.Row.{Row, after, all_meet, applied, count_of, has_local, is_met, local_meets, local_of, taken_by}
+use Rattle.jc_step.specs.Row.{Row, after, all_meet, applied, count_of, has_local, is_met, local_meets, local_of}
+use Rattle.jc_step.specs.Row.{taken_by}
 use Rattle.jc_step.specs.Words.{reads, takes, word, writes}
 use Rattle.jc_step.specs.declared.row.Demand.{Demand}
 use Rattle.jc_step.specs.declared.row.Given.TheVariants.{Exactly, Nothing}
@@ -19,7 +21,8 @@ use Rattle.jc_alone.proofs.Values.{Have, Hold, Operand, below, has, word_of_type
 -- ---- a row that applies
 
 four : (a b c d : Bool) (x t : Types)
-    → (if a then Err BadLocal else if b then Err StackUnder else if c then Err WrongType else if d then Err StackOver else Ok x) ≡ Ok t
+    → (if a then Err BadLocal else if b then Err StackUnder else if c then Err WrongType else if d then Err StackOver
+    else Ok x) ≡ Ok t
     → (a ≡ false) × (b ≡ false) × (c ≡ false) × (d ≡ false) × (x ≡ t)
 four false false false false x t h = (refl, refl, refl, refl, cc)
 four false false false true x t h = absurd cc

@@ -1,4 +1,5 @@
--- Values where there are no objects: a reference is null, whatever its type says. A value of a type is of each above it.
+-- Values where there are no objects: a reference is null, whatever its type says. A value of a type is of each type
+-- above it.
 use Rattle.std.proofs.Common.{◌≡◌, ℕ, zero, suc, ◌<◌, List, [], ◌∷◌, Bool, true, refl, subst}
 use Rattle.std.proofs.lemmas.Bool.{lt-ltb, ltb-true}
 use Rattle.jc_check.specs.Rules.{word_rules}

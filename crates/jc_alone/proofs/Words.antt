@@ -131,8 +131,8 @@ module _ (typing : Typing) (m : Machine ⊤) (t : IsTypedAlone typing m) (next :
       take_one (λ us. Safe us (act_word (here us) (ops.Unary operator))) vs state.operands t.operands a.enough
       a.operands_met
       (λ n us small rest.
-      safe.gives_word typing m t next (word ∷ []) (Word n ∷ us) us (unary_of operator n) after (unary_bound operator n) a
-      rest (falls refl))
+      safe.gives_word typing m t next (word ∷ []) (Word n ∷ us) us (unary_of operator n) after
+      (unary_bound operator n) a rest (falls refl))
 
   -- a result, or an exception
   by_result : (us rest : List TaggedValue) (r : Option ℕ) (after : Types) → ((n : ℕ) → r ≡ Some n → n < 65536)
@@ -317,7 +317,8 @@ module _ (typing : Typing) (m : Machine ⊤) (t : IsTypedAlone typing m) (next :
       take_one (λ us. Safe us (act_word (here us) (ops.StableSwitch default low offsets))) vs state.operands t.operands
       a.enough a.operands_met
       (λ n us small rest.
-      safe.jump_it typing m t next (stable_offset default low offsets (short n)) (word ∷ []) (Word n ∷ us) us after a rest
+      safe.jump_it typing m t next (stable_offset default low offsets (short n)) (word ∷ []) (Word n ∷ us) us after a
+      rest
       (in_table (BranchesTo after) default low offsets (short n) branches.0 branches.1))
 
   pub lookup_switch : (default : ℤ) (cases : List Case) → Owes (ops.LookupSwitch default cases)

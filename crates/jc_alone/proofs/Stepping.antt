@@ -1,9 +1,9 @@
 -- A step of a well-typed machine is safe, whichever instruction it makes; so is a run.
-use Rattle.std.proofs.Common.{◌≡◌, ℕ, zero, suc, ℤ, ◌<◌, List, true, Some, Ok}
+use Rattle.std.proofs.Common.{◌≡◌, ℕ, zero, suc, ℤ, ◌<◌, List, [], true, Some, Ok, replicate}
 use Rattle.std.proofs.Common.{refl, sym, ap, subst, arith}
 use Rattle.std.specs.List.{AllByRecursion}
 use Rattle.std.specs.Prelude.{⊤}
-use Rattle.jc_check.specs.Method.{word_max_stack, word_method}
+use Rattle.jc_check.specs.Method.{entry_of, word_locals, word_max_stack, word_method}
 use Rattle.jc_check.specs.Rules.{word_rules}
 use Rattle.jc_check.specs.Typing.{BranchLeads, IsFineAt, IsTyping, Typing}
 use Rattle.jc_code.specs.Instructions.{word_instr_at}
@@ -15,17 +15,19 @@ use Rattle.jc_code.specs.declared.instr.Shuffle.TheVariants.{Duplicate, Pop, Swa
 use Rattle.jc_code.specs.declared.instr.When.TheVariants.{Always, Compare, Zero}
 use Rattle.jc_code.specs.declared.instr.WordOperation.{WordOperation}
 use Rattle.jc_code.specs.declared.instr.WordOperation.TheVariants as ops
-use Rattle.jc_types.specs.State.{Types}
+use Rattle.jc_types.specs.State.{Types, all_below}
 use Rattle.jc_types.specs.declared.ty.Ty.TheVariants as types
 use Rattle.jc_words.specs.Shorts.{word_of}
+use Rattle.jc_words.specs.Values.{Unset}
 use Rattle.jc_machine.specs.Machine.{Ends, Machine, Next, Outcome, Stuck, Throws, UsedUp}
 use Rattle.jc_machine.specs.Step.{Called, continued}
-use Rattle.jc_alone.specs.Alone.{act_alone, alone_step, alone_steps, here_alone}
+use Rattle.jc_alone.specs.Alone.{act_alone, alone_call, alone_step, alone_steps, first_machine, here_alone}
 use Rattle.jc_alone.specs.TypedCode.{EndsTypedAlone, IsTypedAlone, StandsAt, StepsTyped}
 use Rattle.jc_alone.proofs.Constants.{constant_bound}
-use Rattle.jc_alone.proofs.Lists.{unmapped}
+use Rattle.jc_alone.proofs.Lists.{both, unmapped}
 use Rattle.jc_alone.proofs.Safe as safe
 use Rattle.jc_alone.proofs.Safe.{IsSafe, safe_some}
+use Rattle.jc_alone.proofs.Values.{Have, below, operands_up, types_up}
 use Rattle.jc_alone.proofs.Words as words
 use Rattle.jc_alone.proofs.Words.{Owes}
 
@@ -124,3 +126,34 @@ module _ (laws : ListingLaws word_instr_at) (code : List ℕ) (typing : Typing)
   runs_safely (suc n) m typed =
       goes_on_safely m typed (alone_steps t.listing n) (alone_step t.listing m).outcome (runs_safely n)
       (steps_safely m typed)
+
+-- ---- the first machine
+
+-- locals that were never written are of any types of which nothing is known
+never_written : (n : ℕ) → Have (replicate n Unset) (replicate n types.Top)
+never_written zero = tt
+never_written (suc n) = (refl, never_written n)
+
+pub begins_typed : (code : List ℕ) (typing : Typing) → IsTyping word_rules (word_method code) typing
+    → IsTypedAlone typing first_machine
+begins_typed code typing t =
+    let s = t.entry in
+    let entry = entry_of (word_method code) in
+    let b = both (all_below below entry.locals s.state.locals) (all_below below entry.operands s.state.operands)
+    s.below in record {
+      heap = refl;
+      statics = refl;
+      waiting = refl;
+      state = s.state;
+      stated = s.typed;
+      locals =
+          types_up (replicate word_locals Unset) (replicate word_locals types.Top) s.state.locals b.0
+          (never_written word_locals);
+      operands = operands_up [] [] s.state.operands b.1 tt;
+    }
+
+pub calls_safely : (laws : ListingLaws word_instr_at) (code : List ℕ) (typing : Typing)
+    → (t : IsTyping word_rules (word_method code) typing) (steps : ℕ)
+    → EndsTypedAlone typing (alone_call t.listing steps).ends
+calls_safely laws code typing t steps =
+    runs_safely laws code typing t steps first_machine (begins_typed code typing t)

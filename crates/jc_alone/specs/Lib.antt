@@ -1,2 +1,3 @@
 pub mod Alone
 pub mod TypedCode
+pub mod Examples

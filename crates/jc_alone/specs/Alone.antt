@@ -1,9 +1,10 @@
 -- Code alone: the code of one method, of no package, as the defensive machine runs it. There are no objects, no static
 -- fields and no frame that waits, and no instruction but those on words.
-use Rattle.std.specs.Prelude.{⊤, ℕ, zero, suc, List, [], replicate, None, true}
+use Rattle.std.specs.Prelude.{⊤, ℕ, zero, suc, ◌+◌, List, [], replicate, None, Some, true, false}
 use Rattle.jc_api.specs.declared.class.ApiClass.TheVariants.{Object}
 use Rattle.jc_base.specs.declared.declared_type.DeclaredType.TheVariants.{Short}
 use Rattle.jc_base.specs.declared.declared_type.ReturnType.TheVariants.{Value}
+use Rattle.jc_cap_method.specs.declared.header.MethodHeader.{MethodHeader}
 use Rattle.jc_check.specs.Method.{word_locals, word_max_stack}
 use Rattle.jc_classes.specs.Members.{DeclaredMethod}
 use Rattle.jc_code.specs.Listing.{PlacedInstr, placed_at}
@@ -26,13 +27,17 @@ use Rattle.jc_machine.specs.Words.{act_word}
 abbrev pub empty_world : World
 empty_world = record { shapes = []; bodies = [] }
 
--- no room for objects, or for frames beside the first: no instruction on words takes any
-abbrev pub no_room : Limits
-no_room = record { objects = 0; cells = 0; frames = 1; frame_words = 0 }
+-- room for its one frame, and for no objects; no instruction on words asks for any
+abbrev pub one_frame : Limits
+one_frame = record { objects = 0; cells = 0; frames = 1; frame_words = word_locals + word_max_stack }
 
 -- that world, native members that are never called, and no applet
 abbrev pub nothing_around : Surroundings ⊤
-nothing_around = record { world = empty_world; natives = idle; limits = no_room; selected = None }
+nothing_around = record { world = empty_world; natives = idle; limits = one_frame; selected = None }
+
+-- what its method's header would say
+abbrev pub alone_header : MethodHeader
+alone_header = record { is_abstract = false; max_stack = word_max_stack; nargs = 0; max_locals = word_locals }
 
 -- its method as it is declared: static, without arguments, and it gives a short
 abbrev pub alone_method : DeclaredMethod
@@ -42,7 +47,7 @@ alone_method = record {
     token = 0;
     is_static = true;
     offset = 0;
-    header = None;
+    header = Some alone_header;
     signature = record { parameters = []; result = Value Short };
   };
 }

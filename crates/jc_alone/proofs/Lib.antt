@@ -1,0 +1,8 @@
+mod Bounds
+mod Constants
+mod Lists
+mod Safe
+mod Stepping
+mod Taking
+mod Values
+mod Words

@@ -6,3 +6,4 @@ mod Stepping
 mod Taking
 mod Values
 mod Words
+mod Running

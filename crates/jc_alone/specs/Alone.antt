@@ -1,6 +1,6 @@
 -- Code alone: the code of one method, of no package, as the defensive machine runs it. There are no objects, no static
 -- fields and no frame that waits, and no instruction but those on words.
-use Rattle.std.specs.Prelude.{⊤, ℕ, zero, suc, ◌+◌, List, [], replicate, None, Some, true, false}
+use Rattle.std.specs.Prelude.{⊤, ◌≡◌, ℕ, zero, suc, ◌+◌, List, [], replicate, None, Some, true, false}
 use Rattle.jc_api.specs.declared.class.ApiClass.TheVariants.{Object}
 use Rattle.jc_base.specs.declared.declared_type.DeclaredType.TheVariants.{Short}
 use Rattle.jc_base.specs.declared.declared_type.ReturnType.TheVariants.{Value}
@@ -14,12 +14,15 @@ use Rattle.jc_code.specs.declared.instr.Operation.TheVariants as operations
 use Rattle.jc_firewall.specs.Verdict as firewall
 use Rattle.jc_link.specs.Linked.{World}
 use Rattle.jc_names.specs.declared.name.ClassName.TheVariants.{Api}
-use Rattle.jc_words.specs.Values.{Unset}
+use Rattle.jc_words.specs.Values.{Unset, Word}
 use Rattle.jc_machine.specs.Going.{Here, moved, on_some, stuck}
 use Rattle.jc_machine.specs.Idle.{idle}
 use Rattle.jc_machine.specs.Machine.{Limits, Machine, Stepped, Surroundings}
-use Rattle.jc_machine.specs.Step.{Called, RanOut, ended_by, no_frame, onward}
+use Rattle.jc_machine.specs.Runtime.{arithmetic_exception}
+use Rattle.jc_machine.specs.Step.{CallEnd, Called, Gave, RanOut, Threw, WasStuck, ended_by, no_frame, onward}
 use Rattle.jc_machine.specs.Words.{act_word}
+use Rattle.jc_alone.specs.declared.run.CodeEnd.{CodeEnd}
+use Rattle.jc_alone.specs.declared.run.CodeEnd.TheVariants as ends
 
 -- ---- what surrounds it
 
@@ -94,3 +97,32 @@ first_machine = record {
 -- a run of the code from there on, of so many steps at most
 abbrev pub alone_call : List PlacedInstr → ℕ → Called ⊤
 alone_call listing steps = alone_steps listing steps first_machine
+
+-- ---- how a run ends
+
+-- with this word
+abbrev pub GivesWord : ℕ → CallEnd ⊤ → Type 0
+GivesWord word (Gave m value) = value ≡ Some (Word word)
+GivesWord word (Threw m object) = ⊥
+GivesWord word (RanOut m) = ⊥
+GivesWord word WasStuck = ⊥
+
+-- with the exception of a division by zero
+abbrev pub ThrowsArithmetic : CallEnd ⊤ → Type 0
+ThrowsArithmetic (Gave m value) = ⊥
+ThrowsArithmetic (Threw m object) = object ≡ arithmetic_exception
+ThrowsArithmetic (RanOut m) = ⊥
+ThrowsArithmetic WasStuck = ⊥
+
+-- with no step left
+abbrev pub UsesUp : CallEnd ⊤ → Type 0
+UsesUp (Gave m value) = ⊥
+UsesUp (Threw m object) = ⊥
+UsesUp (RanOut m) = ⊤
+UsesUp WasStuck = ⊥
+
+-- a run on words ends so
+abbrev pub EndsAs : CodeEnd → CallEnd ⊤ → Type 0
+EndsAs (ends.Gave word) end = GivesWord word end
+EndsAs ends.Divided end = ThrowsArithmetic end
+EndsAs ends.UsedUp end = UsesUp end

@@ -1,3 +1,4 @@
+pub mod PrivateRuns
 pub mod Alone
 pub mod TypedCode
 pub mod Examples

@@ -10,8 +10,10 @@ ghost use Rattle.jc_check.specs.Typing.{IsTyping, Typing};
 ghost use Rattle.jc_machine.specs.Machine.{Machine};
 
 mod examples;
+mod run;
 
 pub use examples::{code_runs, stuck_code_runs};
+pub use run::{CodeEnd, run_code};
 use jc_code::listing_laws;
 
 /// Code alone that is well typed is type-safe. The machine is well typed where it begins. Where it is well typed, an

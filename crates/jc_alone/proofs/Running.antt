@@ -1,6 +1,6 @@
 -- A run of code alone on words goes along with the defensive machine's.
 use Rattle.std.proofs.Common.{◌≡◌, ℕ, zero, suc, ◌+◌, ◌-◌, ◌<◌, ◌≤◌, List, [], ◌∷◌, length, drop, take, reverse, Option}
-use Rattle.std.proofs.Common.{Some, None, Bool, true, false, Result, Ok, Err, IfSome, nat_lt, refl, sym, ap, ◌∙◌, subst}
+use Rattle.std.proofs.Common.{Some, None, Bool, true, false, if◌then◌else◌, Result, Ok, Err, IfSome, nat_lt, refl, sym, ap, ◌∙◌, subst}
 use Rattle.std.proofs.Common.{arith}
 use Rattle.std.proofs.Math.Seq.{drop-cons}
 use Rattle.std.specs.Prelude.{⊤, ◌≢◌, get_or, slice_index}
@@ -63,6 +63,10 @@ is_decoded_by : (code : List ℕ) (instr : Instr) (r : Result (Read WordOperatio
     → (r >>= (λ read. Ok (instr_of code (as_any read)))) ≡ Ok instr → IsDecoded code instr r
 is_decoded_by code instr (Ok read) e = sym (binding.the_ok (instr_of code (as_any read)) instr e)
 is_decoded_by code instr (Err fault) e = absurd cc
+
+-- the frame on words that the code begins with
+abbrev pub first_frame : WordFrame
+first_frame = record { pc = 0; locals = 0 ∷ 0 ∷ []; operands = [] }
 
 -- what the laws say of this code and this typing
 pub record Laws (code : List ℕ) (typing : Typing) (t : IsTyping word_rules (word_method code) typing) : Type 0 where
@@ -238,6 +242,9 @@ module _ (code : List ℕ) (typing : Typing) (t : IsTyping word_rules (word_meth
         result operator (Some k) e =
             let no : words.continues place.next_pc w.locals (k ∷ drop 2 w.operands) ≡ Yields n = e in absurd cc
 
+        the_word : (a b : ℕ) → Yields a ≡ Yields b → a ≡ b
+        the_word a b e = cc
+
         yields : (it : WordOperation) → done_by w.pc place.next_pc it w ≡ Yields n
             → EndsAs (if is_return (operations.Word it) then ends.Gave (slice_index w.operands 0) else ends.Divided) end
         yields ops.Nop e = absurd cc
@@ -258,13 +265,10 @@ module _ (code : List ℕ) (typing : Typing) (t : IsTyping word_rules (word_meth
             let same : slice_index w.operands 0 ≡ n = the_word (slice_index w.operands 0) n e in
             subst (λ (k : ℕ). EndsAs (ends.Gave k) end) (sym same) gave
 
-        the_word : (a b : ℕ) → Yields a ≡ Yields b → a ≡ b
-        the_word a b e = cc
-
     stopped_by : (r : Result (Read WordOperation) CodeFault) → word_at code w.pc ≡ r
         → IsDecoded code stands.instr.instr r → frame_behind code w r ≡ None
         → EndsAs (end_of (word_instr_at code w.pc) (slice_index w.operands 0)) end
-    stopped_by (Ok read) at is none =
+    stopped_by (Ok read) read_is is none =
         let operation_is = ap (λ (x : Instr). x.operation) is in
         let next_is = ap (λ (x : Instr). x.next_pc) is in
         let f = follows w (suc left) end g read.value operation_is in
@@ -277,7 +281,7 @@ module _ (code : List ℕ) (typing : Typing) (t : IsTyping word_rules (word_meth
         (sym operation_is)
         (ends_by read.value (done_by w.pc place.next_pc read.value w) refl none_here
         (acts_is w (suc left) end g read.value operation_is) f.comes))
-    stopped_by (Err fault) at is none = absurd is
+    stopped_by (Err fault) read_is is none = absurd is
 
     stopped : next_frame code w ≡ None → EndsAs (end_of (word_instr_at code w.pc) (slice_index w.operands 0)) end
     stopped none = stopped_by (word_at code w.pc) refl (decoded_here w (suc left) end g) none
@@ -317,9 +321,6 @@ module _ (code : List ℕ) (typing : Typing) (t : IsTyping word_rules (word_meth
           → HasEnded (option_map_or (ran code n) o (record { frame = w; left = suc n })) end
       each None e go k = ((λ none. absurd (omega (arith, none))), (λ _. stopped w n end g e))
       each (Some v) e go k = go v k
-
-  abbrev pub first_frame : WordFrame
-  first_frame = record { pc = 0; locals = 0 ∷ 0 ∷ []; operands = [] }
 
   begins : (steps : ℕ) → GoesWith first_frame steps (alone_call listing steps).ends
   begins steps = record {

@@ -8,21 +8,20 @@ use Rattle.jc_check.specs.Carried.{CertCarriesCode}
 use Rattle.jc_cert.specs.Cert.{Row}
 use Rattle.jcard.specs.declared.answer.EvalAnswer.{EvalAnswer}
 use Rattle.jcard.specs.declared.answer.EvalAnswer.TheVariants.{Value, Throws, Refused, BadCertificate, StepsUsedUp, Memory}
-use Rattle.jcard.specs.declared.run.Ending.{Ending}
-use Rattle.jcard.specs.declared.run.Ending.TheVariants as endings
-use Rattle.jc_words.specs.Values.{Word, Ref, Null, Unset}
-use Rattle.jcard.specs.Tagged.{RunEnd, Gave, Threw, UsedUp, IsStuck, ArithmeticException, runtime_call, first_frame}
-use Rattle.jcard.specs.PrivateRuns.{EndsAs}
+use Rattle.jc_alone.specs.Alone.{EndsAs, GivesWord, ThrowsArithmetic, UsesUp, alone_call}
+use Rattle.jc_alone.specs.declared.run.CodeEnd.{CodeEnd}
+use Rattle.jc_alone.specs.declared.run.CodeEnd.TheVariants as ends
+use Rattle.jc_machine.specs.Step.{CallEnd}
 use Rattle.jcard.specs.Eval.{SpellsCert, SpellsNone, HasFirstFault, RunEnds, RunGives, IsAnswer, tells_fault, tells_end}
 use Rattle.jcard.specs.PrivateEval.{answer_to}
 
 -- what each answer means
 abbrev Means : EvalAnswer → List ℕ → List ℕ → ℕ → Type 0
 Means (Value n) code bytes steps = RunGives code bytes steps n
-Means Throws code bytes steps = RunEnds code bytes steps (Threw ArithmeticException)
+Means Throws code bytes steps = RunEnds code bytes steps ThrowsArithmetic
 Means (Refused pc reason) code bytes steps = HasFirstFault code bytes pc reason
 Means BadCertificate code bytes steps = SpellsNone bytes
-Means StepsUsedUp code bytes steps = RunEnds code bytes steps UsedUp
+Means StepsUsedUp code bytes steps = RunEnds code bytes steps UsesUp
 Means Memory code bytes steps = ⊤
 
 -- an answer that comes only when it may is one for each of the directions
@@ -57,37 +56,44 @@ record CarriedRun (code bytes : List ℕ) : Type 0 where
   pub typing : Typing
   pub typed : IsTyping word_rules (word_method code) typing
 
-ends : (code bytes : List ℕ) (steps : ℕ) (g : CarriedRun code bytes) (end : RunEnd) → runtime_call (word_method code) g.typed.listing steps (first_frame (word_method code)) ≡ end → RunEnds code bytes steps end
-ends code bytes steps g end e = record { rows = g.rows; spelled = g.spelled; carried = g.carried; listing = g.typed.listing; whole = g.typed.whole; run = e }
+ends_so : (code bytes : List ℕ) (steps : ℕ) (g : CarriedRun code bytes) (IsEnd : CallEnd ⊤ → Type 0)
+    → IsEnd (alone_call g.typed.listing steps).ends → RunEnds code bytes steps IsEnd
+ends_so code bytes steps g IsEnd h = record {
+  rows = g.rows;
+  spelled = g.spelled;
+  carried = g.carried;
+  listing = g.typed.listing;
+  whole = g.typed.whole;
+  run = h;
+}
 
-answered : (code bytes : List ℕ) (steps : ℕ) (g : CarriedRun code bytes) (ending : Ending) (end : RunEnd)
-    → runtime_call (word_method code) g.typed.listing steps (first_frame (word_method code)) ≡ end → EndsAs ending end → Means (answer_to ending) code bytes steps
-answered code bytes steps g (endings.Gave word) (Gave (Word n)) e same = record { word = word; is = refl; ends = ends code bytes steps g (Gave (Word word)) (e ∙ ap (λ k. Gave (Word k)) (sym same)) }
-answered code bytes steps g (endings.Threw ArithmeticException) (Threw ArithmeticException) e same = ends code bytes steps g (Threw ArithmeticException) e
-answered code bytes steps g endings.UsedUp UsedUp e same = ends code bytes steps g UsedUp e
-answered code bytes steps g (endings.Gave word) (Gave (Ref object)) e same = elim same [ ]
-answered code bytes steps g (endings.Gave word) (Gave Null) e same = elim same [ ]
-answered code bytes steps g (endings.Gave word) (Gave Unset) e same = elim same [ ]
-answered code bytes steps g (endings.Gave word) (Threw exception) e same = elim same [ ]
-answered code bytes steps g (endings.Gave word) UsedUp e same = elim same [ ]
-answered code bytes steps g (endings.Gave word) IsStuck e same = elim same [ ]
-answered code bytes steps g (endings.Threw exception) (Gave value) e same = elim same [ ]
-answered code bytes steps g (endings.Threw exception) UsedUp e same = elim same [ ]
-answered code bytes steps g (endings.Threw exception) IsStuck e same = elim same [ ]
-answered code bytes steps g endings.UsedUp (Gave value) e same = elim same [ ]
-answered code bytes steps g endings.UsedUp (Threw exception) e same = elim same [ ]
-answered code bytes steps g endings.UsedUp IsStuck e same = elim same [ ]
+answered : (code bytes : List ℕ) (steps : ℕ) (g : CarriedRun code bytes) (end : CodeEnd)
+    → EndsAs end (alone_call g.typed.listing steps).ends → Means (answer_to end) code bytes steps
+answered code bytes steps g (ends.Gave word) h =
+    record { word = word; is = refl; ends = ends_so code bytes steps g (GivesWord word) h }
+answered code bytes steps g ends.Divided h = ends_so code bytes steps g ThrowsArithmetic h
+answered code bytes steps g ends.UsedUp h = ends_so code bytes steps g UsesUp h
 
-ending_tells : (ending : Ending) → tells_end (answer_to ending) ≡ true
-ending_tells (endings.Gave word) = refl
-ending_tells (endings.Threw ArithmeticException) = refl
-ending_tells endings.UsedUp = refl
+end_tells : (end : CodeEnd) → tells_end (answer_to end) ≡ true
+end_tells (ends.Gave word) = refl
+end_tells ends.Divided = refl
+end_tells ends.UsedUp = refl
 
 -- the end of a run of code that is carried
-pub for_ending : (code bytes : List ℕ) (steps : ℕ) (rows : List Row) (ending : Ending) → Spelled bytes rows → CertCarriesCode code rows → IsWellTyped code
-    → ((typing : Typing) → (t : IsTyping word_rules (word_method code) typing) → EndsAs ending (runtime_call (word_method code) t.listing steps (first_frame (word_method code))))
-    → IsAnswer (answer_to ending) code bytes steps
-for_ending code bytes steps rows ending spelled carried well so =
-    let ground : CarriedRun code bytes = record { rows = rows; spelled = spelled.spells; carried = carried; typing = well.typing; typed = well.typed } in
-    is_answer (answer_to ending) code bytes steps (answered code bytes steps ground ending _ refl (so well.typing well.typed)) (λ none m. absurd (none rows spelled.spells))
-    (λ others s no m. absurd (no (subst (CertCarriesCode code) (spelled.only others s) carried))) (λ others s is m. ending_tells ending)
+pub for_end : (code bytes : List ℕ) (steps : ℕ) (rows : List Row) (end : CodeEnd) → Spelled bytes rows
+    → CertCarriesCode code rows → IsWellTyped code
+    → ((typing : Typing) → (t : IsTyping word_rules (word_method code) typing)
+    → EndsAs end (alone_call t.listing steps).ends)
+    → IsAnswer (answer_to end) code bytes steps
+for_end code bytes steps rows end spelled carried well so =
+    let ground : CarriedRun code bytes = record {
+      rows = rows;
+      spelled = spelled.spells;
+      carried = carried;
+      typing = well.typing;
+      typed = well.typed;
+    } in
+    is_answer (answer_to end) code bytes steps (answered code bytes steps ground end (so well.typing well.typed))
+    (λ none m. absurd (none rows spelled.spells))
+    (λ others s no m. absurd (no (subst (CertCarriesCode code) (spelled.only others s) carried)))
+    (λ others s is m. end_tells end)

@@ -1,13 +1,3 @@
-mod Points
-mod Taking
-mod Effects
-mod Simulation
-mod Moves
-mod Branching
-mod Stepping
-mod Frames
-mod Cases
-mod Running
 mod Evaluating
 mod Lines
 mod Reading

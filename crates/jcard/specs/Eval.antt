@@ -1,19 +1,19 @@
 -- What `eval` answers: the bad certificate first, then the first fault, then the end of the defensive machine's run
 -- with the given steps.
-use Rattle.std.specs.Prelude.{◌≡◌, ◌≢◌, ℕ, ℤ, List, Bool, true, false}
+use Rattle.std.specs.Prelude.{⊤, ◌≡◌, ◌≢◌, ℕ, ℤ, List, Bool, true, false}
 use Rattle.jc_base.specs.declared.reason.Reason.{Reason}
 use Rattle.jc_cert.specs.Cert.{Row, IsCert}
 use Rattle.jc_cert.specs.Writing.{spelling}
 use Rattle.jc_code.specs.Instructions.{word_instr_at}
 use Rattle.jc_code.specs.Listing.{PlacedInstr, IsListing}
-use Rattle.jc_check.specs.Method.{word_method, states_of}
+use Rattle.jc_alone.specs.Alone.{GivesWord, ThrowsArithmetic, UsesUp, alone_call}
+use Rattle.jc_check.specs.Method.{states_of}
 use Rattle.jc_check.specs.Carried.{CertCarriesCode}
 use Rattle.jc_check.specs.FirstFault.{fault_at, IsFirstFaultOf}
 use Rattle.jcard.specs.declared.answer.EvalAnswer.{EvalAnswer}
 use Rattle.jcard.specs.declared.answer.EvalAnswer.TheVariants.{Value, Throws, Refused, BadCertificate, StepsUsedUp, Memory}
 use Rattle.jc_words.specs.Shorts.{short}
-use Rattle.jcard.specs.Tagged as machine
-use Rattle.jc_words.specs.Values.{Word}
+use Rattle.jc_machine.specs.Step.{CallEnd}
 
 -- the bytes spell a certificate of these rows
 pub record SpellsCert (bytes : List ℕ) (rows : List Row) : Type 0 where
@@ -31,19 +31,19 @@ pub record HasFirstFault (code bytes : List ℕ) (pc : ℕ) (reason : Reason) : 
   pub first : IsFirstFaultOf code (states_of rows) (fault_at pc reason)
 
 -- the certificate that the bytes spell carries the code, and the defensive machine's run of it with so many steps ends so
-pub record RunEnds (code bytes : List ℕ) (steps : ℕ) (end : machine.RunEnd) : Type 0 where
+pub record RunEnds (code bytes : List ℕ) (steps : ℕ) (IsEnd : CallEnd ⊤ → Type 0) : Type 0 where
   pub rows : List Row
   pub spelled : SpellsCert bytes rows
   pub carried : CertCarriesCode code rows
   pub listing : List PlacedInstr
   pub whole : IsListing word_instr_at code listing
-  pub run : machine.runtime_call (word_method code) listing steps (machine.first_frame (word_method code)) ≡ end
+  pub run : IsEnd (alone_call listing steps).ends
 
 -- the run gives a word, which is the short n
 pub record RunGives (code bytes : List ℕ) (steps : ℕ) (n : ℤ) : Type 0 where
   pub word : ℕ
   pub is : n ≡ short word
-  pub ends : RunEnds code bytes steps (machine.Gave (Word word))
+  pub ends : RunEnds code bytes steps (GivesWord word)
 
 -- an answer tells a fault of the code
 abbrev pub tells_fault : EvalAnswer → Bool
@@ -69,8 +69,8 @@ pub record IsAnswer (answer : EvalAnswer) (code bytes : List ℕ) (steps : ℕ) 
   pub bad_certificate : answer ≡ BadCertificate → SpellsNone bytes
   pub refused : (pc : ℕ) (reason : Reason) → answer ≡ Refused pc reason → HasFirstFault code bytes pc reason
   pub value : (n : ℤ) → answer ≡ Value n → RunGives code bytes steps n
-  pub throws : answer ≡ Throws → RunEnds code bytes steps (machine.Threw machine.ArithmeticException)
-  pub steps_used_up : answer ≡ StepsUsedUp → RunEnds code bytes steps machine.UsedUp
+  pub throws : answer ≡ Throws → RunEnds code bytes steps ThrowsArithmetic
+  pub steps_used_up : answer ≡ StepsUsedUp → RunEnds code bytes steps UsesUp
   -- and when each comes, unless memory is out: bytes that spell none, a certificate that doesn't carry the code,
   -- and one that does
   pub unspelled : SpellsNone bytes → answer ≢ Memory → answer ≡ BadCertificate

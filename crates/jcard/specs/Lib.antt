@@ -9,8 +9,3 @@ pub mod Verify
 pub mod Files
 pub mod Saying
 pub mod PrivateSaying
-pub mod Tagged
-pub mod PrivateWords
-pub mod PrivateAgree
-pub mod PrivateRuns
-pub mod PrivateEffect

@@ -1,12 +1,11 @@
--- Private. The answer to an ending of the runner.
+-- Private. The answer to how a run ends.
 use Rattle.jcard.specs.declared.answer.EvalAnswer.{EvalAnswer}
 use Rattle.jcard.specs.declared.answer.EvalAnswer.TheVariants.{Value, Throws, StepsUsedUp}
-use Rattle.jcard.specs.declared.run.Ending.{Ending}
-use Rattle.jcard.specs.declared.run.Ending.TheVariants as endings
-use Rattle.jcard.specs.declared.exception.Exception.TheVariants.{ArithmeticException}
+use Rattle.jc_alone.specs.declared.run.CodeEnd.{CodeEnd}
+use Rattle.jc_alone.specs.declared.run.CodeEnd.TheVariants as ends
 use Rattle.jc_words.specs.Shorts.{short}
 
-abbrev pub answer_to : Ending → EvalAnswer
-answer_to (endings.Gave word) = Value (short word)
-answer_to (endings.Threw ArithmeticException) = Throws
-answer_to endings.UsedUp = StepsUsedUp
+abbrev pub answer_to : CodeEnd → EvalAnswer
+answer_to (ends.Gave word) = Value (short word)
+answer_to ends.Divided = Throws
+answer_to ends.UsedUp = StepsUsedUp

@@ -5,19 +5,18 @@ ghost use Rattle.jcard.specs.Eval.{IsAnswer};
 ghost use Rattle.jcard.specs.PrivateEval.{answer_to};
 
 use crate::answer::EvalAnswer;
-use crate::exception::Exception;
-use crate::run::{Ending, run};
+use jc_alone::{CodeEnd, run_code};
 use jc_base::LoadFault;
 use jc_check::{WordFault, check_words};
 use std::alloc::Global;
 
-fn ending_answer(ending: Ending) -> EvalAnswer
-    ensures { result ≡ answer_to ending }
+fn ending_answer(end: CodeEnd) -> EvalAnswer
+    ensures { result ≡ answer_to end }
 {
-    match ending {
-        Ending::Gave(word) => EvalAnswer::Value(word.cast_signed()),
-        Ending::Threw(Exception::ArithmeticException) => EvalAnswer::Throws,
-        Ending::UsedUp => EvalAnswer::StepsUsedUp,
+    match end {
+        CodeEnd::Gave(word) => EvalAnswer::Value(word.cast_signed()),
+        CodeEnd::Divided => EvalAnswer::Throws,
+        CodeEnd::UsedUp => EvalAnswer::StepsUsedUp,
     }
 }
 
@@ -34,7 +33,7 @@ pub fn eval(alloc: Global, code: &[u8], cert: &[u8], steps: u32) -> EvalAnswer
         Err(_) => unreachable!(),
     };
     match check_words(alloc, code, &cert) {
-        Ok(checked) => ending_answer(run(&checked, steps)),
+        Ok(checked) => ending_answer(run_code(&checked, steps)),
         Err(WordFault::Refused { pc, reason }) => EvalAnswer::Refused { pc, reason },
         Err(WordFault::Memory) => EvalAnswer::Memory,
     }

@@ -3,16 +3,11 @@
 
 mod answer;
 mod eval;
-mod exception;
 mod files;
 mod folders;
-mod frame;
 mod host_files;
 mod job;
 mod line;
-mod opcodes;
-mod perform;
-mod run;
 mod saying;
 mod texts;
 mod verify_folders;

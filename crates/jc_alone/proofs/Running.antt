@@ -1,5 +1,5 @@
 -- A run of code alone on words goes along with the defensive machine's.
-use Rattle.std.proofs.Common.{◌≡◌, ℕ, zero, suc, ◌+◌, ◌-◌, ◌<◌, ◌≤◌, List, [], ◌∷◌, length, drop, take, reverse, Option}
+use Rattle.std.proofs.Common.{◌≡◌, ℕ, zero, suc, ◌+◌, ◌<◌, List, [], ◌∷◌, length, drop, Option}
 use Rattle.std.proofs.Common.{Some, None, Bool, true, false, if◌then◌else◌, Result, Ok, Err, IfSome, nat_lt, refl, sym, ap, ◌∙◌, subst}
 use Rattle.std.proofs.Common.{arith}
 use Rattle.std.proofs.Math.Seq.{drop-cons}
@@ -10,16 +10,15 @@ use Rattle.jc_base.specs.Cursor.{Read}
 use Rattle.jc_base.specs.Results.{◌>>=◌}
 use Rattle.jc_check.specs.Method.{word_max_stack, word_method}
 use Rattle.jc_check.specs.Rules.{word_rules}
-use Rattle.jc_check.specs.Typing.{IsTyping, IsWellTyped, Typing}
+use Rattle.jc_check.specs.Typing.{IsTyping, Typing}
 use Rattle.jc_code.specs.Decoding.{next_constant, next_word_operation}
 use Rattle.jc_code.specs.Instructions.{instr_of, word_instr_at}
-use Rattle.jc_code.specs.Listing.{PlacedInstr, placed_at}
+use Rattle.jc_code.specs.Listing.{PlacedInstr}
 use Rattle.jc_code.specs.declared.fault.CodeFault.{CodeFault}
 use Rattle.jc_code.specs.declared.instr.BinaryOperator.{BinaryOperator}
 use Rattle.jc_code.specs.declared.instr.Instr.{Instr}
 use Rattle.jc_code.specs.declared.instr.Operation.{Operation}
 use Rattle.jc_code.specs.declared.instr.Operation.TheVariants as operations
-use Rattle.jc_code.specs.declared.instr.Shuffle.TheVariants.{Pop, Duplicate, Swap}
 use Rattle.jc_code.specs.declared.instr.When.TheVariants.{Always, Zero, Compare}
 use Rattle.jc_code.specs.declared.instr.WordOperation.{WordOperation}
 use Rattle.jc_code.specs.declared.instr.WordOperation.TheVariants as ops
@@ -31,14 +30,13 @@ use Rattle.jc_machine.specs.Going.{Here, check, moved, on_some, with_top}
 use Rattle.jc_machine.specs.Machine.{Frame, Machine, Next, Outcome, Stepped, Stuck, Throws, Ends}
 use Rattle.jc_machine.specs.Returns.{returns_to, returns_value}
 use Rattle.jc_machine.specs.Runtime.{arithmetic_exception}
-use Rattle.jc_machine.specs.Step.{CallEnd, Called, continued}
+use Rattle.jc_machine.specs.Step.{CallEnd, continued}
 use Rattle.jc_machine.specs.Words.{act_word}
 use Rattle.jc_words.specs.Shorts.{binary_of}
-use Rattle.jc_words.specs.Values.{TaggedValue, Word}
+use Rattle.jc_words.specs.Values.{Word}
 use Rattle.jc_alone.specs.Alone.{EndsAs, act_alone, alone_call, alone_step, alone_steps, first_machine, here_alone}
 use Rattle.jc_alone.specs.PrivateRuns.{end_of, is_return}
 use Rattle.jc_alone.specs.TypedCode.{IsTypedAlone, StandsAt, StepsTyped}
-use Rattle.jc_alone.specs.declared.run.CodeEnd.{CodeEnd}
 use Rattle.jc_alone.specs.declared.run.CodeEnd.TheVariants as ends
 
 -- an operation on words that was read, as any operation

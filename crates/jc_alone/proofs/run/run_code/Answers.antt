@@ -1,7 +1,5 @@
 use Rattle.std.proofs.Common.{List, ℕ, ◌≡◌, subst, sym, slice_index}
-use Rattle.jc_check.specs.Method.{word_max_stack, word_method}
-use Rattle.jc_check.specs.Rules.{word_rules}
-use Rattle.jc_check.specs.Typing.{IsTyping, Typing}
+use Rattle.jc_check.specs.Method.{word_max_stack}
 use Rattle.jc_code.specs.Instructions.{word_instr_at}
 use Rattle.jc_loop.specs.Loop.{MayRun, Ran, ran}
 use Rattle.jc_loop.specs.Words.{frame_at}

@@ -289,9 +289,12 @@ module _ (code : List ℕ) (typing : Typing) (t : IsTyping word_rules (word_meth
   may_run : (left : ℕ) (w : WordFrame) (end : CallEnd ⊤) → GoesWith w left end → MayRun code word_max_stack left w
   unfolding MayRun
   may_run zero w end g = within_code w zero end g
-  may_run (suc n) w end g =
-      (within_code w (suc n) end g, ready w (suc n) end g, each (next_frame code w) (λ v. may_run n v end)
-      (behind w n end g))
+  may_run (suc n) w end g = (
+    within_code w (suc n) end g,
+    ready w (suc n) end g,
+    each (next_frame code w) (λ v. may_run n v end)
+        (behind w n end g),
+  )
     where
       each : (o : Option WordFrame) → ((v : WordFrame) → GoesWith v n end → MayRun code word_max_stack n v)
           → IfSome o (λ v. GoesWith v n end) → IfSome o (MayRun code word_max_stack n)

@@ -13,8 +13,8 @@ mod examples;
 mod run;
 
 pub use examples::{code_runs, stuck_code_runs};
-pub use run::{CodeEnd, run_code};
 use jc_code::listing_laws;
+pub use run::{CodeEnd, run_code};
 
 /// Code alone that is well typed is type-safe. The machine is well typed where it begins. Where it is well typed, an
 /// instruction of the code stands at its pc, and a step isn't stuck: it goes on well typed, with nothing changed but

@@ -1,5 +1,5 @@
 -- What eval answers, in each direction.
-use Rattle.std.proofs.Common.{◌≡◌, ℕ, List, true, refl, sym, ap, ◌∙◌, subst}
+use Rattle.std.proofs.Common.{◌≡◌, ℕ, List, true, refl, subst}
 use Rattle.std.specs.Prelude.{⊤, ◌≢◌}
 use Rattle.jc_check.specs.Method.{word_method}
 use Rattle.jc_check.specs.Rules.{word_rules}

@@ -1,6 +1,16 @@
-//! Tests of what a machine runs on, and no program shows yet. They stand apart from the libraries, so that these are proved
-//! without them.
+//! Tests of what a machine runs on, and of the interpreter, which no program uses yet. They stand apart from the libraries,
+//! so that these are proved without them.
 #![tactic(auto)]
 
 #[cfg(test)]
+mod arrays;
+#[cfg(test)]
+mod fields;
+#[cfg(test)]
+mod harness;
+#[cfg(test)]
 mod loaded;
+#[cfg(test)]
+mod runtime_objects;
+#[cfg(test)]
+mod words;

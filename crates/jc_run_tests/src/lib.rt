@@ -5,6 +5,10 @@
 #[cfg(test)]
 mod arrays;
 #[cfg(test)]
+mod calls;
+#[cfg(test)]
+mod casts;
+#[cfg(test)]
 mod fields;
 #[cfg(test)]
 mod harness;

@@ -9,12 +9,18 @@ mod calls;
 #[cfg(test)]
 mod casts;
 #[cfg(test)]
+mod contexts;
+#[cfg(test)]
 mod fields;
 #[cfg(test)]
 mod harness;
 #[cfg(test)]
 mod loaded;
 #[cfg(test)]
+mod references;
+#[cfg(test)]
 mod runtime_objects;
+#[cfg(test)]
+mod throws;
 #[cfg(test)]
 mod words;

@@ -114,7 +114,7 @@ pub(crate) fn new_card(alloc: Global, packages: &[&str], limits: Limits) -> Resu
     })
 }
 
-/// The frame of a call from outside: an instance of the method's package is active.
+/// The frame of a call from outside: the one instance of the method's package is active, and has the package's number.
 fn first_header(place: CodePlace) -> FrameHeader {
     FrameHeader {
         method: place,
@@ -122,7 +122,7 @@ fn first_header(place: CodePlace) -> FrameHeader {
         depth: 0,
         active: Owner {
             context: place.package,
-            instance: 1,
+            instance: place.package,
         },
         previous: None,
     }
@@ -218,21 +218,66 @@ fn read_case(alloc: Global, line: &str) -> Result<Case, Fail> {
             package: package.parse::<u8>()?,
             offset: offset.parse::<u16>()?,
         },
-        arguments: read_arguments(alloc, &words[3..])?,
+        arguments: read_arguments(alloc, words.get(3..).ok_or("a line has arguments")?)?,
         end: read_end(end)?,
     })
 }
 
-/// Makes the calls of a table on one card, in their order. The answer is the first line whose call ends otherwise, and
-/// how it ended.
-pub(crate) fn first_wrong(alloc: Global, packages: &[&str], table: &str) -> Result<String, Fail> {
-    let mut card = new_card(alloc, packages, AMPLE)?;
+/// Makes the calls of a table on a card, in their order. The answer is the first line whose call ends otherwise, and how
+/// it ended.
+pub(crate) fn first_wrong_of<N: Natives>(
+    alloc: Global,
+    card: &mut Card,
+    natives: &mut N,
+    table: &str,
+) -> Result<String, Fail> {
     for line in table.trim().lines() {
         let case = read_case(alloc, line)?;
-        let end = card.call(&mut IdleNatives, case.place, &case.arguments, AMPLE.steps)?;
+        let end = card.call(natives, case.place, &case.arguments, AMPLE.steps)?;
         if end != case.end {
             return Ok(format!(in alloc; "{line}, but it came to {end:?}")?);
         }
     }
     Ok(String::new(alloc))
+}
+
+/// The same on a new card, with native members that do nothing.
+pub(crate) fn first_wrong(alloc: Global, packages: &[&str], table: &str) -> Result<String, Fail> {
+    let mut card = new_card(alloc, packages, AMPLE)?;
+    first_wrong_of(alloc, &mut card, &mut IdleNatives, table)
+}
+
+/// Limits, as a table says them: frames, words of frames, steps.
+fn read_limits(alloc: Global, text: &str) -> Result<Limits, Fail> {
+    let words: Vec<&str> = text.split_whitespace().collect(alloc)?;
+    Ok(Limits {
+        frames: words.get(0).ok_or("the most frames")?.parse::<u8>()?,
+        frame_words: words.get(1).ok_or("the most words")?.parse::<u16>()?,
+        steps: words.get(2).ok_or("the most steps")?.parse::<u32>()?,
+    })
+}
+
+/// Makes the call of a line within the limits in front of it, on a card of its own. The answer is whether it ends as the
+/// line says.
+fn ends_within(alloc: Global, package: &str, line: &str) -> Result<bool, Fail> {
+    let (limits, call) = line.split_once(" | ").ok_or("a line has limits")?;
+    let limits = read_limits(alloc, limits)?;
+    let case = read_case(alloc, call)?;
+    let mut card = new_card(alloc, &[package], limits)?;
+    let end = card.call(&mut IdleNatives, case.place, &case.arguments, limits.steps)?;
+    Ok(end == case.end)
+}
+
+/// Makes the calls of a table, each on a card of its own. The answer is the first line whose call ends otherwise.
+pub(crate) fn first_wrong_within<'a>(
+    alloc: Global,
+    package: &str,
+    table: &'a str,
+) -> Result<&'a str, Fail> {
+    for line in table.trim().lines() {
+        if !ends_within(alloc, package, line)? {
+            return Ok(line);
+        }
+    }
+    Ok("")
 }

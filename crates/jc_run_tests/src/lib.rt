@@ -15,12 +15,18 @@ mod fields;
 #[cfg(test)]
 mod harness;
 #[cfg(test)]
+mod limits;
+#[cfg(test)]
 mod loaded;
+#[cfg(test)]
+mod natives;
 #[cfg(test)]
 mod references;
 #[cfg(test)]
 mod runtime_objects;
 #[cfg(test)]
 mod throws;
+#[cfg(test)]
+mod watcher;
 #[cfg(test)]
 mod words;

@@ -53,6 +53,8 @@ pub(crate) struct Card {
     pub(crate) world: World,
     pub(crate) program: Program,
     pub(crate) machine: WordMachine,
+    /// The context of the applet that is selected, if one is.
+    pub(crate) selected: Option<u8>,
 }
 
 /// A case of a table: the method that is called, what it is called with, and how the call must end.
@@ -111,6 +113,7 @@ pub(crate) fn new_card(alloc: Global, packages: &[&str], limits: Limits) -> Resu
             frames,
             statics,
         },
+        selected: None,
     })
 }
 
@@ -144,10 +147,11 @@ fn steps<N: Natives>(
     natives: &mut N,
     world: &World,
     program: &Program,
+    selected: Option<u8>,
     most: u32,
 ) -> End {
     for _ in 0..most {
-        match machine.step(natives, world, program, None) {
+        match machine.step(natives, world, program, selected) {
             StepEnd::GoesOn => {}
             StepEnd::Throws(object) => return End::Threw(object),
             StepEnd::Gives(Some(word)) => return End::Gave(word.cast_signed()),
@@ -178,7 +182,14 @@ impl Card {
         {
             return Ok(End::UsedUp);
         }
-        let end = steps(&mut self.machine, natives, &self.world, &self.program, most);
+        let end = steps(
+            &mut self.machine,
+            natives,
+            &self.world,
+            &self.program,
+            self.selected,
+            most,
+        );
         self.machine.frames.clear();
         Ok(end)
     }
@@ -223,8 +234,8 @@ fn read_case(alloc: Global, line: &str) -> Result<Case, Fail> {
     })
 }
 
-/// Makes the calls of a table on a card, in their order. The answer is the first line whose call ends otherwise, and how
-/// it ended.
+/// Makes the calls of a table on a card, in their order. The answer is the first line whose call ends otherwise, and
+/// how it ended.
 pub(crate) fn first_wrong_of<N: Natives>(
     alloc: Global,
     card: &mut Card,
@@ -251,14 +262,14 @@ pub(crate) fn first_wrong(alloc: Global, packages: &[&str], table: &str) -> Resu
 fn read_limits(alloc: Global, text: &str) -> Result<Limits, Fail> {
     let words: Vec<&str> = text.split_whitespace().collect(alloc)?;
     Ok(Limits {
-        frames: words.get(0).ok_or("the most frames")?.parse::<u8>()?,
+        frames: words.first().ok_or("the most frames")?.parse::<u8>()?,
         frame_words: words.get(1).ok_or("the most words")?.parse::<u16>()?,
         steps: words.get(2).ok_or("the most steps")?.parse::<u32>()?,
     })
 }
 
-/// Makes the call of a line within the limits in front of it, on a card of its own. The answer is whether it ends as the
-/// line says.
+/// Makes the call of a line within the limits in front of it, on a card of its own. The answer is whether it ends as
+/// the line says.
 fn ends_within(alloc: Global, package: &str, line: &str) -> Result<bool, Fail> {
     let (limits, call) = line.split_once(" | ").ok_or("a line has limits")?;
     let limits = read_limits(alloc, limits)?;

@@ -1,5 +1,5 @@
-//! Tests of what a machine runs on, and of the interpreter, which no program uses yet. They stand apart from the libraries,
-//! so that these are proved without them.
+//! Tests of what a machine runs on, and of the interpreter, which no program uses yet. They stand apart from the
+//! libraries, so that these are proved without them.
 #![tactic(auto)]
 
 #[cfg(test)]

@@ -130,6 +130,19 @@ short 2 95 46 1 3: 259
 select 2 106 46: throws 7
 ";
 
+/// Cases where the server's applet is selected: it makes an array that is cleared on deselect, and uses it.
+const SELECTED: &str = "
+transient 1 170 3 2: 50
+set_short 1 178 50 0 513: 2
+byte 1 187 50 0: 2
+";
+
+/// Cases where it isn't.
+const DESELECTED: &str = "
+byte 1 187 50 0: throws 7
+byte 1 187 48 1: 2
+";
+
 /// The instance of the server's applet, and that of the client's.
 const SERVER_OWNER: Owner = Owner {
     context: 1,
@@ -179,6 +192,12 @@ fn native_members_give_throw_and_call(rt: HostRuntime) -> Result<(), Fail> {
     let client = install(&mut card, &mut runtime, CLIENT_OWNER, 2, CLIENT_INSTALL)?;
     assert_eq!(rt; client, End::Gave(47));
     let wrong = first_wrong_of(rt.alloc(), &mut card, &mut runtime, ROWS)?;
+    assert_eq!(rt; wrong.as_str(), "");
+    card.selected = Some(1);
+    let wrong = first_wrong_of(rt.alloc(), &mut card, &mut runtime, SELECTED)?;
+    assert_eq!(rt; wrong.as_str(), "");
+    card.selected = Some(2);
+    let wrong = first_wrong_of(rt.alloc(), &mut card, &mut runtime, DESELECTED)?;
     assert_eq!(rt; wrong.as_str(), "");
     Ok(())
 }

@@ -5,7 +5,8 @@ use jc_machine::{IdleNatives, Natives, WordCall, WordOutcome};
 use jc_names::Owner;
 use jc_store::Store;
 
-/// What a native member was asked: its number, how many arguments it had, the first and the last of these, and the owners.
+/// What a native member was asked: its number, how many arguments it had, the first and the last of these, and the
+/// owners.
 #[derive(Clone, Copy, Debug, PartialEq, Eq)]
 pub(crate) struct Asked {
     pub(crate) member: u16,

@@ -61,8 +61,8 @@ const CASTS: &str = "\
     001A000700000000000800FC001600060000000000080104001A0007000000000008FFFFFFFFFFFFFFFFFFFFFFFFFFFFFFFF0568000006\
     6800040A6800068000";
 
-/// The cases. Objects 46 to 48 are an A, a B and a C, 49 to 51 arrays of booleans, bytes and shorts, and 52 to 55 arrays
-/// of A, B, J and Object.
+/// The cases. Objects 46 to 48 are an A, a B and a C, 49 to 51 arrays of booleans, bytes and shorts, and 52 to 55
+/// arrays of A, B, J and Object.
 const ROWS: &str = "
 new_a 1 1: 46
 new_b 1 7: 47

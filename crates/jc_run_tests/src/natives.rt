@@ -132,15 +132,14 @@ select 2 106 46: throws 7
 
 /// Cases where the server's applet is selected: it makes an array that is cleared on deselect, and uses it.
 const SELECTED: &str = "
-transient 1 170 3 2: 50
-set_short 1 178 50 0 513: 2
-byte 1 187 50 0: 2
+transient 1 170 3 2: 48
+set_short 1 178 48 0 513: 2
+byte 1 187 48 0: 2
 ";
 
 /// Cases where it isn't.
 const DESELECTED: &str = "
-byte 1 187 50 0: throws 7
-byte 1 187 48 1: 2
+byte 1 187 48 0: throws 7
 ";
 
 /// The instance of the server's applet, and that of the client's.
@@ -180,24 +179,53 @@ fn install(
     Ok(end)
 }
 
+/// A card on which both applets are installed, as objects 46 and 47.
+fn installed(alloc: Global, runtime: &mut Runtime) -> Result<Card, Fail> {
+    let mut card = new_card(alloc, &[SERVER, CLIENT], AMPLE)?;
+    let server = install(&mut card, runtime, SERVER_OWNER, 1, SERVER_INSTALL)?;
+    let client = install(&mut card, runtime, CLIENT_OWNER, 2, CLIENT_INSTALL)?;
+    if server != End::Gave(46) || client != End::Gave(47) {
+        return Err("both applets are installed".into());
+    }
+    Ok(card)
+}
+
+/// The first line whose call ends otherwise, of a table, where the applet of a context is selected.
+fn first_wrong_selected(
+    alloc: Global,
+    card: &mut Card,
+    runtime: &mut Runtime,
+    selected: u8,
+    table: &str,
+) -> Result<String, Fail> {
+    card.selected = Some(selected);
+    first_wrong_of(alloc, card, runtime, table)
+}
+
+#[test]
+fn no_applet_registers_outside_an_install(rt: HostRuntime) -> Result<(), Fail> {
+    let mut card = new_card(rt.alloc(), &[SERVER, CLIENT], AMPLE)?;
+    let end = card.call(&mut Runtime::new(), SERVER_INSTALL, &[], AMPLE.steps)?;
+    assert_eq!(rt; end, End::Threw(9));
+    Ok(())
+}
+
 #[test]
 fn native_members_give_throw_and_call(rt: HostRuntime) -> Result<(), Fail> {
-    let mut card = new_card(rt.alloc(), &[SERVER, CLIENT], AMPLE)?;
     let mut runtime = Runtime::new();
-    let refused = card.call(&mut runtime, SERVER_INSTALL, &[], AMPLE.steps)?;
-    assert_eq!(rt; refused, End::Threw(9)); // nothing is being installed
-    let mut card = new_card(rt.alloc(), &[SERVER, CLIENT], AMPLE)?;
-    let server = install(&mut card, &mut runtime, SERVER_OWNER, 1, SERVER_INSTALL)?;
-    assert_eq!(rt; server, End::Gave(46));
-    let client = install(&mut card, &mut runtime, CLIENT_OWNER, 2, CLIENT_INSTALL)?;
-    assert_eq!(rt; client, End::Gave(47));
+    let mut card = installed(rt.alloc(), &mut runtime)?;
     let wrong = first_wrong_of(rt.alloc(), &mut card, &mut runtime, ROWS)?;
     assert_eq!(rt; wrong.as_str(), "");
-    card.selected = Some(1);
-    let wrong = first_wrong_of(rt.alloc(), &mut card, &mut runtime, SELECTED)?;
+    Ok(())
+}
+
+#[test]
+fn an_array_is_cleared_on_deselect(rt: HostRuntime) -> Result<(), Fail> {
+    let mut runtime = Runtime::new();
+    let mut card = installed(rt.alloc(), &mut runtime)?;
+    let wrong = first_wrong_selected(rt.alloc(), &mut card, &mut runtime, 1, SELECTED)?;
     assert_eq!(rt; wrong.as_str(), "");
-    card.selected = Some(2);
-    let wrong = first_wrong_of(rt.alloc(), &mut card, &mut runtime, DESELECTED)?;
+    let wrong = first_wrong_selected(rt.alloc(), &mut card, &mut runtime, 2, DESELECTED)?;
     assert_eq!(rt; wrong.as_str(), "");
     Ok(())
 }

@@ -33,7 +33,7 @@ get_mapped cells (g ∷ headers) (suc n) h e = get_mapped cells headers n h e
 
 -- ---- words put into the components of one object, one behind the other
 
-put_all : (words cells : List ℕ) (index end : ℕ) (headers : List Header) (number : ℕ) (h : Header) → AreLaid 0 headers end → slice_get headers number ≡ Some h → index + length words ≤ h.len
+pub put_all : (words cells : List ℕ) (index end : ℕ) (headers : List Header) (number : ℕ) (h : Header) → AreLaid 0 headers end → slice_get headers number ≡ Some h → index + length words ≤ h.len
     → objects_in (sets cells (h.start + index) words) headers ≡ set (objects_in cells headers) number (made_of h (sets (object_in cells h).cells index words))
 put_all [] cells index end headers number h laid at within = sym (set_back (objects_in cells headers) number (object_in cells h) (get_mapped cells headers number h at))
 put_all (word ∷ words) cells index end headers number h laid at within =
@@ -47,7 +47,7 @@ put_all (word ∷ words) cells index end headers number h laid at within =
     ∙ set_twice (objects_in cells headers) number (with_cell (object_in cells h) index word) (made_of h (sets (object_in now h).cells (suc index) words))
     ∙ ap (λ own_cells. set (objects_in cells headers) number (made_of h (sets own_cells (suc index) words))) own
 
-dropped_past : (words cells : List ℕ) (place end : ℕ) → place + length words ≤ end → drop end (sets cells place words) ≡ drop end cells
+pub dropped_past : (words cells : List ℕ) (place end : ℕ) → place + length words ≤ end → drop end (sets cells place words) ≡ drop end cells
 dropped_past [] cells place end le = refl
 dropped_past (word ∷ words) cells place end le = dropped_past words (set cells place word) (suc place) end (omega (arith, le)) ∙ drop-set-lt end cells place word (omega (arith, le))
 

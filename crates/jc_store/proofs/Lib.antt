@@ -3,3 +3,4 @@ mod Making
 mod Held
 mod Blanking
 mod Rows
+mod Blocks

@@ -10,7 +10,7 @@ pub ends_behind : (start end : ℕ) (headers : List Header) → AreLaid start he
 ends_behind start end [] laid = omega (arith, laid)
 ends_behind start end (h ∷ headers) laid = let rest = ends_behind (start + h.len) end headers laid.1 in omega (arith, rest)
 
-range_length : (cells : List ℕ) (start len : ℕ) → start + len ≤ length cells → length (slice_range cells start (start + len)) ≡ len
+pub range_length : (cells : List ℕ) (start len : ℕ) → start + len ≤ length cells → length (slice_range cells start (start + len)) ≡ len
 range_length cells start len within =
     let left : length (drop start cells) ≡ length cells - start = length-drop start cells in
     let is : start + len - start ≡ len = omega arith in

@@ -134,7 +134,7 @@ fast_there (Some Deselect) owner context stays is = absurd (stays refl)
 
 -- ---- the rows of an object, in a store
 
-abbrev store_of : Heap ℕ → List ℕ → ℕ → ℕ → Store
+abbrev pub store_of : Heap ℕ → List ℕ → ℕ → ℕ → Store
 store_of objects classes most_objects most_cells =
     record { objects = objects; classes = classes; most_objects = most_objects; most_cells = most_cells }
 

@@ -1,3 +1,4 @@
 pub mod Heap
 pub mod Store
+pub mod Blocks
 pub mod PrivateLaid

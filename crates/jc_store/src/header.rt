@@ -1,7 +1,7 @@
 //! What is kept of each object beside its components.
 
-ghost use Rattle.std.specs.Prelude.{◌≡◌, ◌+◌, ◌-◌, ◌<◌, ◌≤◌, Some, length, slice_get};
-ghost use Rattle.jc_store.specs.PrivateLaid.{fast_in};
+ghost use Rattle.std.specs.Prelude.{◌≡◌, ◌+◌, ◌-◌, ◌<◌, ◌≤◌, Some, length, slice_get, unwrap_or};
+ghost use Rattle.jc_store.specs.PrivateLaid.{fast_in, null_head};
 
 use crate::kind::{ClearingEvent, Kind};
 use jc_names::Owner;
@@ -55,6 +55,17 @@ pub(crate) fn head_at(heads: &[Head], number: u16) -> Head
     ensures { slice_get heads.now number ≡ Some result }
 {
     heads[usize::from(number)]
+}
+
+/// The head with a number; that of null where there is none.
+#[inline]
+pub(crate) fn head_or_null(heads: &[Head], number: u16) -> Head
+    ensures { result ≡ unwrap_or (slice_get heads.now number) null_head }
+{
+    match heads.get(usize::from(number)) {
+        Some(head) => *head,
+        None => Head::NULL,
+    }
 }
 
 /// The rest of what is kept of the object with a number.

@@ -1,6 +1,7 @@
 //! The objects on a card: who owns them, what they are, and their cells.
 #![tactic(auto)]
 
+mod block;
 mod clearing;
 mod header;
 mod kind;

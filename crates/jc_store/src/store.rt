@@ -1,12 +1,14 @@
 //! The store: the objects on a card.
 
-ghost use Rattle.std.specs.Prelude.{◌≡◌, ◌<◌, ℕ, true, false, [], Some, length, slice_get, IfOk, IfSome, IfNone};
+ghost use Rattle.std.specs.Prelude.{◌≡◌, ◌<◌, ℕ, true, false, [], Some, length, replicate, slice_get, IfOk, IfSome, IfNone};
+ghost use Rattle.jc_store.specs.Blocks.{HasCells, components_of, low_bytes, with_cells};
 ghost use Rattle.jc_store.specs.Heap.{Object, cells_in, cleared, next_number, object_at, with_cell, with_object};
 ghost use Rattle.jc_store.specs.Store.{HasCell, IsFull, IsOwn, IsReference, IsThere, class_number_at, fresh, with_made, with_objects};
 ghost use Rattle.jc_store.specs.PrivateLaid.{HasRoom};
 
+use crate::block::{copy_part, fill_part, part_of, put_part};
 use crate::clearing::clear_objects;
-use crate::header::{Head, Rest, cell_at, fast_of, head_at, rest_at};
+use crate::header::{Head, Rest, cell_at, fast_of, head_at, head_or_null, rest_at};
 use crate::kind::{ClearingEvent, Kind};
 use jc_names::Owner;
 use std::alloc::{AllocError, Global};
@@ -175,6 +177,62 @@ impl Store {
     {
         let head = head_at(&self.heads, number);
         self.cells[usize::from(head.start) + usize::from(index)] = word;
+    }
+
+    /// The components of an object; none where there is no object with the number.
+    #[inline]
+    pub fn components(&self, number: u16) -> &[u16]
+        ensures { result.now ≡ components_of self.now.objects number }
+    {
+        let head = head_or_null(&self.heads, number);
+        part_of(&self.cells, head)
+    }
+
+    /// Puts a word into so many components of an object, from an index on.
+    #[inline]
+    pub fn fill(&mut self, number: u16, index: usize, count: usize, word: u16)
+        requires there { HasCells self.old number index count }
+        ensures { (object : Object ℕ) → object_at self.old.objects number ≡ Some object
+            → self.new ≡ with_objects self.old (with_object self.old.objects number
+            (with_cells object index (replicate count word))) }
+    {
+        let head = head_at(&self.heads, number);
+        fill_part(&mut self.cells, head, index, count, word);
+    }
+
+    /// Puts bytes into components of an object, one into each, from an index on.
+    #[inline]
+    pub fn put_bytes(&mut self, number: u16, index: usize, bytes: &[u8])
+        requires there { HasCells self.old number index (length bytes.now) }
+        ensures { (object : Object ℕ) → object_at self.old.objects number ≡ Some object
+            → self.new ≡ with_objects self.old (with_object self.old.objects number
+            (with_cells object index bytes.now)) }
+    {
+        let head = head_at(&self.heads, number);
+        put_part(&mut self.cells, head, index, bytes);
+    }
+
+    /// Copies the low bytes of so many components of an object to those of an object, from indexes on, as through a
+    /// copy of them.
+    #[inline]
+    pub fn copy_bytes(
+        &mut self,
+        source: u16,
+        source_index: usize,
+        target: u16,
+        target_index: usize,
+        count: usize,
+    )
+        requires source { HasCells self.old source source_index count }
+        requires target { HasCells self.old target target_index count }
+        ensures { (from to : Object ℕ) → object_at self.old.objects source ≡ Some from
+            → object_at self.old.objects target ≡ Some to
+            → self.new ≡ with_objects self.old (with_object self.old.objects target
+            (with_cells to target_index (low_bytes from source_index count))) }
+    {
+        let from = head_at(&self.heads, source);
+        let to = head_at(&self.heads, target);
+        copy_part(&mut self.cells, from, source_index, to, target_index, count);
     }
 
     /// How many objects there are. Each has a number for its class.

@@ -1,0 +1,32 @@
+-- Many components of an object at once.
+use Rattle.std.specs.Prelude.{◌≡◌, ℕ, ◌+◌, ◌%◌, ◌≤◌, List, [], ◌++◌, length, map, take, drop, slice_range, Some}
+use Rattle.std.specs.Option.{option_map_or}
+use Rattle.jc_store.specs.Heap.{Heap, Object, object_at}
+use Rattle.jc_store.specs.Store.{Store}
+
+-- the components of the object with a number; none where there is no object
+abbrev pub components_of : Heap ℕ → ℕ → List ℕ
+components_of heap number = option_map_or (λ object. object.cells) (object_at heap number) []
+
+-- an object with a number is there, and has so many components from an index on
+pub record HasCells (s : Store) (number index count : ℕ) : Type 0 where
+  pub object : Object ℕ
+  pub is : object_at s.objects number ≡ Some object
+  pub within : index + count ≤ length object.cells
+
+-- a list with others in place of what stands from an index on
+abbrev pub put_over : List ℕ → ℕ → List ℕ → List ℕ
+put_over cells index words = take index cells ++ words ++ drop (index + length words) cells
+
+-- an object with these words in its components from an index on
+abbrev pub with_cells : Object ℕ → ℕ → List ℕ → Object ℕ
+with_cells object index words =
+    record { kind = object.kind; owner = object.owner; cells = put_over object.cells index words }
+
+-- the low byte of a word
+abbrev pub low_byte : ℕ → ℕ
+low_byte word = word % 256
+
+-- the low bytes of so many of its components from an index on
+abbrev pub low_bytes : Object ℕ → ℕ → ℕ → List ℕ
+low_bytes object index count = map low_byte (slice_range object.cells index (index + count))

@@ -1,6 +1,7 @@
 mod Getting
 mod Putting
 mod Ranges
+mod Parts
 mod Room
 mod Bare
 mod Simulation

@@ -19,14 +19,14 @@ pub put_none : {V : Type 0} (heap : Heap V) (number index : ℕ) (value : V) →
 put_none heap number index value e =
     ap (λ o. option_map_or (λ object. with_object heap number (with_cell object index value)) o heap) e
 
-twice : {V : Type 0} (heap : Heap V) (number : ℕ) (one other : Object V)
+pub twice : {V : Type 0} (heap : Heap V) (number : ℕ) (one other : Object V)
     → with_object (with_object heap number one) number other ≡ with_object heap number other
 twice heap zero one other = refl
 twice heap (suc n) one other = set-set heap n one other
 
 -- ---- the order doesn't matter
 
-abbrev cells_of_kind : {V : Type 0} → Object V → List V → Object V
+abbrev pub cells_of_kind : {V : Type 0} → Object V → List V → Object V
 cells_of_kind object cells = record { kind = object.kind; owner = object.owner; cells = cells }
 
 pub put_swaps : {V : Type 0} (heap : Heap V) (number one other : ℕ) (v w : V) → one ≢ other
@@ -126,7 +126,7 @@ same_set [] n x e = refl
 same_set (y ∷ xs) zero x e = ap (λ z. z ∷ xs) (sym (same_Some y x e))
 same_set (y ∷ xs) (suc n) x e = ap (λ zs. y ∷ zs) (same_set xs n x e)
 
-same_heap : {V : Type 0} (heap : Heap V) (number : ℕ) (object : Object V) → object_at heap number ≡ Some object
+pub same_heap : {V : Type 0} (heap : Heap V) (number : ℕ) (object : Object V) → object_at heap number ≡ Some object
     → with_object heap number object ≡ heap
 same_heap heap zero object e = refl
 same_heap heap (suc n) object e = same_set heap n object e

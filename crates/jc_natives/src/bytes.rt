@@ -2,11 +2,12 @@
 
 ghost use Rattle.std.specs.Prelude.{◌≡◌, ◌+◌, ◌++◌, ◌≤◌, bytes_eq, length, replicate};
 ghost use Rattle.arrayvec.specs.ArrayVec.{array_vec_len};
-ghost use Rattle.jc_natives.specs.Cells.{byte_order, bytes_of, order_of, put_all};
+ghost use Rattle.jc_natives.specs.Cells.{bytes_of, order_of, put_all};
 ghost use Rattle.jc_store.specs.Store.{with_objects};
 
-use crate::cells::{byte, put};
+use crate::cells::{byte, has_part, part, put};
 use crate::kept::MOST_SENT;
+use crate::words::{append_words, are_same_words, are_words, order_of_bytes, order_of_words};
 use arrayvec::ArrayVec;
 use jc_store::Store;
 
@@ -15,7 +16,10 @@ pub(crate) fn are_bytes(store: &Store, number: u16, from: usize, count: u16, byt
     requires { from ≤ 65536 }
     ensures { result ≡ bytes_eq bytes.now (bytes_of store.now.objects number from count) }
 {
-    bytes.len() == usize::from(count) && begins_with(store, number, from, bytes)
+    match part(store, number, from, count) {
+        Some(words) => are_words(words, bytes),
+        None => bytes.len() == usize::from(count) && begins_with(store, number, from, bytes),
+    }
 }
 
 // Whether the bytes of an object, from an index on, begin with these.
@@ -31,8 +35,8 @@ fn begins_with(store: &Store, number: u16, from: usize, bytes: &[u8]) -> bool
     true
 }
 
-/// Whether two objects have the same bytes, so many from an index on.
-pub(crate) fn same_bytes(
+// Whether two objects have the same bytes, so many from an index on, one by one.
+fn same_bytes_one_by_one(
     store: &Store,
     one: u16,
     one_from: usize,
@@ -53,21 +57,30 @@ pub(crate) fn same_bytes(
     true
 }
 
-// How two bytes compare, if they differ: -1 or 1.
-fn order_of_bytes(one: u8, other: u8) -> Option<u16>
-    ensures { result ≡ byte_order one other }
+/// Whether two objects have the same bytes, so many from an index on.
+pub(crate) fn same_bytes(
+    store: &Store,
+    one: u16,
+    one_from: usize,
+    other: u16,
+    other_from: usize,
+    count: u16,
+) -> bool
+    requires one_low { one_from ≤ 65536 }
+    requires other_low { other_from ≤ 65536 }
+    ensures { result ≡ bytes_eq (bytes_of store.now.objects one one_from count)
+        (bytes_of store.now.objects other other_from count) }
 {
-    if one < other {
-        Some(65535)
-    } else if other < one {
-        Some(1)
-    } else {
-        None
+    let one_part = part(store, one, one_from, count);
+    let other_part = part(store, other, other_from, count);
+    match (one_part, other_part) {
+        (Some(one_words), Some(other_words)) => are_same_words(one_words, other_words),
+        _ => same_bytes_one_by_one(store, one, one_from, other, other_from, count),
     }
 }
 
-/// How so many bytes of two objects compare, from an index on: -1, 0 or 1.
-pub(crate) fn compare_bytes(
+// How so many bytes of two objects compare, from an index on: -1, 0 or 1, one by one.
+fn compare_bytes_one_by_one(
     store: &Store,
     one: u16,
     one_from: u16,
@@ -88,8 +101,28 @@ pub(crate) fn compare_bytes(
     0
 }
 
-/// Puts so many bytes of an object behind others.
-pub(crate) fn append_bytes(
+/// How so many bytes of two objects compare, from an index on: -1, 0 or 1.
+pub(crate) fn compare_bytes(
+    store: &Store,
+    one: u16,
+    one_from: u16,
+    other: u16,
+    other_from: u16,
+    count: u16,
+) -> u16
+    ensures { result ≡ order_of (bytes_of store.now.objects one one_from count)
+        (bytes_of store.now.objects other other_from count) }
+{
+    let one_part = part(store, one, usize::from(one_from), count);
+    let other_part = part(store, other, usize::from(other_from), count);
+    match (one_part, other_part) {
+        (Some(one_words), Some(other_words)) => order_of_words(one_words, other_words),
+        _ => compare_bytes_one_by_one(store, one, one_from, other, other_from, count),
+    }
+}
+
+// Puts so many bytes of an object behind others, one by one.
+fn append_bytes_one_by_one(
     bytes: &mut ArrayVec<u8, MOST_SENT>,
     store: &Store,
     number: u16,
@@ -104,8 +137,25 @@ pub(crate) fn append_bytes(
     }
 }
 
-/// Writes bytes to an object, from an index on.
-pub(crate) fn put_bytes(store: &mut Store, number: u16, from: usize, bytes: &[u8])
+/// Puts so many bytes of an object behind others.
+pub(crate) fn append_bytes(
+    bytes: &mut ArrayVec<u8, MOST_SENT>,
+    store: &Store,
+    number: u16,
+    from: u16,
+    count: u16,
+)
+    requires { array_vec_len bytes.old + count ≤ 256 }
+    ensures { bytes.new.items ≡ bytes.old.items ++ bytes_of store.now.objects number from count }
+{
+    match part(store, number, usize::from(from), count) {
+        Some(words) => append_words(bytes, words),
+        None => append_bytes_one_by_one(bytes, store, number, from, count),
+    }
+}
+
+// Writes bytes to an object, from an index on, one by one.
+fn put_bytes_one_by_one(store: &mut Store, number: u16, from: usize, bytes: &[u8])
     requires { from ≤ 65536 }
     ensures { store.new ≡ with_objects store.old (put_all store.old.objects number from bytes.now) }
 {
@@ -114,12 +164,35 @@ pub(crate) fn put_bytes(store: &mut Store, number: u16, from: usize, bytes: &[u8
     }
 }
 
-/// Writes a byte to so many components of an object, from an index on.
-pub(crate) fn fill_bytes(store: &mut Store, number: u16, from: u16, count: u16, byte: u16)
+/// Writes bytes to an object, from an index on.
+pub(crate) fn put_bytes(store: &mut Store, number: u16, from: usize, bytes: &[u8])
+    requires { from ≤ 65536 }
+    ensures { store.new ≡ with_objects store.old (put_all store.old.objects number from bytes.now) }
+{
+    if has_part(store, number, from, bytes.len()) {
+        store.put_bytes(number, from, bytes);
+    } else {
+        put_bytes_one_by_one(store, number, from, bytes);
+    }
+}
+
+// Writes a byte to so many components of an object, from an index on, one by one.
+fn fill_bytes_one_by_one(store: &mut Store, number: u16, from: u16, count: u16, byte: u16)
     ensures { store.new ≡ with_objects store.old (put_all store.old.objects number from (replicate count byte)) }
 {
     for at in 0..usize::from(count) {
         put(store, number, usize::from(from) + at, byte);
+    }
+}
+
+/// Writes a byte to so many components of an object, from an index on.
+pub(crate) fn fill_bytes(store: &mut Store, number: u16, from: u16, count: u16, byte: u16)
+    ensures { store.new ≡ with_objects store.old (put_all store.old.objects number from (replicate count byte)) }
+{
+    if has_part(store, number, usize::from(from), usize::from(count)) {
+        store.fill(number, usize::from(from), usize::from(count), byte);
+    } else {
+        fill_bytes_one_by_one(store, number, from, count, byte);
     }
 }
 
@@ -180,7 +253,10 @@ pub(crate) fn copy_bytes(
     ensures { store.new ≡ with_objects store.old (put_all store.old.objects target target_from
         (bytes_of store.old.objects source source_from count)) }
 {
-    if target_from <= source_from {
+    let words = usize::from(count);
+    if has_part(store, source, source_from, words) && has_part(store, target, target_from, words) {
+        store.copy_bytes(source, source_from, target, target_from, words);
+    } else if target_from <= source_from {
         copy_forward(store, source, source_from, target, target_from, count);
     } else {
         copy_backward(store, source, source_from, target, target_from, count);

@@ -1,7 +1,8 @@
 //! The components of objects, as members read and write them: whatever number and index they are handed.
 
-ghost use Rattle.std.specs.Prelude.{◌≡◌, ◌+◌, true, false, None};
-ghost use Rattle.jc_natives.specs.Cells.{argument, bit, byte_of, cell_of, extended, high, is_count, is_within, put, size_of, word, word_of_bytes};
+ghost use Rattle.std.specs.Prelude.{◌≡◌, ◌+◌, ◌≤◌, true, false, None, IfSome, length, map};
+ghost use Rattle.jc_natives.specs.Cells.{argument, bit, byte_of, bytes_of, cell_of, extended, high, is_count, is_within, low, put, size_of, word, word_of_bytes};
+ghost use Rattle.jc_store.specs.Blocks.{HasCells};
 ghost use Rattle.jc_store.specs.Heap.{object_at};
 ghost use Rattle.jc_store.specs.Store.{IsThere, with_objects};
 
@@ -42,6 +43,30 @@ pub(crate) fn byte(store: &Store, number: u16, index: usize) -> u8
     ensures { result ≡ byte_of store.now.objects number index }
 {
     (cell(store, number, index) % 256) as u8
+}
+
+/// So many components of an object from an index on, where it has them.
+#[inline]
+pub(crate) fn part(store: &Store, number: u16, from: usize, count: u16) -> Option<&[u16]>
+    requires { from ≤ 65536 }
+    ensures bytes { IfSome result (λ words. bytes_of store.now.objects number from count ≡ map low words.now) }
+    ensures len { IfSome result (λ words. length words.now ≡ count) }
+{
+    store
+        .components(number)
+        .get(from..from + usize::from(count))
+}
+
+/// Whether an object is there and has so many components from an index on.
+#[inline]
+pub(crate) fn has_part(store: &Store, number: u16, from: usize, count: usize) -> bool
+    ensures { result ≡ true → HasCells store.now number from count }
+{
+    if !is_there(store, number) {
+        return false;
+    }
+    let size = usize::from(store.len(number));
+    count <= size && from <= size - count
 }
 
 /// Puts a word into the component of an object at an index, where there is one.

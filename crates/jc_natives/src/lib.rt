@@ -18,6 +18,7 @@ mod rows;
 mod system;
 mod tests;
 mod utility;
+mod words;
 
 pub use examples::{arguments_are_tested, bytes_are_written, members_refuse, ranges_and_signs};
 pub use kept::{ApduState, Installing, Instance, Runtime};

@@ -5,11 +5,12 @@ ghost use Rattle.jc_natives.specs.PrivateWords.{done_of, seen_in};
 ghost use Rattle.jc_natives.specs.Utilities.{utility_work};
 ghost use Rattle.jc_natives.specs.declared.native.UtilityNative.TheVariants as natives;
 
-use crate::bytes::{compare_bytes, copy_bytes, fill_bytes};
-use crate::cells::{argument, byte, high, put, sum, word_of};
+use crate::bytes::{compare_bytes, copy_bytes, fill_bytes, put_bytes};
+use crate::cells::{argument, byte, high, part, sum, word_of};
 use crate::ended::Ended;
 use crate::kept::Runtime;
 use crate::native::UtilityNative;
+use crate::words::low;
 use jc_link::World;
 use jc_machine::WordCall;
 use jc_store::Store;
@@ -68,9 +69,11 @@ fn get_short(world: &World, store: &mut Store, call: &WordCall<'_>, runtime: &Ru
 {
     let array = argument(call.arguments, 0);
     let at = usize::from(argument(call.arguments, 1));
-    let first = byte(store, array, at);
-    let second = byte(store, array, at + 1);
-    Ended::Returned(Some(word_of(first, second)))
+    let word = match part(store, array, at, 2) {
+        Some(words) => word_of(low(words[0]), low(words[1])),
+        None => word_of(byte(store, array, at), byte(store, array, at + 1)),
+    };
+    Ended::Returned(Some(word))
 }
 
 fn set_short(world: &World, store: &mut Store, call: &WordCall<'_>, runtime: &Runtime) -> Ended
@@ -81,8 +84,12 @@ fn set_short(world: &World, store: &mut Store, call: &WordCall<'_>, runtime: &Ru
     let array = argument(call.arguments, 0);
     let from = argument(call.arguments, 1);
     let word = argument(call.arguments, 2);
-    put(store, array, usize::from(from), high(word));
-    put(store, array, usize::from(from) + 1, word % 256);
+    put_bytes(
+        store,
+        array,
+        usize::from(from),
+        &[high(word) as u8, low(word)],
+    );
     Ended::Returned(Some(sum(from, 2)))
 }
 
@@ -93,7 +100,7 @@ fn make_short(world: &World, store: &mut Store, call: &WordCall<'_>, runtime: &R
 {
     let first = argument(call.arguments, 0);
     let second = argument(call.arguments, 1);
-    Ended::Returned(Some(word_of((first % 256) as u8, (second % 256) as u8)))
+    Ended::Returned(Some(word_of(low(first), low(second))))
 }
 
 /// Does the work of a member of Util.

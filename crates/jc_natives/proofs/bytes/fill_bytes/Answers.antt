@@ -1,18 +1,25 @@
-use Rattle.std.proofs.Common.{◌+◌, ◌-◌, ap, ◌∙◌, arith, replicate}
-use Rattle.jc_natives.specs.Cells.{put, put_all}
-use Rattle.jc_natives.proofs.Ranges.{filled}
+use Rattle.std.proofs.Common.{◌+◌, ℕ, length, replicate, ap, ◌∙◌, arith}
+use Rattle.std.proofs.lemmas.List.{length-replicate}
+use Rattle.jc_natives.specs.Cells.{put_all}
+use Rattle.jc_natives.proofs.Parts.{put_part}
 use Rattle.jc_natives.proofs.bytes.fill_bytes.Goals as goal
-use Rattle.jc_store.specs.Store.{Store, with_objects}
+use Rattle.jc_store.specs.Heap.{Heap}
+use Rattle.jc_store.specs.Store.{with_objects}
 
-pub loop-at-preserved : goal.loop-at-preserved
-loop-at-preserved c =
-    let high = c.loop-at-test.true in
-    let end = c.from-at-end.ensures in
-    ap (λ (p : Store). with_objects p (put_all p.objects c.args.number (c.args.from + (c.loop-at.at + 1))
-    (replicate (c.args.count - (c.loop-at.at + 1)) c.args.byte))) c.put.ensures
-    ∙ ap (λ f. with_objects c.loop-at.store
-    (put_all (put c.loop-at.store.objects c.args.number (f + c.loop-at.at) c.args.byte)
-    c.args.number (c.args.from + (c.loop-at.at + 1)) (replicate (c.args.count - (c.loop-at.at + 1)) c.args.byte)))
-    c.from.ensures
-    ∙ filled c.loop-at.store c.args.number c.args.from c.loop-at.at c.args.count c.args.byte (omega (arith, high, end))
-    ∙ c.loop-at.invariant
+pub returns-then-has_part : goal.returns-then-has_part
+returns-then-has_part c =
+    let there = c.has_part.ensures c.if-has_part.true in
+    let s = c.args.store.now in
+    let words = replicate c.from-then-has_part-2.result c.args.byte in
+    let one = c.from.ensures in
+    let two = c.from-2.ensures in
+    let three = c.from-then-has_part.ensures in
+    let four = c.from-then-has_part-2.ensures in
+    let n = length-replicate c.from-then-has_part-2.result c.args.byte in
+    let within = there.within in
+    c.fill.ensures there.object there.is
+    ∙ ap (λ (objects : Heap ℕ). with_objects s objects)
+    (put_part s.objects c.args.number c.from-then-has_part.result words there.object there.is
+    (omega (arith, n, within, one, two, three, four))
+    ∙ ap (λ k. put_all s.objects c.args.number k words) three
+    ∙ ap (λ k. put_all s.objects c.args.number c.args.from (replicate k c.args.byte)) four)

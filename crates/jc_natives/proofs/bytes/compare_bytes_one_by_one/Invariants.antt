@@ -1,6 +1,6 @@
 use Rattle.std.proofs.Common.{◌≡◌, ◌+◌, ◌-◌}
 use Rattle.jc_natives.specs.Cells.{bytes_of, order_of}
-use Rattle.jc_natives.proofs.bytes.compare_bytes.Given as goal
+use Rattle.jc_natives.proofs.bytes.compare_bytes_one_by_one.Given as goal
 
 abbrev pub invariant-loop-at : goal.invariant-loop-at
 invariant-loop-at l =

@@ -1,6 +1,6 @@
 use Rattle.std.proofs.Common.{◌≡◌, ◌+◌, drop}
 use Rattle.jc_natives.specs.Cells.{put_all}
-use Rattle.jc_natives.proofs.bytes.put_bytes.Given as goal
+use Rattle.jc_natives.proofs.bytes.put_bytes_one_by_one.Given as goal
 use Rattle.jc_store.specs.Store.{with_objects}
 
 abbrev pub invariant-loop-at : goal.invariant-loop-at

@@ -1,7 +1,7 @@
 use Rattle.std.proofs.Common.{◌+◌, ◌-◌, ◌++◌, ◌∷◌, [], ◌∙◌, ap, arith}
 use Rattle.jc_natives.specs.Cells.{byte_of, bytes_of}
 use Rattle.jc_natives.proofs.Ranges.{appended}
-use Rattle.jc_natives.proofs.bytes.append_bytes.Goals as goal
+use Rattle.jc_natives.proofs.bytes.append_bytes_one_by_one.Goals as goal
 
 pub loop-at-preserved : goal.loop-at-preserved
 loop-at-preserved c =

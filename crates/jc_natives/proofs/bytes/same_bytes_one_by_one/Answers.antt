@@ -2,7 +2,7 @@ use Rattle.std.proofs.Common.{sym, ◌∙◌, arith}
 use Rattle.jc_natives.specs.Cells.{bytes_of}
 use Rattle.std.proofs.Common.{bytes_eq}
 use Rattle.jc_natives.proofs.Ranges.{same_so_far}
-use Rattle.jc_natives.proofs.bytes.same_bytes.Goals as goal
+use Rattle.jc_natives.proofs.bytes.same_bytes_one_by_one.Goals as goal
 
 pub loop-at-preserved : goal.loop-at-preserved
 loop-at-preserved c =

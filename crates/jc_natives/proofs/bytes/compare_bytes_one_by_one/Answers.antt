@@ -1,7 +1,7 @@
 use Rattle.std.proofs.Common.{◌+◌, None, Some, ap, sym, ◌∙◌, arith}
 use Rattle.jc_natives.specs.Cells.{byte_of, bytes_of, order_of}
 use Rattle.jc_natives.proofs.Ranges.{order_met}
-use Rattle.jc_natives.proofs.bytes.compare_bytes.Goals as goal
+use Rattle.jc_natives.proofs.bytes.compare_bytes_one_by_one.Goals as goal
 
 pub returns-in-Some : goal.returns-in-Some
 returns-in-Some c =

@@ -1,0 +1,162 @@
+-- Parts of objects: bytes that are read and written many at once.
+use Rattle.std.proofs.Common.{◌≡◌, ℕ, zero, suc, ◌+◌, ◌-◌, ◌<◌, ◌≤◌, ◌&&◌, Bool, true, false, List, [], ◌∷◌, ◌++◌, refl, sym, ap, ◌∙◌, arith}
+use Rattle.std.proofs.Common.{length, map, take, drop, get_or, slice_range, Option, Some, None, Bor, IfSome, bytes_eq, unwrap_or}
+use Rattle.std.proofs.Math.Seq.{sets}
+use Rattle.std.proofs.lemmas.Bool.{eq-eqb, le-ltb}
+use Rattle.std.proofs.lemmas.List.Edits.{sets-eq}
+use Rattle.std.specs.Option.{option_map_or}
+use Rattle.std.specs.Slice.{IsGetRangeResult}
+use Rattle.jc_natives.proofs.Getting.{new_object}
+use Rattle.jc_natives.proofs.Putting.{cells_of_kind, put_some, same_heap, twice}
+use Rattle.jc_natives.specs.Cells.{byte_of, byte_order, bytes_of, cell_of, low, order_of, put, put_all}
+use Rattle.jc_store.specs.Blocks.{components_of, with_cells}
+use Rattle.jc_store.specs.Heap.{Heap, Object, object_at, with_cell, with_object}
+
+-- ---- read
+
+-- a component is one of the list
+cell_in : (objects : Heap ℕ) (number index : ℕ) → cell_of objects number index ≡ get_or (components_of objects number) index 0
+cell_in objects number index = by_object (object_at objects number)
+  where
+    by_object : (o : Option (Object ℕ)) → option_map_or (λ (object : Object ℕ). get_or object.cells index 0) o 0
+        ≡ get_or (option_map_or (λ (object : Object ℕ). object.cells) o []) index 0
+    by_object None = refl
+    by_object (Some object) = refl
+
+pub dropped : (xs : List ℕ) (at : ℕ) → at < length xs → drop at xs ≡ get_or xs at 0 ∷ drop (at + 1) xs
+dropped [] at h = absurd (omega (arith, h))
+dropped (x ∷ xs) zero h = refl
+dropped (x ∷ xs) (suc at) h =
+    let next : suc (at + 1) ≡ suc at + 1 = omega arith in
+    dropped xs at (omega (arith, h)) ∙ ap (λ k. get_or xs at 0 ∷ drop k (x ∷ xs)) next
+
+-- bytes of an object are the low bytes of a part of its components
+low_part : (objects : Heap ℕ) (number from count : ℕ) → from + count ≤ length (components_of objects number)
+    → bytes_of objects number from count ≡ map low (take count (drop from (components_of objects number)))
+low_part objects number from zero h = refl
+low_part objects number from (suc count) h =
+    let cells = components_of objects number in
+    ap (λ c. low c ∷ bytes_of objects number (from + 1) count) (cell_in objects number from)
+    ∙ ap (λ bytes. low (get_or cells from 0) ∷ bytes) (low_part objects number (from + 1) count (omega (arith, h)))
+    ∙ ap (λ xs. map low (take (suc count) xs)) (sym (dropped cells from (omega (arith, h))))
+
+pub part_bytes : (objects : Heap ℕ) (number from count end : ℕ) (cells words : List ℕ)
+    → cells ≡ components_of objects number → end ≡ from + count → end ≤ length cells
+    → words ≡ slice_range cells from end → bytes_of objects number from count ≡ map low words
+part_bytes objects number from count end cells words are stop within is =
+    let size : end - from ≡ count = omega (arith, stop) in
+    let n = ap (λ (xs : List ℕ). length xs) are in
+    low_part objects number from count (omega (arith, n, stop, within))
+    ∙ ap (λ xs. map low (take count (drop from xs))) (sym are)
+    ∙ ap (λ k. map low (take k (drop from cells))) (sym size)
+    ∙ ap (map low) (sym is)
+
+-- a part that `get` gave, or none
+pub part_given : (objects : Heap ℕ) (number from count end : ℕ) (cells : List ℕ) (given : Option (Bor (List ℕ)))
+    → cells ≡ components_of objects number → end ≡ from + count → IsGetRangeResult cells from end given
+    → IfSome given (λ words. bytes_of objects number from count ≡ map low words.now)
+part_given objects number from count end cells None are stop h = tt
+part_given objects number from count end cells (Some words) are stop h =
+    let g = h.0 in part_bytes objects number from count end cells words.now are stop g.1 g.2
+
+-- ---- compared
+
+next_low : (words : List ℕ) (at : ℕ) → at < length words
+    → map low (drop at words) ≡ low (get_or words at 0) ∷ map low (drop (at + 1) words)
+next_low words at h = ap (map low) (dropped words at h)
+
+-- the next bytes of both
+pub order_next : (one other : List ℕ) (at all first second : ℕ) → at < length one → at < length other
+    → all ≡ order_of (map low (drop at one)) (map low (drop at other))
+    → first ≡ low (get_or one at 0) → second ≡ low (get_or other at 0)
+    → (o : Option ℕ) → o ≡ byte_order first second
+    → all ≡ unwrap_or o (order_of (map low (drop (at + 1) one)) (map low (drop (at + 1) other)))
+order_next one other at all first second h k e f g o is =
+    let rest = order_of (map low (drop (at + 1) one)) (map low (drop (at + 1) other)) in
+    e ∙ ap (λ bytes. order_of bytes (map low (drop at other))) (next_low one at h)
+    ∙ ap (order_of (low (get_or one at 0) ∷ map low (drop (at + 1) one))) (next_low other at k)
+    ∙ ap (λ b. unwrap_or (byte_order b (low (get_or other at 0))) rest) (sym f)
+    ∙ ap (λ b. unwrap_or (byte_order first b) rest) (sym g) ∙ ap (λ x. unwrap_or x rest) (sym is)
+
+no_order : (n : ℕ) → byte_order n n ≡ None
+no_order n = let e = le-ltb n n (omega arith) in
+    rw e refl
+
+-- what is the same in front makes no difference
+pub order_skips : (n : ℕ) (one other : List ℕ) → n ≤ length one → n ≤ length other → take n one ≡ take n other
+    → order_of (map low one) (map low other) ≡ order_of (map low (drop n one)) (map low (drop n other))
+order_skips zero one other h k same = refl
+order_skips (suc n) [] other h k same = absurd (omega (arith, h))
+order_skips (suc n) (x ∷ one) [] h k same = absurd (omega (arith, k))
+order_skips (suc n) (x ∷ one) (y ∷ other) h k same =
+    let first : x ≡ y = ap (λ (xs : List ℕ). get_or xs 0 0) same in
+    let rest : take n one ≡ take n other = ap (λ (xs : List ℕ). drop 1 xs) same in
+    ap (λ z. unwrap_or (byte_order (low z) (low y)) (order_of (map low one) (map low other))) first
+    ∙ ap (λ o. unwrap_or o (order_of (map low one) (map low other))) (no_order (low y))
+    ∙ order_skips n one other (omega (arith, h)) (omega (arith, k)) rest
+
+pub same_skips : (n : ℕ) (one other : List ℕ) → n ≤ length one → n ≤ length other → take n one ≡ take n other
+    → bytes_eq (map low one) (map low other) ≡ bytes_eq (map low (drop n one)) (map low (drop n other))
+same_skips zero one other h k same = refl
+same_skips (suc n) [] other h k same = absurd (omega (arith, h))
+same_skips (suc n) (x ∷ one) [] h k same = absurd (omega (arith, k))
+same_skips (suc n) (x ∷ one) (y ∷ other) h k same =
+    let first : x ≡ y = ap (λ (xs : List ℕ). get_or xs 0 0) same in
+    let rest : take n one ≡ take n other = ap (λ (xs : List ℕ). drop 1 xs) same in
+    ap (λ b. b && bytes_eq (map low one) (map low other)) (eq-eqb (low x) (low y) (ap low first))
+    ∙ same_skips n one other (omega (arith, h)) (omega (arith, k)) rest
+
+-- one block more that is the same
+abbrev nil : List ℕ
+nil = []
+
+take_both : (n k : ℕ) (xs : List ℕ) → take (n + k) xs ≡ take n xs ++ take k (drop n xs)
+take_both zero k xs = let e : zero + k ≡ k = omega arith in ap (λ m. take m xs) e
+take_both (suc n) k [] = let e : suc n + k ≡ suc (n + k) = omega arith in ap (λ m. take m nil) e ∙ sym (nothing k)
+  where
+    nothing : (k : ℕ) → take k nil ≡ nil
+    nothing zero = refl
+    nothing (suc k) = refl
+take_both (suc n) k (x ∷ xs) =
+    let e : suc n + k ≡ suc (n + k) = omega arith in
+    ap (λ m. take m (x ∷ xs)) e ∙ ap (λ ys. x ∷ ys) (take_both n k xs)
+
+pub same_block : (start end next : ℕ) (one other : List ℕ) → start ≤ end → next ≡ end → take start one ≡ take start other
+    → slice_range one start end ≡ slice_range other start end → take next one ≡ take next other
+same_block start end next one other h stop before block =
+    let whole : next ≡ start + (end - start) = omega (arith, h, stop) in
+    ap (λ n. take n one) whole ∙ take_both start (end - start) one
+    ∙ ap (λ xs. xs ++ take (end - start) (drop start one)) before
+    ∙ ap (λ xs. take start other ++ xs) block
+    ∙ sym (take_both start (end - start) other) ∙ ap (λ n. take n other) (sym whole)
+
+-- ---- written
+
+-- words put one by one are put over the components
+sets_in : (heap : Heap ℕ) (number from : ℕ) (words : List ℕ) (object : Object ℕ) → object_at heap number ≡ Some object
+    → put_all heap number from words ≡ with_object heap number (cells_of_kind object (sets object.cells from words))
+sets_in heap number from [] object e = sym (same_heap heap number object e)
+sets_in heap number from (w ∷ words) object e =
+    let one = with_cell object from w in
+    let next : from + 1 ≡ suc from = omega arith in
+    ap (λ h. put_all h number (from + 1) words) (put_some heap number from w object e)
+    ∙ sets_in (with_object heap number one) number (from + 1) words one (new_object heap number object one e)
+    ∙ twice heap number one (cells_of_kind one (sets one.cells (from + 1) words))
+    ∙ ap (λ k. with_object heap number (cells_of_kind object (sets one.cells k words))) next
+
+pub put_part : (heap : Heap ℕ) (number from : ℕ) (words : List ℕ) (object : Object ℕ)
+    → object_at heap number ≡ Some object → from + length words ≤ length object.cells
+    → with_object heap number (with_cells object from words) ≡ put_all heap number from words
+put_part heap number from words object e h =
+    sym (sets_in heap number from words object e
+    ∙ ap (λ cells. with_object heap number (cells_of_kind object cells)) (sets-eq words object.cells from h))
+
+-- the low bytes of a part
+pub low_bytes_of : (heap : Heap ℕ) (number from count : ℕ) (object : Object ℕ) → object_at heap number ≡ Some object
+    → from + count ≤ length object.cells
+    → map low (slice_range object.cells from (from + count)) ≡ bytes_of heap number from count
+low_bytes_of heap number from count object e h =
+    let are : object.cells ≡ components_of heap number =
+    ap (λ o. option_map_or (λ (x : Object ℕ). x.cells) o []) (sym e) in
+    sym (part_bytes heap number from count (from + count) object.cells
+    (slice_range object.cells from (from + count)) are refl h refl)

@@ -1,0 +1,6 @@
+use Rattle.std.proofs.Common.{◌≡◌, ◌+◌, ◌*◌, ◌++◌, true, bytes_eq, length, map, take, drop}
+use Rattle.jc_natives.specs.Cells.{low, order_of}
+use Rattle.jc_natives.proofs.words.are_same.Given as goal
+
+abbrev pub invariant-loop-at : goal.invariant-loop-at
+invariant-loop-at l = l.same ≡ true → take l.at l.one ≡ take l.at l.other

@@ -1,0 +1,115 @@
+//! The low bytes of words that are lent out of objects.
+
+ghost use Rattle.std.specs.Prelude.{◌≡◌, ◌+◌, ◌++◌, ◌≤◌, true, bytes_eq, length, map, take};
+ghost use Rattle.arrayvec.specs.ArrayVec.{array_vec_len};
+ghost use Rattle.jc_natives.specs.Cells.{byte_order, low, order_of};
+
+use crate::kept::MOST_SENT;
+use arrayvec::ArrayVec;
+
+/// How many words are compared at once.
+const BLOCK: usize = 16;
+
+/// The low byte of a word.
+#[inline]
+pub(crate) fn low(word: u16) -> u8
+    ensures { result ≡ low word }
+{
+    (word % 256) as u8
+}
+
+// How two bytes compare, if they differ: -1 or 1.
+#[inline]
+pub(crate) fn order_of_bytes(one: u8, other: u8) -> Option<u16>
+    ensures { result ≡ byte_order one other }
+{
+    if one < other {
+        Some(65535)
+    } else if other < one {
+        Some(1)
+    } else {
+        None
+    }
+}
+
+/// Whether the low bytes of words are these.
+pub(crate) fn are_words(words: &[u16], bytes: &[u8]) -> bool
+    ensures { result ≡ bytes_eq bytes.now (map low words.now) }
+{
+    if words.len() != bytes.len() {
+        return false;
+    }
+    for at in 0..words.len() {
+        if bytes[at] != low(words[at]) {
+            return false;
+        }
+    }
+    true
+}
+
+// Whether words are the same. Where they aren't their low bytes may be.
+#[inline]
+fn are_same(one: &[u16], other: &[u16]) -> bool
+    requires sized { length one.now ≡ length other.now }
+    ensures { result ≡ true → one.now ≡ other.now }
+{
+    let mut same = true;
+    for at in 0..one.len() {
+        same = same & (one[at] == other[at]);
+    }
+    same
+}
+
+// How many words in front are the same, in whole blocks.
+#[inline]
+fn same_start(one: &[u16], other: &[u16]) -> usize
+    requires sized { length one.now ≡ length other.now }
+    ensures within { result ≤ length one.now }
+    ensures same { take result one.now ≡ take result other.now }
+{
+    for block in 0..one.len() / BLOCK {
+        let start = block * BLOCK;
+        if !are_same(&one[start..start + BLOCK], &other[start..start + BLOCK]) {
+            return start;
+        }
+    }
+    one.len() / BLOCK * BLOCK
+}
+
+/// How the low bytes of words compare: -1, 0 or 1.
+#[inline]
+pub(crate) fn order_of_words(one: &[u16], other: &[u16]) -> u16
+    requires sized { length one.now ≡ length other.now }
+    ensures { result ≡ order_of (map low one.now) (map low other.now) }
+{
+    for at in same_start(one, other)..one.len() {
+        if let Some(order) = order_of_bytes(low(one[at]), low(other[at])) {
+            return order;
+        }
+    }
+    0
+}
+
+/// Whether the low bytes of words are the same.
+#[inline]
+pub(crate) fn are_same_words(one: &[u16], other: &[u16]) -> bool
+    requires sized { length one.now ≡ length other.now }
+    ensures { result ≡ bytes_eq (map low one.now) (map low other.now) }
+{
+    for at in same_start(one, other)..one.len() {
+        if low(one[at]) != low(other[at]) {
+            return false;
+        }
+    }
+    true
+}
+
+/// Puts the low bytes of words behind bytes.
+pub(crate) fn append_words(bytes: &mut ArrayVec<u8, MOST_SENT>, words: &[u16])
+    requires { array_vec_len bytes.old + length words.now ≤ 256 }
+    ensures { bytes.new.items ≡ bytes.old.items ++ map low words.now }
+{
+    for at in 0..words.len() {
+        bytes.push(low(words[at]));
+    }
+}

@@ -1,6 +1,6 @@
 //! Many cells at once.
 
-ghost use Rattle.std.specs.Prelude.{◌≡◌, ◌+◌, ◌≤◌, length, map, replicate, slice_range};
+ghost use Rattle.std.specs.Prelude.{◌≡◌, ◌+◌, ◌≤◌, ◌⊎◌, length, map, replicate, slice_range};
 ghost use Rattle.jc_store.specs.Blocks.{low_byte, put_over};
 
 use crate::header::Head;
@@ -22,7 +22,13 @@ pub(crate) fn fill_part(cells: &mut [u16], head: Head, index: usize, count: usiz
     ensures { cells.new ≡ put_over cells.old (head.start + index) (replicate count word) }
 {
     let start = usize::from(head.start) + index;
-    cells[start..start + count].fill(word);
+    let part = &mut cells[start..start + count];
+    // a constant is written in larger blocks
+    if word == 0 {
+        part.fill(0);
+    } else {
+        part.fill(word);
+    }
 }
 
 // Puts a byte into each cell.
@@ -46,48 +52,36 @@ pub(crate) fn put_part(cells: &mut [u16], head: Head, index: usize, bytes: &[u8]
     put_each(&mut cells[start..start + bytes.len()], bytes);
 }
 
-// Puts the low byte of each word into a cell.
+// Copies the low bytes of so many cells to where another one is, from the front. So what is read is written later, if
+// at all.
 #[inline]
-fn copy_each(words: &[u16], cells: &mut [u16])
-    requires sized { length cells.old ≡ length words.now }
-    ensures { cells.new ≡ map low_byte words.now }
-{
-    for at in 0..words.len() {
-        cells[at] = words[at] % 256;
-    }
-}
-
-// Leaves the low byte of each cell.
-#[inline]
-fn lower_each(cells: &mut [u16])
-    ensures { cells.new ≡ map low_byte cells.old }
-{
-    for at in 0..cells.len() {
-        cells[at] %= 256;
-    }
-}
-
-// Copies the low bytes of so many cells from one on to where another one is, as through a copy of them. Where they lie
-// apart it is one pass.
-#[inline]
-fn copy_low_bytes(cells: &mut [u16], from: usize, to: usize, count: usize)
+fn copy_from_front(cells: &mut [u16], from: usize, to: usize, count: usize)
     requires from_within { from + count ≤ length cells.old }
     requires to_within { to + count ≤ length cells.old }
+    requires apart { (to ≤ from) ⊎ (from + count ≤ to) }
     ensures { cells.new ≡ put_over cells.old to (map low_byte (slice_range cells.old from (from + count))) }
 {
-    if from + count <= to {
-        let (front, back) = cells.split_at_mut(to);
-        copy_each(&front[from..from + count], &mut back[..count]);
-    } else if to + count <= from {
-        let (front, back) = cells.split_at_mut(from);
-        copy_each(&back[..count], &mut front[to..to + count]);
-    } else {
-        cells.copy_within(from..from + count, to);
-        lower_each(&mut cells[to..to + count]);
+    for at in 0..count {
+        cells[to + at] = cells[from + at] % 256;
     }
 }
 
-/// Copies the low bytes of so many components of an object to those of an object, from indexes on.
+// The same from the back.
+#[inline]
+fn copy_from_back(cells: &mut [u16], from: usize, to: usize, count: usize)
+    requires from_within { from + count ≤ length cells.old }
+    requires to_within { to + count ≤ length cells.old }
+    requires behind { from ≤ to }
+    ensures { cells.new ≡ put_over cells.old to (map low_byte (slice_range cells.old from (from + count))) }
+{
+    for done in 0..count {
+        let at = count - done - 1;
+        cells[to + at] = cells[from + at] % 256;
+    }
+}
+
+/// Copies the low bytes of so many components of an object to those of an object, from indexes on, as through a copy of
+/// them.
 #[inline]
 pub(crate) fn copy_part(
     cells: &mut [u16],
@@ -104,5 +98,9 @@ pub(crate) fn copy_part(
 {
     let from = usize::from(source.start) + source_index;
     let to = usize::from(target.start) + target_index;
-    copy_low_bytes(cells, from, to, count);
+    if to <= from || from + count <= to {
+        copy_from_front(cells, from, to, count);
+    } else {
+        copy_from_back(cells, from, to, count);
+    }
 }

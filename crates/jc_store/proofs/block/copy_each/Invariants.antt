@@ -1,6 +1,0 @@
-use Rattle.std.proofs.Common.{◌≡◌, ◌++◌, map, take, drop}
-use Rattle.jc_store.specs.Blocks.{low_byte}
-use Rattle.jc_store.proofs.block.copy_each.Given as goal
-
-abbrev pub invariant-loop-at : goal.invariant-loop-at
-invariant-loop-at l = l.cells ≡ map low_byte (take l.at l.words) ++ drop l.at l.fn.cells

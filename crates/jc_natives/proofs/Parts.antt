@@ -1,5 +1,5 @@
 -- Parts of objects: bytes that are read and written many at once.
-use Rattle.std.proofs.Common.{◌≡◌, ℕ, zero, suc, ◌+◌, ◌-◌, ◌<◌, ◌≤◌, ◌&&◌, Bool, true, false, List, [], ◌∷◌, ◌++◌, refl, sym, ap, ◌∙◌, arith}
+use Rattle.std.proofs.Common.{◌≡◌, ℕ, zero, suc, ◌+◌, ◌-◌, ◌<◌, ◌≤◌, ◌&&◌, List, [], ◌∷◌, ◌++◌, refl, sym, ap, ◌∙◌, arith}
 use Rattle.std.proofs.Common.{length, map, take, drop, get_or, slice_range, Option, Some, None, Bor, IfSome, bytes_eq, unwrap_or}
 use Rattle.std.proofs.Math.Seq.{sets}
 use Rattle.std.proofs.lemmas.Bool.{eq-eqb, le-ltb}
@@ -8,7 +8,7 @@ use Rattle.std.specs.Option.{option_map_or}
 use Rattle.std.specs.Slice.{IsGetRangeResult}
 use Rattle.jc_natives.proofs.Getting.{new_object}
 use Rattle.jc_natives.proofs.Putting.{cells_of_kind, put_some, same_heap, twice}
-use Rattle.jc_natives.specs.Cells.{byte_of, byte_order, bytes_of, cell_of, low, order_of, put, put_all}
+use Rattle.jc_natives.specs.Cells.{byte_order, bytes_of, cell_of, low, order_of, put_all}
 use Rattle.jc_store.specs.Blocks.{components_of, with_cells}
 use Rattle.jc_store.specs.Heap.{Heap, Object, object_at, with_cell, with_object}
 

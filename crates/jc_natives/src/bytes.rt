@@ -1,13 +1,13 @@
 //! Bytes of objects, many at once.
 
-ghost use Rattle.std.specs.Prelude.{◌≡◌, ◌+◌, ◌++◌, ◌≤◌, bytes_eq, length, replicate};
+ghost use Rattle.std.specs.Prelude.{◌≡◌, ◌+◌, ◌++◌, ◌≤◌, [], ◌∷◌, bytes_eq, length, replicate};
 ghost use Rattle.arrayvec.specs.ArrayVec.{array_vec_len};
-ghost use Rattle.jc_natives.specs.Cells.{bytes_of, order_of, put_all};
+ghost use Rattle.jc_natives.specs.Cells.{byte_of, bytes_of, high, low, order_of, put_all, word_of_bytes};
 ghost use Rattle.jc_store.specs.Store.{with_objects};
 
-use crate::cells::{byte, has_part, part, put};
+use crate::cells::{byte, has_part, high, part, put, word_of};
 use crate::kept::MOST_SENT;
-use crate::words::{append_words, are_same_words, are_words, order_of_bytes, order_of_words};
+use crate::words::{append_words, are_same_words, are_words, low, order_of_bytes, order_of_words};
 use arrayvec::ArrayVec;
 use jc_store::Store;
 
@@ -261,4 +261,29 @@ pub(crate) fn copy_bytes(
     } else {
         copy_backward(store, source, source_from, target, target_from, count);
     }
+}
+
+/// Two bytes of an object, from an index on, as a word: the high one first.
+pub(crate) fn short_at(store: &Store, number: u16, from: u16) -> u16
+    ensures { result ≡ word_of_bytes (byte_of store.now.objects number from)
+        (byte_of store.now.objects number (from + 1)) }
+{
+    let at = usize::from(from);
+    match part(store, number, at, 2) {
+        Some(words) => word_of(low(words[0]), low(words[1])),
+        None => word_of(byte(store, number, at), byte(store, number, at + 1)),
+    }
+}
+
+/// Writes a word to an object as two bytes, from an index on: the high one first.
+pub(crate) fn put_short(store: &mut Store, number: u16, from: u16, word: u16)
+    ensures { store.new ≡ with_objects store.old
+        (put_all store.old.objects number from (high word ∷ low word ∷ [])) }
+{
+    put_bytes(
+        store,
+        number,
+        usize::from(from),
+        &[high(word) as u8, low(word)],
+    );
 }

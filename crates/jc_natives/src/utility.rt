@@ -5,8 +5,8 @@ ghost use Rattle.jc_natives.specs.PrivateWords.{done_of, seen_in};
 ghost use Rattle.jc_natives.specs.Utilities.{utility_work};
 ghost use Rattle.jc_natives.specs.declared.native.UtilityNative.TheVariants as natives;
 
-use crate::bytes::{compare_bytes, copy_bytes, fill_bytes, put_bytes};
-use crate::cells::{argument, byte, high, part, sum, word_of};
+use crate::bytes::{compare_bytes, copy_bytes, fill_bytes, put_short, short_at};
+use crate::cells::{argument, sum, word_of};
 use crate::ended::Ended;
 use crate::kept::Runtime;
 use crate::native::UtilityNative;
@@ -68,12 +68,8 @@ fn get_short(world: &World, store: &mut Store, call: &WordCall<'_>, runtime: &Ru
         (utility_work (seen_in world.now store.old call.now) runtime.now call.now.arguments.now natives.GetShort) }
 {
     let array = argument(call.arguments, 0);
-    let at = usize::from(argument(call.arguments, 1));
-    let word = match part(store, array, at, 2) {
-        Some(words) => word_of(low(words[0]), low(words[1])),
-        None => word_of(byte(store, array, at), byte(store, array, at + 1)),
-    };
-    Ended::Returned(Some(word))
+    let from = argument(call.arguments, 1);
+    Ended::Returned(Some(short_at(store, array, from)))
 }
 
 fn set_short(world: &World, store: &mut Store, call: &WordCall<'_>, runtime: &Runtime) -> Ended
@@ -84,12 +80,7 @@ fn set_short(world: &World, store: &mut Store, call: &WordCall<'_>, runtime: &Ru
     let array = argument(call.arguments, 0);
     let from = argument(call.arguments, 1);
     let word = argument(call.arguments, 2);
-    put_bytes(
-        store,
-        array,
-        usize::from(from),
-        &[high(word) as u8, low(word)],
-    );
+    put_short(store, array, from, word);
     Ended::Returned(Some(sum(from, 2)))
 }
 

@@ -1,14 +1,16 @@
 //! The low bytes of words that are lent out of objects.
 
-ghost use Rattle.std.specs.Prelude.{◌≡◌, ◌+◌, ◌++◌, ◌≤◌, true, bytes_eq, length, map, take};
+ghost use Rattle.std.specs.Prelude.{◌≡◌, ◌+◌, ◌++◌, ◌≤◌, ◌<◌, true, bytes_eq, length, map, take};
 ghost use Rattle.arrayvec.specs.ArrayVec.{array_vec_len};
 ghost use Rattle.jc_natives.specs.Cells.{byte_order, low, order_of};
 
 use crate::kept::MOST_SENT;
 use arrayvec::ArrayVec;
 
-/// How many words are compared at once.
-const BLOCK: usize = 16;
+// How many words are compared at once, first and then.
+const LARGE: usize = 64;
+
+const SMALL: usize = 8;
 
 /// The low byte of a word.
 #[inline]
@@ -60,6 +62,26 @@ fn are_same(one: &[u16], other: &[u16]) -> bool
     same
 }
 
+// How many words in front are the same, of which so many are known to be: on from there in whole blocks of a size.
+#[inline(always)]
+fn same_from(one: &[u16], other: &[u16], known: usize, size: usize) -> usize
+    requires sized { length one.now ≡ length other.now }
+    requires within { known ≤ length one.now }
+    requires same { take known one.now ≡ take known other.now }
+    requires some { 0 < size }
+    ensures within { result ≤ length one.now }
+    ensures same { take result one.now ≡ take result other.now }
+{
+    let mut start = known;
+    while size <= one.len() - start {
+        if !are_same(&one[start..start + size], &other[start..start + size]) {
+            return start;
+        }
+        start += size;
+    }
+    start
+}
+
 // How many words in front are the same, in whole blocks.
 #[inline]
 fn same_start(one: &[u16], other: &[u16]) -> usize
@@ -67,13 +89,7 @@ fn same_start(one: &[u16], other: &[u16]) -> usize
     ensures within { result ≤ length one.now }
     ensures same { take result one.now ≡ take result other.now }
 {
-    for block in 0..one.len() / BLOCK {
-        let start = block * BLOCK;
-        if !are_same(&one[start..start + BLOCK], &other[start..start + BLOCK]) {
-            return start;
-        }
-    }
-    one.len() / BLOCK * BLOCK
+    same_from(one, other, same_from(one, other, 0, LARGE), SMALL)
 }
 
 /// How the low bytes of words compare: -1, 0 or 1.

@@ -1,4 +1,4 @@
-use Rattle.std.proofs.Common.{◌+◌, ℕ, List, length, ap, sym, ◌∙◌, arith}
+use Rattle.std.proofs.Common.{ℕ, List, ap, ◌∙◌, arith}
 use Rattle.jc_natives.specs.Cells.{bytes_of, put_all}
 use Rattle.jc_natives.proofs.Parts.{low_bytes_of, put_part}
 use Rattle.jc_natives.proofs.Ranges.{length_of_bytes}

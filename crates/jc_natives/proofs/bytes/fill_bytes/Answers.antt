@@ -1,4 +1,4 @@
-use Rattle.std.proofs.Common.{◌+◌, ℕ, length, replicate, ap, ◌∙◌, arith}
+use Rattle.std.proofs.Common.{ℕ, replicate, ap, ◌∙◌, arith}
 use Rattle.std.proofs.lemmas.List.{length-replicate}
 use Rattle.jc_natives.specs.Cells.{put_all}
 use Rattle.jc_natives.proofs.Parts.{put_part}

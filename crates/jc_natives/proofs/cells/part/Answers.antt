@@ -1,4 +1,4 @@
-use Rattle.std.proofs.Common.{◌+◌, ap, ◌∙◌}
+use Rattle.std.proofs.Common.{◌+◌, ap}
 use Rattle.jc_natives.proofs.Parts.{part_given}
 use Rattle.jc_natives.proofs.cells.part.Goals as goal
 

@@ -1,5 +1,4 @@
-use Rattle.std.proofs.Common.{◌≡◌, ◌+◌, ◌*◌, ◌++◌, true, bytes_eq, length, map, take, drop}
-use Rattle.jc_natives.specs.Cells.{low, order_of}
+use Rattle.std.proofs.Common.{◌≡◌, true, take}
 use Rattle.jc_natives.proofs.words.are_same.Given as goal
 
 abbrev pub invariant-loop-at : goal.invariant-loop-at

@@ -1,5 +1,5 @@
-use Rattle.std.proofs.Common.{◌≡◌, ◌+◌, ◌*◌, ◌++◌, true, bytes_eq, length, map, take, drop}
-use Rattle.jc_natives.specs.Cells.{low, order_of}
+use Rattle.std.proofs.Common.{◌≡◌, bytes_eq, map, drop}
+use Rattle.jc_natives.specs.Cells.{low}
 use Rattle.jc_natives.proofs.words.are_words.Given as goal
 
 abbrev pub invariant-loop-at : goal.invariant-loop-at

@@ -1,4 +1,4 @@
-use Rattle.std.proofs.Common.{◌≡◌, ◌+◌, ◌*◌, ◌++◌, true, bytes_eq, length, map, take, drop}
+use Rattle.std.proofs.Common.{◌≡◌, map, drop}
 use Rattle.jc_natives.specs.Cells.{low, order_of}
 use Rattle.jc_natives.proofs.words.order_of_words.Given as goal
 

@@ -3,6 +3,7 @@ use Rattle.std.proofs.Common.{◌≡◌, ℕ, zero, suc, ◌+◌, ◌-◌, ◌<�
 use Rattle.std.proofs.Common.{length, map, take, drop, get_or, slice_range, Option, Some, None, Bor, IfSome, bytes_eq, unwrap_or}
 use Rattle.std.proofs.Math.Seq.{sets}
 use Rattle.std.proofs.lemmas.Bool.{eq-eqb, le-ltb}
+use Rattle.std.proofs.lemmas.List.{take-take}
 use Rattle.std.proofs.lemmas.List.Edits.{sets-eq}
 use Rattle.std.specs.Option.{option_map_or}
 use Rattle.std.specs.Slice.{IsGetRangeResult}
@@ -129,6 +130,18 @@ same_block start end next one other h stop before block =
     ∙ ap (λ xs. xs ++ take (end - start) (drop start one)) before
     ∙ ap (λ xs. take start other ++ xs) block
     ∙ sym (take_both start (end - start) other) ∙ ap (λ n. take n other) (sym whole)
+
+-- the last block, which begins among those that are known to be the same
+pub same_last : (start size : ℕ) (one other : List ℕ) → length other ≡ length one → size ≤ length one
+    → length one - size ≤ start → take start one ≡ take start other
+    → slice_range one (length one - size) (length one) ≡ slice_range other (length one - size) (length other)
+    → take (length one) one ≡ take (length one) other
+same_last start size one other n some low before block =
+    let first = length one - size in
+    let known : take first one ≡ take first other = sym (take-take first start one low)
+    ∙ ap (take first) before ∙ take-take first start other low in
+    same_block first (length one) (length one) one other (omega arith) refl known
+    (block ∙ ap (λ k. slice_range other first k) n)
 
 -- ---- written
 

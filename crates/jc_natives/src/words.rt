@@ -62,7 +62,8 @@ fn are_same(one: &[u16], other: &[u16]) -> bool
     same
 }
 
-// How many words in front are the same, of which so many are known to be: on from there in whole blocks of a size.
+// How many words in front are the same, of which so many are known to be: on from there in blocks of a size. The last
+// block begins among those that are known.
 #[inline(always)]
 fn same_from(one: &[u16], other: &[u16], known: usize, size: usize) -> usize
     requires sized { length one.now ≡ length other.now }
@@ -79,10 +80,15 @@ fn same_from(one: &[u16], other: &[u16], known: usize, size: usize) -> usize
         }
         start += size;
     }
-    start
+    let end = one.len();
+    if start < end && size <= end && are_same(&one[end - size..], &other[end - size..]) {
+        end
+    } else {
+        start
+    }
 }
 
-// How many words in front are the same, in whole blocks.
+// How many words in front are the same, but for some behind the last block.
 #[inline]
 fn same_start(one: &[u16], other: &[u16]) -> usize
     requires sized { length one.now ≡ length other.now }

@@ -1,5 +1,5 @@
-use Rattle.std.proofs.Common.{◌+◌, arith, refl}
-use Rattle.jc_natives.proofs.Parts.{same_block}
+use Rattle.std.proofs.Common.{◌+◌, sym, arith, refl}
+use Rattle.jc_natives.proofs.Parts.{same_block, same_last}
 use Rattle.jc_natives.proofs.words.same_from.Goals as goal
 
 pub loop-start-preserved : goal.loop-start-preserved
@@ -9,3 +9,11 @@ loop-start-preserved c = record {
       c.args.one.now c.args.other.now (omega arith) refl c.loop-start.invariant.same
       (c.are_same.ensures c.if-not-are_same.false);
 }
+
+pub returns-then-are_same-clause-same : goal.returns-then-are_same-clause-same
+returns-then-are_same-clause-same c =
+    let left = c.loop-start-test.false in
+    let some = c.if-size-end.true in
+    same_last c.loop-start.start c.args.size c.args.one.now c.args.other.now (sym c.requires.sized) some
+    (omega (arith, left, some)) c.loop-start.invariant.same
+    (c.are_same-then-size-end.ensures c.if-are_same.true)

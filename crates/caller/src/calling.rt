@@ -1,6 +1,7 @@
 //! Methods are called.
 
-ghost use Rattle.std.specs.Prelude.{◌≡◌, ◌≤◌, [], IfOk, IfSome};
+ghost use Rattle.std.specs.Prelude.{◌≡◌, ◌≤◌, IfOk, IfSome};
+ghost use Rattle.caller.specs.Over.{IsMachineOver};
 
 use crate::answer::Answer;
 use crate::machine::{Machine, Members};
@@ -137,8 +138,8 @@ pub(crate) fn call(
     place: CodePlace,
     arguments: &[u16],
 ) -> Answer
-    ensures left { machine.old.words.frames.frames ≡ [] → machine.new.words.frames.frames ≡ [] }
-    ensures tables { machine.new.program ≡ machine.old.program }
+    requires { IsMachineOver world.now machine.old }
+    ensures { IsMachineOver world.now machine.new }
 {
     let size = match found(world, &machine.program, place, arguments.len()) {
         Ok(size) => size,
@@ -159,7 +160,10 @@ fn returned(answer: Answer) -> bool {
 }
 
 /// Calls a method without arguments, in which the instance of its package may register under an AID.
-pub(crate) fn install(machine: &mut Machine, world: &World, place: CodePlace, aid: Aid) -> Answer {
+pub(crate) fn install(machine: &mut Machine, world: &World, place: CodePlace, aid: Aid) -> Answer
+    requires { IsMachineOver world.now machine.old }
+    ensures { IsMachineOver world.now machine.new }
+{
     machine.runtime.begin_install(owner_of(place.package), aid);
     let answer = call(machine, world, place, &[]);
     machine.runtime.end_install(returned(answer));

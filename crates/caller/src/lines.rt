@@ -1,5 +1,8 @@
 //! The lines of a file, and what is answered to them.
 
+ghost use Rattle.std.specs.Prelude.{IfOk};
+ghost use Rattle.caller.specs.Over.{IsOver};
+
 use crate::answer::Answer;
 use crate::machine::{Limits, Machine, new_machine};
 use crate::{calling, loading, words};
@@ -19,7 +22,9 @@ struct Card {
 }
 
 /// A card without packages beside the API's.
-fn new_card(alloc: Global) -> Result<Card, AllocError> {
+fn new_card(alloc: Global) -> Result<Card, AllocError>
+    ensures { IfOk result IsOver }
+{
     Ok(Card {
         world: World::new(alloc, &Binding::default_table())?,
         machine: None,
@@ -65,7 +70,10 @@ fn aid(alloc: Global, text: &str) -> Result<Option<Aid>, AllocError> {
 }
 
 /// A machine in place of the one there.
-fn machine(alloc: Global, card: &mut Card, said: &[&str]) -> Result<Answer, AllocError> {
+fn machine(alloc: Global, card: &mut Card, said: &[&str]) -> Result<Answer, AllocError>
+    requires { IsOver card.old }
+    ensures { IsOver card.new }
+{
     let [frames, frame_words, steps, members] = *said else {
         return Ok(Answer::What);
     };
@@ -83,13 +91,18 @@ fn machine(alloc: Global, card: &mut Card, said: &[&str]) -> Result<Answer, Allo
 }
 
 /// Another package: there is no machine then.
-fn package(alloc: Global, card: &mut Card, text: &str) -> Answer {
+fn package(alloc: Global, card: &mut Card, text: &str) -> Answer
+    ensures { IsOver card.new }
+{
     card.machine = None;
     loading::answer(alloc, &mut card.world, text)
 }
 
 /// Another applet is selected, or none.
-fn select(card: &mut Card, context: &str) -> Answer {
+fn select(card: &mut Card, context: &str) -> Answer
+    requires { IsOver card.old }
+    ensures { IsOver card.new }
+{
     let Some(context) = words::context_or_none(context) else {
         return Answer::What;
     };
@@ -111,7 +124,10 @@ fn asked(card: &Card) -> Answer {
 }
 
 /// A method is called.
-fn call(alloc: Global, card: &mut Card, said: &[&str]) -> Result<Answer, AllocError> {
+fn call(alloc: Global, card: &mut Card, said: &[&str]) -> Result<Answer, AllocError>
+    requires { IsOver card.old }
+    ensures { IsOver card.new }
+{
     let [package, offset, ref shorts @ ..] = *said else {
         return Ok(Answer::What);
     };
@@ -125,7 +141,10 @@ fn call(alloc: Global, card: &mut Card, said: &[&str]) -> Result<Answer, AllocEr
 }
 
 /// An applet is installed.
-fn install(alloc: Global, card: &mut Card, said: &[&str]) -> Result<Answer, AllocError> {
+fn install(alloc: Global, card: &mut Card, said: &[&str]) -> Result<Answer, AllocError>
+    requires { IsOver card.old }
+    ensures { IsOver card.new }
+{
     let [package, offset, text] = *said else {
         return Ok(Answer::What);
     };
@@ -139,7 +158,10 @@ fn install(alloc: Global, card: &mut Card, said: &[&str]) -> Result<Answer, Allo
 }
 
 /// What is answered to a line.
-fn answer(alloc: Global, card: &mut Card, said: &[&str]) -> Result<Answer, AllocError> {
+fn answer(alloc: Global, card: &mut Card, said: &[&str]) -> Result<Answer, AllocError>
+    requires { IsOver card.old }
+    ensures { IsOver card.new }
+{
     match *said {
         ["card"] => {
             *card = new_card(alloc)?;
@@ -156,7 +178,10 @@ fn answer(alloc: Global, card: &mut Card, said: &[&str]) -> Result<Answer, Alloc
 }
 
 /// The same, where want of memory is an answer too.
-fn answer_or_memory(alloc: Global, card: &mut Card, line: &str) -> Result<Answer, AllocError> {
+fn answer_or_memory(alloc: Global, card: &mut Card, line: &str) -> Result<Answer, AllocError>
+    requires { IsOver card.old }
+    ensures { IsOver card.new }
+{
     let said: Vec<&str> = line.split(' ').collect(alloc)?;
     answer(alloc, card, &said)
 }

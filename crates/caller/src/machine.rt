@@ -1,6 +1,7 @@
 //! The machine that calls are made on.
 
-ghost use Rattle.std.specs.Prelude.{◌≡◌, [], IfOk, IfSome};
+ghost use Rattle.std.specs.Prelude.{IfOk, IfSome};
+ghost use Rattle.caller.specs.Over.{IsMachineOver};
 
 use crate::runtime_objects::make_runtime_objects;
 use crate::watcher::Watcher;
@@ -74,7 +75,9 @@ pub(crate) fn new_machine(
     world: &World,
     limits: Limits,
     members: Members,
-) -> Result<Option<Machine>, AllocError> {
+) -> Result<Option<Machine>, AllocError>
+    ensures { IfOk result (λ made. IfSome made (IsMachineOver world.now)) }
+{
     let program = Program::new(alloc, world)?;
     let Some(store) = new_store(alloc, &program)? else {
         return Ok(None);

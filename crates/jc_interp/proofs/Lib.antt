@@ -19,8 +19,11 @@ mod MatchingFields
 mod MatchingObjects
 mod MatchingThrows
 mod MatchingFrames
+mod Answering
+mod FirstCalls
 mod MatchingCalls
 mod MatchingNatives
+mod MembersFor
 mod VirtualTokens
 mod MatchingInvocations
 mod MatchingSteps

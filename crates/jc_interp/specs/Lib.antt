@@ -1,6 +1,7 @@
 pub mod Statics
 pub mod Agree
 pub mod Following
+pub mod Calling
 pub mod PrivateSeen
 pub mod PrivateDone
 pub mod PrivateReturns
@@ -20,3 +21,4 @@ pub mod PrivateKnows
 pub mod PrivateSimulates
 pub mod PrivateRuns
 pub mod PrivateLeaf
+pub mod PrivateCalling

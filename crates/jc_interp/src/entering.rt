@@ -39,7 +39,7 @@ pub(crate) fn owners_of(here: &Here<'_>, switch: Option<Owner>) -> Owners
 
 /// A frame at the start of a method.
 #[inline]
-fn header_of(method: &LoadedMethod<'_>, owners: Owners) -> FrameHeader
+pub(crate) fn header_of(method: &LoadedMethod<'_>, owners: Owners) -> FrameHeader
     ensures { result ≡ header_of method.now owners }
 {
     FrameHeader {
@@ -56,7 +56,7 @@ fn header_of(method: &LoadedMethod<'_>, owners: Owners) -> FrameHeader
 
 /// Its size, with so many words of arguments.
 #[inline]
-fn size_of(header: MethodHeader, words: u8) -> FrameSize
+pub(crate) fn size_of(header: MethodHeader, words: u8) -> FrameSize
     ensures { result ≡ size_of header words }
 {
     FrameSize {

@@ -2,6 +2,7 @@
 #![tactic(auto)]
 
 mod arrays;
+mod call;
 mod calls;
 mod casts;
 mod creation;
@@ -25,6 +26,7 @@ mod step;
 mod unwinding;
 mod words;
 
+pub use call::FirstCall;
 pub use ends::{RunEnd, StepEnd};
 pub use machine::WordMachine;
 pub use statics::Statics;

@@ -32,6 +32,7 @@ use Rattle.jc_names.specs.Names.{api_home}
 use Rattle.jc_names.specs.declared.name.ClassName.{ClassName}
 use Rattle.jc_names.specs.declared.name.ClassName.TheVariants as classes
 use Rattle.jc_names.specs.declared.name.MethodName.TheVariants.{Api}
+use Rattle.jc_natives.specs.MemberTypes.{counted_name}
 
 -- ---- the API's packages are the first of a world
 
@@ -53,10 +54,6 @@ stands_on _ (loaded before p built well) =
     record { bound = s.bound; clear = s.clear; lies = first_two before p.shape s.bound s.lies }
 
 -- ---- types with their classes found
-
--- a class as it counts
-abbrev pub counted_name : ApiClass → ClassName
-counted_name c = cond (is_interface c) (classes.Api Object) (classes.Api c)
 
 abbrev type_seen : (ApiClass → Bool) → DeclaredType ApiClass → Bool
 type_seen seen types.Boolean = true

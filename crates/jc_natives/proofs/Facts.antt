@@ -16,7 +16,7 @@ use Rattle.jc_machine.specs.Lookup.{are_of_instance, are_of_types, is_byte_array
 use Rattle.jc_machine.specs.Runtime.{HasRuntimeObject, HasRuntimeObjects, RuntimeObject, aid_object as aid_row, runtime_objects}
 use Rattle.jc_names.specs.declared.name.ClassName.{ClassName}
 use Rattle.jc_names.specs.declared.name.ClassName.TheVariants.{Api}
-use Rattle.jc_natives.proofs.ApiTypes.{counted_name}
+use Rattle.jc_natives.specs.MemberTypes.{counted_name}
 use Rattle.jc_natives.proofs.Bare.{both}
 use Rattle.jc_natives.proofs.Simulation.{passed_some}
 use Rattle.jc_natives.proofs.Suits.{IsBytes}

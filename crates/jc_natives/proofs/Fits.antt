@@ -34,7 +34,7 @@ use Rattle.jc_names.specs.Names.{is_same_name}
 use Rattle.jc_names.specs.declared.owner.Owner.{Owner}
 use Rattle.jc_names.specs.declared.name.ClassName.{ClassName}
 use Rattle.jc_names.specs.declared.name.ClassName.TheVariants.{Api}
-use Rattle.jc_natives.proofs.ApiTypes.{counted_name}
+use Rattle.jc_natives.specs.MemberTypes.{counted_name}
 use Rattle.jc_natives.proofs.Bare.{bare_object, both}
 use Rattle.jc_natives.proofs.Facts.{AreTyped, LeadsToBytes, LeadsToClass, found_fits, object_bytes, object_class, own_aid, own_object, static_bytes}
 use Rattle.jc_natives.proofs.Guarding.{keeps_new, keeps_written}

@@ -25,7 +25,8 @@ use Rattle.jc_machine.specs.Machine.{IsStuck, NativeAnswer, NativeCall}
 use Rattle.jc_machine.specs.Natives.{IsFitAnswer, IsFitCall, IsLawful}
 use Rattle.jc_names.specs.declared.name.ClassName.{ClassName}
 use Rattle.jc_names.specs.declared.name.ClassName.TheVariants as classes
-use Rattle.jc_natives.proofs.ApiTypes.{IsDeclared, counted_name, is_declared}
+use Rattle.jc_natives.specs.MemberTypes.{counted_name}
+use Rattle.jc_natives.proofs.ApiTypes.{IsDeclared, is_declared}
 use Rattle.jc_natives.proofs.Facts.{AreTyped}
 use Rattle.jc_natives.proofs.Fits.{begun_fits}
 use Rattle.jc_natives.proofs.Guarding.{answers_guarded}

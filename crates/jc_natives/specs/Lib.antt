@@ -11,5 +11,6 @@ pub mod Applets
 pub mod System
 pub mod Utilities
 pub mod Meaning
+pub mod MemberTypes
 pub mod Examples
 pub mod PrivateWords

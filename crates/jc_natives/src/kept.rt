@@ -259,8 +259,8 @@ impl Runtime {
         find_aid_in(self.instances.as_slice(), store, number, from, count).copied()
     }
 
-    // The registered instance of an owner.
-    pub(crate) fn instance_of(&self, owner: Owner) -> Option<Instance>
+    /// The registered instance of an owner.
+    pub fn instance_of(&self, owner: Owner) -> Option<Instance>
         ensures { result ≡ instance_of self.now.instances owner }
     {
         find_owner(self.instances.as_slice(), owner).copied()

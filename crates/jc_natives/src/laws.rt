@@ -1,14 +1,22 @@
 //! What holds of all native members.
 
-ghost use Rattle.std.specs.Prelude.{◌≡◌, ◌<◌, ◌≤◌, ℕ, Bool, List, length, true};
+ghost use Rattle.std.specs.Prelude.{◌≡◌, ◌<◌, ◌≤◌, ℕ, Bool, List, Some, length, true};
+ghost use Rattle.jc_api.specs.Member.{ApiMember, member_of};
+ghost use Rattle.jc_cap_desc.specs.Shape.{Shape};
+ghost use Rattle.jc_link.specs.Built.{IsBuilt};
 ghost use Rattle.jc_link.specs.Linked.{World};
+ghost use Rattle.jc_machine.specs.Calls.{type_of_member};
 ghost use Rattle.jc_machine.specs.Machine.{NativeCall};
 ghost use Rattle.jc_machine.specs.Natives.{IsGuardedAnswer, KeepsObjects};
 ghost use Rattle.jc_names.specs.declared.owner.Owner.{Owner};
+ghost use Rattle.jc_natives.specs.MemberTypes.{declared_signature};
 ghost use Rattle.jc_natives.specs.Kept.{Kept, after_install, are_bytes, is_aid, is_instance_number, nothing_kept, with_command, with_install, without_command};
 ghost use Rattle.jc_natives.specs.Meaning.{meaning};
 ghost use Rattle.jc_store.specs.Heap.{Heap};
 ghost use Rattle.jc_words.specs.Values.{TaggedValue};
+
+use jc_classes::growing_keeps_lookups;
+use jc_link::growing_keeps_linking;
 
 /// Each access of a native member is allowed, or is its last and changes nothing; and only objects change that were
 /// accessed. It does nothing.
@@ -40,3 +48,12 @@ pub fn calls_keep_fitting()
     ensures closed { (w : World) (heap : Heap TaggedValue) (k : Kept) → meaning.fits w heap k ≡ true
         → meaning.fits w heap (without_command k) ≡ true }
 {}
+
+/// What members of the API are declared to take and give, in each world that is built. It does nothing.
+pub fn members_are_declared()
+    ensures { (world : List Shape) → IsBuilt world → (number : ℕ) (member : ApiMember)
+        → member_of number ≡ Some member → type_of_member world number ≡ Some (declared_signature member) }
+{
+    growing_keeps_lookups();
+    growing_keeps_linking();
+}

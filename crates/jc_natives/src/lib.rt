@@ -22,4 +22,4 @@ mod words;
 
 pub use examples::{arguments_are_tested, bytes_are_written, members_refuse, ranges_and_signs};
 pub use kept::{ApduState, Installing, Instance, Runtime};
-pub use laws::{calls_keep_fitting, kept_stays_fit, members_are_guarded};
+pub use laws::{calls_keep_fitting, kept_stays_fit, members_are_declared, members_are_guarded};

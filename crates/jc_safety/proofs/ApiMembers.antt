@@ -53,7 +53,7 @@ use Rattle.jc_names.specs.declared.name.MethodName.{MethodName}
 use Rattle.jc_names.specs.declared.name.MethodName.TheVariants.{Api, Loaded}
 use Rattle.jc_machine.specs.Calls.{VirtualMember, token_in, virtual_member, virtual_member_in}
 use Rattle.jc_machine.specs.Machine.{Surroundings}
-use Rattle.jc_safety.proofs.Entering.{and_then, got_within, mapped_from}
+use Rattle.jc_safety.proofs.Callees.{and_then, got_within, mapped_from}
 use Rattle.jc_safety.proofs.Ground.{Ground, named}
 use Rattle.jc_safety.proofs.Lists.{and_true}
 use Rattle.jc_safety.proofs.Members.{HasVirtual, HaveMembers}

@@ -72,7 +72,8 @@ use Rattle.jc_machine.specs.Machine.{Machine, Stepped, Surroundings}
 use Rattle.jc_machine.specs.Runtime.{class_cast_exception}
 use Rattle.jc_machine.specs.Typed.{HoldTypes, IsEffect, IsOperand, IsTyped, with_result_type}
 use Rattle.jc_words.specs.Values.{Ref, TaggedValue, is_reference}
-use Rattle.jc_safety.proofs.Entering.{MayCall, Site, and_then, as_it_was, got_within, mapped_from}
+use Rattle.jc_safety.proofs.Callees.{MayCall, and_then, got_within, mapped_from}
+use Rattle.jc_safety.proofs.Entering.{Site, as_it_was}
 use Rattle.jc_safety.proofs.Goes.{placed, throws_at}
 use Rattle.jc_safety.proofs.Ground.{Ground, found_there}
 use Rattle.jc_safety.proofs.Lists.{and_true, drop_points, same_length}
@@ -637,7 +638,7 @@ module _ {C : Type 0} (s : Surroundings C) (ground : Ground s) (m : Machine C) (
           let kept = ground.sound.virtual_methods.kept (class_of o.kind.object) class token home v.method
           (heir_below s ground (class_of o.kind.object) class is made.class v.class_there) small v.finds in
           let concrete = made.finished.concrete token home kept.method small home_within kept.found in
-          let may = found_method s ground m t m.heap n o token home kept.method signature (given_to signature) there
+          let may = found_method s ground m.heap n o token home kept.method signature (given_to signature) there
           kept.found concrete (kept.type ∙ v.type) fit in
           safe_check s (is_of_class shapes class o.kind.object) _ is
           (safe_judged s (at ops) InvokeVirtual n (facts_of (at ops) o None false) _
@@ -684,7 +685,7 @@ module _ {C : Type 0} (s : Surroundings C) (ground : Ground s) (m : Machine C) (
             concrete = concrete_is shapes method f.declared f.there x.concrete;
             begins =
                 instance_begins shapes m.heap f.declared signature (Ref n) (given_to signature) type f.instance
-                (is_object s ground m t m.heap n o f.declared.class there is_below) fit;
+                (is_object s ground m.heap n o f.declared.class there is_below) fit;
             given = gives_by shapes f.declared signature type;
           }
 
@@ -701,7 +702,7 @@ module _ {C : Type 0} (s : Surroundings C) (ground : Ground s) (m : Machine C) (
             concrete = concrete_is shapes method x.declared x.there x.concrete;
             begins =
                 instance_begins shapes m.heap x.declared signature (Ref n) (given_to signature) x.type x.static_is
-                (is_object s ground m t m.heap n o x.declared.class there of_it) fit;
+                (is_object s ground m.heap n o x.declared.class there of_it) fit;
             given = gives_by shapes x.declared signature x.type;
           }
 
@@ -759,7 +760,7 @@ module _ {C : Type 0} (s : Surroundings C) (ground : Ground s) (m : Machine C) (
           let h = made.finished.interfaces interface x.class x.place x.row has x.there x.row_there in
           let finds = ap (interface_method_of shapes (class_of o.kind.object) interface) (sym x.token_is) ∙ h.found in
           let v = public_of (class_of o.kind.object) interface token h.method finds in
-          let may = found_method s ground m t m.heap n o v.0 0 h.method signature
+          let may = found_method s ground m.heap n o v.0 0 h.method signature
           (given_to signature) there v.1 h.concrete
           (h.type ∙ x.type) fit in
           safe_some s (interface_method_of shapes (class_of o.kind.object) interface token) h.method

@@ -3,6 +3,7 @@ mod Arrays
 mod Below
 mod Blank
 mod Bounds
+mod Callees
 mod Calling
 mod Casting
 mod Constants
@@ -25,6 +26,7 @@ mod Returning
 mod Rows
 mod Safe
 mod StaticWrites
+mod Starting
 mod Statics
 mod Stepping
 mod Taking
@@ -33,3 +35,4 @@ mod Unwinding
 mod Upward
 mod Words
 mod Writing
+mod Zeroed

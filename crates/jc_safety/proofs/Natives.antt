@@ -51,8 +51,9 @@ use Rattle.jc_machine.specs.Natives.{EndsFit, IsFitCall, IsFitCallback, IsThrown
 use Rattle.jc_machine.specs.Typed.{HaveTypes, HoldTypes, IsOperand, IsTyped, given_by, may_be_made, with_result_type}
 use Rattle.jc_words.specs.Values.{Null, Ref, TaggedValue, Unset, Word, is_written}
 use Rattle.jc_safety.proofs.Below.{interface_object}
+use Rattle.jc_safety.proofs.Callees.{MayCall}
 use Rattle.jc_safety.proofs.Entering as entering
-use Rattle.jc_safety.proofs.Entering.{Beside, MayCall, Site, beside_now, enters_safe, got_within}
+use Rattle.jc_safety.proofs.Entering.{Beside, Site, beside_now, enters_safe}
 use Rattle.jc_safety.proofs.Goes.{placed}
 use Rattle.jc_safety.proofs.Ground.{Ground}
 use Rattle.jc_safety.proofs.Growing.{keeps_through, operands_still, statics_still, types_still, waiting_still}
@@ -106,7 +107,7 @@ native_result world true (Some x) d given e f =
     ∙ ap (option_and_then (λ (y : Signature ClassName). returned_type y.result)) f
 
 -- a member that isn't abstract may begin
-begins_if : (world : List Shape) (heap : Heap TaggedValue) (o : Option DeclaredMethod) (d : DeclaredMethod)
+pub begins_if : (world : List Shape) (heap : Heap TaggedValue) (o : Option DeclaredMethod) (d : DeclaredMethod)
     → (arguments : List TaggedValue) → o ≡ Some d → is_abstract_method d.method ≡ false
     → may_begin_with world heap d arguments ≡ true
     → (option_map_or (λ (x : DeclaredMethod). not (is_abstract_method x.method)) o false && option_map_or (λ
@@ -268,40 +269,44 @@ pub type_there : (world : List Shape) (name : MethodName) (d : DeclaredMethod) (
     → method_at world name ≡ Some d → method_type_of world name ≡ Some x → declared_type_of world d ≡ Some x
 type_there world name d x e f = sym (ap (option_and_then (declared_type_of world)) e) ∙ f
 
-module _ {C : Type 0} (s : Surroundings C) (ground : Ground s) (m : Machine C) (t : IsTyped s m) where
-  abbrev shapes : List Shape
-  shapes = s.world.shapes
+module _ {C : Type 0} (s : Surroundings C) (ground : Ground s) where
+  abbrev its_shapes : List Shape
+  its_shapes = s.world.shapes
 
   -- an object as a reference to it
   pub is_object : (heap : Heap TaggedValue) (n : ℕ) (o : heaps.Object TaggedValue) (c : ClassName)
-      → object_at heap n ≡ Some o → is_of_class shapes c o.kind.object ≡ true → is_object_of shapes heap c
+      → object_at heap n ≡ Some o → is_of_class its_shapes c o.kind.object ≡ true → is_object_of its_shapes heap c
       (Ref n) ≡ true
   is_object heap n o c found is =
       ap (λ (x : Option (heaps.Object TaggedValue)). option_map_or (λ
-      (o : heaps.Object TaggedValue). is_of_class shapes c o.kind.object) x false)
+      (o : heaps.Object TaggedValue). is_of_class its_shapes c o.kind.object) x false)
       found
       ∙ is
 
   -- a method that an object's class finds at a virtual token may be called on the object
   pub found_method : (heap : Heap TaggedValue) (n : ℕ) (o : heaps.Object TaggedValue) (token asker : ℕ)
       → (name : MethodName) (x : Signature ClassName) (arguments : List TaggedValue) → object_at heap n ≡ Some o
-      → virtual_method_of shapes (class_of o.kind.object) token asker ≡ Some name
-      → is_concrete shapes name ≡ true → method_type_of shapes name ≡ Some x
-      → are_of_types shapes heap x.parameters arguments ≡ true
-      → MayCall shapes heap name (returned_type x.result) (Ref n ∷ arguments)
+      → virtual_method_of its_shapes (class_of o.kind.object) token asker ≡ Some name
+      → is_concrete its_shapes name ≡ true → method_type_of its_shapes name ≡ Some x
+      → are_of_types its_shapes heap x.parameters arguments ≡ true
+      → MayCall its_shapes heap name (returned_type x.result) (Ref n ∷ arguments)
   found_method heap n o token asker name x arguments there finds concrete type fit =
       let f = ground.sound.virtual_methods.found (class_of o.kind.object) token asker name finds in
-      let type_is = type_there shapes name f.declared x f.there type in
+      let type_is = type_there its_shapes name f.declared x f.there type in
       let at_d = ground.names.declared name f.declared f.there in
       let below = below_heir s ground (class_of o.kind.object) f.declared.class f.heir at_d in record {
         declared = f.declared;
         there = f.there;
-        concrete = concrete_is shapes name f.declared f.there concrete;
+        concrete = concrete_is its_shapes name f.declared f.there concrete;
         begins =
-            instance_begins shapes heap f.declared x (Ref n) arguments type_is f.instance
+            instance_begins its_shapes heap f.declared x (Ref n) arguments type_is f.instance
             (is_object heap n o f.declared.class there below) fit;
-        given = gives_by shapes f.declared x type_is;
+        given = gives_by its_shapes f.declared x type_is;
       }
+
+module _ {C : Type 0} (s : Surroundings C) (ground : Ground s) (m : Machine C) (t : IsTyped s m) where
+  abbrev shapes : List Shape
+  shapes = s.world.shapes
 
   -- ---- the answer of a native member
 
@@ -558,7 +563,7 @@ module _ {C : Type 0} (s : Surroundings C) (ground : Ground s) (m : Machine C) (
           let type = kept.type ∙ fit.declared in
           let concrete = made.finished.concrete its.token 0 kept.method its.small (some_world s ground) kept.found in
           let same_result = return_same given.result fit.signature.result fit.result in
-          let may = found_method heap callback.object fit.object its.token 0 kept.method fit.signature
+          let may = found_method s ground heap callback.object fit.object its.token 0 kept.method fit.signature
           callback.arguments there
           kept.found concrete type arguments_fit in
           let gives = sym (ap returned_type same_result) ∙ result_is in

@@ -32,7 +32,7 @@ use Rattle.jc_machine.specs.Returns as returns
 use Rattle.jc_machine.specs.Returns.{pc_behind_call, resumed, returns_to, room_of, with_result}
 use Rattle.jc_machine.specs.Typed.{HaveTypes, HoldTypes, IsOperand, IsTyped, IsTypedBeside, WaitTyped, WaitsTyped, given_by, has_type}
 use Rattle.jc_machine.specs.Typed.{with_result_type}
-use Rattle.jc_words.specs.Values.{TaggedValue, Word, is_reference}
+use Rattle.jc_words.specs.Values.{TaggedValue, Word, is_reference, is_written}
 use Rattle.jc_names.specs.declared.name.MethodName.TheVariants.{Loaded}
 use Rattle.jc_safety.proofs.Goes.{method}
 use Rattle.jc_safety.proofs.Ground.{Ground, MethodOf, method_of_code}
@@ -73,6 +73,12 @@ IsResult world heap None None = Unit {0}
 IsResult world heap (Some v) (Some t) = IsOperand world heap v t
 IsResult world heap None (Some t) = ⊥
 IsResult world heap (Some v) None = ⊥
+
+pub result_written : (world : List Shape) (heap : Heap TaggedValue) (value : Option TaggedValue) (r : Option Ty)
+    → IsResult world heap value r → option_map_or is_written value true ≡ true
+result_written world heap None r is = refl
+result_written world heap (Some v) (Some t) is = is.written
+result_written world heap (Some v) None is = absurd is
 
 -- what a method that gives this is declared to give
 pub record Gives (world : List Shape) (d : DeclaredMethod) (t : Option Ty) : Type 0 where
@@ -185,10 +191,13 @@ module _ {C : Type 0} (s : Surroundings C) (ground : Ground s) where
         → IsSafe s (returns_to (at vs) value fs)
     returns_safe vs value result [] wait is = record {
       fine = record {
-        heap = t.beside.heap;
-        statics = t.beside.statics;
-        runtime_objects = t.beside.runtime_objects;
-        fits = t.beside.fits;
+        beside = record {
+          heap = t.beside.heap;
+          statics = t.beside.statics;
+          runtime_objects = t.beside.runtime_objects;
+          fits = t.beside.fits;
+        };
+        written = result_written shapes m.heap value result is;
       };
     }
     returns_safe vs None result (f ∷ fs) wait is =

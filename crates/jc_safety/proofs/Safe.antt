@@ -12,6 +12,7 @@ use Rattle.jc_machine.specs.Machine.{Ends, Machine, Next, Outcome, Stepped, Stuc
 use Rattle.jc_machine.specs.Natives.{IsThrown}
 use Rattle.jc_machine.specs.Runtime.{security_exception}
 use Rattle.jc_machine.specs.Typed.{IsPlaced, IsTyped, IsTypedBeside, WaitTyped, given_by}
+use Rattle.jc_safety.specs.Safety.{EndsWith}
 
 -- an object is thrown in a machine whose frames are as they should be, but for the operands of the one that runs
 pub record MayUnwind {C : Type 0} (s : Surroundings C) (m : Machine C) (number : ℕ) : Type 0 where
@@ -24,7 +25,7 @@ pub record MayUnwind {C : Type 0} (s : Surroundings C) (m : Machine C) (number :
 abbrev pub IsFine : {C : Type 0} → Surroundings C → Outcome C → Type 0
 IsFine s (Next m) = IsTyped s m
 IsFine s (Throws m number) = MayUnwind s m number
-IsFine s (Ends m value) = IsTypedBeside s m
+IsFine s (Ends m value) = EndsWith s m value
 IsFine s (UsedUp m) = IsTypedBeside s m
 IsFine s Stuck = ⊥
 

@@ -1,1 +1,3 @@
 pub mod Safety
+pub mod Starting
+pub mod Zeroing

@@ -1,12 +1,17 @@
 //! Type safety: in a world of accepted packages a well-typed machine is never stuck.
 #![tactic(auto)]
 
-ghost use Rattle.std.specs.Prelude.{ℕ};
+ghost use Rattle.std.specs.Prelude.{◌≡◌, ◌<◌, ℕ, Bool, Some};
 ghost use Rattle.jc_machine.specs.Running.{MayRun};
-ghost use Rattle.jc_machine.specs.Machine.{Machine, Surroundings};
-ghost use Rattle.jc_machine.specs.Step.{defensive_step, steps_of};
-ghost use Rattle.jc_machine.specs.Typed.{IsTyped};
+ghost use Rattle.jc_machine.specs.Machine.{Machine, MethodPlace, Surroundings};
+ghost use Rattle.jc_machine.specs.Step.{Start, defensive_step, no_frame, runtime_call, standing, steps_of};
+ghost use Rattle.jc_machine.specs.Typed.{IsTyped, IsTypedBeside};
 ghost use Rattle.jc_safety.specs.Safety.{EndsTyped, StaysTyped};
+ghost use Rattle.jc_safety.specs.Starting.{FindsMethod, IsMemberCall, IsTypedStart, MethodCanBegin, first_frame};
+ghost use Rattle.jc_safety.specs.Zeroing.{with_heap, zeroed_where};
+ghost use Rattle.jc_store.specs.Heap.{Object, object_at, with_cell, with_object};
+ghost use Rattle.jc_store.specs.declared.kind.ObjectType.TheVariants.{ByteArray};
+ghost use Rattle.jc_words.specs.Values.{TaggedValue, Word};
 
 use jc_classes::{found_subtypes_are_subtypes, growing_keeps_lookups, superclass_laws};
 use jc_code::listing_laws;
@@ -23,12 +28,48 @@ use jc_step::growing_keeps_effects;
 /// Accepted packages are type-safe. Where each package of a world was linked and checked, and the native members keep
 /// their law, a machine that is well typed is never stuck. In each step it goes on and is well typed, or its call ends:
 /// with a value, with an object that nothing caught, or used up; and then what it keeps beside its frames is typed. So
-/// it is in any number of steps. What the runtime keeps may be of any type. It does nothing.
+/// it is in any number of steps, and in a whole call of the runtime's that can begin. A virtual member of the API that
+/// is called on an object of its class can begin: that class has a method in its place. What the runtime keeps may be of
+/// any type. It does nothing.
 pub fn accepted_packages_are_type_safe<N: Natives>(_natives: &N)
     ensures steps { (s : Surroundings N.Kept) → MayRun s → (m : Machine N.Kept) → IsTyped s m
         → StaysTyped s (defensive_step s m).outcome }
     ensures runs { (s : Surroundings N.Kept) → MayRun s → (steps : ℕ) (m : Machine N.Kept) → IsTyped s m
         → EndsTyped s (steps_of s steps m).ends }
+    ensures calls { (s : Surroundings N.Kept) → MayRun s → (steps : ℕ) (start : Start N.Kept) → IsTypedStart s start
+        → EndsTyped s (runtime_call s steps start).ends }
+    ensures first { (s : Surroundings N.Kept) → MayRun s → (start : Start N.Kept) (place : MethodPlace)
+        (can : MethodCanBegin s start place) → IsTypedBeside s (standing start (no_frame start.owner))
+        → IsTyped s (standing start (first_frame start place can.header)) }
+    ensures members { (s : Surroundings N.Kept) → MayRun s → (start : Start N.Kept)
+        → IsTypedBeside s (standing start (no_frame start.owner)) → (member : ℕ) (object : Object TaggedValue)
+        → IsMemberCall s start member object → FindsMethod s start member object }
+{
+    growing_keeps_lookups();
+    growing_keeps_linking();
+    growing_keeps_effects();
+    built_worlds_are_sound();
+    built_worlds_name_classes();
+    built_worlds_have_the_api();
+    cells_follow_superclasses();
+    superclass_laws();
+    found_subtypes_are_subtypes();
+    methods_have_code();
+    accepted_methods_are_typed();
+    listing_laws();
+    instructions_begin_in_turn();
+    runtime_objects_stay();
+}
+
+/// What the runtime itself does to objects leaves them typed: any of them may be zeroed, and a byte be written to an
+/// array of bytes. It does nothing.
+pub fn objects_stay_typed<N: Natives>(_natives: &N)
+    ensures zeroed { (s : Surroundings N.Kept) → MayRun s → (m : Machine N.Kept) → IsTypedBeside s m
+        → (test : Object TaggedValue → Bool) → IsTypedBeside s (with_heap m (zeroed_where test m.heap)) }
+    ensures byte { (s : Surroundings N.Kept) → MayRun s → (m : Machine N.Kept) → IsTypedBeside s m
+        → (number index byte : ℕ) (object : Object TaggedValue) → object_at m.heap number ≡ Some object
+        → object.kind.object ≡ ByteArray → byte < 256
+        → IsTypedBeside s (with_heap m (with_object m.heap number (with_cell object index (Word byte)))) }
 {
     growing_keeps_lookups();
     growing_keeps_linking();

@@ -1,0 +1,10 @@
+use Rattle.jc_interp.specs.Following.{WordState}
+use Rattle.jc_interp.proofs.FirstCalls.{never_nothing}
+use Rattle.jc_interp.proofs.machine.WordMachine.make_call.Goals as goal
+
+pub returns-in-Nothing : goal.returns-in-Nothing
+returns-in-Nothing g c =
+    let before : WordState g.N.Natives.Kept =
+    record { machine = c.args.self.now; kept = g.N.Natives.kept c.args.natives.now } in
+    never_nothing c.args.world.now c.args.program.now g.N.Natives.meaning c.args.selected c.args.steps c.args.call.now
+    before (λ accepted program. c.tables_are_known.ensures c.args.world.now accepted program) c.in-Nothing.is before _

@@ -1,0 +1,216 @@
+//! Calls of the runtime: a method of an applet's instance, or a native member in its place (Java Card Runtime
+//! Environment Specification, Applet lifetime).
+
+ghost use Rattle.std.specs.Prelude.{◌≡◌, []};
+ghost use Rattle.jc_loaded.specs.declared.called.Called.TheVariants.{Method, NativeMethod};
+ghost use Rattle.jc_interp.specs.Calling.{IsCall, IsMethodFor, MayCall};
+ghost use Rattle.jc_interp.specs.PrivateCalling.{EntersFirst, called_for, called_on, first_end};
+ghost use Rattle.jc_interp.specs.PrivateDone.{done};
+
+use crate::ends::{RunEnd, StepEnd};
+use crate::entering::{Owners, header_of, size_of};
+use crate::machine::WordMachine;
+use crate::seen::look_at;
+use crate::step::tables_are_known;
+use jc_link::World;
+use jc_loaded::{Called, ClassNumber, MethodNumber, Program};
+use jc_machine::{Natives, WordCall, WordOutcome};
+use jc_names::Owner;
+use jc_safety::accepted_packages_are_type_safe;
+use jc_store::Store;
+
+/// A call that the runtime makes.
+#[derive(Clone, Copy)]
+pub struct FirstCall<'a> {
+    /// What is called.
+    pub called: Called,
+    /// The owner that is active in it: the instance's. There is none before it.
+    pub owner: Owner,
+    /// The arguments, the object first where it has one.
+    pub arguments: &'a [u16],
+}
+
+/// How a native member ends a call that began with it. It makes no call itself.
+fn native_end(outcome: WordOutcome) -> RunEnd
+    ensures { result ≡ first_end outcome }
+{
+    match outcome {
+        WordOutcome::Returned(value) => RunEnd::Gave(value),
+        WordOutcome::Thrown(object) => RunEnd::Threw(object),
+        WordOutcome::CallsBack(_) => RunEnd::RanOut,
+    }
+}
+
+/// What an object's class has at a token; none where there is no object.
+fn called_on(program: &Program, store: &Store, number: u16, token: u8) -> Option<Called>
+    ensures { result ≡ called_on program.now store.now number token }
+{
+    let object = look_at(store, number)?;
+    let class = ClassNumber::new(object.class);
+    Some(program.virtual_methods.virtual_method(class, token))
+}
+
+/// What it has in place of a virtual member of the API.
+fn called_for(program: &Program, store: &Store, member: u16, number: u16) -> Called
+    ensures { result ≡ called_for program.now store.now member number }
+{
+    let Some(token) = program.member_tokens.token(member) else {
+        return Called::Nothing;
+    };
+    match called_on(program, store, number, token) {
+        Some(called) => called,
+        None => Called::Nothing,
+    }
+}
+
+impl WordMachine {
+    /// What an object's class has in place of a virtual member of the API: the member's number and the object's. In an
+    /// accepted world, over its own tables, it is what the look-up finds; nothing where there is no such object.
+    pub fn method_for(&self, program: &Program, member: u16, object: u16) -> Called
+        ensures { IsMethodFor program.now self.now.store member object result }
+    {
+        tables_are_known(program);
+        called_for(program, &self.store, member, object)
+    }
+
+    /// Makes the first frame of a call.
+    fn enter_first(
+        &mut self,
+        program: &Program,
+        number: MethodNumber,
+        call: &FirstCall<'_>,
+    ) -> StepEnd
+        ensures { EntersFirst program.now number call.now self.old (done self.new result) }
+    {
+        let Some(method) = program.methods.get(number) else {
+            return StepEnd::UsedUp;
+        };
+        let Ok(count) = u8::try_from(call.arguments.len()) else {
+            return StepEnd::UsedUp;
+        };
+        let owners = Owners {
+            active: call.owner,
+            previous: None,
+        };
+        let header = header_of(&method, owners);
+        let size = size_of(method.header, count);
+        self.frames.clear();
+        if self.frames.push_frame(header, size, call.arguments) {
+            StepEnd::GoesOn
+        } else {
+            StepEnd::UsedUp
+        }
+    }
+
+    /// Calls a method of a loaded package.
+    fn call_method<N: Natives>(
+        &mut self,
+        natives: &mut N,
+        world: &World,
+        program: &Program,
+        selected: Option<u8>,
+        steps: u32,
+        call: &FirstCall<'_>,
+        number: MethodNumber,
+    ) -> RunEnd
+        requires may_call { MayCall world.now program.now N.meaning selected call.now
+            (record { machine = self.old; kept = N.kept natives.old }) }
+        requires method { call.now.called ≡ Method number }
+        ensures { IsCall world.now program.now N.meaning selected steps call.now
+            (record { machine = self.old; kept = N.kept natives.old })
+            (record { machine = self.new; kept = N.kept natives.new }) result }
+    {
+        tables_are_known(program);
+        natives.law();
+        accepted_packages_are_type_safe(natives);
+        match self.enter_first(program, number, call) {
+            StepEnd::GoesOn => self.run(natives, world, program, selected, steps),
+            StepEnd::Throws(_) | StepEnd::Gives(_) | StepEnd::UsedUp => RunEnd::RanOut,
+        }
+    }
+
+    /// Calls a native member, in one step and without a frame.
+    fn call_api<N: Natives>(
+        &mut self,
+        natives: &mut N,
+        world: &World,
+        program: &Program,
+        selected: Option<u8>,
+        steps: u32,
+        call: &FirstCall<'_>,
+        member: u16,
+    ) -> RunEnd
+        requires native { call.now.called ≡ NativeMethod member }
+        ensures { IsCall world.now program.now N.meaning selected steps call.now
+            (record { machine = self.old; kept = N.kept natives.old })
+            (record { machine = self.new; kept = N.kept natives.new }) result }
+    {
+        tables_are_known(program);
+        natives.law();
+        accepted_packages_are_type_safe(natives);
+        if steps == 0 {
+            return RunEnd::RanOut;
+        }
+        let native_call = WordCall {
+            member,
+            arguments: call.arguments,
+            active: call.owner,
+            previous: None,
+            selected,
+        };
+        native_end(natives.call(world, &mut self.store, &native_call))
+    }
+
+    /// Makes a call, whatever is called.
+    fn make_call<N: Natives>(
+        &mut self,
+        natives: &mut N,
+        world: &World,
+        program: &Program,
+        selected: Option<u8>,
+        steps: u32,
+        call: &FirstCall<'_>,
+    ) -> RunEnd
+        requires may_call { MayCall world.now program.now N.meaning selected call.now
+            (record { machine = self.old; kept = N.kept natives.old }) }
+        ensures { IsCall world.now program.now N.meaning selected steps call.now
+            (record { machine = self.old; kept = N.kept natives.old })
+            (record { machine = self.new; kept = N.kept natives.new }) result }
+    {
+        tables_are_known(program);
+        match call.called {
+            Called::Method(number) => {
+                self.call_method(natives, world, program, selected, steps, call, number)
+            }
+            Called::NativeMethod { member } => {
+                self.call_api(natives, world, program, selected, steps, call, member)
+            }
+            Called::Nothing => RunEnd::RanOut,
+        }
+    }
+
+    /// Makes a call of the runtime's, of so many steps at most: a frame for the method, and steps until the call ends;
+    /// or a native member, which is one step. It drops all frames, those of before too. It is for calls that read one of
+    /// the defensive machine's, of an accepted world, that can begin. The call ends as each such call ends, and what both
+    /// keep beside their frames agrees again. `selected` is the context of the applet that is selected, if one is.
+    pub fn call<N: Natives>(
+        &mut self,
+        natives: &mut N,
+        world: &World,
+        program: &Program,
+        selected: Option<u8>,
+        steps: u32,
+        call: &FirstCall<'_>,
+    ) -> RunEnd
+        requires may_call { MayCall world.now program.now N.meaning selected call.now
+            (record { machine = self.old; kept = N.kept natives.old }) }
+        ensures call { IsCall world.now program.now N.meaning selected steps call.now
+            (record { machine = self.old; kept = N.kept natives.old })
+            (record { machine = self.new; kept = N.kept natives.new }) result }
+        ensures dropped { self.new.frames.frames ≡ [] }
+    {
+        let end = self.make_call(natives, world, program, selected, steps, call);
+        self.frames.clear();
+        end
+    }
+}

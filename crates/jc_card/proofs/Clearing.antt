@@ -1,0 +1,151 @@
+-- Arrays that are cleared on words are zero or null on the defensive machine's card.
+use Rattle.std.proofs.Common.{◌≡◌, ◌==◌, ◌&&◌, ℕ, zero, suc, List, [], ◌∷◌, map, Bool, true, false, cond, Option, Some, None}
+use Rattle.std.proofs.Common.{slice_get, refl, sym, ap, ◌∙◌, subst}
+use Rattle.std.specs.Option.{option_map_or}
+use Rattle.jc_interp.specs.Agree.{AreNumbered, IsNumbered}
+use Rattle.jc_machine.specs.Lookup.{class_of}
+use Rattle.jc_machine.specs.Machine.{Machine, Surroundings}
+use Rattle.jc_machine.specs.Natives.{IsLawful}
+use Rattle.jc_machine.specs.Reading.{HeapReads, Pointwise, Reads, ReadsObject}
+use Rattle.jc_machine.specs.Running.{MayRun}
+use Rattle.jc_machine.specs.Typed.{IsTypedBeside}
+use Rattle.jc_names.specs.declared.name.ClassName.{ClassName}
+use Rattle.jc_names.specs.declared.owner.Owner.{Owner}
+use Rattle.jc_natives.specs.Kept.{Kept}
+use Rattle.jc_natives.specs.Meaning.{meaning}
+use Rattle.jc_safety.specs.Zeroing.{with_heap, zero_or_null, zeroed, zeroed_where}
+use Rattle.jc_store.specs.Heap.{Heap, Object, blanked, cleared, is_cleared_by, is_same_event}
+use Rattle.jc_store.specs.Store.{Store, with_objects}
+use Rattle.jc_store.specs.declared.kind.ClearingEvent.{ClearingEvent}
+use Rattle.jc_store.specs.declared.kind.Kind.{Kind}
+use Rattle.jc_words.specs.Values.{Null, Ref, TaggedValue, Unset, Word}
+use Rattle.jc_card.specs.Card.{CardState, around, at_rest}
+use Rattle.jc_card.specs.Parts.{clear}
+use Rattle.jc_card.specs.Reads.{CardWords, GivesNothing, Holds, IsDone}
+
+zero_reads : (v : TaggedValue) → Reads 0 (zero_or_null v)
+zero_reads (Word n) = refl
+zero_reads (Ref n) = refl
+zero_reads Null = refl
+zero_reads Unset = tt
+
+zeros_read : (ws : List ℕ) (vs : List TaggedValue) → Pointwise Reads ws vs
+    → Pointwise Reads (map (λ w. 0) ws) (map zero_or_null vs)
+zeros_read [] [] r = tt
+zeros_read [] (v ∷ vs) r = absurd r
+zeros_read (w ∷ ws) [] r = absurd r
+zeros_read (w ∷ ws) (v ∷ vs) r = (zero_reads v, zeros_read ws vs r.1)
+
+module _ (event : ClearingEvent) (context : Option ℕ) where
+  abbrev test : {V : Type 0} → Object V → Bool
+  test object = is_cleared_by event context object
+
+  abbrev by_kind : Kind → Owner → Bool
+  by_kind kind owner =
+      option_map_or (is_same_event event) kind.clears false && option_map_or (λ c. c == owner.context) context true
+
+  same_test : (o : Object ℕ) (p : Object TaggedValue) → ReadsObject o p → test o ≡ test p
+  same_test o p r = ap (λ (k : Kind). by_kind k o.owner) r.kind ∙ ap (by_kind p.kind) r.owner
+
+  abbrev one : Bool → Object ℕ → Object ℕ
+  one b o = cond b (blanked (λ kind. 0) o) o
+
+  abbrev other : Bool → Object TaggedValue → Object TaggedValue
+  other b p = cond b (zeroed p) p
+
+  one_reads : (b : Bool) (o : Object ℕ) (p : Object TaggedValue) → ReadsObject o p → ReadsObject (one b o) (other b p)
+  one_reads true o p r = record { kind = r.kind; owner = r.owner; cells = zeros_read o.cells p.cells r.cells }
+  one_reads false o p r = r
+
+  all_read : (os : Heap ℕ) (ps : Heap TaggedValue) → HeapReads os ps
+      → HeapReads (cleared (λ kind. 0) event context os) (zeroed_where test ps)
+  all_read [] [] r = tt
+  all_read [] (p ∷ ps) r = absurd r
+  all_read (o ∷ os) [] r = absurd r
+  all_read (o ∷ os) (p ∷ ps) r = (
+    subst (λ (b : Bool). ReadsObject (one (test o) o) (other b p)) (same_test o p r.0) (one_reads (test o) o p r.0),
+    all_read os ps r.1,
+  )
+
+  -- an object keeps its kind
+  one_kind : (b : Bool) (o : Object ℕ) → (one b o).kind ≡ o.kind
+  one_kind true o = refl
+  one_kind false o = refl
+
+  record Was (os : Heap ℕ) (n : ℕ) (x : Object ℕ) : Type 0 where
+    object : Object ℕ
+    found : slice_get os n ≡ Some object
+    kind : x.kind ≡ object.kind
+
+  was : (os : Heap ℕ) (n : ℕ) (x : Object ℕ) → slice_get (cleared (λ kind. 0) event context os) n ≡ Some x → Was os n x
+  was [] n x e = absurd cc
+  was (o ∷ os) zero x e =
+      let same : one (test o) o ≡ x = cc in
+      record { object = o; found = refl; kind = sym (ap (λ (y : Object ℕ). y.kind) same) ∙ one_kind (test o) o }
+  was (o ∷ os) (suc n) x e =
+      let w = was os n x e in
+      record { object = w.object; found = w.found; kind = w.kind }
+
+  abbrev after_in : Store → Store
+  after_in store = with_objects store (cleared (λ kind. 0) event context store.objects)
+
+  numbered_still : (names : List ClassName) (store : Store) → AreNumbered names store
+      → AreNumbered names (after_in store)
+  numbered_still names store h zero x e = absurd cc
+  numbered_still names store h (suc n) x e =
+      let w = was store.objects n x e in
+      let k = h (suc n) w.object w.found in
+      subst (λ (kind : Kind). IsNumbered names (after_in store) (suc n) (class_of kind.object)) (sym w.kind)
+      (record { named = k.named; kept = k.kept })
+
+  -- ---- the card
+
+  module _ (lawful : IsLawful meaning)
+      (stays : (s : Surroundings Kept) → MayRun s → (m : Machine Kept) → IsTypedBeside s m
+      → (test : Object TaggedValue → Bool) → IsTypedBeside s (with_heap m (zeroed_where test m.heap)))
+      (k : CardWords) (c : CardState) (h : Holds k c) where
+    abbrev after : CardWords
+    after = record k {
+      machine = record {
+        store = after_in k.machine.store;
+        frames = k.machine.frames;
+        statics = k.machine.statics;
+      };
+    }
+
+    pub clear_done : IsDone after GivesNothing (clear event context c)
+    clear_done =
+        let s = around c None in
+        let may : MayRun s = record { accepted = h.typed.accepted; natives = lawful } in
+        let t = stays s may (at_rest c) h.typed.beside test in
+        let b = h.beside in (
+          record {
+            typed = record {
+              accepted = h.typed.accepted;
+              beside = record {
+                heap = t.heap;
+                statics = t.statics;
+                runtime_objects = t.runtime_objects;
+                fits = t.fits;
+              };
+              numbers = h.typed.numbers;
+            };
+            world = h.world;
+            program = h.program;
+            beside = record {
+              heap = all_read k.machine.store.objects c.heap b.heap;
+              numbered = numbered_still k.program.classes k.machine.store b.numbered;
+              statics = b.statics;
+              runtime = b.runtime;
+              most_objects = b.most_objects;
+              most_cells = b.most_cells;
+              most_frames = b.most_frames;
+              most_words = b.most_words;
+            };
+            frames = h.frames;
+            selected = h.selected;
+            numbers = h.numbers;
+            steps = h.steps;
+          },
+          tt,
+        )

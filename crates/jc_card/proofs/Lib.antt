@@ -1,0 +1,4 @@
+mod AppletCalls
+mod Doing
+mod Clearing
+mod Selecting

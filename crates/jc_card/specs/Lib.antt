@@ -1,0 +1,7 @@
+pub mod Card
+pub mod Parts
+pub mod Command
+pub mod Commands
+pub mod Install
+pub mod Reads
+pub mod PrivateWords

@@ -1,0 +1,126 @@
+-- The parts of commands: calls of the runtime's, what it writes in its own name, and the clearing of transient arrays
+-- (Java Card Runtime Environment Specification, Applet Lifetime, Transient Objects).
+use Rattle.std.specs.Prelude.{ℕ, suc, List, [], ◌∷◌, ◌++◌, Option, Some, None, map, if◌then◌else◌}
+use Rattle.std.specs.Option.{option_and_then, option_map, option_map_or}
+use Rattle.jc_machine.specs.Machine.{Touch}
+use Rattle.jc_machine.specs.Runtime.{apdu_object}
+use Rattle.jc_machine.specs.Step.{Called, CallEnd, Gave, RanOut, Threw, WasStuck, runtime_call}
+use Rattle.jc_names.specs.declared.name.MethodName.{MethodName}
+use Rattle.jc_names.specs.declared.owner.Owner.{Owner}
+use Rattle.jc_natives.specs.Cells.{put_all}
+use Rattle.jc_natives.specs.Kept.{Kept}
+use Rattle.jc_natives.specs.Meaning.{own_touch}
+use Rattle.jc_natives.specs.declared.kept.Instance.{Instance}
+use Rattle.jc_safety.specs.Starting.{method_for}
+use Rattle.jc_safety.specs.Zeroing.{zeroed_where}
+use Rattle.jc_store.specs.Heap.{Heap, Object, is_cleared_by, object_at}
+use Rattle.jc_store.specs.declared.kind.ClearingEvent.{ClearingEvent}
+use Rattle.jc_words.specs.Values.{Ref, TaggedValue, Word}
+use Rattle.jc_card.specs.Card.{CardState, around, left_by, selected_instance, with_heap}
+use Rattle.jc_card.specs.declared.calls.AppletCall.{AppletCall}
+use Rattle.jc_card.specs.declared.calls.AppletCall.TheVariants.{Select, Deselect, Process}
+
+-- ---- one part after the other
+
+-- the accesses of a part in their order, the card behind it, and what it gives
+pub record Left (A : Type 0) : Type 0 where
+  pub touches : List Touch
+  pub card : CardState
+  pub value : A
+
+-- a part that makes no access
+abbrev pub gives : {A : Type 0} → CardState → A → Option (Left A)
+gives c value = Some (record { touches = []; card = c; value = value })
+
+-- behind accesses
+abbrev pub behind : {A : Type 0} → List Touch → Left A → Left A
+behind touches l = record { touches = touches ++ l.touches; card = l.card; value = l.value }
+
+-- a part, and then the next; where a call is stuck there is nothing
+abbrev pub and_then : {A B : Type 0} → Option (Left A) → (CardState → A → Option (Left B)) → Option (Left B)
+and_then None next = None
+and_then (Some l) next = option_map (behind l.touches) (next l.card l.value)
+
+-- ---- calls
+
+-- how a call of the runtime's ends for it
+pub data Ended : Type 0 where
+  Normally : (value : Option TaggedValue) → Ended
+  Uncaught : (object : ℕ) → Ended
+  OutOfBudget : Ended
+
+abbrev pub ended_call : CardState → List Touch → CallEnd Kept → Option (Left Ended)
+ended_call c touches (Gave m value) = Some (record { touches = touches; card = left_by c m; value = Normally value })
+ended_call c touches (Threw m object) = Some (record { touches = touches; card = left_by c m; value = Uncaught object })
+ended_call c touches (RanOut m) = Some (record { touches = touches; card = left_by c m; value = OutOfBudget })
+ended_call c touches WasStuck = None
+
+abbrev pub ended : CardState → Called Kept → Option (Left Ended)
+ended c called = ended_call c called.touches called.ends
+
+-- a method is called as an instance, with no owner before it, while a context counts as the selected one
+abbrev pub call_method : CardState → ℕ → Owner → MethodName → List TaggedValue → Option (Left Ended)
+call_method c selected owner method arguments = ended c (runtime_call (around c (Some selected)) c.steps (record {
+  heap = c.heap;
+  statics = c.statics;
+  runtime = c.kept;
+  owner = owner;
+  method = method;
+  arguments = arguments;
+}))
+
+-- the members of Applet that the runtime calls, by their numbers, and what they take
+abbrev pub member_called : AppletCall → ℕ
+member_called Select = 36
+member_called Deselect = 37
+member_called Process = 38
+
+abbrev pub arguments_of : AppletCall → List TaggedValue
+arguments_of Select = []
+arguments_of Deselect = []
+arguments_of Process = Ref apdu_object ∷ []
+
+-- the method that an instance's object has in the place of such a member is called as the instance
+abbrev pub call_on : CardState → Instance → AppletCall → Object TaggedValue → Option (Left Ended)
+call_on c i call object =
+    option_and_then (λ method. call_method c i.owner.context i.owner method (Ref i.object ∷ arguments_of call))
+    (method_for c.world.shapes object (member_called call))
+
+abbrev pub call_applet : CardState → Instance → AppletCall → Option (Left Ended)
+call_applet c i call = option_and_then (call_on c i call) (object_at c.heap i.object)
+
+-- that of the applet that is selected; where none is, nothing is called
+abbrev pub call_selected : CardState → AppletCall → Option (Left Ended)
+call_selected c call =
+    option_map_or (λ i. call_applet c i call) (selected_instance c) (gives c (Normally None))
+
+-- ---- what the runtime writes
+
+-- its access to an object; none where the object isn't there
+abbrev pub runtime_touch : Heap TaggedValue → ℕ → List Touch
+runtime_touch heap number = option_map_or (λ object. own_touch number object ∷ []) (object_at heap number) []
+
+-- words into the components of an object, from the first on
+abbrev pub write : ℕ → List ℕ → CardState → Option (Left (Unit {0}))
+write number words c = Some (record {
+  touches = runtime_touch c.heap number;
+  card = with_heap c (put_all c.heap number 0 (map Word words));
+  value = tt;
+})
+
+-- ---- clearing
+
+-- the accesses to the objects that an event clears, of which the first has a number
+abbrev pub clearing_touches : ClearingEvent → Option ℕ → ℕ → Heap TaggedValue → List Touch
+clearing_touches event context number [] = []
+clearing_touches event context number (object ∷ heap) =
+    (if is_cleared_by event context object then own_touch number object ∷ [] else [])
+    ++ clearing_touches event context (suc number) heap
+
+-- the arrays of an event are zero or null: those of a context, or all
+abbrev pub clear : ClearingEvent → Option ℕ → CardState → Option (Left (Unit {0}))
+clear event context c = Some (record {
+  touches = clearing_touches event context 1 c.heap;
+  card = with_heap c (zeroed_where (is_cleared_by event context) c.heap);
+  value = tt;
+})

@@ -1,0 +1,95 @@
+-- When a card on words is the card of the defensive machine without its tags, and what its commands do.
+use Rattle.std.specs.Prelude.{⊤, ◌≡◌, ℕ, ◌≤◌, true, [], Option, Some, None}
+use Rattle.std.specs.Option.{option_map_or}
+use Rattle.jc_interp.specs.Agree.{AgreeBeside}
+use Rattle.jc_interp.specs.declared.ends.RunEnd.{RunEnd}
+use Rattle.jc_interp.specs.declared.ends.RunEnd.TheVariants.{Gave, RanOut, Threw}
+use Rattle.jc_interp.specs.declared.machine.WordMachine.{WordMachine}
+use Rattle.jc_link.specs.Linked.{World}
+use Rattle.jc_loaded.specs.Program.{IsProgramOf}
+use Rattle.jc_loaded.specs.declared.program.Program.{Program}
+use Rattle.jc_machine.specs.Accepted.{IsAccepted}
+use Rattle.jc_machine.specs.Reading.{ReadsResult}
+use Rattle.jc_machine.specs.Runtime.{most_instances}
+use Rattle.jc_machine.specs.Typed.{IsTypedBeside}
+use Rattle.jc_names.specs.declared.owner.Owner.{Owner}
+use Rattle.jc_natives.specs.Kept.{Kept}
+use Rattle.jc_words.specs.Values.{TaggedValue, is_written}
+use Rattle.jc_card.specs.Card.{CardState, around, at_rest}
+use Rattle.jc_card.specs.Commands.{Response}
+use Rattle.jc_card.specs.Parts.{Ended, Left, Normally, OutOfBudget, Uncaught}
+use Rattle.jc_card.specs.declared.answer.Answer.{Answer}
+
+-- a card on words
+pub record CardWords : Type 0 where
+  pub world : World
+  pub program : Program
+  pub machine : WordMachine
+  pub kept : Kept
+  pub selected : Option Owner
+  pub numbers : ℕ
+  pub steps : ℕ
+
+-- ---- a card that is as it should be
+
+-- its packages were accepted; what it holds is typed; and no more numbers are used than there are
+pub record IsTypedCard (c : CardState) : Type 0 where
+  pub accepted : IsAccepted c.world
+  pub beside : IsTypedBeside (around c None) (at_rest c)
+  pub numbers : c.numbers ≤ most_instances
+
+-- ---- agreement
+
+-- the words read a card that is as it should be, over the world's own tables; and no frame lives
+pub record Holds (k : CardWords) (c : CardState) : Type 0 where
+  pub typed : IsTypedCard c
+  pub world : k.world ≡ c.world
+  pub program : IsProgramOf k.world k.program
+  pub beside : AgreeBeside (around c None) k.program k.machine k.kept (at_rest c)
+  pub frames : k.machine.frames.frames ≡ []
+  pub selected : k.selected ≡ c.selected
+  pub numbers : k.numbers ≡ c.numbers
+  pub steps : k.steps ≡ c.steps
+
+-- what a card on words always is: it holds a card of the defensive machine
+pub record IsCard (k : CardWords) : Type 0 where
+  pub card : CardState
+  pub holds : Holds k card
+
+-- ---- what a command does
+
+-- it leaves what the command on the defensive machine's card leaves, which isn't stuck, and its answer reads that one's
+abbrev pub IsDone : {A : Type 0} → CardWords → (A → Type 0) → Option (Left A) → Type 0
+IsDone after reads None = ⊥
+IsDone after reads (Some l) = Holds after l.card × reads l.value
+
+-- for each card of the defensive machine that the words hold
+abbrev pub Does : {A : Type 0} → CardWords → CardWords → (A → Type 0) → (CardState → Option (Left A)) → Type 0
+Does before after reads command = (c : CardState) → Holds before c → IsDone after reads (command c)
+
+-- ---- what is given
+
+-- a call on words ended so. A value that it gave was written
+pub record GaveSo (word : Option ℕ) (value : Option TaggedValue) : Type 0 where
+  pub reads : ReadsResult word value
+  pub written : option_map_or is_written value true ≡ true
+
+abbrev pub ReadsEnded : RunEnd → Ended → Type 0
+ReadsEnded (Gave word) (Normally value) = GaveSo word value
+ReadsEnded (Threw object) (Uncaught number) = object ≡ number
+ReadsEnded RanOut OutOfBudget = ⊤
+ReadsEnded (Gave word) (Uncaught number) = ⊥
+ReadsEnded (Gave word) OutOfBudget = ⊥
+ReadsEnded (Threw object) (Normally value) = ⊥
+ReadsEnded (Threw object) OutOfBudget = ⊥
+ReadsEnded RanOut (Normally value) = ⊥
+ReadsEnded RanOut (Uncaught number) = ⊥
+
+-- nothing is
+abbrev pub GivesNothing : Unit {0} → Type 0
+GivesNothing u = ⊤
+
+-- an answer's data and status
+pub record ReadsResponse (answer : Answer) (response : Response) : Type 0 where
+  pub sent : answer.sent.items ≡ response.sent
+  pub status : answer.status ≡ response.status

@@ -1,0 +1,47 @@
+//! The card.
+
+use jc_interp::WordMachine;
+use jc_link::World;
+use jc_loaded::Program;
+use jc_names::Owner;
+use jc_natives::Runtime;
+use std::marker::Model;
+
+/// A card: the loaded packages, the objects, and the instances of applets (Java Card Runtime Environment
+/// Specification).
+#[derive(Drop)]
+pub struct Card {
+    pub(crate) world: World,
+    pub(crate) program: Program,
+    pub(crate) machine: WordMachine,
+    pub(crate) runtime: Runtime,
+    pub(crate) selected: Option<Owner>,
+    pub(crate) numbers: u8,
+    pub(crate) steps: u32,
+}
+
+impl Model for Card {
+    ghost use Rattle.jc_card.specs.Reads.{CardWords, IsCard};
+
+    ghost Value = { CardWords };
+
+    ghost view = { λ c. record {
+      world = c.world;
+      program = c.program;
+      machine = c.machine;
+      kept = c.runtime;
+      selected = c.selected;
+      numbers = c.numbers;
+      steps = c.steps;
+    } };
+
+    ghost invariant = { λ c. IsCard (record {
+      world = c.world;
+      program = c.program;
+      machine = c.machine;
+      kept = c.runtime;
+      selected = c.selected;
+      numbers = c.numbers;
+      steps = c.steps;
+    }) };
+}

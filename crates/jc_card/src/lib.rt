@@ -1,0 +1,13 @@
+//! The card: installation, selection, dispatch and reset.
+#![tactic(auto)]
+
+mod answer;
+mod calls;
+mod card;
+mod command;
+mod fault;
+mod selection;
+
+pub use answer::{Answer, MOST_SENT};
+pub use card::Card;
+pub use fault::InstallFault;

@@ -1,0 +1,59 @@
+//! Selection and deselection, clearing and reset (Java Card Runtime Environment Specification, Applet Lifetime,
+//! Transient Objects).
+
+ghost use Rattle.jc_card.specs.Card.{with_selected};
+ghost use Rattle.jc_card.specs.Commands.{deselect, reset_command, unselect};
+ghost use Rattle.jc_card.specs.Parts.{clear, gives};
+ghost use Rattle.jc_card.specs.Reads.{Does, GivesNothing};
+
+use crate::calls::AppletCall;
+use crate::card::Card;
+use jc_machine::Natives;
+use jc_names::Owner;
+use jc_safety::objects_stay_typed;
+use jc_store::ClearingEvent;
+
+impl Card {
+    // The arrays of an event are zero or null: those of a context, or all.
+    fn clear(&mut self, event: ClearingEvent, context: Option<u8>)
+        ensures { Does self.old self.new GivesNothing (clear event context) }
+    {
+        self.runtime.law();
+        objects_stay_typed(&self.runtime);
+        self.machine.store.clear(event, context);
+    }
+
+    // Another applet counts as selected, or none does.
+    pub(crate) fn set_selected(&mut self, selected: Option<Owner>)
+        ensures { Does self.old self.new GivesNothing (λ c. gives (with_selected c selected) tt) }
+    {
+        self.selected = selected;
+    }
+
+    // The arrays of the selected applet's context that are cleared on deselect are, and no applet is selected.
+    pub(crate) fn unselect(&mut self)
+        ensures { Does self.old self.new GivesNothing unselect }
+    {
+        if let Some(owner) = self.selected {
+            self.set_selected(None);
+            self.clear(ClearingEvent::Deselect, Some(owner.context));
+        }
+    }
+
+    // The applet that is selected, if one is, is deselected.
+    pub(crate) fn deselect(&mut self)
+        ensures { Does self.old self.new GivesNothing deselect }
+    {
+        let _ended = self.call_selected(AppletCall::Deselect);
+        self.unselect();
+    }
+
+    /// A reset: no applet is selected, and all transient arrays are zero or null. No method is called.
+    pub fn reset(&mut self)
+        ensures { Does self.old self.new GivesNothing reset_command }
+    {
+        self.set_selected(None);
+        self.clear(ClearingEvent::Reset, None);
+        self.clear(ClearingEvent::Deselect, None);
+    }
+}

@@ -48,7 +48,8 @@ impl From<Refusal> for Answer {
 /// Puts a package behind the others of a world, with the certificate that is worked out for it; else the world is as it
 /// was.
 fn load(alloc: Global, world: &mut World, image: &[u8]) -> Result<(), Refusal>
-    ensures loaded { IfOk result (λ u. (l : LinkedPackage) × IsBoundTo world.old l × IsPackageCarried l × (world.new ≡ with_linked world.old l)) }
+    ensures loaded { IfOk result (λ u. (l : LinkedPackage) × IsBoundTo world.old l × IsPackageCarried l
+        × (world.new ≡ with_linked world.old l)) }
     ensures refused { IfErr result (λ fault. world.new ≡ world.old) }
 {
     let linked = link(alloc, &cut(image)?, world)?;

@@ -2,6 +2,7 @@ use Rattle.std.proofs.Common.{ℕ, ◌<◌, List, length, refl, subst, sym, ◌�
 use Rattle.jc_interp.specs.Calling.{IsMethodFor}
 use Rattle.jc_interp.specs.declared.call.FirstCall.{FirstCall}
 use Rattle.jc_card.specs.Parts.{call_applet}
+use Rattle.jc_card.specs.contracts.card.Card.{the_view}
 use Rattle.jc_card.specs.Reads.{CardWords, Holds, ReadsEnded}
 use Rattle.jc_card.proofs.AppletCalls.{Laws, applet_called, may_call}
 use Rattle.jc_card.proofs.Doing.{left_card}
@@ -18,15 +19,7 @@ call-requires c =
       members = c.accepted_packages_are_type_safe.ensures.members;
     } in
     let i = c.self.inside in
-    let k : CardWords = record {
-      world = i.world;
-      program = i.program;
-      machine = i.machine;
-      kept = i.runtime;
-      selected = i.selected;
-      numbers = i.numbers;
-      steps = i.steps;
-    } in
+    let k : CardWords = the_view i in
     let first : FirstCall =
     record { called = c.method_for-called.result; owner = c.args.instance.owner; arguments = c.as_slice.result } in
     let called = subst (λ (n : ℕ). IsMethodFor i.program i.machine.store n c.args.instance.object
@@ -49,15 +42,7 @@ invariant_of-self c =
       members = c.accepted_packages_are_type_safe.ensures.members;
     } in
     let i = c.self.inside in
-    let k : CardWords = record {
-      world = i.world;
-      program = i.program;
-      machine = i.machine;
-      kept = i.runtime;
-      selected = i.selected;
-      numbers = i.numbers;
-      steps = i.steps;
-    } in
+    let k : CardWords = the_view i in
     let first : FirstCall =
     record { called = c.method_for-called.result; owner = c.args.instance.owner; arguments = c.as_slice.result } in
     let called = subst (λ (n : ℕ). IsMethodFor i.program i.machine.store n c.args.instance.object
@@ -83,15 +68,7 @@ returns c card holds =
       members = c.accepted_packages_are_type_safe.ensures.members;
     } in
     let i = c.self.inside in
-    let k : CardWords = record {
-      world = i.world;
-      program = i.program;
-      machine = i.machine;
-      kept = i.runtime;
-      selected = i.selected;
-      numbers = i.numbers;
-      steps = i.steps;
-    } in
+    let k : CardWords = the_view i in
     let first : FirstCall =
     record { called = c.method_for-called.result; owner = c.args.instance.owner; arguments = c.as_slice.result } in
     let called = subst (λ (n : ℕ). IsMethodFor i.program i.machine.store n c.args.instance.object

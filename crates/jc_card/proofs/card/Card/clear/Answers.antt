@@ -1,5 +1,6 @@
 use Rattle.std.proofs.Common.{sym, subst}
 use Rattle.jc_card.specs.Parts.{clear}
+use Rattle.jc_card.specs.contracts.card.Card.{the_view}
 use Rattle.jc_card.specs.Reads.{CardWords, GivesNothing, Holds, IsCard, IsDone}
 use Rattle.jc_card.proofs.Clearing.{clear_done}
 use Rattle.jc_card.proofs.Doing.{left_card}
@@ -9,15 +10,7 @@ use Rattle.jc_card.proofs.card.Card.clear.Goals as goal
 pub invariant_of-self : goal.invariant_of-self
 invariant_of-self c =
     let i = c.self.inside in
-    let k : CardWords = record {
-      world = i.world;
-      program = i.program;
-      machine = i.machine;
-      kept = i.runtime;
-      selected = i.selected;
-      numbers = i.numbers;
-      steps = i.steps;
-    } in
+    let k : CardWords = the_view i in
     let card = c.self.invariant.card in
     let now : Store → CardWords =
     λ x. record k { machine = record { store = x; frames = k.machine.frames; statics = k.machine.statics } } in
@@ -29,15 +22,7 @@ invariant_of-self c =
 pub returns : goal.returns
 returns c card holds =
     let i = c.self.inside in
-    let k : CardWords = record {
-      world = i.world;
-      program = i.program;
-      machine = i.machine;
-      kept = i.runtime;
-      selected = i.selected;
-      numbers = i.numbers;
-      steps = i.steps;
-    } in
+    let k : CardWords = the_view i in
     let h = subst (λ (x : CardWords). Holds x card) (sym c.self.view_is) holds in
     let now : Store → CardWords =
     λ x. record k { machine = record { store = x; frames = k.machine.frames; statics = k.machine.statics } } in

@@ -2,3 +2,4 @@ mod AppletCalls
 mod Doing
 mod Clearing
 mod Selecting
+mod Thrown

@@ -7,6 +7,7 @@ mod card;
 mod command;
 mod fault;
 mod selection;
+mod status;
 
 pub use answer::{Answer, MOST_SENT};
 pub use card::Card;

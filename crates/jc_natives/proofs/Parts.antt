@@ -1,6 +1,7 @@
 -- Parts of objects: bytes that are read and written many at once.
-use Rattle.std.proofs.Common.{◌≡◌, ℕ, zero, suc, ◌+◌, ◌-◌, ◌<◌, ◌≤◌, ◌&&◌, List, [], ◌∷◌, ◌++◌, refl, sym, ap, ◌∙◌, arith}
-use Rattle.std.proofs.Common.{length, map, take, drop, get_or, slice_range, Option, Some, None, Bor, IfSome, bytes_eq, unwrap_or}
+use Rattle.std.proofs.Common.{◌≡◌, ℕ, zero, suc, ◌+◌, ◌-◌, ◌<◌, ◌≤◌, ◌&&◌, List, [], ◌∷◌, ◌++◌}
+use Rattle.std.proofs.Common.{refl, sym, ap, ◌∙◌, arith, length, map, take, drop, get_or, slice_range, bytes_eq}
+use Rattle.std.proofs.Common.{Option, Some, None, Bor, IfSome, unwrap_or}
 use Rattle.std.proofs.Math.Seq.{sets}
 use Rattle.std.proofs.lemmas.Bool.{eq-eqb, le-ltb}
 use Rattle.std.proofs.lemmas.List.{take-take}
@@ -16,7 +17,8 @@ use Rattle.jc_store.specs.Heap.{Heap, Object, object_at, with_cell, with_object}
 -- ---- read
 
 -- a component is one of the list
-cell_in : (objects : Heap ℕ) (number index : ℕ) → cell_of objects number index ≡ get_or (components_of objects number) index 0
+cell_in : (objects : Heap ℕ) (number index : ℕ)
+    → cell_of objects number index ≡ get_or (components_of objects number) index 0
 cell_in objects number index = by_object (object_at objects number)
   where
     by_object : (o : Option (Object ℕ)) → option_map_or (λ (object : Object ℕ). get_or object.cells index 0) o 0
@@ -122,7 +124,8 @@ take_both (suc n) k (x ∷ xs) =
     let e : suc n + k ≡ suc (n + k) = omega arith in
     ap (λ m. take m (x ∷ xs)) e ∙ ap (λ ys. x ∷ ys) (take_both n k xs)
 
-pub same_block : (start end next : ℕ) (one other : List ℕ) → start ≤ end → next ≡ end → take start one ≡ take start other
+pub same_block : (start end next : ℕ) (one other : List ℕ) → start ≤ end → next ≡ end
+    → take start one ≡ take start other
     → slice_range one start end ≡ slice_range other start end → take next one ≡ take next other
 same_block start end next one other h stop before block =
     let whole : next ≡ start + (end - start) = omega (arith, h, stop) in

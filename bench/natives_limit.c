@@ -1,5 +1,5 @@
-/* Measures what bench/natives builds, beside C: memmove, memset and memcmp of as many words, and accesses to components of
- * an object whose place is looked up, as the store does. Each of both tests nothing here. */
+/* Measures what bench/natives builds, beside C: memmove, memset and memcmp of as many words, and accesses to components
+ * of an object whose place is looked up, as the store does. Nothing is tested here. */
 #include <stdint.h>
 #include <stdio.h>
 #include <stdlib.h>
@@ -128,8 +128,8 @@ static void check(const struct wanted *w) {
     reset();
     uint32_t given = limit(w), left = sum_of(1) + sum_of(2);
     if ((!w->is_call && ended.given != given) || ended.left != left) {
-        printf("member %d of %d components: %u and %u, and not %u and %u\n", w->member, w->count, ended.given, ended.left,
-               given, left);
+        printf("member %d of %d components: %u and %u, and not %u and %u\n", w->member, w->count, ended.given,
+               ended.left, given, left);
         exit(1);
     }
 }

@@ -1,5 +1,5 @@
 -- Whether an object is an ISOException, by numbers of classes and by names.
-use Rattle.std.proofs.Common.{◌≡◌, ℕ, zero, suc, List, [], ◌∷◌, Bool, true, false, not, Option, Some, None}
+use Rattle.std.proofs.Common.{◌≡◌, ℕ, zero, suc, List, [], ◌∷◌, true, false, not, Option, Some, None}
 use Rattle.std.proofs.Common.{slice_get, refl, sym, ap, ◌∙◌, subst}
 use Rattle.std.specs.Option.{option_map_or}
 use Rattle.jc_api.specs.declared.class.ApiClass.{ApiClass}
@@ -12,7 +12,7 @@ use Rattle.jc_classes.specs.World.{class_at}
 use Rattle.jc_link.specs.ApiClasses.{StandsThere}
 use Rattle.jc_link.specs.Built.{IsBuilt}
 use Rattle.jc_link.specs.Linked.{World}
-use Rattle.jc_loaded.specs.Classes.{HasNumber, class_number}
+use Rattle.jc_loaded.specs.Classes.{class_number}
 use Rattle.jc_loaded.specs.Program.{AnswersFor, IsProgramOf}
 use Rattle.jc_loaded.specs.Supertypes.{is_listed}
 use Rattle.jc_loaded.specs.declared.program.Program.{Program}
@@ -60,7 +60,6 @@ the_number a b e = cc
 
 no_number : {P : Type 0} (n : ℕ) → None ≡ Some n → P
 no_number n e = absurd cc
-
 
 -- the laws of the tables
 pub record TableLaws : Type 0 where

@@ -1,6 +1,7 @@
 -- Parts of objects: bytes that are read and written many at once.
-use Rattle.std.proofs.Common.{◌≡◌, ℕ, zero, suc, ◌+◌, ◌-◌, ◌<◌, ◌≤◌, ◌&&◌, List, [], ◌∷◌, ◌++◌, refl, sym, ap, ◌∙◌, arith}
-use Rattle.std.proofs.Common.{length, map, take, drop, get_or, slice_range, Option, Some, None, Bor, IfSome, bytes_eq, unwrap_or}
+use Rattle.std.proofs.Common.{◌≡◌, ◌⊎◌, inl, inr, ℕ, zero, suc, ◌+◌, ◌-◌, ◌<◌, ◌≤◌, ◌&&◌, List, [], ◌∷◌, ◌++◌}
+use Rattle.std.proofs.Common.{refl, sym, ap, ◌∙◌, arith, length, map, take, drop, get_or, slice_range, bytes_eq}
+use Rattle.std.proofs.Common.{Option, Some, None, Bor, IfNone, IfSome, unwrap_or}
 use Rattle.std.proofs.Math.Seq.{sets}
 use Rattle.std.proofs.lemmas.Bool.{eq-eqb, le-ltb}
 use Rattle.std.proofs.lemmas.List.{take-take}
@@ -9,14 +10,15 @@ use Rattle.std.specs.Option.{option_map_or}
 use Rattle.std.specs.Slice.{IsGetRangeResult}
 use Rattle.jc_natives.proofs.Getting.{new_object}
 use Rattle.jc_natives.proofs.Putting.{cells_of_kind, put_some, same_heap, twice}
-use Rattle.jc_natives.specs.Cells.{byte_order, bytes_of, cell_of, low, order_of, put_all}
+use Rattle.jc_natives.specs.Cells.{byte_order, bytes_of, cell_of, low, order_of, put_all, size_of}
 use Rattle.jc_store.specs.Blocks.{components_of, with_cells}
 use Rattle.jc_store.specs.Heap.{Heap, Object, object_at, with_cell, with_object}
 
 -- ---- read
 
 -- a component is one of the list
-cell_in : (objects : Heap ℕ) (number index : ℕ) → cell_of objects number index ≡ get_or (components_of objects number) index 0
+cell_in : (objects : Heap ℕ) (number index : ℕ)
+    → cell_of objects number index ≡ get_or (components_of objects number) index 0
 cell_in objects number index = by_object (object_at objects number)
   where
     by_object : (o : Option (Object ℕ)) → option_map_or (λ (object : Object ℕ). get_or object.cells index 0) o 0
@@ -59,6 +61,27 @@ pub part_given : (objects : Heap ℕ) (number from count end : ℕ) (cells : Lis
 part_given objects number from count end cells None are stop h = tt
 part_given objects number from count end cells (Some words) are stop h =
     let g = h.0 in part_bytes objects number from count end cells words.now are stop g.1 g.2
+
+size_in : (objects : Heap ℕ) (number : ℕ) → size_of objects number ≡ length (components_of objects number)
+size_in objects number = by_object (object_at objects number)
+  where
+    by_object : (o : Option (Object ℕ)) → option_map_or (λ (object : Object ℕ). length object.cells) o 0
+        ≡ length (option_map_or (λ (object : Object ℕ). object.cells) o [])
+    by_object None = refl
+    by_object (Some object) = refl
+
+pub part_missing : (objects : Heap ℕ) (number from count end : ℕ) (cells : List ℕ) (given : Option (Bor (List ℕ)))
+    → cells ≡ components_of objects number → end ≡ from + count → IsGetRangeResult cells from end given
+    → IfNone given (size_of objects number < from + count)
+part_missing objects number from count end cells None are stop h = which h.0
+  where
+    which : (end < from) ⊎ (length cells < end) → size_of objects number < from + count
+    which (inl low) = absurd (omega (arith, low, stop))
+    which (inr past) =
+        let n = ap (λ (xs : List ℕ). length xs) are in
+        let size = size_in objects number in
+        omega (arith, past, stop, n, size)
+part_missing objects number from count end cells (Some words) are stop h = tt
 
 -- ---- compared
 
@@ -122,7 +145,8 @@ take_both (suc n) k (x ∷ xs) =
     let e : suc n + k ≡ suc (n + k) = omega arith in
     ap (λ m. take m (x ∷ xs)) e ∙ ap (λ ys. x ∷ ys) (take_both n k xs)
 
-pub same_block : (start end next : ℕ) (one other : List ℕ) → start ≤ end → next ≡ end → take start one ≡ take start other
+pub same_block : (start end next : ℕ) (one other : List ℕ) → start ≤ end → next ≡ end
+    → take start one ≡ take start other
     → slice_range one start end ≡ slice_range other start end → take next one ≡ take next other
 same_block start end next one other h stop before block =
     let whole : next ≡ start + (end - start) = omega (arith, h, stop) in

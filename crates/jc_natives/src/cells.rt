@@ -1,7 +1,8 @@
 //! The components of objects, as members read and write them: whatever number and index they are handed.
 
-ghost use Rattle.std.specs.Prelude.{◌≡◌, ◌+◌, ◌≤◌, true, false, None, IfSome, length, map};
-ghost use Rattle.jc_natives.specs.Cells.{argument, bit, byte_of, bytes_of, cell_of, extended, high, is_count, is_within, low, put, size_of, word, word_of_bytes};
+ghost use Rattle.std.specs.Prelude.{◌≡◌, ◌+◌, ◌≤◌, ◌<◌, true, false, None, IfNone, IfSome, length, map};
+ghost use Rattle.jc_natives.specs.Cells.{argument, bit, byte_of, bytes_of, cell_of, extended, high, is_count};
+ghost use Rattle.jc_natives.specs.Cells.{is_within, low, put, size_of, word, word_of_bytes};
 ghost use Rattle.jc_store.specs.Blocks.{HasCells};
 ghost use Rattle.jc_store.specs.Heap.{object_at};
 ghost use Rattle.jc_store.specs.Store.{IsThere, with_objects};
@@ -51,6 +52,7 @@ pub(crate) fn part(store: &Store, number: u16, from: usize, count: u16) -> Optio
     requires { from ≤ 65536 }
     ensures bytes { IfSome result (λ words. bytes_of store.now.objects number from count ≡ map low words.now) }
     ensures len { IfSome result (λ words. length words.now ≡ count) }
+    ensures none { IfNone result (size_of store.now.objects number < from + count) }
 {
     store
         .components(number)
@@ -60,7 +62,8 @@ pub(crate) fn part(store: &Store, number: u16, from: usize, count: u16) -> Optio
 /// Whether an object is there and has so many components from an index on.
 #[inline]
 pub(crate) fn has_part(store: &Store, number: u16, from: usize, count: usize) -> bool
-    ensures { result ≡ true → HasCells store.now number from count }
+    ensures yes { result ≡ true → HasCells store.now number from count }
+    ensures no { result ≡ false → HasCells store.now number from count → ⊥ }
 {
     if !is_there(store, number) {
         return false;

@@ -1,6 +1,6 @@
 //! The low bytes of words that are lent out of objects.
 
-ghost use Rattle.std.specs.Prelude.{◌≡◌, ◌+◌, ◌++◌, ◌≤◌, ◌<◌, true, bytes_eq, length, map, take};
+ghost use Rattle.std.specs.Prelude.{◌≡◌, ◌+◌, ◌++◌, ◌≤◌, ◌<◌, true, false, bytes_eq, length, map, take};
 ghost use Rattle.arrayvec.specs.ArrayVec.{array_vec_len};
 ghost use Rattle.jc_natives.specs.Cells.{byte_order, low, order_of};
 
@@ -53,7 +53,8 @@ pub(crate) fn are_words(words: &[u16], bytes: &[u8]) -> bool
 #[inline]
 fn are_same(one: &[u16], other: &[u16]) -> bool
     requires sized { length one.now ≡ length other.now }
-    ensures { result ≡ true → one.now ≡ other.now }
+    ensures yes { result ≡ true → one.now ≡ other.now }
+    ensures no { result ≡ false → one.now ≡ other.now → ⊥ }
 {
     let mut same = true;
     for at in 0..one.len() {

@@ -1,6 +1,7 @@
 -- Many cells at once, and the components of one object among them.
-use Rattle.std.proofs.Common.{◌≡◌, ◌⊎◌, inl, inr, ℕ, zero, suc, ◌+◌, ◌-◌, ◌<◌, ◌≤◌, List, [], ◌∷◌, ◌++◌, refl, sym, ap, subst, ◌∙◌, arith}
-use Rattle.std.proofs.Common.{length, map, take, drop, set, Some, slice_get, slice_range, unwrap_or, get_or, append-nil, append_assoc}
+use Rattle.std.proofs.Common.{◌≡◌, ◌⊎◌, inl, inr, ℕ, zero, suc, ◌+◌, ◌-◌, ◌<◌, ◌≤◌, List, [], ◌∷◌, ◌++◌}
+use Rattle.std.proofs.Common.{refl, sym, ap, subst, ◌∙◌, arith, length, map, take, drop, set, get_or, append-nil}
+use Rattle.std.proofs.Common.{append_assoc, Some, slice_get, slice_range, unwrap_or}
 use Rattle.std.proofs.Math.Seq.{length-sets, paste, sets}
 use Rattle.std.proofs.lemmas.List.{get_or-map, length-take-le, take-append-drop}
 use Rattle.std.proofs.lemmas.List.{drop-take, drop-drop, drop_all, length-map, take-take, take_all}
@@ -30,7 +31,8 @@ front cells to words at = paste cells to words at
 abbrev pub lowered : List ℕ → ℕ → ℕ → List ℕ
 lowered cells from count = map low_byte (slice_range cells from (from + count))
 
-part_length : (cells : List ℕ) (from count : ℕ) → from + count ≤ length cells → length (lowered cells from count) ≡ count
+part_length : (cells : List ℕ) (from count : ℕ) → from + count ≤ length cells
+    → length (lowered cells from count) ≡ count
 part_length cells from count within =
     length-map (slice_range cells from (from + count)) low_byte ∙ range_length cells from count within
 
@@ -172,7 +174,8 @@ back_none cells from to count within =
     (none_back words (drop (to + length words) cells) count (omega (arith, n)))
     ∙ ap (λ k. take (to + count) cells ++ drop (to + k) cells) n ∙ take-append-drop (to + count) cells)
 
-pub back_all : (cells : List ℕ) (to left : ℕ) (words : List ℕ) → left ≡ 0 → back cells to words left ≡ put_over cells to words
+pub back_all : (cells : List ℕ) (to left : ℕ) (words : List ℕ) → left ≡ 0
+    → back cells to words left ≡ put_over cells to words
 back_all cells to left words none =
     let e : to + 0 ≡ to = omega arith in
     ap (λ k. take (to + k) cells ++ (drop k words ++ drop (to + length words) cells)) none

@@ -9,8 +9,8 @@ use Rattle.jc_store.specs.Store.{with_objects}
 
 pub returns-then-has_part-2 : goal.returns-then-has_part-2
 returns-then-has_part-2 c =
-    let from = c.has_part.ensures c.if-has_part.true in
-    let to = c.has_part-then-has_part.ensures c.if-has_part-2.true in
+    let from = c.has_part.ensures.yes c.if-has_part.true in
+    let to = c.has_part-then-has_part.ensures.yes c.if-has_part-2.true in
     let s = c.args.store.now in
     let count = c.from-words.result in
     let bytes = bytes_of s.objects c.args.source c.args.source_from count in

@@ -8,7 +8,7 @@ use Rattle.jc_store.specs.Store.{with_objects}
 
 pub returns-then-has_part : goal.returns-then-has_part
 returns-then-has_part c =
-    let there = c.has_part.ensures c.if-has_part.true in
+    let there = c.has_part.ensures.yes c.if-has_part.true in
     let s = c.args.store.now in
     let words = replicate c.from-then-has_part-2.result c.args.byte in
     let one = c.from.ensures in

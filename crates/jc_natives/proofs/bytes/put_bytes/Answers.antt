@@ -6,7 +6,7 @@ use Rattle.jc_store.specs.Store.{with_objects}
 
 pub returns-then-has_part : goal.returns-then-has_part
 returns-then-has_part c =
-    let there = c.has_part.ensures c.if-has_part.true in
+    let there = c.has_part.ensures.yes c.if-has_part.true in
     let s = c.args.store.now in
     c.put_bytes.ensures there.object there.is
     ∙ ap (λ (objects : Heap ℕ). with_objects s objects)

@@ -7,7 +7,7 @@ loop-start-preserved c = record {
   within = omega arith;
   same = same_block c.loop-start.start (c.loop-start.start + c.args.size) (c.loop-start.start + c.args.size)
       c.args.one.now c.args.other.now (omega arith) refl c.loop-start.invariant.same
-      (c.are_same.ensures c.if-not-are_same.false);
+      (c.are_same.ensures.yes c.if-not-are_same.false);
 }
 
 pub returns-then-are_same-clause-same : goal.returns-then-are_same-clause-same
@@ -16,4 +16,4 @@ returns-then-are_same-clause-same c =
     let some = c.if-size-end.true in
     same_last c.loop-start.start c.args.size c.args.one.now c.args.other.now (sym c.requires.sized) some
     (omega (arith, left, some)) c.loop-start.invariant.same
-    (c.are_same-then-size-end.ensures c.if-are_same.true)
+    (c.are_same-then-size-end.ensures.yes c.if-are_same.true)

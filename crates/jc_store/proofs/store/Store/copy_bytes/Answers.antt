@@ -7,7 +7,8 @@ pub copy_part-requires-clause-source_within : goal.copy_part-requires-clause-sou
 copy_part-requires-clause-source_within c =
     let source = c.requires.source in
     let within = block_within c.self.invariant c.self.view_is c.args.source c.args.source_index c.args.count
-    source.object c.deref.result.now c.head_at-from.result source.is source.within c.deref.ensures.value c.head_at-from.ensures in
+    source.object c.deref.result.now c.head_at-from.result source.is source.within c.deref.ensures.value
+    c.head_at-from.ensures in
     let n = ap (λ (xs : List ℕ). length xs) c.deref_mut.ensures.value in
     omega (arith, within, n)
 
@@ -15,7 +16,8 @@ pub copy_part-requires-clause-target_within : goal.copy_part-requires-clause-tar
 copy_part-requires-clause-target_within c =
     let target = c.requires.target in
     let within = block_within c.self.invariant c.self.view_is c.args.target c.args.target_index c.args.count
-    target.object c.deref-2.result.now c.head_at-to.result target.is target.within c.deref-2.ensures.value c.head_at-to.ensures in
+    target.object c.deref-2.result.now c.head_at-to.result target.is target.within c.deref-2.ensures.value
+    c.head_at-to.ensures in
     let n = ap (λ (xs : List ℕ). length xs) c.deref_mut.ensures.value in
     omega (arith, within, n)
 

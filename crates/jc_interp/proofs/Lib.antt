@@ -1,4 +1,3 @@
-mod Finding
 mod Cases
 mod Points
 mod Framing

@@ -23,21 +23,12 @@ pub(crate) struct Seen {
     pub(crate) class: u16,
 }
 
-/// Whether an object is there.
-#[inline]
-fn is_there(store: &Store, number: u16) -> bool
-    ensures yes { result ≡ true → IsThere store.now number }
-    ensures no { result ≡ false → object_at store.now.objects number ≡ None }
-{
-    number != 0 && number <= store.objects_used()
-}
-
 /// The object that a word refers to; none for null.
 #[inline]
 pub(crate) fn look_at(store: &Store, number: u16) -> Option<Seen>
     ensures { result ≡ seen_of store.now number }
 {
-    if !is_there(store, number) {
+    if !store.is_there(number) {
         return None;
     }
     Some(Seen {
@@ -53,7 +44,7 @@ pub(crate) fn look_at(store: &Store, number: u16) -> Option<Seen>
 pub(crate) fn cell(store: &Store, number: u16, index: usize) -> u16
     ensures { result ≡ cell_in store.now number index }
 {
-    if is_there(store, number) && index < usize::from(store.len(number)) {
+    if store.is_there(number) && index < usize::from(store.len(number)) {
         store.get(number, index as u16)
     } else {
         0
@@ -65,7 +56,7 @@ pub(crate) fn cell(store: &Store, number: u16, index: usize) -> u16
 pub(crate) fn put(store: &mut Store, number: u16, index: usize, word: u16)
     ensures { store.new ≡ with_put store.old number index word }
 {
-    if is_there(store, number) && index < usize::from(store.len(number)) {
+    if store.is_there(number) && index < usize::from(store.len(number)) {
         store.set(number, index as u16, word);
     }
 }

@@ -1,8 +1,7 @@
 -- Elements of lists and objects of heaps, by their numbers.
-use Rattle.std.proofs.Common.{◌≡◌, ◌≢◌, ℕ, zero, suc, ◌<◌, ◌≤◌, List, [], ◌∷◌, length, set, slice_get, Some, None, refl, ap, arith}
-use Rattle.std.proofs.lemmas.Option.{none-some, slice_get_past}
+use Rattle.std.proofs.Common.{◌≡◌, ◌≢◌, ℕ, zero, suc, ◌<◌, List, [], ◌∷◌, length, set, slice_get, Some, refl, ap, arith}
+use Rattle.std.proofs.lemmas.Option.{none-some}
 use Rattle.jc_store.specs.Heap.{Heap, Object, object_at, with_object}
-use Rattle.jc_store.specs.Store.{IsThere, Store}
 
 -- ---- lists
 
@@ -25,14 +24,6 @@ got_set_other (z ∷ xs) (suc n) zero y h = refl
 got_set_other (z ∷ xs) (suc n) (suc m) y h = got_set_other xs n m y (λ e. h (ap suc e))
 
 -- ---- heaps
-
-pub there : (s : Store) (number : ℕ) → number ≢ 0 → number ≤ length s.objects → IsThere s number
-there s zero h low = absurd (h refl)
-there s (suc n) h low = let g = got s.objects n (omega (arith, low)) in record { object = g.0; is = g.1 }
-
-pub not_there : {V : Type 0} (heap : Heap V) (number : ℕ) → length heap < number → object_at heap number ≡ None
-not_there heap zero h = refl
-not_there heap (suc n) h = slice_get_past heap n (omega (arith, h))
 
 pub same_object : {V : Type 0} (heap : Heap V) (number : ℕ) (object : Object V) → object_at heap number ≡ Some object
     → object_at (with_object heap number object) number ≡ Some object

@@ -10,7 +10,7 @@ ghost use Rattle.jc_natives.specs.declared.native.AppletNative.TheVariants as na
 
 use crate::aid::{ILLEGAL_VALUE, has_aid_length};
 use crate::bytes::{append_bytes, put_bytes};
-use crate::cells::{argument, bit, extended, is_there, put};
+use crate::cells::{argument, bit, extended, put};
 use crate::ended::{Ended, throw_system};
 use crate::kept::{Installing, Instance, Runtime};
 use crate::native::AppletNative;
@@ -35,7 +35,7 @@ pub(crate) fn aid_object(number: u8) -> u16
 fn owner_of(store: &Store, number: u16) -> Owner
     ensures { result ≡ owner_of store.now.objects number }
 {
-    if is_there(store, number) {
+    if store.is_there(number) {
         store.owner_of(number)
     } else {
         Owner::RUNTIME

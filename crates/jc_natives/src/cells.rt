@@ -9,19 +9,11 @@ ghost use Rattle.jc_store.specs.Store.{IsThere, with_objects};
 
 use jc_store::Store;
 
-/// Whether an object is there.
-pub(crate) fn is_there(store: &Store, number: u16) -> bool
-    ensures yes { result ≡ true → IsThere store.now number }
-    ensures no { result ≡ false → object_at store.now.objects number ≡ None }
-{
-    number != 0 && number <= store.objects_used()
-}
-
 /// How many components an object has; 0 where there is none.
 pub(crate) fn size(store: &Store, number: u16) -> u16
     ensures { result ≡ size_of store.now.objects number }
 {
-    if is_there(store, number) {
+    if store.is_there(number) {
         store.len(number)
     } else {
         0
@@ -65,7 +57,7 @@ pub(crate) fn has_part(store: &Store, number: u16, from: usize, count: usize) ->
     ensures yes { result ≡ true → HasCells store.now number from count }
     ensures no { result ≡ false → HasCells store.now number from count → ⊥ }
 {
-    if !is_there(store, number) {
+    if !store.is_there(number) {
         return false;
     }
     let size = usize::from(store.len(number));

@@ -13,7 +13,7 @@ ghost use Rattle.jc_store.specs.Heap.{object_at};
 ghost use Rattle.jc_store.specs.Store as stores;
 ghost use Rattle.jc_store.specs.Store.{IsThere};
 
-use crate::cells::{argument, cell, extended, is_there, is_within, size};
+use crate::cells::{argument, cell, extended, is_within, size};
 use crate::row::{Length, Range, Row, Test, Way};
 use jc_api::ApiClass;
 use jc_firewall::{Access, Facts, Verdict, decide};
@@ -89,7 +89,7 @@ fn thrown_by(verdict: Verdict) -> Option<u16>
 fn used(world: &World, store: &Store, call: &WordCall<'_>, way: Way, number: u16) -> Option<u16>
     ensures { result ≡ (used (seen_in world.now store.now call.now) way number).thrown }
 {
-    if !is_there(store, number) {
+    if !store.is_there(number) {
         return Some(NULL_POINTER_EXCEPTION);
     }
     let facts = facts_of(world, store, call, number);
@@ -113,7 +113,7 @@ fn class_of(object: ObjectType) -> ClassName
 pub(crate) fn is_aid_object(world: &World, store: &Store, call: &WordCall<'_>, number: u16) -> bool
     ensures { result ≡ is_aid_object (seen_in world.now store.now call.now) number }
 {
-    is_there(store, number)
+    store.is_there(number)
         && world
             .table()
             .is_class_below(class_of(store.class_of(number).object), AID)

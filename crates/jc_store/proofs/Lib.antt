@@ -4,3 +4,4 @@ mod Held
 mod Blanking
 mod Rows
 mod Blocks
+mod There

@@ -119,6 +119,15 @@ impl Store {
         rest_at(&self.rests, number).kind
     }
 
+    /// Whether an object with a number is there. None has number 0.
+    #[inline]
+    pub fn is_there(&self, number: u16) -> bool
+        ensures yes { result ≡ true → IsThere self.now number }
+        ensures no { result ≡ false → object_at self.now.objects number ≡ None }
+    {
+        number != 0 && number <= self.objects_used()
+    }
+
     /// Whose an object is.
     #[inline]
     pub fn owner_of(&self, number: u16) -> Owner

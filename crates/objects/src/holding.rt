@@ -12,20 +12,12 @@ use crate::words;
 use jc_names::Owner;
 use jc_store::{ClearingEvent, Kind, Store};
 
-/// Whether an object with a number is there.
-fn is_there(store: &Store, number: u16) -> bool
-    ensures there { result ≡ true → IsThere store.now number }
-    ensures missing { result ≡ false → object_at store.now.objects number ≡ None }
-{
-    0 < number && number <= store.objects_used()
-}
-
 /// Whether it is there, and has a component at an index.
 pub(crate) fn has_cell(store: &Store, number: u16, index: u16) -> bool
     ensures there { result ≡ true → HasCell store.now number index }
     ensures missing { result ≡ false → component store.now number index ≡ None }
 {
-    is_there(store, number) && index < store.len(number)
+    store.is_there(number) && index < store.len(number)
 }
 
 /// The component of an object at an index, if there are both.
@@ -57,7 +49,7 @@ fn put(store: &mut Store, number: u16, index: u16, word: u16) -> bool
 fn len(store: &Store, number: u16) -> Option<u16>
     ensures { result ≡ len_of store.now number }
 {
-    if is_there(store, number) {
+    if store.is_there(number) {
         Some(store.len(number))
     } else {
         None
@@ -67,7 +59,7 @@ fn len(store: &Store, number: u16) -> Option<u16>
 fn owner_of(store: &Store, number: u16) -> Option<Owner>
     ensures { result ≡ owner_of store.now number }
 {
-    if is_there(store, number) {
+    if store.is_there(number) {
         Some(store.owner_of(number))
     } else {
         None
@@ -77,7 +69,7 @@ fn owner_of(store: &Store, number: u16) -> Option<Owner>
 fn kind_of(store: &Store, number: u16) -> Option<Kind>
     ensures { result ≡ kind_of store.now number }
 {
-    if is_there(store, number) {
+    if store.is_there(number) {
         Some(store.class_of(number))
     } else {
         None

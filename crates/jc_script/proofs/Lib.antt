@@ -1,0 +1,4 @@
+mod Cuts
+mod Spelling
+mod Feeds
+mod Lines

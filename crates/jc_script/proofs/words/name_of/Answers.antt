@@ -1,0 +1,22 @@
+use Rattle.std.proofs.Common.{◌≡◌, ℕ, ◌<◌, List, length, true, false, nat_lt, ap, ◌∙◌, sym, refl, inl, inr, arith}
+use Rattle.std.specs.Prelude.{IsUtf8}
+use Rattle.std.specs.Str.{is_utf8}
+use Rattle.std.proofs.lemmas.Bool.{cases_Bool}
+use Rattle.std.proofs.lemmas.Str.{IsUtf8-from_is_utf8, is_utf8-from_IsUtf8}
+use Rattle.jc_script.proofs.words.name_of.Goals as goal
+
+no_text : (word : List ℕ) → (IsUtf8 word → ⊥) → is_utf8 word ≡ false
+no_text word n = elim (cases_Bool (is_utf8 word)) [ inl t ↦ absurd (n (IsUtf8-from_is_utf8 word t)) | inr f ↦ f ]
+
+pub returns-in-Ok : goal.returns-in-Ok
+returns-in-Ok c =
+    let read = c.in-Ok.ensures.cases in
+    let yes = is_utf8-from_IsUtf8 c.args.word.now read.1 in
+    let some : nat_lt 0 (length c.args.word.now) ≡ true = grind arith in
+    rw (some, yes) (ap Rattle.std.proofs.Common.Some read.0)
+
+pub returns-in-Err : goal.returns-in-Err
+returns-in-Err c =
+    let no = no_text c.args.word.now c.in-Err.ensures.cases.0 in
+    let some : nat_lt 0 (length c.args.word.now) ≡ true = grind arith in
+    rw (some, no) refl

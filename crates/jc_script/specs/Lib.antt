@@ -1,0 +1,5 @@
+pub mod Script
+pub mod Shown
+pub mod Reading
+pub mod PrivateWords
+pub mod PrivateReading

@@ -1,0 +1,100 @@
+-- Private. The parts of reading a line.
+use Rattle.std.specs.Prelude.{⊤, ◌≡◌, ℕ, ◌<◌, ◌≤◌, ◌==◌, Bool, true, false, List, [], ◌∷◌, ◌++◌, length, Option, Some, None}
+use Rattle.std.specs.Io.KnownBytes.{Consumes, IsAtEnd}
+use Rattle.std.specs.List.{AllByRecursion}
+use Rattle.jc_script.specs.Reading.{SoFar}
+use Rattle.jc_script.specs.Script.{lines_of, most_in_line}
+use Rattle.jc_script.specs.declared.reader.NextLine.{NextLine}
+use Rattle.jc_script.specs.declared.reader.NextLine.TheVariants as next
+use Rattle.jc_script.specs.declared.reader.Part.{Part}
+use Rattle.jc_script.specs.declared.reader.Part.TheVariants as parts
+
+-- no line feed is among bytes
+abbrev pub NoFeed : List ℕ → Type 0
+NoFeed bytes = AllByRecursion (λ b. (b == 10) ≡ false) bytes
+
+-- what came of a reader's bytes; nothing did at their end
+pub record Fills (unread : List ℕ) (before after : Option (List ℕ)) (some : Bool) : Type 0 where
+  pub came : Consumes before after unread
+  pub ended : some ≡ false → IsAtEnd after × (unread ≡ [])
+  pub there : some ≡ true → 0 < length unread
+
+-- bytes without a line feed were taken off and put behind the line
+pub record HasTaken (before after : SoFar) : Type 0 where
+  pub piece : List ℕ
+  pub unread : before.unread ≡ piece ++ after.unread
+  pub feedless : NoFeed piece
+  pub line : after.line ≡ before.line ++ piece
+  pub short : length after.line ≤ most_in_line
+
+-- the rest of a line, and what stands behind its line feed
+pub record EndsPart (before after : SoFar) : Type 0 where
+  pub piece : List ℕ
+  pub unread : before.unread ≡ piece ++ 10 ∷ after.unread
+  pub feedless : NoFeed piece
+  pub line : after.line ≡ before.line ++ piece
+  pub short : length after.line ≤ most_in_line
+
+-- all that was unread belongs to the line
+pub record GoesOnPart (before after : SoFar) : Type 0 where
+  pub unread : after.unread ≡ []
+  pub feedless : NoFeed before.unread
+  pub line : after.line ≡ before.line ++ before.unread
+
+-- a line has too many bytes
+pub record IsTooLong (before : SoFar) : Type 0 where
+  pub piece : List ℕ
+  pub rest : List ℕ
+  pub unread : before.unread ≡ piece ++ rest
+  pub feedless : NoFeed piece
+  pub long : most_in_line < length (before.line ++ piece)
+
+abbrev pub TakesPart : SoFar → SoFar → Part → Type 0
+TakesPart before after parts.Ended = EndsPart before after
+TakesPart before after parts.GoesOn = GoesOnPart before after
+TakesPart before after parts.TooLong = IsTooLong before
+
+-- bytes are a line so far and what is left behind it
+pub record IsSoFar (bytes line left : List ℕ) : Type 0 where
+  pub bytes_are : bytes ≡ line ++ left
+  pub feedless : NoFeed line
+
+abbrev pub AreSoFar : Option (List ℕ) → List ℕ → Option (List ℕ) → Type 0
+AreSoFar (Some bytes) line (Some left) = IsSoFar bytes line left
+AreSoFar (Some bytes) line None = ⊥
+AreSoFar None line left = ⊤
+
+-- the first line of bytes has too many
+pub record BeginsLong (bytes : List ℕ) : Type 0 where
+  pub first : List ℕ
+  pub others : List (List ℕ)
+  pub are : lines_of bytes ≡ first ∷ others
+  pub long : most_in_line < length first
+
+abbrev pub ReadsKnown : List ℕ → List ℕ → List ℕ → NextLine → Type 0
+ReadsKnown line bytes rest next.Line = (lines_of bytes ≡ line ∷ lines_of rest) × (length line ≤ most_in_line)
+ReadsKnown line bytes rest next.End = lines_of bytes ≡ []
+ReadsKnown line bytes rest next.Bad = BeginsLong bytes
+
+abbrev pub ReadsOn : List ℕ → Option (List ℕ) → Option (List ℕ) → NextLine → Type 0
+ReadsOn line (Some bytes) (Some rest) told = ReadsKnown line bytes rest told
+ReadsOn line (Some bytes) None told = ⊥
+ReadsOn line None after told = ⊤
+
+-- what a line so far is where nothing is left
+abbrev pub told_last : List ℕ → NextLine
+told_last [] = next.End
+told_last (b ∷ line) = next.Line
+
+-- whether bytes are left, where they are known; they stay known
+abbrev pub TellsKnown : List ℕ → NextLine → Type 0
+TellsKnown bytes next.Line = ⊥
+TellsKnown bytes next.End = bytes ≡ []
+TellsKnown bytes next.Bad = 0 < length bytes
+
+abbrev pub TellsMore : Option (List ℕ) → Option (List ℕ) → NextLine → Type 0
+TellsMore (Some bytes) (Some rest) told = TellsKnown bytes told
+TellsMore (Some bytes) None told = ⊥
+TellsMore None after next.Line = ⊥
+TellsMore None after next.End = ⊤
+TellsMore None after next.Bad = ⊤

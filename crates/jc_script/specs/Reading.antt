@@ -1,0 +1,38 @@
+-- What is read of a script: a line, its end, or that the next line is none.
+use Rattle.std.specs.Prelude.{⊤, ◌≡◌, ℕ, ◌≤◌, List, [], ◌∷◌, ◌++◌, length, Option, Some, None, option_map}
+use Rattle.jc_script.specs.Script.{Bad, line_at, lines_of, most_in_line, most_lines}
+use Rattle.jc_script.specs.declared.reader.NextLine.{NextLine}
+use Rattle.jc_script.specs.declared.reader.NextLine.TheVariants as next
+
+-- bytes that were read and belong to later lines, and the line that was read last
+pub record SoFar : Type 0 where
+  pub unread : List ℕ
+  pub line : List ℕ
+
+-- the bytes that are left of the script, where those are known that its reader has
+abbrev pub pending : List ℕ → Option (List ℕ) → Option (List ℕ)
+pending unread known = option_map (λ bytes. unread ++ bytes) known
+
+-- the first of these lines isn't one, by its number
+pub record BeginsBad (number : ℕ) (lines : List (List ℕ)) : Type 0 where
+  pub first : List ℕ
+  pub others : List (List ℕ)
+  pub are : lines ≡ first ∷ others
+  pub bad : line_at number first ≡ Bad
+
+-- a line that isn't too long was taken off
+pub record TakesLine (number : ℕ) (line bytes rest : List ℕ) : Type 0 where
+  pub lines : lines_of bytes ≡ line ∷ lines_of rest
+  pub short : length line ≤ most_in_line
+  pub few : number ≤ most_lines
+
+-- what is told of bytes that are known; of others nothing is
+abbrev pub TellsOf : ℕ → List ℕ → List ℕ → List ℕ → NextLine → Type 0
+TellsOf number line bytes rest next.Line = TakesLine number line bytes rest
+TellsOf number line bytes rest next.End = lines_of bytes ≡ []
+TellsOf number line bytes rest next.Bad = BeginsBad number (lines_of bytes)
+
+abbrev pub Tells : ℕ → List ℕ → Option (List ℕ) → Option (List ℕ) → NextLine → Type 0
+Tells number line (Some bytes) (Some rest) told = TellsOf number line bytes rest told
+Tells number line (Some bytes) None told = ⊥
+Tells number line None after told = ⊤

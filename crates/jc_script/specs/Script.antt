@@ -1,0 +1,123 @@
+-- Scripts: their lines, and the commands that lines ask for. A byte is its number: 10 is the line feed.
+use Rattle.std.specs.Prelude.{ℕ, suc, ◌==◌, ◌&&◌, ◌||◌, nat_le, nat_lt, List, [], ◌∷◌, length, Option, Some, None, bytes_eq, codes, if◌then◌else◌}
+use Rattle.std.specs.List.{onto_first}
+use Rattle.std.specs.Option.{option_map_or}
+use Rattle.std.specs.Str.{is_utf8}
+use Rattle.jc_api.specs.Options.{◌>>=◌}
+use Rattle.hex.specs.Hex.{decode_of}
+use Rattle.jc_api.specs.Text.{given, is_skipped, spelled_aid, words_of}
+
+-- ---- lines
+
+-- the lines of a script: each ends with a line feed. What stands behind the last one is a line where it has a byte
+unfoldable pub lines_of : List ℕ → List (List ℕ)
+lines_of [] = []
+lines_of (b ∷ bytes) = if b == 10 then [] ∷ lines_of bytes else onto_first b (lines_of bytes)
+
+-- a line has at most so many bytes without its line feed, and a script so many lines
+abbrev pub most_in_line : ℕ
+most_in_line = 1024
+
+abbrev pub most_lines : ℕ
+most_lines = 100000
+
+-- ---- commands
+
+-- a package and its certificate, by their names; an applet, the new instance and its data; a command of a reader; a reset
+pub data Command : Type 0 where
+  Load : (folder certificate : List ℕ) → Command
+  Install : (applet instance incoming : List ℕ) → Command
+  Apdu : (bytes : List ℕ) → Command
+  Reset : Command
+
+-- a name is UTF-8
+abbrev pub name_of : List ℕ → Option (List ℕ)
+name_of word = if nat_lt 0 (length word) && is_utf8 word then Some word else None
+
+-- one byte or more, two hexadecimal digits each
+abbrev pub bytes_of : List ℕ → Option (List ℕ)
+bytes_of word = if nat_lt 0 (length word) && nat_le (length word) most_in_line then given (decode_of word) else None
+
+-- `load FOLDER CERTIFICATE`
+unfoldable pub load_asked : List (List ℕ) → Option Command
+load_asked (folder ∷ certificate ∷ []) = do
+  f ← name_of folder
+  c ← name_of certificate
+  Some (Load f c)
+load_asked _ = None
+
+-- `install APPLET INSTANCE`, and DATA behind them
+unfoldable pub install_asked : List (List ℕ) → Option Command
+install_asked (applet ∷ instance ∷ []) = do
+  a ← spelled_aid applet
+  i ← spelled_aid instance
+  Some (Install a i [])
+install_asked (applet ∷ instance ∷ incoming ∷ []) = do
+  a ← spelled_aid applet
+  i ← spelled_aid instance
+  d ← bytes_of incoming
+  Some (Install a i d)
+install_asked _ = None
+
+-- `apdu BYTES`
+unfoldable pub apdu_asked : List (List ℕ) → Option Command
+apdu_asked (bytes ∷ []) = do
+  b ← bytes_of bytes
+  Some (Apdu b)
+apdu_asked _ = None
+
+-- `reset`
+unfoldable pub reset_asked : List (List ℕ) → Option Command
+reset_asked [] = Some Reset
+reset_asked _ = None
+
+-- by the first word
+unfoldable pub asked : List (List ℕ) → Option Command
+asked [] = None
+asked (keyword ∷ words) =
+    if bytes_eq keyword (codes "load") then load_asked words
+    else (if bytes_eq keyword (codes "install") then install_asked words
+    else (if bytes_eq keyword (codes "apdu") then apdu_asked words
+    else (if bytes_eq keyword (codes "reset") then reset_asked words
+    else None)))
+
+-- ---- what a line says
+
+pub data Line : Type 0 where
+  Skipped : Line
+  Asks : (command : Command) → Line
+  Bad : Line
+
+-- an empty line and one whose first byte is # are skipped; words have one space between them
+unfoldable pub said_by : List ℕ → Line
+said_by line = if is_skipped line then Skipped else option_map_or Asks (asked (words_of line)) Bad
+
+-- a line by its number, from 1 on: one that is too long is bad, and so is one too many
+abbrev pub line_at : ℕ → List ℕ → Line
+line_at number line =
+    if nat_lt most_lines number || nat_lt most_in_line (length line) then Bad else said_by line
+
+-- ---- all of a script
+
+-- a command, and the number of its line
+pub record Numbered : Type 0 where
+  pub number : ℕ
+  pub command : Command
+
+-- the commands up to the first bad line, and that line's number, if there is one
+pub record Script : Type 0 where
+  pub commands : List Numbered
+  pub bad : Option ℕ
+
+abbrev pub with_line : ℕ → Line → Script → Script
+with_line number Skipped script = script
+with_line number (Asks command) script =
+    record script { commands = record { number = number; command = command } ∷ script.commands }
+with_line number Bad script = record { commands = []; bad = Some number }
+
+unfoldable pub script_from : ℕ → List (List ℕ) → Script
+script_from number [] = record { commands = []; bad = None }
+script_from number (line ∷ lines) = with_line number (line_at number line) (script_from (suc number) lines)
+
+abbrev pub script_commands : List ℕ → Script
+script_commands bytes = script_from 1 (lines_of bytes)

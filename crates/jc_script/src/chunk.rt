@@ -1,0 +1,75 @@
+//! Bytes that are read at once, to be taken one by one.
+
+ghost use Rattle.std.specs.Prelude.{◌≡◌, ◌∷◌, ◌==◌, [], length, IfOk, IfSome, IfNone, OnErr};
+ghost use Rattle.std.specs.Io.KnownBytes.{Consumes, IsAtEnd, Keeps};
+
+use std::io::{self, Read};
+use std::marker::Model;
+
+/// How many bytes are read at once, at most.
+const MOST: usize = 4096;
+
+/// Bytes that were read. Some of them may be taken already.
+#[derive(Drop)]
+pub(crate) struct Chunk {
+    bytes: [u8; MOST],
+    at: usize,
+    end: usize,
+}
+
+impl Model for Chunk {
+    ghost use Rattle.std.specs.Prelude.{ℕ, List, ◌≤◌, ◌-◌, drop, take};
+
+    ghost Value = { List ℕ };
+
+    ghost view = { λ c. take (c.end - c.at) (drop c.at c.bytes) };
+
+    ghost invariant = { λ c. (c.at ≤ c.end) × (c.end ≤ 4096) };
+}
+
+impl Chunk {
+    /// None.
+    pub(crate) fn new() -> Chunk
+        ensures { result ≡ [] }
+    {
+        Chunk {
+            bytes: [0; MOST],
+            at: 0,
+            end: 0,
+        }
+    }
+
+    /// Whether none is left.
+    pub(crate) fn is_empty(&self) -> bool
+        ensures { result ≡ (length self.now == 0) }
+    {
+        self.at == self.end
+    }
+
+    /// Takes the first byte.
+    pub(crate) fn next(&mut self) -> Option<u8>
+        ensures some { IfSome result (λ byte. self.old ≡ byte ∷ self.new) }
+        ensures none { IfNone result ((self.old ≡ []) × (self.new ≡ [])) }
+    {
+        if self.at == self.end {
+            return None;
+        }
+        let byte = self.bytes[self.at];
+        self.at += 1;
+        Some(byte)
+    }
+
+    /// Reads bytes in place of those that are left: how many. None comes only at the reader's end.
+    pub(crate) fn fill<R: Read>(&mut self, reader: &mut R) -> io::Result<usize>
+        ensures filled { IfOk result (λ count. count ≡ length self.new) }
+        ensures came { IfOk result (λ count. Consumes (R.remaining reader.old) (R.remaining reader.new) self.new) }
+        ensures end { IfOk result (λ count. count ≡ 0 → IsAtEnd (R.remaining reader.new)) }
+        ensures kept { OnErr result (Keeps (R.remaining reader.old) (R.remaining reader.new)) }
+    {
+        self.at = 0;
+        self.end = 0;
+        let count = reader.read(self.bytes.as_mut_slice())?;
+        self.end = count;
+        Ok(count)
+    }
+}

@@ -1,0 +1,139 @@
+//! What a line of a script asks for.
+
+ghost use Rattle.std.specs.Prelude.{◌≡◌, ◌≤◌, length, option_map};
+ghost use Rattle.jc_script.specs.Script as script;
+ghost use Rattle.jc_script.specs.Script.{apdu_asked, asked, install_asked, load_asked, reset_asked};
+ghost use Rattle.jc_script.specs.Shown.{shown, shown_command};
+
+use crate::words::{Words, aid_of, bytes_of, is_skipped, name_of};
+use arrayvec::ArrayVec;
+use jc_base::Aid;
+
+/// The most bytes of a line, without its line feed.
+pub const MOST_IN_LINE: usize = 1024;
+
+/// The most bytes that a line can spell in hexadecimal.
+pub const MOST_BYTES: usize = MOST_IN_LINE / 2;
+
+/// A command for a card.
+#[derive(Debug, Drop)]
+pub enum Command<'a> {
+    /// A package is loaded: the folder of its component files, and the file of its certificate.
+    Load {
+        folder: &'a str,
+        certificate: &'a str,
+    },
+    /// An applet is installed: its AID, that of the new instance, and data for its install method.
+    Install {
+        applet: Aid,
+        instance: Aid,
+        incoming: ArrayVec<u8, MOST_BYTES>,
+    },
+    /// A reader sends a command.
+    Apdu(ArrayVec<u8, MOST_BYTES>),
+    /// The card is reset.
+    Reset,
+}
+
+/// What a line says.
+#[derive(Debug, Drop)]
+pub enum Line<'a> {
+    /// Nothing: it is empty, or a comment.
+    Skipped,
+    /// It asks for a command.
+    Asks(Command<'a>),
+    /// It is none.
+    Bad,
+}
+
+#[tactic(auto, unfolding(crate::specs::Script::load_asked))]
+fn load_asked(mut words: Words) -> Option<Command>
+    ensures { option_map shown_command result ≡ load_asked words.entry }
+{
+    let folder = words.next()?;
+    let certificate = words.next()?;
+    if words.next().is_some() {
+        return None;
+    }
+    Some(Command::Load {
+        folder: name_of(folder)?,
+        certificate: name_of(certificate)?,
+    })
+}
+
+#[tactic(auto, unfolding(crate::specs::Script::install_asked))]
+fn install_asked(mut words: Words) -> Option<Command>
+    ensures { option_map shown_command result ≡ install_asked words.entry }
+{
+    let applet = words.next()?;
+    let instance = words.next()?;
+    let incoming = words.next();
+    if words.next().is_some() {
+        return None;
+    }
+    let applet = aid_of(applet)?;
+    let instance = aid_of(instance)?;
+    let incoming = match incoming {
+        Some(word) => bytes_of(word)?,
+        None => ArrayVec::new(),
+    };
+    Some(Command::Install {
+        applet,
+        instance,
+        incoming,
+    })
+}
+
+#[tactic(auto, unfolding(crate::specs::Script::apdu_asked))]
+fn apdu_asked(mut words: Words) -> Option<Command>
+    ensures { option_map shown_command result ≡ apdu_asked words.entry }
+{
+    let bytes = words.next()?;
+    if words.next().is_some() {
+        return None;
+    }
+    Some(Command::Apdu(bytes_of(bytes)?))
+}
+
+#[tactic(auto, unfolding(crate::specs::Script::reset_asked))]
+fn reset_asked(mut words: Words) -> Option<Command>
+    ensures { option_map shown_command result ≡ reset_asked words.entry }
+{
+    match words.next() {
+        Some(_) => None,
+        None => Some(Command::Reset),
+    }
+}
+
+/// The command that words ask for, if they do.
+#[tactic(auto, unfolding(crate::specs::Script::asked))]
+fn asked(mut words: Words) -> Option<Command>
+    ensures { option_map shown_command result ≡ asked words.entry }
+{
+    let keyword = words.next()?;
+    if keyword == b"load".as_slice() {
+        load_asked(words)
+    } else if keyword == b"install".as_slice() {
+        install_asked(words)
+    } else if keyword == b"apdu".as_slice() {
+        apdu_asked(words)
+    } else if keyword == b"reset".as_slice() {
+        reset_asked(words)
+    } else {
+        None
+    }
+}
+
+/// What a line says, of at most [`MOST_IN_LINE`] bytes.
+#[tactic(auto, unfolding(crate::specs::Script::said_by))]
+pub fn said_by(line: &[u8]) -> Line<'_>
+    ensures { shown result ≡ script.said_by line.now }
+{
+    if is_skipped(line) {
+        return Line::Skipped;
+    }
+    match asked(Words::new(line)) {
+        Some(command) => Line::Asks(command),
+        None => Line::Bad,
+    }
+}

@@ -1,0 +1,10 @@
+//! Scripts: their lines, as they are read, and the commands that lines ask for.
+#![tactic(auto)]
+
+mod chunk;
+mod command;
+mod reader;
+mod words;
+
+pub use command::{Command, Line, MOST_BYTES, MOST_IN_LINE, said_by};
+pub use reader::{MOST_LINES, NextLine, ReadFault, ScriptReader};

@@ -1,0 +1,183 @@
+//! The lines of a script, as they are read.
+
+ghost use Rattle.std.specs.Prelude.{◌≡◌, ◌≤◌, ◌<◌, ◌++◌, [], length, position, IfOk};
+ghost use Rattle.std.specs.Io.KnownBytes.{prepend_known};
+ghost use Rattle.jc_script.specs.PrivateReading.{Fills, ReadsOn, TakesPart, TellsMore, told_last};
+ghost use Rattle.jc_script.specs.Reading.{Tells, pending};
+
+use crate::chunk::Chunk;
+use crate::command::MOST_IN_LINE;
+use arrayvec::ArrayVec;
+use std::io::{self, Read};
+use std::marker::Model;
+use thiserror::Error;
+
+/// The most lines of a script.
+pub const MOST_LINES: u32 = 100_000;
+
+/// The most calls of a reader.
+const MOST_CALLS: u32 = 16_777_216;
+
+/// Why no line is read.
+#[derive(Debug, Drop, Error)]
+pub enum ReadFault {
+    /// The system says why.
+    #[error("{0}")]
+    System(io::Error),
+    /// It was read 16,777,216 times, and didn't end.
+    #[error("it was read 16777216 times and didn't end")]
+    TooManyReads,
+}
+
+/// What comes next in a script.
+#[derive(Clone, Copy, Debug, PartialEq, Eq)]
+pub enum NextLine {
+    /// A line.
+    Line,
+    /// Nothing.
+    End,
+    /// A line that is too long, or one line too many.
+    Bad,
+}
+
+/// How a line goes on in a chunk.
+#[derive(Clone, Copy)]
+enum Part {
+    /// It ended.
+    Ended,
+    /// The chunk did.
+    GoesOn,
+    /// It has too many bytes.
+    TooLong,
+}
+
+/// Reads the lines of a script one by one, and no more than is there: a script can be a pipe. It takes no memory.
+#[derive(Drop)]
+pub struct ScriptReader {
+    chunk: Chunk,
+    calls: u32,
+    line: ArrayVec<u8, MOST_IN_LINE>,
+}
+
+impl Model for ScriptReader {
+    ghost use Rattle.std.specs.Prelude.{◌≤◌, length};
+    ghost use Rattle.jc_script.specs.Reading.{SoFar};
+
+    ghost Value = { SoFar };
+
+    ghost view = { λ r. record { unread = r.chunk; line = r.line.items } };
+
+    ghost invariant = { λ r. length r.line.items ≤ 1024 };
+}
+
+impl ScriptReader {
+    /// A reader of a script from its beginning on.
+    pub fn new() -> ScriptReader
+        ensures unread { result.unread ≡ [] }
+        ensures line { result.line ≡ [] }
+    {
+        ScriptReader {
+            chunk: Chunk::new(),
+            calls: 0,
+            line: ArrayVec::new(),
+        }
+    }
+
+    /// The line that was read last, without its line feed: at most [`MOST_IN_LINE`] bytes.
+    pub fn line(&self) -> &[u8]
+        ensures line { result.now ≡ self.now.line }
+        ensures short { length result.now ≤ 1024 }
+    {
+        self.line.as_slice()
+    }
+
+    // Reads a chunk: whether bytes came.
+    fn fill<R: Read>(&mut self, reader: &mut R) -> Result<bool, ReadFault>
+        ensures line { self.new.line ≡ self.old.line }
+        ensures filled { IfOk result
+            (Fills self.new.unread (R.remaining reader.old) (R.remaining reader.new)) }
+    {
+        while self.calls < MOST_CALLS {
+            self.calls += 1;
+            match self.chunk.fill(reader) {
+                Ok(count) => return Ok(count > 0),
+                Err(error) if error.kind() == io::ErrorKind::Interrupted => {}
+                Err(error) => return Err(ReadFault::System(error)),
+            }
+        }
+        Err(ReadFault::TooManyReads)
+    }
+
+    // Puts what is unread of the line, up to a line feed, behind what there is of it.
+    fn take_part(&mut self) -> Part
+        ensures { TakesPart self.old self.new result }
+    {
+        while let Some(byte) = self.chunk.next() {
+            if byte == b'\n' {
+                return Part::Ended;
+            }
+            if self.line.is_full() {
+                return Part::TooLong;
+            }
+            self.line.push(byte);
+        }
+        Part::GoesOn
+    }
+
+    // The next line, if it isn't one too many.
+    fn next_short<R: Read>(&mut self, reader: &mut R) -> Result<NextLine, ReadFault>
+        requires { self.old.line ≡ [] }
+        ensures { IfOk result (ReadsOn self.new.line (pending self.old.unread (R.remaining reader.old))
+            (pending self.new.unread (R.remaining reader.new))) }
+    {
+        for _ in 0..MOST_CALLS {
+            match self.take_part() {
+                Part::Ended => return Ok(NextLine::Line),
+                Part::TooLong => return Ok(NextLine::Bad),
+                Part::GoesOn => {}
+            }
+            if !self.fill(reader)? {
+                return Ok(self.last());
+            }
+        }
+        Err(ReadFault::TooManyReads)
+    }
+
+    // What comes where nothing is left to read.
+    fn last(&self) -> NextLine
+        ensures told { result ≡ told_last self.now.line }
+        ensures short { length self.now.line ≤ 1024 }
+    {
+        if self.line.is_empty() {
+            NextLine::End
+        } else {
+            NextLine::Line
+        }
+    }
+
+    // What comes where a line would be one too many.
+    fn next_past<R: Read>(&mut self, reader: &mut R) -> Result<NextLine, ReadFault>
+        ensures { IfOk result (TellsMore (pending self.old.unread (R.remaining reader.old))
+            (pending self.new.unread (R.remaining reader.new))) }
+    {
+        if self.chunk.is_empty() && !self.fill(reader)? {
+            Ok(NextLine::End)
+        } else {
+            Ok(NextLine::Bad)
+        }
+    }
+
+    /// Reads the line with a number, from 1 on. Of bytes that are known: a line was taken off; or there is none left; or
+    /// the first one left is too long, or is one too many. Nothing is read behind a line that isn't there yet.
+    pub fn next<R: Read>(&mut self, reader: &mut R, number: u32) -> Result<NextLine, ReadFault>
+        ensures { IfOk result (Tells number self.new.line (pending self.old.unread (R.remaining reader.old))
+            (pending self.new.unread (R.remaining reader.new))) }
+    {
+        self.line.clear();
+        if number <= MOST_LINES {
+            self.next_short(reader)
+        } else {
+            self.next_past(reader)
+        }
+    }
+}

@@ -1,0 +1,118 @@
+//! Lines as words, and words as names and bytes.
+
+ghost use Rattle.std.specs.Prelude.{◌≡◌, ◌≤◌, ◌∷◌, ◌==◌, ◌/◌, [], length, position, option_copied, option_map, IfSome, IfNone};
+ghost use Rattle.std.specs.Bool.{OnTrue, OnFalse};
+ghost use Rattle.hex.specs.Hex.{decode_of};
+ghost use Rattle.jc_api.specs.Text.{given, is_skipped, spelled_aid, words_of};
+ghost use Rattle.jc_script.specs.PrivateWords.{words_left};
+ghost use Rattle.jc_script.specs.Script.{bytes_of, name_of};
+
+use crate::command::{MOST_BYTES, MOST_IN_LINE};
+use arrayvec::ArrayVec;
+use jc_base::Aid;
+use std::marker::Model;
+
+/// The words of a line, to be taken one after the other. There is one space between them.
+#[derive(Drop)]
+pub(crate) struct Words<'a> {
+    left: Option<&'a [u8]>,
+}
+
+impl<'a> Model for Words<'a> {
+    ghost use Rattle.std.specs.Prelude.{ℕ, List, option_copied};
+    ghost use Rattle.jc_script.specs.PrivateWords.{words_left};
+
+    ghost Value = { List (List ℕ) };
+
+    ghost view = { λ w. words_left (option_copied w.left) };
+}
+
+impl<'a> Words<'a> {
+    /// The words of this line.
+    pub(crate) fn new(line: &'a [u8]) -> Words<'a>
+        ensures { result ≡ words_of line.now }
+    {
+        Words { left: Some(line) }
+    }
+
+    /// Takes the first word off, or answers `None` where there is none.
+    pub(crate) fn next(&mut self) -> Option<&'a [u8]>
+        ensures some { IfSome result (λ word. self.old ≡ word.now ∷ self.new) }
+        ensures none { IfNone result ((self.old ≡ []) × (self.new ≡ [])) }
+    {
+        let line = self.left?;
+        match space_in(line) {
+            Some(at) => {
+                self.left = Some(&line[at + 1..]);
+                Some(&line[..at])
+            }
+            None => {
+                self.left = None;
+                Some(line)
+            }
+        }
+    }
+}
+
+/// Where the first space stands.
+fn space_in(line: &[u8]) -> Option<usize>
+    ensures { result ≡ position (λ b. b == 32) line.now }
+{
+    line.iter().position(|b| *b == b' ')
+}
+
+/// Whether a line says nothing: it is empty, or its first byte is `#`.
+pub(crate) fn is_skipped(line: &[u8]) -> bool
+    ensures { result ≡ is_skipped line.now }
+{
+    match line.first() {
+        None => true,
+        Some(first) => *first == b'#',
+    }
+}
+
+/// The name of a file or folder that a word is.
+pub(crate) fn name_of(word: &[u8]) -> Option<&str>
+    ensures { option_map (λ name. name.now) result ≡ name_of word.now }
+{
+    if word.is_empty() {
+        return None;
+    }
+    match str::from_utf8(word) {
+        Ok(name) => Some(name),
+        Err(_) => None,
+    }
+}
+
+/// Puts down the bytes that hexadecimal digits spell, and says whether they do.
+
+fn decode(word: &[u8], out: &mut [u8]) -> bool
+    requires { length out.old ≡ length word.now / 2 }
+    ensures spelled { OnTrue result (given (decode_of word.now) ≡ Some out.new) }
+    ensures refused { OnFalse result (given (decode_of word.now) ≡ None) }
+{
+    hex::decode_to_slice(word, out).is_ok()
+}
+
+/// The bytes that hexadecimal digits of either case spell, if they are one or more.
+pub(crate) fn bytes_of(word: &[u8]) -> Option<ArrayVec<u8, MOST_BYTES>>
+    ensures { option_map (λ bytes. bytes.items) result ≡ bytes_of word.now }
+{
+    if word.is_empty() || word.len() > MOST_IN_LINE {
+        return None;
+    }
+    let mut bytes = ArrayVec::from([0; MOST_BYTES]);
+    bytes.truncate(word.len() / 2);
+    if decode(word, bytes.as_mut_slice()) {
+        Some(bytes)
+    } else {
+        None
+    }
+}
+
+/// The AID that hexadecimal digits of either case spell.
+pub(crate) fn aid_of(word: &[u8]) -> Option<Aid>
+    ensures { result ≡ spelled_aid word.now }
+{
+    Aid::from_slice(bytes_of(word)?.as_slice())
+}

@@ -1,5 +1,5 @@
 -- Packages that are bound to those before them, and the world of those (Java Card Virtual Machine Specification, Linking).
-use Rattle.std.specs.Prelude.{◌≡◌, ◌⊎◌, ℕ, ◌+◌, ◌-◌, List, [], ◌∷◌, ◌++◌, map, length, take, true, Option, Some, Result, Ok, Err, is_some, slice_get}
+use Rattle.std.specs.Prelude.{◌≡◌, ◌⊎◌, ℕ, ◌+◌, ◌<◌, ◌-◌, List, [], ◌∷◌, ◌++◌, map, length, take, true, Option, Some, Result, Ok, Err, is_some, slice_get}
 use Rattle.jc_base.specs.declared.fault.LoadFault.{LoadFault}
 use Rattle.jc_base.specs.declared.fault.LoadFault.TheVariants.{Memory}
 use Rattle.jc_base.specs.Parts.{Infos}
@@ -9,6 +9,7 @@ use Rattle.jc_cap_desc.specs.Package.{package_of}
 use Rattle.jc_cap_desc.specs.Shape.{HasBody, HaveBodies, HaveHeaders, InstallMethods, IsConcrete, MethodBody}
 use Rattle.jc_cap_desc.specs.Shape.{Package, Shape, StandApart}
 use Rattle.jc_classes.specs.Growth.{grown}
+use Rattle.jc_classes.specs.Limits.{most_packages}
 use Rattle.jc_classes.specs.Members.{DeclaredMethod, method_at}
 use Rattle.jc_classes.specs.Methods.{method_name}
 use Rattle.jc_link.specs.Built.{IsBuilt}
@@ -137,3 +138,12 @@ IsBoundTo w l = (shape : Shape) × (l.world ≡ grown w.shapes shape)
 -- the world with a linked package
 abbrev pub with_linked : World → Linked → World
 with_linked w l = record { shapes = l.world; bodies = w.bodies ++ l.body ∷ [] }
+
+-- a world is that of these packages, with another one behind them
+pub record WasAdded (after : World) (shapes : List Shape) : Type 0 where
+  pub before : World
+  pub world : IsWorld before
+  pub few : length before.shapes < most_packages
+  pub shapes_are : shapes ≡ before.shapes
+  pub linked : Linked
+  pub added : after ≡ with_linked before linked

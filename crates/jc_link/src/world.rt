@@ -1,10 +1,10 @@
 //! The world of the packages on a card.
 
-ghost use Rattle.std.specs.Prelude.{◌≡◌, ◌-◌, ◌<◌, ◌≤◌, [], length, nat_le, IfOk, IfErr};
+ghost use Rattle.std.specs.Prelude.{◌≡◌, ◌-◌, ◌<◌, ◌≤◌, [], length, nat_le, take, IfOk, IfErr};
 ghost use Rattle.jc_classes.specs.Limits.{most_packages};
 ghost use Rattle.jc_classes.specs.Api.{api_world};
 ghost use Rattle.jc_link.specs.Built.{IsBuilt};
-ghost use Rattle.jc_link.specs.Linked.{IsBoundTo, IsKnown, IsWorld, most_in_world, with_linked};
+ghost use Rattle.jc_link.specs.Linked.{IsBoundTo, IsKnown, IsWorld, WasAdded, most_in_world, with_linked};
 
 use crate::body::PackageBody;
 use crate::growth::adding_keeps_linking;
@@ -16,6 +16,9 @@ use std::marker::Model;
 
 /// The most packages of a world: the API's two and 64 loaded ones.
 const MOST_IN_WORLD: usize = 66;
+
+/// How many of them are the API's.
+const API_PACKAGES: usize = 2;
 
 /// What a linked package has beside its shape.
 #[derive(Drop)]
@@ -150,17 +153,38 @@ impl World {
         self.len() >= MOST_IN_WORLD
     }
 
-    /// Puts a package behind the others that was bound to this world as it stands, which isn't full. Where no memory is left the
-    /// world is as it was.
+    /// Puts a package behind the others that was bound to this world as it stands, which isn't full. It gives the classes as
+    /// they were before, by which the package can be taken back. Where no memory is left the world is as it was.
+    pub fn add_for_now(&mut self, linked: Linked) -> Result<ClassTable, AllocError>
+        requires bound { IsBoundTo self.now linked }
+        requires room { length self.now.shapes < most_in_world }
+        ensures done { IfOk result (λ before. self.new ≡ with_linked self.old linked) }
+        ensures before { IfOk result (λ before. before ≡ self.old.shapes) }
+        ensures kept { IfErr result (λ e. self.new ≡ self.old) }
+    {
+        adding_keeps_linking();
+        self.bodies.push(linked.body)?;
+        Ok(std::mem::replace(&mut self.table, linked.table))
+    }
+
+    /// The same, for good.
     pub fn add(&mut self, linked: Linked) -> Result<(), AllocError>
         requires bound { IsBoundTo self.now linked }
         requires room { length self.now.shapes < most_in_world }
         ensures done { IfOk result (λ u. self.new ≡ with_linked self.old linked) }
         ensures kept { IfErr result (λ e. self.new ≡ self.old) }
     {
-        adding_keeps_linking();
-        self.bodies.push(linked.body)?;
-        self.table = linked.table;
+        let _before = self.add_for_now(linked)?;
         Ok(())
+    }
+
+    /// Takes back the package that was added last, where these were the classes before it.
+    pub fn take_back(&mut self, before: ClassTable)
+        requires added { WasAdded self.old before }
+        ensures shapes { self.new.shapes ≡ before }
+        ensures bodies { self.new.bodies ≡ take (length before - 2) self.old.bodies }
+    {
+        self.bodies.truncate(before.len() - API_PACKAGES);
+        self.table = before;
     }
 }

@@ -3,7 +3,7 @@ use Rattle.jc_classes.specs.Growth.{grown}
 use Rattle.jc_link.proofs.GrownHeirs.{length_more}
 use Rattle.jc_link.proofs.Resolved.{world_added}
 use Rattle.jc_link.specs.Linked.{IsWorld, Linked, World}
-use Rattle.jc_link.proofs.world.World.add.Goals as goal
+use Rattle.jc_link.proofs.world.World.add_for_now.Goals as goal
 
 pub invariant_of-self-2 : goal.invariant_of-self-2
 invariant_of-self-2 c =
@@ -17,8 +17,11 @@ invariant_of-self-2 c =
     let same = ap (λ (w : World). length w.shapes) c.self.view_is in
     let room = c.requires.room in
     let two = old.0 in
-    let added = world_added c.adding_keeps_linking.ensures w l old.2 c.linked.invariant (shape, grows) in (
-      omega (arith, one, two),
-      omega (arith, one, same, room),
-      subst (λ bodies. IsWorld (record { shapes = l.world; bodies = bodies })) (sym c.in_ok-push.ensures.items) added,
+    let added = world_added c.adding_keeps_linking.ensures w l old.2 c.linked.invariant (shape, grows) in
+    let after = c.replace.ensures.after in
+    let size = ap (λ s. length s) after in (
+      omega (arith, one, two, size),
+      omega (arith, one, same, room, size),
+      subst (λ shapes. IsWorld (record { shapes = shapes; bodies = c.push.new.self.items })) (sym after)
+          (subst (λ bodies. IsWorld (record { shapes = l.world; bodies = bodies })) (sym c.in_ok-push.ensures.items) added),
     )

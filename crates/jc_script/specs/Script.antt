@@ -24,11 +24,11 @@ most_lines = 100000
 -- ---- commands
 
 -- a package and its certificate, by their names; an applet, the new instance and its data; a command of a reader; a reset
-pub data Command : Type 0 where
-  Load : (folder certificate : List ℕ) → Command
-  Install : (applet instance incoming : List ℕ) → Command
-  Apdu : (bytes : List ℕ) → Command
-  Reset : Command
+pub data ScriptCommand : Type 0 where
+  Load : (folder certificate : List ℕ) → ScriptCommand
+  Install : (applet instance incoming : List ℕ) → ScriptCommand
+  Apdu : (bytes : List ℕ) → ScriptCommand
+  Reset : ScriptCommand
 
 -- a name is UTF-8
 abbrev pub name_of : List ℕ → Option (List ℕ)
@@ -39,7 +39,7 @@ abbrev pub bytes_of : List ℕ → Option (List ℕ)
 bytes_of word = if nat_lt 0 (length word) && nat_le (length word) most_in_line then given (decode_of word) else None
 
 -- `load FOLDER CERTIFICATE`
-unfoldable pub load_asked : List (List ℕ) → Option Command
+unfoldable pub load_asked : List (List ℕ) → Option ScriptCommand
 load_asked (folder ∷ certificate ∷ []) = do
   f ← name_of folder
   c ← name_of certificate
@@ -47,7 +47,7 @@ load_asked (folder ∷ certificate ∷ []) = do
 load_asked _ = None
 
 -- `install APPLET INSTANCE`, and DATA behind them
-unfoldable pub install_asked : List (List ℕ) → Option Command
+unfoldable pub install_asked : List (List ℕ) → Option ScriptCommand
 install_asked (applet ∷ instance ∷ []) = do
   a ← spelled_aid applet
   i ← spelled_aid instance
@@ -60,19 +60,19 @@ install_asked (applet ∷ instance ∷ incoming ∷ []) = do
 install_asked _ = None
 
 -- `apdu BYTES`
-unfoldable pub apdu_asked : List (List ℕ) → Option Command
+unfoldable pub apdu_asked : List (List ℕ) → Option ScriptCommand
 apdu_asked (bytes ∷ []) = do
   b ← bytes_of bytes
   Some (Apdu b)
 apdu_asked _ = None
 
 -- `reset`
-unfoldable pub reset_asked : List (List ℕ) → Option Command
+unfoldable pub reset_asked : List (List ℕ) → Option ScriptCommand
 reset_asked [] = Some Reset
 reset_asked _ = None
 
 -- by the first word
-unfoldable pub asked : List (List ℕ) → Option Command
+unfoldable pub asked : List (List ℕ) → Option ScriptCommand
 asked [] = None
 asked (keyword ∷ words) =
     if bytes_eq keyword (codes "load") then load_asked words
@@ -83,17 +83,17 @@ asked (keyword ∷ words) =
 
 -- ---- what a line says
 
-pub data Line : Type 0 where
-  Skipped : Line
-  Asks : (command : Command) → Line
-  Bad : Line
+pub data ScriptLine : Type 0 where
+  Skipped : ScriptLine
+  Asks : (command : ScriptCommand) → ScriptLine
+  Bad : ScriptLine
 
 -- an empty line and one whose first byte is # are skipped; words have one space between them
-unfoldable pub said_by : List ℕ → Line
+unfoldable pub said_by : List ℕ → ScriptLine
 said_by line = if is_skipped line then Skipped else option_map_or Asks (asked (words_of line)) Bad
 
 -- a line by its number, from 1 on: one that is too long is bad, and so is one too many
-abbrev pub line_at : ℕ → List ℕ → Line
+abbrev pub line_at : ℕ → List ℕ → ScriptLine
 line_at number line =
     if nat_lt most_lines number || nat_lt most_in_line (length line) then Bad else said_by line
 
@@ -102,14 +102,14 @@ line_at number line =
 -- a command, and the number of its line
 pub record Numbered : Type 0 where
   pub number : ℕ
-  pub command : Command
+  pub command : ScriptCommand
 
 -- the commands up to the first bad line, and that line's number, if there is one
 pub record Script : Type 0 where
   pub commands : List Numbered
   pub bad : Option ℕ
 
-abbrev pub with_line : ℕ → Line → Script → Script
+abbrev pub with_line : ℕ → ScriptLine → Script → Script
 with_line number Skipped script = script
 with_line number (Asks command) script =
     record script { commands = record { number = number; command = command } ∷ script.commands }

@@ -17,7 +17,7 @@ pub const MOST_BYTES: usize = MOST_IN_LINE / 2;
 
 /// A command for a card.
 #[derive(Debug, Drop)]
-pub enum Command<'a> {
+pub enum ScriptCommand<'a> {
     /// A package is loaded: the folder of its component files, and the file of its certificate.
     Load {
         folder: &'a str,
@@ -37,17 +37,17 @@ pub enum Command<'a> {
 
 /// What a line says.
 #[derive(Debug, Drop)]
-pub enum Line<'a> {
+pub enum ScriptLine<'a> {
     /// Nothing: it is empty, or a comment.
     Skipped,
     /// It asks for a command.
-    Asks(Command<'a>),
+    Asks(ScriptCommand<'a>),
     /// It is none.
     Bad,
 }
 
 #[tactic(auto, unfolding(crate::specs::Script::load_asked))]
-fn load_asked(mut words: Words) -> Option<Command>
+fn load_asked(mut words: Words) -> Option<ScriptCommand>
     ensures { option_map shown_command result ≡ load_asked words.entry }
 {
     let folder = words.next()?;
@@ -55,14 +55,14 @@ fn load_asked(mut words: Words) -> Option<Command>
     if words.next().is_some() {
         return None;
     }
-    Some(Command::Load {
+    Some(ScriptCommand::Load {
         folder: name_of(folder)?,
         certificate: name_of(certificate)?,
     })
 }
 
 #[tactic(auto, unfolding(crate::specs::Script::install_asked))]
-fn install_asked(mut words: Words) -> Option<Command>
+fn install_asked(mut words: Words) -> Option<ScriptCommand>
     ensures { option_map shown_command result ≡ install_asked words.entry }
 {
     let applet = words.next()?;
@@ -77,7 +77,7 @@ fn install_asked(mut words: Words) -> Option<Command>
         Some(word) => bytes_of(word)?,
         None => ArrayVec::new(),
     };
-    Some(Command::Install {
+    Some(ScriptCommand::Install {
         applet,
         instance,
         incoming,
@@ -85,29 +85,29 @@ fn install_asked(mut words: Words) -> Option<Command>
 }
 
 #[tactic(auto, unfolding(crate::specs::Script::apdu_asked))]
-fn apdu_asked(mut words: Words) -> Option<Command>
+fn apdu_asked(mut words: Words) -> Option<ScriptCommand>
     ensures { option_map shown_command result ≡ apdu_asked words.entry }
 {
     let bytes = words.next()?;
     if words.next().is_some() {
         return None;
     }
-    Some(Command::Apdu(bytes_of(bytes)?))
+    Some(ScriptCommand::Apdu(bytes_of(bytes)?))
 }
 
 #[tactic(auto, unfolding(crate::specs::Script::reset_asked))]
-fn reset_asked(mut words: Words) -> Option<Command>
+fn reset_asked(mut words: Words) -> Option<ScriptCommand>
     ensures { option_map shown_command result ≡ reset_asked words.entry }
 {
     match words.next() {
         Some(_) => None,
-        None => Some(Command::Reset),
+        None => Some(ScriptCommand::Reset),
     }
 }
 
 /// The command that words ask for, if they do.
 #[tactic(auto, unfolding(crate::specs::Script::asked))]
-fn asked(mut words: Words) -> Option<Command>
+fn asked(mut words: Words) -> Option<ScriptCommand>
     ensures { option_map shown_command result ≡ asked words.entry }
 {
     let keyword = words.next()?;
@@ -126,14 +126,14 @@ fn asked(mut words: Words) -> Option<Command>
 
 /// What a line says, of at most [`MOST_IN_LINE`] bytes.
 #[tactic(auto, unfolding(crate::specs::Script::said_by))]
-pub fn said_by(line: &[u8]) -> Line<'_>
+pub fn said_by(line: &[u8]) -> ScriptLine<'_>
     ensures { shown result ≡ script.said_by line.now }
 {
     if is_skipped(line) {
-        return Line::Skipped;
+        return ScriptLine::Skipped;
     }
     match asked(Words::new(line)) {
-        Some(command) => Line::Asks(command),
-        None => Line::Bad,
+        Some(command) => ScriptLine::Asks(command),
+        None => ScriptLine::Bad,
     }
 }

@@ -6,5 +6,5 @@ mod command;
 mod reader;
 mod words;
 
-pub use command::{Command, Line, MOST_BYTES, MOST_IN_LINE, said_by};
+pub use command::{MOST_BYTES, MOST_IN_LINE, ScriptCommand, ScriptLine, said_by};
 pub use reader::{MOST_LINES, NextLine, ReadFault, ScriptReader};

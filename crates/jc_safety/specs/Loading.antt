@@ -24,7 +24,7 @@ use Rattle.jc_store.specs.declared.kind.Mark.{Mark}
 use Rattle.jc_store.specs.declared.kind.Mark.TheVariants.{GlobalArray, Plain}
 use Rattle.jc_store.specs.declared.kind.ObjectType.{ObjectType}
 use Rattle.jc_store.specs.declared.kind.ObjectType.TheVariants.{BooleanArray, ByteArray, ShortArray}
-use Rattle.jc_words.specs.Shorts.{low_byte, word_of}
+use Rattle.jc_words.specs.Shorts.{low_byte, low_half, word_of}
 use Rattle.jc_words.specs.Values.{Null, Ref, TaggedValue, Word}
 
 -- ---- initialised arrays
@@ -34,12 +34,12 @@ type_of_array (Of.Boolean values) = BooleanArray
 type_of_array (Of.Byte values) = ByteArray
 type_of_array (Of.Short values) = ShortArray
 
--- a component of 8 bits, and one of 16: of a boolean or a byte the low byte alone is kept
+-- a component of 8 bits, and one of 16
 abbrev pub byte_component : ℤ → TaggedValue
 byte_component value = Word (low_byte (word_of value))
 
 abbrev pub short_component : ℤ → TaggedValue
-short_component value = Word (word_of value)
+short_component value = Word (low_half (word_of value))
 
 abbrev pub components_of_array : StaticArray → List TaggedValue
 components_of_array (Of.Boolean values) = map byte_component values

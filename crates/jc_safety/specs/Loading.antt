@@ -20,6 +20,7 @@ use Rattle.jc_machine.specs.Machine.{Limits, Machine, StaticValue, Surroundings}
 use Rattle.jc_machine.specs.Typed.{IsTypedBeside}
 use Rattle.jc_names.specs.declared.owner.Owner.{Owner}
 use Rattle.jc_store.specs.Heap.{Heap, Object, cells_in, next_number}
+use Rattle.jc_store.specs.declared.kind.Kind.{Kind}
 use Rattle.jc_store.specs.declared.kind.Mark.{Mark}
 use Rattle.jc_store.specs.declared.kind.Mark.TheVariants.{GlobalArray, Plain}
 use Rattle.jc_store.specs.declared.kind.ObjectType.{ObjectType}
@@ -34,17 +35,17 @@ type_of_array (Of.Boolean values) = BooleanArray
 type_of_array (Of.Byte values) = ByteArray
 type_of_array (Of.Short values) = ShortArray
 
--- a component of 8 bits, and one of 16
-abbrev pub byte_component : ℤ → TaggedValue
-byte_component value = Word (low_byte (word_of value))
+-- its components as words: of booleans and bytes the low byte alone is kept
+abbrev pub byte_word : ℤ → ℕ
+byte_word value = low_byte (word_of value)
 
-abbrev pub short_component : ℤ → TaggedValue
-short_component value = Word (low_half (word_of value))
+abbrev pub short_word : ℤ → ℕ
+short_word value = low_half (word_of value)
 
-abbrev pub components_of_array : StaticArray → List TaggedValue
-components_of_array (Of.Boolean values) = map byte_component values
-components_of_array (Of.Byte values) = map byte_component values
-components_of_array (Of.Short values) = map short_component values
+abbrev pub words_of_array : StaticArray → List ℕ
+words_of_array (Of.Boolean values) = map byte_word values
+words_of_array (Of.Byte values) = map byte_word values
+words_of_array (Of.Short values) = map short_word values
 
 -- the arrays of a package with applets are its context's, with instance number 0; those of a library are the
 -- runtime's, and for all contexts
@@ -56,11 +57,15 @@ abbrev pub mark_of_arrays : Option (List Applet) → Mark
 mark_of_arrays None = GlobalArray
 mark_of_arrays (Some applets) = Plain
 
+abbrev pub kind_of_array : LinkedBody → StaticArray → Kind
+kind_of_array body array =
+    record { object = type_of_array array; mark = mark_of_arrays body.kept.applets; clears = None }
+
 abbrev pub loaded_array : ℕ → LinkedBody → StaticArray → Object TaggedValue
 loaded_array number body array = record {
-  kind = record { object = type_of_array array; mark = mark_of_arrays body.kept.applets; clears = None };
+  kind = kind_of_array body array;
   owner = owner_of_arrays number body.kept.applets;
-  cells = components_of_array array;
+  cells = map Word (words_of_array array);
 }
 
 -- the arrays of the package with a number, in the order of their references

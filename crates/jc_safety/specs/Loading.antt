@@ -83,7 +83,7 @@ byte_at image offset = low_byte (get_or (image_bytes image) offset 0)
 
 -- two bytes, the high one first
 abbrev pub short_at : StaticImage → ℕ → ℕ
-short_at image offset = 256 * byte_at image offset + byte_at image (suc offset)
+short_at image offset = 256 * byte_at image offset + byte_at image (offset + 1)
 
 -- the first references lead to the initialised arrays, of which the first has a number; the others are null
 abbrev pub reference_at : ℕ → StaticImage → ℕ → TaggedValue
@@ -108,6 +108,12 @@ static_value first image f = record { offset = f.offset; value = value_at first 
 abbrev pub static_values : ℕ → StaticImage → Shape → List StaticValue
 static_values first image shape = map (static_value first image) (static_fields shape)
 
+-- static fields stand within their image, each at an offset of its own
+pub record HaveOwnOffsets (image : StaticImage) (fields : List StaticField) : Type 0 where
+  pub within : (i : ℕ) (f : StaticField) → slice_get fields i ≡ Some f → f.offset < image.size
+  pub own : (i j : ℕ) (f g : StaticField) → slice_get fields i ≡ Some f → slice_get fields j ≡ Some g
+      → f.offset ≡ g.offset → i ≡ j
+
 -- ---- a package is loaded
 
 -- it is the last of the world that it was bound to
@@ -130,7 +136,7 @@ abbrev pub statics_behind : Heap TaggedValue → List (List StaticValue) → Lin
 statics_behind heap statics l = statics ++ loaded_statics (next_number heap) l ∷ []
 
 -- there is room for the arrays
-abbrev pub has_room_for : Limits → Heap TaggedValue → Bool
+abbrev pub has_room_for : {V : Type 0} → Limits → Heap V → Bool
 has_room_for limits behind = nat_le (length behind) limits.objects && nat_le (cells_in behind) limits.cells
 
 -- what is around the machine and what it keeps beside its frames, behind the load

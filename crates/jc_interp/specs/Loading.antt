@@ -59,11 +59,11 @@ TellsRoom objects cells os body answer =
 -- where a package may be loaded, the words read the machine before the load over the world's tables, each of the
 -- store's objects has a number for its class, and the image holds the package's static fields; and these are the
 -- tables of the world with the package
-pub record LoadsWords {C : Type 0} (s : Surroundings C) (before after : Program) (u : WordMachine) (kept : C)
-    (m : Machine C) (l : Linked) (image : List ℕ) : Type 0 where
+pub record LoadsWords {C : Type 0} (s : Surroundings C) (p q : Program) (u : WordMachine) (kept : C) (m : Machine C)
+    (l : Linked) (image : List ℕ) : Type 0 where
   pub may : MayLoad s m l
-  pub before : IsProgramOf s.world before
-  pub after : IsProgramOf (with_linked s.world l) after
-  pub agree : AgreeBeside s before u kept m
+  pub before : IsProgramOf s.world p
+  pub after : IsProgramOf (with_linked s.world l) q
+  pub agree : AgreeBeside s p u kept m
   pub counted : length u.store.classes ≡ length u.store.objects
   pub holds : HoldsFields image (loaded_statics (next_number m.heap) l)

@@ -1,7 +1,8 @@
 //! Examples, which the prover computes.
 
 ghost use Rattle.std.specs.Prelude.{◌≡◌, [], ◌∷◌};
-ghost use Rattle.jc_base.specs.declared.declared_type.DeclaredType.TheVariants.{Boolean, Byte, ByteArray, Short, ShortArray};
+ghost use Rattle.jc_base.specs.declared.declared_type.DeclaredType.TheVariants.{Boolean, Byte, ByteArray, Short};
+ghost use Rattle.jc_base.specs.declared.declared_type.DeclaredType.TheVariants.{ShortArray};
 ghost use Rattle.jc_code.specs.declared.object.Form.TheVariants as Forms;
 ghost use Rattle.jc_machine.specs.Arrays.{loaded_as};
 ghost use Rattle.jc_safety.specs.Loading.{value_at, words_of_array};

@@ -1,3 +1,5 @@
 pub mod Safety
 pub mod Starting
 pub mod Zeroing
+pub mod Loading
+pub mod LoadingExamples

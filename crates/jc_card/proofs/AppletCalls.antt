@@ -200,7 +200,8 @@ module _ (laws : Laws) (k : CardWords) (c : CardState) (h : Holds k c) (i : Inst
 
   finds : (name : MethodName) → FindsMethod s (start name) (member_called call) its.object
   finds name =
-      laws.members s (may_run laws.call k c h i.owner.context i.owner name (Ref i.object ∷ arguments_of call)) (start name)
+      laws.members s (may_run laws.call k c h i.owner.context i.owner name (Ref i.object ∷ arguments_of call)) (start
+      name)
       (beside laws.call k c h i.owner.context i.owner name (Ref i.object ∷ arguments_of call)) (member_called call)
       its.object (member_call name)
 

@@ -13,7 +13,8 @@ use Rattle.jc_machine.specs.Machine.{Machine, Surroundings, Touch}
 use Rattle.jc_machine.specs.Natives.{IsLawful}
 use Rattle.jc_machine.specs.Reading.{Pointwise, Reads}
 use Rattle.jc_machine.specs.Running.{MayRun}
-use Rattle.jc_machine.specs.Step.{CallEnd, Called, Gave, RanOut, Start, Threw, WasStuck, no_frame, runtime_call, standing}
+use Rattle.jc_machine.specs.Step.{CallEnd, Called, Gave, RanOut, Start, Threw, WasStuck, no_frame, runtime_call}
+use Rattle.jc_machine.specs.Step.{standing}
 use Rattle.jc_machine.specs.Typed.{IsTypedBeside}
 use Rattle.jc_names.specs.declared.name.MethodName.{MethodName}
 use Rattle.jc_names.specs.declared.owner.Owner.{Owner}

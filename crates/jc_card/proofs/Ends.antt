@@ -1,5 +1,6 @@
 -- How calls that ended are answered, on words.
-use Rattle.std.proofs.Common.{◌≡◌, ◌==◌, ℕ, zero, suc, List, [], ◌∷◌, get_or, slice_get, Bool, true, false, cond, not, Option, Some, None, refl, sym, ap, ◌∙◌, subst}
+use Rattle.std.proofs.Common.{◌≡◌, ◌==◌, ℕ, zero, suc, List, [], ◌∷◌, get_or, slice_get, Bool, true, false, cond, not}
+use Rattle.std.proofs.Common.{Option, Some, None, refl, sym, ap, ◌∙◌, subst}
 use Rattle.std.specs.List.{AllByRecursion}
 use Rattle.std.specs.Option.{option_map_or}
 use Rattle.jc_base.specs.declared.declared_type.DeclaredType.{DeclaredType}
@@ -17,7 +18,8 @@ use Rattle.jc_store.specs.Blocks.{components_of}
 use Rattle.jc_store.specs.Heap.{Heap, Object, object_at}
 use Rattle.jc_store.specs.Store.{IsThere}
 use Rattle.jc_store.specs.declared.kind.ObjectType.{ObjectType}
-use Rattle.jc_store.specs.declared.kind.ObjectType.TheVariants.{BooleanArray, ByteArray, Instance, ReferenceArray, ShortArray}
+use Rattle.jc_store.specs.declared.kind.ObjectType.TheVariants.{BooleanArray, ByteArray, Instance, ReferenceArray}
+use Rattle.jc_store.specs.declared.kind.ObjectType.TheVariants.{ShortArray}
 use Rattle.jc_words.specs.Values.{Null, Ref, TaggedValue, Unset, Word, is_written}
 use Rattle.jc_card.proofs.Thrown.{across}
 use Rattle.jc_card.specs.Card.{CardState}

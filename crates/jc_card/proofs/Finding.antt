@@ -1,5 +1,6 @@
 -- Applets that are looked for in the loaded packages.
-use Rattle.std.proofs.Common.{◌≡◌, ℕ, suc, ◌+◌, List, [], ◌∷◌, slice_get, cond, Bool, true, false, Option, Some, None, IfSome, bytes_eq, refl, sym, ap, ◌∙◌, subst, arith}
+use Rattle.std.proofs.Common.{◌≡◌, ℕ, suc, ◌+◌, List, [], ◌∷◌, slice_get, cond, Bool, true, false, Option, Some, None}
+use Rattle.std.proofs.Common.{IfSome, bytes_eq, refl, sym, ap, ◌∙◌, subst, arith}
 use Rattle.std.specs.List.{find}
 use Rattle.std.specs.Option.{option_and_then, option_map_or}
 use Rattle.jc_cap_data.specs.declared.applets.Applet.{Applet}

@@ -1,5 +1,6 @@
 -- Objects of heaps, one of which is another, and words that are put into its components.
-use Rattle.std.proofs.Common.{◌≡◌, ℕ, zero, suc, ◌+◌, ◌≤◌, List, [], ◌∷◌, length, map, set, slice_get, Some, refl, sym, ap, ◌∙◌, subst, arith}
+use Rattle.std.proofs.Common.{◌≡◌, ℕ, zero, suc, ◌+◌, ◌≤◌, List, [], ◌∷◌, length, map, set, slice_get, Some, refl}
+use Rattle.std.proofs.Common.{sym, ap, ◌∙◌, subst, arith}
 use Rattle.std.proofs.lemmas.List.{set-set}
 use Rattle.std.proofs.Math.Seq.{sets}
 use Rattle.std.proofs.lemmas.List.Edits.{sets-eq}

@@ -1,12 +1,15 @@
 -- The install method of an applet can begin, and is called on words.
-use Rattle.std.proofs.Common.{◌≡◌, ◌<◌, ℕ, zero, suc, ◌-◌, List, [], ◌∷◌, ◌++◌, length, drop, replicate, cond, Bool, true, false, not, ◌&&◌, nat_lt, Option, Some, Ok, Err, refl, sym, ap, ◌∙◌, subst, arith}
+use Rattle.std.proofs.Common.{◌≡◌, ◌<◌, ℕ, zero, suc, ◌-◌, List, [], ◌∷◌, ◌++◌, length, drop, replicate, cond, Bool}
+use Rattle.std.proofs.Common.{true, false, not, ◌&&◌, nat_lt, Option, Some, Ok, Err, refl, sym, ap, ◌∙◌, subst, arith}
 use Rattle.std.proofs.lemmas.Bool.{le-ltb, lt-ltb}
 use Rattle.std.proofs.lemmas.List.{drop-replicate}
 use Rattle.std.specs.Option.{option_map_or}
 use Rattle.jc_base.specs.Signature.{Signature}
 use Rattle.jc_base.specs.declared.class_ref.ClassRef.{ClassRef}
 use Rattle.jc_base.specs.declared.declared_type.DeclaredType.{DeclaredType}
-use Rattle.jc_base.specs.declared.declared_type.DeclaredType.TheVariants.{Boolean, BooleanArray, Byte, ByteArray, Reference, ReferenceArray, Short, ShortArray}
+use Rattle.jc_base.specs.declared.declared_type.DeclaredType.TheVariants.{Boolean, BooleanArray, Byte, ByteArray}
+use Rattle.jc_base.specs.declared.declared_type.DeclaredType.TheVariants.{Reference, ReferenceArray, Short}
+use Rattle.jc_base.specs.declared.declared_type.DeclaredType.TheVariants.{ShortArray}
 use Rattle.jc_base.specs.declared.declared_type.ReturnType.{ReturnType}
 use Rattle.jc_base.specs.declared.declared_type.ReturnType.TheVariants.{Value, Void}
 use Rattle.jc_cap_desc.specs.Across.{is_install_signature}
@@ -61,7 +64,8 @@ module _ (find : ClassRef → Option ClassName) where
   abbrev signature : List (DeclaredType ClassRef) → ReturnType ClassRef → Signature ClassRef
   signature parameters result = record { parameters = parameters; result = result }
 
-  by_result : (result : ReturnType ClassRef) → is_install_signature (signature (ByteArray ∷ Short ∷ Byte ∷ []) result) ≡ true
+  by_result : (result : ReturnType ClassRef) → is_install_signature (signature (ByteArray ∷ Short ∷ Byte ∷ [])
+      result) ≡ true
       → signature_found find (signature (ByteArray ∷ Short ∷ Byte ∷ []) result) ≡ Some install_type
   by_result Void e = refl
   by_result (Value type) e = never e
@@ -180,7 +184,8 @@ module _ (k : CardWords) (c : CardState) (h : Holds k c) (place : AppletPlace) (
 
   abbrev fits_so : DeclaredMethod → Option (Signature ClassName) → Bool
   fits_so d type =
-      option_map_or (λ (t : Signature ClassName). cond d.method.is_static (are_of_types c.world.shapes c.heap t.parameters
+      option_map_or (λ (t : Signature ClassName). cond d.method.is_static (are_of_types c.world.shapes c.heap
+      t.parameters
       arguments) (are_of_instance c.world.shapes c.heap d.class t.parameters arguments)) type false
 
   fits : may_begin_with c.world.shapes c.heap its.declared arguments ≡ true

@@ -1,5 +1,6 @@
 -- What the runtime keeps, changed by the runtime itself.
-use Rattle.std.proofs.Common.{◌≡◌, ℕ, suc, ◌<◌, ◌≤◌, ◌&&◌, List, [], ◌∷◌, get_or, length, nat_le, Bool, true, refl, ap, ◌∙◌, arith}
+use Rattle.std.proofs.Common.{◌≡◌, ℕ, suc, ◌<◌, ◌≤◌, ◌&&◌, List, [], ◌∷◌, get_or, length, nat_le, Bool, true, refl}
+use Rattle.std.proofs.Common.{ap, ◌∙◌, arith}
 use Rattle.std.proofs.lemmas.Bool.{le-leb, lt-ltb}
 use Rattle.jc_link.specs.Linked.{World}
 use Rattle.jc_machine.specs.Runtime.{most_instances}

@@ -14,7 +14,8 @@ use Rattle.jc_store.specs.declared.kind.ClearingEvent.TheVariants as events
 use Rattle.jc_words.specs.Values.{Ref, TaggedValue}
 use Rattle.jc_card.specs.Card.{CardState, selected_instance, with_selected}
 use Rattle.jc_card.specs.Commands.{deselect, unselect}
-use Rattle.jc_card.specs.Parts.{Left, Normally, and_then, arguments_of, behind, call_applet, call_method, call_on, call_selected, clear, ended_call, gives, member_called}
+use Rattle.jc_card.specs.Parts.{Left, Normally, and_then, arguments_of, behind, call_applet, call_method, call_on}
+use Rattle.jc_card.specs.Parts.{call_selected, clear, ended_call, gives, member_called}
 use Rattle.jc_card.specs.Reads.{CardWords, Holds, IsDone}
 use Rattle.jc_card.specs.declared.calls.AppletCall.{AppletCall}
 use Rattle.jc_card.specs.declared.calls.AppletCall.TheVariants.{Deselect}
@@ -69,7 +70,8 @@ unselect_stays : (c : CardState) → StaysIn c (unselect c)
 unselect_stays c = by_owner c.selected
   where
     by_owner : (o : Option Owner)
-        → StaysIn c (option_map_or (λ (owner : Owner). clear events.Deselect (Some owner.context) (with_selected c None)) o
+        → StaysIn c (option_map_or (λ (owner : Owner). clear events.Deselect (Some owner.context) (with_selected c
+        None)) o
         (gives c tt))
     by_owner None = record { world = refl; numbers = refl }
     by_owner (Some owner) = record { world = refl; numbers = refl }

@@ -1,5 +1,6 @@
 -- Bytes that the runtime writes into its arrays.
-use Rattle.std.proofs.Common.{◌≡◌, ℕ, suc, ◌+◌, ◌<◌, ◌≤◌, List, [], ◌∷◌, get_or, length, map, Some, None, refl, sym, subst, arith}
+use Rattle.std.proofs.Common.{◌≡◌, ℕ, suc, ◌+◌, ◌<◌, ◌≤◌, List, [], ◌∷◌, get_or, length, map, Some, None, refl, sym}
+use Rattle.std.proofs.Common.{subst, arith}
 use Rattle.jc_interp.specs.Agree.{AreNumbered, IsNumbered}
 use Rattle.jc_machine.specs.Lookup.{class_of}
 use Rattle.jc_machine.specs.Machine.{Machine, Surroundings}
@@ -51,14 +52,16 @@ module _ (k : CardWords) (c : CardState) (h : Holds k c) (number : ℕ) (bytes :
 
   within : length bytes ≤ length (its_words.object).cells
   within =
-      subst (λ (n : ℕ). length bytes ≤ n) (read_length (its_words.object).cells (array.object).cells (its_words.reads).cells)
+      subst (λ (n : ℕ). length bytes ≤ n) (read_length (its_words.object).cells (array.object).cells
+      (its_words.reads).cells)
       array.within
 
   pub has_cells : HasCells k.machine.store number 0 (length bytes)
   has_cells = record { object = its_words.object; is = its_words.there; within = omega (arith, within) }
 
   abbrev pub store_after : Store
-  store_after = with_objects k.machine.store (with_object k.machine.store.objects number (with_cells its_words.object 0 bytes))
+  store_after = with_objects k.machine.store (with_object k.machine.store.objects number (with_cells its_words.object
+      0 bytes))
 
   abbrev pub card_after : CardWords
   card_after = record k {
@@ -67,7 +70,8 @@ module _ (k : CardWords) (c : CardState) (h : Holds k c) (number : ℕ) (bytes :
 
   numbered_still : AreNumbered k.program.classes store_after
   numbered_still other y e =
-      let w = was k.machine.store.objects number its_words.object (with_cells its_words.object 0 bytes) its_words.there refl other y e in
+      let w = was k.machine.store.objects number its_words.object (with_cells its_words.object 0 bytes)
+      its_words.there refl other y e in
       let n = h.beside.numbered other w.object w.found in
       subst (λ (kind : Kind). IsNumbered k.program.classes store_after other (class_of kind.object)) (sym w.kind)
       (record { named = n.named; kept = n.kept })
@@ -77,7 +81,8 @@ module _ (k : CardWords) (c : CardState) (h : Holds k c) (number : ℕ) (bytes :
     write_done =
         let s = around c None in
         let may : MayRun s = record { accepted = h.typed.accepted; natives = lawful } in
-        let t = all_typed stays s may number bytes are (at_rest c) h.typed.beside 0 array.object array.there array.bytes in
+        let t = all_typed stays s may number bytes are (at_rest c) h.typed.beside 0 array.object array.there
+        array.bytes in
         let b = h.beside in (
           record {
             typed = record {
@@ -93,7 +98,8 @@ module _ (k : CardWords) (c : CardState) (h : Holds k c) (number : ℕ) (bytes :
             world = h.world;
             program = h.program;
             beside = record {
-              heap = written_reads k.machine.store.objects c.heap b.heap number bytes its_words.object array.object its_words.reads array.there within;
+              heap = written_reads k.machine.store.objects c.heap b.heap number bytes its_words.object array.object
+                  its_words.reads array.there within;
               numbered = numbered_still;
               statics = b.statics;
               runtime = b.runtime;

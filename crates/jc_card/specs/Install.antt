@@ -1,6 +1,7 @@
 -- The installation of an applet (Java Card Runtime Environment Specification, Applet Lifetime: the install method,
 -- Applet installation parameters).
-use Rattle.std.specs.Prelude.{ℕ, suc, ◌-◌, Bool, false, List, [], ◌∷◌, ◌++◌, length, Option, Some, None, bytes_eq, is_some, nat_le, nat_lt, replicate, if◌then◌else◌}
+use Rattle.std.specs.Prelude.{ℕ, suc, ◌-◌, Bool, false, List, [], ◌∷◌, ◌++◌, length, Option, Some, None, bytes_eq}
+use Rattle.std.specs.Prelude.{is_some, nat_le, nat_lt, replicate, if◌then◌else◌}
 use Rattle.std.specs.List.{find}
 use Rattle.std.specs.Option.{option_and_then, option_map_or}
 use Rattle.jc_cap_data.specs.declared.applets.Applet.{Applet}
@@ -14,7 +15,8 @@ use Rattle.jc_words.specs.Values.{Ref, Word}
 use Rattle.jc_card.specs.Card.{CardState, with_kept}
 use Rattle.jc_card.specs.Command.{unknown_error}
 use Rattle.jc_card.specs.Commands.{deselect, status_of_thrown}
-use Rattle.jc_card.specs.Parts.{Ended, Left, Normally, OutOfBudget, Uncaught, and_then, call_method, clear, gives, write}
+use Rattle.jc_card.specs.Parts.{Ended, Left, Normally, OutOfBudget, Uncaught, and_then, call_method, clear, gives}
+use Rattle.jc_card.specs.Parts.{write}
 use Rattle.jc_card.specs.declared.fault.InstallFault.{InstallFault}
 use Rattle.jc_card.specs.declared.fault.InstallFault.TheVariants as faults
 use Rattle.jc_card.specs.declared.places.AppletPlace.{AppletPlace}

@@ -4,7 +4,8 @@
 ghost use Rattle.std.specs.Prelude.{◌≡◌, ◌≤◌, length};
 ghost use Rattle.jc_card.specs.Card.{CardState};
 ghost use Rattle.jc_card.specs.Command.{buffer_of};
-ghost use Rattle.jc_card.specs.Commands.{apdu_command, ask, dispatch, perform, process, receive, refused, select, selected_by};
+ghost use Rattle.jc_card.specs.Commands.{apdu_command, ask, dispatch, perform, process, receive, refused, select};
+ghost use Rattle.jc_card.specs.Commands.{selected_by};
 ghost use Rattle.jc_card.specs.Reads.{Does, Holds, ReadsResponse};
 
 use crate::answer::Answer;

@@ -3,7 +3,8 @@
 
 ghost use Rattle.std.specs.Prelude.{◌≡◌, ◌<◌, ◌≤◌, suc, IfNone, Some, length};
 ghost use Rattle.jc_card.specs.Card.{CardState, with_kept};
-ghost use Rattle.jc_card.specs.Install.{accepted, begin, call_install, failure_of, install_as, install_command, padded, parameters_of, refusal_of, settle, succeeds};
+ghost use Rattle.jc_card.specs.Install.{accepted, begin, call_install, failure_of, install_as, install_command};
+ghost use Rattle.jc_card.specs.Install.{padded, parameters_of, refusal_of, settle, succeeds};
 ghost use Rattle.jc_card.specs.Parts.{Ended, gives};
 ghost use Rattle.jc_card.specs.PrivateWords.{IsInstallPlace, install_words};
 ghost use Rattle.jc_card.specs.Reads.{Does, GivesNothing, Holds, IsDone, ReadsEnded, ReadsInstalled};

@@ -28,7 +28,8 @@ call-requires c =
     let values : List TaggedValue = Ref 13 ∷ Word 0 ∷ Word a.size ∷ [] in
     let card = c.self.invariant.card in
     let h = c.self.invariant.holds in
-    let known = subst (λ (w : World). IsInstallPlace w a.place) (subst (λ (x : CardWords). Holds x card) c.self.view_is h).world c.requires.place in
+    let known = subst (λ (w : World). IsInstallPlace w a.place) (subst (λ (x : CardWords). Holds x card)
+    c.self.view_is h).world c.requires.place in
     let can = can_begin k card h a.place a.owner a.size (omega (arith, c.ranges.size)) known in
     record {
       may_call =
@@ -50,7 +51,8 @@ invariant_of-self c =
     let values : List TaggedValue = Ref 13 ∷ Word 0 ∷ Word a.size ∷ [] in
     let card = c.self.invariant.card in
     let h = c.self.invariant.holds in
-    let known = subst (λ (w : World). IsInstallPlace w a.place) (subst (λ (x : CardWords). Holds x card) c.self.view_is h).world c.requires.place in
+    let known = subst (λ (w : World). IsInstallPlace w a.place) (subst (λ (x : CardWords). Holds x card)
+    c.self.view_is h).world c.requires.place in
     let can = can_begin k card h a.place a.owner a.size (omega (arith, c.ranges.size)) known in
     let after : CardWords = record k { machine = c.call.new.self; kept = c.call.new.natives } in
     left_card after (ReadsEnded c.call.result) (call_install card a.place a.owner a.size)

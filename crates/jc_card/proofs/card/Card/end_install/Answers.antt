@@ -22,7 +22,8 @@ pub returns : goal.returns
 returns c card holds =
     let k : CardWords = the_view c.self.inside in
     let h = subst (λ (x : CardWords). Holds x card) (sym c.self.view_is) holds in
-    subst (λ (x : Kept). IsDone (record k { kept = x }) GivesNothing (gives (with_kept card (after_install card.kept c.args.succeeds))
+    subst (λ (x : Kept). IsDone (record k { kept = x }) GivesNothing (gives (with_kept card (after_install card.kept
+    c.args.succeeds))
     tt)) (sym c.end_install.ensures)
     (kept_changed k card h (λ x. after_install x c.args.succeeds)
     (c.calls_keep_fitting.ensures.over card.world card.heap card.kept h.typed.beside.fits c.args.succeeds))

@@ -18,13 +18,21 @@ returns c card h =
     let written = c.padded.ensures.padded ∙ ap (padded 127) is in
     let size = ap (λ (xs : List ℕ). length xs) is in
     then_done c.write_parameters.new.self c.settle.new.self GivesNothing (ReadsInstalled c.settle.result)
-    (write 13 (padded 127 words) (record card { numbers = a.owner.instance; kept = with_install card.kept a.owner a.applet.now }))
+    (write 13 (padded 127 words) (record card {
+      numbers = a.owner.instance;
+      kept = with_install card.kept a.owner
+          a.applet.now;
+    }))
     (λ d u. and_then (call_install d a.place a.owner (length words)) (λ d e. settle d a.owner e))
-    (subst (λ (bytes : List ℕ). IsDone c.write_parameters.new.self GivesNothing (write 13 bytes (record card { numbers = a.owner.instance; kept = with_install card.kept a.owner a.applet.now })))
+    (subst (λ (bytes : List ℕ). IsDone c.write_parameters.new.self GivesNothing (write 13 bytes (record card {
+      numbers = a.owner.instance;
+      kept = with_install card.kept a.owner a.applet.now;
+    })))
     written (c.write_parameters.ensures _ taken))
     (λ d u i n. then_done c.call_install-ended.new.self c.settle.new.self (ReadsEnded c.call_install-ended.result)
     (ReadsInstalled c.settle.result) (call_install d a.place a.owner (length words)) (λ d e. settle d a.owner e)
-    (subst (λ (n : ℕ). IsDone c.call_install-ended.new.self (ReadsEnded c.call_install-ended.result) (call_install d a.place a.owner n))
+    (subst (λ (n : ℕ). IsDone c.call_install-ended.new.self (ReadsEnded c.call_install-ended.result) (call_install d
+    a.place a.owner n))
     size (c.call_install-ended.ensures d i))
     (λ d e i r. c.settle.ensures d e i r))
 

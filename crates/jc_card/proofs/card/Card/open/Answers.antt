@@ -16,8 +16,12 @@ invariant_of-self c =
     let change : Kept → Kept = λ x. with_command x c.args.incoming.now c.args.expected c.args.selecting in
     subst (λ (x : Kept). IsCard (record k { kept = x })) (sym c.open.ensures)
     (left_card _ GivesNothing (gives (with_kept card (change card.kept)) tt)
-    (kept_changed k card h change (c.calls_keep_fitting.ensures.opened card.world card.heap card.kept h.typed.beside.fits
-    c.args.incoming.now c.args.expected c.args.selecting c.bytes_are_low.ensures c.requires.few (omega (arith, c.ranges.expected)))))
+    (kept_changed k card h change (c.calls_keep_fitting.ensures.opened card.world card.heap card.kept
+    h.typed.beside.fits
+    c.args.incoming.now c.args.expected c.args.selecting c.bytes_are_low.ensures c.requires.few (omega (
+      arith,
+      c.ranges.expected,
+    )))))
 
 pub returns : goal.returns
 returns c card holds =
@@ -26,5 +30,9 @@ returns c card holds =
     let change : Kept → Kept = λ x. with_command x c.args.incoming.now c.args.expected c.args.selecting in
     subst (λ (x : Kept). IsDone (record k { kept = x }) GivesNothing (gives (with_kept card (change card.kept)) tt))
     (sym c.open.ensures)
-    (kept_changed k card h change (c.calls_keep_fitting.ensures.opened card.world card.heap card.kept h.typed.beside.fits
-    c.args.incoming.now c.args.expected c.args.selecting c.bytes_are_low.ensures c.requires.few (omega (arith, c.ranges.expected))))
+    (kept_changed k card h change (c.calls_keep_fitting.ensures.opened card.world card.heap card.kept
+    h.typed.beside.fits
+    c.args.incoming.now c.args.expected c.args.selecting c.bytes_are_low.ensures c.requires.few (omega (
+      arith,
+      c.ranges.expected,
+    ))))

@@ -25,7 +25,8 @@ returns-else-succeeds c card e h r =
     let is = c.succeeds-succeeds.ensures card e h r in
     let over = subst (λ (b : Bool). Holds c.end_install.new.self (with_kept card (after_install card.kept b))) is
     (c.end_install.ensures card h).0 in
-    then_done c.clear.new.self c.clear.new.self GivesNothing (ReadsInstalled (Err (InstallFailed c.failure_of-failure.result)))
+    then_done c.clear.new.self c.clear.new.self GivesNothing (ReadsInstalled (Err (InstallFailed
+    c.failure_of-failure.result)))
     (clear Deselect (Some c.args.owner.context) (with_kept card (after_install card.kept (succeeds card e))))
     (λ d u. gives d (installed card c.args.owner e)) (c.clear.ensures _ over)
     (λ d u i n. (

@@ -15,7 +15,10 @@ invariant_of-self c =
     let next = subst (λ (x : CardWords). c.args.owner.instance ≡ suc x.numbers) (sym c.self.view_is) c.requires.next in
     subst (λ (x : Kept). IsCard (record k { kept = x; numbers = c.args.owner.instance })) (sym c.begin_install.ensures)
     (left_card _ GivesNothing
-    (gives (record card { numbers = c.args.owner.instance; kept = with_install card.kept c.args.owner c.args.applet }) tt)
+    (gives (record card {
+      numbers = c.args.owner.instance;
+      kept = with_install card.kept c.args.owner c.args.applet;
+    }) tt)
     (number_taken k card h c.calls_keep_fitting.ensures.begun c.args.owner c.args.applet c.aids_are_fit.ensures next
     c.requires.most))
 
@@ -25,7 +28,10 @@ returns c card holds =
     let h = subst (λ (x : CardWords). Holds x card) (sym c.self.view_is) holds in
     let next = subst (λ (x : CardWords). c.args.owner.instance ≡ suc x.numbers) (sym c.self.view_is) c.requires.next in
     subst (λ (x : Kept). IsDone (record k { kept = x; numbers = c.args.owner.instance }) GivesNothing
-    (gives (record card { numbers = c.args.owner.instance; kept = with_install card.kept c.args.owner c.args.applet }) tt))
+    (gives (record card {
+      numbers = c.args.owner.instance;
+      kept = with_install card.kept c.args.owner c.args.applet;
+    }) tt))
     (sym c.begin_install.ensures)
     (number_taken k card h c.calls_keep_fitting.ensures.begun c.args.owner c.args.applet c.aids_are_fit.ensures next
     c.requires.most)

@@ -26,7 +26,8 @@ invariant_of-self c =
     let across = its_words k card h c.args.number c.args.bytes.now array in
     subst (λ (x : Store). IsCard (now x)) (sym (c.put_bytes.ensures across.object across.there))
     (left_card _ GivesNothing (write c.args.number c.args.bytes.now card)
-    (write_done k card h c.args.number c.args.bytes.now array c.law.ensures c.objects_stay_typed.ensures.byte (λ n. omega (arith, c.type_inv.bytes n))))
+    (write_done k card h c.args.number c.args.bytes.now array c.law.ensures c.objects_stay_typed.ensures.byte (λ n.
+    omega (arith, c.type_inv.bytes n))))
 
 pub returns : goal.returns
 returns c card holds =
@@ -38,4 +39,5 @@ returns c card holds =
     let across = its_words k card h c.args.number c.args.bytes.now array in
     subst (λ (x : Store). IsDone (now x) GivesNothing (write c.args.number c.args.bytes.now card))
     (sym (c.put_bytes.ensures across.object across.there))
-    (write_done k card h c.args.number c.args.bytes.now array c.law.ensures c.objects_stay_typed.ensures.byte (λ n. omega (arith, c.type_inv.bytes n)))
+    (write_done k card h c.args.number c.args.bytes.now array c.law.ensures c.objects_stay_typed.ensures.byte (λ n.
+    omega (arith, c.type_inv.bytes n)))

@@ -87,8 +87,11 @@ ask c k = and_then (call_selected c Select) (λ c ended. asked c k ended)
 
 -- SELECT of a registered instance: the applet that was selected is deselected; then the new one counts as selected, and
 -- is asked
+abbrev pub choose : CardState → Owner → Command → Option (Left Response)
+choose c owner k = ask (with_selected c (Some owner)) k
+
 abbrev pub select : CardState → Owner → Command → Option (Left Response)
-select c owner k = and_then (deselect c) (λ c u. ask (with_selected c (Some owner)) k)
+select c owner k = and_then (deselect c) (λ c u. choose c owner k)
 
 -- any other command is before the applet that is selected, if one is
 abbrev pub dispatch : CardState → Command → Option (Left Response)

@@ -4,9 +4,11 @@
 ghost use Rattle.std.specs.Prelude.{◌≡◌, ◌≤◌, length};
 ghost use Rattle.jc_card.specs.Card.{CardState};
 ghost use Rattle.jc_card.specs.Command.{buffer_of};
-ghost use Rattle.jc_card.specs.Commands.{apdu_command, ask, dispatch, perform, process, receive, refused, select};
+ghost use Rattle.jc_card.specs.Commands.{apdu_command, ask, choose, dispatch, perform, process, receive, refused, select};
 ghost use Rattle.jc_card.specs.Commands.{selected_by};
-ghost use Rattle.jc_card.specs.Reads.{Does, Holds, ReadsResponse};
+ghost use Rattle.jc_card.specs.Parts.{write};
+ghost use Rattle.jc_card.specs.Reads.{Does, GivesNothing, Holds, ReadsResponse};
+ghost use Rattle.jc_machine.specs.Runtime.{apdu_buffer};
 
 use crate::answer::Answer;
 use crate::calls::AppletCall;
@@ -62,14 +64,22 @@ impl Card {
         }
     }
 
+    // Another applet counts as selected, and is asked.
+    fn choose(&mut self, owner: Owner, command: &Command<'_>) -> Answer
+        requires few { length command.now.incoming ≤ 255 }
+        ensures { Does self.old self.new (ReadsResponse result) (λ c. choose c owner command.now) }
+    {
+        self.set_selected(Some(owner));
+        self.ask(command)
+    }
+
     // Another applet is selected, and the one before it deselected.
     fn select(&mut self, owner: Owner, command: &Command<'_>) -> Answer
         requires few { length command.now.incoming ≤ 255 }
         ensures { Does self.old self.new (ReadsResponse result) (λ c. select c owner command.now) }
     {
         self.deselect();
-        self.set_selected(Some(owner));
-        self.ask(command)
+        self.choose(owner, command)
     }
 
     // The command is before the applet that is selected, if one is.
@@ -106,13 +116,21 @@ impl Card {
         }
     }
 
+    // The APDU buffer holds a command's first bytes.
+    fn fill_buffer(&mut self, command: &Command<'_>)
+        requires header { length command.now.header ≡ 4 }
+        ensures { Does self.old self.new GivesNothing (write apdu_buffer (buffer_of command.now)) }
+    {
+        self.write_buffer(&buffer_of(command));
+    }
+
     // A command comes.
     fn receive(&mut self, command: &Command<'_>) -> Answer
         requires header { length command.now.header ≡ 4 }
         requires few { length command.now.incoming ≤ 255 }
         ensures { Does self.old self.new (ReadsResponse result) (λ c. receive c command.now) }
     {
-        self.write_buffer(&buffer_of(command));
+        self.fill_buffer(command);
         self.perform(command)
     }
 

@@ -199,6 +199,7 @@ impl Card {
         ensures { Does self.old self.new (ReadsInstalled result)
             (λ c. install_as c place owner applet.now instance.now incoming.now) }
     {
+        // a look at a field makes the card's invariant known
         let _ = &self.world;
         let parameters = parameters_of(instance, incoming);
         let bytes = parameters.as_slice();
@@ -243,6 +244,7 @@ impl Card {
         ensures { Does self.old self.new (ReadsInstalled result)
             (λ c. accepted c place applet.now instance.now incoming.now) }
     {
+        // a look at a field makes the card's invariant known
         let _ = &self.world;
         self.deselect();
         self.begin(place, applet, instance, incoming)

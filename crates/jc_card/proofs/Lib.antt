@@ -1,5 +1,13 @@
+mod Heaps
+mod Calling
 mod AppletCalls
 mod Doing
 mod Clearing
 mod Selecting
 mod Thrown
+mod Ends
+mod Written
+mod Keeping
+mod Finding
+mod Installing
+mod Worlds

@@ -1,5 +1,5 @@
 -- When a card on words is the card of the defensive machine without its tags, and what its commands do.
-use Rattle.std.specs.Prelude.{⊤, ◌≡◌, ℕ, ◌≤◌, true, [], Option, Some, None}
+use Rattle.std.specs.Prelude.{⊤, ◌≡◌, ℕ, ◌≤◌, true, [], Option, Some, None, Result, Ok, Err}
 use Rattle.std.specs.Option.{option_map_or}
 use Rattle.jc_interp.specs.Agree.{AgreeBeside}
 use Rattle.jc_interp.specs.declared.ends.RunEnd.{RunEnd}
@@ -17,8 +17,10 @@ use Rattle.jc_natives.specs.Kept.{Kept}
 use Rattle.jc_words.specs.Values.{TaggedValue, is_written}
 use Rattle.jc_card.specs.Card.{CardState, around, at_rest}
 use Rattle.jc_card.specs.Commands.{Response}
+use Rattle.jc_card.specs.Install.{HasNumber, Installed, Refused}
 use Rattle.jc_card.specs.Parts.{Ended, Left, Normally, OutOfBudget, Uncaught}
 use Rattle.jc_card.specs.declared.answer.Answer.{Answer}
+use Rattle.jc_card.specs.declared.fault.InstallFault.{InstallFault}
 
 -- a card on words
 pub record CardWords : Type 0 where
@@ -93,3 +95,10 @@ GivesNothing u = ⊤
 pub record ReadsResponse (answer : Answer) (response : Response) : Type 0 where
   pub sent : answer.sent.items ≡ response.sent
   pub status : answer.status ≡ response.status
+
+-- how an installation went: the instance's number, or the refusal
+abbrev pub ReadsInstalled : Result ℕ InstallFault → Installed → Type 0
+ReadsInstalled (Ok number) (HasNumber taken) = number ≡ taken
+ReadsInstalled (Ok number) (Refused fault) = ⊥
+ReadsInstalled (Err why) (HasNumber taken) = ⊥
+ReadsInstalled (Err why) (Refused fault) = why ≡ fault

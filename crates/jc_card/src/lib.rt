@@ -5,9 +5,15 @@ mod answer;
 mod calls;
 mod card;
 mod command;
+mod commands;
+mod exchange;
 mod fault;
+mod install;
+mod laws;
+mod places;
 mod selection;
 mod status;
+mod writing;
 
 pub use answer::{Answer, MOST_SENT};
 pub use card::Card;

@@ -13,9 +13,8 @@ call-requires c =
     let laws : Laws = record {
       sound = c.built_worlds_are_sound.ensures;
       order = c.superclass_laws.ensures.order;
-      lawful = c.law.ensures;
+      call = record { lawful = c.law.ensures; calls = c.accepted_packages_are_type_safe.ensures.calls };
       declared = c.members_are_declared.ensures;
-      calls = c.accepted_packages_are_type_safe.ensures.calls;
       members = c.accepted_packages_are_type_safe.ensures.members;
     } in
     let i = c.self.inside in
@@ -36,9 +35,8 @@ invariant_of-self c =
     let laws : Laws = record {
       sound = c.built_worlds_are_sound.ensures;
       order = c.superclass_laws.ensures.order;
-      lawful = c.law.ensures;
+      call = record { lawful = c.law.ensures; calls = c.accepted_packages_are_type_safe.ensures.calls };
       declared = c.members_are_declared.ensures;
-      calls = c.accepted_packages_are_type_safe.ensures.calls;
       members = c.accepted_packages_are_type_safe.ensures.members;
     } in
     let i = c.self.inside in
@@ -62,9 +60,8 @@ returns c card holds =
     let laws : Laws = record {
       sound = c.built_worlds_are_sound.ensures;
       order = c.superclass_laws.ensures.order;
-      lawful = c.law.ensures;
+      call = record { lawful = c.law.ensures; calls = c.accepted_packages_are_type_safe.ensures.calls };
       declared = c.members_are_declared.ensures;
-      calls = c.accepted_packages_are_type_safe.ensures.calls;
       members = c.accepted_packages_are_type_safe.ensures.members;
     } in
     let i = c.self.inside in

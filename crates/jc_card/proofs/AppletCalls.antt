@@ -247,7 +247,8 @@ module _ (laws : Laws) (k : CardWords) (c : CardState) (h : Holds k c) (i : Inst
         (record { machine = k.machine; kept = k.kept }) (record { machine = after.machine; kept = after.kept }) end)
         (dropped : after.machine.frames.frames ≡ []) (same_world : after.world ≡ k.world)
         (same_program : after.program ≡ k.program) (same_selected : after.selected ≡ k.selected)
-        (same_numbers : after.numbers ≡ k.numbers) (same_steps : after.steps ≡ k.steps) where
+        (same_numbers : after.numbers ≡ k.numbers) (same_objects : after.most_objects ≡ k.most_objects)
+        (same_cells : after.most_cells ≡ k.most_cells) (same_steps : after.steps ≡ k.steps) where
       pub applet_called : IsDone after (ReadsEnded end) (call_applet c i call)
       applet_called =
           subst (λ (o : Option (Object TaggedValue)). IsDone after (ReadsEnded end) (option_and_then (call_on c i call)
@@ -256,4 +257,4 @@ module _ (laws : Laws) (k : CardWords) (c : CardState) (h : Holds k c) (i : Inst
           i.owner.context i.owner method (Ref i.object ∷ arguments_of call)) o)) (sym found)
           (method_called laws.call k c h i.owner.context i.owner name (Ref i.object ∷ arguments_of call) can_begin first
           called owner_is arguments_are few after end is dropped same_world same_program same_selected same_numbers
-          same_steps))
+          same_objects same_cells same_steps))

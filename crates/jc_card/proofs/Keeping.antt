@@ -58,6 +58,8 @@ kept_done k c h change numbers fits few = (
     frames = h.frames;
     selected = h.selected;
     numbers = refl;
+    most_objects = h.most_objects;
+    most_cells = h.most_cells;
     steps = h.steps;
   },
   tt,
@@ -77,6 +79,8 @@ kept_changed k c h change fits =
         frames = d.0.frames;
         selected = d.0.selected;
         numbers = h.numbers;
+        most_objects = d.0.most_objects;
+        most_cells = d.0.most_cells;
         steps = d.0.steps;
       },
       tt,

@@ -5,9 +5,14 @@ mod Doing
 mod Clearing
 mod Selecting
 mod Thrown
+mod Making
+mod Counting
+mod Loading
 mod Ends
 mod Written
 mod Keeping
 mod Finding
 mod Installing
 mod Worlds
+mod Checked
+mod NewCards

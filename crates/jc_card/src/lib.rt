@@ -4,17 +4,25 @@
 mod answer;
 mod calls;
 mod card;
+mod checking;
 mod command;
 mod commands;
+mod counts;
 mod exchange;
 mod fault;
+mod growing;
 mod install;
 mod laws;
+mod limits;
+mod load;
+mod new;
 mod places;
+mod runtime_objects;
 mod selection;
 mod status;
 mod writing;
 
 pub use answer::{Answer, MOST_SENT};
 pub use card::Card;
-pub use fault::InstallFault;
+pub use fault::{CardFault, InstallFault};
+pub use limits::Limits;

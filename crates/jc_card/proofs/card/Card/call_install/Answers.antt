@@ -57,7 +57,7 @@ invariant_of-self c =
     let after : CardWords = record k { machine = c.call.new.self; kept = c.call.new.natives } in
     left_card after (ReadsEnded c.call.result) (call_install card a.place a.owner a.size)
     (method_called laws k card h a.owner.context a.owner name values can first c.called_at-called.ensures refl read few
-    after c.call.result c.call.ensures.call c.call.ensures.dropped refl refl refl refl refl)
+    after c.call.result c.call.ensures.call c.call.ensures.dropped refl refl refl refl refl refl refl)
 
 pub returns : goal.returns
 returns c card holds =
@@ -77,4 +77,4 @@ returns c card holds =
     let known = subst (λ (w : World). IsInstallPlace w a.place) holds.world c.requires.place in
     let can = can_begin k card h a.place a.owner a.size (omega (arith, c.ranges.size)) known in
     method_called laws k card h a.owner.context a.owner name values can first c.called_at-called.ensures refl read few
-    after c.call.result c.call.ensures.call c.call.ensures.dropped refl refl refl refl refl
+    after c.call.result c.call.ensures.call c.call.ensures.dropped refl refl refl refl refl refl refl

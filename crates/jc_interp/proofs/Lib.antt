@@ -26,6 +26,9 @@ mod MembersFor
 mod VirtualTokens
 mod MatchingInvocations
 mod MatchingSteps
+mod OpcodesTold
+mod LeafSkips
+mod ToldSteps
 mod Running
 mod Leafing
 mod LeafRuns

@@ -19,6 +19,8 @@ pub mod PrivatePerform
 pub mod PrivateStep
 pub mod PrivateKnows
 pub mod PrivateSimulates
+pub mod PrivatePlain
+pub mod PrivateOpcodes
 pub mod PrivateRuns
 pub mod PrivateLeaf
 pub mod PrivateCalling

@@ -2,17 +2,17 @@
 //! invokeinterface).
 
 ghost use Rattle.std.specs.Prelude.{◌≡◌, ◌-◌};
-ghost use Rattle.jc_interp.specs.PrivateCalls.{guarded_call, interface_plan, listed_plan, on_interface, plan_of};
+ghost use Rattle.jc_interp.specs.PrivateCalls.{guarded_call, interface_at, interface_plan, listed_plan, on_interface, plan_of};
 ghost use Rattle.jc_interp.specs.PrivateCalls.{receiver};
-ghost use Rattle.jc_interp.specs.PrivateCalls.{special_plan, static_plan, virtual_called, virtual_plan};
+ghost use Rattle.jc_interp.specs.PrivateCalls.{special_plan, static_plan, virtual_at, virtual_called, virtual_plan};
 
 use crate::casts::is_shared_interface;
 use crate::ends::{CLASS_CAST_EXCEPTION, NULL_POINTER_EXCEPTION, SECURITY_EXCEPTION};
 use crate::here::Here;
 use crate::machine::WordMachine;
-use crate::seen::{Seen, class_named, look_at, verdict};
+use crate::seen::{Seen, class_named, look_at, own_len, verdict};
 use jc_code::Invocation;
-use jc_firewall::{Access, Verdict};
+use jc_firewall::{Access, Verdict, own_is_allowed};
 use jc_loaded::{Called, ClassNumber, Entry, InterfaceCall};
 use jc_names::{ClassName, Owner};
 
@@ -94,7 +94,37 @@ impl WordMachine {
         look_at(&self.store, self.operand(words.saturating_sub(1)))
     }
 
+    /// invokevirtual at a token
+    fn plan_at_any(&self, here: &Here<'_>, token: u8, words: u8) -> Plan
+        ensures { result ≡ virtual_at here.now self.now token words }
+    {
+        let Some(object) = self.receiver(words) else {
+            return Plan::Throws(NULL_POINTER_EXCEPTION);
+        };
+        let verdict = verdict(here, Access::InvokeVirtual, object, None, false);
+        guarded_call(verdict, virtual_called(here, object.class, token), words)
+    }
+
+    /// The same: of an own object at once
+    #[inline]
+    fn plan_at_token(&self, here: &Here<'_>, token: u8, words: u8) -> Plan
+        ensures { result ≡ virtual_at here.now self.now token words }
+    {
+        own_is_allowed();
+        let number = self.operand(words.saturating_sub(1));
+        if own_len(here, &self.store, number).is_some() {
+            let class = self.store.class_number(number);
+            return Plan::Calls {
+                called: virtual_called(here, class, token),
+                switch: None,
+                words,
+            };
+        }
+        self.plan_at_any(here, token, words)
+    }
+
     /// invokevirtual
+    #[inline]
     fn plan_virtual(&self, here: &Here<'_>, index: u16) -> Plan
         ensures { result ≡ virtual_plan here.now index self.now }
     {
@@ -106,14 +136,11 @@ impl WordMachine {
                 return Plan::Nothing,
             None => return Plan::Nothing,
         };
-        let Some(object) = self.receiver(words) else {
-            return Plan::Throws(NULL_POINTER_EXCEPTION);
-        };
-        let verdict = verdict(here, Access::InvokeVirtual, object, None, false);
-        guarded_call(verdict, virtual_called(here, object.class, token), words)
+        self.plan_at_token(here, token, words)
     }
 
     /// invokespecial: no access is tested, and no owner changes. Where no method is found the object is taken for null.
+    #[inline]
     fn plan_special(&self, here: &Here<'_>, index: u16) -> Plan
         ensures { result ≡ special_plan here.now index self.now }
     {
@@ -136,6 +163,7 @@ impl WordMachine {
     }
 
     /// invokestatic
+    #[inline]
     fn plan_static(&self, here: &Here<'_>, index: u16) -> Plan
         ensures { result ≡ static_plan here.now index }
     {
@@ -152,12 +180,17 @@ impl WordMachine {
         }
     }
 
-    fn plan_on_interface(&self, here: &Here<'_>, words: u8, token: u8, interface: ClassName) -> Plan
-        ensures { result ≡ on_interface here.now words token self.now interface }
+    /// invokeinterface of a method of the interface with a number
+    fn plan_at_interface(
+        &self,
+        here: &Here<'_>,
+        words: u8,
+        token: u8,
+        interface: ClassName,
+        number: ClassNumber,
+    ) -> Plan
+        ensures { result ≡ interface_at here.now words token interface number self.now }
     {
-        let Some(number) = here.program.classes.number_of(interface) else {
-            return Plan::Nothing;
-        };
         let Some(object) = self.receiver(words) else {
             return Plan::Throws(NULL_POINTER_EXCEPTION);
         };
@@ -171,6 +204,25 @@ impl WordMachine {
         listed_plan(verdict, call, words)
     }
 
+    fn plan_on_interface(&self, here: &Here<'_>, words: u8, token: u8, interface: ClassName) -> Plan
+        ensures { result ≡ on_interface here.now words token self.now interface }
+    {
+        own_is_allowed();
+        let Some(number) = here.program.classes.number_of(interface) else {
+            return Plan::Nothing;
+        };
+        let object = self.operand(words.saturating_sub(1));
+        if own_len(here, &self.store, object).is_some() {
+            let class = ClassNumber::new(self.store.class_number(object));
+            let call = here
+                .program
+                .interface_methods
+                .interface_method(class, number, token);
+            return listed_plan(Verdict::Allowed, call, words);
+        }
+        self.plan_at_interface(here, words, token, interface, number)
+    }
+
     /// invokeinterface
     fn plan_interface(&self, here: &Here<'_>, words: u8, index: u16, token: u8) -> Plan
         ensures { result ≡ interface_plan here.now words index token self.now }
@@ -182,6 +234,7 @@ impl WordMachine {
     }
 
     /// What a call comes to before a frame is made.
+    #[inline]
     pub(crate) fn plan(&self, here: &Here<'_>, invocation: Invocation) -> Plan
         ensures { result ≡ plan_of here.now invocation self.now }
     {

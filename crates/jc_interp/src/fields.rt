@@ -1,7 +1,9 @@
 //! Instructions on fields (Java Card Virtual Machine Specification, getstatic, putstatic, getfield, putfield, and the
 //! latter two on this).
 
-ghost use Rattle.std.specs.Prelude.{◌≡◌};
+ghost use Rattle.std.specs.Prelude.{◌≡◌, true, false};
+ghost use Rattle.std.specs.Option.{option_map_or};
+ghost use Rattle.jc_firewall.specs.Verdict.{is_never_stored};
 ghost use Rattle.jc_interp.specs.PrivateDone.{done, operand};
 ghost use Rattle.jc_interp.specs.PrivateFields.{do_field, do_get, do_instance, do_put, do_put_static, do_static};
 ghost use Rattle.jc_interp.specs.PrivateFields.{holder_word, may_put_static, putting, stored_mark};
@@ -10,9 +12,9 @@ use crate::arrays::{loaded, stored};
 use crate::ends::{NULL_POINTER_EXCEPTION, SECURITY_EXCEPTION, StepEnd};
 use crate::here::Here;
 use crate::machine::WordMachine;
-use crate::seen::{allows, cell, look_at, mark_of, put};
+use crate::seen::{allows, cell, look_at, mark_of, own_len, put};
 use jc_code::{FieldAccess, FieldAction, Form, Holder};
-use jc_firewall::Access;
+use jc_firewall::{Access, own_is_allowed};
 use jc_loaded::Entry;
 use jc_store::{Mark, Store};
 
@@ -38,6 +40,17 @@ fn stored_mark(store: &Store, form: Form, word: u16) -> Option<Mark>
     }
 }
 
+/// Whether a word may be stored, as far as the mark of the object says to which it refers.
+#[inline(always)]
+fn is_storable(store: &Store, form: Form, word: u16) -> bool
+    ensures { result ≡ true → option_map_or is_never_stored (stored_mark store.now form word) false ≡ false }
+{
+    match stored_mark(store, form, word) {
+        Some(Mark::Plain | Mark::PermanentEntryPoint) | None => true,
+        Some(Mark::TemporaryEntryPoint | Mark::GlobalArray) => false,
+    }
+}
+
 /// Whether a word may be put into a static field.
 fn may_put_static(here: &Here<'_>, store: &Store, form: Form, word: u16) -> bool
     ensures { result ≡ may_put_static here.now store.now form word }
@@ -58,6 +71,7 @@ fn may_put_static(here: &Here<'_>, store: &Store, form: Form, word: u16) -> bool
 
 impl WordMachine {
     /// putstatic, of the field at an offset of the package with a number
+    #[inline]
     fn put_static(&mut self, here: &Here<'_>, form: Form, package: u8, offset: u16) -> StepEnd
         ensures { done self.new result
             ≡ do_put_static here.now form «package» offset (operand self.old 0) self.old }
@@ -71,6 +85,7 @@ impl WordMachine {
     }
 
     /// getstatic, putstatic
+    #[inline]
     fn use_static(
         &mut self,
         here: &Here<'_>,
@@ -100,8 +115,8 @@ impl WordMachine {
         }
     }
 
-    /// getfield, which takes so many operands
-    fn get_field(
+    /// getfield of any object, which takes so many operands
+    fn get_any_field(
         &mut self,
         here: &Here<'_>,
         form: Form,
@@ -121,8 +136,28 @@ impl WordMachine {
         self.gives(here, count, loaded(form, word))
     }
 
-    /// putfield, which takes so many operands
-    fn put_field(
+    /// getfield, which takes so many operands: an own object's at once
+    #[inline]
+    fn get_field(
+        &mut self,
+        here: &Here<'_>,
+        form: Form,
+        cell_index: u32,
+        number: u16,
+        count: u8,
+    ) -> StepEnd
+        ensures { done self.new result ≡ do_get here.now form cell_index number count self.old }
+    {
+        own_is_allowed();
+        if own_len(here, &self.store, number).is_some() {
+            let word = cell(&self.store, number, cell_index as usize);
+            return self.gives(here, count, loaded(form, word));
+        }
+        self.get_any_field(here, form, cell_index, number, count)
+    }
+
+    /// putfield of any object, which takes so many operands
+    fn put_any_field(
         &mut self,
         here: &Here<'_>,
         form: Form,
@@ -149,7 +184,34 @@ impl WordMachine {
         self.leaves(here, count)
     }
 
+    /// putfield, which takes so many operands: an own object's at once
+    #[inline]
+    fn put_field(
+        &mut self,
+        here: &Here<'_>,
+        form: Form,
+        cell_index: u32,
+        number: u16,
+        count: u8,
+    ) -> StepEnd
+        ensures { done self.new result ≡ do_put here.now form cell_index number (operand self.old 0) count self.old }
+    {
+        own_is_allowed();
+        let word = self.operand(0);
+        if own_len(here, &self.store, number).is_some() && is_storable(&self.store, form, word) {
+            put(
+                &mut self.store,
+                number,
+                cell_index as usize,
+                stored(form, word),
+            );
+            return self.leaves(here, count);
+        }
+        self.put_any_field(here, form, cell_index, number, count)
+    }
+
     /// getfield, putfield
+    #[inline]
     fn use_field(&mut self, here: &Here<'_>, access: FieldAccess, cell_index: u32) -> StepEnd
         ensures { done self.new result ≡ do_instance here.now access.form cell_index access.action access.holder self.old }
     {
@@ -174,6 +236,7 @@ impl WordMachine {
     }
 
     /// getstatic, putstatic, getfield, putfield
+    #[inline]
     pub(crate) fn perform_field(
         &mut self,
         here: &Here<'_>,

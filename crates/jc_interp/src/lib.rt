@@ -2,6 +2,7 @@
 #![tactic(auto)]
 
 mod arrays;
+mod at_hand;
 mod call;
 mod calls;
 mod casts;
@@ -16,11 +17,14 @@ mod leaf;
 mod machine;
 mod natives;
 mod objects;
+mod opcodes;
 mod perform;
+mod plain;
 mod references;
 mod returns;
 mod run;
 mod seen;
+mod spot;
 mod statics;
 mod step;
 mod unwinding;

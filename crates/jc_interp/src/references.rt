@@ -14,6 +14,7 @@ use jc_firewall::Access;
 
 impl WordMachine {
     /// ifnull, ifnonnull, if_acmpeq, if_acmpne
+    #[inline]
     pub(crate) fn branch_on_reference(
         &mut self,
         here: &Here<'_>,
@@ -34,6 +35,7 @@ impl WordMachine {
     }
 
     /// athrow
+    #[inline]
     pub(crate) fn throw(&mut self, here: &Here<'_>) -> StepEnd
         ensures { done self.new result ≡ do_throw here.now (operand self.old 0) self.old }
     {

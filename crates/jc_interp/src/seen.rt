@@ -1,8 +1,8 @@
 //! What an instruction sees of an object, and what the firewall says of an access to it.
 
-ghost use Rattle.std.specs.Prelude.{◌≡◌, true, false, None};
-ghost use Rattle.jc_interp.specs.PrivateSeen.{allows, cell_in, class_named, facts_seen, is_array, is_below, mark_of};
-ghost use Rattle.jc_interp.specs.PrivateSeen.{seen_of, verdict_on, with_put};
+ghost use Rattle.std.specs.Prelude.{◌≡◌, true, false, None, IfSome};
+ghost use Rattle.jc_interp.specs.PrivateSeen.{HasOwn, allows, cell_in, class_named, facts_seen, is_array, is_below};
+ghost use Rattle.jc_interp.specs.PrivateSeen.{mark_of, seen_of, verdict_on, with_put};
 ghost use Rattle.jc_store.specs.Heap.{object_at};
 ghost use Rattle.jc_store.specs.Store.{IsThere, with_objects};
 
@@ -157,4 +157,20 @@ pub(crate) fn allows(here: &Here<'_>, access: Access, object: Seen, stored: Opti
         Verdict::Allowed | Verdict::AllowedSwitch(_) => true,
         Verdict::Denied(_) => false,
     }
+}
+
+/// How many components an object has that is the own one of the applet's context that is active: each access to it is
+/// allowed, where nothing is stored that may not be. None where it isn't, or where that isn't told at once.
+#[inline(always)]
+pub(crate) fn own_len(here: &Here<'_>, store: &Store, number: u16) -> Option<u16>
+    ensures { IfSome result (HasOwn here.now store.now number) }
+{
+    let context = here.frame.active.context;
+    if context == 0 || context >= 255 || !store.is_there(number) {
+        return None;
+    }
+    if !store.is_own(number, context) {
+        return None;
+    }
+    Some(store.len(number))
 }

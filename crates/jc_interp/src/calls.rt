@@ -2,8 +2,8 @@
 //! invokeinterface).
 
 ghost use Rattle.std.specs.Prelude.{◌≡◌, ◌-◌};
-ghost use Rattle.jc_interp.specs.PrivateCalls.{guarded_call, interface_at, interface_plan, listed_plan, on_interface, plan_of};
-ghost use Rattle.jc_interp.specs.PrivateCalls.{receiver};
+ghost use Rattle.jc_interp.specs.PrivateCalls.{guarded_call, interface_at, interface_plan, listed_plan, on_interface};
+ghost use Rattle.jc_interp.specs.PrivateCalls.{plan_of, receiver};
 ghost use Rattle.jc_interp.specs.PrivateCalls.{special_plan, static_plan, virtual_at, virtual_called, virtual_plan};
 
 use crate::casts::is_shared_interface;

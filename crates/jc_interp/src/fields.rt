@@ -85,7 +85,7 @@ impl WordMachine {
     }
 
     /// getstatic, putstatic
-    #[inline]
+    #[inline(always)]
     fn use_static(
         &mut self,
         here: &Here<'_>,
@@ -105,7 +105,7 @@ impl WordMachine {
     }
 
     /// The object whose field is used: an operand below so many, or local 0.
-    #[inline]
+    #[inline(always)]
     fn holder(&self, holder: Holder, below: u8) -> u16
         ensures { result ≡ holder_word holder below self.now }
     {
@@ -137,7 +137,7 @@ impl WordMachine {
     }
 
     /// getfield, which takes so many operands: an own object's at once
-    #[inline]
+    #[inline(always)]
     fn get_field(
         &mut self,
         here: &Here<'_>,
@@ -185,7 +185,7 @@ impl WordMachine {
     }
 
     /// putfield, which takes so many operands: an own object's at once
-    #[inline]
+    #[inline(always)]
     fn put_field(
         &mut self,
         here: &Here<'_>,
@@ -211,7 +211,7 @@ impl WordMachine {
     }
 
     /// getfield, putfield
-    #[inline]
+    #[inline(always)]
     fn use_field(&mut self, here: &Here<'_>, access: FieldAccess, cell_index: u32) -> StepEnd
         ensures { done self.new result ≡ do_instance here.now access.form cell_index access.action access.holder self.old }
     {
@@ -236,7 +236,7 @@ impl WordMachine {
     }
 
     /// getstatic, putstatic, getfield, putfield
-    #[inline]
+    #[inline(always)]
     pub(crate) fn perform_field(
         &mut self,
         here: &Here<'_>,

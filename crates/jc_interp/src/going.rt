@@ -10,7 +10,7 @@ use crate::here::Here;
 use crate::machine::WordMachine;
 
 /// The place that lies an offset from a pc; 0 where it is none of 16 bits.
-#[inline]
+#[inline(always)]
 fn place_from(pc: u16, offset: i16) -> u16
     ensures { result ≡ pc_of (target_of pc offset) }
 {
@@ -22,21 +22,21 @@ fn place_from(pc: u16, offset: i16) -> u16
 
 impl WordMachine {
     /// The operand with an index, the top one first.
-    #[inline]
+    #[inline(always)]
     pub(crate) fn operand(&self, index: u8) -> u16
         ensures { result ≡ operand self.now index }
     {
         self.frames.operand(index)
     }
 
-    #[inline]
+    #[inline(always)]
     pub(crate) fn local(&self, index: u8) -> u16
         ensures { result ≡ local self.now index }
     {
         self.frames.local(index)
     }
 
-    #[inline]
+    #[inline(always)]
     pub(crate) fn goes_to(&mut self, pc: u16) -> StepEnd
         ensures { done self.new result ≡ goes_to pc self.old }
     {
@@ -45,7 +45,7 @@ impl WordMachine {
     }
 
     /// It goes on behind the instruction, without so many operands.
-    #[inline]
+    #[inline(always)]
     pub(crate) fn leaves(&mut self, here: &Here<'_>, count: u8) -> StepEnd
         ensures { done self.new result ≡ leaves here.now count self.old }
     {
@@ -54,7 +54,7 @@ impl WordMachine {
     }
 
     /// It goes on behind the instruction, with a word on top of the operands.
-    #[inline]
+    #[inline(always)]
     pub(crate) fn puts(&mut self, here: &Here<'_>, word: u16) -> StepEnd
         ensures { done self.new result ≡ puts here.now word self.old }
     {
@@ -63,7 +63,7 @@ impl WordMachine {
     }
 
     /// It goes on behind the instruction, with a word in place of so many operands.
-    #[inline]
+    #[inline(always)]
     pub(crate) fn gives(&mut self, here: &Here<'_>, count: u8, word: u16) -> StepEnd
         ensures { done self.new result ≡ gives here.now count word self.old }
     {
@@ -72,7 +72,7 @@ impl WordMachine {
     }
 
     /// A branch that takes so many operands.
-    #[inline]
+    #[inline(always)]
     pub(crate) fn branches(
         &mut self,
         here: &Here<'_>,

@@ -14,7 +14,7 @@ use jc_firewall::Access;
 
 impl WordMachine {
     /// ifnull, ifnonnull, if_acmpeq, if_acmpne
-    #[inline]
+    #[inline(always)]
     pub(crate) fn branch_on_reference(
         &mut self,
         here: &Here<'_>,

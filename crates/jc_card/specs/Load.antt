@@ -89,7 +89,8 @@ pub record IsWithoutRoom (c : CardState) (image certificate : List ℕ) (fault :
   pub room : has_room c linked ≡ false
 
 -- another leaves the card as it was, and so does one for which memory was out
-pub record IsNotLoaded (c : CardState) (image certificate : List ℕ) (fault : LoadFault) (after : CardState) : Type 0 where
+pub record IsNotLoaded (c : CardState) (image certificate : List ℕ) (fault : LoadFault) (after : CardState)
+    : Type 0 where
   pub kept : after ≡ c
   pub why : (fault ≡ Memory) ⊎ IsUnfit c.world.shapes image certificate fault
       ⊎ IsWithoutRoom c image certificate fault

@@ -10,8 +10,8 @@ use Rattle.jc_safety.specs.Loading.{has_room_for, loaded_arrays, loaded_statics}
 use Rattle.jc_store.specs.Heap.{Heap}
 use Rattle.jc_words.specs.Values.{TaggedValue}
 
--- words of static fields, which hold them where there are few objects; and where there is room the machine has them, and
--- the package's arrays
+-- words of static fields, which hold them where there are few objects; and where there is room the machine has them,
+-- and the package's arrays
 pub record Grows (before after : WordMachine) (number : ℕ) (l : Linked) : Type 0 where
   pub words : List ℕ
   pub holds : length before.store.objects + length l.body.kept.statics.arrays < 65536

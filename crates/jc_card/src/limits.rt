@@ -8,12 +8,13 @@ ghost use Rattle.jc_card.specs.New.{are_limits};
 pub struct Limits {
     /// The most objects: 45, which are the runtime's own, to 32,767.
     pub objects: u16,
-    /// The most cells of all objects: 980, which the runtime's own take, to 65,535. An object takes one, and one for each
-    /// component.
+    /// The most cells of all objects: 980, which the runtime's own take, to 65,535. An object takes one, and one for
+    /// each component.
     pub cells: u16,
     /// The most frames of a call: 1 to 255.
     pub frames: u8,
-    /// The most words of all frames of a call: 1 to 65,535. A frame takes its arguments, its other locals and its stack.
+    /// The most words of all frames of a call: 1 to 65,535. A frame takes its arguments, its other locals and its
+    /// stack.
     pub frame_words: u16,
     /// The most steps of a call: 1 to 4,294,967,295.
     pub steps: u32,

@@ -20,8 +20,8 @@ use jc_store::Store;
 use std::alloc::Global;
 
 impl Card {
-    /// A card without packages beside the API's, whose AIDs and tokens a binding says, within limits. All memory that it
-    /// takes but for packages is reserved here.
+    /// A card without packages beside the API's, whose AIDs and tokens a binding says, within limits. All memory that
+    /// it takes but for packages is reserved here.
     pub fn new(alloc: Global, limits: Limits, binding: &Binding) -> Result<Card, CardFault>
         ensures new { IfOk result (λ card. Holds card (new_card limits binding.now)) }
         ensures limits { (result ≡ Err BadLimits) ↔ (are_limits limits ≡ false) }

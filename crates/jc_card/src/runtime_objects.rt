@@ -1,5 +1,5 @@
-//! The runtime's own objects, which it makes when a card is new (Java Card Runtime Environment Specification, JCRE Entry
-//! Point Objects, Global Arrays; Java Card API Specification, AID, APDU, Applet.install).
+//! The runtime's own objects, which it makes when a card is new (Java Card Runtime Environment Specification, JCRE
+//! Entry Point Objects, Global Arrays; Java Card API Specification, AID, APDU, Applet.install).
 
 ghost use Rattle.std.specs.Prelude.{◌≡◌, [], suc};
 ghost use Rattle.std.specs.Bool.{OnTrue};

@@ -190,9 +190,9 @@ impl WordMachine {
     }
 
     /// Makes a call of the runtime's, of so many steps at most: a frame for the method, and steps until the call ends;
-    /// or a native member, which is one step. It drops all frames, those of before too. It is for calls that read one of
-    /// the defensive machine's, of an accepted world, that can begin. The call ends as each such call ends, and what both
-    /// keep beside their frames agrees again. `selected` is the context of the applet that is selected, if one is.
+    /// or a native member, which is one step. It drops all frames, those of before too. It is for calls that read one
+    /// of the defensive machine's, of an accepted world, that can begin. The call ends as each such call ends, and what
+    /// both keep beside their frames agrees again. `selected` is the context of the applet that is selected, if one is.
     pub fn call<N: Natives>(
         &mut self,
         natives: &mut N,

@@ -37,8 +37,8 @@ use jc_step::growing_keeps_effects;
 /// their law, a machine that is well typed is never stuck. In each step it goes on and is well typed, or its call ends:
 /// with a value, with an object that nothing caught, or used up; and then what it keeps beside its frames is typed. So
 /// it is in any number of steps, and in a whole call of the runtime's that can begin. A virtual member of the API that
-/// is called on an object of its class can begin: that class has a method in its place. What the runtime keeps may be of
-/// any type. It does nothing.
+/// is called on an object of its class can begin: that class has a method in its place. What the runtime keeps may be
+/// of any type. It does nothing.
 pub fn accepted_packages_are_type_safe<N: Natives>(_natives: &N)
     ensures steps { (s : Surroundings N.Kept) → MayRun s → (m : Machine N.Kept) → IsTyped s m
         → StaysTyped s (defensive_step s m).outcome }

@@ -23,7 +23,8 @@ most_lines = 100000
 
 -- ---- commands
 
--- a package and its certificate, by their names; an applet, the new instance and its data; a command of a reader; a reset
+-- a package and its certificate, by their names; an applet, the new instance and its data; a command of a reader; a
+-- reset
 pub data ScriptCommand : Type 0 where
   Load : (folder certificate : List ℕ) → ScriptCommand
   Install : (applet instance incoming : List ℕ) → ScriptCommand

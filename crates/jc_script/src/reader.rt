@@ -167,8 +167,8 @@ impl ScriptReader {
         }
     }
 
-    /// Reads the line with a number, from 1 on. Of bytes that are known: a line was taken off; or there is none left; or
-    /// the first one left is too long, or is one too many. Nothing is read behind a line that isn't there yet.
+    /// Reads the line with a number, from 1 on. Of bytes that are known: a line was taken off; or there is none left;
+    /// or the first one left is too long, or is one too many. Nothing is read behind a line that isn't there yet.
     pub fn next<R: Read>(&mut self, reader: &mut R, number: u32) -> Result<NextLine, ReadFault>
         ensures { IfOk result (Tells number self.new.line (pending self.old.unread (R.remaining reader.old))
             (pending self.new.unread (R.remaining reader.new))) }

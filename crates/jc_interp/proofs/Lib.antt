@@ -29,3 +29,6 @@ mod MatchingSteps
 mod Running
 mod Leafing
 mod LeafRuns
+mod LoadedAgree
+mod ImageWords
+mod MadeArrays

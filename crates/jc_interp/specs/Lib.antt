@@ -1,5 +1,6 @@
 pub mod Statics
 pub mod Agree
+pub mod Loading
 pub mod Following
 pub mod Calling
 pub mod PrivateSeen
@@ -18,6 +19,8 @@ pub mod PrivateNatives
 pub mod PrivatePerform
 pub mod PrivateStep
 pub mod PrivateKnows
+pub mod PrivateImage
+pub mod PrivateMaking
 pub mod PrivateSimulates
 pub mod PrivateRuns
 pub mod PrivateLeaf

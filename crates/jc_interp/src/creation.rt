@@ -16,7 +16,7 @@ use jc_names::{ClassName, Owner};
 use jc_store::{Kind, Mark, ObjectType, Store};
 
 /// The number of Object, whose class arrays are of: it is the first of a world's classes.
-const OBJECT: u16 = 0;
+pub(crate) const OBJECT: u16 = 0;
 
 #[inline]
 fn word_array(kind: WordKind) -> ObjectType

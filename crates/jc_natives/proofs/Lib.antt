@@ -14,4 +14,5 @@ mod Suits
 mod Facts
 mod Fits
 mod Law
+mod Loading
 mod Between

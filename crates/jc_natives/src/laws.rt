@@ -1,10 +1,10 @@
 //! What holds of all native members.
 
-ghost use Rattle.std.specs.Prelude.{◌≡◌, ◌<◌, ◌≤◌, ℕ, Bool, List, Some, length, true};
+ghost use Rattle.std.specs.Prelude.{◌≡◌, ◌<◌, ◌≤◌, ◌++◌, ℕ, Bool, List, Some, length, true};
 ghost use Rattle.jc_api.specs.Member.{ApiMember, member_of};
 ghost use Rattle.jc_cap_desc.specs.Shape.{Shape};
 ghost use Rattle.jc_link.specs.Built.{IsBuilt};
-ghost use Rattle.jc_link.specs.Linked.{World};
+ghost use Rattle.jc_link.specs.Linked.{IsBoundTo, Linked, World, with_linked};
 ghost use Rattle.jc_machine.specs.Calls.{type_of_member};
 ghost use Rattle.jc_machine.specs.Machine.{NativeCall};
 ghost use Rattle.jc_machine.specs.Natives.{IsGuardedAnswer, KeepsObjects};
@@ -48,6 +48,15 @@ pub fn calls_keep_fitting()
     ensures closed { (w : World) (heap : Heap TaggedValue) (k : Kept) → meaning.fits w heap k ≡ true
         → meaning.fits w heap (without_command k) ≡ true }
 {}
+
+/// What the runtime keeps fits still behind a load: in the world with the package, and with more objects behind those
+/// that were there. It does nothing.
+pub fn loads_keep_fitting()
+    ensures { (w : World) (l : Linked) → IsBoundTo w l → (heap more : Heap TaggedValue) (k : Kept)
+        → meaning.fits w heap k ≡ true → meaning.fits (with_linked w l) (heap ++ more) k ≡ true }
+{
+    growing_keeps_lookups();
+}
 
 /// What members of the API are declared to take and give, in each world that is built. It does nothing.
 pub fn members_are_declared()

@@ -22,4 +22,7 @@ mod words;
 
 pub use examples::{arguments_are_tested, bytes_are_written, members_refuse, ranges_and_signs};
 pub use kept::{ApduState, Installing, Instance, Runtime};
-pub use laws::{calls_keep_fitting, kept_stays_fit, members_are_declared, members_are_guarded};
+pub use laws::{
+    calls_keep_fitting, kept_stays_fit, loads_keep_fitting, members_are_declared,
+    members_are_guarded,
+};

@@ -46,7 +46,7 @@ byte_bound n = bits_bound (cast_signed w8 (low_byte n)) (byte_is_short (low_byte
 pub low_bound : (n : ℕ) → low_byte n < 256
 low_bound n = mod-lt n (omega arith)
 
-half_bound : (n : ℕ) → low_half n < 65536
+pub half_bound : (n : ℕ) → low_half n < 65536
 half_bound n = mod-lt n (omega arith)
 
 -- a remainder is no larger than the dividend

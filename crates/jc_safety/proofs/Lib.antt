@@ -8,6 +8,7 @@ mod Calling
 mod Casting
 mod Constants
 mod Creating
+mod Enlarged
 mod Entering
 mod FieldRows
 mod Fields
@@ -15,7 +16,9 @@ mod Goes
 mod Ground
 mod Grounding
 mod Growing
+mod Images
 mod Lists
+mod Loading
 mod Locals
 mod Making
 mod Members

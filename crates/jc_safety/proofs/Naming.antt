@@ -18,7 +18,7 @@ use Rattle.jc_step.specs.Objects.{class_target, has_objects}
 use Rattle.jc_machine.specs.Accepted.{linked_as}
 use Rattle.jc_safety.proofs.Ground.{Stands}
 
-passing : {A : Type 0} (test : A → Bool) (o : Option A) → option_map_or test o false ≡ true → (a : A) × (o ≡ Some a)
+pub passing : {A : Type 0} (test : A → Bool) (o : Option A) → option_map_or test o false ≡ true → (a : A) × (o ≡ Some a)
 passing test None e = absurd cc
 passing test (Some a) e = (a, refl)
 

@@ -1,3 +1,4 @@
 pub mod Safety
 pub mod Starting
 pub mod Zeroing
+pub mod Loading

@@ -1,11 +1,16 @@
 //! Type safety: in a world of accepted packages a well-typed machine is never stuck.
 #![tactic(auto)]
 
-ghost use Rattle.std.specs.Prelude.{◌≡◌, ◌<◌, ℕ, Bool, Some};
+ghost use Rattle.std.specs.Prelude.{◌≡◌, ◌<◌, ℕ, Bool, List, Some, slice_get};
 ghost use Rattle.jc_machine.specs.Running.{MayRun};
 ghost use Rattle.jc_machine.specs.Machine.{Machine, MethodPlace, Surroundings};
 ghost use Rattle.jc_machine.specs.Step.{Start, defensive_step, no_frame, runtime_call, standing, steps_of};
 ghost use Rattle.jc_machine.specs.Typed.{IsTyped, IsTypedBeside};
+ghost use Rattle.jc_cap_desc.specs.Shape.{Shape};
+ghost use Rattle.jc_link.specs.Kept.{Kept};
+ghost use Rattle.jc_link.specs.Linked.{IsLoadedAt, Linked};
+ghost use Rattle.jc_link.specs.Statics.{static_fields};
+ghost use Rattle.jc_safety.specs.Loading.{HaveOwnOffsets, MayLoad, around_behind, machine_behind};
 ghost use Rattle.jc_safety.specs.Safety.{EndsTyped, StaysTyped};
 ghost use Rattle.jc_safety.specs.Starting.{FindsMethod, IsMemberCall, IsTypedStart, MethodCanBegin, first_frame};
 ghost use Rattle.jc_safety.specs.Zeroing.{with_heap, zeroed_where};
@@ -86,3 +91,31 @@ pub fn objects_stay_typed<N: Natives>(_natives: &N)
     instructions_begin_in_turn();
     runtime_objects_stay();
 }
+
+/// A package that is loaded leaves what is kept beside frames typed, in the world with that package: the objects that
+/// were there, its initialised arrays, and all static fields, each of which has a value. It does nothing.
+pub fn loads_stay_typed<N: Natives>(_natives: &N)
+    ensures { (s : Surroundings N.Kept) (m : Machine N.Kept) (l : Linked) → MayLoad s m l
+        → IsTypedBeside (around_behind s l) (machine_behind s m l) }
+{
+    growing_keeps_lookups();
+    growing_keeps_linking();
+    growing_keeps_effects();
+    built_worlds_are_sound();
+    built_worlds_name_classes();
+    built_worlds_have_the_api();
+    cells_follow_superclasses();
+    superclass_laws();
+    found_subtypes_are_subtypes();
+    methods_have_code();
+    accepted_methods_are_typed();
+    listing_laws();
+    instructions_begin_in_turn();
+    runtime_objects_stay();
+}
+
+/// The static fields of a loaded package stand within its image, each at an offset of its own. It does nothing.
+pub fn static_fields_have_own_offsets()
+    ensures { (world : List Shape) (home : ℕ) (kept : Kept) (shape : Shape) → IsLoadedAt world home kept
+        → slice_get world home ≡ Some shape → HaveOwnOffsets kept.statics (static_fields shape) }
+{}

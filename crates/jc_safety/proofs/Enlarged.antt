@@ -1,0 +1,260 @@
+-- What was typed in a world is typed in that world with more packages behind it.
+use Rattle.std.proofs.Common.{◌≡◌, ℕ, zero, suc, ◌<◌, List, [], ◌∷◌, ◌++◌, length, map, Option, Some, None, Bool}
+use Rattle.std.proofs.Common.{true, false}
+use Rattle.std.proofs.Common.{◌&&◌, if◌then◌else◌, not, refl, sym, ap, ◌∙◌, subst}
+use Rattle.std.proofs.Math.Path.{fun_ext}
+use Rattle.std.specs.List.{AllByRecursion, filter_map, range_with_len}
+use Rattle.std.specs.Option.{option_and_then, option_map, option_map_or}
+use Rattle.jc_api.specs.declared.class.ApiClass.TheVariants as api
+use Rattle.jc_base.specs.declared.declared_type.DeclaredType.{DeclaredType}
+use Rattle.jc_base.specs.declared.declared_type.DeclaredType.TheVariants as Declared
+use Rattle.jc_base.specs.declared.declared_type.ReturnType.{ReturnType}
+use Rattle.jc_base.specs.declared.declared_type.ReturnType.TheVariants.{Value}
+use Rattle.jc_cap_class.specs.Component.{is_class}
+use Rattle.jc_cap_desc.specs.Shape.{ClassShape, FieldShape, Shape}
+use Rattle.jc_classes.specs.Growth.{IsWithin, KeepsAllLookups, StandWithin}
+use Rattle.jc_classes.specs.Subtype.{IsAmong, IsSubtype, is_class_at, is_class_below}
+use Rattle.jc_classes.specs.Subtype.IsSubtype.{by_interface, by_superclass, object, same}
+use Rattle.jc_classes.specs.Walk.{most_classes}
+use Rattle.jc_classes.specs.World.{class_at, class_named, listed_refs, superclass_of}
+use Rattle.jc_link.specs.Growth.{KeepsAllLinking}
+use Rattle.jc_link.specs.KnownTypes.{NameClasses, is_known_type}
+use Rattle.jc_link.specs.MemberType.{as_member, counted, field_type_of}
+use Rattle.jc_link.specs.Named.{instance_field_at, size_of, static_field_at}
+use Rattle.jc_link.specs.Sound.{HaveSuperclasses}
+use Rattle.jc_link.specs.Target.{instance_type_of, static_type_of}
+use Rattle.jc_link.specs.declared.named.StaticPlace.{StaticPlace}
+use Rattle.jc_names.specs.Names.{home_of}
+use Rattle.jc_names.specs.declared.name.ClassName.{ClassName}
+use Rattle.jc_names.specs.declared.name.ClassName.TheVariants.{Api}
+use Rattle.jc_step.specs.Growth.{KeepsAllMembers}
+use Rattle.jc_store.specs.Heap as heaps
+use Rattle.jc_store.specs.Heap.{Heap}
+use Rattle.jc_store.specs.declared.kind.ObjectType.{ObjectType}
+use Rattle.jc_store.specs.declared.kind.ObjectType.TheVariants.{Instance, BooleanArray, ByteArray, ShortArray}
+use Rattle.jc_store.specs.declared.kind.ObjectType.TheVariants.{ReferenceArray}
+use Rattle.jc_machine.specs.Lookup.{class_of, fields_of, fields_within, is_instance, is_kept_as, is_of_class}
+use Rattle.jc_machine.specs.Lookup.{leads_to}
+use Rattle.jc_machine.specs.Lookup.{own_fields}
+use Rattle.jc_machine.specs.Machine.{StaticValue}
+use Rattle.jc_machine.specs.Reading.{Pointwise}
+use Rattle.jc_machine.specs.Typed.{CellsTyped, ObjectTyped, StaticTyped, is_cell, may_be_made}
+use Rattle.jc_words.specs.Values.{TaggedValue}
+use Rattle.jc_safety.proofs.Lists.{each_joined, each_mapped}
+use Rattle.jc_safety.proofs.Naming.{passing}
+use Rattle.jc_safety.proofs.Upward.{holds_below, leads_up}
+
+-- what is known of the two worlds
+pub record Enlarges (before after : List Shape) : Type 0 where
+  pub lookups : KeepsAllLookups before after
+  pub linking : KeepsAllLinking before after
+  pub members : KeepsAllMembers before after
+  pub superclasses : HaveSuperclasses before
+  pub names : NameClasses before
+  pub within : StandWithin before
+  pub along : (c d : ClassName) → is_class_at before d ≡ true → is_class_below before c d ≡ true → IsSubtype before c d
+
+each_of_map : {A B : Type 0} (P : B → Type 0) (f : A → B) → ((a : A) → P (f a)) → (xs : List A)
+    → AllByRecursion P (map f xs)
+each_of_map P f each [] = tt
+each_of_map P f each (x ∷ xs) = (each x, each_of_map P f each xs)
+
+module _ (before after : List Shape) (e : Enlarges before after) where
+  class_within : (c : ClassName) → is_class_at before c ≡ true → IsWithin before c
+  class_within c is =
+      let k = passing (λ (k : ClassShape). is_class k.body) (class_at before c) is in e.within.classes c k.0 k.1
+
+  -- ---- the cells of a class are the same
+
+  own_same : (c : ClassName) → IsWithin before c → own_fields after c ≡ own_fields before c
+  own_same c low =
+      ap (λ (f : ℕ → Option (DeclaredType ClassName)). map f (range_with_len 0 (size_of after c)))
+      (fun_ext (λ token. e.linking.instance_types c token low))
+      ∙ ap (λ (n : ℕ). map (instance_type_of before c) (range_with_len 0 n)) (e.linking.sizes c low)
+
+  above_same : (n : ℕ) → ((c : ClassName) → IsWithin before c → fields_within after n c ≡ fields_within before n c)
+      → (o : Option ClassName) → ((d : ClassName) → o ≡ Some d → IsWithin before d)
+      → option_map_or (fields_within after n) o [] ≡ option_map_or (fields_within before n) o []
+  above_same n each None low = refl
+  above_same n each (Some d) low = each d (low d refl)
+
+  fields_same : (n : ℕ) (c : ClassName) → IsWithin before c → fields_within after n c ≡ fields_within before n c
+  fields_same zero c low = refl
+  fields_same (suc n) c low =
+      ap (λ (o : Option ClassName). option_map_or (fields_within after n) o [] ++ own_fields after c)
+      (e.lookups.superclasses c low)
+      ∙ ap (λ (fs : List (Option (DeclaredType ClassName))). fs ++ own_fields after c)
+      (above_same n (fields_same n) (superclass_of before c)
+      (λ d up. class_within d (e.superclasses.classes c d up)))
+      ∙ ap (λ (fs : List (Option (DeclaredType ClassName))).
+      option_map_or (fields_within before n) (superclass_of before c) [] ++ fs) (own_same c low)
+
+  -- ---- the types of fields name classes that are there
+
+  abbrev is_known : DeclaredType ClassName → Bool
+  is_known d = is_known_type (is_class_at before) d
+
+  field_known : (home : ℕ) (f : FieldShape) (d : DeclaredType ClassName) → field_type_of before home f ≡ Some d
+      → is_known d ≡ true
+  field_known home f d is =
+      e.names.members home (as_member f.type) (as_member d)
+      (ap (λ (o : Option (DeclaredType ClassName)).
+      option_map (λ (result : ReturnType ClassName). record { parameters = []; result = result }) (option_map Value o))
+      is)
+
+  abbrev IsKnownCell : Option (DeclaredType ClassName) → Type 0
+  IsKnownCell o = option_map_or is_known o true ≡ true
+
+  in_field : (home : ℕ) (f : Option FieldShape) (d : DeclaredType ClassName)
+      → option_and_then (field_type_of before home) f ≡ Some d → is_known d ≡ true
+  in_field home None d is = absurd cc
+  in_field home (Some f) d is = field_known home f d is
+
+  at_token : (c : ClassName) (token : ℕ) (o : Option (DeclaredType ClassName)) → instance_type_of before c token ≡ o
+      → IsKnownCell o
+  at_token c token None is = refl
+  at_token c token (Some d) is = in_field (home_of c) (instance_field_at before c token) d is
+
+  above_known : (n : ℕ) → ((c : ClassName) → AllByRecursion IsKnownCell (fields_within before n c))
+      → (o : Option ClassName) → AllByRecursion IsKnownCell (option_map_or (fields_within before n) o [])
+  above_known n each None = tt
+  above_known n each (Some d) = each d
+
+  fields_known : (n : ℕ) (c : ClassName) → AllByRecursion IsKnownCell (fields_within before n c)
+  fields_known zero c = tt
+  fields_known (suc n) c =
+      each_joined IsKnownCell (option_map_or (fields_within before n) (superclass_of before c) [])
+      (own_fields before c) (above_known n (fields_known n) (superclass_of before c))
+      (each_of_map IsKnownCell (instance_type_of before c)
+      (λ token. at_token c token (instance_type_of before c token) refl) (range_with_len 0 (size_of before c)))
+
+  static_known : (place : StaticPlace) (d : DeclaredType ClassName) → static_type_of before place ≡ Some d
+      → is_known d ≡ true
+  static_known place d is = in_field place.home (static_field_at before place) d is
+
+  -- ---- objects that passed a test pass it
+
+  class_on : (c : ClassName) (o : ObjectType) → is_of_class before c o ≡ true → is_of_class after c o ≡ true
+  class_on c o is = e.lookups.still_below (class_of o) c is
+
+  instance_on : (c : ClassName) (o : ObjectType) → is_instance before c o ≡ true → is_instance after c o ≡ true
+  instance_on c o is = e.lookups.still_found (class_of o) c is
+
+  -- what a class lists, where it is there
+  abbrev listed_by : ClassName → Option ClassShape → List ClassName
+  listed_by c o = option_map_or (λ k. filter_map (class_named before (home_of c)) (listed_refs k.body)) o []
+
+  none_listed : (c i : ClassName) → class_at before c ≡ None → IsAmong i (listed_by c (class_at before c)) → ⊥
+  none_listed c i none among =
+      subst (λ (o : Option ClassShape). IsAmong i (listed_by c o)) none among
+
+  -- what isn't there is below itself and Object alone
+  unknown_on : (c d x : ClassName) → class_at before c ≡ None → is_class_at before d ≡ true → IsSubtype before c d
+      → is_class_below after x d ≡ true
+  unknown_on c d x none is (same k) = absurd cc
+  unknown_on c d x none is (object k) = refl
+  unknown_on c d x none is (by_superclass k m f up h) = let there = e.names.heirs k m up in absurd cc
+  unknown_on c d x none is (by_interface k i f listed h) = absurd (none_listed k i none listed)
+
+  component_on : (c d : ClassName) → is_class_at before d ≡ true
+      → is_class_below before (counted before c) d ≡ true → is_class_below after (counted after c) d ≡ true
+  component_on c d is below = by_class (class_at before c) refl
+    where
+      by_class : (o : Option ClassShape) → class_at before c ≡ o → is_class_below after (counted after c) d ≡ true
+      by_class (Some k) at =
+          subst (λ (x : ClassName). is_class_below after x d ≡ true)
+          (sym (e.linking.counts c (e.within.classes c k at)))
+          (e.lookups.still_below (counted before c) d below)
+      by_class None at =
+          let same : counted before c ≡ c =
+          ap (λ (o : Option ClassShape).
+          if option_map_or (λ (k : ClassShape). not (is_class k.body)) o false then Api api.Object else c) at in
+          unknown_on c d (counted after c) at is
+          (e.along c d is (subst (λ (x : ClassName). is_class_below before x d ≡ true) same below))
+
+  holds_on : (c : ClassName) → is_class_at before c ≡ true → (o : ObjectType) → holds_below before c o ≡ true
+      → holds_below after c o ≡ true
+  holds_on c is (Instance k) h = absurd cc
+  holds_on c is BooleanArray h = absurd cc
+  holds_on c is ByteArray h = absurd cc
+  holds_on c is ShortArray h = absurd cc
+  holds_on c is (ReferenceArray k) h = component_on k c is h
+
+  -- ---- values, objects and static fields
+
+  module _ (heap : Heap TaggedValue) where
+    kept_on : (d : DeclaredType ClassName) → is_known d ≡ true → (v : TaggedValue)
+        → is_kept_as before heap d v ≡ true → is_kept_as after heap d v ≡ true
+    kept_on Declared.Boolean known v h = h
+    kept_on Declared.Byte known v h = h
+    kept_on Declared.Short known v h = h
+    kept_on (Declared.Reference c) known v h =
+        leads_up heap (is_of_class before c) (is_of_class after c) v (class_on c) h
+    kept_on Declared.BooleanArray known v h = h
+    kept_on Declared.ByteArray known v h = h
+    kept_on Declared.ShortArray known v h = h
+    kept_on (Declared.ReferenceArray c) known v h =
+        leads_up heap (holds_below before c) (holds_below after c) v (holds_on c known) h
+
+    cell_on : (v : TaggedValue) (field : Option (DeclaredType ClassName)) → IsKnownCell field
+        → is_cell before heap field v ≡ true → is_cell after heap field v ≡ true
+    cell_on v None known h = h
+    cell_on v (Some d) known h = kept_on d known v h
+
+    fields_on : (cells : List TaggedValue) (fields : List (Option (DeclaredType ClassName)))
+        → AllByRecursion IsKnownCell fields → Pointwise (λ v field. is_cell before heap field v ≡ true) cells fields
+        → Pointwise (λ v field. is_cell after heap field v ≡ true) cells fields
+    fields_on [] [] known h = tt
+    fields_on [] (f ∷ fields) known h = absurd h
+    fields_on (v ∷ cells) [] known h = absurd h
+    fields_on (v ∷ cells) (f ∷ fields) known h = (cell_on v f known.0 h.0, fields_on cells fields known.1 h.1)
+
+    cells_on : (cells : List TaggedValue) (type : ObjectType) → may_be_made before type ≡ true
+        → CellsTyped before heap cells type → CellsTyped after heap cells type
+    cells_on cells (Instance c) made h =
+        let k = passing (λ (k : ClassShape). is_class k.body && not k.is_abstract) (class_at before c) made in
+        subst (λ (fs : List (Option (DeclaredType ClassName))).
+        Pointwise (λ v field. is_cell after heap field v ≡ true) cells fs)
+        (sym (fields_same most_classes c (e.within.classes c k.0 k.1)))
+        (fields_on cells (fields_of before c) (fields_known most_classes c) h)
+    cells_on cells BooleanArray made h = h
+    cells_on cells ByteArray made h = h
+    cells_on cells ShortArray made h = h
+    cells_on cells (ReferenceArray c) made h =
+        each_mapped (λ v. leads_to heap (is_instance before c) v ≡ true)
+        (λ v. leads_to heap (is_instance after c) v ≡ true)
+        (λ v. leads_up heap (is_instance before c) (is_instance after c) v (instance_on c)) cells h
+
+    made_on : (type : ObjectType) → may_be_made before type ≡ true → may_be_made after type ≡ true
+    made_on (Instance c) made =
+        let k = passing (λ (k : ClassShape). is_class k.body && not k.is_abstract) (class_at before c) made in
+        e.members.objects c (e.within.classes c k.0 k.1) ∙ made
+    made_on BooleanArray made = refl
+    made_on ByteArray made = refl
+    made_on ShortArray made = refl
+    made_on (ReferenceArray c) made = refl
+
+    object_on : (o : heaps.Object TaggedValue) → ObjectTyped before heap o → ObjectTyped after heap o
+    object_on o h = record {
+      made = made_on o.kind.object h.made;
+      cells = cells_on o.cells o.kind.object h.made h.cells;
+      counted = h.counted;
+    }
+
+    pub objects_on : (objects : Heap TaggedValue) → AllByRecursion (ObjectTyped before heap) objects
+        → AllByRecursion (ObjectTyped after heap) objects
+    objects_on objects h = each_mapped (ObjectTyped before heap) (ObjectTyped after heap) object_on objects h
+
+    static_on : (home : ℕ) → home < length before → (x : StaticValue) → StaticTyped before heap home x
+        → StaticTyped after heap home x
+    static_on home low x h =
+        let place : StaticPlace = record { home = home; offset = x.offset } in record {
+          declared = h.declared;
+          found = e.linking.static_types place low ∙ h.found;
+          typed = kept_on h.declared (static_known place h.declared h.found) x.value h.typed;
+        }
+
+    pub statics_on : (home : ℕ) → home < length before → (fields : List StaticValue)
+        → AllByRecursion (StaticTyped before heap home) fields → AllByRecursion (StaticTyped after heap home) fields
+    statics_on home low fields h =
+        each_mapped (StaticTyped before heap home) (StaticTyped after heap home) (static_on home low) fields h

@@ -234,7 +234,8 @@ impl Runtime {
 
     /// The data sent.
     pub fn sent(&self) -> &[u8]
-        ensures { result.now ≡ self.now.sent }
+        ensures data { result.now ≡ self.now.sent }
+        ensures most { length result.now ≤ 256 }
     {
         self.sent.as_slice()
     }

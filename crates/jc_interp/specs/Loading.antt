@@ -42,13 +42,6 @@ with_package u number body image = record {
   statics = u.statics ++ image ∷ [];
 }
 
--- a machine that a load leaves, of words that read a heap: with the arrays, and with words that hold the package's
--- static fields
-pub record IsLoaded (before after : WordMachine) (number : ℕ) (l : Linked) (heap : Heap TaggedValue) : Type 0 where
-  pub image : List ℕ
-  pub is : after ≡ with_package before number l.body image
-  pub holds : HoldsFields image (loaded_statics (next_number heap) l)
-
 -- whether there is room for a package's arrays among so many objects and cells, as it is told: for each heap that the
 -- store's objects read
 abbrev pub TellsRoom : ℕ → ℕ → Heap ℕ → LinkedBody → Bool → Type 0

@@ -146,11 +146,7 @@ fn put_statics(words: &mut [u16], linked: &Linked, objects: u16)
 
 /// The words of a linked package's static fields, one for each byte offset of its image: what they hold when the
 /// package is loaded, and its initialised arrays come behind so many objects.
-pub(crate) fn static_words(
-    alloc: Global,
-    linked: &Linked,
-    objects: u16,
-) -> Result<Vec<u16>, AllocError>
+pub fn static_words(alloc: Global, linked: &Linked, objects: u16) -> Result<Vec<u16>, AllocError>
     ensures { objects + length linked.now.body.kept.statics.arrays < 65536
         → IfOk result (λ words. HoldsFields words.items (loaded_statics (suc objects) linked.now)) }
 {

@@ -32,6 +32,7 @@ mod words;
 
 pub use call::FirstCall;
 pub use ends::{RunEnd, StepEnd};
+pub use image::static_words;
 pub use laws::loads_stay_in_agreement;
 pub use machine::WordMachine;
 pub use making::has_room_for;

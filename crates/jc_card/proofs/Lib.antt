@@ -3,3 +3,5 @@ mod Doing
 mod Clearing
 mod Selecting
 mod Thrown
+mod Making
+mod Counting

@@ -5,3 +5,6 @@ pub mod Commands
 pub mod Install
 pub mod Reads
 pub mod PrivateWords
+pub mod New
+pub mod PrivateNew
+pub mod Load

@@ -1,6 +1,7 @@
 -- When a card on words is the card of the defensive machine without its tags, and what its commands do.
-use Rattle.std.specs.Prelude.{⊤, ◌≡◌, ℕ, ◌≤◌, true, [], Option, Some, None}
+use Rattle.std.specs.Prelude.{⊤, ◌≡◌, ℕ, ◌≤◌, true, List, [], Option, Some, None, Result}
 use Rattle.std.specs.Option.{option_map_or}
+use Rattle.jc_base.specs.declared.fault.LoadFault.{LoadFault}
 use Rattle.jc_interp.specs.Agree.{AgreeBeside}
 use Rattle.jc_interp.specs.declared.ends.RunEnd.{RunEnd}
 use Rattle.jc_interp.specs.declared.ends.RunEnd.TheVariants.{Gave, RanOut, Threw}
@@ -17,6 +18,7 @@ use Rattle.jc_natives.specs.Kept.{Kept}
 use Rattle.jc_words.specs.Values.{TaggedValue, is_written}
 use Rattle.jc_card.specs.Card.{CardState, around, at_rest}
 use Rattle.jc_card.specs.Commands.{Response}
+use Rattle.jc_card.specs.Load.{IsLoad}
 use Rattle.jc_card.specs.Parts.{Ended, Left, Normally, OutOfBudget, Uncaught}
 use Rattle.jc_card.specs.declared.answer.Answer.{Answer}
 
@@ -28,6 +30,8 @@ pub record CardWords : Type 0 where
   pub kept : Kept
   pub selected : Option Owner
   pub numbers : ℕ
+  pub most_objects : ℕ
+  pub most_cells : ℕ
   pub steps : ℕ
 
 -- ---- a card that is as it should be
@@ -49,6 +53,8 @@ pub record Holds (k : CardWords) (c : CardState) : Type 0 where
   pub frames : k.machine.frames.frames ≡ []
   pub selected : k.selected ≡ c.selected
   pub numbers : k.numbers ≡ c.numbers
+  pub most_objects : k.most_objects ≡ c.limits.objects
+  pub most_cells : k.most_cells ≡ c.limits.cells
   pub steps : k.steps ≡ c.steps
 
 -- what a card on words always is: it holds a card of the defensive machine
@@ -93,3 +99,17 @@ GivesNothing u = ⊤
 pub record ReadsResponse (answer : Answer) (response : Response) : Type 0 where
   pub sent : answer.sent.items ≡ response.sent
   pub status : answer.status ≡ response.status
+
+-- ---- loading
+
+-- a load leaves a card that holds what the load on the defensive machine's card leaves, and is answered so: for each
+-- card of the defensive machine that the words hold
+pub record LoadsFrom (c : CardState) (after : CardWords) (image certificate : List ℕ) (result : Result ℕ LoadFault)
+    : Type 0 where
+  pub card : CardState
+  pub load : IsLoad c image certificate result card
+  pub holds : Holds after card
+
+abbrev pub Loads : CardWords → CardWords → List ℕ → List ℕ → Result ℕ LoadFault → Type 0
+Loads before after image certificate result =
+    (c : CardState) → Holds before c → LoadsFrom c after image certificate result

@@ -17,6 +17,8 @@ pub struct Card {
     pub(crate) runtime: Runtime,
     pub(crate) selected: Option<Owner>,
     pub(crate) numbers: u8,
+    pub(crate) most_objects: u16,
+    pub(crate) most_cells: u16,
     pub(crate) steps: u32,
 }
 
@@ -32,6 +34,8 @@ impl Model for Card {
       kept = c.runtime;
       selected = c.selected;
       numbers = c.numbers;
+      most_objects = c.most_objects;
+      most_cells = c.most_cells;
       steps = c.steps;
     } };
 
@@ -42,6 +46,8 @@ impl Model for Card {
       kept = c.runtime;
       selected = c.selected;
       numbers = c.numbers;
+      most_objects = c.most_objects;
+      most_cells = c.most_cells;
       steps = c.steps;
     }) };
 }

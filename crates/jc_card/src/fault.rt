@@ -1,5 +1,8 @@
 //! Why an applet isn't installed, and why there is no card.
 
+ghost use Rattle.std.specs.Prelude.{◌≡◌};
+
+use std::alloc::AllocError;
 use thiserror::Error;
 
 /// Why an applet isn't installed. Of several refusals that apply the one with the smallest number is told.
@@ -21,4 +24,25 @@ pub enum InstallFault {
     /// which: the reason of an ISOException, or 6F00.
     #[error("24 InstallFailed {0:04X}")]
     InstallFailed(u16),
+}
+
+/// Why there is no card.
+#[derive(Clone, Copy, Debug, PartialEq, Eq, Error)]
+pub enum CardFault {
+    /// One of the limits is too small or too large.
+    #[error("the limits are too small or too large")]
+    BadLimits,
+    /// No memory was left.
+    #[error("out of memory")]
+    Memory,
+}
+
+impl From<AllocError> for CardFault {
+    ghost use Rattle.jc_card.specs.declared.fault.CardFault.TheVariants.{Memory};
+
+    ghost from_gives = { λ _ fault. fault ≡ Memory };
+
+    fn from(_error: AllocError) -> CardFault {
+        CardFault::Memory
+    }
 }

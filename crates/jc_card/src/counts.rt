@@ -1,0 +1,24 @@
+//! How much of a card is used.
+
+ghost use Rattle.std.specs.Prelude.{◌≡◌, length};
+ghost use Rattle.jc_card.specs.Card.{CardState};
+ghost use Rattle.jc_card.specs.Reads.{Holds};
+ghost use Rattle.jc_store.specs.Heap.{cells_in};
+
+use crate::card::Card;
+
+impl Card {
+    /// How many objects there are, the runtime's own among them.
+    pub fn objects_used(&self) -> u16
+        ensures { (c : CardState) → Holds self.now c → result ≡ length c.heap }
+    {
+        self.machine.store.objects_used()
+    }
+
+    /// How many cells they take: one each, and one for each of their components.
+    pub fn cells_used(&self) -> u16
+        ensures { (c : CardState) → Holds self.now c → result ≡ cells_in c.heap }
+    {
+        self.machine.store.cells_used()
+    }
+}

@@ -1,0 +1,74 @@
+//! Loading packages (Java Card Virtual Machine Specification, Linking, Verification of CAP files).
+
+ghost use Rattle.std.specs.Prelude.{◌≡◌, ◌<◌, ℕ, length, true, Result, Ok, IfErr, IfOk};
+ghost use Rattle.jc_card.specs.Card.{CardState};
+ghost use Rattle.jc_card.specs.Load.{has_room, with_package};
+ghost use Rattle.jc_card.specs.Reads.{Holds, Loads};
+ghost use Rattle.jc_link.specs.Linked.{IsBoundTo, most_in_world, with_linked};
+ghost use Rattle.jc_machine.specs.Accepted.{IsAccepted};
+ghost use Rattle.jc_safety.specs.Loading.{next_package};
+
+use crate::card::Card;
+use crate::checking::checked;
+use jc_base::LoadFault;
+use jc_interp::{has_room_for, loads_stay_in_agreement, static_words};
+use jc_link::Linked;
+use jc_loaded::Program;
+use jc_natives::loads_keep_fitting;
+use jc_safety::loads_stay_typed;
+use std::alloc::{AllocError, Global};
+
+impl Card {
+    // Whether there is room for a package more, and for its arrays.
+    fn has_room(&self, linked: &Linked) -> bool
+        ensures { (c : CardState) → Holds self.now c → result ≡ has_room c linked.now }
+    {
+        !self.world.is_full()
+            && has_room_for(
+                &self.machine.store,
+                self.most_objects,
+                self.most_cells,
+                linked.body(),
+            )
+    }
+
+    // Puts a package behind the others for which there is room. Where no memory is left the card is as it was.
+    fn put(&mut self, alloc: Global, linked: Linked) -> Result<u8, AllocError>
+        requires bound { IsBoundTo self.old.world linked }
+        requires accepted { IsAccepted (with_linked self.old.world linked) }
+        requires room { (c : CardState) → Holds self.old c → has_room c linked ≡ true }
+        ensures done { IfOk result (λ number. (c : CardState) → Holds self.old c
+            → (number ≡ next_package c.world) × Holds self.new (with_package c linked)) }
+        ensures kept { IfErr result (λ e. self.new ≡ self.old) }
+    {
+        loads_keep_fitting();
+        loads_stay_typed(&self.runtime);
+        loads_stay_in_agreement(&self.runtime);
+        let number = self.world.bodies().len() as u8 + 1;
+        let words = static_words(alloc, &linked, self.machine.store.objects_used())?;
+        let before = self.world.add_for_now(linked)?;
+        let Ok(program) = Program::new(alloc, &self.world) else {
+            self.world.take_back(before);
+            return Err(AllocError);
+        };
+        if self.machine.load(number, body_of(&self.world), words).is_err() {
+            self.world.take_back(before);
+            return Err(AllocError);
+        }
+        self.program = program;
+        Ok(number)
+    }
+
+    /// Loads a package, from its image and the bytes of its certificate. The answer is its number, from 1 on. A refused
+    /// package leaves the card as it was. Of several refusals that apply the one with the smallest number is told, and
+    /// `Memory` may come in place of any that isn't about the image's components.
+    pub fn load(&mut self, alloc: Global, image: &[u8], certificate: &[u8]) -> Result<u8, LoadFault>
+        ensures { Loads self.old self.new image.now certificate.now result }
+    {
+        let linked = checked(alloc, image, certificate, &self.world)?;
+        if !self.has_room(&linked) {
+            return Err(LoadFault::Full);
+        }
+        self.put(alloc, linked).map_err(|_| LoadFault::Memory)
+    }
+}

@@ -1,0 +1,60 @@
+//! A card that is new.
+
+ghost use Rattle.std.specs.Prelude.{◌≡◌, ◌↔◌, IfOk, Err, false};
+ghost use Rattle.jc_card.specs.New.{are_limits, new_card};
+ghost use Rattle.jc_card.specs.Reads.{Holds};
+ghost use Rattle.jc_card.specs.declared.fault.CardFault.TheVariants.{BadLimits};
+
+use crate::card::Card;
+use crate::fault::CardFault;
+use crate::limits::Limits;
+use crate::runtime_objects::make_own_objects;
+use jc_api::Binding;
+use jc_frames::Frames;
+use jc_interp::{Statics, WordMachine};
+use jc_link::{World, built_worlds_are_sound};
+use jc_loaded::Program;
+use jc_machine::{accepted_worlds_grow, new_machines_are_typed};
+use jc_natives::{Runtime, calls_keep_fitting};
+use jc_store::Store;
+use std::alloc::Global;
+
+impl Card {
+    /// A card without packages beside the API's, whose AIDs and tokens a binding says, within limits. All memory that it
+    /// takes but for packages is reserved here.
+    pub fn new(alloc: Global, limits: Limits, binding: &Binding) -> Result<Card, CardFault>
+        ensures new { IfOk result (λ card. Holds card (new_card limits binding.now)) }
+        ensures limits { (result ≡ Err BadLimits) ↔ (are_limits limits ≡ false) }
+    {
+        if !limits.are_limits() {
+            return Err(CardFault::BadLimits);
+        }
+        binding.has_no_clash();
+        new_machines_are_typed();
+        accepted_worlds_grow();
+        calls_keep_fitting();
+        let world = World::new(alloc, binding)?;
+        let program = Program::new(alloc, &world)?;
+        let mut store = Store::new(alloc, limits.objects, limits.cells)?;
+        if !make_own_objects(&mut store, &program.classes) {
+            return Err(CardFault::Memory);
+        }
+        let frames = Frames::new(alloc, limits.frames, limits.frame_words)?;
+        let machine = WordMachine {
+            store,
+            frames,
+            statics: Statics::new(alloc),
+        };
+        Ok(Card {
+            world,
+            program,
+            machine,
+            runtime: Runtime::new(),
+            selected: None,
+            numbers: 0,
+            most_objects: limits.objects,
+            most_cells: limits.cells,
+            steps: limits.steps,
+        })
+    }
+}

@@ -2,3 +2,4 @@ pub mod Safety
 pub mod Starting
 pub mod Zeroing
 pub mod Loading
+pub mod LoadingExamples

@@ -18,6 +18,9 @@ ghost use Rattle.jc_store.specs.Heap.{Object, object_at, with_cell, with_object}
 ghost use Rattle.jc_store.specs.declared.kind.ObjectType.TheVariants.{ByteArray};
 ghost use Rattle.jc_words.specs.Values.{TaggedValue, Word};
 
+mod examples;
+
+pub use examples::images_are_read;
 use jc_classes::{found_subtypes_are_subtypes, growing_keeps_lookups, superclass_laws};
 use jc_code::listing_laws;
 use jc_link::{

@@ -5,3 +5,4 @@ mod Selecting
 mod Thrown
 mod Making
 mod Counting
+mod Loading

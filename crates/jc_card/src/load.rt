@@ -51,7 +51,12 @@ impl Card {
             self.world.take_back(before);
             return Err(AllocError);
         };
-        if self.machine.load(number, body_of(&self.world), words).is_err() {
+        let place = usize::from(number) - 1;
+        if self
+            .machine
+            .load(number, &self.world.bodies()[place], words)
+            .is_err()
+        {
             self.world.take_back(before);
             return Err(AllocError);
         }

@@ -1,3 +1,5 @@
+mod Heaps
+mod Calling
 mod AppletCalls
 mod Doing
 mod Clearing
@@ -6,3 +8,9 @@ mod Thrown
 mod Making
 mod Counting
 mod Loading
+mod Ends
+mod Written
+mod Keeping
+mod Finding
+mod Installing
+mod Worlds

@@ -79,5 +79,7 @@ module _ (typed : StaysTyped) (agree : StaysInAgreement) (fit : StaysFit) (k : C
       frames = h.frames;
       selected = h.selected;
       numbers = h.numbers;
+      most_objects = h.most_objects;
+      most_cells = h.most_cells;
       steps = h.steps;
     }

@@ -78,6 +78,9 @@ numbered_more names store o class same numbered named is (suc k) y e =
     by_case (inl a) = subst (λ (z : Object ℕ). wanted (class_of z.kind.object)) a.1 (last a.0)
     by_case (inr there) = before there
 
+one_more : (classes : List ℕ) (class n : ℕ) → length classes ≡ n → length (classes ++ class ∷ []) ≡ suc n
+one_more classes class n e = let l = length-append classes (class ∷ []) in omega (arith, l, e)
+
 pub made_more : (names : List ClassName) (before store : Store) (n class : ℕ) → HasOwn names before store n
     → length store.classes ≡ length store.objects → class_number names (class_of (own_object n).object) ≡ Some class
     → slice_get names class ≡ Some (class_of (own_object n).object)

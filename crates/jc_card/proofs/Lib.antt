@@ -14,3 +14,5 @@ mod Keeping
 mod Finding
 mod Installing
 mod Worlds
+mod Checked
+mod NewCards

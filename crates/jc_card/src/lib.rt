@@ -10,6 +10,7 @@ mod commands;
 mod counts;
 mod exchange;
 mod fault;
+mod growing;
 mod install;
 mod laws;
 mod limits;

@@ -10,10 +10,10 @@ ghost use Rattle.jc_safety.specs.Loading.{next_package};
 
 use crate::card::Card;
 use crate::checking::checked;
+use crate::growing::grow;
 use jc_base::LoadFault;
-use jc_interp::{has_room_for, loads_stay_in_agreement, static_words};
+use jc_interp::{has_room_for, loads_stay_in_agreement};
 use jc_link::Linked;
-use jc_loaded::Program;
 use jc_natives::loads_keep_fitting;
 use jc_safety::loads_stay_typed;
 use std::alloc::{AllocError, Global};
@@ -45,22 +45,7 @@ impl Card {
         loads_stay_typed(&self.runtime);
         loads_stay_in_agreement(&self.runtime);
         let number = self.world.bodies().len() as u8 + 1;
-        let words = static_words(alloc, &linked, self.machine.store.objects_used())?;
-        let before = self.world.add_for_now(linked)?;
-        let Ok(program) = Program::new(alloc, &self.world) else {
-            self.world.take_back(before);
-            return Err(AllocError);
-        };
-        let place = usize::from(number) - 1;
-        if self
-            .machine
-            .load(number, &self.world.bodies()[place], words)
-            .is_err()
-        {
-            self.world.take_back(before);
-            return Err(AllocError);
-        }
-        self.program = program;
+        self.program = grow(alloc, &mut self.world, &mut self.machine, linked, number)?;
         Ok(number)
     }
 

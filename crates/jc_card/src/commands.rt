@@ -3,9 +3,9 @@
 
 ghost use Rattle.std.specs.Prelude.{◌≡◌, ◌≤◌, length};
 ghost use Rattle.jc_card.specs.Card.{CardState};
-ghost use Rattle.jc_card.specs.Command.{buffer_of};
-ghost use Rattle.jc_card.specs.Commands.{apdu_command, ask, choose, dispatch, perform, process, receive, refused, select};
-ghost use Rattle.jc_card.specs.Commands.{selected_by};
+ghost use Rattle.jc_card.specs.Command.{buffer_of, buffer_size};
+ghost use Rattle.jc_card.specs.Commands.{apdu_command, ask, choose, dispatch, perform, process, receive};
+ghost use Rattle.jc_card.specs.Commands.{refused, select, selected_by};
 ghost use Rattle.jc_card.specs.Parts.{write};
 ghost use Rattle.jc_card.specs.Reads.{Does, GivesNothing, Holds, ReadsResponse};
 ghost use Rattle.jc_machine.specs.Runtime.{apdu_buffer};
@@ -23,7 +23,7 @@ use jc_natives::Instance;
 fn buffer_of(command: &Command<'_>) -> [u8; BUFFER_SIZE]
     requires header { length command.now.header ≡ 4 }
     ensures buffer { result ≡ buffer_of command.now }
-    ensures whole { length result ≡ 261 }
+    ensures whole { length result ≡ buffer_size }
 {
     let mut buffer = [0; BUFFER_SIZE];
     buffer[..4].copy_from_slice(command.header);

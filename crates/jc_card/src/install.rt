@@ -3,12 +3,14 @@
 
 ghost use Rattle.std.specs.Prelude.{◌≡◌, ◌<◌, ◌≤◌, suc, IfNone, Some, length};
 ghost use Rattle.jc_card.specs.Card.{CardState, with_kept};
-ghost use Rattle.jc_card.specs.Install.{accepted, begin, call_install, failure_of, install_as, install_command};
-ghost use Rattle.jc_card.specs.Install.{padded, parameters_of, refusal_of, settle, succeeds};
+ghost use Rattle.jc_card.specs.Install.{accepted, begin, call_install, failure_of, install_as};
+ghost use Rattle.jc_card.specs.Install.{install_command, install_size, most_data, padded, parameters_of};
+ghost use Rattle.jc_card.specs.Install.{refusal_of, settle, succeeds};
 ghost use Rattle.jc_card.specs.Parts.{Ended, gives};
 ghost use Rattle.jc_card.specs.PrivateWords.{IsInstallPlace, install_words};
 ghost use Rattle.jc_card.specs.Reads.{Does, GivesNothing, Holds, IsDone, ReadsEnded, ReadsInstalled};
 ghost use Rattle.jc_loaded.specs.Called.{called_of};
+ghost use Rattle.jc_machine.specs.Runtime.{most_instances};
 ghost use Rattle.jc_names.specs.declared.name.MethodName.TheVariants.{Loaded};
 ghost use Rattle.jc_natives.specs.Kept.{after_install, with_install};
 
@@ -36,9 +38,9 @@ const MOST_INSTANCES: u8 = 32;
 
 /// What an install method is handed, without the zeros behind it.
 fn parameters_of(instance: &Aid, incoming: &[u8]) -> ArrayVec<u8, INSTALL_SIZE>
-    requires few { length incoming.now ≤ 108 }
+    requires few { length incoming.now ≤ most_data }
     ensures parameters { result.items ≡ parameters_of instance.now incoming.now }
-    ensures most { length result.items ≤ 127 }
+    ensures most { length result.items ≤ install_size }
 {
     let mut parameters = ArrayVec::new();
     parameters.push(instance.len() as u8);
@@ -51,9 +53,9 @@ fn parameters_of(instance: &Aid, incoming: &[u8]) -> ArrayVec<u8, INSTALL_SIZE>
 
 /// Bytes, and zeros behind them.
 fn padded(bytes: &[u8]) -> [u8; INSTALL_SIZE]
-    requires few { length bytes.now ≤ 127 }
-    ensures padded { result ≡ padded 127 bytes.now }
-    ensures whole { length result ≡ 127 }
+    requires few { length bytes.now ≤ install_size }
+    ensures padded { result ≡ padded install_size bytes.now }
+    ensures whole { length result ≡ install_size }
 {
     let mut array = [0; INSTALL_SIZE];
     array[..bytes.len()].copy_from_slice(bytes);
@@ -86,8 +88,8 @@ impl Card {
     // Why an applet that is there isn't installed, if there is a reason.
     fn refusal_of(&self, instance: &Aid, incoming: &[u8]) -> Option<InstallFault>
         ensures refusal { (c : CardState) → Holds self.now c → result ≡ refusal_of c instance.now incoming.now }
-        ensures few { IfNone result (length incoming.now ≤ 108) }
-        ensures room { IfNone result (self.now.numbers < 32) }
+        ensures few { IfNone result (length incoming.now ≤ most_data) }
+        ensures room { IfNone result (self.now.numbers < most_instances) }
     {
         if incoming.len() > MOST_DATA {
             return Some(InstallFault::TooLong);
@@ -104,7 +106,7 @@ impl Card {
     // An instance with the next number is being installed, of an applet with an AID.
     fn take_number(&mut self, owner: Owner, applet: Aid)
         requires next { owner.instance ≡ suc self.old.numbers }
-        requires most { owner.instance ≤ 32 }
+        requires most { owner.instance ≤ most_instances }
         ensures { Does self.old self.new GivesNothing (λ c. gives
             (record c { numbers = owner.instance; kept = with_install c.kept owner applet }) tt) }
     {
@@ -193,9 +195,9 @@ impl Card {
         incoming: &[u8],
     ) -> Result<u8, InstallFault>
         requires place { IsInstallPlace self.old.world place }
-        requires few { length incoming.now ≤ 108 }
+        requires few { length incoming.now ≤ most_data }
         requires next { owner.instance ≡ suc self.old.numbers }
-        requires most { owner.instance ≤ 32 }
+        requires most { owner.instance ≤ most_instances }
         ensures { Does self.old self.new (ReadsInstalled result)
             (λ c. install_as c place owner applet.now instance.now incoming.now) }
     {
@@ -218,8 +220,8 @@ impl Card {
         incoming: &[u8],
     ) -> Result<u8, InstallFault>
         requires place { IsInstallPlace self.old.world place }
-        requires few { length incoming.now ≤ 108 }
-        requires room { self.old.numbers < 32 }
+        requires few { length incoming.now ≤ most_data }
+        requires room { self.old.numbers < most_instances }
         ensures { Does self.old self.new (ReadsInstalled result)
             (λ c. begin c place applet.now instance.now incoming.now) }
     {
@@ -239,8 +241,8 @@ impl Card {
         incoming: &[u8],
     ) -> Result<u8, InstallFault>
         requires place { IsInstallPlace self.old.world place }
-        requires few { length incoming.now ≤ 108 }
-        requires room { self.old.numbers < 32 }
+        requires few { length incoming.now ≤ most_data }
+        requires room { self.old.numbers < most_instances }
         ensures { Does self.old self.new (ReadsInstalled result)
             (λ c. accepted c place applet.now instance.now incoming.now) }
     {

@@ -62,6 +62,7 @@ pub(crate) fn applet_of(world: &World, aid: &Aid) -> Option<AppletPlace>
     ensures place { result ≡ applet_from 1 world.now.bodies aid.now }
     ensures known { IfSome result (λ place. IsInstallPlace world.now place) }
 {
+    // it says that their numbers are bytes
     let _count = world.len();
     applet_among(world.bodies(), aid)
 }

@@ -2,9 +2,12 @@
 
 ghost use Rattle.std.specs.Prelude.{◌≡◌, length};
 ghost use Rattle.jc_card.specs.Card.{CardState};
+ghost use Rattle.jc_card.specs.Command.{buffer_size};
+ghost use Rattle.jc_card.specs.Install.{install_size};
 ghost use Rattle.jc_card.specs.Parts.{write};
 ghost use Rattle.jc_card.specs.PrivateWords.{HasBytes};
 ghost use Rattle.jc_card.specs.Reads.{Does, GivesNothing, Holds};
+ghost use Rattle.jc_machine.specs.Runtime.{apdu_buffer, install_array};
 
 use crate::card::Card;
 use jc_machine::Natives;
@@ -33,16 +36,16 @@ impl Card {
 
     // Fills the APDU buffer.
     pub(crate) fn write_buffer(&mut self, bytes: &[u8])
-        requires whole { length bytes.now ≡ 261 }
-        ensures { Does self.old self.new GivesNothing (write 12 bytes.now) }
+        requires whole { length bytes.now ≡ buffer_size }
+        ensures { Does self.old self.new GivesNothing (write apdu_buffer bytes.now) }
     {
         self.write(APDU_BUFFER, bytes);
     }
 
     // Fills the array that an install method is handed.
     pub(crate) fn write_parameters(&mut self, bytes: &[u8])
-        requires whole { length bytes.now ≡ 127 }
-        ensures { Does self.old self.new GivesNothing (write 13 bytes.now) }
+        requires whole { length bytes.now ≡ install_size }
+        ensures { Does self.old self.new GivesNothing (write install_array bytes.now) }
     {
         self.write(INSTALL_ARRAY, bytes);
     }

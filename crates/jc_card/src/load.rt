@@ -18,6 +18,13 @@ use jc_natives::loads_keep_fitting;
 use jc_safety::loads_stay_typed;
 use std::alloc::{AllocError, Global};
 
+/// A word is below 65,536. It does nothing.
+fn is_word(word: u16)
+    ensures { word < 65536 }
+{
+    let _ = word;
+}
+
 impl Card {
     // Whether there is room for a package more, and for its arrays.
     fn has_room(&self, linked: &Linked) -> bool
@@ -44,6 +51,8 @@ impl Card {
         loads_keep_fitting();
         loads_stay_typed(&self.runtime);
         loads_stay_in_agreement(&self.runtime);
+        is_word(self.most_objects);
+        is_word(self.most_cells);
         let number = self.world.bodies().len() as u8 + 1;
         self.program = grow(alloc, &mut self.world, &mut self.machine, linked, number)?;
         Ok(number)

@@ -1,5 +1,5 @@
 -- Why a package isn't fit, by what each step of its check says.
-use Rattle.std.proofs.Common.{◌≡◌, ◌⊎◌, inl, inr, ℕ, List, length, Option, Some, None, Result, Ok, Err, refl, sym, ap, ◌∙◌, subst}
+use Rattle.std.proofs.Common.{◌≡◌, ◌⊎◌, inl, inr, ℕ, List, Some, Result, Ok, Err, refl, sym, ap, subst}
 use Rattle.jc_base.specs.Cutting.{Piece, Splits, answer}
 use Rattle.jc_base.specs.Parts.{Infos}
 use Rattle.jc_base.specs.declared.fault.LoadFault.{LoadFault}
@@ -11,7 +11,7 @@ use Rattle.jc_cert.specs.Writing.{spelling}
 use Rattle.jc_check.specs.Checked.{IsFirstRefusal}
 use Rattle.jc_check.specs.Checked as checks
 use Rattle.jc_link.specs.Linked.{IsRefusal, Linked, refusal_of}
-use Rattle.jc_card.specs.Load.{AreSpelled, IsCut, IsLinkedBehind, IsUnfit, unlinked_for}
+use Rattle.jc_card.specs.Load.{AreSpelled, IsCut, IsLinkedBehind, IsUnfit}
 
 abbrev Unfit : List Shape → List ℕ → List ℕ → LoadFault → Type 0
 Unfit before image certificate fault = (fault ≡ Memory) ⊎ IsUnfit before image certificate fault

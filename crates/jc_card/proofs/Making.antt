@@ -1,18 +1,17 @@
 -- The runtime's own objects, made one behind the other.
-use Rattle.std.proofs.Common.{◌≡◌, ℕ, zero, suc, ◌+◌, ◌<◌, ◌≤◌, List, [], ◌∷◌, ◌++◌, length, map, replicate, get_or, Option, Some, None, ◌⊎◌, inl, inr}
+use Rattle.std.proofs.Common.{◌≡◌, ℕ, zero, suc, List, [], ◌∷◌, ◌++◌, length, map, replicate, Some, ◌⊎◌, inl, inr}
 use Rattle.std.proofs.Common.{arith, refl, sym, ap, ◌∙◌, subst}
 use Rattle.std.specs.Prelude.{slice_get}
 use Rattle.std.proofs.lemmas.List.{length-append}
 use Rattle.jc_interp.specs.Agree.{AreNumbered, IsNumbered}
 use Rattle.jc_loaded.specs.Classes.{HasNumber, class_number}
 use Rattle.jc_machine.specs.Lookup.{class_of}
-use Rattle.jc_machine.specs.Reading.{HeapReads, Pointwise, Reads, ReadsObject}
+use Rattle.jc_machine.specs.Reading.{HeapReads, Pointwise, Reads}
 use Rattle.jc_machine.specs.TypedExamples.{new_heap}
 use Rattle.jc_names.specs.declared.name.ClassName.{ClassName}
-use Rattle.jc_firewall.specs.Verdict.{runtime}
-use Rattle.jc_store.specs.Heap.{Heap, Object, object_at, with_new}
-use Rattle.jc_store.specs.Store.{Store, class_number_at, fresh, with_made}
-use Rattle.jc_words.specs.Values.{TaggedValue, Word}
+use Rattle.jc_store.specs.Heap.{Heap, Object, object_at}
+use Rattle.jc_store.specs.Store.{Store, with_made}
+use Rattle.jc_words.specs.Values.{Word}
 use Rattle.jc_card.specs.PrivateNew.{HasOwn, made_of, own_object, own_objects_until, words_until}
 use Rattle.jc_card.specs.declared.runtime_objects.OwnObject.{OwnObject}
 

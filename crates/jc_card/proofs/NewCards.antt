@@ -1,12 +1,11 @@
 -- A card that is new holds the new card of the defensive machine.
-use Rattle.std.proofs.Common.{◌≡◌, ℕ, ◌≤◌, List, [], Option, Some, None, true, refl, sym, ap, ◌∙◌, subst, arith}
+use Rattle.std.proofs.Common.{◌≡◌, ℕ, List, [], None, true, sym, ap, ◌∙◌, subst, arith}
 use Rattle.jc_api.specs.Bound.{Bound}
 use Rattle.jc_frames.specs.Frames.{Frames}
 use Rattle.jc_interp.specs.Agree.{HoldsFields}
-use Rattle.jc_link.specs.Linked.{World}
 use Rattle.jc_loaded.specs.Program.{IsProgramOf}
 use Rattle.jc_machine.specs.Accepted.{IsAccepted, api_alone}
-use Rattle.jc_machine.specs.Machine.{Frame, StaticValue}
+use Rattle.jc_machine.specs.Machine.{Frame}
 use Rattle.jc_machine.specs.Reading.{Pointwise}
 use Rattle.jc_machine.specs.Typed.{IsTypedBeside}
 use Rattle.jc_machine.specs.TypedExamples.{idle_in, new_heap, new_machine}

@@ -68,6 +68,9 @@ impl Card {
         if !self.has_room(&linked) {
             return Err(LoadFault::Full);
         }
-        self.put(alloc, linked).map_err(|_| LoadFault::Memory)
+        match self.put(alloc, linked) {
+            Ok(number) => Ok(number),
+            Err(_) => Err(LoadFault::Memory),
+        }
     }
 }

@@ -3,7 +3,7 @@ use Rattle.std.proofs.Math.Seq.{get_or-append_seam}
 use Rattle.std.proofs.lemmas.List.{length-append}
 use Rattle.jc_interp.specs.Agree.{HoldsFields}
 use Rattle.jc_interp.specs.Loading.{with_package}
-use Rattle.jc_link.specs.Linked.{LinkedBody, World, with_linked}
+use Rattle.jc_link.specs.Linked.{LinkedBody, World}
 use Rattle.jc_safety.specs.Loading.{has_room_for, loaded_arrays, loaded_statics}
 use Rattle.jc_card.proofs.growing.grow.Goals as goal
 

@@ -1,4 +1,4 @@
-use Rattle.std.proofs.Common.{◌∙◌, sym, ap, None}
+use Rattle.std.proofs.Common.{◌∙◌, ap, None}
 use Rattle.jc_firewall.specs.Verdict.{runtime}
 use Rattle.jc_loaded.specs.Classes.{class_number}
 use Rattle.jc_store.specs.Store.{fresh, with_made}

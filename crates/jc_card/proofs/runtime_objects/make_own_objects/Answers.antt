@@ -1,6 +1,5 @@
-use Rattle.std.proofs.Common.{◌∙◌, sym, ap, subst, add-one}
+use Rattle.std.proofs.Common.{add-one}
 use Rattle.jc_card.proofs.Making.{none_yet}
-use Rattle.jc_card.specs.PrivateNew.{HasOwn}
 use Rattle.jc_card.proofs.runtime_objects.make_own_objects.Goals as goal
 
 pub loop-place-init : goal.loop-place-init

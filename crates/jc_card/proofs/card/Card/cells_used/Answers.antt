@@ -1,6 +1,5 @@
 use Rattle.std.proofs.Common.{subst, sym, ◌∙◌}
 use Rattle.jc_card.specs.Reads.{CardWords, Holds}
-use Rattle.jc_card.specs.contracts.card.Card.{the_view}
 use Rattle.jc_card.proofs.Counting.{as_many_cells}
 use Rattle.jc_card.proofs.card.Card.cells_used.Goals as goal
 

@@ -1,4 +1,4 @@
-use Rattle.std.proofs.Common.{None, [], ap, refl, subst, sym, ◌∙◌}
+use Rattle.std.proofs.Common.{ap, refl}
 use Rattle.jc_firewall.specs.Verdict.{runtime}
 use Rattle.jc_machine.specs.Accepted.{api_alone}
 use Rattle.jc_machine.specs.Step.{no_frame}

@@ -1,7 +1,6 @@
 use Rattle.std.proofs.Common.{subst, sym, ◌∙◌}
 use Rattle.jc_machine.specs.Reading.{ReadsObject}
 use Rattle.jc_card.specs.Reads.{CardWords, Holds}
-use Rattle.jc_card.specs.contracts.card.Card.{the_view}
 use Rattle.jc_card.proofs.Counting.{as_many}
 use Rattle.jc_card.proofs.card.Card.objects_used.Goals as goal
 

@@ -1,8 +1,7 @@
-use Rattle.std.proofs.Common.{◌≡◌, suc, ◌+◌, length, subst, sym, ap, ◌∙◌, arith}
+use Rattle.std.proofs.Common.{◌≡◌, ◌+◌, length, subst, sym, ap, ◌∙◌, arith}
 use Rattle.jc_link.specs.Linked.{IsBoundTo, World, with_linked}
 use Rattle.jc_machine.specs.Accepted.{IsAccepted}
 use Rattle.jc_safety.specs.Loading.{next_package}
-use Rattle.jc_card.specs.Card.{CardState}
 use Rattle.jc_card.specs.Load.{with_package}
 use Rattle.jc_card.specs.Reads.{CardWords, Holds}
 use Rattle.jc_card.specs.contracts.card.Card.{the_view}

@@ -14,24 +14,21 @@ use Rattle.jc_cap_desc.specs.Shape.{Shape}
 use Rattle.jc_classes.specs.Limits.{IsSmall}
 use Rattle.jc_classes.specs.Subtype.{IsOrder, IsOrderly, is_class_below}
 use Rattle.jc_classes.specs.World.{superclass_of}
-use Rattle.jc_interp.specs.Agree.{AgreeBeside}
-use Rattle.jc_interp.specs.Calling.{IsCall, IsMethodFor, MayCall, ReadsStart}
-use Rattle.jc_interp.specs.Following.{EndsAs, WordState}
+use Rattle.jc_interp.specs.Calling.{IsCall, IsMethodFor, MayCall}
 use Rattle.jc_interp.specs.declared.call.FirstCall.{FirstCall}
 use Rattle.jc_interp.specs.declared.ends.RunEnd.{RunEnd}
 use Rattle.jc_link.specs.Built.{IsBuilt}
 use Rattle.jc_link.specs.Linked.{World}
 use Rattle.jc_link.specs.Sound.{IsSound}
+use Rattle.jc_loaded.specs.Called.{called_of}
 use Rattle.jc_loaded.specs.Program.{IsProgramOf}
-use Rattle.jc_loaded.specs.declared.program.Program.{Program}
 use Rattle.jc_machine.specs.Calls.{type_of_member}
 use Rattle.jc_machine.specs.Lookup.{are_of_types, is_of_class, is_of_type}
-use Rattle.jc_machine.specs.Machine.{Machine, Surroundings, Touch}
-use Rattle.jc_machine.specs.Natives.{IsLawful}
+use Rattle.jc_machine.specs.Machine.{Surroundings}
 use Rattle.jc_machine.specs.Reading.{Pointwise, Reads}
 use Rattle.jc_machine.specs.Running.{MayRun}
 use Rattle.jc_machine.specs.Runtime.{HasRuntimeObject, apdu_object, temporary}
-use Rattle.jc_machine.specs.Step.{CallEnd, Called, Gave, RanOut, Start, Threw, WasStuck, no_frame, runtime_call, standing}
+use Rattle.jc_machine.specs.Step.{Start, no_frame, standing}
 use Rattle.jc_machine.specs.Typed.{IsTypedBeside}
 use Rattle.jc_names.specs.declared.name.ClassName.TheVariants.{Api}
 use Rattle.jc_names.specs.declared.name.ClassName.{ClassName}
@@ -41,12 +38,12 @@ use Rattle.jc_natives.specs.Kept.{Kept, is_aid, is_instance_number}
 use Rattle.jc_natives.specs.Meaning.{fits_instance, has_applet, meaning}
 use Rattle.jc_natives.specs.MemberTypes.{declared_signature}
 use Rattle.jc_natives.specs.declared.kept.Instance.{Instance}
-use Rattle.jc_safety.specs.Safety.{EndsTyped}
-use Rattle.jc_safety.specs.Starting.{CanBegin, FindsMethod, IsMemberCall, IsTypedStart, method_for}
+use Rattle.jc_safety.specs.Starting.{CanBegin, FindsMethod, IsMemberCall, method_for}
 use Rattle.jc_store.specs.Heap.{Heap, Object, object_at}
 use Rattle.jc_words.specs.Values.{Ref, TaggedValue}
-use Rattle.jc_card.specs.Card.{CardState, around, at_rest, left_by}
-use Rattle.jc_card.specs.Parts.{Normally, OutOfBudget, Uncaught, arguments_of, call_applet, call_method, call_on, ended_call, member_called}
+use Rattle.jc_card.proofs.Calling.{CallLaws, beside, may_run, method_called, may_call as call_may}
+use Rattle.jc_card.specs.Card.{CardState, around}
+use Rattle.jc_card.specs.Parts.{arguments_of, call_applet, call_method, call_on, member_called}
 use Rattle.jc_card.specs.PrivateWords.{words_taken}
 use Rattle.jc_card.specs.Reads.{CardWords, Holds, IsDone, ReadsEnded}
 use Rattle.jc_card.specs.declared.calls.AppletCall.{AppletCall}
@@ -126,11 +123,9 @@ pub record Laws : Type 0 where
   pub sound : (world : List Shape) → IsSmall world → IsBuilt world → IsSound world
   pub order : (world : List Shape) → IsOrderly world → superclass_of world (Api ObjectClass) ≡ None
       → IsOrder (is_class_below world)
-  pub lawful : IsLawful meaning
+  pub call : CallLaws
   pub declared : (world : List Shape) → IsBuilt world → (number : ℕ) (member : ApiMember)
       → member_of number ≡ Some member → type_of_member world number ≡ Some (declared_signature member)
-  pub calls : (s : Surroundings Kept) → MayRun s → (steps : ℕ) (start : Start Kept) → IsTypedStart s start
-      → EndsTyped s (runtime_call s steps start).ends
   pub members : (s : Surroundings Kept) → MayRun s → (start : Start Kept)
       → IsTypedBeside s (standing start (no_frame start.owner)) → (member : ℕ) (object : Object TaggedValue)
       → IsMemberCall s start member object → FindsMethod s start member object
@@ -152,14 +147,6 @@ module _ (laws : Laws) (k : CardWords) (c : CardState) (h : Holds k c) (i : Inst
 
   its : HasObject c.world.shapes c.heap i
   its = its_object c.world.shapes c.heap i fits
-
-  may_run : MayRun s
-  may_run = record { accepted = h.typed.accepted; natives = laws.lawful }
-
-  beside : (name : MethodName) → IsTypedBeside s (standing (start name) (no_frame i.owner))
-  beside name =
-      let b = h.typed.beside in
-      record { heap = b.heap; statics = b.statics; runtime_objects = b.runtime_objects; fits = b.fits }
 
   -- the APDU object is of class APDU
   apdu_there : HasRuntimeObject c.heap (temporary apdu_object Apdu 0)
@@ -213,7 +200,10 @@ module _ (laws : Laws) (k : CardWords) (c : CardState) (h : Holds k c) (i : Inst
 
   finds : (name : MethodName) → FindsMethod s (start name) (member_called call) its.object
   finds name =
-      laws.members s may_run (start name) (beside name) (member_called call) its.object (member_call name)
+      laws.members s (may_run laws.call k c h i.owner.context i.owner name (Ref i.object ∷ arguments_of call)) (start
+      name)
+      (beside laws.call k c h i.owner.context i.owner name (Ref i.object ∷ arguments_of call)) (member_called call)
+      its.object (member_call name)
 
   -- any name does to find the method
   abbrev name : MethodName
@@ -227,131 +217,44 @@ module _ (laws : Laws) (k : CardWords) (c : CardState) (h : Holds k c) (i : Inst
       let f = finds name in
       subst (CanBegin s (start name)) (the_some f.name name (sym f.found ∙ found)) f.can_begin
 
-  typed : IsTypedStart s (start name)
-  typed = record { beside = beside name; can_begin = can_begin }
-
   -- ---- the call on words
 
   module _ (first : FirstCall)
       (called_is : IsMethodFor k.program k.machine.store (member_called call) i.object first.called)
       (owner_is : first.owner ≡ i.owner) (words_are : first.arguments.now ≡ i.object ∷ words_taken call)
       (few : length first.arguments.now < 256) where
-    abbrev before : WordState Kept
-    before = record { machine = k.machine; kept = k.kept }
-
     program_of : IsProgramOf c.world k.program
     program_of = subst (λ (w : World). IsProgramOf w k.program) h.world h.program
 
-    reads : ReadsStart s k.program before first (start name)
-    reads =
-        let b = h.beside in record {
-          beside = record {
-            heap = b.heap;
-            numbered = b.numbered;
-            statics = b.statics;
-            runtime = b.runtime;
-            most_objects = b.most_objects;
-            most_cells = b.most_cells;
-            most_frames = b.most_frames;
-            most_words = b.most_words;
-          };
-          called =
-              called_is c.world c.heap its.object name h.typed.accepted program_of b.heap b.numbered its.there found;
-          owner = owner_is;
-          arguments =
-              subst (λ (ws : List ℕ). Pointwise Reads ws (Ref i.object ∷ arguments_of call)) (sym words_are)
-              (refl, arguments_read call);
-          few = few;
-        }
+    called : first.called ≡ called_of k.program.methods (Some name)
+    called =
+        called_is c.world c.heap its.object name h.typed.accepted program_of h.beside.heap h.beside.numbered its.there
+        found
 
-    pub may_call : MayCall k.world k.program meaning (Some i.owner.context) first before
+    arguments_are : Pointwise Reads first.arguments.now (Ref i.object ∷ arguments_of call)
+    arguments_are =
+        subst (λ (ws : List ℕ). Pointwise Reads ws (Ref i.object ∷ arguments_of call)) (sym words_are)
+        (refl, arguments_read call)
+
+    pub may_call : MayCall k.world k.program meaning (Some i.owner.context) first
+        (record { machine = k.machine; kept = k.kept })
     may_call =
-        subst (λ (w : World). MayCall w k.program meaning (Some i.owner.context) first before) (sym h.world)
-        (record {
-          limits = c.limits;
-          start = start name;
-          accepted = h.typed.accepted;
-          program = program_of;
-          reads = reads;
-          typed = typed;
-        })
+        call_may laws.call k c h i.owner.context i.owner name (Ref i.object ∷ arguments_of call) can_begin first called
+        owner_is arguments_are few
 
     module _ (after : CardWords) (end : RunEnd)
-        (is : IsCall k.world k.program meaning (Some i.owner.context) k.steps first before
-        (record { machine = after.machine; kept = after.kept }) end)
+        (is : IsCall k.world k.program meaning (Some i.owner.context) k.steps first
+        (record { machine = k.machine; kept = k.kept }) (record { machine = after.machine; kept = after.kept }) end)
         (dropped : after.machine.frames.frames ≡ []) (same_world : after.world ≡ k.world)
         (same_program : after.program ≡ k.program) (same_selected : after.selected ≡ k.selected)
-        (same_numbers : after.numbers ≡ k.numbers) (same_steps : after.steps ≡ k.steps) where
-      abbrev now : WordState Kept
-      now = record { machine = after.machine; kept = after.kept }
-
-      abbrev ran : Called Kept
-      ran = runtime_call s c.steps (start name)
-
-      ends : EndsAs s k.program now end ran.ends
-      ends =
-          let in_world = subst (λ (w : World). IsCall w k.program meaning (Some i.owner.context) k.steps first before
-          now end) h.world is in
-          let in_steps = subst (λ (n : ℕ). IsCall c.world k.program meaning (Some i.owner.context) n first before now
-          end) h.steps in_world in
-          in_steps c.limits (start name) h.typed.accepted program_of reads typed
-
-      ends_typed : EndsTyped s ran.ends
-      ends_typed = laws.calls s may_run c.steps (start name) typed
-
-      holds : (m : Machine Kept) → AgreeBeside s k.program after.machine after.kept m → IsTypedBeside s m
-          → Holds after (left_by c m)
-      holds m b t = record {
-        typed = record {
-          accepted = h.typed.accepted;
-          beside = record {
-            heap = t.heap;
-            statics = t.statics;
-            runtime_objects = t.runtime_objects;
-            fits = t.fits;
-          };
-          numbers = h.typed.numbers;
-        };
-        world = same_world ∙ h.world;
-        program =
-            subst (λ (w : World). IsProgramOf w after.program) (sym same_world)
-            (subst (IsProgramOf k.world) (sym same_program) h.program);
-        beside =
-            subst (λ (p : Program). AgreeBeside (around (left_by c m) None) p after.machine after.kept
-            (at_rest (left_by c m))) (sym same_program)
-            (record {
-              heap = b.heap;
-              numbered = b.numbered;
-              statics = b.statics;
-              runtime = b.runtime;
-              most_objects = b.most_objects;
-              most_cells = b.most_cells;
-              most_frames = b.most_frames;
-              most_words = b.most_words;
-            });
-        frames = dropped;
-        selected = same_selected ∙ h.selected;
-        numbers = same_numbers ∙ h.numbers;
-        steps = same_steps ∙ h.steps;
-      }
-
-      by_end : (touches : List Touch) (e : CallEnd Kept) → EndsAs s k.program now end e → EndsTyped s e
-          → IsDone after (ReadsEnded end) (ended_call c touches e)
-      by_end touches (Gave m value) x t = (
-        holds m (x.1).0 (x.1).1,
-        subst (λ (r : RunEnd). ReadsEnded r (Normally value)) (sym (x.0).is)
-            (record { reads = (x.0).reads; written = t.written }),
-      )
-      by_end touches (Threw m object) x t =
-          (holds m (x.1).0 (x.1).1, subst (λ (r : RunEnd). ReadsEnded r (Uncaught object)) (sym x.0) refl)
-      by_end touches (RanOut m) x t =
-          (holds m (x.1).0 (x.1).1, subst (λ (r : RunEnd). ReadsEnded r OutOfBudget) (sym x.0) tt)
-      by_end touches WasStuck x t = absurd x
-
+        (same_numbers : after.numbers ≡ k.numbers) (same_objects : after.most_objects ≡ k.most_objects)
+        (same_cells : after.most_cells ≡ k.most_cells) (same_steps : after.steps ≡ k.steps) where
       pub applet_called : IsDone after (ReadsEnded end) (call_applet c i call)
       applet_called =
           subst (λ (o : Option (Object TaggedValue)). IsDone after (ReadsEnded end) (option_and_then (call_on c i call)
           o)) (sym its.there)
           (subst (λ (o : Option MethodName). IsDone after (ReadsEnded end) (option_and_then (λ method. call_method c
           i.owner.context i.owner method (Ref i.object ∷ arguments_of call)) o)) (sym found)
-          (by_end ran.touches ran.ends ends ends_typed))
+          (method_called laws.call k c h i.owner.context i.owner name (Ref i.object ∷ arguments_of call) can_begin first
+          called owner_is arguments_are few after end is dropped same_world same_program same_selected same_numbers
+          same_objects same_cells same_steps))

@@ -1,5 +1,6 @@
 -- Arrays that are cleared on words are zero or null on the defensive machine's card.
-use Rattle.std.proofs.Common.{◌≡◌, ◌==◌, ◌&&◌, ℕ, zero, suc, List, [], ◌∷◌, map, Bool, true, false, cond, Option, Some, None}
+use Rattle.std.proofs.Common.{◌≡◌, ◌==◌, ◌&&◌, ℕ, zero, suc, List, [], ◌∷◌, map, Bool, true, false, cond, Option}
+use Rattle.std.proofs.Common.{Some, None}
 use Rattle.std.proofs.Common.{slice_get, refl, sym, ap, ◌∙◌, subst}
 use Rattle.std.specs.Option.{option_map_or}
 use Rattle.jc_interp.specs.Agree.{AreNumbered, IsNumbered}
@@ -145,6 +146,8 @@ module _ (event : ClearingEvent) (context : Option ℕ) where
             frames = h.frames;
             selected = h.selected;
             numbers = h.numbers;
+            most_objects = h.most_objects;
+            most_cells = h.most_cells;
             steps = h.steps;
           },
           tt,

@@ -1,8 +1,8 @@
 -- Objects on words are as many as those of the defensive machine's card, and take as many cells.
-use Rattle.std.proofs.Common.{◌≡◌, ℕ, suc, ◌+◌, List, [], ◌∷◌, length}
+use Rattle.std.proofs.Common.{◌≡◌, ℕ, suc, List, [], ◌∷◌, length}
 use Rattle.std.proofs.Common.{arith, refl, ap}
-use Rattle.jc_machine.specs.Reading.{HeapReads, Pointwise, Reads, ReadsObject}
-use Rattle.jc_store.specs.Heap.{Heap, Object, cells_in}
+use Rattle.jc_machine.specs.Reading.{HeapReads, Pointwise, Reads}
+use Rattle.jc_store.specs.Heap.{Heap, cells_in}
 use Rattle.jc_words.specs.Values.{TaggedValue}
 
 pub as_many : {A B : Type 0} (R : A → B → Type 0) (xs : List A) (ys : List B) → Pointwise R xs ys → length xs ≡ length ys

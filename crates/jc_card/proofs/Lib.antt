@@ -1,3 +1,5 @@
+mod Heaps
+mod Calling
 mod AppletCalls
 mod Doing
 mod Clearing
@@ -5,3 +7,12 @@ mod Selecting
 mod Thrown
 mod Making
 mod Counting
+mod Loading
+mod Ends
+mod Written
+mod Keeping
+mod Finding
+mod Installing
+mod Worlds
+mod Checked
+mod NewCards

@@ -1,10 +1,14 @@
 -- A card behind a load.
-use Rattle.std.proofs.Common.{◌≡◌, ℕ, suc, ◌+◌, ◌<◌, ◌≤◌, ◌&&◌, List, [], ◌∷◌, ◌++◌, length, Bool, true, false, Option, Some, None}
+use Rattle.std.proofs.Common.{◌≡◌, ℕ, suc, ◌+◌, ◌<◌, ◌&&◌, List, ◌++◌, length, Bool, true, false, None}
+use Rattle.std.proofs.Common.{nat_le, nat_lt}
+use Rattle.std.proofs.lemmas.Bool.{leb-true}
+use Rattle.std.proofs.lemmas.List.{length-append, length-map}
 use Rattle.std.proofs.Common.{arith, refl, sym, ap, ◌∙◌, subst}
 use Rattle.jc_interp.specs.Agree.{AgreeBeside, HoldsFields}
 use Rattle.jc_interp.specs.Loading.{LoadsWords, with_package as with_words}
 use Rattle.jc_interp.specs.declared.machine.WordMachine.{WordMachine}
-use Rattle.jc_link.specs.Linked.{IsBoundTo, Linked, World, with_linked}
+use Rattle.jc_link.specs.Linked.{IsBoundTo, Linked, World, most_in_world, with_linked}
+use Rattle.jc_machine.specs.Reading.{ReadsObject}
 use Rattle.jc_loaded.specs.Program.{IsProgramOf}
 use Rattle.jc_loaded.specs.declared.program.Program.{Program}
 use Rattle.jc_machine.specs.Accepted.{IsAccepted}
@@ -12,11 +16,13 @@ use Rattle.jc_machine.specs.Machine.{Machine, Surroundings}
 use Rattle.jc_machine.specs.Typed.{IsTypedBeside}
 use Rattle.jc_natives.specs.Kept.{Kept}
 use Rattle.jc_natives.specs.Meaning.{meaning}
-use Rattle.jc_safety.specs.Loading.{MayLoad, around_behind, heap_behind, loaded_statics, machine_behind, next_package}
+use Rattle.jc_safety.specs.Loading.{MayLoad, around_behind, has_room_for, heap_behind, loaded_array, loaded_arrays, loaded_statics, machine_behind, next_package}
 use Rattle.jc_store.specs.Heap.{Heap, cells_in, next_number}
 use Rattle.jc_words.specs.Values.{TaggedValue}
 use Rattle.jc_card.specs.Card.{CardState, around, at_rest}
+use Rattle.jc_card.proofs.Counting.{as_many}
 use Rattle.jc_card.specs.Load.{has_room, with_package}
+use Rattle.jc_card.specs.PrivateLoad.{Grows}
 use Rattle.jc_card.specs.Reads.{CardWords, Holds}
 
 -- the laws of a load
@@ -33,51 +39,97 @@ abbrev StaysFit : Type 0
 StaysFit = (w : World) (l : Linked) → IsBoundTo w l → (heap more : Heap TaggedValue) (k : Kept)
     → meaning.fits w heap k ≡ true → meaning.fits (with_linked w l) (heap ++ more) k ≡ true
 
+-- the parts of what has room
+both : (a b : Bool) → (a && b) ≡ true → (a ≡ true) × (b ≡ true)
+both true b e = (refl, e)
+both false b e = absurd cc
+
 module _ (typed : StaysTyped) (agree : StaysInAgreement) (fit : StaysFit) (k : CardWords) (c : CardState)
-    (h : Holds k c) (l : Linked) (bound : IsBoundTo c.world l) (accepted : IsAccepted (with_linked c.world l))
-    (few : cells_in (heap_behind c.world c.heap l) < 65536) where
-  abbrev may : MayLoad (around c None) (at_rest c) l
-  may = record {
-    before = h.typed.accepted;
-    bound = bound;
-    after = accepted;
-    beside = h.typed.beside;
-    few = few;
-    fits = fit c.world l bound c.heap _ c.kept h.typed.beside.fits;
-  }
+    (h : Holds k c) (l : Linked) (bound : IsBoundTo k.world l) (accepted : IsAccepted (with_linked k.world l))
+    (room : has_room c l ≡ true) (few_objects : k.most_objects < 65536) (few_cells : k.most_cells < 65536) where
+  abbrev behind : Heap TaggedValue
+  behind = heap_behind c.world c.heap l
 
-  module _ (q : Program) (of : IsProgramOf (with_linked k.world l) q) (image : List ℕ)
-      (holds : HoldsFields image (loaded_statics (next_number c.heap) l))
-      (counted : length k.machine.store.classes ≡ length k.machine.store.objects) where
-    abbrev after : CardWords
-    after = record k {
-      world = with_linked k.world l;
-      program = q;
-      machine = with_words k.machine (next_package c.world) l.body image;
-    }
+  room_behind : has_room_for c.limits behind ≡ true
+  room_behind = (both (nat_lt (length c.world.shapes) most_in_world) (has_room_for c.limits behind) room).1
 
-    abbrev loads : LoadsWords (around c None) k.program q k.machine k.kept (at_rest c) l image
+  parts : (nat_le (length behind) c.limits.objects ≡ true) × (nat_le (cells_in behind) c.limits.cells ≡ true)
+  parts = both (nat_le (length behind) c.limits.objects) (nat_le (cells_in behind) c.limits.cells) room_behind
+
+  few : cells_in behind < 65536
+  few =
+      let fits = leb-true (cells_in behind) c.limits.cells parts.1 in
+      let most = h.most_cells in
+      omega (arith, fits, most, few_cells)
+
+  accepted_after : IsAccepted (with_linked c.world l)
+  accepted_after = subst (λ (w : World). IsAccepted (with_linked w l)) h.world accepted
+
+  may : MayLoad (around c None) (at_rest c) l
+  may =
+      let to_world = subst (λ (w : World). IsBoundTo w l) h.world bound in record {
+        before = h.typed.accepted;
+        bound = to_world;
+        after = accepted_after;
+        beside = h.typed.beside;
+        few = few;
+        fits = fit c.world l to_world c.heap (loaded_arrays (next_package c.world) l.body) c.kept h.typed.beside.fits;
+      }
+
+  few_behind : length k.machine.store.objects + length l.body.kept.statics.arrays < 65536
+  few_behind =
+      let fits = leb-true (length behind) c.limits.objects parts.0 in
+      let most = h.most_objects in
+      let joined = length-append c.heap (loaded_arrays (next_package c.world) l.body) in
+      let arrays = length-map l.body.kept.statics.arrays (loaded_array (next_package c.world) l.body) in
+      let same = as_many ReadsObject k.machine.store.objects c.heap h.beside.heap in
+      omega (arith, fits, most, few_objects, joined, arrays, same)
+
+  module _ (number : ℕ) (number_is : number ≡ next_package c.world) (world : World)
+      (world_is : world ≡ with_linked k.world l) (q : Program) (of : IsProgramOf world q) (machine : WordMachine)
+      (g : Grows k.machine machine number l) where
+    abbrev grown : WordMachine
+    grown = with_words k.machine (next_package c.world) l.body g.words
+
+    grown_is : machine ≡ grown
+    grown_is =
+        g.is c.limits c.heap (sym h.beside.most_objects) (sym h.beside.most_cells) h.beside.heap
+        (subst (λ (n : ℕ). has_room_for c.limits (c.heap ++ loaded_arrays n l.body) ≡ true) (sym number_is) room_behind)
+        ∙ ap (λ (n : ℕ). with_words k.machine n l.body g.words) number_is
+
+    same_world : world ≡ with_linked c.world l
+    same_world = world_is ∙ ap (λ (w : World). with_linked w l) h.world
+
+    next : suc (length k.machine.store.objects) ≡ next_number c.heap
+    next = ap suc (as_many ReadsObject k.machine.store.objects c.heap h.beside.heap)
+
+    loads : LoadsWords (around c None) k.program q k.machine k.kept (at_rest c) l g.words
     loads = record {
       may = may;
       before = subst (λ (w : World). IsProgramOf w k.program) h.world h.program;
-      after = subst (λ (w : World). IsProgramOf (with_linked w l) q) h.world of;
+      after = subst (λ (w : World). IsProgramOf w q) same_world of;
       agree = h.beside;
-      counted = counted;
-      holds = holds;
+      counted = g.counted;
+      holds = subst (λ (n : ℕ). HoldsFields g.words (loaded_statics n l)) next (g.holds few_behind);
     }
 
-    pub holds_behind : Holds after (with_package c l)
+    pub holds_behind : Holds (record k { world = world; program = q; machine = machine }) (with_package c l)
     holds_behind = record {
       typed = record {
-        accepted = accepted;
+        accepted = accepted_after;
         beside = typed (around c None) (at_rest c) l may;
         numbers = h.typed.numbers;
       };
-      world = ap (λ (w : World). with_linked w l) h.world;
+      world = same_world;
       program = of;
-      beside = agree (around c None) k.program q k.machine k.kept (at_rest c) l image loads;
-      frames = h.frames;
+      beside =
+          subst (λ (u : WordMachine). AgreeBeside (around (with_package c l) None) q u k.kept
+          (at_rest (with_package c l))) (sym grown_is)
+          (agree (around c None) k.program q k.machine k.kept (at_rest c) l g.words loads);
+      frames = ap (λ (u : WordMachine). u.frames.frames) grown_is ∙ h.frames;
       selected = h.selected;
       numbers = h.numbers;
+      most_objects = h.most_objects;
+      most_cells = h.most_cells;
       steps = h.steps;
     }

@@ -1,18 +1,17 @@
 -- The runtime's own objects, made one behind the other.
-use Rattle.std.proofs.Common.{◌≡◌, ℕ, zero, suc, ◌+◌, ◌<◌, ◌≤◌, List, [], ◌∷◌, ◌++◌, length, map, replicate, get_or, Option, Some, None, ◌⊎◌, inl, inr}
+use Rattle.std.proofs.Common.{◌≡◌, ℕ, zero, suc, List, [], ◌∷◌, ◌++◌, length, map, replicate, Some, ◌⊎◌, inl, inr}
 use Rattle.std.proofs.Common.{arith, refl, sym, ap, ◌∙◌, subst}
 use Rattle.std.specs.Prelude.{slice_get}
 use Rattle.std.proofs.lemmas.List.{length-append}
 use Rattle.jc_interp.specs.Agree.{AreNumbered, IsNumbered}
 use Rattle.jc_loaded.specs.Classes.{HasNumber, class_number}
 use Rattle.jc_machine.specs.Lookup.{class_of}
-use Rattle.jc_machine.specs.Reading.{HeapReads, Pointwise, Reads, ReadsObject}
+use Rattle.jc_machine.specs.Reading.{HeapReads, Pointwise, Reads}
 use Rattle.jc_machine.specs.TypedExamples.{new_heap}
 use Rattle.jc_names.specs.declared.name.ClassName.{ClassName}
-use Rattle.jc_firewall.specs.Verdict.{runtime}
-use Rattle.jc_store.specs.Heap.{Heap, Object, object_at, with_new}
-use Rattle.jc_store.specs.Store.{Store, class_number_at, fresh, with_made}
-use Rattle.jc_words.specs.Values.{TaggedValue, Word}
+use Rattle.jc_store.specs.Heap.{Heap, Object, object_at}
+use Rattle.jc_store.specs.Store.{Store, with_made}
+use Rattle.jc_words.specs.Values.{Word}
 use Rattle.jc_card.specs.PrivateNew.{HasOwn, made_of, own_object, own_objects_until, words_until}
 use Rattle.jc_card.specs.declared.runtime_objects.OwnObject.{OwnObject}
 
@@ -47,6 +46,15 @@ objects_more : (n : ℕ) → words_until (suc n) ≡ words_until n ++ made_of 0 
 unfolding own_objects_until
 objects_more n = map_more (made_of 0) (own_objects_until n) (own_object n)
 
+count_until : (n : ℕ) → length (words_until n) ≡ n
+unfolding own_objects_until
+count_until zero = refl
+count_until (suc n) =
+    let one = ap length (objects_more n) in
+    let more = length-append (words_until n) (made_of 0 (own_object n) ∷ []) in
+    let rest = count_until n in
+    omega (arith, one, more, rest)
+
 -- the numbers of the others stay, and the new one has that of its class
 numbered_more : (names : List ClassName) (store : Store) (o : Object ℕ) (class : ℕ)
     → length store.classes ≡ length store.objects → AreNumbered names store
@@ -78,18 +86,42 @@ numbered_more names store o class same numbered named is (suc k) y e =
     by_case (inl a) = subst (λ (z : Object ℕ). wanted (class_of z.kind.object)) a.1 (last a.0)
     by_case (inr there) = before there
 
-pub made_more : (names : List ClassName) (before store : Store) (n class : ℕ) → HasOwn names before store n
-    → length store.classes ≡ length store.objects → class_number names (class_of (own_object n).object) ≡ Some class
-    → slice_get names class ≡ Some (class_of (own_object n).object)
-    → HasOwn names before (with_made store (made_of 0 (own_object n)) class) (suc n)
-made_more names before store n class h same found there = record {
-  objects = ap (λ l. l ++ made_of 0 (own_object n) ∷ []) h.objects ∙ sym (objects_more n);
-  classes = ?;
-  numbered = numbered_more names store (made_of 0 (own_object n)) class same h.numbered
-      (record { number = class; found = found; there = there }) refl;
+one_more : (classes : List ℕ) (class n : ℕ) → length classes ≡ n → length (classes ++ class ∷ []) ≡ suc n
+one_more classes class n e = let l = length-append classes (class ∷ []) in omega (arith, l, e)
+
+pub made_more : (names : List ClassName) (store after : Store) (own : OwnObject) (n class : ℕ) → own ≡ own_object n
+    → Some class ≡ class_number names (class_of own.object)
+    → ((c : ClassName) (k : ℕ) → class_number names c ≡ Some k → slice_get names k ≡ Some c)
+    → after ≡ with_made store (made_of 0 own) class → (before : Store) → HasOwn names before store n
+    → HasOwn names before after (suc n)
+made_more names store after own n class own_is found named is before h = rw is (record {
+  objects = ap (λ l. l ++ made_of 0 own ∷ []) h.objects ∙ ap (λ o. words_until n ++ made_of 0 o ∷ []) own_is
+      ∙ sym (objects_more n);
+  classes = one_more store.classes class n h.classes;
+  numbered = numbered_more names store (made_of 0 own) class same h.numbered
+      (record { number = class; found = sym found; there = named (class_of own.object) class (sym found) }) refl;
   most_objects = h.most_objects;
   most_cells = h.most_cells;
+})
+  where
+    same : length store.classes ≡ length store.objects
+    same = h.classes ∙ sym (ap length h.objects ∙ count_until n)
+
+-- where there is none there are none
+pub none_yet : (names : List ClassName) (store : Store) → store.objects ≡ [] → store.classes ≡ []
+    → HasOwn names store store 0
+unfolding own_objects_until
+none_yet names store objects classes = record {
+  objects = objects;
+  classes = ap length classes;
+  numbered = λ number o e. absurd (no_object number o (rw objects at e));
+  most_objects = refl;
+  most_cells = refl;
 }
+  where
+    no_object : (number : ℕ) (o : Object ℕ) → object_at [] number ≡ Some o → ⊥
+    no_object zero o e = cc
+    no_object (suc n) o e = cc
 
 -- ---- all of them
 

@@ -15,7 +15,8 @@ use Rattle.jc_words.specs.Values.{TaggedValue}
 
 -- the packages; the objects; the static fields of each loaded package; what the runtime keeps, the registered
 -- instances of applets among it; the context and the number of the instance that is selected, if one is; how many
--- instance numbers are used; and how much there may be of objects, of frames and, in one call of the runtime's, of steps
+-- instance numbers are used; and how much there may be of objects, of frames and, in one call of the runtime's, of
+-- steps
 pub record CardState : Type 0 where
   pub world : World
   pub heap : Heap TaggedValue

@@ -1,5 +1,6 @@
 -- Commands as a reader sends them (ISO/IEC 7816-3 and 7816-4: short command APDUs, SELECT by name).
-use Rattle.std.specs.Prelude.{ℕ, ◌+◌, ◌==◌, ◌&&◌, ◌||◌, Bool, not, List, [], ◌∷◌, ◌++◌, length, drop, take, Option, Some, None, bytes_eq, get_or, replicate, if◌then◌else◌}
+use Rattle.std.specs.Prelude.{ℕ, ◌+◌, ◌==◌, ◌&&◌, ◌||◌, Bool, not, List, [], ◌∷◌, ◌++◌, length, drop, take, Option}
+use Rattle.std.specs.Prelude.{Some, None, bytes_eq, get_or, replicate, if◌then◌else◌}
 
 -- a command: CLA, INS, P1 and P2; P3, which is Lc or Le, and 0 where it is missing; the data; and Le, 0 where it is
 -- missing

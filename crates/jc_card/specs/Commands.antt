@@ -1,6 +1,7 @@
 -- What the card does to a command of a reader, and to a reset (Java Card Runtime Environment Specification, Selection,
 -- Applet Lifetime: select, deselect and process; Transient Objects; Card Reset Behavior).
-use Rattle.std.specs.Prelude.{ℕ, ◌==◌, Bool, true, false, not, List, [], Option, Some, None, get_or, is_some, if◌then◌else◌}
+use Rattle.std.specs.Prelude.{ℕ, ◌==◌, Bool, true, false, not, List, [], Option, Some, None, get_or, is_some}
+use Rattle.std.specs.Prelude.{if◌then◌else◌}
 use Rattle.std.specs.Option.{option_map_or}
 use Rattle.jc_api.specs.declared.class.ApiClass.TheVariants.{IsoException}
 use Rattle.jc_machine.specs.Lookup.{is_of_class}
@@ -15,8 +16,10 @@ use Rattle.jc_names.specs.declared.owner.Owner.{Owner}
 use Rattle.jc_words.specs.Values.{TaggedValue, Word}
 use Rattle.jc_card.specs.Card.{CardState, selected_instance, with_kept, with_selected}
 use Rattle.jc_card.specs.declared.calls.AppletCall.TheVariants.{Select, Deselect, Process}
-use Rattle.jc_card.specs.Command.{Command, buffer_of, command_of, is_select, normal, not_selected, unknown_error, wrong_length}
-use Rattle.jc_card.specs.Parts.{Ended, Left, Normally, OutOfBudget, Uncaught, and_then, call_selected, clear, gives, write}
+use Rattle.jc_card.specs.Command.{Command, buffer_of, command_of, is_select, normal, not_selected, unknown_error}
+use Rattle.jc_card.specs.Command.{wrong_length}
+use Rattle.jc_card.specs.Parts.{Ended, Left, Normally, OutOfBudget, Uncaught, and_then, call_selected, clear, gives}
+use Rattle.jc_card.specs.Parts.{write}
 
 -- the data and the status of an answer
 pub record Response : Type 0 where
@@ -47,7 +50,8 @@ status_of c OutOfBudget = unknown_error
 -- the transient arrays of the selected applet's context that are cleared on deselect are, and no applet is selected
 abbrev pub unselect : CardState → Option (Left (Unit {0}))
 unselect c =
-    option_map_or (λ (owner : Owner). clear Deselect (Some owner.context) (with_selected c None)) c.selected (gives c tt)
+    option_map_or (λ (owner : Owner). clear Deselect (Some owner.context) (with_selected c None)) c.selected
+    (gives c tt)
 
 -- the applet that is selected is deselected: whatever its deselect method does, it isn't selected behind it
 abbrev pub deselect : CardState → Option (Left (Unit {0}))
@@ -83,8 +87,11 @@ ask c k = and_then (call_selected c Select) (λ c ended. asked c k ended)
 
 -- SELECT of a registered instance: the applet that was selected is deselected; then the new one counts as selected, and
 -- is asked
+abbrev pub choose : CardState → Owner → Command → Option (Left Response)
+choose c owner k = ask (with_selected c (Some owner)) k
+
 abbrev pub select : CardState → Owner → Command → Option (Left Response)
-select c owner k = and_then (deselect c) (λ c u. ask (with_selected c (Some owner)) k)
+select c owner k = and_then (deselect c) (λ c u. choose c owner k)
 
 -- any other command is before the applet that is selected, if one is
 abbrev pub dispatch : CardState → Command → Option (Left Response)

@@ -1,6 +1,7 @@
 -- The installation of an applet (Java Card Runtime Environment Specification, Applet Lifetime: the install method,
 -- Applet installation parameters).
-use Rattle.std.specs.Prelude.{ℕ, suc, ◌-◌, Bool, false, List, [], ◌∷◌, ◌++◌, length, Option, Some, None, bytes_eq, is_some, nat_le, nat_lt, replicate, if◌then◌else◌}
+use Rattle.std.specs.Prelude.{ℕ, suc, ◌-◌, Bool, false, List, [], ◌∷◌, ◌++◌, length, Option, Some, None, bytes_eq}
+use Rattle.std.specs.Prelude.{is_some, nat_le, nat_lt, replicate, if◌then◌else◌}
 use Rattle.std.specs.List.{find}
 use Rattle.std.specs.Option.{option_and_then, option_map_or}
 use Rattle.jc_cap_data.specs.declared.applets.Applet.{Applet}
@@ -14,22 +15,21 @@ use Rattle.jc_words.specs.Values.{Ref, Word}
 use Rattle.jc_card.specs.Card.{CardState, with_kept}
 use Rattle.jc_card.specs.Command.{unknown_error}
 use Rattle.jc_card.specs.Commands.{deselect, status_of_thrown}
-use Rattle.jc_card.specs.Parts.{Ended, Left, Normally, OutOfBudget, Uncaught, and_then, call_method, clear, gives, write}
+use Rattle.jc_card.specs.Parts.{Ended, Left, Normally, OutOfBudget, Uncaught, and_then, call_method, clear, gives}
+use Rattle.jc_card.specs.Parts.{write}
 use Rattle.jc_card.specs.declared.fault.InstallFault.{InstallFault}
 use Rattle.jc_card.specs.declared.fault.InstallFault.TheVariants as faults
+use Rattle.jc_card.specs.declared.places.AppletPlace.{AppletPlace}
 use Rattle.jc_store.specs.Heap.{object_at}
 
 -- ---- the applet
 
--- an applet of a loaded package: the package's number, from 1 on, and the offset of its install method
-pub record AppletPlace : Type 0 where
-  pub number : ℕ
-  pub install : ℕ
+-- the first row of a package with an applet's AID; a library has no rows
+abbrev pub row_with : List ℕ → List Applet → Option Applet
+row_with aid applets = find (λ (a : Applet). bytes_eq a.aid aid) applets
 
--- the first row of a package with an applet's AID
 abbrev pub applet_in : List ℕ → LinkedBody → Option Applet
-applet_in aid body =
-    option_and_then (λ applets. find (λ (a : Applet). bytes_eq a.aid aid) applets) body.kept.applets
+applet_in aid body = option_and_then (row_with aid) body.kept.applets
 
 -- the first loaded package that has one, of those with numbers from one on
 abbrev pub applet_from : ℕ → List LinkedBody → List ℕ → Option AppletPlace
@@ -104,14 +104,20 @@ call_install c place owner size =
     call_method c owner.context owner (Loaded place.number place.install)
     (Ref install_array ∷ Word 0 ∷ Word size ∷ [])
 
--- the instance takes the next number, which is used then, however the installation ends
-abbrev pub begin : CardState → AppletPlace → List ℕ → List ℕ → List ℕ → Option (Left Installed)
-begin c place applet instance incoming =
-    let owner : Owner = record { context = place.number; instance = suc c.numbers } in
+-- an instance with a number of its own is installed, and the number is used then, however that ends
+abbrev pub install_as : CardState → AppletPlace → Owner → List ℕ → List ℕ → List ℕ → Option (Left Installed)
+install_as c place owner applet instance incoming =
     let parameters = parameters_of instance incoming in
     and_then (write install_array (padded install_size parameters)
-    (record c { numbers = suc c.numbers; kept = with_install c.kept owner applet }))
+    (record c { numbers = owner.instance; kept = with_install c.kept owner applet }))
     (λ c u. and_then (call_install c place owner (length parameters)) (λ c ended. settle c owner ended))
+
+-- the instance's context is its package's, and its number the next one
+abbrev pub next_owner : CardState → AppletPlace → Owner
+next_owner c place = record { context = place.number; instance = suc c.numbers }
+
+abbrev pub begin : CardState → AppletPlace → List ℕ → List ℕ → List ℕ → Option (Left Installed)
+begin c place applet instance incoming = install_as c place (next_owner c place) applet instance incoming
 
 -- an installation that isn't refused: the applet that is selected is deselected first
 abbrev pub accepted : CardState → AppletPlace → List ℕ → List ℕ → List ℕ → Option (Left Installed)

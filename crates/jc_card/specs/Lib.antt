@@ -8,3 +8,4 @@ pub mod PrivateWords
 pub mod New
 pub mod PrivateNew
 pub mod Load
+pub mod PrivateLoad

@@ -1,7 +1,7 @@
 -- Private. The runtime's own objects as they are made, one behind the other.
-use Rattle.std.specs.Prelude.{◌≡◌, ℕ, zero, suc, List, [], ◌∷◌, ◌++◌, length, map, replicate, get_or, Option, Some, None}
+use Rattle.std.specs.Prelude.{◌≡◌, ℕ, zero, suc, List, [], ◌∷◌, ◌++◌, length, map, replicate, get_or, None}
 use Rattle.jc_api.specs.declared.class.ApiClass.{ApiClass}
-use Rattle.jc_api.specs.declared.class.ApiClass.TheVariants.{ArithmeticException, ArrayStoreException, ClassCastException, ArrayIndexOutOfBoundsException, NegativeArraySizeException, NullPointerException, SecurityException, IsoException, SystemException, ApduException, Aid, Apdu, Object as ObjectClass}
+use Rattle.jc_api.specs.declared.class.ApiClass.TheVariants.{ArithmeticException, ArrayStoreException, ClassCastException, ArrayIndexOutOfBoundsException, NegativeArraySizeException, NullPointerException, SecurityException, IsoException, SystemException, ApduException, Aid, Apdu}
 use Rattle.jc_firewall.specs.Verdict.{runtime}
 use Rattle.jc_interp.specs.Agree.{AreNumbered}
 use Rattle.jc_names.specs.declared.name.ClassName.{ClassName}

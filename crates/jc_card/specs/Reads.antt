@@ -1,5 +1,5 @@
 -- When a card on words is the card of the defensive machine without its tags, and what its commands do.
-use Rattle.std.specs.Prelude.{⊤, ◌≡◌, ℕ, ◌≤◌, true, List, [], Option, Some, None, Result}
+use Rattle.std.specs.Prelude.{⊤, ◌≡◌, ℕ, ◌≤◌, true, List, [], Option, Some, None, Result, Ok, Err}
 use Rattle.std.specs.Option.{option_map_or}
 use Rattle.jc_base.specs.declared.fault.LoadFault.{LoadFault}
 use Rattle.jc_interp.specs.Agree.{AgreeBeside}
@@ -19,8 +19,10 @@ use Rattle.jc_words.specs.Values.{TaggedValue, is_written}
 use Rattle.jc_card.specs.Card.{CardState, around, at_rest}
 use Rattle.jc_card.specs.Commands.{Response}
 use Rattle.jc_card.specs.Load.{IsLoad}
+use Rattle.jc_card.specs.Install.{HasNumber, Installed, Refused}
 use Rattle.jc_card.specs.Parts.{Ended, Left, Normally, OutOfBudget, Uncaught}
 use Rattle.jc_card.specs.declared.answer.Answer.{Answer}
+use Rattle.jc_card.specs.declared.fault.InstallFault.{InstallFault}
 
 -- a card on words
 pub record CardWords : Type 0 where
@@ -113,3 +115,10 @@ pub record LoadsFrom (c : CardState) (after : CardWords) (image certificate : Li
 abbrev pub Loads : CardWords → CardWords → List ℕ → List ℕ → Result ℕ LoadFault → Type 0
 Loads before after image certificate result =
     (c : CardState) → Holds before c → LoadsFrom c after image certificate result
+
+-- how an installation went: the instance's number, or the refusal
+abbrev pub ReadsInstalled : Result ℕ InstallFault → Installed → Type 0
+ReadsInstalled (Ok number) (HasNumber taken) = number ≡ taken
+ReadsInstalled (Ok number) (Refused fault) = ⊥
+ReadsInstalled (Err why) (HasNumber taken) = ⊥
+ReadsInstalled (Err why) (Refused fault) = why ≡ fault

@@ -1,5 +1,9 @@
 //! What the card answers to a command of a reader.
 
+ghost use Rattle.std.specs.Prelude.{◌≡◌};
+ghost use Rattle.jc_card.specs.Commands.{status_alone};
+ghost use Rattle.jc_card.specs.Reads.{ReadsResponse};
+
 use arrayvec::ArrayVec;
 
 /// The most bytes of data in an answer.
@@ -12,4 +16,16 @@ pub struct Answer {
     pub sent: ArrayVec<u8, MOST_SENT>,
     /// The status word.
     pub status: u16,
+}
+
+impl Answer {
+    /// An answer without data.
+    pub(crate) fn status_alone(status: u16) -> Answer
+        ensures { ReadsResponse result (status_alone status) }
+    {
+        Answer {
+            sent: ArrayVec::new(),
+            status,
+        }
+    }
 }

@@ -1,7 +1,9 @@
 //! Packages that are linked and checked before they are loaded.
 
-ghost use Rattle.std.specs.Prelude.{◌≡◌, ◌⊎◌, IfErr, IfOk};
+ghost use Rattle.std.specs.Prelude.{◌≡◌, ◌⊎◌, ◌<◌, IfErr, IfOk};
 ghost use Rattle.jc_base.specs.declared.fault.LoadFault.TheVariants.{Memory};
+ghost use Rattle.jc_cap_pool.specs.declared.entry.MemberRef.{MemberRef};
+ghost use Rattle.jc_cap_pool.specs.declared.entry.PoolEntry.TheVariants.{VirtualMethodref};
 ghost use Rattle.jc_card.specs.Load.{IsFit, IsUnfit};
 ghost use Rattle.jc_link.specs.Linked.{IsBoundTo, with_linked};
 ghost use Rattle.jc_machine.specs.Accepted.{HaveByteTokens, IsAccepted};
@@ -13,11 +15,34 @@ use jc_link::{Linked, World, link};
 use jc_machine::accepted_worlds_grow;
 use std::alloc::Global;
 
-/// The tokens of virtual methods in a pool are bytes, as they are in code. It does nothing.
+/// A byte is below 256. It does nothing.
+fn is_byte(byte: u8)
+    ensures { byte < 256 }
+{
+    let _ = byte;
+}
+
+/// The token of a virtual method is a byte: an entry has it as one. It does nothing.
+fn token_is_byte(entry: &PoolEntry)
+    ensures { (ref : MemberRef) → entry.now ≡ VirtualMethodref ref → ref.token < 256 }
+{
+    match entry {
+        PoolEntry::VirtualMethodref(method) => is_byte(method.token),
+        PoolEntry::Classref(_)
+        | PoolEntry::InstanceFieldref(_)
+        | PoolEntry::SuperMethodref(_)
+        | PoolEntry::StaticFieldref(_)
+        | PoolEntry::StaticMethodref(_) => {}
+    }
+}
+
+/// So it is in all entries of a pool. It does nothing.
 fn tokens_are_bytes(pool: &[PoolEntry])
     ensures { HaveByteTokens pool.now }
 {
-    let _ = pool;
+    for entry in pool {
+        token_is_byte(entry);
+    }
 }
 
 /// The package in an image, linked behind others and checked with the bytes of its certificate. With it their world is

@@ -50,6 +50,7 @@ impl<'a> Command<'a> {
     /// The command that bytes are: a header alone, with Le, or with data. None where they are none.
     pub(crate) fn parse(bytes: &'a [u8]) -> Option<Command<'a>>
         ensures command { result ≡ command_of bytes.now }
+        ensures header { IfSome result (λ k. length k.header ≡ 4) }
         ensures few { IfSome result (λ k. length k.incoming ≤ 255) }
     {
         let p3 = p3_of(bytes);

@@ -10,13 +10,20 @@ ghost use Rattle.jc_safety.specs.Loading.{next_package};
 
 use crate::card::Card;
 use crate::checking::checked;
+use crate::growing::grow;
 use jc_base::LoadFault;
-use jc_interp::{has_room_for, loads_stay_in_agreement, static_words};
+use jc_interp::{has_room_for, loads_stay_in_agreement};
 use jc_link::Linked;
-use jc_loaded::Program;
 use jc_natives::loads_keep_fitting;
 use jc_safety::loads_stay_typed;
 use std::alloc::{AllocError, Global};
+
+/// A word is below 65,536. It does nothing.
+fn is_word(word: u16)
+    ensures { word < 65536 }
+{
+    let _ = word;
+}
 
 impl Card {
     // Whether there is room for a package more, and for its arrays.
@@ -44,18 +51,10 @@ impl Card {
         loads_keep_fitting();
         loads_stay_typed(&self.runtime);
         loads_stay_in_agreement(&self.runtime);
+        is_word(self.most_objects);
+        is_word(self.most_cells);
         let number = self.world.bodies().len() as u8 + 1;
-        let words = static_words(alloc, &linked, self.machine.store.objects_used())?;
-        let before = self.world.add_for_now(linked)?;
-        let Ok(program) = Program::new(alloc, &self.world) else {
-            self.world.take_back(before);
-            return Err(AllocError);
-        };
-        if self.machine.load(number, body_of(&self.world), words).is_err() {
-            self.world.take_back(before);
-            return Err(AllocError);
-        }
-        self.program = program;
+        self.program = grow(alloc, &mut self.world, &mut self.machine, linked, number)?;
         Ok(number)
     }
 
@@ -69,6 +68,9 @@ impl Card {
         if !self.has_room(&linked) {
             return Err(LoadFault::Full);
         }
-        self.put(alloc, linked).map_err(|_| LoadFault::Memory)
+        match self.put(alloc, linked) {
+            Ok(number) => Ok(number),
+            Err(_) => Err(LoadFault::Memory),
+        }
     }
 }

@@ -104,9 +104,10 @@ fn make(store: &mut Store, classes: &Classes, place: u16) -> bool
         mark: own.mark,
         clears: None,
     };
-    store
-        .make(kind, Owner::RUNTIME, usize::from(own.size), class.index())
-        .is_some()
+    match store.make(kind, Owner::RUNTIME, usize::from(own.size), class.index()) {
+        Some(_) => true,
+        None => false,
+    }
 }
 
 /// Makes all of them, in the order of their numbers, where the store is empty.

@@ -15,7 +15,7 @@ use jc_store::ClearingEvent;
 
 impl Card {
     // The arrays of an event are zero or null: those of a context, or all.
-    fn clear(&mut self, event: ClearingEvent, context: Option<u8>)
+    pub(crate) fn clear(&mut self, event: ClearingEvent, context: Option<u8>)
         ensures { Does self.old self.new GivesNothing (clear event context) }
     {
         self.runtime.law();

@@ -13,9 +13,8 @@ call-requires c =
     let laws : Laws = record {
       sound = c.built_worlds_are_sound.ensures;
       order = c.superclass_laws.ensures.order;
-      lawful = c.law.ensures;
+      call = record { lawful = c.law.ensures; calls = c.accepted_packages_are_type_safe.ensures.calls };
       declared = c.members_are_declared.ensures;
-      calls = c.accepted_packages_are_type_safe.ensures.calls;
       members = c.accepted_packages_are_type_safe.ensures.members;
     } in
     let i = c.self.inside in
@@ -36,9 +35,8 @@ invariant_of-self c =
     let laws : Laws = record {
       sound = c.built_worlds_are_sound.ensures;
       order = c.superclass_laws.ensures.order;
-      lawful = c.law.ensures;
+      call = record { lawful = c.law.ensures; calls = c.accepted_packages_are_type_safe.ensures.calls };
       declared = c.members_are_declared.ensures;
-      calls = c.accepted_packages_are_type_safe.ensures.calls;
       members = c.accepted_packages_are_type_safe.ensures.members;
     } in
     let i = c.self.inside in
@@ -55,16 +53,15 @@ invariant_of-self c =
     let fits = c.requires.fits card (subst (λ (x : CardWords). Holds x card) c.self.view_is h) in
     left_card after (ReadsEnded c.call.result) (call_applet card c.args.instance c.args.call)
     (applet_called laws k card h c.args.instance c.args.call fits first called refl words few after
-    c.call.result c.call.ensures.call c.call.ensures.dropped refl refl refl refl refl)
+    c.call.result c.call.ensures.call c.call.ensures.dropped refl refl refl refl refl refl refl)
 
 pub returns : goal.returns
 returns c card holds =
     let laws : Laws = record {
       sound = c.built_worlds_are_sound.ensures;
       order = c.superclass_laws.ensures.order;
-      lawful = c.law.ensures;
+      call = record { lawful = c.law.ensures; calls = c.accepted_packages_are_type_safe.ensures.calls };
       declared = c.members_are_declared.ensures;
-      calls = c.accepted_packages_are_type_safe.ensures.calls;
       members = c.accepted_packages_are_type_safe.ensures.members;
     } in
     let i = c.self.inside in
@@ -79,4 +76,4 @@ returns c card holds =
     let h = subst (λ (x : CardWords). Holds x card) (sym c.self.view_is) holds in
     let fits = c.requires.fits card holds in
     applet_called laws k card h c.args.instance c.args.call fits first called refl words few after
-    c.call.result c.call.ensures.call c.call.ensures.dropped refl refl refl refl refl
+    c.call.result c.call.ensures.call c.call.ensures.dropped refl refl refl refl refl refl refl

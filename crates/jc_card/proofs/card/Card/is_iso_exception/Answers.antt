@@ -15,7 +15,8 @@ returns-in-Some c card thrown holds found =
     let k : CardWords = the_view c.self.inside in
     let h = subst (λ (x : CardWords). Holds x card) (sym c.self.view_is) holds in
     c.is_subtype.ensures
-    ∙ listed_is laws k card h c.args.object thrown found c.new-class.result (c.class_number.ensures ∙ ap (λ (n : ℕ). Some n) (sym c.new-class.ensures)) c.in-Some.number
+    ∙ listed_is laws k card h c.args.object thrown found c.new-class.result (c.class_number.ensures ∙ ap (λ (n : ℕ).
+    Some n) (sym c.new-class.ensures)) c.in-Some.number
     (sym c.number_of.ensures ∙ c.in-Some.is)
 
 pub returns-in-None : goal.returns-in-None
@@ -28,5 +29,6 @@ returns-in-None c card thrown holds found =
     } in
     let k : CardWords = the_view c.self.inside in
     let h = subst (λ (x : CardWords). Holds x card) (sym c.self.view_is) holds in
-    has_number laws k card h c.args.object thrown found c.new-class.result (c.class_number.ensures ∙ ap (λ (n : ℕ). Some n) (sym c.new-class.ensures))
+    has_number laws k card h c.args.object thrown found c.new-class.result (c.class_number.ensures ∙ ap (λ (n : ℕ).
+    Some n) (sym c.new-class.ensures))
     (sym c.in-None.is ∙ c.number_of.ensures)

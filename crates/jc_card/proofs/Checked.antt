@@ -1,0 +1,56 @@
+-- Why a package isn't fit, by what each step of its check says.
+use Rattle.std.proofs.Common.{◌≡◌, ◌⊎◌, inl, inr, ℕ, List, Some, Result, Ok, Err, refl, sym, ap, subst}
+use Rattle.jc_base.specs.Cutting.{Piece, Splits, answer}
+use Rattle.jc_base.specs.Parts.{Infos}
+use Rattle.jc_base.specs.declared.fault.LoadFault.{LoadFault}
+use Rattle.jc_base.specs.declared.fault.LoadFault.TheVariants.{BadCertificate, Memory}
+use Rattle.jc_cap_desc.specs.Package.{package_of}
+use Rattle.jc_cap_desc.specs.Shape.{Package, Shape}
+use Rattle.jc_cert.specs.Cert.{IsCert, Row}
+use Rattle.jc_cert.specs.Writing.{spelling}
+use Rattle.jc_check.specs.Checked.{IsFirstRefusal}
+use Rattle.jc_check.specs.Checked as checks
+use Rattle.jc_link.specs.Linked.{IsRefusal, Linked, refusal_of}
+use Rattle.jc_card.specs.Load.{AreSpelled, IsCut, IsLinkedBehind, IsUnfit}
+
+abbrev Unfit : List Shape → List ℕ → List ℕ → LoadFault → Type 0
+Unfit before image certificate fault = (fault ≡ Memory) ⊎ IsUnfit before image certificate fault
+
+-- what a cutter finds
+abbrev Found : List ℕ → Result Infos LoadFault → Type 0
+Found image result = (pieces : List Piece) × (rest : List ℕ) × Splits image pieces rest × (result ≡ answer pieces rest)
+
+pub is_cut : (image : List ℕ) (result : Result Infos LoadFault) → Found image result → IsCut image result
+is_cut image result f = record { pieces = f.0; rest = f.1; splits = f.2; is = f.3 }
+
+pub uncut : (before : List Shape) (image certificate : List ℕ) (fault : LoadFault)
+    → Found image (Err fault) → Unfit before image certificate fault
+uncut before image certificate fault f = inr (IsUnfit.unlinked (Err fault) fault (is_cut image (Err fault) f) refl)
+
+unlinked_by : (before : List Shape) (read : Result Package LoadFault) (fault : LoadFault) → IsRefusal before read fault
+    → (fault ≡ Memory) ⊎ (refusal_of before read ≡ Some fault)
+unlinked_by before (Err why) fault r = inr (ap Some (sym r))
+unlinked_by before (Ok p) fault r = r
+
+pub unlinked : (before : List Shape) (image certificate : List ℕ) (parts : Infos) (fault : LoadFault)
+    → Found image (Ok parts) → IsRefusal before (package_of parts) fault → Unfit before image certificate fault
+unlinked before image certificate parts fault f r = elim (unlinked_by before (package_of parts) fault r) [
+  | inl memory ↦ inl memory
+  | inr told ↦ inr (IsUnfit.unlinked (Ok parts) fault (is_cut image (Ok parts) f) told)
+]
+
+pub unspelled : (before : List Shape) (image certificate : List ℕ) (l : Linked) (fault : LoadFault)
+    → IsLinkedBehind before image l
+    → (fault ≡ BadCertificate → (rows : List Row) → IsCert rows → certificate ≡ spelling rows → ⊥)
+    → (fault ≡ BadCertificate) ⊎ (fault ≡ Memory) → Unfit before image certificate fault
+unspelled before image certificate l fault behind none (inl bad) =
+    inr (subst (IsUnfit before image certificate) (sym bad)
+    (IsUnfit.unspelled l behind (λ rows spelled. none bad rows spelled.cert spelled.bytes_are)))
+unspelled before image certificate l fault behind none (inr memory) = inl memory
+
+pub uncarried : (before : List Shape) (image certificate : List ℕ) (l : Linked) (rows : List Row) (fault : LoadFault)
+    → IsLinkedBehind before image l → AreSpelled certificate rows → checks.IsRefusal l rows fault
+    → Unfit before image certificate fault
+uncarried before image certificate l rows fault behind spelled (inl memory) = inl memory
+uncarried before image certificate l rows fault behind spelled (inr first) =
+    inr (IsUnfit.uncarried l rows fault behind spelled first)

@@ -1,0 +1,248 @@
+-- How calls that ended are answered, on words.
+use Rattle.std.proofs.Common.{◌≡◌, ◌==◌, ℕ, zero, suc, List, [], ◌∷◌, get_or, slice_get, Bool, true, false, cond, not}
+use Rattle.std.proofs.Common.{Option, Some, None, refl, sym, ap, ◌∙◌, subst}
+use Rattle.std.specs.List.{AllByRecursion}
+use Rattle.std.specs.Option.{option_map_or}
+use Rattle.jc_base.specs.declared.declared_type.DeclaredType.{DeclaredType}
+use Rattle.jc_base.specs.declared.declared_type.DeclaredType.TheVariants as types
+use Rattle.jc_cap_desc.specs.Shape.{Shape}
+use Rattle.jc_interp.specs.declared.ends.RunEnd.TheVariants.{Gave, RanOut, Threw}
+use Rattle.jc_api.specs.declared.class.ApiClass.TheVariants.{IsoException}
+use Rattle.jc_machine.specs.Lookup.{fields_of, is_byte, is_kept_as, is_of_class, is_word, leads_to}
+use Rattle.jc_machine.specs.Reading.{HeapReads, Pointwise, Reads}
+use Rattle.jc_machine.specs.Typed.{CellsTyped, ObjectTyped, is_cell}
+use Rattle.jc_names.specs.declared.name.ClassName.{ClassName}
+use Rattle.jc_names.specs.declared.name.ClassName.TheVariants.{Api}
+use Rattle.jc_natives.specs.Cells.{bits}
+use Rattle.jc_store.specs.Blocks.{components_of}
+use Rattle.jc_store.specs.Heap.{Heap, Object, object_at}
+use Rattle.jc_store.specs.Store.{IsThere}
+use Rattle.jc_store.specs.declared.kind.ObjectType.{ObjectType}
+use Rattle.jc_store.specs.declared.kind.ObjectType.TheVariants.{BooleanArray, ByteArray, Instance, ReferenceArray}
+use Rattle.jc_store.specs.declared.kind.ObjectType.TheVariants.{ShortArray}
+use Rattle.jc_words.specs.Values.{Null, Ref, TaggedValue, Unset, Word, is_written}
+use Rattle.jc_card.proofs.Thrown.{across}
+use Rattle.jc_card.specs.Card.{CardState}
+use Rattle.jc_card.specs.Command.{normal, unknown_error}
+use Rattle.jc_card.specs.Commands.{agrees, reason_of, status_of, status_of_thrown}
+use Rattle.jc_card.specs.Install.{failure_of}
+use Rattle.jc_card.specs.Parts.{Ended, Normally, OutOfBudget, Uncaught}
+use Rattle.jc_card.specs.Reads.{CardWords, Holds, ReadsEnded}
+
+-- ---- whether an applet agrees
+
+pub word_agrees : (word : ℕ) (e : Ended) → ReadsEnded (Gave (Some word)) e → not (word == 0) ≡ agrees e
+word_agrees word (Normally (Some (Word n))) r = ap (λ m. not (m == 0)) r.reads
+word_agrees word (Normally (Some (Ref n))) r = ap (λ m. not (m == 0)) r.reads
+word_agrees word (Normally (Some Null)) r = ap (λ m. not (m == 0)) r.reads
+word_agrees word (Normally (Some Unset)) r = absurd (never r.written)
+  where
+    never : false ≡ true → ⊥
+    never e = absurd cc
+word_agrees word (Normally None) r = absurd r.reads
+word_agrees word (Uncaught object) r = absurd r
+word_agrees word OutOfBudget r = absurd r
+
+pub nothing_refuses : (e : Ended) → ReadsEnded (Gave None) e → false ≡ agrees e
+nothing_refuses (Normally (Some v)) r = absurd r.reads
+nothing_refuses (Normally None) r = refl
+nothing_refuses (Uncaught object) r = absurd r
+nothing_refuses OutOfBudget r = absurd r
+
+pub thrown_refuses : (object : ℕ) (e : Ended) → ReadsEnded (Threw object) e → false ≡ agrees e
+thrown_refuses object (Normally value) r = absurd r
+thrown_refuses object (Uncaught number) r = refl
+thrown_refuses object OutOfBudget r = absurd r
+
+pub used_up_refuses : (e : Ended) → ReadsEnded RanOut e → false ≡ agrees e
+used_up_refuses (Normally value) r = absurd r
+used_up_refuses (Uncaught object) r = absurd r
+used_up_refuses OutOfBudget r = refl
+
+-- ---- the status of how a call ended
+
+module _ (c : CardState) where
+  pub gave_status : (word : Option ℕ) (e : Ended) → ReadsEnded (Gave word) e → normal ≡ status_of c e
+  gave_status word (Normally value) r = refl
+  gave_status word (Uncaught object) r = absurd r
+  gave_status word OutOfBudget r = absurd r
+
+  pub thrown_status : (object status : ℕ) (e : Ended) → ReadsEnded (Threw object) e
+      → status ≡ option_map_or (status_of_thrown c) (object_at c.heap object) unknown_error → status ≡ status_of c e
+  thrown_status object status (Normally value) r e = absurd r
+  thrown_status object status (Uncaught number) r e =
+      e ∙ ap (λ n. option_map_or (status_of_thrown c) (object_at c.heap n) unknown_error) r
+  thrown_status object status OutOfBudget r e = absurd r
+
+  pub used_up_status : (e : Ended) → ReadsEnded RanOut e → unknown_error ≡ status_of c e
+  used_up_status (Normally value) r = absurd r
+  used_up_status (Uncaught object) r = absurd r
+  used_up_status OutOfBudget r = refl
+
+  -- ---- of an install
+
+  pub gave_failure : (word : Option ℕ) (e : Ended) → ReadsEnded (Gave word) e → unknown_error ≡ failure_of c e
+  gave_failure word (Normally value) r = refl
+  gave_failure word (Uncaught object) r = absurd r
+  gave_failure word OutOfBudget r = absurd r
+
+  pub thrown_failure : (object status : ℕ) (e : Ended) → ReadsEnded (Threw object) e
+      → status ≡ option_map_or (status_of_thrown c) (object_at c.heap object) unknown_error → status ≡ failure_of c e
+  thrown_failure object status (Normally value) r e = absurd r
+  thrown_failure object status (Uncaught number) r e =
+      e ∙ ap (λ n. option_map_or (status_of_thrown c) (object_at c.heap n) unknown_error) r
+  thrown_failure object status OutOfBudget r e = absurd r
+
+  pub used_up_failure : (e : Ended) → ReadsEnded RanOut e → unknown_error ≡ failure_of c e
+  used_up_failure (Normally value) r = absurd r
+  used_up_failure (Uncaught object) r = absurd r
+  used_up_failure OutOfBudget r = refl
+
+-- ---- the reason of an exception
+
+byte_written : (v : TaggedValue) → is_byte v ≡ true → is_written v ≡ true
+byte_written (Word n) e = refl
+byte_written (Ref n) e = refl
+byte_written Null e = refl
+byte_written Unset e = e
+
+word_written : (v : TaggedValue) → is_word v ≡ true → is_written v ≡ true
+word_written (Word n) e = refl
+word_written (Ref n) e = refl
+word_written Null e = refl
+word_written Unset e = e
+
+lead_written : (heap : Heap TaggedValue) (test : ObjectType → Bool) (v : TaggedValue) → leads_to heap test v ≡ true
+    → is_written v ≡ true
+lead_written heap test (Word n) e = refl
+lead_written heap test (Ref n) e = refl
+lead_written heap test Null e = refl
+lead_written heap test Unset e = e
+
+module _ (world : List Shape) (heap : Heap TaggedValue) where
+  kept_written : (t : DeclaredType ClassName) (v : TaggedValue) → is_kept_as world heap t v ≡ true → is_written v ≡ true
+  kept_written types.Boolean v e = byte_written v e
+  kept_written types.Byte v e = byte_written v e
+  kept_written types.Short v e = word_written v e
+  kept_written (types.Reference c) v e = lead_written heap _ v e
+  kept_written types.BooleanArray v e = lead_written heap _ v e
+  kept_written types.ByteArray v e = lead_written heap _ v e
+  kept_written types.ShortArray v e = lead_written heap _ v e
+  kept_written (types.ReferenceArray c) v e = lead_written heap _ v e
+
+  cell_written : (field : Option (DeclaredType ClassName)) (v : TaggedValue) → is_cell world heap field v ≡ true
+      → is_written v ≡ true
+  cell_written None v e = word_written v e
+  cell_written (Some t) v e = kept_written t v e
+
+  field_written : (fields : List (Option (DeclaredType ClassName))) (v : TaggedValue) (vs : List TaggedValue)
+      → Pointwise (λ v field. is_cell world heap field v ≡ true) (v ∷ vs) fields → is_written v ≡ true
+  field_written [] v vs t = absurd t
+  field_written (field ∷ fields) v vs t = cell_written field v t.0
+
+  -- the first component of a typed object was written
+  first_written : (type : ObjectType) (v : TaggedValue) (vs : List TaggedValue)
+      → CellsTyped world heap (v ∷ vs) type → is_written v ≡ true
+  first_written (Instance c) v vs t = field_written (fields_of world c) v vs t
+  first_written BooleanArray v vs t = byte_written v t.0
+  first_written ByteArray v vs t = byte_written v t.0
+  first_written ShortArray v vs t = word_written v t.0
+  first_written (ReferenceArray c) v vs t = lead_written heap _ v t.0
+
+  typed_at : (os : Heap TaggedValue) → AllByRecursion (ObjectTyped world heap) os → (n : ℕ) (o : Object TaggedValue)
+      → slice_get os n ≡ Some o → ObjectTyped world heap o
+  typed_at [] all n o e = absurd cc
+  typed_at (p ∷ os) all zero o e =
+      let same : p ≡ o = cc in
+      subst (ObjectTyped world heap) same all.0
+  typed_at (p ∷ os) all (suc n) o e = typed_at os all.1 n o e
+
+  pub object_typed : (os : Heap TaggedValue) → AllByRecursion (ObjectTyped world heap) os → (number : ℕ)
+      (o : Object TaggedValue) → object_at os number ≡ Some o → ObjectTyped world heap o
+  object_typed os all zero o e = absurd cc
+  object_typed os all (suc n) o e = typed_at os all n o e
+
+read_bits : (w : ℕ) (v : TaggedValue) → Reads w v → is_written v ≡ true → w ≡ bits v
+read_bits w (Word n) r e = r
+read_bits w (Ref n) r e = r
+read_bits w Null r e = r
+read_bits w Unset r e = absurd cc
+
+first_bits : (ws : List ℕ) (vs : List TaggedValue) → Pointwise Reads ws vs
+    → ((v : TaggedValue) (rest : List TaggedValue) → vs ≡ v ∷ rest → is_written v ≡ true)
+    → get_or ws 0 0 ≡ bits (get_or vs 0 (Word 0))
+first_bits [] [] r all = refl
+first_bits [] (v ∷ vs) r all = absurd r
+first_bits (w ∷ ws) [] r all = absurd r
+first_bits (w ∷ ws) (v ∷ vs) r all = read_bits w v r.0 (all v vs refl)
+
+pub reason_is : (k : CardWords) (c : CardState) → Holds k c → (number : ℕ) (thrown : Object TaggedValue)
+    → object_at c.heap number ≡ Some thrown
+    → get_or (components_of k.machine.store.objects number) 0 0 ≡ reason_of thrown
+reason_is k c h number thrown e =
+    let x = across k.machine.store.objects c.heap h.beside.heap number thrown e in
+    let t = object_typed c.world.shapes c.heap c.heap h.typed.beside.heap number thrown e in
+    ap (λ (o : Option (Object ℕ)). get_or (option_map_or (λ (y : Object ℕ). y.cells) o []) 0 0) x.there
+    ∙ first_bits (x.object).cells thrown.cells (x.reads).cells
+    (λ v rest is. first_written c.world.shapes c.heap thrown.kind.object v rest
+    (subst (λ (vs : List TaggedValue). CellsTyped c.world.shapes c.heap vs thrown.kind.object) is t.cells))
+
+-- ---- the status of what is thrown
+
+-- what is there on words is there on the defensive machine's card
+tagged_at : (os : Heap ℕ) (ps : Heap TaggedValue) → HeapReads os ps → (n : ℕ) (o : Object ℕ) → slice_get os n ≡ Some o
+    → (p : Object TaggedValue) × (slice_get ps n ≡ Some p)
+tagged_at [] [] r n o e = absurd cc
+tagged_at [] (p ∷ ps) r n o e = absurd r
+tagged_at (x ∷ os) [] r n o e = absurd r
+tagged_at (x ∷ os) (p ∷ ps) r zero o e = (p, refl)
+tagged_at (x ∷ os) (p ∷ ps) r (suc n) o e = tagged_at os ps r.1 n o e
+
+tagged : (os : Heap ℕ) (ps : Heap TaggedValue) → HeapReads os ps → (number : ℕ) (o : Object ℕ)
+    → object_at os number ≡ Some o → (p : Object TaggedValue) × (object_at ps number ≡ Some p)
+tagged os ps r zero o e = absurd cc
+tagged os ps r (suc n) o e = tagged_at os ps r n o e
+
+none_at : (os : Heap ℕ) (ps : Heap TaggedValue) → HeapReads os ps → (n : ℕ) → slice_get os n ≡ None
+    → slice_get ps n ≡ None
+none_at [] [] r n e = refl
+none_at [] (p ∷ ps) r n e = absurd r
+none_at (x ∷ os) [] r n e = absurd r
+none_at (x ∷ os) (p ∷ ps) r zero e = absurd cc
+none_at (x ∷ os) (p ∷ ps) r (suc n) e = none_at os ps r.1 n e
+
+none_there : (os : Heap ℕ) (ps : Heap TaggedValue) → HeapReads os ps → (number : ℕ) → object_at os number ≡ None
+    → object_at ps number ≡ None
+none_there os ps r zero e = refl
+none_there os ps r (suc n) e = none_at os ps r n e
+
+module _ (k : CardWords) (c : CardState) (h : Holds k c) (number : ℕ) where
+  abbrev status : Option (Object TaggedValue) → ℕ
+  status o = option_map_or (status_of_thrown c) o unknown_error
+
+  pub status_of_none : object_at k.machine.store.objects number ≡ None
+      → unknown_error ≡ status (object_at c.heap number)
+  status_of_none e = ap status (sym (none_there k.machine.store.objects c.heap h.beside.heap number e))
+
+  module _ (there : IsThere k.machine.store number) where
+    abbrev its : (p : Object TaggedValue) × (object_at c.heap number ≡ Some p)
+    its = tagged k.machine.store.objects c.heap h.beside.heap number there.object there.is
+
+    pub status_of_iso : (iso : Bool) → iso ≡ true
+        → ((thrown : Object TaggedValue) → object_at c.heap number ≡ Some thrown
+        → iso ≡ is_of_class c.world.shapes (Api IsoException) thrown.kind.object)
+        → (reason : ℕ)
+        → ((thrown : Object TaggedValue) → object_at c.heap number ≡ Some thrown → reason ≡ reason_of thrown)
+        → reason ≡ status (object_at c.heap number)
+    status_of_iso iso is_iso is reason reads =
+        reads its.0 its.1
+        ∙ ap (λ (b : Bool). cond b (reason_of its.0) unknown_error) (sym is_iso ∙ is its.0 its.1)
+        ∙ ap status (sym its.1)
+
+    pub status_of_other : (iso : Bool) → iso ≡ false
+        → ((thrown : Object TaggedValue) → object_at c.heap number ≡ Some thrown
+        → iso ≡ is_of_class c.world.shapes (Api IsoException) thrown.kind.object)
+        → unknown_error ≡ status (object_at c.heap number)
+    status_of_other iso other is =
+        ap (λ (b : Bool). cond b (reason_of its.0) unknown_error) (sym other ∙ is its.0 its.1)
+        ∙ ap status (sym its.1)

@@ -1,0 +1,108 @@
+-- What the runtime keeps, changed by the runtime itself.
+use Rattle.std.proofs.Common.{◌≡◌, ℕ, suc, ◌<◌, ◌≤◌, ◌&&◌, List, [], ◌∷◌, get_or, length, nat_le, Bool, true, refl}
+use Rattle.std.proofs.Common.{ap, ◌∙◌, arith}
+use Rattle.std.proofs.lemmas.Bool.{le-leb, lt-ltb}
+use Rattle.jc_link.specs.Linked.{World}
+use Rattle.jc_machine.specs.Runtime.{most_instances}
+use Rattle.jc_names.specs.declared.owner.Owner.{Owner}
+use Rattle.jc_natives.specs.Kept.{Kept, are_bytes, is_aid, is_instance_number, with_install}
+use Rattle.jc_natives.specs.Meaning.{meaning}
+use Rattle.jc_store.specs.Heap.{Heap}
+use Rattle.jc_words.specs.Values.{TaggedValue}
+use Rattle.jc_card.specs.Card.{CardState, with_kept}
+use Rattle.jc_card.specs.Parts.{gives}
+use Rattle.jc_card.specs.Reads.{CardWords, GivesNothing, Holds, IsDone}
+
+-- bytes by their places are bytes
+pub bytes_are : (bytes : List ℕ) → ((n : ℕ) → get_or bytes n 0 < 256) → are_bytes bytes ≡ true
+bytes_are [] are = refl
+bytes_are (b ∷ bytes) are =
+    ap (λ (t : Bool). t && are_bytes bytes) (lt-ltb b 256 (are 0)) ∙ bytes_are bytes (λ n. are (suc n))
+
+-- an AID by its length and its bytes
+pub is_fit_aid : (aid : List ℕ) (count : ℕ) → count ≡ length aid → 5 ≤ count → count ≤ 16 → are_bytes aid ≡ true
+    → is_aid aid ≡ true
+is_fit_aid aid count is least most bytes =
+    ap (λ (b : Bool). b && nat_le (length aid) 16 && are_bytes aid) (le-leb 5 (length aid) (omega (arith, is, least)))
+    ∙ ap (λ (b : Bool). b && are_bytes aid) (le-leb (length aid) 16 (omega (arith, is, most))) ∙ bytes
+
+-- it may be anything that fits the objects, made of what it was; and the numbers that are used as many as there are
+pub kept_done : (k : CardWords) (c : CardState) (h : Holds k c) (change : Kept → Kept) (numbers : ℕ)
+    → meaning.fits c.world c.heap (change c.kept) ≡ true → numbers ≤ most_instances
+    → IsDone (record k { kept = change k.kept; numbers = numbers }) GivesNothing
+    (gives (record c { kept = change c.kept; numbers = numbers }) tt)
+kept_done k c h change numbers fits few = (
+  record {
+    typed = record {
+      accepted = h.typed.accepted;
+      beside = record {
+        heap = h.typed.beside.heap;
+        statics = h.typed.beside.statics;
+        runtime_objects = h.typed.beside.runtime_objects;
+        fits = fits;
+      };
+      numbers = few;
+    };
+    world = h.world;
+    program = h.program;
+    beside = record {
+      heap = h.beside.heap;
+      numbered = h.beside.numbered;
+      statics = h.beside.statics;
+      runtime = ap change h.beside.runtime;
+      most_objects = h.beside.most_objects;
+      most_cells = h.beside.most_cells;
+      most_frames = h.beside.most_frames;
+      most_words = h.beside.most_words;
+    };
+    frames = h.frames;
+    selected = h.selected;
+    numbers = refl;
+    most_objects = h.most_objects;
+    most_cells = h.most_cells;
+    steps = h.steps;
+  },
+  tt,
+)
+
+-- the same where no number is taken
+pub kept_changed : (k : CardWords) (c : CardState) (h : Holds k c) (change : Kept → Kept)
+    → meaning.fits c.world c.heap (change c.kept) ≡ true
+    → IsDone (record k { kept = change k.kept }) GivesNothing (gives (with_kept c (change c.kept)) tt)
+kept_changed k c h change fits =
+    let d = kept_done k c h change c.numbers fits h.typed.numbers in (
+      record {
+        typed = d.0.typed;
+        world = d.0.world;
+        program = d.0.program;
+        beside = d.0.beside;
+        frames = d.0.frames;
+        selected = d.0.selected;
+        numbers = h.numbers;
+        most_objects = d.0.most_objects;
+        most_cells = d.0.most_cells;
+        steps = d.0.steps;
+      },
+      tt,
+    )
+
+-- ---- an install begins
+
+-- the number behind those that are used is one of an instance
+pub is_number : (number used : ℕ) → number ≡ suc used → number ≤ 32 → is_instance_number number ≡ true
+is_number number used next most =
+    ap (λ (b : Bool). b && nat_le number 32) (le-leb 1 number (omega (arith, next))) ∙ le-leb number 32 most
+
+-- an instance with the next number is being installed
+abbrev pub BeginsFitting : Type 0
+BeginsFitting = (w : World) (heap : Heap TaggedValue) (kept : Kept) → meaning.fits w heap kept ≡ true
+    → (owner : Owner) (aid : List ℕ) → is_aid aid ≡ true → is_instance_number owner.instance ≡ true
+    → meaning.fits w heap (with_install kept owner aid) ≡ true
+
+pub number_taken : (k : CardWords) (c : CardState) (h : Holds k c) → BeginsFitting → (owner : Owner) (aid : List ℕ)
+    → is_aid aid ≡ true → owner.instance ≡ suc k.numbers → owner.instance ≤ 32
+    → IsDone (record k { kept = with_install k.kept owner aid; numbers = owner.instance }) GivesNothing
+    (gives (record c { numbers = owner.instance; kept = with_install c.kept owner aid }) tt)
+number_taken k c h begun owner aid fit next most =
+    kept_done k c h (λ (x : Kept). with_install x owner aid) owner.instance
+    (begun c.world c.heap c.kept h.typed.beside.fits owner aid fit (is_number owner.instance k.numbers next most)) most

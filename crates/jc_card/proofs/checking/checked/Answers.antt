@@ -1,0 +1,62 @@
+use Rattle.std.proofs.Common.{Err, ◌∙◌, sym, ap, subst}
+use Rattle.std.proofs.lemmas.Result.{err_from_is_err_and}
+use Rattle.jc_link.specs.Linked.{IsBoundTo}
+use Rattle.jc_machine.specs.Accepted.{HaveByteTokens}
+use Rattle.jc_check.specs.Checked.{IsPackageCarried, IsPackageTyped}
+use Rattle.jc_classes.specs.Limits.{IsSmall}
+use Rattle.jc_card.specs.Load.{AreSpelled, IsLinkedBehind}
+use Rattle.jc_card.proofs.Checked.{is_cut, uncarried, uncut, unlinked, unspelled}
+use Rattle.jc_card.proofs.checking.checked.Goals as goal
+
+pub returns-in_err-cut-clause-unfit : goal.returns-in_err-cut-clause-unfit
+returns-in_err-cut-clause-unfit c =
+    let p = err_from_is_err_and c.from_residual.result c.from_residual.ensures.1 in
+    rw (p.1, p.2) (uncut c.args.world.now.shapes c.args.image.now c.args.certificate.now c.in_err-cut.field-0.0
+    c.in_err-cut.ensures.found)
+
+pub returns-in_err-linked-clause-unfit : goal.returns-in_err-linked-clause-unfit
+returns-in_err-linked-clause-unfit c =
+    let p = err_from_is_err_and c.from_residual-in_err-linked.result c.from_residual-in_err-linked.ensures.1 in
+    rw (p.1, p.2) (unlinked c.args.world.now.shapes c.args.image.now c.args.certificate.now c.in_ok-cut.field-0
+    c.in_err-linked.field-0.0 c.in_ok-cut.ensures.found c.in_err-linked.ensures.refused)
+
+pub returns-in_err-rows-clause-unfit : goal.returns-in_err-rows-clause-unfit
+returns-in_err-rows-clause-unfit c =
+    let p = err_from_is_err_and c.from_residual-in_err-rows.result c.from_residual-in_err-rows.ensures.1 in
+    let behind : IsLinkedBehind c.args.world.now.shapes c.args.image.now c.in_ok-linked.linked = record {
+      parts = c.in_ok-cut.field-0;
+      cut = is_cut c.args.image.now _ c.in_ok-cut.ensures.found;
+      linked = c.in_ok-linked.ensures.linked;
+    } in
+    rw (p.1, p.2) (unspelled c.args.world.now.shapes c.args.image.now c.args.certificate.now c.in_ok-linked.linked
+    c.in_err-rows.field-0.0 behind (λ bad. c.in_err-rows.ensures.refused (ap Err bad))
+    c.in_err-rows.ensures.faults)
+
+pub returns-in_err-check-clause-unfit : goal.returns-in_err-check-clause-unfit
+returns-in_err-check-clause-unfit c =
+    let p = err_from_is_err_and c.from_residual-in_err-check.result c.from_residual-in_err-check.ensures.1 in
+    let behind : IsLinkedBehind c.args.world.now.shapes c.args.image.now c.in_ok-linked.linked = record {
+      parts = c.in_ok-cut.field-0;
+      cut = is_cut c.args.image.now _ c.in_ok-cut.ensures.found;
+      linked = c.in_ok-linked.ensures.linked;
+    } in
+    let spelled : AreSpelled c.args.certificate.now c.in_ok-rows.rows = record {
+      cert = c.in_ok-rows.ensures.found.0;
+      bytes_are = c.in_ok-rows.ensures.found.1;
+    } in
+    rw (p.1, p.2) (uncarried c.args.world.now.shapes c.args.image.now c.args.certificate.now c.in_ok-linked.linked
+    c.in_ok-rows.rows c.in_err-check.field-0.0 behind spelled c.in_err-check.ensures.refused)
+
+pub returns-clause-accepted : goal.returns-clause-accepted
+returns-clause-accepted c accepted =
+    let l = c.into_linked-linked.result in
+    let same = c.into_linked-linked.ensures.linked ∙ c.in_ok-check.ensures.accepted.0 in
+    let bound = subst (IsBoundTo c.args.world.now) (sym same) c.in_ok-linked.ensures.bound in
+    let small = subst IsSmall c.table.ensures.table c.len-count.ensures.small in
+    let pool = c.as_slice.ensures.value
+    ∙ ap (λ k. k.pool) (c.behind-body.view_is ∙ c.kept.ensures ∙ ap (λ b. b.kept) c.body.ensures.body) in
+    let tokens = subst HaveByteTokens pool c.tokens_are_bytes.ensures in
+    c.accepted_worlds_grow.ensures.grown c.args.world.now l accepted bound
+    (record { built = c.table.ensures.built; known = c.table.ensures.known }) small tokens
+    (subst IsPackageCarried (sym c.into_linked-linked.ensures.linked) c.into_linked-linked.ensures.carried)
+    (subst IsPackageTyped (sym c.into_linked-linked.ensures.linked) c.into_linked-linked.ensures.typed)

@@ -1,0 +1,146 @@
+//! What the card does to a command (Java Card Runtime Environment Specification, Selection, Applet Lifetime: select,
+//! deselect and process).
+
+ghost use Rattle.std.specs.Prelude.{◌≡◌, ◌≤◌, length};
+ghost use Rattle.jc_card.specs.Card.{CardState};
+ghost use Rattle.jc_card.specs.Command.{buffer_of, buffer_size};
+ghost use Rattle.jc_card.specs.Commands.{apdu_command, ask, choose, dispatch, perform, process, receive};
+ghost use Rattle.jc_card.specs.Commands.{refused, select, selected_by};
+ghost use Rattle.jc_card.specs.Parts.{write};
+ghost use Rattle.jc_card.specs.Reads.{Does, GivesNothing, Holds, ReadsResponse};
+ghost use Rattle.jc_machine.specs.Runtime.{apdu_buffer};
+
+use crate::answer::Answer;
+use crate::calls::AppletCall;
+use crate::card::Card;
+use crate::command::Command;
+use crate::status::{NOT_SELECTED, WRONG_LENGTH, agrees};
+use crate::writing::BUFFER_SIZE;
+use jc_names::Owner;
+use jc_natives::Instance;
+
+/// What the APDU buffer holds when a command came: its first five bytes, and zeros.
+fn buffer_of(command: &Command<'_>) -> [u8; BUFFER_SIZE]
+    requires header { length command.now.header ≡ 4 }
+    ensures buffer { result ≡ buffer_of command.now }
+    ensures whole { length result ≡ buffer_size }
+{
+    let mut buffer = [0; BUFFER_SIZE];
+    buffer[..4].copy_from_slice(command.header);
+    buffer[4] = command.p3;
+    buffer
+}
+
+impl Card {
+    // The command is before the applet that is selected.
+    fn process(&mut self, command: &Command<'_>, selecting: bool) -> Answer
+        requires few { length command.now.incoming ≤ 255 }
+        ensures { Does self.old self.new (ReadsResponse result) (λ c. process c command.now selecting) }
+    {
+        self.open(command.incoming, command.expected, selecting);
+        let ended = self.call_selected(AppletCall::Process);
+        self.close();
+        self.answer(ended)
+    }
+
+    // The applet that counts as selected isn't any more.
+    fn refuse(&mut self) -> Answer
+        ensures { Does self.old self.new (ReadsResponse result) refused }
+    {
+        self.unselect();
+        Answer::status_alone(NOT_SELECTED)
+    }
+
+    // The applet that counts as selected is asked whether it agrees. If it does the command is before it.
+    fn ask(&mut self, command: &Command<'_>) -> Answer
+        requires few { length command.now.incoming ≤ 255 }
+        ensures { Does self.old self.new (ReadsResponse result) (λ c. ask c command.now) }
+    {
+        let ended = self.call_selected(AppletCall::Select);
+        if agrees(ended) {
+            self.process(command, true)
+        } else {
+            self.refuse()
+        }
+    }
+
+    // Another applet counts as selected, and is asked.
+    fn choose(&mut self, owner: Owner, command: &Command<'_>) -> Answer
+        requires few { length command.now.incoming ≤ 255 }
+        ensures { Does self.old self.new (ReadsResponse result) (λ c. choose c owner command.now) }
+    {
+        self.set_selected(Some(owner));
+        self.ask(command)
+    }
+
+    // Another applet is selected, and the one before it deselected.
+    fn select(&mut self, owner: Owner, command: &Command<'_>) -> Answer
+        requires few { length command.now.incoming ≤ 255 }
+        ensures { Does self.old self.new (ReadsResponse result) (λ c. select c owner command.now) }
+    {
+        self.deselect();
+        self.choose(owner, command)
+    }
+
+    // The command is before the applet that is selected, if one is.
+    fn dispatch(&mut self, command: &Command<'_>) -> Answer
+        requires few { length command.now.incoming ≤ 255 }
+        ensures { Does self.old self.new (ReadsResponse result) (λ c. dispatch c command.now) }
+    {
+        if self.selected_instance().is_some() {
+            self.process(command, false)
+        } else {
+            Answer::status_alone(NOT_SELECTED)
+        }
+    }
+
+    // The registered instance that a command selects.
+    fn selected_by(&self, command: &Command<'_>) -> Option<Instance>
+        ensures { (c : CardState) → Holds self.now c → result ≡ selected_by c command.now }
+    {
+        if command.is_select() {
+            self.runtime.instance_with(command.incoming)
+        } else {
+            None
+        }
+    }
+
+    // Performs a command whose first bytes stand in the APDU buffer.
+    fn perform(&mut self, command: &Command<'_>) -> Answer
+        requires few { length command.now.incoming ≤ 255 }
+        ensures { Does self.old self.new (ReadsResponse result) (λ c. perform c command.now) }
+    {
+        match self.selected_by(command) {
+            Some(instance) => self.select(instance.owner, command),
+            None => self.dispatch(command),
+        }
+    }
+
+    // The APDU buffer holds a command's first bytes.
+    fn fill_buffer(&mut self, command: &Command<'_>)
+        requires header { length command.now.header ≡ 4 }
+        ensures { Does self.old self.new GivesNothing (write apdu_buffer (buffer_of command.now)) }
+    {
+        self.write_buffer(&buffer_of(command));
+    }
+
+    // A command comes.
+    fn receive(&mut self, command: &Command<'_>) -> Answer
+        requires header { length command.now.header ≡ 4 }
+        requires few { length command.now.incoming ≤ 255 }
+        ensures { Does self.old self.new (ReadsResponse result) (λ c. receive c command.now) }
+    {
+        self.fill_buffer(command);
+        self.perform(command)
+    }
+
+    /// Does what a command of a reader asks for, and answers it. Bytes that are no command are answered 6700.
+    pub fn apdu(&mut self, bytes: &[u8]) -> Answer
+        ensures { Does self.old self.new (ReadsResponse result) (λ c. apdu_command c bytes.now) }
+    {
+        match Command::parse(bytes) {
+            Some(command) => self.receive(&command),
+            None => Answer::status_alone(WRONG_LENGTH),
+        }
+    }
+}

@@ -1,0 +1,19 @@
+//! What bytes and AIDs keep to, by their types.
+
+ghost use Rattle.std.specs.Prelude.{◌≡◌, true};
+ghost use Rattle.jc_natives.specs.Kept.{are_bytes, is_aid};
+
+use jc_base::Aid;
+
+/// Bytes have 8 bits. It does nothing.
+pub(crate) fn bytes_are_low(bytes: &[u8])
+    ensures { are_bytes bytes.now ≡ true }
+{}
+
+/// An AID has 5 to 16 bytes. It does nothing.
+pub(crate) fn aids_are_fit(aid: &Aid)
+    ensures { is_aid aid.now ≡ true }
+{
+    bytes_are_low(aid.as_slice());
+    let _len = aid.len();
+}

@@ -1,0 +1,161 @@
+-- Lines that end a script, and commands that are done.
+use Rattle.std.proofs.Common.{◌≡◌, ◌≤◌, ℕ, List, [], ◌++◌, length, Option, Some, None, Result, IfErr, false, nat_lt, refl, sym, ap, ◌∙◌, append-nil, rules}
+use Rattle.std.proofs.lemmas.Result.{err_from_is_err_and}
+use Rattle.std.specs.Io.KnownBytes.{Appends}
+use Rattle.std.specs.Prelude.{IsErrAnd}
+use Rattle.jc_card.specs.Card.{CardState}
+use Rattle.jc_card.specs.Reads.{CardWords}
+use Rattle.jc_run.specs.Answer.{Answered}
+use Rattle.jc_run.specs.Performs.{Answers, AsksSource, PlaysOn}
+use Rattle.jc_run.specs.Play.{BadLimits, BadLine, IsPart, NoMemory, NotRead, NotWritten, Over, ScriptEnd, SourceFailed, answer_line}
+use Rattle.jc_run.specs.Play.EndsAt.{bad, memory, source, unwritten}
+use Rattle.jc_run.specs.Play.Plays.{ended, over, unread}
+use Rattle.jc_run.specs.PrivatePlay.{AppendsPart, IsEnd, IsLineDone, IsLineEnd, IsTaken, IsUnread}
+use Rattle.jc_script.specs.Reading.{BeginsBad}
+use Rattle.jc_script.specs.Script.{Apdu, Asks, Bad, Install, Load, Reset, ScriptCommand, ScriptLine, line_at, lines_of, most_in_line, most_lines, said_by}
+
+-- ---- what is known to be written
+
+pub none_more : {now : Option (List ℕ)} {before : List ℕ} → now ≡ Some before → now ≡ Some (before ++ [])
+none_more {before = before} is = is ∙ ap (λ (bs : List ℕ). Some bs) (sym (append-nil before))
+
+grown_known : (before : List ℕ) (now : Option (List ℕ)) (bytes : List ℕ) → Appends (Some before) now bytes
+    → now ≡ Some (before ++ bytes)
+grown_known before None bytes h = elim h [ ]
+grown_known before (Some after) bytes h = ap (λ (bs : List ℕ). Some bs) h
+
+grown : (old now : Option (List ℕ)) (before bytes : List ℕ) → old ≡ Some before → Appends old now bytes
+    → now ≡ Some (before ++ bytes)
+grown old now before bytes is h = grown_known before now bytes (rw is at h)
+
+record IsParted (before whole : List ℕ) (now : Option (List ℕ)) : Type 0 where
+  bytes : List ℕ
+  part : IsPart bytes whole
+  now_is : now ≡ Some (before ++ bytes)
+
+parted_known : (before : List ℕ) (now : Option (List ℕ)) (whole : List ℕ) → AppendsPart (Some before) now whole
+    → IsParted before whole now
+parted_known before None whole h = elim h [ ]
+parted_known before (Some after) whole h =
+    record { bytes = h.bytes; part = h.part; now_is = ap (λ (bs : List ℕ). Some bs) h.after_is }
+
+parted : (old now : Option (List ℕ)) (before whole : List ℕ) → old ≡ Some before → AppendsPart old now whole
+    → IsParted before whole now
+parted old now before whole is h = parted_known before now whole (rw is at h)
+
+-- ---- commands
+
+module _ (images certificates : List ℕ → List ℕ → Type 0) (c : CardState) (number : ℕ) where
+  pub source_end : (command : ScriptCommand) (before : List ℕ) (now : Option (List ℕ)) → AsksSource command
+      → now ≡ Some before
+      → IsLineEnd images certificates c number (Asks command) before now (SourceFailed number)
+  source_end (Load folder certificate) before now asks is =
+      record { written = []; ends = source folder certificate; now_is = none_more is }
+  source_end (Install applet instance incoming) before now asks is = elim asks [ ]
+  source_end (Apdu bytes) before now asks is = elim asks [ ]
+  source_end Reset before now asks is = elim asks [ ]
+
+  pub memory_end : (command : ScriptCommand) (before : List ℕ) (now : Option (List ℕ)) → AsksSource command
+      → now ≡ Some before → IsLineEnd images certificates c number (Asks command) before now NoMemory
+  memory_end (Load folder certificate) before now asks is =
+      record { written = []; ends = memory folder certificate; now_is = none_more is }
+  memory_end (Install applet instance incoming) before now asks is = elim asks [ ]
+  memory_end (Apdu bytes) before now asks is = elim asks [ ]
+  memory_end Reset before now asks is = elim asks [ ]
+
+  pub command_done : (command : ScriptCommand) (answer : Answered) (after : CardWords) (old now : Option (List ℕ))
+      (before : List ℕ) → Answers images certificates c command answer after → old ≡ Some before
+      → Appends old now (answer_line answer)
+      → IsLineDone images certificates c (Asks command) after before now
+  command_done command answer after old now before a is h = record {
+    card = a.card;
+    written = answer_line answer;
+    played = record { answer = answer; answered = a.answered; written_is = refl };
+    holds = a.holds;
+    now_is = grown old now before _ is h;
+  }
+
+  pub command_unwritten : (command : ScriptCommand) (answer : Answered) (after : CardWords)
+      (old now : Option (List ℕ)) (before : List ℕ) → Answers images certificates c command answer after
+      → old ≡ Some before → AppendsPart old now (answer_line answer)
+      → IsLineEnd images certificates c number (Asks command) before now NotWritten
+  command_unwritten command answer after old now before a is h =
+      let p = parted old now before _ is h in
+      record {
+        written = p.bytes;
+        ends = unwritten (Asks command) p.bytes (answer_line answer) a.card
+            (record { answer = answer; answered = a.answered; written_is = refl }) p.part;
+        now_is = p.now_is;
+      }
+
+  pub bad_end : (said : ScriptLine) (before : List ℕ) (now : Option (List ℕ)) → Bad ≡ said → now ≡ Some before
+      → IsLineEnd images certificates c number said before now (BadLine number)
+  bad_end said before now is known = record { written = []; ends = rw (← is) bad; now_is = none_more known }
+
+-- ---- lines
+
+-- a line that is neither too long nor one too many
+pub as_said : (number : ℕ) (line : List ℕ) → number ≤ most_lines → length line ≤ most_in_line
+    → line_at number line ≡ said_by line
+as_said number line few short = rw (few_enough, short_enough) refl
+  where
+    few_enough : nat_lt most_lines number ≡ false
+    few_enough = search (rules, few)
+
+    short_enough : nat_lt most_in_line (length line) ≡ false
+    short_enough = search (rules, short)
+
+module _ (images certificates : List ℕ → List ℕ → Type 0) (number : ℕ) (bytes : List ℕ) (c : CardState)
+    (before : List ℕ) (now : Option (List ℕ)) where
+  pub none_left : lines_of bytes ≡ [] → now ≡ Some before
+      → PlaysOn images certificates number bytes c before now Over
+  none_left none known = record { written = []; plays = rw none (over number c); now_is = none_more known }
+
+  bad_first : BeginsBad number (lines_of bytes) → now ≡ Some before
+      → PlaysOn images certificates number bytes c before now (BadLine number)
+  bad_first b known = record {
+    written = [];
+    plays = rw b.are (ended number b.first b.others c [] (BadLine number) (rw b.bad bad));
+    now_is = none_more known;
+  }
+
+  not_read : now ≡ Some before → PlaysOn images certificates number bytes c before now NotRead
+  not_read known = record { written = []; plays = unread number (lines_of bytes) c; now_is = none_more known }
+
+  pub unread_plays : (end : ScriptEnd) → IsUnread number bytes end → now ≡ Some before
+      → PlaysOn images certificates number bytes c before now end
+  unread_plays Over u known = elim u [ ]
+  unread_plays (BadLine n) u known = rw u.0 (bad_first u.1 known)
+  unread_plays (SourceFailed n) u known = elim u [ ]
+  unread_plays NotRead u known = not_read known
+  unread_plays NotWritten u known = elim u [ ]
+  unread_plays NoMemory u known = elim u [ ]
+  unread_plays BadLimits u known = elim u [ ]
+
+  pub end_plays : (end : ScriptEnd) → IsEnd number bytes end → now ≡ Some before
+      → PlaysOn images certificates number bytes c before now end
+  end_plays Over u known = none_left u known
+  end_plays (BadLine n) u known = rw u.0 (bad_first u.1 known)
+  end_plays (SourceFailed n) u known = elim u [ ]
+  end_plays NotRead u known = not_read known
+  end_plays NotWritten u known = elim u [ ]
+  end_plays NoMemory u known = elim u [ ]
+  end_plays BadLimits u known = elim u [ ]
+
+  pub line_ends : (line : List ℕ) (left : Option (List ℕ)) (end : ScriptEnd) → IsTaken number line bytes left
+      → IsLineEnd images certificates c number (said_by line) before now end
+      → PlaysOn images certificates number bytes c before now end
+  line_ends line left end t e = record {
+    written = e.written;
+    plays = rw t.takes.lines (ended number line (lines_of t.rest) c e.written end
+        (rw (as_said number line t.takes.few t.takes.short) e.ends));
+    now_is = e.now_is;
+  }
+
+-- ---- faults that are handed on
+
+pub handed_on : {A E : Type 0} (result : Result A E) (error : E) (P : E → Type 0)
+    → IsErrAnd result (λ told. told ≡ error) → P error → IfErr result P
+handed_on result error P is p =
+    let told = err_from_is_err_and result is in
+    rw (told.1, told.2) p

@@ -1,0 +1,141 @@
+-- A script, line by line.
+use Rattle.std.proofs.Common.{◌≡◌, ℕ, ◌+◌, List, [], ◌++◌, Option, Some, Result, ap, ◌∙◌, append_assoc, add-one}
+use Rattle.std.proofs.lemmas.Result.{err_from_is_err_and}
+use Rattle.std.specs.Prelude.{IsErrAnd}
+use Rattle.jc_card.specs.Card.{CardState}
+use Rattle.jc_card.specs.Reads.{CardWords, Holds}
+use Rattle.jc_packages.specs.Source.{HoldSame}
+use Rattle.jc_run.proofs.Ending.{none_more}
+use Rattle.jc_run.specs.Answer.{Answered}
+use Rattle.jc_run.specs.End.{end_of, end_of_fault}
+use Rattle.jc_run.specs.Performs.{PlaysOn}
+use Rattle.jc_run.specs.Play.{EndsAt, IsAnswered, IsLinePlayed, Plays, ScriptEnd}
+use Rattle.jc_run.specs.Play.EndsAt.{bad, memory, source, unwritten}
+use Rattle.jc_run.specs.Play.Plays.{ended, line, over, unread}
+use Rattle.jc_run.specs.declared.fault.ScriptFault.{ScriptFault}
+use Rattle.jc_run.specs.PrivatePlay.{HasPlayed, IsTurn}
+use Rattle.jc_script.specs.Script.{Apdu, Asks, Bad, Install, Load, Reset, ScriptCommand, ScriptLine, Skipped, lines_of}
+
+pub same_through : (first second third : List ℕ → List ℕ → Type 0) → HoldSame first second → HoldSame second third
+    → HoldSame first third
+same_through first second third a b = record {
+  still = λ name bytes h. b.still name bytes (a.still name bytes h);
+  already = λ name bytes h. a.already name bytes (b.already name bytes h);
+}
+
+-- ---- what a source holds that holds the same
+
+module _ (images certificates older old : List ℕ → List ℕ → Type 0) (same_images : HoldSame older images)
+    (same_certificates : HoldSame old certificates) where
+  answered_as : (c : CardState) (command : ScriptCommand) (answer : Answered) (after : CardState)
+      → IsAnswered images certificates c command answer after → IsAnswered older old c command answer after
+  answered_as c (Load folder certificate) answer after h = record {
+    image = h.image;
+    image_held = same_images.already _ _ h.image_held;
+    bytes = h.bytes;
+    bytes_held = same_certificates.already _ _ h.bytes_held;
+    result = h.result;
+    load = h.load;
+    answer_is = h.answer_is;
+  }
+  answered_as c (Install applet instance incoming) answer after h = h
+  answered_as c (Apdu bytes) answer after h = h
+  answered_as c Reset answer after h = h
+
+  pub line_as : (c : CardState) (said : ScriptLine) (written : List ℕ) (after : CardState)
+      → IsLinePlayed images certificates c said written after → IsLinePlayed older old c said written after
+  line_as c Skipped written after h = h
+  line_as c (Asks command) written after h =
+      record { answer = h.answer; answered = answered_as c command _ after h.answered; written_is = h.written_is }
+  line_as c Bad written after h = h
+
+  ends_as : {c : CardState} {number : ℕ} {said : ScriptLine} {written : List ℕ} {end : ScriptEnd}
+      → EndsAt images certificates c number said written end → EndsAt older old c number said written end
+  ends_as bad = bad
+  ends_as (source folder certificate) = source folder certificate
+  ends_as (memory folder certificate) = memory folder certificate
+  ends_as {c = c} (unwritten said written whole after played part) =
+      unwritten said written whole after (line_as c said whole after played) part
+
+  plays_as : {number : ℕ} {lines : List (List ℕ)} {c : CardState} {written : List ℕ} {end : ScriptEnd}
+      → Plays images certificates number lines c written end → Plays older old number lines c written end
+  plays_as (over number c) = over number c
+  plays_as (line number first lines c after written behind end played rest) =
+      line number first lines c after written behind end (line_as c _ written after played) (plays_as rest)
+  plays_as (ended number first lines c written end e) = ended number first lines c written end (ends_as e)
+  plays_as (unread number lines c) = unread number lines c
+
+  pub plays_on_as : {number : ℕ} {bytes : List ℕ} {c : CardState} {before : List ℕ} {now : Option (List ℕ)}
+      {end : ScriptEnd} → PlaysOn images certificates number bytes c before now end
+      → PlaysOn older old number bytes c before now end
+  plays_on_as p = record { written = p.written; plays = plays_as p.plays; now_is = p.now_is }
+
+  pub turn_as : {number : ℕ} {bytes : List ℕ} {c : CardState} {after : CardWords} {left : Option (List ℕ)}
+      {before : List ℕ} {now : Option (List ℕ)} → IsTurn images certificates number bytes c after left before now
+      → IsTurn older old number bytes c after left before now
+  turn_as {c = c} t = record {
+    first = t.first;
+    rest = t.rest;
+    left_is = t.left_is;
+    lines = t.lines;
+    done = record {
+      card = t.done.card;
+      written = t.done.written;
+      played = line_as c _ t.done.written t.done.card t.done.played;
+      holds = t.done.holds;
+      now_is = t.done.now_is;
+    };
+  }
+
+-- ---- lines that are done
+
+module _ (images certificates : List ℕ → List ℕ → Type 0) (c : CardState) (script before : List ℕ) where
+  pub begun : (after : CardWords) (left now : Option (List ℕ)) → Holds after c → left ≡ Some script
+      → now ≡ Some before → HasPlayed images certificates c script before 1 after left now
+  begun after left now holds is known = record {
+    card = c;
+    holds = holds;
+    rest = script;
+    left_is = is;
+    written = [];
+    now_is = none_more known;
+    leads = λ behind end p. p;
+  }
+
+  pub one_more : {number : ℕ} {card after : CardWords} {left rest now further : Option (List ℕ)}
+      → (h : HasPlayed images certificates c script before number card left now)
+      → IsTurn images certificates number h.rest h.card after rest (before ++ h.written) further
+      → HasPlayed images certificates c script before (number + 1) after rest further
+  one_more {number = number} h t = record {
+    card = t.done.card;
+    holds = t.done.holds;
+    rest = t.rest;
+    left_is = t.left_is;
+    written = h.written ++ t.done.written;
+    now_is = t.done.now_is ∙ ap (λ (bs : List ℕ). Some bs) (append_assoc before h.written t.done.written);
+    leads = λ behind end p.
+        rw (append_assoc h.written t.done.written behind) (h.leads (t.done.written ++ behind) end
+        (rw t.lines (line number t.first (lines_of t.rest) h.card t.done.card t.done.written behind end t.done.played
+        (rw (add-one number) at p))));
+  }
+
+  pub at_end : {number : ℕ} {card : CardWords} {left now last : Option (List ℕ)} {end : ScriptEnd}
+      → (h : HasPlayed images certificates c script before number card left now)
+      → PlaysOn images certificates number h.rest h.card (before ++ h.written) last end
+      → PlaysOn images certificates 1 script c before last end
+  at_end {end = end} h p = record {
+    written = h.written ++ p.written;
+    plays = h.leads p.written end p.plays;
+    now_is = p.now_is ∙ ap (λ (bs : List ℕ). Some bs) (append_assoc before h.written p.written);
+  }
+
+-- ---- faults that are handed on
+
+pub same_self : (held : List ℕ → List ℕ → Type 0) → HoldSame held held
+same_self held = record { still = λ name bytes h. h; already = λ name bytes h. h }
+
+pub handed_end : (result : Result (Unit {0}) ScriptFault) (error : ScriptFault) (P : ScriptEnd → Type 0)
+    → IsErrAnd result (λ told. told ≡ error) → P (end_of_fault error) → P (end_of result)
+handed_end result error P is p =
+    let told = err_from_is_err_and result is in
+    rw (told.1, told.2) p

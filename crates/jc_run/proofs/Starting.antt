@@ -1,0 +1,39 @@
+-- A script on a new card.
+use Rattle.std.proofs.Common.{◌≡◌, ℕ, List, [], Option, Some, Bool, true, false, Result, Ok, Err, ◌↔◌, rules, refl, sym, ◌∙◌}
+use Rattle.jc_api.specs.Bound.{Bound}
+use Rattle.jc_card.specs.New.{are_limits, new_card}
+use Rattle.jc_card.specs.declared.fault.CardFault.{CardFault}
+use Rattle.jc_card.specs.declared.fault.CardFault.TheVariants as cards
+use Rattle.jc_card.specs.declared.limits.Limits.{Limits}
+use Rattle.jc_run.proofs.Ending.{none_more}
+use Rattle.jc_run.specs.End.{card_fault, end_of_fault}
+use Rattle.jc_run.specs.Performs.{HasRun, PlaysOn}
+use Rattle.jc_run.specs.Play.{ScriptEnd}
+use Rattle.jc_run.specs.Play.RunsTo.{no_card, played, unfit}
+
+-- where a card is made, or memory is out, its limits are such as it may have
+limits_fit : {A : Type 0} (fit : Bool) (result made : Result A CardFault) → (fit ≡ false → result ≡ Err cards.BadLimits)
+    → result ≡ made → (made ≡ Err cards.BadLimits → ⊥) → fit ≡ true
+limits_fit true result made told is other = refl
+limits_fit false result made told is other = absurd (other (sym is ∙ told refl))
+
+module _ (images certificates : List ℕ → List ℕ → Type 0) (limits : Limits) (binding : Bound)
+    (script before : List ℕ) (now : Option (List ℕ)) {A : Type 0} (result : Result A CardFault)
+    (told : (result ≡ Err cards.BadLimits) ↔ (are_limits limits ≡ false)) where
+  pub made_runs : (card : A) (end : ScriptEnd) → result ≡ Ok card
+      → PlaysOn images certificates 1 script (new_card limits binding) before now end
+      → HasRun images certificates limits binding script before now end
+  made_runs card end is p = record {
+    written = p.written;
+    runs = played p.written end (limits_fit (are_limits limits) result (Ok card) told.1 is (λ e. search rules)) p.plays;
+    now_is = p.now_is;
+  }
+
+  pub not_made : (fault : CardFault) → result ≡ Err fault → now ≡ Some before
+      → HasRun images certificates limits binding script before now (end_of_fault (card_fault fault))
+  not_made cards.BadLimits is known = record { written = []; runs = unfit (told.0 is); now_is = none_more known }
+  not_made cards.Memory is known = record {
+    written = [];
+    runs = no_card (limits_fit (are_limits limits) result (Err cards.Memory) told.1 is (λ e. search rules));
+    now_is = none_more known;
+  }

@@ -1,0 +1,51 @@
+use Rattle.std.proofs.Common.{arith, refl, ◌∙◌, ◌++◌}
+use Rattle.jc_run.proofs.Ending.{end_plays}
+use Rattle.jc_run.proofs.Playing.{at_end, begun, handed_end, one_more, plays_on_as, same_self, same_through, turn_as}
+use Rattle.jc_run.specs.Performs.{PlaysOn}
+use Rattle.jc_run.proofs.run.play.Goals as goal
+
+pub loop-number-init : goal.loop-number-init
+loop-number-init g c = (
+  omega arith,
+  refl,
+  same_self _,
+  same_self _,
+  λ t bytes before h is known.
+      begun _ _ t bytes before _ _ _ h (rw (c.new-lines.ensures.unread, is) refl) known,
+)
+
+pub loop-number-preserved : goal.loop-number-preserved
+loop-number-preserved g c =
+    let v = c.loop-number.invariant in
+    let p = c.in_ok-play_next.ensures in (
+      omega (arith, c.loop-number-test.true),
+      p.none_failed ∙ v.1,
+      same_through _ _ _ v.2 p.same_images,
+      same_through _ _ _ v.3 p.same_certificates,
+      λ t bytes before h is known.
+          let so_far = v.4 t bytes before h is known in
+          one_more _ _ t bytes before so_far (turn_as _ _ _ _ v.2 v.3 ((rw c.if-not-branch.false at p.done)
+          so_far.card so_far.rest (before ++ so_far.written) so_far.holds so_far.left_is so_far.now_is)),
+    )
+
+pub returns-then-not-branch-clause-played : goal.returns-then-not-branch-clause-played
+returns-then-not-branch-clause-played g c = λ t bytes before h is known.
+    let v = c.loop-number.invariant in
+    let so_far = v.4 t bytes before h is known in
+    at_end _ _ t bytes before so_far (plays_on_as _ _ _ _ v.2 v.3
+    ((rw c.if-not-branch.true at c.in_ok-play_next.ensures.done)
+    so_far.card so_far.rest (before ++ so_far.written) so_far.holds so_far.left_is so_far.now_is))
+
+pub returns-in_err-play_next-clause-played : goal.returns-in_err-play_next-clause-played
+returns-in_err-play_next-clause-played g c = λ t bytes before h is known.
+    let v = c.loop-number.invariant in
+    let so_far = v.4 t bytes before h is known in
+    handed_end _ _ (PlaysOn _ _ 1 bytes t before _) c.from_residual.ensures.1
+    (at_end _ _ t bytes before so_far (plays_on_as _ _ _ _ v.2 v.3 (c.in_err-play_next.ensures.ended
+    so_far.card so_far.rest (before ++ so_far.written) so_far.holds so_far.left_is so_far.now_is)))
+
+pub returns-clause-played : goal.returns-clause-played
+returns-clause-played g c = λ t bytes before h is known.
+    let so_far = c.loop-number.invariant.4 t bytes before h is known in
+    at_end _ _ t bytes before so_far (end_plays _ _ _ so_far.rest so_far.card _ _ _
+    (c.play_end.ensures.ended so_far.rest so_far.left_is) so_far.now_is)

@@ -1,0 +1,37 @@
+-- What commands and scripts do to a card on words, by what they come to on the card of the defensive machine.
+use Rattle.std.specs.Prelude.{⊤, ◌≡◌, ℕ, List, ◌++◌, Option, Some}
+use Rattle.jc_api.specs.Bound.{Bound}
+use Rattle.jc_card.specs.Card.{CardState}
+use Rattle.jc_card.specs.Reads.{CardWords, Holds}
+use Rattle.jc_card.specs.declared.limits.Limits.{Limits}
+use Rattle.jc_run.specs.Answer.{Answered}
+use Rattle.jc_run.specs.Play.{IsAnswered, Plays, RunsTo, ScriptEnd}
+use Rattle.jc_script.specs.Script.{Apdu, Install, Load, Reset, ScriptCommand, lines_of}
+
+-- it leaves words that hold the card which it leaves on the machine's card, and is answered as there
+pub record Answers (images certificates : List ℕ → List ℕ → Type 0) (c : CardState) (command : ScriptCommand)
+    (answer : Answered) (after : CardWords) : Type 0 where
+  pub card : CardState
+  pub answered : IsAnswered images certificates c command answer card
+  pub holds : Holds after card
+
+-- a load alone asks the source
+abbrev pub AsksSource : ScriptCommand → Type 0
+AsksSource (Load folder certificate) = ⊤
+AsksSource (Install applet instance incoming) = ⊥
+AsksSource (Apdu bytes) = ⊥
+AsksSource Reset = ⊥
+
+-- what was written behind what was there, and how it ended, is what these lines come to, of which the first has a number
+pub record PlaysOn (images certificates : List ℕ → List ℕ → Type 0) (number : ℕ) (bytes : List ℕ) (c : CardState)
+    (before : List ℕ) (now : Option (List ℕ)) (end : ScriptEnd) : Type 0 where
+  pub written : List ℕ
+  pub plays : Plays images certificates number (lines_of bytes) c written end
+  pub now_is : now ≡ Some (before ++ written)
+
+-- it is what a script comes to on a new card
+pub record HasRun (images certificates : List ℕ → List ℕ → Type 0) (limits : Limits) (binding : Bound)
+    (script before : List ℕ) (now : Option (List ℕ)) (end : ScriptEnd) : Type 0 where
+  pub written : List ℕ
+  pub runs : RunsTo images certificates limits binding script written end
+  pub now_is : now ≡ Some (before ++ written)

@@ -1,0 +1,104 @@
+-- Private. The parts of playing a script.
+use Rattle.std.specs.Prelude.{⊤, ◌≡◌, ℕ, Bool, true, false, List, [], ◌∷◌, ◌++◌, Option, Some, None, Result}
+use Rattle.jc_base.specs.declared.fault.LoadFault.{LoadFault}
+use Rattle.jc_card.specs.Card.{CardState}
+use Rattle.jc_card.specs.Load.{IsLoad}
+use Rattle.jc_card.specs.Reads.{CardWords, Holds}
+use Rattle.jc_run.specs.Answer.{Answered}
+use Rattle.jc_run.specs.Play.{BadLimits, BadLine, EndsAt, IsLinePlayed, IsPart, NoMemory, NotRead, NotWritten, Over, Plays, ScriptEnd, SourceFailed, load_answer}
+use Rattle.jc_run.specs.Performs.{PlaysOn}
+use Rattle.jc_script.specs.Reading.{BeginsBad, TakesLine}
+use Rattle.jc_script.specs.Script.{ScriptLine, line_at, lines_of}
+
+-- known bytes grow by the first of some
+pub record GrowsByPart (before after whole : List ℕ) : Type 0 where
+  pub bytes : List ℕ
+  pub part : IsPart bytes whole
+  pub after_is : after ≡ before ++ bytes
+
+abbrev pub AppendsPart : Option (List ℕ) → Option (List ℕ) → List ℕ → Type 0
+AppendsPart None after whole = ⊤
+AppendsPart (Some before) None whole = ⊥
+AppendsPart (Some before) (Some after) whole = GrowsByPart before after whole
+
+-- a load leaves a card that holds what it leaves on the defensive machine's card, and is answered as there
+pub record LoadsAs (c : CardState) (image certificate : List ℕ) (answer : Answered) (after : CardWords) : Type 0 where
+  pub card : CardState
+  pub result : Result ℕ LoadFault
+  pub load : IsLoad c image certificate result card
+  pub answer_is : answer ≡ load_answer result
+  pub holds : Holds after card
+
+-- a line is done
+pub record IsLineDone (images certificates : List ℕ → List ℕ → Type 0) (c : CardState) (said : ScriptLine)
+    (after : CardWords) (before : List ℕ) (now : Option (List ℕ)) : Type 0 where
+  pub card : CardState
+  pub written : List ℕ
+  pub played : IsLinePlayed images certificates c said written card
+  pub holds : Holds after card
+  pub now_is : now ≡ Some (before ++ written)
+
+-- a line ends the script
+pub record IsLineEnd (images certificates : List ℕ → List ℕ → Type 0) (c : CardState) (number : ℕ) (said : ScriptLine)
+    (before : List ℕ) (now : Option (List ℕ)) (end : ScriptEnd) : Type 0 where
+  pub written : List ℕ
+  pub ends : EndsAt images certificates c number said written end
+  pub now_is : now ≡ Some (before ++ written)
+
+-- what is read: a line was taken off, or none is left
+pub record IsTaken (number : ℕ) (line bytes : List ℕ) (left : Option (List ℕ)) : Type 0 where
+  pub rest : List ℕ
+  pub left_is : left ≡ Some rest
+  pub takes : TakesLine number line bytes rest
+
+abbrev pub IsRead : ℕ → List ℕ → List ℕ → Option (List ℕ) → Bool → Type 0
+IsRead number line bytes left true = IsTaken number line bytes left
+IsRead number line bytes left false = lines_of bytes ≡ []
+
+-- nothing is read: the first line is bad, or the reader fails
+abbrev pub IsUnread : ℕ → List ℕ → ScriptEnd → Type 0
+IsUnread number bytes Over = ⊥
+IsUnread number bytes (BadLine bad) = (bad ≡ number) × BeginsBad number (lines_of bytes)
+IsUnread number bytes (SourceFailed bad) = ⊥
+IsUnread number bytes NotRead = ⊤
+IsUnread number bytes NotWritten = ⊥
+IsUnread number bytes NoMemory = ⊥
+IsUnread number bytes BadLimits = ⊥
+
+-- or none is left
+abbrev pub IsEnd : ℕ → List ℕ → ScriptEnd → Type 0
+IsEnd number bytes Over = lines_of bytes ≡ []
+IsEnd number bytes (BadLine bad) = (bad ≡ number) × BeginsBad number (lines_of bytes)
+IsEnd number bytes (SourceFailed bad) = ⊥
+IsEnd number bytes NotRead = ⊤
+IsEnd number bytes NotWritten = ⊥
+IsEnd number bytes NoMemory = ⊥
+IsEnd number bytes BadLimits = ⊥
+
+-- a line was read and is done
+pub record IsTurn (images certificates : List ℕ → List ℕ → Type 0) (number : ℕ) (bytes : List ℕ) (c : CardState)
+    (after : CardWords) (left : Option (List ℕ)) (before : List ℕ) (now : Option (List ℕ)) : Type 0 where
+  pub first : List ℕ
+  pub rest : List ℕ
+  pub left_is : left ≡ Some rest
+  pub lines : lines_of bytes ≡ first ∷ lines_of rest
+  pub done : IsLineDone images certificates c (line_at number first) after before now
+
+abbrev pub Turns : (images certificates : List ℕ → List ℕ → Type 0) → ℕ → List ℕ → CardState → CardWords
+    → Option (List ℕ) → List ℕ → Option (List ℕ) → Bool → Type 0
+Turns images certificates number bytes c after left before now true =
+    IsTurn images certificates number bytes c after left before now
+Turns images certificates number bytes c after left before now false =
+    PlaysOn images certificates number bytes c before now Over
+
+-- lines are done: whatever those that are left come to, all of them come to that behind what is written
+pub record HasPlayed (images certificates : List ℕ → List ℕ → Type 0) (c : CardState) (script before : List ℕ)
+    (number : ℕ) (after : CardWords) (left now : Option (List ℕ)) : Type 0 where
+  pub card : CardState
+  pub holds : Holds after card
+  pub rest : List ℕ
+  pub left_is : left ≡ Some rest
+  pub written : List ℕ
+  pub now_is : now ≡ Some (before ++ written)
+  pub leads : (behind : List ℕ) (end : ScriptEnd) → Plays images certificates number (lines_of rest) card behind end
+      → Plays images certificates 1 (lines_of script) c (written ++ behind) end

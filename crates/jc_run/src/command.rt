@@ -1,0 +1,113 @@
+//! One command on a card.
+
+ghost use Rattle.std.specs.Prelude.{◌≡◌, ◌+◌, ◌<◌, ◌^◌, IfOk, IfErr};
+ghost use Rattle.jc_card.specs.Card.{CardState};
+ghost use Rattle.jc_card.specs.Commands.{apdu_command};
+ghost use Rattle.jc_card.specs.Install.{install_command};
+ghost use Rattle.jc_card.specs.Reads.{Does, Holds};
+ghost use Rattle.jc_packages.specs.Source.{HoldSame, failures_in};
+ghost use Rattle.jc_run.specs.Answer.{Responds, shown};
+ghost use Rattle.jc_run.specs.Play.{install_answer};
+ghost use Rattle.jc_run.specs.Performs.{Answers, AsksSource};
+ghost use Rattle.jc_run.specs.PrivatePlay.{LoadsAs};
+ghost use Rattle.jc_script.specs.Shown.{shown_command};
+
+use crate::answer::CommandAnswer;
+use jc_base::Aid;
+use jc_card::Card;
+use jc_packages::{PackageSource, SourceFault};
+use jc_script::ScriptCommand;
+use std::alloc::Global;
+
+/// The image of a package, and the bytes of its certificate.
+#[derive(Drop)]
+struct PackageFiles {
+    image: Vec<u8>,
+    certificate: Vec<u8>,
+}
+
+/// The image is asked for first.
+fn files_of<S: PackageSource>(
+    alloc: Global,
+    source: &mut S,
+    folder: &str,
+    certificate: &str,
+) -> Result<PackageFiles, SourceFault>
+    requires { S.failed source.old < 2 ^ 31 }
+    ensures image { IfOk result (λ files. S.holds_image source.old folder.now files.image.items) }
+    ensures certificate { IfOk result (λ files. S.holds_certificate source.old certificate.now files.certificate.items) }
+    ensures counted { S.failed source.new ≡ S.failed source.old + failures_in result }
+    ensures same_images { HoldSame (S.holds_image source.old) (S.holds_image source.new) }
+    ensures same_certificates { HoldSame (S.holds_certificate source.old) (S.holds_certificate source.new) }
+{
+    let image = source.image(alloc, folder)?;
+    let certificate = source.certificate(alloc, certificate)?;
+    Ok(PackageFiles { image, certificate })
+}
+
+/// Loads a package.
+fn load(card: &mut Card, alloc: Global, files: &PackageFiles) -> CommandAnswer
+    ensures { (c : CardState) → Holds card.old c
+        → LoadsAs c files.now.image.items files.now.certificate.items (shown result) card.new }
+{
+    match card.load(alloc, &files.image, &files.certificate) {
+        Ok(number) => CommandAnswer::Loaded(number),
+        Err(fault) => CommandAnswer::NotLoaded(fault),
+    }
+}
+
+/// Installs an applet.
+fn install(card: &mut Card, applet: &Aid, instance: &Aid, incoming: &[u8]) -> CommandAnswer
+    ensures { Does card.old card.new (λ outcome. shown result ≡ install_answer outcome)
+        (λ c. install_command c applet.now instance.now incoming.now) }
+{
+    match card.install(applet, instance, incoming) {
+        Ok(number) => CommandAnswer::Installed(number),
+        Err(fault) => CommandAnswer::NotInstalled(fault),
+    }
+}
+
+/// Answers a command of a reader.
+fn respond(card: &mut Card, bytes: &[u8]) -> CommandAnswer
+    ensures { Does card.old card.new (λ response. shown result ≡ Responds response) (λ c. apdu_command c bytes.now) }
+{
+    CommandAnswer::Responds(card.apdu(bytes))
+}
+
+/// Does a command on a card. Only a load can fail, and only for what the source says. It asks for the image before the
+/// certificate, and for both before anything is loaded.
+pub fn perform<S: PackageSource>(
+    card: &mut Card,
+    alloc: Global,
+    source: &mut S,
+    command: &ScriptCommand<'_>,
+) -> Result<CommandAnswer, SourceFault>
+    requires { S.failed source.old < 2 ^ 31 }
+    ensures done { IfOk result (λ answer. (c : CardState) → Holds card.old c
+        → Answers (S.holds_image source.old) (S.holds_certificate source.old) c (shown_command command.now)
+        (shown answer) card.new) }
+    ensures failed { IfErr result (λ fault. AsksSource (shown_command command.now)) }
+    ensures counted { S.failed source.new ≡ S.failed source.old + failures_in result }
+    ensures same_images { HoldSame (S.holds_image source.old) (S.holds_image source.new) }
+    ensures same_certificates { HoldSame (S.holds_certificate source.old) (S.holds_certificate source.new) }
+{
+    match command {
+        ScriptCommand::Load {
+            folder,
+            certificate,
+        } => {
+            let files = files_of(alloc, source, folder, certificate)?;
+            Ok(load(card, alloc, &files))
+        }
+        ScriptCommand::Install {
+            applet,
+            instance,
+            incoming,
+        } => Ok(install(card, applet, instance, incoming.as_slice())),
+        ScriptCommand::Apdu(bytes) => Ok(respond(card, bytes.as_slice())),
+        ScriptCommand::Reset => {
+            card.reset();
+            Ok(CommandAnswer::Reset)
+        }
+    }
+}

@@ -1,0 +1,56 @@
+//! Why a script ends before its last line.
+
+ghost use Rattle.std.specs.Prelude.{◌≡◌};
+
+use jc_card::CardFault;
+use jc_script::ReadFault;
+use std::io;
+use thiserror::Error;
+
+/// Why a script ends before its last line.
+#[derive(Debug, Drop, Error)]
+pub enum ScriptFault {
+    /// The line with this number, from 1 on, is no command. It says something else, is too long, or is one too many.
+    #[error("line {0} is no command")]
+    BadLine(u32),
+    /// A package or a certificate that the line with this number names can't be read.
+    #[error("line {0}: the package or its certificate can't be read")]
+    Source(u32),
+    /// The script can't be read.
+    #[error("the script can't be read: {0}")]
+    Read(ReadFault),
+    /// An answer can't be written.
+    #[error("an answer can't be written: {0}")]
+    Write(io::Error),
+    /// One of the card's limits is too small or too large.
+    #[error("the limits are too small or too large")]
+    BadLimits,
+    /// No memory was left for the card, or for what a line names.
+    #[error("out of memory")]
+    Memory,
+}
+
+/// Why there is no card.
+impl From<CardFault> for ScriptFault {
+    ghost use Rattle.jc_run.specs.End.{card_fault};
+
+    ghost from_gives = { λ why fault. fault ≡ card_fault why };
+
+    fn from(fault: CardFault) -> ScriptFault {
+        match fault {
+            CardFault::BadLimits => ScriptFault::BadLimits,
+            CardFault::Memory => ScriptFault::Memory,
+        }
+    }
+}
+
+/// Why the script isn't read.
+impl From<ReadFault> for ScriptFault {
+    ghost use Rattle.jc_run.specs.declared.fault.ScriptFault.TheVariants.{Read};
+
+    ghost from_gives = { λ why fault. fault ≡ Read why };
+
+    fn from(fault: ReadFault) -> ScriptFault {
+        ScriptFault::Read(fault)
+    }
+}

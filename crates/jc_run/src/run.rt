@@ -1,0 +1,207 @@
+//! Scripts, line by line.
+
+ghost use Rattle.std.specs.Prelude.{◌≡◌, ◌+◌, ◌<◌, ◌≤◌, ◌^◌, ℕ, List, Some, IfOk, IfErr, OnOk};
+ghost use Rattle.jc_card.specs.Card.{CardState};
+ghost use Rattle.jc_card.specs.Reads.{Holds};
+ghost use Rattle.jc_packages.specs.Source.{HoldSame};
+ghost use Rattle.jc_run.specs.End.{end_of, end_of_fault};
+ghost use Rattle.jc_run.specs.Performs.{HasRun, PlaysOn};
+ghost use Rattle.jc_run.specs.Play.{failures_at};
+ghost use Rattle.jc_run.specs.PrivatePlay.{IsLineDone, IsEnd, IsLineEnd, IsRead, IsUnread, Turns};
+ghost use Rattle.jc_script.specs.Reading.{pending};
+ghost use Rattle.jc_script.specs.Script as script;
+ghost use Rattle.jc_script.specs.Shown.{shown_command};
+
+use crate::command::perform;
+use crate::fault::ScriptFault;
+use crate::writing::write_answer;
+use jc_api::Binding;
+use jc_card::{Card, Limits};
+use jc_packages::{PackageSource, SourceFault};
+use jc_script::{MOST_LINES, NextLine, ScriptCommand, ScriptLine, ScriptReader, said_by};
+use std::alloc::Global;
+use std::io::{Read, Write};
+
+/// Does the command of the line with a number, and writes its answer.
+fn play_command<W: Write, S: PackageSource>(
+    alloc: Global,
+    writer: &mut W,
+    source: &mut S,
+    card: &mut Card,
+    command: &ScriptCommand<'_>,
+    number: u32,
+) -> Result<(), ScriptFault>
+    requires { S.failed source.old < 2 ^ 31 }
+    ensures done { OnOk result ((c : CardState) (before : List ℕ) → Holds card.old c
+        → W.contents writer.old ≡ Some before
+        → IsLineDone (S.holds_image source.old) (S.holds_certificate source.old) c
+        (script.Asks (shown_command command.now)) card.new before (W.contents writer.new)) }
+    ensures ended { IfErr result (λ fault. (c : CardState) (before : List ℕ) → Holds card.old c
+        → W.contents writer.old ≡ Some before
+        → IsLineEnd (S.holds_image source.old) (S.holds_certificate source.old) c number
+        (script.Asks (shown_command command.now)) before (W.contents writer.new) (end_of_fault fault)) }
+    ensures counted { S.failed source.new ≡ S.failed source.old + failures_at (end_of result) }
+    ensures same_images { HoldSame (S.holds_image source.old) (S.holds_image source.new) }
+    ensures same_certificates { HoldSame (S.holds_certificate source.old) (S.holds_certificate source.new) }
+{
+    let answer = match perform(card, alloc, source, command) {
+        Ok(answer) => answer,
+        Err(SourceFault::Failed) => return Err(ScriptFault::Source(number)),
+        Err(SourceFault::Memory) => return Err(ScriptFault::Memory),
+    };
+    match write_answer(writer, &answer) {
+        Ok(()) => Ok(()),
+        Err(error) => Err(ScriptFault::Write(error)),
+    }
+}
+
+/// Does what the line with a number says.
+fn play_line<W: Write, S: PackageSource>(
+    alloc: Global,
+    writer: &mut W,
+    source: &mut S,
+    card: &mut Card,
+    line: &[u8],
+    number: u32,
+) -> Result<(), ScriptFault>
+    requires { S.failed source.old < 2 ^ 31 }
+    ensures done { OnOk result ((c : CardState) (before : List ℕ) → Holds card.old c
+        → W.contents writer.old ≡ Some before
+        → IsLineDone (S.holds_image source.old) (S.holds_certificate source.old) c
+        (script.said_by line.now) card.new before (W.contents writer.new)) }
+    ensures ended { IfErr result (λ fault. (c : CardState) (before : List ℕ) → Holds card.old c
+        → W.contents writer.old ≡ Some before
+        → IsLineEnd (S.holds_image source.old) (S.holds_certificate source.old) c number
+        (script.said_by line.now) before (W.contents writer.new) (end_of_fault fault)) }
+    ensures counted { S.failed source.new ≡ S.failed source.old + failures_at (end_of result) }
+    ensures same_images { HoldSame (S.holds_image source.old) (S.holds_image source.new) }
+    ensures same_certificates { HoldSame (S.holds_certificate source.old) (S.holds_certificate source.new) }
+{
+    match said_by(line) {
+        ScriptLine::Skipped => Ok(()),
+        ScriptLine::Asks(command) => play_command(alloc, writer, source, card, &command, number),
+        ScriptLine::Bad => Err(ScriptFault::BadLine(number)),
+    }
+}
+
+/// Reads the line with a number, and says whether there is one.
+fn read_line<R: Read>(
+    reader: &mut R,
+    lines: &mut ScriptReader,
+    number: u32,
+) -> Result<bool, ScriptFault>
+    ensures read { IfOk result (λ is_line. (bytes : List ℕ)
+        → pending lines.old.unread (R.remaining reader.old) ≡ Some bytes
+        → IsRead number lines.new.line bytes (pending lines.new.unread (R.remaining reader.new)) is_line) }
+    ensures unread { IfErr result (λ fault. (bytes : List ℕ)
+        → pending lines.old.unread (R.remaining reader.old) ≡ Some bytes
+        → IsUnread number bytes (end_of_fault fault)) }
+    ensures counted { IfErr result (λ fault. failures_at (end_of_fault fault) ≡ 0) }
+{
+    match lines.next(reader, number)? {
+        NextLine::Line => Ok(true),
+        NextLine::End => Ok(false),
+        NextLine::Bad => Err(ScriptFault::BadLine(number)),
+    }
+}
+
+/// Reads the line with a number and does what it says. Says whether there is one.
+fn play_next<R: Read, W: Write, S: PackageSource>(
+    alloc: Global,
+    reader: &mut R,
+    writer: &mut W,
+    source: &mut S,
+    card: &mut Card,
+    lines: &mut ScriptReader,
+    number: u32,
+) -> Result<bool, ScriptFault>
+    requires { S.failed source.old < 2 ^ 31 }
+    ensures done { IfOk result (λ is_line. (c : CardState) (bytes before : List ℕ) → Holds card.old c
+        → pending lines.old.unread (R.remaining reader.old) ≡ Some bytes → W.contents writer.old ≡ Some before
+        → Turns (S.holds_image source.old) (S.holds_certificate source.old) number bytes c card.new
+        (pending lines.new.unread (R.remaining reader.new)) before (W.contents writer.new) is_line) }
+    ensures ended { IfErr result (λ fault. (c : CardState) (bytes before : List ℕ) → Holds card.old c
+        → pending lines.old.unread (R.remaining reader.old) ≡ Some bytes → W.contents writer.old ≡ Some before
+        → PlaysOn (S.holds_image source.old) (S.holds_certificate source.old) number bytes c before
+        (W.contents writer.new) (end_of_fault fault)) }
+    ensures none_failed { IfOk result (λ is_line. S.failed source.new ≡ S.failed source.old) }
+    ensures counted { IfErr result (λ fault.
+        S.failed source.new ≡ S.failed source.old + failures_at (end_of_fault fault)) }
+    ensures same_images { HoldSame (S.holds_image source.old) (S.holds_image source.new) }
+    ensures same_certificates { HoldSame (S.holds_certificate source.old) (S.holds_certificate source.new) }
+{
+    if !read_line(reader, lines, number)? {
+        return Ok(false);
+    }
+    play_line(alloc, writer, source, card, lines.line(), number)?;
+    Ok(true)
+}
+
+/// What comes behind the last line that a script may have: nothing, or a bad line.
+fn play_end<R: Read>(
+    reader: &mut R,
+    lines: &mut ScriptReader,
+    number: u32,
+) -> Result<(), ScriptFault>
+    requires { 100000 < number }
+    ensures ended { (bytes : List ℕ) → pending lines.old.unread (R.remaining reader.old) ≡ Some bytes
+        → IsEnd number bytes (end_of result) }
+    ensures counted { failures_at (end_of result) ≡ 0 }
+{
+    if read_line(reader, lines, number)? {
+        Err(ScriptFault::BadLine(number))
+    } else {
+        Ok(())
+    }
+}
+
+/// Plays a script on a card. A line is read when the answer to the one before it is written and flushed. Each answer
+/// stands in a line of its own. A fault leaves the lines before it written, and a fault of the writer a part of the line
+/// that couldn't be written.
+pub fn play<R: Read, W: Write, S: PackageSource>(
+    alloc: Global,
+    reader: &mut R,
+    writer: &mut W,
+    source: &mut S,
+    card: &mut Card,
+) -> Result<(), ScriptFault>
+    requires { S.failed source.old < 2 ^ 31 }
+    ensures played { (c : CardState) (bytes before : List ℕ) → Holds card.old c
+        → R.remaining reader.old ≡ Some bytes → W.contents writer.old ≡ Some before
+        → PlaysOn (S.holds_image source.old) (S.holds_certificate source.old) 1 bytes c before
+        (W.contents writer.new) (end_of result) }
+    ensures counted { S.failed source.new ≡ S.failed source.old + failures_at (end_of result) }
+    ensures same_images { HoldSame (S.holds_image source.old) (S.holds_image source.new) }
+    ensures same_certificates { HoldSame (S.holds_certificate source.old) (S.holds_certificate source.new) }
+{
+    let mut lines = ScriptReader::new();
+    let mut number = 1;
+    while number <= MOST_LINES {
+        if !play_next(alloc, reader, writer, source, card, &mut lines, number)? {
+            return Ok(());
+        }
+        number += 1;
+    }
+    play_end(reader, &mut lines, number)
+}
+
+/// Plays a script on a new card, without packages beside the API's, whose AIDs and tokens a binding says, within limits.
+pub fn run_script<R: Read, W: Write, S: PackageSource>(
+    alloc: Global,
+    reader: &mut R,
+    writer: &mut W,
+    source: &mut S,
+    limits: Limits,
+    binding: &Binding,
+) -> Result<(), ScriptFault>
+    requires { S.failed source.old < 2 ^ 31 }
+    ensures run { (bytes before : List ℕ) → R.remaining reader.old ≡ Some bytes → W.contents writer.old ≡ Some before
+        → HasRun (S.holds_image source.old) (S.holds_certificate source.old) limits binding.now bytes before
+        (W.contents writer.new) (end_of result) }
+    ensures counted { S.failed source.new ≡ S.failed source.old + failures_at (end_of result) }
+    ensures same_images { HoldSame (S.holds_image source.old) (S.holds_image source.new) }
+    ensures same_certificates { HoldSame (S.holds_certificate source.old) (S.holds_certificate source.new) }
+{
+    let mut card = Card::new(alloc, limits, binding)?;
+    play(alloc, reader, writer, source, &mut card)
+}

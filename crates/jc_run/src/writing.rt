@@ -1,0 +1,77 @@
+//! The lines of answers, as they are written.
+
+ghost use Rattle.std.specs.Prelude.{◌≡◌, ◌≤◌, length, take, IfOk, OnOk, OnErr};
+ghost use Rattle.std.specs.Io.KnownBytes.{Appends, Keeps};
+ghost use Rattle.jc_run.specs.Answer.{shown};
+ghost use Rattle.jc_run.specs.Play.{answer_line};
+ghost use Rattle.jc_run.specs.PrivatePlay.{AppendsPart};
+
+use crate::answer::CommandAnswer;
+use arrayvec::ArrayVec;
+use std::io::{self, Write};
+
+/// The most bytes of an answer's line: two digits for each of 256 bytes, and what stands around them.
+const MOST_IN_ANSWER: usize = 526;
+
+/// The most calls of a writer for one line.
+const MOST_CALLS: u32 = 16_777_216;
+
+/// Writes the first of these bytes: how many. A call that was broken off wrote none.
+fn write_some<W: Write>(writer: &mut W, bytes: &[u8]) -> io::Result<usize>
+    ensures few { IfOk result (λ count. count ≤ length bytes.now) }
+    ensures written { IfOk result (λ count. Appends (W.contents writer.old) (W.contents writer.new)
+        (take count bytes.now)) }
+    ensures kept { OnErr result (Keeps (W.contents writer.old) (W.contents writer.new)) }
+{
+    match writer.write(bytes) {
+        Ok(0) => Err(io::Error::from(io::ErrorKind::WriteZero)),
+        Ok(count) => Ok(count),
+        Err(error) if error.kind() == io::ErrorKind::Interrupted => Ok(0),
+        Err(error) => Err(error),
+    }
+}
+
+/// Writes these bytes, or the first of them.
+fn write_whole<W: Write>(writer: &mut W, bytes: &[u8]) -> io::Result<()>
+    ensures written { OnOk result (Appends (W.contents writer.old) (W.contents writer.new) bytes.now) }
+    ensures part { OnErr result (AppendsPart (W.contents writer.old) (W.contents writer.new) bytes.now) }
+{
+    let mut done = 0;
+    for _ in 0..MOST_CALLS {
+        if done == bytes.len() {
+            return Ok(());
+        }
+        done += write_some(writer, &bytes[done..])?;
+    }
+    Err(io::Error::from(io::ErrorKind::Interrupted))
+}
+
+/// Writes these bytes, or the first of them, and no byte waits behind them.
+fn write_through<W: Write>(writer: &mut W, bytes: &[u8]) -> io::Result<()>
+    ensures written { OnOk result (Appends (W.contents writer.old) (W.contents writer.new) bytes.now) }
+    ensures part { OnErr result (AppendsPart (W.contents writer.old) (W.contents writer.new) bytes.now) }
+{
+    write_whole(writer, bytes)?;
+    writer.flush()
+}
+
+/// The line of an answer, with its line feed.
+fn line_of(answer: &CommandAnswer) -> io::Result<ArrayVec<u8, MOST_IN_ANSWER>>
+    ensures { IfOk result (λ line. line.items ≡ answer_line (shown answer.now)) }
+{
+    let mut line = ArrayVec::new();
+    writeln!(line, "{answer}")?;
+    Ok(line)
+}
+
+/// Writes the line of an answer whole, with its line feed, and flushes the writer. Where that fails the first bytes of
+/// the line may be written.
+pub(crate) fn write_answer<W: Write>(writer: &mut W, answer: &CommandAnswer) -> io::Result<()>
+    ensures written { OnOk result (Appends (W.contents writer.old) (W.contents writer.new)
+        (answer_line (shown answer.now))) }
+    ensures part { OnErr result (AppendsPart (W.contents writer.old) (W.contents writer.new)
+        (answer_line (shown answer.now))) }
+{
+    let line = line_of(answer)?;
+    write_through(writer, line.as_slice())
+}

@@ -13,6 +13,7 @@
     statics 1 4                             references in the static image, and other bytes behind them
     entry NAME: KIND WHAT TOKEN TYPE        of the constant pool; code goes by its name. `entry A` is the class A
     export NAME
+    applet AID METHOD                       an applet and its install method
 
 KIND is class, field, virtual, super, static field or static method. WHAT is a class, for a static field its offset and
 for a static method its name, or for both a class of another package and a token. An entry states a type where one
@@ -59,6 +60,7 @@ class Reader:
             'table': self.table, 'package table': self.package_table, 'field': self.field,
             'static field': self.static_field, 'method': self.method, 'static method': self.static_method,
             'statics': self.statics, 'entry': self.entry, 'export': self.export,
+            'applet': self.applet,
         }
 
     def read(self, line):
@@ -137,6 +139,10 @@ class Reader:
 
     def export(self, name):
         self.package.exports.append((name, [], []))
+
+    def applet(self, text):
+        aid, method = text.split()
+        self.package.applets.append((bytes.fromhex(aid), method))
 
     # ---- the constant pool
 

@@ -1,5 +1,5 @@
--- Where packages and certificates are read: what is held there, and how many readings failed.
-use Rattle.std.specs.Prelude.{ℕ, List, Result, Ok, Err}
+-- Where packages and certificates are read: what is held there, how many readings failed, and what is asked.
+use Rattle.std.specs.Prelude.{⊤, ◌≡◌, ℕ, List, ◌++◌, Option, Some, None, Result, Ok, Err}
 use Rattle.jc_packages.specs.declared.source.SourceFault.{SourceFault}
 use Rattle.jc_packages.specs.declared.source.SourceFault.TheVariants.{Failed, Memory}
 
@@ -17,3 +17,14 @@ failures_in (Err fault) = failures_of fault
 pub record HoldSame (before after : List ℕ → List ℕ → Type 0) : Type 0 where
   pub still : (name bytes : List ℕ) → before name bytes → after name bytes
   pub already : (name bytes : List ℕ) → after name bytes → before name bytes
+
+-- what a source is asked for, by its name
+pub data Asked : Type 0 where
+  Image : (name : List ℕ) → Asked
+  Certificate : (name : List ℕ) → Asked
+
+-- it was asked for these one after the other, behind what it was asked before, where that is known
+abbrev pub Asks : Option (List Asked) → Option (List Asked) → List Asked → Type 0
+Asks None after asked = ⊤
+Asks (Some before) None asked = ⊥
+Asks (Some before) (Some after) asked = after ≡ before ++ asked

@@ -1,7 +1,7 @@
 //! Where packages and certificates are read.
 
-ghost use Rattle.std.specs.Prelude.{◌≡◌, ◌+◌, ◌<◌, ◌^◌, ℕ, List, IfOk};
-ghost use Rattle.jc_packages.specs.Source.{HoldSame, failures_in};
+ghost use Rattle.std.specs.Prelude.{◌≡◌, ◌+◌, ◌<◌, ◌^◌, ℕ, List, [], ◌∷◌, Option, None, IfOk};
+ghost use Rattle.jc_packages.specs.Source.{Asked, Asks, Certificate, HoldSame, Image, failures_in};
 
 use std::alloc::Global;
 
@@ -25,10 +25,14 @@ pub trait PackageSource {
     // A certificate is these bytes, under a name.
     ghost holds_certificate: { Self → List ℕ → List ℕ → Type 0 };
 
+    // What it was asked for, in order, where it tells.
+    ghost asked: { Self → Option (List Asked) } = { λ _. None };
+
     /// The image of a package.
     fn image(&mut self, alloc: Global, name: &str) -> Result<Vec<u8>, SourceFault>
         requires { failed self.now < 2 ^ 31 }
         ensures counted { failed self.new ≡ failed self.old + failures_in result }
+        ensures asks { Asks (asked self.old) (asked self.new) (Image name.now ∷ []) }
         ensures held { IfOk result (λ image. holds_image self.old name.now image.items) }
         ensures same_images { HoldSame (holds_image self.old) (holds_image self.new) }
         ensures same_certificates { HoldSame (holds_certificate self.old) (holds_certificate self.new) };
@@ -37,6 +41,7 @@ pub trait PackageSource {
     fn certificate(&mut self, alloc: Global, name: &str) -> Result<Vec<u8>, SourceFault>
         requires { failed self.now < 2 ^ 31 }
         ensures counted { failed self.new ≡ failed self.old + failures_in result }
+        ensures asks { Asks (asked self.old) (asked self.new) (Certificate name.now ∷ []) }
         ensures held { IfOk result (λ certificate. holds_certificate self.old name.now certificate.items) }
         ensures same_images { HoldSame (holds_image self.old) (holds_image self.new) }
         ensures same_certificates { HoldSame (holds_certificate self.old) (holds_certificate self.new) };

@@ -1,9 +1,10 @@
 -- What commands and scripts do to a card on words, by what they come to on the card of the defensive machine.
-use Rattle.std.specs.Prelude.{⊤, ◌≡◌, ℕ, List, ◌++◌, Option, Some}
+use Rattle.std.specs.Prelude.{⊤, ◌≡◌, ℕ, List, [], ◌∷◌, ◌++◌, Option, Some}
 use Rattle.jc_api.specs.Bound.{Bound}
 use Rattle.jc_card.specs.Card.{CardState}
 use Rattle.jc_card.specs.Reads.{CardWords, Holds}
 use Rattle.jc_card.specs.declared.limits.Limits.{Limits}
+use Rattle.jc_packages.specs.Source.{Asked, Certificate, Image}
 use Rattle.jc_run.specs.Answer.{Answered}
 use Rattle.jc_run.specs.Play.{IsAnswered, Plays, RunsTo, ScriptEnd}
 use Rattle.jc_script.specs.Script.{Apdu, Install, Load, Reset, ScriptCommand, lines_of}
@@ -21,6 +22,13 @@ AsksSource (Load folder certificate) = ⊤
 AsksSource (Install applet instance incoming) = ⊥
 AsksSource (Apdu bytes) = ⊥
 AsksSource Reset = ⊥
+
+-- and for this, in this order
+abbrev pub asked_by : ScriptCommand → List Asked
+asked_by (Load folder certificate) = Image folder ∷ Certificate certificate ∷ []
+asked_by (Install applet instance incoming) = []
+asked_by (Apdu bytes) = []
+asked_by Reset = []
 
 -- what was written behind what was there, and how it ended, is what these lines come to, of which the first has a number
 pub record PlaysOn (images certificates : List ℕ → List ℕ → Type 0) (number : ℕ) (bytes : List ℕ) (c : CardState)

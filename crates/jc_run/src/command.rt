@@ -1,14 +1,14 @@
 //! One command on a card.
 
-ghost use Rattle.std.specs.Prelude.{◌≡◌, ◌+◌, ◌<◌, ◌^◌, IfOk, IfErr};
+ghost use Rattle.std.specs.Prelude.{◌≡◌, ◌+◌, ◌<◌, ◌^◌, ◌∷◌, [], IfOk, IfErr, OnOk};
 ghost use Rattle.jc_card.specs.Card.{CardState};
 ghost use Rattle.jc_card.specs.Commands.{apdu_command};
 ghost use Rattle.jc_card.specs.Install.{install_command};
 ghost use Rattle.jc_card.specs.Reads.{Does, Holds};
-ghost use Rattle.jc_packages.specs.Source.{HoldSame, failures_in};
+ghost use Rattle.jc_packages.specs.Source.{Asks, Certificate, HoldSame, Image, failures_in};
 ghost use Rattle.jc_run.specs.Answer.{Responds, shown};
 ghost use Rattle.jc_run.specs.Play.{install_answer};
-ghost use Rattle.jc_run.specs.Performs.{Answers, AsksSource};
+ghost use Rattle.jc_run.specs.Performs.{Answers, AsksSource, asked_by};
 ghost use Rattle.jc_run.specs.PrivatePlay.{LoadsAs};
 ghost use Rattle.jc_script.specs.Shown.{shown_command};
 
@@ -36,6 +36,8 @@ fn files_of<S: PackageSource>(
     requires { S.failed source.old < 2 ^ 31 }
     ensures image { IfOk result (λ files. S.holds_image source.old folder.now files.image.items) }
     ensures certificate { IfOk result (λ files. S.holds_certificate source.old certificate.now files.certificate.items) }
+    ensures asks { OnOk result (Asks (S.asked source.old) (S.asked source.new)
+        (Image folder.now ∷ Certificate certificate.now ∷ [])) }
     ensures counted { S.failed source.new ≡ S.failed source.old + failures_in result }
     ensures same_images { HoldSame (S.holds_image source.old) (S.holds_image source.new) }
     ensures same_certificates { HoldSame (S.holds_certificate source.old) (S.holds_certificate source.new) }
@@ -87,6 +89,7 @@ pub fn perform<S: PackageSource>(
         → Answers (S.holds_image source.old) (S.holds_certificate source.old) c (shown_command command.now)
         (shown answer) card.new) }
     ensures failed { IfErr result (λ fault. AsksSource (shown_command command.now)) }
+    ensures asks { OnOk result (Asks (S.asked source.old) (S.asked source.new) (asked_by (shown_command command.now))) }
     ensures counted { S.failed source.new ≡ S.failed source.old + failures_in result }
     ensures same_images { HoldSame (S.holds_image source.old) (S.holds_image source.new) }
     ensures same_certificates { HoldSame (S.holds_certificate source.old) (S.holds_certificate source.new) }

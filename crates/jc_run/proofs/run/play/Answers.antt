@@ -2,6 +2,7 @@ use Rattle.std.proofs.Common.{arith, refl, ◌∙◌, ◌++◌}
 use Rattle.jc_run.proofs.Ending.{end_plays}
 use Rattle.jc_run.proofs.Playing.{at_end, begun, handed_end, one_more, plays_on_as, same_self, same_through, turn_as}
 use Rattle.jc_run.specs.Performs.{PlaysOn}
+use Rattle.jc_script.specs.Reading.{pending}
 use Rattle.jc_run.proofs.run.play.Goals as goal
 
 pub loop-number-init : goal.loop-number-init
@@ -24,7 +25,7 @@ loop-number-preserved g c =
       same_through _ _ _ v.3 p.same_certificates,
       λ t bytes before h is known.
           let so_far = v.4 t bytes before h is known in
-          one_more _ _ t bytes before so_far (turn_as _ _ _ _ v.2 v.3 ((rw c.if-not-branch.false at p.done)
+          one_more _ _ t bytes before {rest = pending c.play_next.new.lines.unread (g.R.Read.remaining c.play_next.new.reader)} so_far (turn_as _ _ _ _ v.2 v.3 ((rw c.if-not-branch.false at p.done)
           so_far.card so_far.rest (before ++ so_far.written) so_far.holds so_far.left_is so_far.now_is)),
     )
 

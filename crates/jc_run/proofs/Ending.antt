@@ -1,5 +1,6 @@
 -- Lines that end a script, and commands that are done.
-use Rattle.std.proofs.Common.{◌≡◌, ◌≤◌, ℕ, List, [], ◌++◌, length, Option, Some, None, Result, IfErr, false, nat_lt, refl, sym, ap, ◌∙◌, append-nil, rules}
+use Rattle.std.proofs.Common.{◌≡◌, ◌≤◌, ℕ, List, [], ◌++◌, length, Option, Some, None, Result, IfErr, false, nat_lt}
+use Rattle.std.proofs.Common.{refl, sym, ap, ◌∙◌, append-nil, rules}
 use Rattle.std.proofs.lemmas.Result.{err_from_is_err_and}
 use Rattle.std.specs.Io.KnownBytes.{Appends}
 use Rattle.std.specs.Prelude.{IsErrAnd}
@@ -7,12 +8,14 @@ use Rattle.jc_card.specs.Card.{CardState}
 use Rattle.jc_card.specs.Reads.{CardWords}
 use Rattle.jc_run.specs.Answer.{Answered}
 use Rattle.jc_run.specs.Performs.{Answers, AsksSource, PlaysOn}
-use Rattle.jc_run.specs.Play.{BadLimits, BadLine, IsPart, NoMemory, NotRead, NotWritten, Over, ScriptEnd, SourceFailed, answer_line}
+use Rattle.jc_run.specs.Play.{BadLimits, BadLine, IsPart, NoMemory, NotRead, NotWritten, Over, ScriptEnd}
+use Rattle.jc_run.specs.Play.{SourceFailed, answer_line}
 use Rattle.jc_run.specs.Play.EndsAt.{bad, memory, source, unwritten}
 use Rattle.jc_run.specs.Play.Plays.{ended, over, unread}
 use Rattle.jc_run.specs.PrivatePlay.{AppendsPart, IsEnd, IsLineDone, IsLineEnd, IsTaken, IsUnread}
 use Rattle.jc_script.specs.Reading.{BeginsBad}
-use Rattle.jc_script.specs.Script.{Apdu, Asks, Bad, Install, Load, Reset, ScriptCommand, ScriptLine, line_at, lines_of, most_in_line, most_lines, said_by}
+use Rattle.jc_script.specs.Script.{Apdu, Asks, Bad, Install, Load, Reset, ScriptCommand, ScriptLine, line_at}
+use Rattle.jc_script.specs.Script.{lines_of, most_in_line, most_lines, said_by}
 
 -- ---- what is known to be written
 

@@ -1,5 +1,6 @@
 -- Bytes in hexadecimal, one more at a time.
-use Rattle.std.proofs.Common.{◌≡◌, ℕ, ◌+◌, ◌/◌, ◌%◌, ◌<◌, List, [], ◌∷◌, ◌++◌, length, take, slice_index, refl, ap, sym, ◌∙◌}
+use Rattle.std.proofs.Common.{◌≡◌, ℕ, ◌+◌, ◌/◌, ◌%◌, ◌<◌, List, [], ◌∷◌, ◌++◌, length, take, slice_index, refl, ap}
+use Rattle.std.proofs.Common.{sym, ◌∙◌}
 use Rattle.std.proofs.lemmas.List.{take_more}
 use Rattle.std.specs.Char.{encode_utf8}
 use Rattle.hex.specs.Hex.{encode_upper, encode_with, upper_digits}
@@ -21,4 +22,5 @@ pub one_more : (xs : List ℕ) (i high low : ℕ) → i < length xs
     → encode_utf8 high ≡ high ∷ [] → encode_utf8 low ≡ low ∷ []
     → encode_upper (take i xs) ++ (encode_utf8 high ++ encode_utf8 low) ≡ encode_upper (take (i + 1) xs)
 one_more xs i high low less h l th tl =
-    rw (th, tl, h, l) (sym (ap encode_upper (take_more xs i 0 less) ∙ encode_with-snoc upper_digits (take i xs) (slice_index xs i)))
+    rw (th, tl, h, l) (sym (ap encode_upper (take_more xs i 0 less)
+    ∙ encode_with-snoc upper_digits (take i xs) (slice_index xs i)))

@@ -1,5 +1,6 @@
 -- A script on a new card.
-use Rattle.std.proofs.Common.{◌≡◌, ℕ, List, [], Option, Some, Bool, true, false, Result, Ok, Err, ◌↔◌, rules, refl, sym, ◌∙◌}
+use Rattle.std.proofs.Common.{◌≡◌, ℕ, List, [], Option, Some, Bool, true, false, Result, Ok, Err, ◌↔◌, rules, refl}
+use Rattle.std.proofs.Common.{sym, ◌∙◌}
 use Rattle.jc_api.specs.Bound.{Bound}
 use Rattle.jc_card.specs.New.{are_limits, new_card}
 use Rattle.jc_card.specs.declared.fault.CardFault.{CardFault}

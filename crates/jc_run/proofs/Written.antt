@@ -1,5 +1,6 @@
 -- Bytes that are written, a part of some or all.
-use Rattle.std.proofs.Common.{ℕ, ◌+◌, List, [], Option, Some, None, OnErr, Result, Ok, Err, take, drop, sym, refl, append-nil}
+use Rattle.std.proofs.Common.{ℕ, ◌+◌, List, [], Option, Some, None, OnErr, Result, Ok, Err, take, drop, sym, refl}
+use Rattle.std.proofs.Common.{append-nil}
 use Rattle.std.proofs.KnownBytes.{Appends-kept, Appends-trans}
 use Rattle.std.proofs.Math.Seq.{take-add}
 use Rattle.std.proofs.lemmas.List.{take-append-drop}

@@ -7,7 +7,8 @@ use Rattle.jc_base.specs.declared.fault.LoadFault.{LoadFault}
 use Rattle.jc_card.specs.Commands.{Response}
 use Rattle.jc_card.specs.declared.answer.Answer.{Answer}
 use Rattle.jc_card.specs.declared.fault.InstallFault.{InstallFault}
-use Rattle.jc_card.specs.declared.fault.InstallFault.TheVariants.{AidInUse, InstallFailed, NoInstance, TooLong, UnknownApplet}
+use Rattle.jc_card.specs.declared.fault.InstallFault.TheVariants.{AidInUse, InstallFailed, NoInstance, TooLong}
+use Rattle.jc_card.specs.declared.fault.InstallFault.TheVariants.{UnknownApplet}
 use Rattle.jc_run.specs.declared.answer.CommandAnswer.{CommandAnswer}
 use Rattle.jc_run.specs.declared.answer.CommandAnswer.TheVariants as answers
 

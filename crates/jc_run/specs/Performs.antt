@@ -30,7 +30,7 @@ asked_by (Install applet instance incoming) = []
 asked_by (Apdu bytes) = []
 asked_by Reset = []
 
--- what was written behind what was there, and how it ended, is what these lines come to, of which the first has a number
+-- what was written behind what was there, and how it ended, is what these lines come to; the first has a number
 pub record PlaysOn (images certificates : List ℕ → List ℕ → Type 0) (number : ℕ) (bytes : List ℕ) (c : CardState)
     (before : List ℕ) (now : Option (List ℕ)) (end : ScriptEnd) : Type 0 where
   pub written : List ℕ

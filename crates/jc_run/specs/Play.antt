@@ -11,7 +11,8 @@ use Rattle.jc_card.specs.New.{are_limits, new_card}
 use Rattle.jc_card.specs.Parts.{Left}
 use Rattle.jc_card.specs.declared.limits.Limits.{Limits}
 use Rattle.jc_run.specs.Answer.{Answered, Installed, Loaded, NotInstalled, NotLoaded, Responds, WasReset, line_of}
-use Rattle.jc_script.specs.Script.{Apdu, Asks, Bad, Install, Load, Reset, ScriptCommand, ScriptLine, Skipped, line_at, lines_of}
+use Rattle.jc_script.specs.Script.{Apdu, Asks, Bad, Install, Load, Reset, ScriptCommand, ScriptLine, Skipped, line_at}
+use Rattle.jc_script.specs.Script.{lines_of}
 
 -- ---- a command
 

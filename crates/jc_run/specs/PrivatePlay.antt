@@ -5,7 +5,8 @@ use Rattle.jc_card.specs.Card.{CardState}
 use Rattle.jc_card.specs.Load.{IsLoad}
 use Rattle.jc_card.specs.Reads.{CardWords, Holds}
 use Rattle.jc_run.specs.Answer.{Answered}
-use Rattle.jc_run.specs.Play.{BadLimits, BadLine, EndsAt, IsLinePlayed, IsPart, NoMemory, NotRead, NotWritten, Over, Plays, ScriptEnd, SourceFailed, load_answer}
+use Rattle.jc_run.specs.Play.{BadLimits, BadLine, EndsAt, IsLinePlayed, IsPart, NoMemory, NotRead, NotWritten, Over}
+use Rattle.jc_run.specs.Play.{Plays, ScriptEnd, SourceFailed, load_answer}
 use Rattle.jc_run.specs.Performs.{PlaysOn}
 use Rattle.jc_script.specs.Reading.{BeginsBad, TakesLine}
 use Rattle.jc_script.specs.Script.{ScriptLine, line_at, lines_of}

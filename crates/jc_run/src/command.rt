@@ -35,7 +35,8 @@ fn files_of<S: PackageSource>(
 ) -> Result<PackageFiles, SourceFault>
     requires { S.failed source.old < 2 ^ 31 }
     ensures image { IfOk result (λ files. S.holds_image source.old folder.now files.image.items) }
-    ensures certificate { IfOk result (λ files. S.holds_certificate source.old certificate.now files.certificate.items) }
+    ensures certificate { IfOk result (λ files.
+        S.holds_certificate source.old certificate.now files.certificate.items) }
     ensures asks { OnOk result (Asks (S.asked source.old) (S.asked source.new)
         (Image folder.now ∷ Certificate certificate.now ∷ [])) }
     ensures counted { S.failed source.new ≡ S.failed source.old + failures_in result }

@@ -1,12 +1,13 @@
 //! Scripts, line by line.
 
-ghost use Rattle.std.specs.Prelude.{◌≡◌, ◌+◌, ◌<◌, ◌≤◌, ◌^◌, ℕ, List, Some, IfOk, IfErr, OnOk};
+ghost use Rattle.std.specs.Prelude.{false, ◌≡◌, ◌+◌, ◌<◌, ◌≤◌, ◌^◌, ℕ, List, Some, IfOk, IfErr, OnOk};
 ghost use Rattle.jc_card.specs.Card.{CardState};
+ghost use Rattle.jc_card.specs.New.{are_limits};
 ghost use Rattle.jc_card.specs.Reads.{Holds};
 ghost use Rattle.jc_packages.specs.Source.{HoldSame};
 ghost use Rattle.jc_run.specs.End.{end_of, end_of_fault};
 ghost use Rattle.jc_run.specs.Performs.{HasRun, PlaysOn};
-ghost use Rattle.jc_run.specs.Play.{failures_at};
+ghost use Rattle.jc_run.specs.Play.{BadLimits, failures_at};
 ghost use Rattle.jc_run.specs.PrivatePlay.{IsLineDone, IsEnd, IsLineEnd, IsRead, IsUnread, Turns};
 ghost use Rattle.jc_script.specs.Reading.{pending};
 ghost use Rattle.jc_script.specs.Script as script;
@@ -156,8 +157,8 @@ fn play_end<R: Read>(
 }
 
 /// Plays a script on a card. A line is read when the answer to the one before it is written and flushed. Each answer
-/// stands in a line of its own. A fault leaves the lines before it written, and a fault of the writer a part of the line
-/// that couldn't be written.
+/// stands in a line of its own. A fault leaves the lines before it written, and a fault of the writer a part of the
+/// line that couldn't be written.
 pub fn play<R: Read, W: Write, S: PackageSource>(
     alloc: Global,
     reader: &mut R,
@@ -185,7 +186,8 @@ pub fn play<R: Read, W: Write, S: PackageSource>(
     play_end(reader, &mut lines, number)
 }
 
-/// Plays a script on a new card, without packages beside the API's, whose AIDs and tokens a binding says, within limits.
+/// Plays a script on a new card, without packages beside the API's, whose AIDs and tokens a binding says, within
+/// limits. Nothing is read where the limits are too small or too large.
 pub fn run_script<R: Read, W: Write, S: PackageSource>(
     alloc: Global,
     reader: &mut R,
@@ -198,6 +200,8 @@ pub fn run_script<R: Read, W: Write, S: PackageSource>(
     ensures run { (bytes before : List ℕ) → R.remaining reader.old ≡ Some bytes → W.contents writer.old ≡ Some before
         → HasRun (S.holds_image source.old) (S.holds_certificate source.old) limits binding.now bytes before
         (W.contents writer.new) (end_of result) }
+    ensures limits { are_limits limits ≡ false → (end_of result ≡ BadLimits)
+        × (R.remaining reader.new ≡ R.remaining reader.old) × (W.contents writer.new ≡ W.contents writer.old) }
     ensures counted { S.failed source.new ≡ S.failed source.old + failures_at (end_of result) }
     ensures same_images { HoldSame (S.holds_image source.old) (S.holds_image source.new) }
     ensures same_certificates { HoldSame (S.holds_certificate source.old) (S.holds_certificate source.new) }

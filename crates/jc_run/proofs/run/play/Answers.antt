@@ -25,7 +25,9 @@ loop-number-preserved g c =
       same_through _ _ _ v.3 p.same_certificates,
       λ t bytes before h is known.
           let so_far = v.4 t bytes before h is known in
-          one_more _ _ t bytes before {rest = pending c.play_next.new.lines.unread (g.R.Read.remaining c.play_next.new.reader)} so_far (turn_as _ _ _ _ v.2 v.3 ((rw c.if-not-branch.false at p.done)
+          one_more _ _ t bytes before
+          {rest = pending c.play_next.new.lines.unread (g.R.Read.remaining c.play_next.new.reader)} so_far
+          (turn_as _ _ _ _ v.2 v.3 ((rw c.if-not-branch.false at p.done)
           so_far.card so_far.rest (before ++ so_far.written) so_far.holds so_far.left_is so_far.now_is)),
     )
 

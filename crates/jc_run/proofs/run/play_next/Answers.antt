@@ -3,7 +3,8 @@ use Rattle.jc_run.proofs.run.play_next.Goals as goal
 
 pub returns-in_err-read_line-clause-ended : goal.returns-in_err-read_line-clause-ended
 returns-in_err-read_line-clause-ended g c = handed_on _ _ _ c.from_residual.ensures.1
-    (λ t bytes before h is known. unread_plays _ _ _ bytes t before _ _ (c.in_err-read_line.ensures.unread bytes is) known)
+    (λ t bytes before h is known.
+    unread_plays _ _ _ bytes t before _ _ (c.in_err-read_line.ensures.unread bytes is) known)
 
 pub returns-then-not-branch-clause-done : goal.returns-then-not-branch-clause-done
 returns-then-not-branch-clause-done g c = λ t bytes before h is known.

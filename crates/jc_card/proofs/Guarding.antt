@@ -53,10 +53,21 @@ joined c l (Some m) first h = record {
   packages = h.packages ∙ first.packages;
 }
 
-then : {A B : Type 0} (c : CardState) (done : Option (Left A)) (next : CardState → A → Option (Left B)) → Fine c done
+then_part : {A B : Type 0} (c : CardState) (done : Option (Left A)) (next : CardState → A → Option (Left B)) → Fine c done
     → ((d : CardState) (value : A) → Fine d (next d value)) → Fine c (and_then done next)
-then c None next h each = tt
-then c (Some l) next h each = joined c l (next l.card l.value) h (each l.card l.value)
+then_part c None next h each = tt
+then_part c (Some l) next h each = joined c l (next l.card l.value) h (each l.card l.value)
+
+-- a card with the same packages and objects
+moved : {A : Type 0} (c d : CardState) (done : Option (Left A)) → d.world ≡ c.world → d.heap ≡ c.heap → Fine d done
+    → Fine c done
+moved c d None packages heap h = tt
+moved c d (Some l) packages heap h = record {
+  accesses =
+      subst (λ (w : World). Leads w c.heap l.touches l.card.heap) packages
+      (subst (λ (before : Heap TaggedValue). Leads d.world before l.touches l.card.heap) heap h.accesses);
+  packages = h.packages ∙ packages;
+}
 
 either : {A : Type 0} (c : CardState) (b : Bool) (x y : Option (Left A)) → Fine c x → Fine c y → Fine c (cond b x y)
 either c true x y h k = h
@@ -77,14 +88,7 @@ module _ (laws : StepsGuarded) where
 
   method_part : (c : CardState) (selected : ℕ) (owner : Owner) (method : MethodName) (arguments : List TaggedValue)
       → Fine c (call_method c selected owner method arguments)
-  method_part c selected owner method arguments = call_part laws c (Some selected) c.steps (record {
-    heap = c.heap;
-    statics = c.statics;
-    runtime = c.kept;
-    owner = owner;
-    method = method;
-    arguments = arguments;
-  }) refl
+  method_part c selected owner method arguments = call_part laws c (Some selected) owner method arguments
 
   on_part : (c : CardState) (i : Instance) (call : AppletCall) (object : Object TaggedValue)
       → Fine c (call_on c i call object)
@@ -107,11 +111,13 @@ module _ (laws : StepsGuarded) where
   unselect_part c =
       or_else c c.selected
       (λ (owner : Owner). clear events.Deselect (Some owner.context) (with_selected c None)) (gives c tt)
-      (λ owner. clear_part events.Deselect (Some owner.context) (with_selected c None)) (gives_part c tt)
+      (λ owner. moved c (with_selected c None)
+      (clear events.Deselect (Some owner.context) (with_selected c None)) refl refl
+      (clear_part events.Deselect (Some owner.context) (with_selected c None))) (gives_part c tt)
 
   deselect_part : (c : CardState) → Fine c (commands.deselect c)
   deselect_part c =
-      then c (call_selected c calls.Deselect) (λ c ended. commands.unselect c) (selected_part calls.Deselect c)
+      then_part c (call_selected c calls.Deselect) (λ c ended. commands.unselect c) (selected_part calls.Deselect c)
       (λ d ended. unselect_part d)
 
   -- ---- a command
@@ -122,11 +128,12 @@ module _ (laws : StepsGuarded) where
   process_part : (c : CardState) (k : Command) (selecting : Bool) → Fine c (commands.process c k selecting)
   process_part c k selecting =
       let d = with_kept c (with_command c.kept k.incoming k.expected selecting) in
-      then d (call_selected d calls.Process) commands.answered (selected_part calls.Process d) answered_part
+      moved c d (and_then (call_selected d calls.Process) commands.answered) refl refl
+      (then_part d (call_selected d calls.Process) commands.answered (selected_part calls.Process d) answered_part)
 
   refused_part : (c : CardState) → Fine c (commands.refused c)
   refused_part c =
-      then c (commands.unselect c) (λ c u. gives c (commands.status_alone not_selected)) (unselect_part c)
+      then_part c (commands.unselect c) (λ c u. gives c (commands.status_alone not_selected)) (unselect_part c)
       (λ d u. gives_part d (commands.status_alone not_selected))
 
   asked_part : (k : Command) (c : CardState) (ended : Ended) → Fine c (commands.asked c k ended)
@@ -136,15 +143,17 @@ module _ (laws : StepsGuarded) where
 
   ask_part : (k : Command) (c : CardState) → Fine c (commands.ask c k)
   ask_part k c =
-      then c (call_selected c calls.Select) (λ c ended. commands.asked c k ended) (selected_part calls.Select c)
+      then_part c (call_selected c calls.Select) (λ c ended. commands.asked c k ended) (selected_part calls.Select c)
       (asked_part k)
 
   choose_part : (owner : Owner) (k : Command) (c : CardState) → Fine c (commands.choose c owner k)
-  choose_part owner k c = ask_part k (with_selected c (Some owner))
+  choose_part owner k c =
+      let d = with_selected c (Some owner) in
+      moved c d (commands.ask d k) refl refl (ask_part k d)
 
   select_part : (c : CardState) (owner : Owner) (k : Command) → Fine c (commands.select c owner k)
   select_part c owner k =
-      then c (commands.deselect c) (λ c u. commands.choose c owner k) (deselect_part c)
+      then_part c (commands.deselect c) (λ c u. commands.choose c owner k) (deselect_part c)
       (λ d u. choose_part owner k d)
 
   dispatch_part : (c : CardState) (k : Command) → Fine c (commands.dispatch c k)
@@ -160,7 +169,7 @@ module _ (laws : StepsGuarded) where
 
   receive_part : (c : CardState) (k : Command) → Fine c (commands.receive c k)
   receive_part c k =
-      then c (write apdu_buffer (buffer_of k) c) (λ c u. commands.perform c k)
+      then_part c (write apdu_buffer (buffer_of k) c) (λ c u. commands.perform c k)
       (write_part apdu_buffer (buffer_of k) c) (λ d u. perform_part k d)
 
   apdu_part : (c : CardState) (bytes : List ℕ) → Fine c (commands.apdu_command c bytes)
@@ -170,22 +179,26 @@ module _ (laws : StepsGuarded) where
 
   reset_part : (c : CardState) → Fine c (commands.reset_command c)
   reset_part c =
-      then (with_selected c None) (clear events.Reset None (with_selected c None))
-      (λ c u. clear events.Deselect None c) (clear_part events.Reset None (with_selected c None))
-      (λ d u. clear_part events.Deselect None d)
+      let d = with_selected c None in
+      moved c d (and_then (clear events.Reset None d) (λ c u. clear events.Deselect None c)) refl refl
+      (then_part d (clear events.Reset None d) (λ c u. clear events.Deselect None c)
+      (clear_part events.Reset None d) (λ e u. clear_part events.Deselect None e))
 
   -- ---- an installation
 
   settle_part : (owner : Owner) (c : CardState) (ended : Ended) → Fine c (installs.settle c owner ended)
   settle_part owner c ended =
       let d = with_kept c (after_install c.kept (installs.succeeds c ended)) in
-      then d (clear events.Deselect (Some owner.context) d) (λ after u. gives after (installs.installed c owner ended))
-      (clear_part events.Deselect (Some owner.context) d) (λ e u. gives_part e (installs.installed c owner ended))
+      let says = λ (after : CardState) (u : Unit {0}). gives after (installs.installed c owner ended) in
+      moved c d (and_then (clear events.Deselect (Some owner.context) d) says) refl refl
+      (then_part d (clear events.Deselect (Some owner.context) d) says
+      (clear_part events.Deselect (Some owner.context) d)
+      (λ e u. gives_part e (installs.installed c owner ended)))
 
   called_part : (place : AppletPlace) (owner : Owner) (size : ℕ) (c : CardState)
       → Fine c (and_then (installs.call_install c place owner size) (λ c ended. installs.settle c owner ended))
   called_part place owner size c =
-      then c (installs.call_install c place owner size) (λ c ended. installs.settle c owner ended)
+      then_part c (installs.call_install c place owner size) (λ c ended. installs.settle c owner ended)
       (method_part c owner.context owner (Loaded place.number place.install)
       (Ref install_array ∷ Word 0 ∷ Word size ∷ [])) (settle_part owner)
 
@@ -195,15 +208,17 @@ module _ (laws : StepsGuarded) where
       let parameters = installs.parameters_of instance incoming in
       let d = record c { numbers = owner.instance; kept = with_install c.kept owner applet } in
       let words = installs.padded installs.install_size parameters in
-      then d (write install_array words d)
-      (λ c u. and_then (installs.call_install c place owner (length parameters))
-      (λ c ended. installs.settle c owner ended))
-      (write_part install_array words d) (λ e u. called_part place owner (length parameters) e)
+      let next = λ (c : CardState) (u : Unit {0}). and_then
+          (installs.call_install c place owner (length parameters))
+          (λ (c : CardState) (ended : Ended). installs.settle c owner ended) in
+      moved c d (and_then (write install_array words d) next) refl refl
+      (then_part d (write install_array words d) next (write_part install_array words d)
+      (λ e u. called_part place owner (length parameters) e))
 
   accepted_part : (c : CardState) (place : AppletPlace) (applet instance incoming : List ℕ)
       → Fine c (installs.accepted c place applet instance incoming)
   accepted_part c place applet instance incoming =
-      then c (commands.deselect c) (λ c u. installs.begin c place applet instance incoming) (deselect_part c)
+      then_part c (commands.deselect c) (λ c u. installs.begin c place applet instance incoming) (deselect_part c)
       (λ d u. install_as_part d place (installs.next_owner d place) applet instance incoming)
 
   install_at_part : (c : CardState) (applet instance incoming : List ℕ) (place : AppletPlace)

@@ -72,7 +72,7 @@ accessed_before xs n o p kind owner a = record {
   own = λ plain.
       elim (a.own (ap (λ (k : Kind). k.mark) kind ∙ plain)) [
         | inl own ↦ inl (own ∙ ap (λ (w : Owner). w.context) owner)
-        | inr by_runtime ↦ inr by_runtime
+        | inr other ↦ inr other
       ];
 }
 
@@ -124,15 +124,13 @@ plain_kept xs a b changes n o p e f plain =
 
 -- ---- a command
 
-module _ (w : World) where
-  pub led : (a b : Heap TaggedValue) (xs : List Touch) → Leads w a xs b → KeepsHeap xs a b
-  led a b xs (nowhere heap) = nothing_changes heap
-  led a b xs (by_step s m after is e guarded kept) = record { kept = kept; changes = guarded.changes after e }
-  led a b xs (by_native call guarded) = record { kept = guarded.kept; changes = guarded.changes }
-  led a b xs (by_runtime before after touches work) = record { kept = work.kept; changes = work.changes }
-  led a b xs (onward before between after touches more first next) =
-      changes_through before between after touches more (led before between touches first)
-      (led between after more next)
+pub led : {w : World} {a b : Heap TaggedValue} {xs : List Touch} → Leads w a xs b → KeepsHeap xs a b
+led (nowhere heap) = nothing_changes heap
+led (by_step s m after is e guarded kept) = record { kept = kept; changes = guarded.changes after e }
+led (by_native call guarded) = record { kept = guarded.kept; changes = guarded.changes }
+led (by_runtime before after touches work) = record { kept = work.kept; changes = work.changes }
+led (onward before between after touches more first next) =
+    changes_through before between after touches more (led first) (led next)
 
 -- a part of a command: where its accesses lead, and that the packages stay
 pub record IsPart {A : Type 0} (c : CardState) (l : Left A) : Type 0 where
@@ -151,7 +149,7 @@ part_guarded c l p = record {
   accesses = p.accesses;
   packages = p.packages;
   changes =
-      changes_by l.touches c.heap l.card.heap (led c.world c.heap l.card.heap l.touches p.accesses);
+      changes_by l.touches c.heap l.card.heap (led p.accesses);
 }
 
 -- ---- accesses behind others

@@ -16,8 +16,10 @@ use Rattle.jc_machine.specs.Step.{Called, CallEnd, Gave, RanOut, Start, Threw, W
 use Rattle.jc_machine.specs.Step.{begun_by, called_so_far, continued, defensive_step, ended_by, first_answer, may_begin}
 use Rattle.jc_machine.specs.Step.{native_called, native_ended, native_gave, native_started, native_threw, no_frame}
 use Rattle.jc_machine.specs.Step.{runtime_call, standing, started, started_by, steps_of}
+use Rattle.jc_names.specs.declared.name.ClassName.{ClassName}
 use Rattle.jc_names.specs.declared.name.MethodName.{MethodName}
 use Rattle.jc_names.specs.declared.name.MethodName.TheVariants.{Api, Loaded}
+use Rattle.jc_names.specs.declared.owner.Owner.{Owner}
 use Rattle.jc_natives.specs.Kept.{Kept}
 use Rattle.jc_natives.specs.Meaning.{meaning}
 use Rattle.jc_store.specs.Heap.{Heap, Object, object_at}
@@ -44,7 +46,7 @@ module _ (laws : StepsGuarded) (c : CardState) (selected : Option ℕ) where
 
   -- ---- how a call ends
 
-  pub leads_end : Heap TaggedValue → List Touch → CallEnd Kept → Type 0
+  abbrev leads_end : Heap TaggedValue → List Touch → CallEnd Kept → Type 0
   leads_end heap touches (Gave m value) = Leads w heap touches m.heap
   leads_end heap touches (Threw m object) = Leads w heap touches m.heap
   leads_end heap touches (RanOut m) = Leads w heap touches m.heap
@@ -190,8 +192,18 @@ module _ (laws : StepsGuarded) (c : CardState) (selected : Option ℕ) where
   ended_part touches (RanOut m) h = record { accesses = h; packages = refl }
   ended_part touches WasStuck h = tt
 
-  pub call_part : (steps : ℕ) (start : Start Kept) → start.heap ≡ c.heap
-      → IfSome (ended c (runtime_call s steps start)) (IsPart c)
-  call_part steps start refl =
-      let called = runtime_call s steps start in
-      ended_part called.touches called.ends (call_leads start steps)
+  abbrev start_of : Owner → MethodName → List TaggedValue → Start Kept
+  start_of owner method arguments = record {
+    heap = c.heap;
+    statics = c.statics;
+    runtime = c.kept;
+    owner = owner;
+    method = method;
+    arguments = arguments;
+  }
+
+  pub call_part : (owner : Owner) (method : MethodName) (arguments : List TaggedValue)
+      → IfSome (ended c (runtime_call s c.steps (start_of owner method arguments))) (IsPart c)
+  call_part owner method arguments =
+      let called = runtime_call s c.steps (start_of owner method arguments) in
+      ended_part called.touches called.ends (call_leads (start_of owner method arguments) c.steps)

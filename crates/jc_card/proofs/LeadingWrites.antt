@@ -32,10 +32,9 @@ use Rattle.jc_card.specs.Parts.{clear, clearing_touches, runtime_touch, write}
 
 -- ---- the runtime's own access
 
-own_allowed : (b : Bool) (active : ℕ) (f : Facts) → active ≡ runtime_context
-    → Allowed ≡ verdict_of (cond b StoreComponent PutField) active f
-own_allowed true active f refl = refl
-own_allowed false active f refl = refl
+own_allowed : (b : Bool) (f : Facts) → Allowed ≡ verdict_of (cond b StoreComponent PutField) runtime_context f
+own_allowed true f = refl
+own_allowed false f = refl
 
 own_access : (w : World) (heap : Heap TaggedValue) (number : ℕ) (o : Object TaggedValue)
     → object_at heap number ≡ Some o → IsOwnAccess w heap (own_touch number o)
@@ -44,7 +43,7 @@ own_access w heap number o e = record {
   object = o;
   found = e;
   verdict = λ selected.
-      own_allowed (is_array o.kind.object) runtime_context (facts_in w.shapes selected o None false) refl;
+      own_allowed (is_array o.kind.object) (facts_in w.shapes selected o None false);
 }
 
 own_accessed : (touches : List Touch) (place number : ℕ) (o : Object TaggedValue)
@@ -67,7 +66,7 @@ got_set (z ∷ xs) zero zero x y e = inl (refl, refl)
 got_set (z ∷ xs) zero (suc i) x y e = inr e
 got_set (z ∷ xs) (suc n) zero x y e = inr e
 got_set (z ∷ xs) (suc n) (suc i) x y e =
-    elim (got_set xs n i x y e) [ inl (is, new) ↦ inl (ap suc is, new) | inr old ↦ inr old ]
+    elim (got_set xs n i x y e) [ inl new ↦ inl (ap suc new.0, new.1) | inr old ↦ inr old ]
 
 module _ (touches : List Touch) (heap : Heap TaggedValue) (o p : Object TaggedValue) (kind : p.kind ≡ o.kind)
     (owner : p.owner ≡ o.owner) (size : length p.cells ≡ length o.cells) where
@@ -75,11 +74,11 @@ module _ (touches : List Touch) (heap : Heap TaggedValue) (o p : Object TaggedVa
   one_stays zero found i q e = absurd cc
   one_stays (suc n) found zero q e = absurd cc
   one_stays (suc n) found (suc i) q e = elim (got_set heap n i p q e) [
-    | inl (is, new) ↦
-        let there = subst (λ (k : ℕ). slice_get heap k ≡ Some o) is found in
+    | inl new ↦
+        let there = subst (λ (k : ℕ). slice_get heap k ≡ Some o) new.0 found in
         let same : o ≡ q = cc in record {
           object = p;
-          found = new;
+          found = new.1;
           kind = kind ∙ ap (λ (x : Object TaggedValue). x.kind) same;
           owner = owner ∙ ap (λ (x : Object TaggedValue). x.owner) same;
           size = size ∙ ap (λ (x : Object TaggedValue). length x.cells) same;
@@ -92,11 +91,11 @@ module _ (touches : List Touch) (heap : Heap TaggedValue) (o p : Object TaggedVa
   one_changes zero found a i q r e f = absurd cc
   one_changes (suc n) found a zero q r e f = absurd cc
   one_changes (suc n) found a (suc i) q r e f = elim (got_set heap n i p q e) [
-    | inl (is, new) ↦
-        let there = subst (λ (k : ℕ). slice_get heap k ≡ Some o) is found in
+    | inl new ↦
+        let there = subst (λ (k : ℕ). slice_get heap k ≡ Some o) new.0 found in
         let same : o ≡ q = cc in
         inr (subst (λ (x : Object TaggedValue). IsAccessed touches (suc i) x) same
-        (subst (λ (k : ℕ). IsAccessed touches (suc k) o) is a))
+        (subst (λ (k : ℕ). IsAccessed touches (suc k) o) new.0 a))
     | inr old ↦ let same : r ≡ q = cc in inl (ap (λ (x : Object TaggedValue). x.cells) same)
   ]
 
@@ -259,14 +258,18 @@ module _ (w : World) (event : ClearingEvent) (context : Option ℕ) where
       let same : p ≡ one (test o) o = same_Some p (one (test o) o) (sym f ∙ got_cleared heap n o e) in
       subst (λ (x : Object TaggedValue). (x.cells ≡ o.cells) ⊎ IsAccessed touches (suc n) o) (sym same)
       (one_changed touches (suc n) (test o) o refl (λ t.
-          let l = listed heap 1 n o e t in
+          let at : 1 + n ≡ suc n = omega arith in
+          let l = subst (λ (k : ℕ). IsListed touches (own_touch k o)) at (listed heap 1 n o e t) in
           own_accessed touches l.place (suc n) o l.there))
 
   clear_leads : (heap : Heap TaggedValue)
       → Leads w heap (clearing_touches event context 1 heap) (zeroed_where test heap)
   clear_leads heap =
       by_runtime heap (zeroed_where test heap) (clearing_touches event context 1 heap) (record {
-        judged = judged heap heap 0 (λ n o e. e);
+        judged =
+            judged heap heap 0 (λ n o e.
+            let at : n ≡ 0 + n = omega arith in
+            subst (λ (k : ℕ). slice_get heap k ≡ Some o) at e);
         allowed = all_allowed 1 heap;
         kept = stay heap;
         changes = changes heap;

@@ -1,7 +1,7 @@
 -- What a command does to objects: the firewall judges each of its accesses; one that it denies throws, and changes
 -- nothing; and a plain object changes only where its own context, or the runtime, accessed it (Java Card Runtime
 -- Environment Specification, Applet Isolation and Object Sharing: Class and Object Access Behavior).
-use Rattle.std.specs.Prelude.{◌≡◌, ◌⊎◌, ℕ, true, List, [], ◌++◌, Option, Some, None}
+use Rattle.std.specs.Prelude.{◌≡◌, ◌⊎◌, ℕ, true, false, List, [], ◌++◌, Option, Some, None}
 use Rattle.std.specs.List.{AllByRecursion}
 use Rattle.jc_firewall.specs.Verdict.{runtime_context, verdict_of}
 use Rattle.jc_link.specs.Linked.{World}

@@ -78,32 +78,27 @@ module _ (images certificates : List ℕ → List ℕ → Type 0) where
 
   -- ---- a line that ends it
 
-  line_ends : (number : ℕ) (said : ScriptLine) (script : Script) (c : CardState) (written : List ℕ) (end : ScriptEnd)
-      → EndsAt images certificates c number said written end
+  line_ends : {number : ℕ} {c : CardState} {said : ScriptLine} {written : List ℕ} {end : ScriptEnd}
+      (script : Script) → EndsAt images certificates c number said written end
       → Done (commands_in (with_line number said script)) c written end
-  line_ends number said script c written end ends.bad =
-      none_done [] c [] _ (λ e. refl) (λ other. refl)
-  line_ends number said script c written end (ends.source folder certificate) =
-      none_done _ c [] _ (λ e. absurd cc) (λ other. refl)
-  line_ends number said script c written end (ends.memory folder certificate) =
-      none_done _ c [] _ (λ e. absurd cc) (λ other. refl)
-  line_ends number said script c written end (ends.unwritten line part whole after played first) =
+  line_ends {c = c} script ends.bad = none_done [] c [] _ (λ e. refl) (λ other. refl)
+  line_ends {c = c} script (ends.source folder certificate) = none_done _ c [] _ (λ e. absurd cc) (λ other. refl)
+  line_ends {c = c} script (ends.memory folder certificate) = none_done _ c [] _ (λ e. absurd cc) (λ other. refl)
+  line_ends {c = c} script (ends.unwritten line part whole after played first) =
       none_done _ c part _ (λ e. absurd cc) (λ other. absurd (other refl))
 
   -- ---- all lines
 
-  pub run_of : (number : ℕ) (lines : List (List ℕ)) (c : CardState) (written : List ℕ) (end : ScriptEnd)
+  pub run_of : {number : ℕ} {lines : List (List ℕ)} {c : CardState} {written : List ℕ} {end : ScriptEnd}
       → Plays images certificates number lines c written end
       → Done (commands_in (script_from number lines)) c written end
   unfolding script_from
-  run_of number lines c written end (plays.over n card) = none_done [] c [] _ (λ e. refl) (λ other. refl)
-  run_of number lines c written end (plays.line n first more card after part behind last played rest) =
-      line_done n (line_at n first) (script_from (suc n) more) card after part behind last played
-      (run_of (suc n) more after behind last rest)
-  run_of number lines c written end (plays.ended n first more card part last e) =
-      line_ends n (line_at n first) (script_from (suc n) more) card part last e
-  run_of number lines c written end (plays.unread n more card) =
-      none_done _ c [] _ (λ e. absurd cc) (λ other. refl)
+  run_of (plays.over number c) = none_done [] c [] _ (λ e. refl) (λ other. refl)
+  run_of (plays.line number first more c after part behind end played rest) =
+      line_done number (line_at number first) (script_from (suc number) more) c after part behind end played
+      (run_of rest)
+  run_of (plays.ended number first more c part end e) = line_ends (script_from (suc number) more) e
+  run_of (plays.unread number more c) = none_done _ c [] _ (λ e. absurd cc) (λ other. refl)
 
 -- ---- what it accesses
 
@@ -144,14 +139,14 @@ module _ (laws : Laws) (images certificates : List ℕ → List ℕ → Type 0) 
   changes c (Apdu bytes) answer after h = given_changes c (apdu_command c bytes) _ answer after (laws.apdu c bytes) h
   changes c Reset answer after h = given_changes c (reset_command c) _ answer after (laws.reset c) h
 
-  run_changes : (commands : List ScriptCommand) (c : CardState) (answers : List Answered) (touches : List Touch)
-      (after : CardState) → IsCardRun images certificates commands c answers touches after
+  run_changes : {commands : List ScriptCommand} {c : CardState} {answers : List Answered} {touches : List Touch}
+      {after : CardState} → IsCardRun images certificates commands c answers touches after
       → ChangesBy touches c.heap after.heap
-  run_changes commands c answers touches after (nothing card) = laws.none card.heap card.heap (λ number o e. e)
-  run_changes commands c answers touches after
-      (command first more card between last answer others behind answered rest) =
-      laws.more card.heap between.heap last.heap (accesses_of card first) behind
-      (changes card first answer between answered) (run_changes more between others behind last rest)
+  run_changes (nothing c) = laws.none c.heap c.heap (λ number o e. e)
+  run_changes (command first more c between after answer answers touches answered rest) =
+      laws.more c.heap between.heap after.heap (accesses_of c first) touches
+      (changes c first answer between answered) (run_changes rest)
 
   pub all_guarded : AreGuarded images certificates
-  all_guarded = record { commands = guarded; runs = run_changes }
+  all_guarded =
+      record { commands = guarded; runs = λ commands c answers touches after run. run_changes run }

@@ -32,7 +32,7 @@ module _ (laws : Laws) (images certificates : List ℕ → List ℕ → Type 0) 
     runs = played p.written end (limits_fit (are_limits limits) result (Ok card) told.1 is (λ e. search rules)) p.plays;
     simulated = record {
       responses =
-          run_of images certificates 1 (lines_of script) (new_card limits binding) p.written end p.plays;
+          run_of images certificates p.plays;
       accesses = all_guarded laws images certificates;
     };
     now_is = p.now_is;

@@ -1,22 +1,20 @@
 -- What a script comes to is a run of the card.
-use Rattle.std.proofs.Common.{◌≡◌, ℕ, suc, List, [], ◌∷◌, ◌++◌, map, Option, Some, None, IfSome, refl, sym, ap, ◌∙◌}
-use Rattle.std.proofs.Common.{append-nil, append_assoc, subst}
-use Rattle.std.specs.Option.{option_map_or}
+use Rattle.std.proofs.Common.{◌≡◌, ℕ, suc, List, [], ◌∷◌, ◌++◌, Option, Some, None, IfSome, refl, sym, ap, ◌∙◌}
+use Rattle.std.proofs.Common.{append_assoc, Result}
 use Rattle.jc_base.specs.declared.fault.LoadFault.{LoadFault}
 use Rattle.jc_card.specs.Accesses.{ChangesBy, IsGuardedCommand, LeavesObjects}
 use Rattle.jc_card.specs.Card.{CardState}
 use Rattle.jc_card.specs.Commands.{apdu_command, reset_command}
 use Rattle.jc_card.specs.Install.{install_command}
 use Rattle.jc_card.specs.Load.{IsLoad}
-use Rattle.jc_card.specs.New.{new_card}
 use Rattle.jc_card.specs.Parts.{Left}
 use Rattle.jc_machine.specs.Machine.{Touch}
 use Rattle.jc_store.specs.Heap.{Heap}
 use Rattle.jc_words.specs.Values.{TaggedValue}
 use Rattle.jc_run.specs.Answer.{Answered}
 use Rattle.jc_run.specs.Play.{EndsAt, IsAnswered, IsGiven, IsLinePlayed, NotWritten, Over, Plays, ScriptEnd, answer_line}
-use Rattle.jc_run.specs.Play.EndsAt as ends
-use Rattle.jc_run.specs.Play.Plays as plays
+use Rattle.jc_run.specs.Play.EndsAt.{bad, memory, source, unwritten}
+use Rattle.jc_run.specs.Play.Plays.{ended, line, over, unread}
 use Rattle.jc_run.specs.Runs.{AreGuarded, IsCardRun, IsDone, IsGuarded, accesses_in, accesses_of, answer_lines}
 use Rattle.jc_run.specs.Runs.{commands_in}
 use Rattle.jc_run.specs.Runs.IsCardRun.{command, nothing}
@@ -81,10 +79,10 @@ module _ (images certificates : List ℕ → List ℕ → Type 0) where
   line_ends : {number : ℕ} {c : CardState} {said : ScriptLine} {written : List ℕ} {end : ScriptEnd}
       (script : Script) → EndsAt images certificates c number said written end
       → Done (commands_in (with_line number said script)) c written end
-  line_ends {c = c} script ends.bad = none_done [] c [] _ (λ e. refl) (λ other. refl)
-  line_ends {c = c} script (ends.source folder certificate) = none_done _ c [] _ (λ e. absurd cc) (λ other. refl)
-  line_ends {c = c} script (ends.memory folder certificate) = none_done _ c [] _ (λ e. absurd cc) (λ other. refl)
-  line_ends {c = c} script (ends.unwritten line part whole after played first) =
+  line_ends {c = c} script bad = none_done [] c [] _ (λ e. refl) (λ other. refl)
+  line_ends {c = c} script (source folder certificate) = none_done _ c [] _ (λ e. absurd cc) (λ other. refl)
+  line_ends {c = c} script (memory folder certificate) = none_done _ c [] _ (λ e. absurd cc) (λ other. refl)
+  line_ends {c = c} script (unwritten told part whole after played first) =
       none_done _ c part _ (λ e. absurd cc) (λ other. absurd (other refl))
 
   -- ---- all lines
@@ -93,12 +91,12 @@ module _ (images certificates : List ℕ → List ℕ → Type 0) where
       → Plays images certificates number lines c written end
       → Done (commands_in (script_from number lines)) c written end
   unfolding script_from
-  run_of (plays.over number c) = none_done [] c [] _ (λ e. refl) (λ other. refl)
-  run_of (plays.line number first more c after part behind end played rest) =
+  run_of (over number c) = none_done [] c [] _ (λ e. refl) (λ other. refl)
+  run_of (line number first more c after part behind end played rest) =
       line_done number (line_at number first) (script_from (suc number) more) c after part behind end played
       (run_of rest)
-  run_of (plays.ended number first more c part end e) = line_ends (script_from (suc number) more) e
-  run_of (plays.unread number more c) = none_done _ c [] _ (λ e. absurd cc) (λ other. refl)
+  run_of (ended number first more c part end e) = line_ends (script_from (suc number) more) e
+  run_of (unread number more c) = none_done _ c [] _ (λ e. absurd cc) (λ other. refl)
 
 -- ---- what it accesses
 

@@ -13,7 +13,7 @@ use Rattle.jc_run.specs.Performs.{HasRun, PlaysOn}
 use Rattle.jc_run.specs.Play.{BadLimits, NoMemory, Over, ScriptEnd}
 use Rattle.jc_run.specs.Play.RunsTo.{no_card, played, unfit}
 use Rattle.jc_run.specs.Runs.{IsSimulated, commands_in}
-use Rattle.jc_script.specs.Script.{lines_of, script_commands}
+use Rattle.jc_script.specs.Script.{script_commands}
 
 -- where a card is made, or memory is out, its limits are such as it may have
 limits_fit : {A : Type 0} (fit : Bool) (result made : Result A CardFault) → (fit ≡ false → result ≡ Err cards.BadLimits)

@@ -209,8 +209,8 @@ module _ (laws : StepsGuarded) where
       let d = record c { numbers = owner.instance; kept = with_install c.kept owner applet } in
       let words = installs.padded installs.install_size parameters in
       let next = λ (c : CardState) (u : Unit {0}). and_then
-          (installs.call_install c place owner (length parameters))
-          (λ (c : CardState) (ended : Ended). installs.settle c owner ended) in
+      (installs.call_install c place owner (length parameters))
+      (λ (c : CardState) (ended : Ended). installs.settle c owner ended) in
       moved c d (and_then (write install_array words d) next) refl refl
       (then_part d (write install_array words d) next (write_part install_array words d)
       (λ e u. called_part place owner (length parameters) e))

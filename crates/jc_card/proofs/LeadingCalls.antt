@@ -150,7 +150,7 @@ module _ (laws : StepsGuarded) (c : CardState) (selected : Option ℕ) where
         → Leads w start.heap touches m.heap → leads_end start.heap touches (native_ended s m member ends)
     native_ended_leads touches m member (Gives value) h =
         let fits = λ (signature : Signature ClassName).
-            is_given s.world.shapes m.heap signature.result value in
+        is_given s.world.shapes m.heap signature.result value in
         gave_leads touches m value (option_map_or fits (native_type s.world.shapes member) false) h
     native_ended_leads touches m member (ThrowsObject object) h =
         threw_leads touches m object

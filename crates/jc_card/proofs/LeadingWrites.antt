@@ -106,7 +106,7 @@ nothing_put : (heap : Heap TaggedValue) (number from : ℕ) (values : List Tagge
 nothing_put heap number from [] e = refl
 nothing_put heap number from (v ∷ values) e =
     let same : put heap number from v ≡ heap =
-        ap (λ o. option_map_or (λ object. with_object heap number (with_cell object from v)) o heap) e in
+    ap (λ o. option_map_or (λ object. with_object heap number (with_cell object from v)) o heap) e in
     ap (λ h. put_all h number (from + 1) values) same ∙ nothing_put heap number (from + 1) values e
 
 module _ (w : World) (heap : Heap TaggedValue) (number : ℕ) (values : List TaggedValue) where
@@ -119,7 +119,7 @@ module _ (w : World) (heap : Heap TaggedValue) (number : ℕ) (values : List Tag
       subst (λ (h : Heap TaggedValue). Leads w heap [] h) (sym (nothing_put heap number 0 values e)) (nowhere heap)
   put_leads (Some o) e =
       let p : Object TaggedValue =
-          record { kind = o.kind; owner = o.owner; cells = sets o.cells 0 values } in
+      record { kind = o.kind; owner = o.owner; cells = sets o.cells 0 values } in
       let size = length-sets o.cells 0 values in
       let touches = own_touch number o ∷ [] in
       subst (λ (h : Heap TaggedValue). Leads w heap touches h) (sym (all_put heap number 0 values o e))
@@ -228,8 +228,8 @@ module _ (w : World) (event : ClearingEvent) (context : Option ℕ) where
       let there = subst (λ (n : ℕ). slice_get whole n ≡ Some o) here (stands 0 o refl) in
       first_judged whole (test o) (suc k) o (clearing_touches event context (suc (suc k)) heap) there
       (judged whole heap (suc k) (λ n p e.
-          let at : k + suc n ≡ suc k + n = omega arith in
-          subst (λ (i : ℕ). slice_get whole i ≡ Some p) at (stands (suc n) p e)))
+      let at : k + suc n ≡ suc k + n = omega arith in
+      subst (λ (i : ℕ). slice_get whole i ≡ Some p) at (stands (suc n) p e)))
 
   first_allowed : (b : Bool) (number : ℕ) (o : Object TaggedValue) (more : List Touch) → are_allowed more ≡ true
       → are_allowed (first_touches b number o ++ more) ≡ true
@@ -258,9 +258,9 @@ module _ (w : World) (event : ClearingEvent) (context : Option ℕ) where
       let same : p ≡ one (test o) o = same_Some p (one (test o) o) (sym f ∙ got_cleared heap n o e) in
       subst (λ (x : Object TaggedValue). (x.cells ≡ o.cells) ⊎ IsAccessed touches (suc n) o) (sym same)
       (one_changed touches (suc n) (test o) o refl (λ t.
-          let at : 1 + n ≡ suc n = omega arith in
-          let l = subst (λ (k : ℕ). IsListed touches (own_touch k o)) at (listed heap 1 n o e t) in
-          own_accessed touches l.place (suc n) o l.there))
+      let at : 1 + n ≡ suc n = omega arith in
+      let l = subst (λ (k : ℕ). IsListed touches (own_touch k o)) at (listed heap 1 n o e t) in
+      own_accessed touches l.place (suc n) o l.there))
 
   clear_leads : (heap : Heap TaggedValue)
       → Leads w heap (clearing_touches event context 1 heap) (zeroed_where test heap)

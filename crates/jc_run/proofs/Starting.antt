@@ -43,7 +43,7 @@ module _ (laws : Laws) (images certificates : List ℕ → List ℕ → Type 0) 
   nothing_done end other = record {
     responses =
         none_done images certificates (commands_in (script_commands script)) (new_card limits binding) [] end
-            (λ e. absurd (other e)) (λ e. refl);
+        (λ e. absurd (other e)) (λ e. refl);
     accesses = all_guarded laws images certificates;
   }
 

@@ -12,7 +12,7 @@
     static method NAME() TYPE, stack 8, 2 locals: CODE | START to END: CLASS at LABEL, START to END: all at LABEL
     statics 1 4                             references in the static image, and other bytes behind them
     entry NAME: KIND WHAT TOKEN TYPE        of the constant pool; code goes by its name. `entry A` is the class A
-    export NAME
+    export NAME 0 2                         a class, with the static fields at these offsets
     applet AID METHOD                       an applet and its install method
 
 KIND is class, field, virtual, super, static field or static method. WHAT is a class, for a static field its offset and
@@ -137,8 +137,9 @@ class Reader:
         references, others = text.split()
         self.package.statics = Statics(int(references), defaults=int(others))
 
-    def export(self, name):
-        self.package.exports.append((name, [], []))
+    def export(self, text):
+        name, *offsets = text.split()
+        self.package.exports.append((name, [int(offset) for offset in offsets], []))
 
     def applet(self, text):
         aid, method = text.split()

@@ -1,20 +1,13 @@
-#!/usr/bin/env python3
-"""Links packages, one behind the other, and compares what comes of each. The last line is 'N passed, M failed'.
+"""Packages that are linked, and packages that are refused, with the line that each has to give; tests/verify runs them by
+`jcard verify`.
 
 A row has a name, packages with the line that each has to give, and lines of a binding that stand in place of the default
 table's. Whatever a rule forbids stands beside the nearest thing that it doesn't.
 """
-import os
-import subprocess
-import sys
-import tempfile
 from dataclasses import replace
 
-sys.dont_write_bytecode = True
-from packages import *  # noqa: E402
+from packages import *
 
-HERE = os.path.dirname(os.path.abspath(__file__))
-PROGRAM = os.path.join(os.path.dirname(HERE), 'crates', 'linker', 'out', 'linker')
 LINKED = 'linked'
 
 # Packages that several rows use.
@@ -293,35 +286,3 @@ def asking_more(number, token):
 
 row('a chain over three packages', *[x for p in CHAIN for x in (p, LINKED)], asking(14), LINKED, package(15, cls('Z')), LINKED, asking(16), LINKED,
     asking_more(17, 128), '11 Unresolved 0', asking_more(18, 2), '11 Unresolved 0')
-
-
-# Running
-
-
-def answers(folder, packages, binding):
-    paths = []
-    for number, (described, _) in enumerate(packages):
-        paths.append(os.path.join(folder, str(number)))
-        with open(paths[-1], 'wb') as file:
-            file.write(described if isinstance(described, bytes) else image(described))
-    table_of = os.path.join(folder, 'binding')
-    with open(table_of, 'w') as file:
-        file.write(bound(*binding))
-    done = subprocess.run([PROGRAM, 'link', table_of, *paths], capture_output=True, text=True, timeout=60)
-    return done.stdout.splitlines() + done.stderr.splitlines()
-
-
-def main():
-    passed = 0
-    with tempfile.TemporaryDirectory() as folder:
-        for name, packages, binding in ROWS:
-            wanted, got = [line for _, line in packages], answers(folder, packages, binding)
-            passed += wanted == got
-            if wanted != got:
-                print('%s: %s, and not %s' % (name, got, wanted))
-    print('%d passed, %d failed' % (passed, len(ROWS) - passed))
-    return 0 if passed == len(ROWS) else 1
-
-
-if __name__ == '__main__':
-    sys.exit(main())

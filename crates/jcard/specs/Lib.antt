@@ -10,6 +10,7 @@ pub mod Binding
 pub mod Verify
 pub mod Files
 pub mod FileSource
+pub mod PrivateFileSource
 pub mod Play
 pub mod Saying
 pub mod PrivateSaying

@@ -3,8 +3,9 @@
 ghost use Rattle.std.specs.Prelude.{⊤, ◌≡◌, ◌+◌, ◌<◌, ◌^◌, IfOk, IfErr};
 ghost use Rattle.jc_packages.specs.Source.{HoldSame, failures_in, failures_of};
 ghost use Rattle.jcard.specs.Files.{OfFile};
-ghost use Rattle.jcard.specs.FileSource.{HoldsCertificate, IsCertificateFault, IsKept, IsSourceFault, TellsAll};
+ghost use Rattle.jcard.specs.FileSource.{HoldsCertificate, IsCertificateFault, IsSourceFault};
 ghost use Rattle.jcard.specs.Folders.{IsImage};
+ghost use Rattle.jcard.specs.PrivateFileSource.{IsKept, TellsAll};
 
 use crate::files::{FileFault, Files, ReadFault, fault_of};
 use crate::folders::image_in;
@@ -37,7 +38,7 @@ pub struct FileSource<'a, F: Files, T: Faults> {
 }
 
 impl<'a, F: Files, T: Faults> Model for FileSource<'a, F, T> {
-    ghost use Rattle.jcard.specs.FileSource.{IsKept, Readings, TellsAll};
+    ghost use Rattle.jcard.specs.PrivateFileSource.{IsKept, Readings, TellsAll};
 
     ghost Value = { Readings F };
 

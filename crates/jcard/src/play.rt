@@ -4,9 +4,10 @@ ghost use Rattle.std.specs.Prelude.{◌≡◌, ℕ, List, Some, IfErr};
 ghost use Rattle.jc_run.specs.End.{end_of_fault};
 ghost use Rattle.jc_run.specs.Performs.{HasRun};
 ghost use Rattle.jc_run.specs.Play.{failures_at};
-ghost use Rattle.jcard.specs.FileSource.{HoldsCertificate, IsSourceFault, TellsAll};
+ghost use Rattle.jcard.specs.FileSource.{HoldsCertificate, IsSourceFault};
 ghost use Rattle.jcard.specs.Folders.{IsImage};
 ghost use Rattle.jcard.specs.Play.{IsTold, end_of_play, end_of_told, limits_with};
+ghost use Rattle.jcard.specs.PrivateFileSource.{TellsAll};
 
 use crate::file_source::{Faults, FileSource};
 use crate::files::{FileFault, Files, ReadFault};
@@ -78,10 +79,8 @@ fn play_telling<F: Files, R: Read, W: Write, T: Faults>(
     ensures told { IfErr result (IsTold T.tells) }
 {
     let mut source: FileSource<'_, F, T> = FileSource::new(files);
-    let limits = Limits {
-        steps,
-        ..Limits::DEFAULT
-    };
+    let mut limits = Limits::DEFAULT;
+    limits.steps = steps;
     match run_script(alloc, reader, writer, &mut source, limits, binding) {
         Ok(()) => Ok(()),
         Err(fault) => Err(told_of(source, fault)),

@@ -1,11 +1,13 @@
 -- What clap reads of a command line, as the job that it says.
-use Rattle.std.proofs.Common.{◌≡◌, ◌∙◌, ap₂, false, ◌||◌, sym, subst, refl, ℕ, ◌<◌, ◌^◌, List, [], ◌∷◌, Result, Ok, Err, arith, codes, inl, inr}
+use Rattle.std.proofs.Common.{◌≡◌, ◌∙◌, ap₂, false, ◌||◌, sym, subst, refl, ℕ, ◌<◌, ◌^◌, List, [], ◌∷◌, Result, Ok}
+use Rattle.std.proofs.Common.{Err, arith, codes, inl, inr}
 use Rattle.std.specs.Prelude.{Option, Some, None, IfErr, option_map}
 use Rattle.std.specs.Borrow.{Bor}
 use Rattle.std.specs.Result.{IsErr, IsErrAnd}
 use Rattle.std.specs.Str.Parse.{ParsesUnsigned}
 use Rattle.std.proofs.lemmas.Option.{none-some}
-use Rattle.clap.specs.Words.{AddsArg, App, ReadsOne, Row, Rule, Text, app_of, fault_of, first_of, kind_of, rule_of, subcommand_of, with_rule}
+use Rattle.clap.specs.Words.{AddsArg, App, ReadsOne, Row, Rule, Text, app_of, fault_of, first_of, kind_of, rule_of}
+use Rattle.clap.specs.Words.{subcommand_of, with_rule}
 use Rattle.clap.specs.Kinds.{HasKind, IsAmong, Kinds, or_else}
 use Rattle.clap.specs.declared.error.Error.{Error}
 use Rattle.clap.specs.declared.error.kind.ErrorKind.{ErrorKind}

@@ -15,5 +15,5 @@ returns c =
     ∙ ap₂ with_subcommand empty_is (ap (λ (a : App). a.top) e.app) in
     let two = c.in_ok-subcommand-2.ensures.shape v.globals
     ∙ ap₂ with_subcommand one (ap (λ (a : App). a.top) v.app) in
-    IfOk-weaker c.subcommand-3.result _ _
-    (λ made added. added.shape r.globals ∙ ap₂ with_subcommand two (ap (λ (a : App). a.top) r.app)) c.subcommand-3.ensures
+    IfOk-weaker c.subcommand-3.result _ _ (λ made added.
+    added.shape r.globals ∙ ap₂ with_subcommand two (ap (λ (a : App). a.top) r.app)) c.subcommand-3.ensures

@@ -1,8 +1,8 @@
 //! The binding of the API's packages, from a file.
 
-ghost use Rattle.std.specs.Prelude.{◌≡◌, Ok, IfOk, IfErr};
+ghost use Rattle.std.specs.Prelude.{IfOk, IfErr};
 ghost use Rattle.jcard.specs.Binding.{HasBinding, IsBindingFault, IsBindingFor, IsNoBinding, IsUnbound, SaysBinding};
-ghost use Rattle.jcard.specs.Files.{IsFaultAt, OfFile};
+ghost use Rattle.jcard.specs.Files.{OfFile};
 
 use crate::files::{FileCause, Files, ReadFault, fault_of};
 use jc_api::Binding;

@@ -1,7 +1,7 @@
 //! Packages in folders, and certificates in files.
 
 ghost use Rattle.std.specs.Prelude.{⊤, ◌≡◌, ◌+◌, ◌<◌, ◌^◌, IfOk, IfErr};
-ghost use Rattle.jc_packages.specs.Source.{HoldSame, failures_in, failures_of};
+ghost use Rattle.jc_packages.specs.Source.{failures_of};
 ghost use Rattle.jcard.specs.Files.{OfFile};
 ghost use Rattle.jcard.specs.FileSource.{HoldsCertificate, IsCertificateFault, IsSourceFault};
 ghost use Rattle.jcard.specs.Folders.{IsImage};

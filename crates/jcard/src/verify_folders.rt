@@ -1,7 +1,7 @@
 //! The verification of packages in folders.
 
-ghost use Rattle.std.specs.Prelude.{◌≡◌, [], Ok, IfOk, IfErr};
-ghost use Rattle.jcard.specs.Files.{IsFaultAt, IsWritten, OfFile};
+ghost use Rattle.std.specs.Prelude.{IfOk, IfErr};
+ghost use Rattle.jcard.specs.Files.{IsWritten, OfFile};
 ghost use Rattle.jcard.specs.Saying.{IsSaidOfJob};
 ghost use Rattle.jcard.specs.Verify.{IsAnswerOf, IsDone, IsUndone, IsUnreadOf, IsUnwrittenOf, written_of};
 

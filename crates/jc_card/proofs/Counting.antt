@@ -5,7 +5,8 @@ use Rattle.jc_machine.specs.Reading.{HeapReads, Pointwise, Reads}
 use Rattle.jc_store.specs.Heap.{Heap, cells_in}
 use Rattle.jc_words.specs.Values.{TaggedValue}
 
-pub as_many : {A B : Type 0} (R : A → B → Type 0) (xs : List A) (ys : List B) → Pointwise R xs ys → length xs ≡ length ys
+pub as_many : {A B : Type 0} (R : A → B → Type 0) (xs : List A) (ys : List B) → Pointwise R xs ys
+    → length xs ≡ length ys
 as_many R [] [] h = refl
 as_many R [] (y ∷ ys) h = absurd h
 as_many R (x ∷ xs) [] h = absurd h

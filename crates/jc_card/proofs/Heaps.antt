@@ -116,7 +116,7 @@ put_some heap number index value object e =
     ap (λ o. option_map_or (λ object. with_object heap number (with_cell object index value)) o heap) e
 
 -- one by one
-all_put : {V : Type 0} (heap : Heap V) (number from : ℕ) (values : List V) (object : Object V)
+pub all_put : {V : Type 0} (heap : Heap V) (number from : ℕ) (values : List V) (object : Object V)
     → object_at heap number ≡ Some object
     → put_all heap number from values ≡ with_object heap number (with_all object (sets object.cells from values))
 all_put heap number from [] object e = sym (same_heap heap number object e)

@@ -16,3 +16,7 @@ mod Installing
 mod Worlds
 mod Checked
 mod NewCards
+mod Leading
+mod LeadingCalls
+mod LeadingWrites
+mod Guarding

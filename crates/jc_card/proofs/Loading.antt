@@ -16,7 +16,8 @@ use Rattle.jc_machine.specs.Machine.{Machine, Surroundings}
 use Rattle.jc_machine.specs.Typed.{IsTypedBeside}
 use Rattle.jc_natives.specs.Kept.{Kept}
 use Rattle.jc_natives.specs.Meaning.{meaning}
-use Rattle.jc_safety.specs.Loading.{MayLoad, around_behind, has_room_for, heap_behind, loaded_array, loaded_arrays, loaded_statics, machine_behind, next_package}
+use Rattle.jc_safety.specs.Loading.{MayLoad, around_behind, has_room_for, heap_behind, loaded_array, loaded_arrays}
+use Rattle.jc_safety.specs.Loading.{loaded_statics, machine_behind, next_package}
 use Rattle.jc_store.specs.Heap.{Heap, cells_in, next_number}
 use Rattle.jc_words.specs.Values.{TaggedValue}
 use Rattle.jc_card.specs.Card.{CardState, around, at_rest}

@@ -3,6 +3,7 @@ pub mod Parts
 pub mod Command
 pub mod Commands
 pub mod Install
+pub mod Accesses
 pub mod Reads
 pub mod PrivateWords
 pub mod New

@@ -1,7 +1,8 @@
 //! What the card does to a command (Java Card Runtime Environment Specification, Selection, Applet Lifetime: select,
 //! deselect and process).
 
-ghost use Rattle.std.specs.Prelude.{◌≡◌, ◌≤◌, length};
+ghost use Rattle.std.specs.Prelude.{◌≡◌, ◌≤◌, IfSome, length};
+ghost use Rattle.jc_card.specs.Accesses.{IsGuardedCommand};
 ghost use Rattle.jc_card.specs.Card.{CardState};
 ghost use Rattle.jc_card.specs.Command.{buffer_of, buffer_size};
 ghost use Rattle.jc_card.specs.Commands.{apdu_command, ask, choose, dispatch, perform, process, receive};
@@ -10,6 +11,7 @@ ghost use Rattle.jc_card.specs.Parts.{write};
 ghost use Rattle.jc_card.specs.Reads.{Does, GivesNothing, Holds, ReadsResponse};
 ghost use Rattle.jc_machine.specs.Runtime.{apdu_buffer};
 
+use crate::accesses::commands_are_guarded;
 use crate::answer::Answer;
 use crate::calls::AppletCall;
 use crate::card::Card;
@@ -136,8 +138,11 @@ impl Card {
 
     /// Does what a command of a reader asks for, and answers it. Bytes that are no command are answered 6700.
     pub fn apdu(&mut self, bytes: &[u8]) -> Answer
-        ensures { Does self.old self.new (ReadsResponse result) (λ c. apdu_command c bytes.now) }
+        ensures done { Does self.old self.new (ReadsResponse result) (λ c. apdu_command c bytes.now) }
+        ensures guarded { (c : CardState) → Holds self.old c
+            → IfSome (apdu_command c bytes.now) (IsGuardedCommand c) }
     {
+        commands_are_guarded();
         match Command::parse(bytes) {
             Some(command) => self.receive(&command),
             None => Answer::status_alone(WRONG_LENGTH),

@@ -1,7 +1,8 @@
 //! The installation of applets (Java Card Runtime Environment Specification, Applet Lifetime: the install method,
 //! Applet installation parameters).
 
-ghost use Rattle.std.specs.Prelude.{◌≡◌, ◌<◌, ◌≤◌, suc, IfNone, Some, length};
+ghost use Rattle.std.specs.Prelude.{◌≡◌, ◌<◌, ◌≤◌, suc, IfNone, IfSome, Some, length};
+ghost use Rattle.jc_card.specs.Accesses.{IsGuardedCommand};
 ghost use Rattle.jc_card.specs.Card.{CardState, with_kept};
 ghost use Rattle.jc_card.specs.Install.{accepted, begin, call_install, failure_of, install_as};
 ghost use Rattle.jc_card.specs.Install.{install_command, install_size, most_data, padded, parameters_of};
@@ -14,6 +15,7 @@ ghost use Rattle.jc_machine.specs.Runtime.{most_instances};
 ghost use Rattle.jc_names.specs.declared.name.MethodName.TheVariants.{Loaded};
 ghost use Rattle.jc_natives.specs.Kept.{after_install, with_install};
 
+use crate::accesses::commands_are_guarded;
 use crate::card::Card;
 use crate::fault::InstallFault;
 use crate::laws::aids_are_fit;
@@ -260,9 +262,12 @@ impl Card {
         instance: &Aid,
         incoming: &[u8],
     ) -> Result<u8, InstallFault>
-        ensures { Does self.old self.new (ReadsInstalled result)
+        ensures done { Does self.old self.new (ReadsInstalled result)
             (λ c. install_command c applet.now instance.now incoming.now) }
+        ensures guarded { (c : CardState) → Holds self.old c
+            → IfSome (install_command c applet.now instance.now incoming.now) (IsGuardedCommand c) }
     {
+        commands_are_guarded();
         let Some(place) = applet_of(&self.world, applet) else {
             return Err(InstallFault::UnknownApplet);
         };

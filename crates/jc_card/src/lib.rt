@@ -1,6 +1,7 @@
 //! The card: installation, selection, dispatch and reset.
 #![tactic(auto)]
 
+mod accesses;
 mod answer;
 mod calls;
 mod card;
@@ -22,6 +23,7 @@ mod selection;
 mod status;
 mod writing;
 
+pub use accesses::{accesses_add_up, commands_are_guarded};
 pub use answer::{Answer, MOST_SENT};
 pub use card::Card;
 pub use fault::{CardFault, InstallFault};

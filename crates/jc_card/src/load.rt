@@ -1,13 +1,15 @@
 //! Loading packages (Java Card Virtual Machine Specification, Linking, Verification of CAP files).
 
 ghost use Rattle.std.specs.Prelude.{◌≡◌, ◌<◌, ℕ, length, true, Result, Ok, IfErr, IfOk};
+ghost use Rattle.jc_card.specs.Accesses.{LeavesObjects};
 ghost use Rattle.jc_card.specs.Card.{CardState};
-ghost use Rattle.jc_card.specs.Load.{has_room, with_package};
+ghost use Rattle.jc_card.specs.Load.{IsLoad, has_room, with_package};
 ghost use Rattle.jc_card.specs.Reads.{Holds, Loads};
 ghost use Rattle.jc_link.specs.Linked.{IsBoundTo, most_in_world, with_linked};
 ghost use Rattle.jc_machine.specs.Accepted.{IsAccepted};
 ghost use Rattle.jc_safety.specs.Loading.{next_package};
 
+use crate::accesses::commands_are_guarded;
 use crate::card::Card;
 use crate::checking::checked;
 use crate::growing::grow;
@@ -62,8 +64,11 @@ impl Card {
     /// package leaves the card as it was. Of several refusals that apply the one with the smallest number is told, and
     /// `Memory` may come in place of any that isn't about the image's components.
     pub fn load(&mut self, alloc: Global, image: &[u8], certificate: &[u8]) -> Result<u8, LoadFault>
-        ensures { Loads self.old self.new image.now certificate.now result }
+        ensures done { Loads self.old self.new image.now certificate.now result }
+        ensures guarded { (c after : CardState) → IsLoad c image.now certificate.now result after
+            → LeavesObjects c.heap after.heap }
     {
+        commands_are_guarded();
         let linked = checked(alloc, image, certificate, &self.world)?;
         if !self.has_room(&linked) {
             return Err(LoadFault::Full);

@@ -1,11 +1,14 @@
 //! Selection and deselection, clearing and reset (Java Card Runtime Environment Specification, Applet Lifetime,
 //! Transient Objects).
 
-ghost use Rattle.jc_card.specs.Card.{with_selected};
+ghost use Rattle.std.specs.Prelude.{IfSome};
+ghost use Rattle.jc_card.specs.Accesses.{IsGuardedCommand};
+ghost use Rattle.jc_card.specs.Card.{CardState, with_selected};
 ghost use Rattle.jc_card.specs.Commands.{deselect, reset_command, unselect};
 ghost use Rattle.jc_card.specs.Parts.{clear, gives};
-ghost use Rattle.jc_card.specs.Reads.{Does, GivesNothing};
+ghost use Rattle.jc_card.specs.Reads.{Does, GivesNothing, Holds};
 
+use crate::accesses::commands_are_guarded;
 use crate::calls::AppletCall;
 use crate::card::Card;
 use jc_machine::Natives;
@@ -50,8 +53,10 @@ impl Card {
 
     /// A reset: no applet is selected, and all transient arrays are zero or null. No method is called.
     pub fn reset(&mut self)
-        ensures { Does self.old self.new GivesNothing reset_command }
+        ensures done { Does self.old self.new GivesNothing reset_command }
+        ensures guarded { (c : CardState) → Holds self.old c → IfSome (reset_command c) (IsGuardedCommand c) }
     {
+        commands_are_guarded();
         self.set_selected(None);
         self.clear(ClearingEvent::Reset, None);
         self.clear(ClearingEvent::Deselect, None);

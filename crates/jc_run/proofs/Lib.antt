@@ -4,3 +4,4 @@ pub mod Written
 pub mod Ending
 pub mod Playing
 pub mod Starting
+mod Running

@@ -7,6 +7,7 @@ use Rattle.jc_card.specs.declared.limits.Limits.{Limits}
 use Rattle.jc_packages.specs.Source.{Asked, Certificate, Image}
 use Rattle.jc_run.specs.Answer.{Answered}
 use Rattle.jc_run.specs.Play.{IsAnswered, Plays, RunsTo, ScriptEnd}
+use Rattle.jc_run.specs.Runs.{IsSimulated}
 use Rattle.jc_script.specs.Script.{Apdu, Install, Load, Reset, ScriptCommand, lines_of}
 
 -- it leaves words that hold the card which it leaves on the machine's card, and is answered as there
@@ -37,9 +38,10 @@ pub record PlaysOn (images certificates : List ℕ → List ℕ → Type 0) (num
   pub plays : Plays images certificates number (lines_of bytes) c written end
   pub now_is : now ≡ Some (before ++ written)
 
--- it is what a script comes to on a new card
+-- it is what a script comes to on a new card, where the simulation theorem holds of it
 pub record HasRun (images certificates : List ℕ → List ℕ → Type 0) (limits : Limits) (binding : Bound)
     (script before : List ℕ) (now : Option (List ℕ)) (end : ScriptEnd) : Type 0 where
   pub written : List ℕ
   pub runs : RunsTo images certificates limits binding script written end
+  pub simulated : IsSimulated images certificates limits binding script written end
   pub now_is : now ≡ Some (before ++ written)

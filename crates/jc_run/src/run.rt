@@ -17,7 +17,7 @@ use crate::command::perform;
 use crate::fault::ScriptFault;
 use crate::writing::write_answer;
 use jc_api::Binding;
-use jc_card::{Card, Limits};
+use jc_card::{Card, Limits, accesses_add_up, commands_are_guarded};
 use jc_packages::{PackageSource, SourceFault};
 use jc_script::{MOST_LINES, NextLine, ScriptCommand, ScriptLine, ScriptReader, said_by};
 use std::alloc::Global;
@@ -206,6 +206,8 @@ pub fn run_script<R: Read, W: Write, S: PackageSource>(
     ensures same_images { HoldSame (S.holds_image source.old) (S.holds_image source.new) }
     ensures same_certificates { HoldSame (S.holds_certificate source.old) (S.holds_certificate source.new) }
 {
+    commands_are_guarded();
+    accesses_add_up();
     let mut card = Card::new(alloc, limits, binding)?;
     play(alloc, reader, writer, source, &mut card)
 }

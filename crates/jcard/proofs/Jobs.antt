@@ -3,11 +3,12 @@ use Rattle.std.proofs.Common.{subst, sym, ℕ, List, []}
 use Rattle.std.proofs.lemmas.List.{append-nil}
 use Rattle.std.specs.List.{AllZip}
 use Rattle.jc_api.specs.Bound.{Bound}
+use Rattle.jcard.specs.Binding.{IsBindingFor}
 use Rattle.jcard.specs.Files.{Entry, IsWritten, OfFile, Written}
 use Rattle.jcard.specs.Folders.{FailsFirst, IsFolderFault, IsImage}
 use Rattle.jcard.specs.Saying.{IsSaidOfFiles, IsSaidOfJob}
 use Rattle.jcard.specs.Saying.IsSaidOfJob.{memory, undone}
-use Rattle.jcard.specs.Verify.{IsBindingFor, IsUndone, IsUnreadOf, earlier_of}
+use Rattle.jcard.specs.Verify.{IsUndone, IsUnreadOf, earlier_of}
 use Rattle.jcard.specs.Verify.IsUndone.{unread}
 use Rattle.jcard.specs.Verify.IsUnreadOf.{earlier, last}
 use Rattle.jcard.specs.declared.files.ReadFault.{ReadFault}

@@ -2,3 +2,4 @@ mod Evaluating
 mod Lines
 mod Reading
 mod Jobs
+mod Sources

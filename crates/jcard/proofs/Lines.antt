@@ -1,11 +1,13 @@
 -- What clap reads of a command line, as the job that it says.
-use Rattle.std.proofs.Common.{◌≡◌, ◌∙◌, ap₂, false, ◌||◌, sym, subst, refl, ℕ, ◌<◌, ◌^◌, List, [], ◌∷◌, Result, Ok, Err, arith, codes, inl, inr}
+use Rattle.std.proofs.Common.{◌≡◌, ◌∙◌, ap₂, false, ◌||◌, sym, subst, refl, ℕ, ◌<◌, ◌^◌, List, [], ◌∷◌, Result, Ok}
+use Rattle.std.proofs.Common.{Err, arith, codes, inl, inr}
 use Rattle.std.specs.Prelude.{Option, Some, None, IfErr, option_map}
 use Rattle.std.specs.Borrow.{Bor}
 use Rattle.std.specs.Result.{IsErr, IsErrAnd}
 use Rattle.std.specs.Str.Parse.{ParsesUnsigned}
 use Rattle.std.proofs.lemmas.Option.{none-some}
-use Rattle.clap.specs.Words.{AddsArg, App, ReadsOne, Row, Rule, Text, app_of, fault_of, first_of, kind_of, rule_of, subcommand_of, with_rule}
+use Rattle.clap.specs.Words.{AddsArg, App, ReadsOne, Row, Rule, Text, app_of, fault_of, first_of, kind_of, rule_of}
+use Rattle.clap.specs.Words.{subcommand_of, with_rule}
 use Rattle.clap.specs.Kinds.{HasKind, IsAmong, Kinds, or_else}
 use Rattle.clap.specs.declared.error.Error.{Error}
 use Rattle.clap.specs.declared.error.kind.ErrorKind.{ErrorKind}
@@ -13,9 +15,10 @@ use Rattle.clap.specs.declared.error.kind.ErrorKind.TheVariants.{MissingSubcomma
 use Rattle.clap.specs.declared.builder.arg.Arg.{Arg}
 use Rattle.clap.specs.declared.builder.command.Command.{Command}
 use Rattle.clap.specs.declared.builder.command.Command.TheViews.{out-Command}
-use Rattle.jcard.specs.Line.{AreSteps, Finds, IsJobAmong, IsEvalOf, IsEvalAmong, IsSteps, IsFaultFrom, IsJobFor, IsLineFault, IsVerifyAmong, IsVerifyOf, card_app}
+use Rattle.jcard.specs.Line.{AreSteps, Finds, IsJobAmong, IsEvalOf, IsEvalAmong, IsSteps, IsFaultFrom, IsJobFor}
+use Rattle.jcard.specs.Line.{IsLineFault, IsRunAmong, IsRunOf, IsVerifyAmong, IsVerifyOf, card_app}
 use Rattle.jcard.specs.declared.job.Job.{Job}
-use Rattle.jcard.specs.declared.job.Job.TheVariants.{Eval, Verify}
+use Rattle.jcard.specs.declared.job.Job.TheVariants.{Eval, Verify, Run}
 use Rattle.jcard.specs.declared.line.LineFault.{LineFault}
 
 -- the number of steps that a text says, if there is one
@@ -48,33 +51,52 @@ zero_said {gives = gives} o read n value parses e zero steps said =
 pub no_code : (rows : List Row) → first_of (codes "CODE") rows ≡ None → (job : Job) → IsEvalOf rows job → ⊥
 no_code rows none (Eval code cert steps) said = none-some code.now (sym none ∙ said.0)
 no_code rows none (Verify v) said = said
+no_code rows none (Run r) said = said
 
 pub no_cert : (rows : List Row) → first_of (codes "CERT") rows ≡ None → (job : Job) → IsEvalOf rows job → ⊥
 no_cert rows none (Eval code cert steps) said = none-some cert.now (sym none ∙ said.1)
 no_cert rows none (Verify v) said = said
+no_cert rows none (Run r) said = said
 
 pub no_steps : (rows : List Row) → ((steps : ℕ) → AreSteps rows steps → ⊥) → (job : Job) → IsEvalOf rows job → ⊥
 no_steps rows none (Eval code cert steps) said = none steps said.2
 no_steps rows none (Verify v) said = said
+no_steps rows none (Run r) said = said
 
 -- nor do entries that lack a folder or a file
 pub no_folder : (rows : List Row) → first_of (codes "FOLDER") rows ≡ None → (job : Job) → IsVerifyOf rows job → ⊥
 no_folder rows none (Eval code cert steps) said = said
 no_folder rows none (Verify v) said = none-some v.folder.now (sym none ∙ said.0)
+no_folder rows none (Run r) said = said
 
 pub no_file : (rows : List Row) → first_of (codes "CERT") rows ≡ None → (job : Job) → IsVerifyOf rows job → ⊥
 no_file rows none (Eval code cert steps) said = said
 no_file rows none (Verify v) said = none-some v.cert.now (sym none ∙ said.1)
+no_file rows none (Run r) said = said
+
+-- nor do entries that lack a script or its steps
+pub no_script : (rows : List Row) → first_of (codes "SCRIPT") rows ≡ None → (job : Job) → IsRunOf rows job → ⊥
+no_script rows none (Eval code cert steps) said = said
+no_script rows none (Verify v) said = said
+no_script rows none (Run r) said = none-some r.script.now (sym none ∙ said.0)
+
+pub no_steps_of_run : (rows : List Row) → ((steps : ℕ) → AreSteps rows steps → ⊥) → (job : Job) → IsRunOf rows job → ⊥
+no_steps_of_run rows none (Eval code cert steps) said = said
+no_steps_of_run rows none (Verify v) said = said
+no_steps_of_run rows none (Run r) said = none r.steps said.1
 
 -- what isn't there has no text
 pub not_some : (o : Option (Bor Text)) (t : Option Text) → option_map (λ s. s.now) o ≡ t → ((x : Bor Text) → o ≡ Some x → ⊥) → t ≡ None
 not_some None t e none = sym e
 not_some (Some x) t e none = absurd (none x refl)
 
--- the job that is said where `eval` isn't met is that of `verify`, if one is
-pub neither : (met : Option (Text × List Row)) → ((job : Job) → IsEvalAmong met job → ⊥) → (found : Option Job) → Finds found (IsVerifyAmong met) → Finds found (IsJobAmong met)
-neither met no_eval (Some job) said = inr said
-neither met no_eval None none = λ job. elim [ inl said ↦ no_eval job said | inr said ↦ none job said ]
+-- the job that is said where neither `eval` nor `run` is met is that of `verify`, if one is
+pub neither : (met : Option (Text × List Row)) → ((job : Job) → IsEvalAmong met job → ⊥)
+    → ((job : Job) → IsRunAmong met job → ⊥) → (found : Option Job) → Finds found (IsVerifyAmong met)
+    → Finds found (IsJobAmong met)
+neither met no_eval no_run (Some job) said = inr (inl said)
+neither met no_eval no_run None none =
+    λ job. elim [ inl said ↦ no_eval job said | inr (inl said) ↦ none job said | inr (inr said) ↦ no_run job said ]
 
 -- one of some kinds is one of these or else others
 among_first : (k : ErrorKind) (kinds others : Kinds) → IsAmong k kinds → IsAmong k (or_else kinds others)

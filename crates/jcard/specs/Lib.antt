@@ -3,9 +3,14 @@ pub mod Eval
 pub mod PrivateEval
 pub mod Texts
 pub mod Line
+pub mod PrivateLine
 pub mod Folders
 pub mod PrivateFolders
+pub mod Binding
 pub mod Verify
 pub mod Files
+pub mod FileSource
+pub mod PrivateFileSource
+pub mod Play
 pub mod Saying
 pub mod PrivateSaying

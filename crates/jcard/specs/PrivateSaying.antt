@@ -3,7 +3,7 @@ use Rattle.std.specs.Prelude.{ℕ, List}
 use Rattle.jcard.specs.Saying.{IsFailure, IsSuccess}
 use Rattle.jcard.specs.Texts.{AnswersTexts, IsTextFault}
 use Rattle.jcard.specs.declared.saying.Message.{Message}
-use Rattle.jcard.specs.declared.saying.Message.TheVariants.{Answer, Fault, File, Line, NotText, Verified}
+use Rattle.jcard.specs.declared.saying.Message.TheVariants.{Answer, Fault, File, Line, Load, NotText, Script, Verified}
 use Rattle.jcard.specs.declared.saying.Said.{Said}
 
 abbrev pub IsSaidWith : List ℕ → List ℕ → ℕ → Said → Message → Type 0
@@ -11,6 +11,8 @@ IsSaidWith code cert steps said (Answer answer) = AnswersTexts code cert steps a
 IsSaidWith code cert steps said (Fault fault) = IsTextFault code cert fault × IsFailure said
 IsSaidWith code cert steps said (Verified answer) = ⊥
 IsSaidWith code cert steps said (File fault) = ⊥
+IsSaidWith code cert steps said (Load number fault) = ⊥
+IsSaidWith code cert steps said (Script fault) = ⊥
 IsSaidWith code cert steps said (Line error) = ⊥
 IsSaidWith code cert steps said NotText = ⊥
 

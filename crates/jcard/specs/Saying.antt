@@ -15,10 +15,12 @@ use Rattle.jcard.specs.Texts.{AnswersTexts, IsTextFault, fault_line_of}
 use Rattle.jcard.specs.declared.answer.EvalAnswer.{EvalAnswer}
 use Rattle.jcard.specs.Verify.{IsDone, IsUndone}
 use Rattle.jcard.specs.declared.job.Job.{Job}
-use Rattle.jcard.specs.declared.job.Job.TheVariants.{Eval, Verify}
+use Rattle.jcard.specs.declared.job.Job.TheVariants.{Eval, Verify, Run}
 use Rattle.jcard.specs.declared.job.VerifyJob.{VerifyJob}
 use Rattle.jcard.specs.declared.saying.Message.{Message}
-use Rattle.jcard.specs.declared.saying.Message.TheVariants.{Answer, Fault, File, Line, NotText, Verified}
+use Rattle.jcard.specs.declared.play.PlayFault.{PlayFault}
+use Rattle.jcard.specs.declared.play.PlayFault.TheVariants as plays
+use Rattle.jcard.specs.declared.saying.Message.TheVariants.{Answer, Fault, File, Line, Load, NotText, Script, Verified}
 use Rattle.jcard.specs.declared.saying.Said.{Said}
 use Rattle.jcard.specs.declared.saying.Remark.{Remark}
 use Rattle.jcard.specs.declared.saying.Reply.{Reply}
@@ -44,12 +46,19 @@ status_number Misuse = 2
 abbrev pub line_feed : List ℕ
 line_feed = codes "\n"
 
--- the bytes that are written, but for the words of clap, of the system, and of the reader of hexadecimal
+-- a line of a script, by its number, and a file that it names, by its own line
+abbrev pub load_line : ℕ → List ℕ → List ℕ
+load_line number line = (((codes "error: line " ++ decimal number) ++ codes ": ") ++ line) ++ line_feed
+
+-- the bytes that are written, but for the words of clap, of the system, of the reader of hexadecimal, and of a script's
+-- fault
 abbrev pub text_of : Message → Option (List ℕ)
 text_of (Answer answer) = Some (line_of answer ++ line_feed)
 text_of (Fault fault) = option_map (λ line. (codes "error: " ++ line) ++ line_feed) (fault_line_of fault)
 text_of (Verified answer) = Some (verify_line_of answer ++ line_feed)
 text_of (File fault) = option_map (λ line. (codes "error: " ++ line) ++ line_feed) (file_line fault)
+text_of (Load number fault) = option_map (load_line number) (file_line fault)
+text_of (Script fault) = None
 text_of (Line error) = None
 text_of NotText = Some (codes "error: an argument isn't UTF-8" ++ line_feed)
 
@@ -69,11 +78,13 @@ IsMisuse said = (said.stream ≡ Errors) × (said.status ≡ Misuse)
 abbrev pub AnswersJob : Job → EvalAnswer → Type 0
 AnswersJob (Eval code cert steps) answer = AnswersTexts code.now cert.now steps answer
 AnswersJob (Verify job) answer = ⊥
+AnswersJob (Run job) answer = ⊥
 
 -- what is wrong with the texts of a job of `eval`
 abbrev pub IsJobFault : Job → TextFault → Type 0
 IsJobFault (Eval code cert steps) fault = IsTextFault code.now cert.now fault
 IsJobFault (Verify job) fault = ⊥
+IsJobFault (Run job) fault = ⊥
 
 -- the words say a job, and this is its answer
 pub record AnswersLine (words : List Text) (answer : EvalAnswer) : Type 0 where
@@ -109,6 +120,8 @@ IsSaidAs words said (Answer answer) = AnswersLine words answer × IsSuccess said
 IsSaidAs words said (Fault fault) = IsFaultOfLine words fault × IsFailure said
 IsSaidAs words said (Verified answer) = ⊥
 IsSaidAs words said (File fault) = ⊥
+IsSaidAs words said (Load number fault) = ⊥
+IsSaidAs words said (Script fault) = ⊥
 IsSaidAs words said (Line error) = IsLineError words error × IsSaidOfLine error said
 IsSaidAs words said NotText = ⊥
 
@@ -116,10 +129,12 @@ IsSaidAs words said NotText = ⊥
 abbrev pub IsSaid : List Text → Said → Type 0
 IsSaid words said = IsSaidAs words said said.message
 
--- the reply to the words of a command line: what is said, or the package to be verified that they say
+-- the reply to the words of a command line: what is said, or the package to be verified or the script to be played that
+-- they say
 abbrev pub IsReply : List Text → Reply → Type 0
 IsReply words (replies.Said said) = IsSaid words said
 IsReply words (replies.Verify job) = IsJobFor words (Verify job)
+IsReply words (replies.Run job) = IsJobFor words (Run job)
 
 -- what is said of the answer to a package: its line, or out of memory
 abbrev pub IsSaidOfVerified : VerifyAnswer → Said → Type 0
@@ -134,6 +149,13 @@ IsSaidOfVerified answers.Memory said = (said.message ≡ Fault Memory) × IsFail
 abbrev pub IsSaidOfFiles : ReadFault → Said → Type 0
 IsSaidOfFiles (reading.File fault) said = (said.message ≡ File fault) × IsFailure said
 IsSaidOfFiles reading.Memory said = (said.message ≡ Fault Memory) × IsFailure said
+
+-- what is said of a script that isn't played to its end
+abbrev pub IsSaidOfPlay : PlayFault → Said → Type 0
+IsSaidOfPlay (plays.File fault) said = (said.message ≡ File fault) × IsFailure said
+IsSaidOfPlay (plays.Load number fault) said = (said.message ≡ Load number fault) × IsFailure said
+IsSaidOfPlay (plays.Script fault) said = (said.message ≡ Script fault) × IsFailure said
+IsSaidOfPlay plays.Memory said = (said.message ≡ Fault Memory) × IsFailure said
 
 -- what is said of a package in a folder behind others: the answer to what the files hold, once it is written; or the
 -- file at fault; or out of memory
@@ -158,6 +180,8 @@ remark_of (Answer answer) = None
 remark_of (Fault fault) = None
 remark_of (Verified answer) = verify_remark answer
 remark_of (File fault) = None
+remark_of (Load number fault) = None
+remark_of (Script fault) = None
 remark_of (Line error) = None
 remark_of NotText = None
 

@@ -11,6 +11,8 @@ pub enum Job<'a> {
     },
     /// A package, whose certificate is worked out.
     Verify(VerifyJob<'a>),
+    /// A script, which is played on a new card.
+    Run(RunJob<'a>),
 }
 
 /// A package to be verified, by the names of folders and files.
@@ -22,6 +24,17 @@ pub struct VerifyJob<'a> {
     pub cert: &'a str,
     /// The folders of the packages before it, in the order in which they are linked.
     pub earlier: Vec<&'a str>,
+    /// The file of the binding, where it isn't the default one.
+    pub binding: Option<&'a str>,
+}
+
+/// A script to be played on a new card, by the names of files.
+#[derive(Debug, Drop)]
+pub struct RunJob<'a> {
+    /// The file of the script.
+    pub script: &'a str,
+    /// How many instructions a call of an applet may run at most.
+    pub steps: u32,
     /// The file of the binding, where it isn't the default one.
     pub binding: Option<&'a str>,
 }

@@ -1,11 +1,15 @@
-//! The command line: `jcard eval CODE [CERT] [--steps N]`, `jcard verify FOLDER CERT [EARLIER..] [--binding FILE]`.
+//! The command line: `jcard eval CODE [CERT] [--steps N]`, `jcard verify FOLDER CERT [EARLIER..] [--binding FILE]`,
+//! `jcard run SCRIPT [--steps N] [--binding FILE]`.
 
 ghost use Rattle.std.specs.Prelude.{◌≡◌, map, IfErr, IfOk};
 ghost use Rattle.clap.specs.Words.{app_of, found_of, rows_of, subcommand_rows_of};
 ghost use Rattle.jcard.specs.declared.line.LineFault.TheVariants.{Memory};
-ghost use Rattle.jcard.specs.Line.{AreEarlier, AreSteps, Finds, IsEvalAmong, IsEvalCommand, IsEvalOf, IsFaultFrom, IsJobAmong, IsJobFor, IsLineFault, IsVerifyAmong, IsVerifyCommand, IsVerifyOf, card_app};
+ghost use Rattle.jcard.specs.Line.{AreEarlier, AreSteps, Finds, IsEvalAmong, IsEvalCommand, IsEvalOf, IsFaultFrom};
+ghost use Rattle.jcard.specs.Line.{IsJobAmong, IsJobFor, IsLineFault, IsRunAmong, IsRunCommand, IsRunOf};
+ghost use Rattle.jcard.specs.Line.{IsVerifyAmong, IsVerifyCommand, IsVerifyOf, binding_rule, card_app, steps_rule};
+ghost use Rattle.jcard.specs.PrivateLine.{IsArgument};
 
-use crate::job::{Job, VerifyJob};
+use crate::job::{Job, RunJob, VerifyJob};
 use clap::error::ErrorKind;
 use clap::{Arg, ArgAction, ArgMatches, Command, Error, value_parser};
 use std::alloc::{AllocError, Global};
@@ -66,10 +70,13 @@ fn card_command<'a>(alloc: Global) -> Result<Command<'a>, AllocError>
     ensures { IfOk result (λ c. app_of c ≡ card_app) }
 {
     Command::new(alloc, "jcard")
-        .about("Verifies packages of a Java Card, and checks and runs code")
+        .about(
+            "Verifies packages of a Java Card, plays scripts on a card, and checks and runs code",
+        )
         .subcommand_required(true)
         .subcommand(eval_command(alloc)?)?
-        .subcommand(verify_command(alloc)?)
+        .subcommand(verify_command(alloc)?)?
+        .subcommand(run_command(alloc)?)
 }
 
 // `eval CODE [CERT] [--steps N]`.
@@ -82,12 +89,10 @@ fn eval_command<'a>(alloc: Global) -> Result<Command<'a>, AllocError>
     let cert = Arg::new(alloc, "CERT")
         .default_value("0000")
         .help("The code's certificate, in hexadecimal");
-    let steps = Arg::new(alloc, "steps")
-        .long("steps")
-        .value_name("N")
-        .value_parser(value_parser!(u32).range(1..))
-        .default_value("100000")
-        .help("How many instructions are run at most, from 1 to 4294967295");
+    let steps = steps_argument(
+        alloc,
+        "How many instructions are run at most, from 1 to 4294967295",
+    );
     Command::new(alloc, "eval")
         .about("Checks code with a certificate and runs it")
         .arg(code)?
@@ -108,19 +113,55 @@ fn verify_command<'a>(alloc: Global) -> Result<Command<'a>, AllocError>
     let earlier = Arg::new(alloc, "EARLIER").action(ArgAction::Append).help(
         "The folders of the packages that a card has before it, in the order in which it loaded them",
     );
-    let binding = Arg::new(alloc, "binding")
-        .long("binding")
-        .value_name("FILE")
-        .help(
-            "A file with the AIDs of the API's packages and the tokens of its classes and members",
-        );
     Command::new(alloc, "verify")
         .about("Works out the certificate of a package")
         .after_help(FOLDER_HELP)
         .arg(folder)?
         .arg(cert)?
         .arg(earlier)?
-        .arg(binding)
+        .arg(binding_argument(alloc))
+}
+
+// `run SCRIPT [--steps N] [--binding FILE]`.
+fn run_command<'a>(alloc: Global) -> Result<Command<'a>, AllocError>
+    ensures { IfOk result IsRunCommand }
+{
+    let script = Arg::new(alloc, "SCRIPT").required(true).help(
+        "The file of the script: lines with load, install, apdu or reset",
+    );
+    let steps = steps_argument(
+        alloc,
+        "How many instructions a call of an applet may run at most, from 1 to 4294967295",
+    );
+    Command::new(alloc, "run")
+        .about("Plays a script on a new card")
+        .arg(script)?
+        .arg(steps)?
+        .arg(binding_argument(alloc))
+}
+
+// `--steps N`, with its help.
+fn steps_argument<'a>(alloc: Global, help: &'a str) -> Arg<'a>
+    ensures { IsArgument steps_rule result }
+{
+    Arg::new(alloc, "steps")
+        .long("steps")
+        .value_name("N")
+        .value_parser(value_parser!(u32).range(1..))
+        .default_value("100000")
+        .help(help)
+}
+
+// `--binding FILE`.
+fn binding_argument<'a>(alloc: Global) -> Arg<'a>
+    ensures { IsArgument binding_rule result }
+{
+    Arg::new(alloc, "binding")
+        .long("binding")
+        .value_name("FILE")
+        .help(
+            "A file with the AIDs of the API's packages and the tokens of its classes and members",
+        )
 }
 
 // The job that the program's matches say.
@@ -129,7 +170,10 @@ fn named_job<'a>(alloc: Global, matches: &ArgMatches<'a>) -> Result<Option<Job<'
 {
     match named_eval(matches) {
         Some(job) => Ok(Some(job)),
-        None => named_verify(alloc, matches),
+        None => match named_run(matches) {
+            Some(job) => Ok(Some(job)),
+            None => named_verify(alloc, matches),
+        },
     }
 }
 
@@ -148,6 +192,13 @@ fn named_verify<'a>(alloc: Global, matches: &ArgMatches<'a>) -> Result<Option<Jo
         Some(found) => verify_job(alloc, found),
         None => Ok(None),
     }
+}
+
+// The job that they say where `run` was named.
+fn named_run<'a>(matches: &ArgMatches<'a>) -> Option<Job<'a>>
+    ensures { Finds result (IsRunAmong (subcommand_rows_of matches.now)) }
+{
+    run_job(matches.subcommand_matches("run")?)
 }
 
 // The job that the matches of `eval` say.
@@ -180,6 +231,20 @@ fn verify_job<'a>(alloc: Global, found: &ArgMatches<'a>) -> Result<Option<Job<'a
     })))
 }
 
+// The job that the matches of `run` say.
+fn run_job<'a>(found: &ArgMatches<'a>) -> Option<Job<'a>>
+    ensures { Finds result (IsRunOf (rows_of (found_of found.now))) }
+{
+    let script = found.get_str("SCRIPT")?;
+    let steps = steps_in(found)?;
+    let binding = found.get_str("binding");
+    Some(Job::Run(RunJob {
+        script,
+        steps,
+        binding,
+    }))
+}
+
 // The folders of the packages before it.
 fn earlier_in<'a>(alloc: Global, found: &ArgMatches<'a>) -> Result<Vec<&'a str>, AllocError>
     ensures { IfOk result (λ names. AreEarlier (rows_of (found_of found.now)) names.items) }
@@ -190,7 +255,7 @@ fn earlier_in<'a>(alloc: Global, found: &ArgMatches<'a>) -> Result<Vec<&'a str>,
     }
 }
 
-// The number of steps that the matches of `eval` say.
+// The number of steps that the matches of `eval` or `run` say.
 fn steps_in(found: &ArgMatches) -> Option<u32>
     ensures { Finds result (AreSteps (rows_of (found_of found.now))) }
 {

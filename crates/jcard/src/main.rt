@@ -2,44 +2,83 @@
 #![tactic(auto)]
 
 mod answer;
+mod binding;
 mod eval;
+mod file_source;
 mod files;
 mod folders;
 mod host_files;
 mod job;
 mod line;
+mod play;
 mod saying;
 mod texts;
 mod verify_folders;
 
+use binding::binding_for;
+use files::{FileCause, ReadFault, fault_of};
 use host_files::HostFiles;
-use saying::{Reply, Said, Status, Stream, remark_of, said_to, said_without_words};
+use job::RunJob;
+use play::{PlayFault, play_script};
+use saying::{Reply, Said, Status, Stream, remark_of, said_of_play, said_to, said_without_words};
+use std::fs::File;
 use std::process::ExitCode;
 use std::{env, io};
 use verify_folders::said_of_job;
 
 fn main(rt: HostRuntime) -> ExitCode {
-    let said = match words_of(&rt) {
-        Ok(words) => said_of(&rt, &words),
-        Err(error) => said_without_words(&error),
-    };
-    match write(&rt, &said) {
-        Ok(()) => ended(&rt, &said),
-        Err(error) => unwritten(&rt, &error),
-    }
-}
-
-// What is said to the words of a command line, once it is done what they ask for.
-fn said_of(rt: &HostRuntime, words: &[String]) -> Said {
-    match said_to(rt.alloc(), words) {
-        Reply::Said(said) => said,
-        Reply::Verify(job) => said_of_job(&mut HostFiles::new(rt), rt.alloc(), &job),
+    match words_of(&rt) {
+        Ok(words) => reply_to(&rt, &words),
+        Err(error) => say(&rt, &said_without_words(&error)),
     }
 }
 
 // The words of the command line.
 fn words_of(rt: &HostRuntime) -> io::Result<Vec<String>> {
     Ok(env::args(rt)?.collect(rt.alloc())?)
+}
+
+// Does what the words of a command line ask for, and says what comes of it.
+fn reply_to(rt: &HostRuntime, words: &[String]) -> ExitCode {
+    match said_to(rt.alloc(), words) {
+        Reply::Said(said) => say(rt, &said),
+        Reply::Verify(job) => say(rt, &said_of_job(&mut HostFiles::new(rt), rt.alloc(), &job)),
+        Reply::Run(job) => match play_job(rt, &job) {
+            Ok(()) => ExitCode::from(Status::Success.number()),
+            Err(fault) => say(rt, &said_of_play(fault)),
+        },
+    }
+}
+
+// Plays a script on a new card. Its answers are written to standard output. The binding is read first.
+fn play_job(rt: &HostRuntime, job: &RunJob) -> Result<(), PlayFault> {
+    let files = HostFiles::new(rt);
+    let binding = binding_for(&files, rt.alloc(), job.binding)?;
+    let mut script = open(rt, job.script)?;
+    play_script(
+        &files,
+        rt.alloc(),
+        &mut script,
+        &mut io::writer(rt),
+        job.steps,
+        &binding,
+    )
+}
+
+// Opens the file of a script.
+fn open(rt: &HostRuntime, path: &str) -> Result<File, ReadFault> {
+    match File::open(rt, path) {
+        Ok(file) => Ok(file),
+        Err(error) => Err(fault_of(rt.alloc(), path, FileCause::System(error))),
+    }
+}
+
+// Writes what is said, and says how the program ends.
+fn say(rt: &HostRuntime, said: &Said) -> ExitCode {
+    match write(rt, said) {
+        Ok(()) => ended(rt, said),
+        Err(error) => unwritten(rt, &error),
+    }
 }
 
 fn write(rt: &HostRuntime, said: &Said) -> io::Result<()> {

@@ -3,16 +3,19 @@
 ghost use Rattle.std.specs.Prelude.{◌≡◌, map};
 ghost use Rattle.std.specs.IoError.{error_kind};
 ghost use Rattle.jcard.specs.PrivateSaying.{IsSaidOfCode};
-ghost use Rattle.jcard.specs.Saying.{IsFailure, IsMisuse, IsReply, IsSaidOfFiles, IsSaidOfLine, IsSaidOfVerified, IsSaidWithoutWords, IsSuccess, remark_of, status_number};
+ghost use Rattle.jcard.specs.Saying.{IsFailure, IsMisuse, IsReply, IsSaidOfFiles, IsSaidOfLine, IsSaidOfPlay};
+ghost use Rattle.jcard.specs.Saying.{IsSaidOfVerified, IsSaidWithoutWords, IsSuccess, remark_of, status_number};
 
 use crate::answer::EvalAnswer;
 use crate::files::{FileFault, ReadFault};
-use crate::job::{Job, VerifyJob};
+use crate::job::{Job, RunJob, VerifyJob};
 use crate::line::{LineFault, job};
+use crate::play::PlayFault;
 use crate::texts::{TextFault, answer_of};
 use clap::Error;
 use jc_check::Fault;
 use jc_packages::VerifyAnswer;
+use jc_run::ScriptFault;
 use std::alloc::Global;
 use std::convert::AsStr;
 use std::{fmt, io};
@@ -61,6 +64,10 @@ pub enum Message {
     Verified(VerifyAnswer),
     /// A file can't be read or written.
     File(FileFault),
+    /// A folder or file that a line of a script names can't be read: the line's number, from 1 on.
+    Load { number: u32, fault: FileFault },
+    /// A script ends early for another reason.
+    Script(ScriptFault),
     /// Clap's words on a line that says no job, or that asks for help.
     Line(Error),
     /// One of the words isn't UTF-8.
@@ -78,6 +85,8 @@ impl fmt::Display for Message {
             Message::Fault(fault) => write!(f, "error: {fault}\n"),
             Message::Verified(answer) => write!(f, "{answer}\n"),
             Message::File(fault) => write!(f, "error: {fault}\n"),
+            Message::Load { number, fault } => write!(f, "error: line {number}: {fault}\n"),
+            Message::Script(fault) => write!(f, "error: {fault}\n"),
             Message::Line(error) => write!(f, "{error}"),
             Message::NotText => write!(f, "error: an argument isn't UTF-8\n"),
         }
@@ -99,10 +108,12 @@ pub enum Reply<'a> {
     Said(Said),
     /// A package is to be verified, and then it is said what comes of it.
     Verify(VerifyJob<'a>),
+    /// A script is to be played, and then it is said why, if it ends early.
+    Run(RunJob<'a>),
 }
 
-/// What is said beside a message, on standard error: for which method there is no certificate, and where its inference ends. Its
-/// `Display` is a whole line.
+/// What is said beside a message, on standard error: for which method there is no certificate, and where its inference
+/// ends. Its `Display` is a whole line.
 #[derive(Clone, Copy, Debug, PartialEq, Eq)]
 pub struct Remark {
     pub method: u16,
@@ -142,6 +153,7 @@ pub fn said_to<'a, S: AsStr>(alloc: Global, words: &'a [S]) -> Reply<'a>
     match job(alloc, words) {
         Ok(Job::Eval { code, cert, steps }) => Reply::Said(said_of_code(alloc, code, cert, steps)),
         Ok(Job::Verify(job)) => Reply::Verify(job),
+        Ok(Job::Run(job)) => Reply::Run(job),
         Err(LineFault::Line(error)) => Reply::Said(said_of_line(error)),
         Err(LineFault::Memory) => Reply::Said(failed(TextFault::Memory)),
     }
@@ -177,12 +189,20 @@ pub fn said_of_files(fault: ReadFault) -> Said
     ensures { IsSaidOfFiles fault result }
 {
     match fault {
-        ReadFault::File(fault) => Said {
-            stream: Stream::Errors,
-            message: Message::File(fault),
-            status: Status::Failure,
-        },
+        ReadFault::File(fault) => unanswered(Message::File(fault)),
         ReadFault::Memory => failed(TextFault::Memory),
+    }
+}
+
+/// What is said of a script that isn't played to its end.
+pub fn said_of_play(fault: PlayFault) -> Said
+    ensures { IsSaidOfPlay fault result }
+{
+    match fault {
+        PlayFault::File(fault) => unanswered(Message::File(fault)),
+        PlayFault::Load { number, fault } => unanswered(Message::Load { number, fault }),
+        PlayFault::Script(fault) => unanswered(Message::Script(fault)),
+        PlayFault::Memory => failed(TextFault::Memory),
     }
 }
 
@@ -211,9 +231,16 @@ fn failed(fault: TextFault) -> Said
     ensures message { result.message ≡ Message.Fault fault }
     ensures failure { IsFailure result }
 {
+    unanswered(Message::Fault(fault))
+}
+
+fn unanswered(message: Message) -> Said
+    ensures message { result.message ≡ message }
+    ensures failure { IsFailure result }
+{
     Said {
         stream: Stream::Errors,
-        message: Message::Fault(fault),
+        message,
         status: Status::Failure,
     }
 }

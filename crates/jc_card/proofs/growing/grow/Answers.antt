@@ -1,4 +1,5 @@
-use Rattle.std.proofs.Common.{◌≡◌, ◌+◌, ◌-◌, ◌<◌, ℕ, suc, true, List, [], ◌∷◌, ◌++◌, length, get_or, sym, ap, subst, ◌∙◌, arith}
+use Rattle.std.proofs.Common.{◌≡◌, ◌+◌, ◌-◌, ◌<◌, ℕ, suc, true, List, [], ◌∷◌, ◌++◌, length, get_or, sym}
+use Rattle.std.proofs.Common.{ap, subst, ◌∙◌, arith}
 use Rattle.std.proofs.Math.Seq.{get_or-append_seam}
 use Rattle.std.proofs.lemmas.List.{length-append}
 use Rattle.jc_interp.specs.Agree.{HoldsFields}
@@ -32,6 +33,7 @@ returns-in-Ok-load-clause-machine c =
       counted = sym c.objects_used.ensures.classes ∙ c.objects_used.ensures.objects;
       is = λ limits heap objects cells reads room.
           c.in-Ok-load.ensures.done limits heap objects cells reads
-          (subst (λ (b : LinkedBody). has_room_for limits (heap ++ loaded_arrays c.args.number b) ≡ true) (sym body) room)
+          (subst (λ (b : LinkedBody). has_room_for limits (heap ++ loaded_arrays c.args.number b) ≡ true) (sym body)
+          room)
           ∙ ap (λ (b : LinkedBody). with_package before c.args.number b words) body;
     }

@@ -10,11 +10,14 @@ pub returns-in-Some-make : goal.returns-in-Some-make
 returns-in-Some-make c =
     let own = c.own_object-own.result in
     let store = c.args.store.now in record {
-      made = made_more c.args.classes.now store c.make.new.self own c.args.place c.in-Some.class c.own_object-own.ensures
+      made =
+          made_more c.args.classes.now store c.make.new.self own c.args.place c.in-Some.class
+          c.own_object-own.ensures
           (c.in-Some.ensures ∙ ap (class_number c.args.classes.now) c.class_of.ensures)
           (c.classes_have_numbers.ensures.named c.args.classes.now)
           (c.in-Some-make.ensures.made
-          ∙ ap (λ size. with_made store (fresh (record { object = own.object; mark = own.mark; clears = None }) runtime size)
+          ∙ ap (λ size. with_made store
+          (fresh (record { object = own.object; mark = own.mark; clears = None }) runtime size)
           c.index.result) c.from.ensures
           ∙ ap (with_made store (made_of 0 own)) c.index.ensures);
     }

@@ -7,11 +7,25 @@ use Rattle.jc_run.proofs.run.run_script.Goals as goal
 pub returns-clause-run : goal.returns-clause-run
 returns-clause-run g c = λ bytes before is known.
     let card = new_card c.args.limits c.args.binding.now in
-    made_runs _ _ c.args.limits c.args.binding.now bytes before _ c.new.result c.new.ensures.limits c.in_ok-card.card _
+    made_runs (record {
+      apdu = c.commands_are_guarded.ensures.apdu;
+      install = c.commands_are_guarded.ensures.install;
+      reset = c.commands_are_guarded.ensures.reset;
+      load = c.commands_are_guarded.ensures.load;
+      none = c.accesses_add_up.ensures.none;
+      more = c.accesses_add_up.ensures.more;
+    }) _ _ c.args.limits c.args.binding.now bytes before _ c.new.result c.new.ensures.limits c.in_ok-card.card _
     c.in_ok-card.was (c.play.ensures.played card bytes before c.in_ok-card.ensures.new is known)
 
 pub returns-in_err-card-clause-run : goal.returns-in_err-card-clause-run
 returns-in_err-card-clause-run g c = λ bytes before is known.
     handed_end _ _ (HasRun _ _ c.args.limits c.args.binding.now bytes before _) c.from_residual.ensures.1
-    (not_made _ _ c.args.limits c.args.binding.now bytes before _ c.new.result c.new.ensures.limits
+    (not_made (record {
+      apdu = c.commands_are_guarded.ensures.apdu;
+      install = c.commands_are_guarded.ensures.install;
+      reset = c.commands_are_guarded.ensures.reset;
+      load = c.commands_are_guarded.ensures.load;
+      none = c.accesses_add_up.ensures.none;
+      more = c.accesses_add_up.ensures.more;
+    }) _ _ c.args.limits c.args.binding.now bytes before _ c.new.result c.new.ensures.limits
     c.in_err-card.field-0.0 c.in_err-card.was known)

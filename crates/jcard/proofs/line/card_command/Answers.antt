@@ -6,8 +6,14 @@ use Rattle.jcard.proofs.line.card_command.Goals as goal
 pub returns : goal.returns
 returns c =
     let bare : App = new_app (codes "jcard") in
-    let empty_is : app_of c.subcommand_required.result ≡ record bare { top = record bare.top { subcommand_required = true } } = search rules in
+    let named : App = record bare { top = record bare.top { subcommand_required = true } } in
+    let empty_is : app_of c.subcommand_required.result ≡ named = search rules in
     let e = c.in_ok-eval_command.ensures in
     let v = c.in_ok-verify_command.ensures in
-    let one = c.in_ok-subcommand.ensures.shape e.globals ∙ ap₂ with_subcommand empty_is (ap (λ (a : App). a.top) e.app) in
-    IfOk-weaker c.subcommand-2.result _ _ (λ r added. added.shape v.globals ∙ ap₂ with_subcommand one (ap (λ (a : App). a.top) v.app)) c.subcommand-2.ensures
+    let r = c.in_ok-run_command.ensures in
+    let one = c.in_ok-subcommand.ensures.shape e.globals
+    ∙ ap₂ with_subcommand empty_is (ap (λ (a : App). a.top) e.app) in
+    let two = c.in_ok-subcommand-2.ensures.shape v.globals
+    ∙ ap₂ with_subcommand one (ap (λ (a : App). a.top) v.app) in
+    IfOk-weaker c.subcommand-3.result _ _ (λ made added.
+    added.shape r.globals ∙ ap₂ with_subcommand two (ap (λ (a : App). a.top) r.app)) c.subcommand-3.ensures

@@ -2,6 +2,7 @@ use Rattle.std.proofs.lemmas.Result.{IfOk-weaker}
 use Rattle.jcard.proofs.Lines.{neither}
 use Rattle.jcard.proofs.line.named_job.Goals as goal
 
-pub returns-in-None : goal.returns-in-None
-returns-in-None c =
-    IfOk-weaker c.named_verify.result _ _ (λ found finds. neither _ c.in-None.ensures found finds) c.named_verify.ensures
+pub returns-in-None-named_run : goal.returns-in-None-named_run
+returns-in-None-named_run c =
+    IfOk-weaker c.named_verify.result _ _
+    (λ found finds. neither _ c.in-None.ensures c.in-None-named_run.ensures found finds) c.named_verify.ensures

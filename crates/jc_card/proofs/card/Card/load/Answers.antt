@@ -1,11 +1,11 @@
-use Rattle.std.proofs.Common.{refl, subst, sym, ◌∙◌}
+use Rattle.std.proofs.Common.{Ok, refl, subst, sym, ◌∙◌}
 use Rattle.jc_link.specs.Linked.{World}
 use Rattle.jc_card.specs.Load.{IsFit, with_package}
 use Rattle.jc_card.specs.Reads.{CardWords, Holds}
 use Rattle.jc_card.proofs.card.Card.load.Goals as goal
 
-pub returns-in-Ok : goal.returns-in-Ok
-returns-in-Ok c card holds =
+pub returns-in-Ok-clause-done : goal.returns-in-Ok-clause-done
+returns-in-Ok-clause-done c card holds =
     let linked = c.in_ok-linked.linked in
     let h = subst (λ (x : CardWords). Holds x card) (sym c.self.view_is) holds in
     let done = c.in-Ok.ensures.done card holds in record {
@@ -20,3 +20,7 @@ returns-in-Ok c card holds =
       };
       holds = done.1;
     }
+
+pub returns-in-Ok-clause-guarded : goal.returns-in-Ok-clause-guarded
+returns-in-Ok-clause-guarded c card after h =
+    c.commands_are_guarded.ensures.load card after c.args.image.now c.args.certificate.now (Ok c.in-Ok.number) h

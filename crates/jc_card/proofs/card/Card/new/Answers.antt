@@ -28,7 +28,8 @@ invariant_of-result c =
         most_cells = refl;
         steps = refl;
       }) (c.accepted_worlds_grow.ensures.api bound clash) (no_frame runtime)
-          (c.new_machines_are_typed.ensures.beside bound clash (no_frame runtime)) (c.calls_keep_fitting.ensures.new (api_alone bound) new_heap);
+          (c.new_machines_are_typed.ensures.beside bound clash (no_frame runtime))
+          (c.calls_keep_fitting.ensures.new (api_alone bound) new_heap);
     }
 
 pub returns-clause-new : goal.returns-clause-new
@@ -50,4 +51,5 @@ returns-clause-new c =
       most_cells = refl;
       steps = refl;
     }) (c.accepted_worlds_grow.ensures.api bound clash) (no_frame runtime)
-    (c.new_machines_are_typed.ensures.beside bound clash (no_frame runtime)) (c.calls_keep_fitting.ensures.new (api_alone bound) new_heap)
+    (c.new_machines_are_typed.ensures.beside bound clash (no_frame runtime))
+    (c.calls_keep_fitting.ensures.new (api_alone bound) new_heap)

@@ -1,0 +1,281 @@
+-- Where the runtime's own accesses lead: what it writes, and what it clears.
+use Rattle.std.proofs.Common.{◌≡◌, ◌&&◌, ℕ, zero, suc, ◌+◌, List, [], ◌∷◌, ◌++◌, map, set, length, Option, Some, None}
+use Rattle.std.proofs.Common.{Bool, true, false, cond, refl, sym, ap, subst, ◌∙◌, inl, inr, ◌⊎◌, slice_get, IfSome}
+use Rattle.std.proofs.Common.{arith}
+use Rattle.std.proofs.Math.Seq.{length-sets, sets}
+use Rattle.std.proofs.lemmas.Option.{same_Some}
+use Rattle.std.specs.List.{AllByRecursion}
+use Rattle.std.specs.Option.{option_map_or}
+use Rattle.jc_cap_desc.specs.Shape.{Shape}
+use Rattle.jc_firewall.specs.Verdict.{runtime_context, verdict_of}
+use Rattle.jc_firewall.specs.declared.access.Access.TheVariants.{PutField, StoreComponent}
+use Rattle.jc_firewall.specs.declared.access.Facts.{Facts}
+use Rattle.jc_firewall.specs.declared.access.Verdict.TheVariants.{Allowed}
+use Rattle.jc_link.specs.Linked.{World}
+use Rattle.jc_machine.specs.Going.{facts_in}
+use Rattle.jc_machine.specs.Guarded.{ChangesAccessed, IsAccessed, are_allowed}
+use Rattle.jc_machine.specs.Lookup.{is_array}
+use Rattle.jc_machine.specs.Machine.{Touch}
+use Rattle.jc_machine.specs.Natives.{IsStill, KeepsObjects}
+use Rattle.jc_natives.specs.Cells.{put, put_all}
+use Rattle.jc_natives.specs.Meaning.{own_touch, write_access}
+use Rattle.jc_safety.specs.Zeroing.{zero_or_null, zeroed, zeroed_where}
+use Rattle.jc_store.specs.Heap.{Heap, Object, is_cleared_by, object_at, with_cell, with_object}
+use Rattle.jc_store.specs.declared.kind.ClearingEvent.{ClearingEvent}
+use Rattle.jc_words.specs.Values.{TaggedValue, Word}
+use Rattle.jc_card.proofs.Heaps.{all_put}
+use Rattle.jc_card.proofs.Leading.{IsPart}
+use Rattle.jc_card.specs.Accesses.{IsOwnAccess, IsOwnWork, Leads}
+use Rattle.jc_card.specs.Accesses.Leads.{by_runtime, nowhere}
+use Rattle.jc_card.specs.Card.{CardState}
+use Rattle.jc_card.specs.Parts.{clear, clearing_touches, runtime_touch, write}
+
+-- ---- the runtime's own access
+
+own_allowed : (b : Bool) (f : Facts) → Allowed ≡ verdict_of (cond b StoreComponent PutField) runtime_context f
+own_allowed true f = refl
+own_allowed false f = refl
+
+own_access : (w : World) (heap : Heap TaggedValue) (number : ℕ) (o : Object TaggedValue)
+    → object_at heap number ≡ Some o → IsOwnAccess w heap (own_touch number o)
+own_access w heap number o e = record {
+  active = refl;
+  object = o;
+  found = e;
+  verdict = λ selected.
+      own_allowed (is_array o.kind.object) (facts_in w.shapes selected o None false);
+}
+
+own_accessed : (touches : List Touch) (place number : ℕ) (o : Object TaggedValue)
+    → slice_get touches place ≡ Some (own_touch number o) → IsAccessed touches number o
+own_accessed touches place number o e = record {
+  place = place;
+  touch = own_touch number o;
+  listed = e;
+  is = refl;
+  allowed = refl;
+  own = λ plain. inr refl;
+}
+
+-- ---- another object in the place of one
+
+got_set : {A : Type 0} (xs : List A) (n i : ℕ) (x y : A) → slice_get xs i ≡ Some y
+    → ((n ≡ i) × (slice_get (set xs n x) i ≡ Some x)) ⊎ (slice_get (set xs n x) i ≡ Some y)
+got_set [] n i x y e = absurd cc
+got_set (z ∷ xs) zero zero x y e = inl (refl, refl)
+got_set (z ∷ xs) zero (suc i) x y e = inr e
+got_set (z ∷ xs) (suc n) zero x y e = inr e
+got_set (z ∷ xs) (suc n) (suc i) x y e =
+    elim (got_set xs n i x y e) [ inl new ↦ inl (ap suc new.0, new.1) | inr old ↦ inr old ]
+
+module _ (touches : List Touch) (heap : Heap TaggedValue) (o p : Object TaggedValue) (kind : p.kind ≡ o.kind)
+    (owner : p.owner ≡ o.owner) (size : length p.cells ≡ length o.cells) where
+  one_stays : (number : ℕ) → object_at heap number ≡ Some o → KeepsObjects heap (with_object heap number p)
+  one_stays zero found i q e = absurd cc
+  one_stays (suc n) found zero q e = absurd cc
+  one_stays (suc n) found (suc i) q e = elim (got_set heap n i p q e) [
+    | inl new ↦
+        let there = subst (λ (k : ℕ). slice_get heap k ≡ Some o) new.0 found in
+        let same : o ≡ q = cc in record {
+          object = p;
+          found = new.1;
+          kind = kind ∙ ap (λ (x : Object TaggedValue). x.kind) same;
+          owner = owner ∙ ap (λ (x : Object TaggedValue). x.owner) same;
+          size = size ∙ ap (λ (x : Object TaggedValue). length x.cells) same;
+        }
+    | inr old ↦ record { object = q; found = old; kind = refl; owner = refl; size = refl }
+  ]
+
+  one_changes : (number : ℕ) → object_at heap number ≡ Some o → IsAccessed touches number o
+      → ChangesAccessed touches heap (with_object heap number p)
+  one_changes zero found a i q r e f = absurd cc
+  one_changes (suc n) found a zero q r e f = absurd cc
+  one_changes (suc n) found a (suc i) q r e f = elim (got_set heap n i p q e) [
+    | inl new ↦
+        let there = subst (λ (k : ℕ). slice_get heap k ≡ Some o) new.0 found in
+        let same : o ≡ q = cc in
+        inr (subst (λ (x : Object TaggedValue). IsAccessed touches (suc i) x) same
+        (subst (λ (k : ℕ). IsAccessed touches (suc k) o) new.0 a))
+    | inr old ↦ let same : r ≡ q = cc in inl (ap (λ (x : Object TaggedValue). x.cells) same)
+  ]
+
+-- ---- what is written
+
+nothing_put : (heap : Heap TaggedValue) (number from : ℕ) (values : List TaggedValue) → object_at heap number ≡ None
+    → put_all heap number from values ≡ heap
+nothing_put heap number from [] e = refl
+nothing_put heap number from (v ∷ values) e =
+    let same : put heap number from v ≡ heap =
+    ap (λ o. option_map_or (λ object. with_object heap number (with_cell object from v)) o heap) e in
+    ap (λ h. put_all h number (from + 1) values) same ∙ nothing_put heap number (from + 1) values e
+
+module _ (w : World) (heap : Heap TaggedValue) (number : ℕ) (values : List TaggedValue) where
+  abbrev touches_for : Option (Object TaggedValue) → List Touch
+  touches_for found = option_map_or (λ object. own_touch number object ∷ []) found []
+
+  put_leads : (found : Option (Object TaggedValue)) → object_at heap number ≡ found
+      → Leads w heap (touches_for found) (put_all heap number 0 values)
+  put_leads None e =
+      subst (λ (h : Heap TaggedValue). Leads w heap [] h) (sym (nothing_put heap number 0 values e)) (nowhere heap)
+  put_leads (Some o) e =
+      let p : Object TaggedValue =
+      record { kind = o.kind; owner = o.owner; cells = sets o.cells 0 values } in
+      let size = length-sets o.cells 0 values in
+      let touches = own_touch number o ∷ [] in
+      subst (λ (h : Heap TaggedValue). Leads w heap touches h) (sym (all_put heap number 0 values o e))
+      (by_runtime heap (with_object heap number p) touches (record {
+        judged = (own_access w heap number o e, tt);
+        allowed = refl;
+        kept = one_stays touches heap o p refl refl size number e;
+        changes = one_changes touches heap o p refl refl size number e (own_accessed touches 0 number o refl);
+      }))
+
+pub write_part : (number : ℕ) (words : List ℕ) (c : CardState) → IfSome (write number words c) (IsPart c)
+write_part number words c = record {
+  accesses = put_leads c.world c.heap number (map Word words) (object_at c.heap number) refl;
+  packages = refl;
+}
+
+-- ---- what is cleared
+
+module _ (w : World) (event : ClearingEvent) (context : Option ℕ) where
+  abbrev test : Object TaggedValue → Bool
+  test object = is_cleared_by event context object
+
+  abbrev one : Bool → Object TaggedValue → Object TaggedValue
+  one b o = cond b (zeroed o) o
+
+  abbrev first_touches : Bool → ℕ → Object TaggedValue → List Touch
+  first_touches b number o = cond b (own_touch number o ∷ []) []
+
+  zero_length : (vs : List TaggedValue) → length (map zero_or_null vs) ≡ length vs
+  zero_length [] = refl
+  zero_length (v ∷ vs) = ap suc (zero_length vs)
+
+  one_kind : (b : Bool) (o : Object TaggedValue) → (one b o).kind ≡ o.kind
+  one_kind true o = refl
+  one_kind false o = refl
+
+  one_owner : (b : Bool) (o : Object TaggedValue) → (one b o).owner ≡ o.owner
+  one_owner true o = refl
+  one_owner false o = refl
+
+  one_size : (b : Bool) (o : Object TaggedValue) → length (one b o).cells ≡ length o.cells
+  one_size true o = zero_length o.cells
+  one_size false o = refl
+
+  got_cleared : (heap : Heap TaggedValue) (n : ℕ) (o : Object TaggedValue) → slice_get heap n ≡ Some o
+      → slice_get (zeroed_where test heap) n ≡ Some (one (test o) o)
+  got_cleared [] n o e = absurd cc
+  got_cleared (x ∷ heap) zero o e =
+      let same : x ≡ o = cc in ap (λ (y : Object TaggedValue). Some (one (test y) y)) same
+  got_cleared (x ∷ heap) (suc n) o e = got_cleared heap n o e
+
+  stay : (heap : Heap TaggedValue) → KeepsObjects heap (zeroed_where test heap)
+  stay heap zero o e = absurd cc
+  stay heap (suc n) o e = record {
+    object = one (test o) o;
+    found = got_cleared heap n o e;
+    kind = one_kind (test o) o;
+    owner = one_owner (test o) o;
+    size = one_size (test o) o;
+  }
+
+  -- each object that is cleared is listed
+  record IsListed (touches : List Touch) (touch : Touch) : Type 0 where
+    place : ℕ
+    there : slice_get touches place ≡ Some touch
+
+  first_listed : (b : Bool) (number : ℕ) (o : Object TaggedValue) (more : List Touch) → b ≡ true
+      → IsListed (first_touches b number o ++ more) (own_touch number o)
+  first_listed true number o more e = record { place = 0; there = refl }
+  first_listed false number o more e = absurd cc
+
+  later_listed : (b : Bool) (number : ℕ) (o : Object TaggedValue) (more : List Touch) (touch : Touch)
+      → IsListed more touch → IsListed (first_touches b number o ++ more) touch
+  later_listed true number o more touch l = record { place = suc l.place; there = l.there }
+  later_listed false number o more touch l = l
+
+  listed : (heap : Heap TaggedValue) (number n : ℕ) (o : Object TaggedValue) → slice_get heap n ≡ Some o
+      → test o ≡ true → IsListed (clearing_touches event context number heap) (own_touch (number + n) o)
+  listed [] number n o e t = absurd cc
+  listed (x ∷ heap) number zero o e t =
+      let same : x ≡ o = cc in
+      let at : number ≡ number + 0 = omega arith in
+      let more = clearing_touches event context (suc number) heap in
+      subst (λ (k : ℕ). IsListed (first_touches (test x) number x ++ more) (own_touch k o)) at
+      (subst (λ (y : Object TaggedValue). IsListed (first_touches (test y) number y ++ more) (own_touch number o))
+      (sym same) (first_listed (test o) number o more t))
+  listed (x ∷ heap) number (suc n) o e t =
+      let at : suc number + n ≡ number + suc n = omega arith in
+      let more = clearing_touches event context (suc number) heap in
+      later_listed (test x) number x more (own_touch (number + suc n) o)
+      (subst (λ (k : ℕ). IsListed more (own_touch k o)) at (listed heap (suc number) n o e t))
+
+  -- each access is judged, and allowed
+  first_judged : (whole : Heap TaggedValue) (b : Bool) (number : ℕ) (o : Object TaggedValue) (more : List Touch)
+      → object_at whole number ≡ Some o → AllByRecursion (IsOwnAccess w whole) more
+      → AllByRecursion (IsOwnAccess w whole) (first_touches b number o ++ more)
+  first_judged whole true number o more e h = (own_access w whole number o e, h)
+  first_judged whole false number o more e h = h
+
+  judged : (whole heap : Heap TaggedValue) (k : ℕ)
+      → ((n : ℕ) (o : Object TaggedValue) → slice_get heap n ≡ Some o → slice_get whole (k + n) ≡ Some o)
+      → AllByRecursion (IsOwnAccess w whole) (clearing_touches event context (suc k) heap)
+  judged whole [] k stands = tt
+  judged whole (o ∷ heap) k stands =
+      let here : k + 0 ≡ k = omega arith in
+      let there = subst (λ (n : ℕ). slice_get whole n ≡ Some o) here (stands 0 o refl) in
+      first_judged whole (test o) (suc k) o (clearing_touches event context (suc (suc k)) heap) there
+      (judged whole heap (suc k) (λ n p e.
+      let at : k + suc n ≡ suc k + n = omega arith in
+      subst (λ (i : ℕ). slice_get whole i ≡ Some p) at (stands (suc n) p e)))
+
+  first_allowed : (b : Bool) (number : ℕ) (o : Object TaggedValue) (more : List Touch) → are_allowed more ≡ true
+      → are_allowed (first_touches b number o ++ more) ≡ true
+  first_allowed true number o more h = h
+  first_allowed false number o more h = h
+
+  all_allowed : (number : ℕ) (heap : Heap TaggedValue)
+      → are_allowed (clearing_touches event context number heap) ≡ true
+  all_allowed number [] = refl
+  all_allowed number (o ∷ heap) =
+      first_allowed (test o) number o (clearing_touches event context (suc number) heap)
+      (all_allowed (suc number) heap)
+
+  -- what isn't cleared stays
+  one_changed : (touches : List Touch) (number : ℕ) (b : Bool) (o : Object TaggedValue) → test o ≡ b
+      → (test o ≡ true → IsAccessed touches number o)
+      → ((one b o).cells ≡ o.cells) ⊎ IsAccessed touches number o
+  one_changed touches number true o e accessed = inr (accessed e)
+  one_changed touches number false o e accessed = inl refl
+
+  changes : (heap : Heap TaggedValue)
+      → ChangesAccessed (clearing_touches event context 1 heap) heap (zeroed_where test heap)
+  changes heap zero o p e f = absurd cc
+  changes heap (suc n) o p e f =
+      let touches = clearing_touches event context 1 heap in
+      let same : p ≡ one (test o) o = same_Some p (one (test o) o) (sym f ∙ got_cleared heap n o e) in
+      subst (λ (x : Object TaggedValue). (x.cells ≡ o.cells) ⊎ IsAccessed touches (suc n) o) (sym same)
+      (one_changed touches (suc n) (test o) o refl (λ t.
+      let at : 1 + n ≡ suc n = omega arith in
+      let l = subst (λ (k : ℕ). IsListed touches (own_touch k o)) at (listed heap 1 n o e t) in
+      own_accessed touches l.place (suc n) o l.there))
+
+  clear_leads : (heap : Heap TaggedValue)
+      → Leads w heap (clearing_touches event context 1 heap) (zeroed_where test heap)
+  clear_leads heap =
+      by_runtime heap (zeroed_where test heap) (clearing_touches event context 1 heap) (record {
+        judged =
+            judged heap heap 0 (λ n o e.
+            let at : n ≡ 0 + n = omega arith in
+            subst (λ (k : ℕ). slice_get heap k ≡ Some o) at e);
+        allowed = all_allowed 1 heap;
+        kept = stay heap;
+        changes = changes heap;
+      })
+
+pub clear_part : (event : ClearingEvent) (context : Option ℕ) (c : CardState)
+    → IfSome (clear event context c) (IsPart c)
+clear_part event context c =
+    record { accesses = clear_leads c.world event context c.heap; packages = refl }

@@ -1,0 +1,26 @@
+use Rattle.jc_card.proofs.Guarding.{apdus_guarded, installs_guarded, loads_leave, resets_guarded}
+use Rattle.jc_card.proofs.accesses.commands_are_guarded.Goals as goal
+
+pub returns-clause-apdu : goal.returns-clause-apdu
+returns-clause-apdu c = apdus_guarded (record {
+  members = c.members_are_guarded.ensures;
+  steps = c.accesses_are_guarded.ensures.guarded;
+  kept = c.accesses_are_guarded.ensures.kept;
+})
+
+pub returns-clause-install : goal.returns-clause-install
+returns-clause-install c = installs_guarded (record {
+  members = c.members_are_guarded.ensures;
+  steps = c.accesses_are_guarded.ensures.guarded;
+  kept = c.accesses_are_guarded.ensures.kept;
+})
+
+pub returns-clause-reset : goal.returns-clause-reset
+returns-clause-reset c = resets_guarded (record {
+  members = c.members_are_guarded.ensures;
+  steps = c.accesses_are_guarded.ensures.guarded;
+  kept = c.accesses_are_guarded.ensures.kept;
+})
+
+pub returns-clause-load : goal.returns-clause-load
+returns-clause-load c = loads_leave

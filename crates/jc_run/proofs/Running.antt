@@ -1,0 +1,150 @@
+-- What a script comes to is a run of the card.
+use Rattle.std.proofs.Common.{◌≡◌, ℕ, suc, List, [], ◌∷◌, ◌++◌, Option, Some, None, IfSome, refl, sym, ap, ◌∙◌}
+use Rattle.std.proofs.Common.{append_assoc, Result}
+use Rattle.jc_base.specs.declared.fault.LoadFault.{LoadFault}
+use Rattle.jc_card.specs.Accesses.{ChangesBy, IsGuardedCommand, LeavesObjects}
+use Rattle.jc_card.specs.Card.{CardState}
+use Rattle.jc_card.specs.Commands.{apdu_command, reset_command}
+use Rattle.jc_card.specs.Install.{install_command}
+use Rattle.jc_card.specs.Load.{IsLoad}
+use Rattle.jc_card.specs.Parts.{Left}
+use Rattle.jc_machine.specs.Machine.{Touch}
+use Rattle.jc_store.specs.Heap.{Heap}
+use Rattle.jc_words.specs.Values.{TaggedValue}
+use Rattle.jc_run.specs.Answer.{Answered}
+use Rattle.jc_run.specs.Play.{EndsAt, IsAnswered, IsGiven, IsLinePlayed, NotWritten, Over, Plays, ScriptEnd, answer_line}
+use Rattle.jc_run.specs.Play.EndsAt.{bad, memory, source, unwritten}
+use Rattle.jc_run.specs.Play.Plays.{ended, line, over, unread}
+use Rattle.jc_run.specs.Runs.{AreGuarded, IsCardRun, IsDone, IsGuarded, accesses_in, accesses_of, answer_lines}
+use Rattle.jc_run.specs.Runs.{commands_in}
+use Rattle.jc_run.specs.Runs.IsCardRun.{command, nothing}
+use Rattle.jc_script.specs.Script.{Apdu, Asks, Bad, Install, Load, Reset, Script, ScriptCommand, ScriptLine, Skipped}
+use Rattle.jc_script.specs.Script.{line_at, script_from, with_line}
+
+module _ (images certificates : List ℕ → List ℕ → Type 0) where
+  abbrev Done : List ScriptCommand → CardState → List ℕ → ScriptEnd → Type 0
+  Done commands c written end = IsDone images certificates commands c written end
+
+  -- ---- no command is done
+
+  pub none_done : (commands : List ScriptCommand) (c : CardState) (part : List ℕ) (end : ScriptEnd)
+      → (end ≡ Over → commands ≡ []) → ((end ≡ NotWritten → ⊥) → part ≡ []) → Done commands c part end
+  none_done commands c part end all whole = record {
+    done = [];
+    left = commands;
+    in_order = refl;
+    all = all;
+    answers = [];
+    touches = [];
+    card = c;
+    run = nothing c;
+    part = part;
+    lines = refl;
+    whole = whole;
+  }
+
+  -- ---- a command more
+
+  one_more : (first : ScriptCommand) (commands : List ScriptCommand) (c between : CardState) (answer : Answered)
+      (behind : List ℕ) (end : ScriptEnd) → IsAnswered images certificates c first answer between
+      → Done commands between behind end → Done (first ∷ commands) c (answer_line answer ++ behind) end
+  one_more first commands c between answer behind end answered d = record {
+    done = first ∷ d.done;
+    left = d.left;
+    in_order = ap (λ (more : List ScriptCommand). first ∷ more) d.in_order;
+    all = d.all;
+    answers = answer ∷ d.answers;
+    touches = accesses_of c first ++ d.touches;
+    card = d.card;
+    run = command first d.done c between d.card answer d.answers d.touches answered d.run;
+    part = d.part;
+    lines =
+        ap (λ (bytes : List ℕ). answer_line answer ++ bytes) d.lines
+        ∙ sym (append_assoc (answer_line answer) (answer_lines d.answers) d.part);
+    whole = d.whole;
+  }
+
+  line_done : (number : ℕ) (said : ScriptLine) (script : Script) (c after : CardState) (written behind : List ℕ)
+      (end : ScriptEnd) → IsLinePlayed images certificates c said written after
+      → Done (commands_in script) after behind end
+      → Done (commands_in (with_line number said script)) c (written ++ behind) end
+  line_done number Skipped script c after written behind end played d =
+      rw (played.0, ← played.1) d
+  line_done number (Asks first) script c after written behind end played d =
+      rw played.written_is (one_more first (commands_in script) c after played.answer behind end played.answered d)
+  line_done number Bad script c after written behind end played d = elim played [ ]
+
+  -- ---- a line that ends it
+
+  line_ends : {number : ℕ} {c : CardState} {said : ScriptLine} {written : List ℕ} {end : ScriptEnd}
+      (script : Script) → EndsAt images certificates c number said written end
+      → Done (commands_in (with_line number said script)) c written end
+  line_ends {c = c} script bad = none_done [] c [] _ (λ e. refl) (λ other. refl)
+  line_ends {c = c} script (source folder certificate) = none_done _ c [] _ (λ e. absurd cc) (λ other. refl)
+  line_ends {c = c} script (memory folder certificate) = none_done _ c [] _ (λ e. absurd cc) (λ other. refl)
+  line_ends {c = c} script (unwritten told part whole after played first) =
+      none_done _ c part _ (λ e. absurd cc) (λ other. absurd (other refl))
+
+  -- ---- all lines
+
+  pub run_of : {number : ℕ} {lines : List (List ℕ)} {c : CardState} {written : List ℕ} {end : ScriptEnd}
+      → Plays images certificates number lines c written end
+      → Done (commands_in (script_from number lines)) c written end
+  unfolding script_from
+  run_of (over number c) = none_done [] c [] _ (λ e. refl) (λ other. refl)
+  run_of (line number first more c after part behind end played rest) =
+      line_done number (line_at number first) (script_from (suc number) more) c after part behind end played
+      (run_of rest)
+  run_of (ended number first more c part end e) = line_ends (script_from (suc number) more) e
+  run_of (unread number more c) = none_done _ c [] _ (λ e. absurd cc) (λ other. refl)
+
+-- ---- what it accesses
+
+pub record Laws : Type 0 where
+  pub apdu : (c : CardState) (bytes : List ℕ) → IfSome (apdu_command c bytes) (IsGuardedCommand c)
+  pub install : (c : CardState) (applet instance incoming : List ℕ)
+      → IfSome (install_command c applet instance incoming) (IsGuardedCommand c)
+  pub reset : (c : CardState) → IfSome (reset_command c) (IsGuardedCommand c)
+  pub load : (c after : CardState) (image certificate : List ℕ) (result : Result ℕ LoadFault)
+      → IsLoad c image certificate result after → LeavesObjects c.heap after.heap
+  pub none : (before after : Heap TaggedValue) → LeavesObjects before after → ChangesBy [] before after
+  pub more : (first between last : Heap TaggedValue) (touches behind : List Touch) → ChangesBy touches first between
+      → ChangesBy behind between last → ChangesBy (touches ++ behind) first last
+
+module _ (laws : Laws) (images certificates : List ℕ → List ℕ → Type 0) where
+  guarded : (c : CardState) (command : ScriptCommand) (answer : Answered) (after : CardState)
+      → IsAnswered images certificates c command answer after → IsGuarded c command after
+  guarded c (Load folder certificate) answer after h = laws.load c after h.image h.bytes h.result h.load
+  guarded c (Install applet instance incoming) answer after h = laws.install c applet instance incoming
+  guarded c (Apdu bytes) answer after h = laws.apdu c bytes
+  guarded c Reset answer after h = laws.reset c
+
+  given_changes : {A : Type 0} (c : CardState) (done : Option (Left A)) (said : A → Answered) (answer : Answered)
+      (after : CardState) → IfSome done (IsGuardedCommand c) → IsGiven done said answer after
+      → ChangesBy (accesses_in done) c.heap after.heap
+  given_changes c None said answer after h given = absurd cc
+  given_changes c (Some l) said answer after h given =
+      let same : given.left ≡ l = cc in
+      rw (given.after_is, same) h.changes
+
+  changes : (c : CardState) (command : ScriptCommand) (answer : Answered) (after : CardState)
+      → IsAnswered images certificates c command answer after → ChangesBy (accesses_of c command) c.heap after.heap
+  changes c (Load folder certificate) answer after h =
+      laws.none c.heap after.heap (laws.load c after h.image h.bytes h.result h.load)
+  changes c (Install applet instance incoming) answer after h =
+      given_changes c (install_command c applet instance incoming) _ answer after
+      (laws.install c applet instance incoming) h
+  changes c (Apdu bytes) answer after h = given_changes c (apdu_command c bytes) _ answer after (laws.apdu c bytes) h
+  changes c Reset answer after h = given_changes c (reset_command c) _ answer after (laws.reset c) h
+
+  run_changes : {commands : List ScriptCommand} {c : CardState} {answers : List Answered} {touches : List Touch}
+      {after : CardState} → IsCardRun images certificates commands c answers touches after
+      → ChangesBy touches c.heap after.heap
+  run_changes (nothing c) = laws.none c.heap c.heap (λ number o e. e)
+  run_changes (command first more c between after answer answers touches answered rest) =
+      laws.more c.heap between.heap after.heap (accesses_of c first) touches
+      (changes c first answer between answered) (run_changes rest)
+
+  pub all_guarded : AreGuarded images certificates
+  all_guarded =
+      record { commands = guarded; runs = λ commands c answers touches after run. run_changes run }

@@ -1,0 +1,93 @@
+-- The simulation theorem, of a whole script: which commands were done, what the defensive machine answers to them, which
+-- objects it accessed, and what changed by that (Java Card Runtime Environment Specification, Applet Isolation and
+-- Object Sharing).
+use Rattle.std.specs.Prelude.{◌≡◌, List, [], ◌∷◌, ◌++◌, ℕ, Option, IfSome, map}
+use Rattle.std.specs.Option.{option_map_or}
+use Rattle.jc_api.specs.Bound.{Bound}
+use Rattle.jc_card.specs.Accesses.{ChangesBy, IsGuardedCommand, LeavesObjects}
+use Rattle.jc_card.specs.Card.{CardState}
+use Rattle.jc_card.specs.Commands.{apdu_command, reset_command}
+use Rattle.jc_card.specs.Install.{install_command}
+use Rattle.jc_card.specs.New.{new_card}
+use Rattle.jc_card.specs.Parts.{Left}
+use Rattle.jc_card.specs.declared.limits.Limits.{Limits}
+use Rattle.jc_machine.specs.Machine.{Touch}
+use Rattle.jc_run.specs.Answer.{Answered}
+use Rattle.jc_run.specs.Play.{IsAnswered, NotWritten, Over, ScriptEnd, answer_line}
+use Rattle.jc_script.specs.Script.{Apdu, Install, Load, Reset, Script, ScriptCommand, script_commands}
+
+-- ---- a run of the card
+
+-- the accesses that a command makes, in their order. A load makes none
+abbrev pub accesses_in : {A : Type 0} → Option (Left A) → List Touch
+accesses_in done = option_map_or (λ l. l.touches) done []
+
+abbrev pub accesses_of : CardState → ScriptCommand → List Touch
+accesses_of c (Load folder certificate) = []
+accesses_of c (Install applet instance incoming) = accesses_in (install_command c applet instance incoming)
+accesses_of c (Apdu bytes) = accesses_in (apdu_command c bytes)
+accesses_of c Reset = accesses_in (reset_command c)
+
+-- commands one behind the other, each on the card that the one before it left: what they are answered, their accesses in
+-- their order, and the card behind them. No call of a command that is answered is stuck
+pub data IsCardRun (images certificates : List ℕ → List ℕ → Type 0)
+    : List ScriptCommand → CardState → List Answered → List Touch → CardState → Type 0 where
+  nothing : (c : CardState) → IsCardRun images certificates [] c [] [] c
+  command : (first : ScriptCommand) (commands : List ScriptCommand) (c between after : CardState) (answer : Answered)
+      (answers : List Answered) (touches : List Touch) → IsAnswered images certificates c first answer between
+      → IsCardRun images certificates commands between answers touches after
+      → IsCardRun images certificates (first ∷ commands) c (answer ∷ answers) (accesses_of c first ++ touches) after
+
+-- ---- what is promised of its accesses
+
+-- the law of accesses, of a command on a card that leaves another one
+abbrev pub IsGuarded : CardState → ScriptCommand → CardState → Type 0
+IsGuarded c (Load folder certificate) after = LeavesObjects c.heap after.heap
+IsGuarded c (Install applet instance incoming) after =
+    IfSome (install_command c applet instance incoming) (IsGuardedCommand c)
+IsGuarded c (Apdu bytes) after = IfSome (apdu_command c bytes) (IsGuardedCommand c)
+IsGuarded c Reset after = IfSome (reset_command c) (IsGuardedCommand c)
+
+-- of each command on each card, and of each run from each card on
+pub record AreGuarded (images certificates : List ℕ → List ℕ → Type 0) : Type 0 where
+  pub commands : (c : CardState) (command : ScriptCommand) (answer : Answered) (after : CardState)
+      → IsAnswered images certificates c command answer after → IsGuarded c command after
+  pub runs : (commands : List ScriptCommand) (c : CardState) (answers : List Answered) (touches : List Touch)
+      (after : CardState) → IsCardRun images certificates commands c answers touches after
+      → ChangesBy touches c.heap after.heap
+
+-- ---- a script
+
+-- its commands, in the order of their lines
+abbrev pub commands_in : Script → List ScriptCommand
+commands_in script = map (λ n. n.command) script.commands
+
+-- the lines of answers, one behind the other
+abbrev pub answer_lines : List Answered → List ℕ
+answer_lines [] = []
+answer_lines (answer ∷ answers) = answer_line answer ++ answer_lines answers
+
+-- the first of these commands were done, on a card: what they are answered is what is written, each answer in a line of
+-- its own. Only where an answer can't be written a part of its line may stand there. Where nothing ended it early all were
+-- done
+pub record IsDone (images certificates : List ℕ → List ℕ → Type 0) (commands : List ScriptCommand) (c : CardState)
+    (written : List ℕ) (end : ScriptEnd) : Type 0 where
+  pub done : List ScriptCommand
+  pub left : List ScriptCommand
+  pub in_order : commands ≡ done ++ left
+  pub all : end ≡ Over → left ≡ []
+  pub answers : List Answered
+  pub touches : List Touch
+  pub card : CardState
+  pub run : IsCardRun images certificates done c answers touches card
+  pub part : List ℕ
+  pub lines : written ≡ answer_lines answers ++ part
+  pub whole : (end ≡ NotWritten → ⊥) → part ≡ []
+
+-- the theorem: the responses are those of the defensive machine on a new card; and each access is one that the firewall
+-- allows, or is denied, throws and changes nothing
+pub record IsSimulated (images certificates : List ℕ → List ℕ → Type 0) (limits : Limits) (binding : Bound)
+    (script written : List ℕ) (end : ScriptEnd) : Type 0 where
+  pub responses : IsDone images certificates (commands_in (script_commands script)) (new_card limits binding) written
+      end
+  pub accesses : AreGuarded images certificates

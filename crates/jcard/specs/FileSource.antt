@@ -1,0 +1,22 @@
+-- Packages in folders and certificates in files: what such a source holds, and the fault of a reading that failed.
+use Rattle.std.specs.Prelude.{◌⊎◌, ℕ, List}
+use Rattle.jcard.specs.Files.{Entry, IsContent, IsFaultAt, IsUnread}
+use Rattle.jcard.specs.Folders.{IsFolderFault}
+use Rattle.jcard.specs.declared.files.FileFault.{FileFault}
+
+-- the most bytes of the file of a certificate
+abbrev pub most_certificate : ℕ
+most_certificate = 1048576
+
+-- the certificate under a name is the bytes of the file with this name
+abbrev pub HoldsCertificate : (List ℕ → Entry → Type 0) → List ℕ → List ℕ → Type 0
+HoldsCertificate holds name bytes = IsContent (holds name) most_certificate bytes
+
+-- why the file with a name holds no certificate
+abbrev pub IsCertificateFault : (List ℕ → Entry → Type 0) → List ℕ → FileFault → Type 0
+IsCertificateFault holds name fault = IsFaultAt name (IsUnread (holds name) most_certificate) fault
+
+-- the fault of a reading: a folder holds no image, or a file no certificate
+pub record IsSourceFault (holds : List ℕ → Entry → Type 0) (fault : FileFault) : Type 0 where
+  pub name : List ℕ
+  pub is : IsFolderFault holds name fault ⊎ IsCertificateFault holds name fault

@@ -1,0 +1,50 @@
+-- What a script comes to on a new card, whose packages lie in folders and whose certificates lie in files, and what is
+-- told where it ends early.
+use Rattle.std.specs.Prelude.{⊤, ℕ, Result, Ok, Err}
+use Rattle.jc_card.specs.declared.limits.Limits.{Limits}
+use Rattle.jc_run.specs.End.{end_of_fault}
+use Rattle.jc_run.specs.Play.{NoMemory, NotRead, Over, ScriptEnd, SourceFailed}
+use Rattle.jc_run.specs.declared.fault.ScriptFault.{ScriptFault}
+use Rattle.jc_run.specs.declared.fault.ScriptFault.TheVariants as scripts
+use Rattle.jcard.specs.declared.files.FileFault.{FileFault}
+use Rattle.jcard.specs.declared.files.ReadFault.{ReadFault}
+use Rattle.jcard.specs.declared.files.ReadFault.TheVariants as reading
+use Rattle.jcard.specs.declared.play.PlayFault.{PlayFault}
+use Rattle.jcard.specs.declared.play.PlayFault.TheVariants.{File, Load, Script, Memory}
+
+-- the limits of a card of which nothing else is said, with so many steps at most in a call
+abbrev pub limits_with : ℕ → Limits
+limits_with steps = record { objects = 32767; cells = 65535; frames = 64; frame_words = 1024; steps = steps }
+
+-- a file's fault, or want of memory, as it is told of a script
+abbrev pub told_of : ReadFault → PlayFault
+told_of (reading.File fault) = File fault
+told_of reading.Memory = Memory
+
+-- how a script ended, by what is told. A script that isn't opened isn't read
+abbrev pub end_of_told : PlayFault → ScriptEnd
+end_of_told (File fault) = NotRead
+end_of_told (Load number fault) = SourceFailed number
+end_of_told (Script fault) = end_of_fault fault
+end_of_told Memory = NoMemory
+
+abbrev pub end_of_play : Result (Unit {0}) PlayFault → ScriptEnd
+end_of_play (Ok u) = Over
+end_of_play (Err fault) = end_of_told fault
+
+-- a script's fault has no fault of a file behind it, and isn't want of memory
+abbrev pub IsOfScript : ScriptFault → Type 0
+IsOfScript (scripts.BadLine number) = ⊤
+IsOfScript (scripts.Source number) = ⊥
+IsOfScript (scripts.Read fault) = ⊤
+IsOfScript (scripts.Write error) = ⊤
+IsOfScript scripts.BadLimits = ⊤
+IsOfScript scripts.Memory = ⊥
+
+-- what is told of a script that is open, where a line names a package or a certificate that can't be read for one of
+-- these faults
+abbrev pub IsTold : (FileFault → Type 0) → PlayFault → Type 0
+IsTold tells (File fault) = ⊥
+IsTold tells (Load number fault) = tells fault
+IsTold tells (Script fault) = IsOfScript fault
+IsTold tells Memory = ⊤

@@ -1,0 +1,105 @@
+//! Scripts on a new card, whose packages lie in folders and whose certificates lie in files.
+
+ghost use Rattle.std.specs.Prelude.{◌≡◌, ℕ, List, Some, IfErr};
+ghost use Rattle.jc_run.specs.End.{end_of_fault};
+ghost use Rattle.jc_run.specs.Performs.{HasRun};
+ghost use Rattle.jc_run.specs.Play.{failures_at};
+ghost use Rattle.jcard.specs.FileSource.{HoldsCertificate, IsSourceFault};
+ghost use Rattle.jcard.specs.Folders.{IsImage};
+ghost use Rattle.jcard.specs.Play.{IsTold, end_of_play, end_of_told, limits_with};
+ghost use Rattle.jcard.specs.PrivateFileSource.{TellsAll};
+
+use crate::file_source::{Faults, FileSource};
+use crate::files::{FileFault, Files, ReadFault};
+use jc_api::Binding;
+use jc_card::Limits;
+use jc_run::{ScriptFault, run_script};
+use std::alloc::Global;
+use std::io::{Read, Write};
+use std::marker::Brand;
+
+/// Why a script isn't played to its end.
+#[derive(Debug, Drop)]
+pub enum PlayFault {
+    /// The file of the binding or of the script is at fault.
+    File(FileFault),
+    /// A folder or file is at fault that the line with this number, from 1 on, names.
+    Load { number: u32, fault: FileFault },
+    /// The script ends early for another reason.
+    Script(ScriptFault),
+    /// No memory was left.
+    Memory,
+}
+
+impl From<ReadFault> for PlayFault {
+    ghost use Rattle.jcard.specs.Play.{told_of};
+
+    ghost from_gives = { λ why fault. fault ≡ told_of why };
+
+    fn from(fault: ReadFault) -> PlayFault {
+        match fault {
+            ReadFault::File(fault) => PlayFault::File(fault),
+            ReadFault::Memory => PlayFault::Memory,
+        }
+    }
+}
+
+/// Plays a script on a new card with the limits of a card of which nothing else is said, but for the steps of a call.
+pub fn play_script<F: Files, R: Read, W: Write>(
+    files: &F,
+    alloc: Global,
+    reader: &mut R,
+    writer: &mut W,
+    steps: u32,
+    binding: &Binding,
+) -> Result<(), PlayFault>
+    ensures played { (bytes before : List ℕ) → R.remaining reader.old ≡ Some bytes
+        → W.contents writer.old ≡ Some before
+        → HasRun (IsImage (F.holds files.now)) (HoldsCertificate (F.holds files.now)) (limits_with steps) binding.now
+        bytes before (W.contents writer.new) (end_of_play result) }
+    ensures told { IfErr result (IsTold (IsSourceFault (F.holds files.now))) }
+{
+    play_telling::<F, R, W, Brand>(files, alloc, reader, writer, steps, binding)
+}
+
+// Plays a script, of which faults of these kinds are told.
+fn play_telling<F: Files, R: Read, W: Write, T: Faults>(
+    files: &F,
+    alloc: Global,
+    reader: &mut R,
+    writer: &mut W,
+    steps: u32,
+    binding: &Binding,
+) -> Result<(), PlayFault>
+    requires { TellsAll (F.holds files.now) T.tells }
+    ensures played { (bytes before : List ℕ) → R.remaining reader.old ≡ Some bytes
+        → W.contents writer.old ≡ Some before
+        → HasRun (IsImage (F.holds files.now)) (HoldsCertificate (F.holds files.now)) (limits_with steps) binding.now
+        bytes before (W.contents writer.new) (end_of_play result) }
+    ensures told { IfErr result (IsTold T.tells) }
+{
+    let mut source: FileSource<'_, F, T> = FileSource::new(files);
+    let mut limits = Limits::DEFAULT;
+    limits.steps = steps;
+    match run_script(alloc, reader, writer, &mut source, limits, binding) {
+        Ok(()) => Ok(()),
+        Err(fault) => Err(told_of(source, fault)),
+    }
+}
+
+// What is told of the fault of a script, whose source keeps the fault of the reading that failed.
+fn told_of<'a, F: Files, T: Faults>(source: FileSource<'a, F, T>, fault: ScriptFault) -> PlayFault
+    requires { source.failures ≡ failures_at (end_of_fault fault) }
+    ensures end { end_of_told result ≡ end_of_fault fault }
+    ensures told { IsTold T.tells result }
+{
+    match fault {
+        ScriptFault::Source(number) => match source.into_fault() {
+            Some(fault) => PlayFault::Load { number, fault },
+            // A source keeps the fault of a reading that failed.
+            None => unreachable!(),
+        },
+        ScriptFault::Memory => PlayFault::Memory,
+        fault => PlayFault::Script(fault),
+    }
+}

@@ -1,2 +1,0 @@
-mod There
-mod Filling

@@ -1,5 +1,5 @@
 """Writes images of packages from what they say: classes, members and references by name, and certificates for them. The
-layouts are docs/profile/files.md and docs/profile/certificate.md; tests/link, tests/check, tests/verify,
+layouts are docs/profile/files.md and docs/profile/certificate.md; tests/linking.py, tests/check, tests/verify,
 tests/described.py and benchmarks use it."""
 from dataclasses import dataclass, field
 from struct import pack

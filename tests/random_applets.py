@@ -29,8 +29,6 @@ class Room:
     kept: list = field(default_factory=list)  # fields of this with a Base
     statics: list = field(default_factory=list)
     helpers: list = field(default_factory=list)  # static methods of two shorts
-    members: bool = True
-    apdu: bool = False
 
 
 class Code:
@@ -49,7 +47,8 @@ class Code:
     # ---- expressions: each is a text of instructions that leaves one operand
 
     def constant(self):
-        value = self.pick(0, 1, 2, 3, 4, 5, -1, 7, 8, 100, 255, 256, -128, 32767, -32768, self.chance.randrange(-300, 300))
+        small = self.chance.randrange(-300, 300)
+        value = self.pick(0, 1, 2, 3, 4, 5, -1, 7, 8, 100, 255, 256, -128, 32767, -32768, small)
         if -1 <= value <= 5:
             return 'sconst_m1' if value < 0 else 'sconst_%d' % value
         return ('bspush %d' if -128 <= value < 128 else 'sspush %d') % value

@@ -1,0 +1,120 @@
+"""Lays out static fields: what the initialiser of each class gives them, and their places in the static image."""
+from dataclasses import dataclass, field
+
+from converter.bytecode import Decoder
+from converter.classfile import Refusal
+from converter.layout import is_reference, static_fields
+from converter.ranges import BYTE, SHORT, lies_in
+from converter.world import dotted
+
+ONLY = 'a static field can be initialised by constants and by arrays of constants only'
+SIZES = {'Z': 1, 'B': 1, 'S': 2}
+ARRAYS = {'[Z': 2, '[B': 3, '[S': 4}
+
+
+@dataclass
+class Array:
+    kind: str
+    values: list
+    is_placed: bool = False
+
+
+class Initialiser:
+    """Follows the code that initialises a class's static fields: `values` has what they get, by their names and types."""
+
+    def __init__(self, known, code):
+        self.known, self.operands, self.values = known, [], {}
+        at = 0
+        try:
+            for instruction in Decoder(code.bytes, known.file.pool).instructions():
+                at = instruction.at
+                step = getattr(self, 'on_' + instruction.operation, None)
+                if step is None:
+                    raise Refusal(ONLY)
+                step(*instruction.operands)
+        except Refusal as refusal:
+            line = code.line(refusal.place if isinstance(refusal.place, int) else at)
+            raise Refusal(refusal.text, dotted(known.name) + (', line %d' % line if line else '')) from None
+
+    def on_push(self, number):
+        self.operands.append(number)
+
+    def on_null(self):
+        self.operands.append(None)
+
+    def on_narrow(self, kind):
+        if not lies_in((self.operands[-1],) * 2, BYTE if kind == 'B' else SHORT):
+            raise Refusal(ONLY)
+
+    def on_new_words(self, kind):
+        self.operands.append(Array(kind, [0] * self.operands.pop()))
+
+    def on_move(self, name):
+        if name != 'dup':
+            raise Refusal(ONLY)
+        self.operands.append(self.operands[-1])
+
+    def on_store_component(self, kind):
+        array, index, value = self.operands[-3:]
+        del self.operands[-3:]
+        if not isinstance(array, Array) or not 0 <= index < len(array.values):
+            raise Refusal(ONLY)
+        array.values[index] = value
+
+    def on_put_static(self, member):
+        value = self.operands.pop()
+        if member.of != self.known.name or isinstance(value, Array) and value.is_placed:
+            raise Refusal(ONLY)
+        if isinstance(value, Array):
+            value.is_placed = True
+        self.values[member.name, member.type] = value
+
+    def on_return(self, kind):
+        pass
+
+
+def initial_values(known):
+    """What the static fields of a class hold at first, those that its initialiser says."""
+    code = next((m.code for m in known.file.methods if m.name == '<clinit>'), None)
+    return Initialiser(known, code).values if code else {}
+
+
+def spelled(value, size):
+    return (value % 256 ** size).to_bytes(size, 'big')
+
+
+@dataclass
+class Statics:
+    """The static image: places by class, and name and type; arrays by their types and bytes."""
+    places: dict = field(default_factory=dict)
+    arrays: list = field(default_factory=list)
+    references: int = 0
+    defaults: int = 0
+    values: bytes = b''
+
+
+def laid_out(classes):
+    """The static image of a package's classes: initialised arrays, other references, then numbers that are 0, then the others."""
+    rows = []
+    for k in classes:
+        values = initial_values(k)
+        rows += [((k.name, f.key), f.type, values.get(f.key)) for f in static_fields(k.file)]
+    image, at = Statics(), 0
+    for where, kind, value in sorted(rows, key=lambda row: rank(*row[1:])):
+        image.places[where] = at
+        at += SIZES.get(kind, 2)
+        if isinstance(value, Array):
+            size = SIZES[value.kind]
+            image.arrays.append((ARRAYS['[' + value.kind], b''.join(spelled(v, size) for v in value.values)))
+        if is_reference(kind):
+            image.references += 1
+        elif value:
+            image.values += spelled(value, SIZES[kind])
+        else:
+            image.defaults += SIZES[kind]
+    return image
+
+
+def rank(kind, value):
+    """The part of the static image in which a field stands."""
+    return (0 if isinstance(value, Array) else 1) if is_reference(kind) else (3 if value else 2)

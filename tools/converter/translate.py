@@ -1,0 +1,372 @@
+"""Turns the code of a class file's method into instructions of the card."""
+from dataclasses import dataclass
+
+from converter.bytecode import CONDITIONS, Decoder
+from converter.classfile import PRIVATE, Refusal, STATIC, parameters
+from converter.layout import method_of, place_of
+from converter.ranges import BYTE, Ranges, lies_in
+from converter.world import MOST, OBJECT, dotted
+
+# The first opcode of each family; the forms for references, bytes and shorts stand behind each other.
+OPCODES = {
+    'nothing': 0, 'null': 1, 'sconst_0': 3, 'bspush': 16, 'sspush': 17, 'aload': 21, 'sload': 22, 'aload_0': 24, 'sload_0': 28, 'aaload': 36,
+    'astore': 40, 'sstore': 41, 'astore_0': 43, 'sstore_0': 47, 'aastore': 55, 'pop': 59, 'pop2': 60, 'dup': 61, 'dup2': 62, 'dup_x': 63,
+    'swap_x': 64, 'negate': 75, 'sinc': 89, 's2b': 91, 'if': 96, 'if_null': 102, 'if_same': 104, 'if_both': 106, 'goto': 112, 'table': 115,
+    'lookup': 117, 'areturn': 119, 'sreturn': 120, 'return': 122, 'get_static': 123, 'put_static': 127, 'get_field': 131, 'put_field': 135,
+    'virtual': 139, 'special': 140, 'static': 141, 'interface': 142, 'new': 143, 'new_words': 144, 'new_references': 145, 'length': 146,
+    'throw': 147, 'cast': 148, 'test': 149, 'sinc_w': 150, 'get_field_w': 169, 'get_field_this': 173, 'put_field_w': 177,
+}
+OPERATORS = {name: 65 + 2 * at for at, name in enumerate(['add', 'sub', 'mul', 'div', 'rem', '', 'shl', 'shr', 'ushr', 'and', 'or', 'xor'])}
+DUPLICATES = {'dup_x1': 0x12, 'dup_x2': 0x13, 'dup2_x1': 0x23, 'dup2_x2': 0x24}  # for dup_x
+KINDS = {'Z': 10, 'B': 11, 'S': 12}  # of arrays, for newarray, checkcast and instanceof
+FORMS = {'Z': 1, 'B': 1, 'S': 2}
+WIDER = 56  # between a branch and the same with an offset of two bytes
+
+
+@dataclass(frozen=True)
+class Entry:
+    """An entry of the constant pool. `of` is a class; of a static member of the package itself it is a class, and a name and type."""
+    kind: str
+    of: object
+    token: int = None
+    type: str = None
+
+
+@dataclass
+class Card:
+    """An instruction of the card, at a place of the class file's code. Its operands are entries of the pool, or pairs of a size and a
+    number. A branch has a target, and a switch its default and then one for each of its numbers."""
+    at: int
+    opcode: int
+    operands: tuple = ()
+    targets: tuple = ()
+
+    @property
+    def entry(self):
+        return next((o for o in self.operands if isinstance(o, Entry)), None)
+
+
+@dataclass
+class Translated:
+    """A method of the card: its instructions, handlers as the class file has them with entries in place of classes, and counts."""
+    cards: list
+    handlers: list
+    stack: int
+    arguments: int
+    locals: int
+
+
+class Translator:
+    """Translates one method of a class."""
+
+    def __init__(self, world, known, method):
+        self.world, self.known, self.method, self.at = world, known, method, 0
+
+    def translated(self):
+        try:
+            self.world.check_type(self.method.type)
+            return self.whole()
+        except Refusal as refusal:
+            line = self.method.code.line(refusal.place if isinstance(refusal.place, int) else self.at)
+            place = '%s.%s' % (dotted(self.known.name), self.method.name) + (', line %d' % line if line else '')
+            raise Refusal(refusal.text, place) from None
+
+    def whole(self):
+        code = self.method.code
+        self.instructions = Decoder(code.bytes, self.known.file.pool).instructions()
+        self.check_members()
+        self.states = Ranges(self.method, self.instructions).states
+        self.stops = {place for handler in code.handlers for place in handler[:3]}.union(*(i.targets for i in self.instructions))
+        self.cards, self.depth, self.used, number = [], 0, 0, 0
+        while number < len(self.instructions):
+            number += self.translate(self.instructions[number:number + 5])
+        arguments = len(parameters(self.method.type)) + (not self.method.has(STATIC))
+        handlers = [(start, end, at, self.class_entry(caught) if caught else None) for start, end, at, caught in code.handlers]
+        for count, word in (self.depth, 'operands'), (max(self.used, arguments), 'locals'):
+            if count > MOST:
+                raise Refusal('the method needs more than %d %s' % (MOST, word))
+        return Translated(self.cards, handlers, self.depth, arguments, max(self.used - arguments, 0))
+
+    def check_members(self):
+        """Refuses types of members before numbers are looked at, so that the reason is the plainer one."""
+        for instruction in self.instructions:
+            self.at = instruction.at
+            for operand in instruction.operands:
+                if hasattr(operand, 'type'):
+                    self.world.check_type(operand.type)
+
+    def translate(self, waiting):
+        """Translates the first of the instructions, perhaps with some behind it; gives how many. What is never reached is left out."""
+        self.at, self.targets = waiting[0].at, waiting[0].targets
+        if self.at not in self.states:
+            return 1
+        self.depth = max(self.depth, len(self.states[self.at][1]))
+        for fuse in self.increment_by, self.field_of_this:
+            count = fuse(waiting)
+            if count:
+                return count
+        getattr(self, 'on_' + waiting[0].operation)(*waiting[0].operands)
+        return 1
+
+    def emit(self, opcode, *operands, targets=()):
+        self.cards.append(Card(self.at, opcode, operands, targets))
+
+    # Several instructions in one
+
+    def are_together(self, waiting, *operations):
+        """Whether these operations stand first, and control flow comes only to the first of them."""
+        some = waiting[:len(operations)]
+        return [i.operation for i in some] == list(operations) and not any(i.at in self.stops for i in some[1:])
+
+    def increment_by(self, waiting):
+        """A short local plus or minus a constant is `sinc`."""
+        if not self.are_together(waiting, 'load', 'push', 'binary', 'narrow', 'store'):
+            return 0
+        load, push, binary, narrow, store = (i.operands for i in waiting[:5])
+        if load != store or load[0] != 'i' or binary[0] not in ('add', 'sub') or narrow != ('S',):
+            return 0
+        by = push[0] if binary[0] == 'add' else -push[0]
+        if not lies_in((by, by), BYTE):
+            return 0
+        self.on_increment(load[1], by)
+        return 5
+
+    def field_of_this(self, waiting):
+        """A field of the object in local 0."""
+        if not self.are_together(waiting, 'load', 'get_field') or waiting[0].operands != ('a', 0):
+            return 0
+        field = waiting[1].operands[0]
+        self.emit(OPCODES['get_field_this'] + FORMS.get(field.type, 0), self.field_entry(field))
+        self.used = max(self.used, 1)
+        return 2
+
+    # Numbers, locals and the stack
+
+    def on_nothing(self):
+        self.emit(OPCODES['nothing'])
+
+    def on_null(self):
+        self.emit(OPCODES['null'])
+
+    def on_push(self, number):
+        number = (number + 0x8000) % 0x10000 - 0x8000
+        if -1 <= number <= 5:
+            self.emit(OPCODES['sconst_0'] + number)
+        else:
+            self.emit(*((OPCODES['bspush'], (1, number)) if lies_in((number, number), BYTE) else (OPCODES['sspush'], (2, number))))
+
+    def on_local(self, name, local):
+        self.used = max(self.used, local + 1)
+        if local < 4:
+            self.emit(OPCODES[name + '_0'] + local)
+        else:
+            self.emit(OPCODES[name], (1, local))
+
+    def on_load(self, kind, local):
+        self.on_local('aload' if kind == 'a' else 'sload', local)
+
+    def on_store(self, kind, local):
+        self.on_local('astore' if kind == 'a' else 'sstore', local)
+
+    def on_increment(self, local, by):
+        self.used = max(self.used, local + 1)
+        size = 1 if lies_in((by, by), BYTE) else 2
+        self.emit(OPCODES['sinc' if size == 1 else 'sinc_w'], (1, local), (size, by))
+
+    def on_move(self, name):
+        if name == 'swap':
+            self.emit(OPCODES['swap_x'], (1, 0x11))
+        elif name in DUPLICATES:
+            self.emit(OPCODES['dup_x'], (1, DUPLICATES[name]))
+        else:
+            self.emit(OPCODES[name])
+
+    def on_binary(self, name):
+        self.emit(OPERATORS[name])
+
+    def on_negate(self):
+        self.emit(OPCODES['negate'])
+
+    def on_narrow(self, kind):
+        """A cast to short changes no word, nor does one to byte of what lies in a byte."""
+        value = self.states[self.at][1][-1]
+        if kind == 'B' and not (isinstance(value, tuple) and lies_in(value, BYTE)):
+            self.emit(OPCODES['s2b'])
+
+    # Branches
+
+    def branch(self, family, condition):
+        self.emit(OPCODES[family] + CONDITIONS.index(condition), targets=self.targets)
+
+    def on_if(self, condition):
+        self.branch('if', condition)
+
+    def on_if_both(self, condition):
+        self.branch('if_both', condition)
+
+    def on_if_same(self, condition):
+        self.branch('if_same', condition)
+
+    def on_if_null(self, condition):
+        self.branch('if_null', condition)
+
+    def on_goto(self):
+        self.branch('goto', 'eq')
+
+    def switch(self, family, matches):
+        """A switch; a case that no short can be is refused."""
+        if any(not -0x8000 <= m <= 0x7FFF for m in matches):
+            raise Refusal('a case of a switch isn\'t a short')
+        self.emit(OPCODES[family], *((2, m) for m in matches), targets=self.targets)
+
+    def on_table(self, *matches):
+        self.switch('table', matches)
+
+    def on_lookup(self, *matches):
+        self.switch('lookup', matches)
+
+    def on_return(self, kind):
+        self.emit(OPCODES[{'i': 'sreturn', 'a': 'areturn', '': 'return'}[kind]])
+
+    def on_throw(self):
+        self.emit(OPCODES['throw'])
+
+    # Arrays
+
+    def on_load_component(self, kind):
+        self.emit(OPCODES['aaload'] + 'abs'.index(kind))
+
+    def on_store_component(self, kind):
+        self.emit(OPCODES['aastore'] + 'abs'.index(kind))
+
+    def on_length(self):
+        self.emit(OPCODES['length'])
+
+    def on_new_words(self, kind):
+        self.emit(OPCODES['new_words'], (1, KINDS[kind]))
+
+    def on_new_references(self, name):
+        if name.startswith('['):
+            raise Refusal('an array of arrays isn\'t in the profile')
+        self.emit(OPCODES['new_references'], self.class_entry(name))
+
+    # Classes, fields and methods
+
+    def class_entry(self, name):
+        return Entry('class', self.world.find(name).name)
+
+    def on_new(self, name):
+        self.emit(OPCODES['new'], self.class_entry(name))
+
+    def tested(self, opcode, name):
+        """A cast or a test: the kind stands in front of the entry."""
+        if not name.startswith('['):
+            self.emit(opcode, (1, 0), self.class_entry(name))
+        else:
+            self.world.check_type(name)
+            element = name[1:]
+            if element in KINDS:
+                self.emit(opcode, (1, KINDS[element]), (2, 0))
+            else:
+                self.emit(opcode, (1, 14), self.class_entry(element[1:-1]))
+
+    def on_cast(self, name):
+        self.tested(OPCODES['cast'], name)
+
+    def on_test(self, name):
+        self.tested(OPCODES['test'], name)
+
+    def missing(self, member):
+        return Refusal('%s.%s isn\'t among the members that a package can name' % (dotted(member.of), member.name))
+
+    def field_entry(self, member):
+        """An entry for a field of objects, of the class that declares it."""
+        for k in self.world.chain(member.of):
+            if (member.name, member.type) in k.fields:
+                return Entry('field', k.name, k.fields[member.name, member.type], member.type)
+        raise self.missing(member)
+
+    def static_entry(self, kind, k, key):
+        """An entry for a static member or a constructor of a class that has it."""
+        if k.file is not None:
+            return Entry(kind, (k.name, key), None, key[1])
+        table = k.static_methods if kind == 'static method' else k.static_fields
+        return Entry(kind, k.name, table[key], key[1])
+
+    def static_field_entry(self, member):
+        key = member.name, member.type
+        for k in self.world.chain(member.of):
+            for holder in [k, *map(self.world.find, k.interfaces)]:
+                if key in holder.static_fields:
+                    return self.static_entry('static field', holder, key)
+        raise self.missing(member)
+
+    def on_get_static(self, member):
+        self.emit(OPCODES['get_static'] + FORMS.get(member.type, 0), self.static_field_entry(member))
+
+    def on_put_static(self, member):
+        self.emit(OPCODES['put_static'] + FORMS.get(member.type, 0), self.static_field_entry(member))
+
+    def on_get_field(self, member):
+        self.emit(OPCODES['get_field'] + FORMS.get(member.type, 0), self.field_entry(member))
+
+    def on_put_field(self, member):
+        self.emit(OPCODES['put_field'] + FORMS.get(member.type, 0), self.field_entry(member))
+
+    def on_call(self, how, member):
+        if member.of.startswith('['):
+            raise Refusal('a method of an array isn\'t in the profile')
+        getattr(self, 'call_' + how)(member, (member.name, member.type))
+
+    def virtual_token(self, k, member):
+        """The token of a virtual method, or None."""
+        key = member.name, member.type
+        return k.virtual.get(key, k.package_virtual.get(key))
+
+    def is_private(self, k, key):
+        method = method_of(k, key) if k.file else None
+        return method is not None and method.has(PRIVATE) and not method.has(STATIC)
+
+    def call_virtual(self, member, key):
+        k = self.world.find(member.of)
+        token = self.virtual_token(k, member)
+        if self.is_private(k, key):
+            self.emit(OPCODES['special'], self.static_entry('static method', k, key))
+        elif token is None or k.is_interface:
+            raise self.missing(member)
+        else:
+            self.emit(OPCODES['virtual'], Entry('virtual', k.name, token, member.type))
+
+    def call_special(self, member, key):
+        """A constructor, a private method, or one of the class above."""
+        k = self.world.find(member.of)
+        if self.is_private(k, key) or member.name == '<init>' and key in k.static_methods:
+            self.emit(OPCODES['special'], self.static_entry('static method', k, key))
+            return
+        token = self.virtual_token(k, member)
+        if token is None or k.is_interface:
+            raise self.missing(member)
+        self.emit(OPCODES['special'], Entry('super', self.known.name, token, member.type))
+
+    def call_static(self, member, key):
+        for k in self.world.chain(member.of):
+            if key in k.static_methods and member.name != '<init>':
+                self.emit(OPCODES['static'], self.static_entry('static method', k, key))
+                return
+        raise self.missing(member)
+
+    def call_interface(self, member, key):
+        k = self.world.find(member.of)
+        if k.is_interface and key in k.virtual:
+            self.emit(OPCODES['interface'], (1, len(parameters(member.type)) + 1), self.class_entry(k.name), (1, k.virtual[key]))
+        elif key in self.world.find(OBJECT).virtual:
+            self.emit(OPCODES['virtual'], Entry('virtual', OBJECT, self.world.find(OBJECT).virtual[key], member.type))
+        else:
+            raise self.missing(member)
+
+
+def translate(world, known, method):
+    """A method of a class, for the card."""
+    if method.code is None:
+        raise Refusal('it has no code', place_of(known, method))
+    return Translator(world, known, method).translated()

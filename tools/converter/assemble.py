@@ -6,8 +6,8 @@ from converter.translate import Entry, OPCODES, WIDER
 
 SWITCHES = OPCODES['table'], OPCODES['lookup']
 LONGEST = 0x7FFF  # of a method's code
-NARROW = range(OPCODES['get_field'], OPCODES['get_field'] + 8)  # instructions whose entry is one byte
-OF_THIS = range(OPCODES['get_field_this'], OPCODES['get_field_this'] + 3)
+NARROW = range(OPCODES['get_object'], OPCODES['get_object'] + 8)  # instructions whose entry is one byte
+OF_THIS = range(OPCODES['get_this'], OPCODES['get_this'] + 3)
 
 
 def u1(number):
@@ -27,10 +27,10 @@ def with_entry(card, index):
     if index < 256:
         return u1(card.opcode) + u1(index)
     if card.opcode in OF_THIS:
-        return u1(OPCODES['aload_0']) + u1(card.opcode - OF_THIS[0] + OPCODES['get_field_w']) + u2(index)
-    is_put = card.opcode >= OPCODES['put_field']
-    return u1(card.opcode - OPCODES['put_field'] + OPCODES['put_field_w'] if is_put
-              else card.opcode - OPCODES['get_field'] + OPCODES['get_field_w']) + u2(index)
+        return u1(OPCODES['aload_0']) + u1(card.opcode - OF_THIS[0] + OPCODES['get_object_w']) + u2(index)
+    is_put = card.opcode >= OPCODES['put_object']
+    return u1(card.opcode - OPCODES['put_object'] + OPCODES['put_object_w'] if is_put
+              else card.opcode - OPCODES['get_object'] + OPCODES['get_object_w']) + u2(index)
 
 
 class Assembler:
@@ -80,7 +80,8 @@ class Assembler:
         """An instruction without targets."""
         if card.opcode in NARROW or card.opcode in OF_THIS:
             return with_entry(card, self.pool[card.entry])
-        return u1(card.opcode) + b''.join(u2(self.pool[o]) if isinstance(o, Entry) else spelled(o[1], o[0]) for o in card.operands)
+        operands = [u2(self.pool[o]) if isinstance(o, Entry) else spelled(o[1], o[0]) for o in card.operands]
+        return u1(card.opcode) + b''.join(operands)
 
     def bytes_of(self, n, card):
         if not card.targets:

@@ -1,9 +1,10 @@
-"""Reads class files: names, fields, methods with their code, and the pool's entries as far as a package can use them."""
+"""Reads class files: names, fields, methods with their code, and the pool's entries as far as they can be used."""
 from dataclasses import dataclass, field
 
-PUBLIC, PRIVATE, PROTECTED, STATIC, FINAL, SYNCHRONIZED, NATIVE, INTERFACE, ABSTRACT = 1, 2, 4, 8, 16, 32, 256, 512, 1024
+PUBLIC, PRIVATE, PROTECTED, STATIC, FINAL, SYNCHRONIZED = 1, 2, 4, 8, 0x10, 0x20
+NATIVE, INTERFACE, ABSTRACT = 0x100, 0x200, 0x400
 
-# How many bytes stand behind the tag of an entry that isn't a text, and the words for those that the profile has no use for.
+# How many bytes stand behind the tag of an entry that isn't a text, and words for those that the profile can't use.
 SIZES = {3: 4, 4: 4, 5: 8, 6: 8, 7: 2, 8: 2, 9: 4, 10: 4, 11: 4, 12: 4, 15: 3, 16: 2, 17: 4, 18: 4, 19: 2, 20: 2}
 WORDS = {4: 'float', 5: 'long', 6: 'double', 8: 'a constant of type String'}
 
@@ -29,7 +30,7 @@ class Reference:
 
 @dataclass
 class Code:
-    """The bytes of a method's code; handlers of four parts each: start, end, where they go on, and the class or None."""
+    """A method's code. Handlers have four parts each: start, end, where they go on, and the class or None."""
     bytes: bytes
     locals: int
     handlers: list

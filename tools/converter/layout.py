@@ -28,7 +28,8 @@ def add_classes(world, files):
     found, seen = [], 0
     for file in in_order(files):
         try:
-            known = Known(file.name, None if file.has(INTERFACE) else file.above, is_interface=file.has(INTERFACE), file=file)
+            is_interface = file.has(INTERFACE)
+            known = Known(file.name, None if is_interface else file.above, is_interface=is_interface, file=file)
             if file.has(PUBLIC):
                 known.token, seen = seen, seen + 1
             world.known[file.name] = known
@@ -62,24 +63,26 @@ def add_interface_methods(world, known):
 
 
 def add_methods(world, known):
-    """The tokens of virtual methods: those of the class above, and further ones. What an abstract class leaves to be done of its
-    interfaces, it declares itself."""
+    """The tokens of virtual methods: those of the class above, and further ones. What an abstract class leaves to be
+    done of its interfaces, it declares itself."""
     above = world.find(known.above)
     if above.is_interface:
         raise Refusal('%s is an interface' % dotted(known.above))
     known.virtual, known.package_virtual = dict(above.virtual), dict(above.package_virtual)
     for method in known.file.methods:
         if method.has(NATIVE | SYNCHRONIZED):
-            raise Refusal('a %s method isn\'t in the profile' % ('native' if method.has(NATIVE) else 'synchronized'), place_of(known, method))
+            word = 'native' if method.has(NATIVE) else 'synchronized'
+            raise Refusal('a %s method isn\'t in the profile' % word, place_of(known, method))
         if method.is_virtual and method.has(VISIBLE):
             known.virtual.setdefault(method.key, max(known.virtual.values(), default=-1) + 1)
         elif method.is_virtual:
             known.package_virtual.setdefault(method.key, PACKAGE_VISIBLE + len(known.package_virtual))
-    for key in [key for name in known.interfaces for key in world.find(name).virtual if key not in known.virtual]:
-        if not known.file.has(ABSTRACT):
-            raise Refusal('it lacks the method %s of an interface' % key[0])
-        known.file.methods.append(Member(PUBLIC | ABSTRACT, *key))
-        known.virtual.setdefault(key, max(known.virtual.values(), default=-1) + 1)
+    for key in [key for name in known.interfaces for key in world.find(name).virtual]:
+        if key not in known.virtual:
+            if not known.file.has(ABSTRACT):
+                raise Refusal('it lacks the method %s of an interface' % key[0])
+            known.file.methods.append(Member(PUBLIC | ABSTRACT, *key))
+            known.virtual[key] = max(known.virtual.values(), default=-1) + 1
     check_count(known.virtual, PACKAGE_VISIBLE)
     check_count(known.package_virtual, PACKAGE_VISIBLE)
 
@@ -94,9 +97,10 @@ def is_reference(kind):
 
 
 def objects_fields(file):
-    """The fields of objects by their tokens: those that other packages see first, and references one behind the other."""
+    """The fields of objects by their tokens: those that others see first, and references one behind the other."""
     ranks = {(True, False): 0, (True, True): 1, (False, True): 2, (False, False): 3}
-    return sorted([f for f in file.fields if not f.has(STATIC)], key=lambda f: ranks[f.has(VISIBLE), is_reference(f.type)])
+    fields = [f for f in file.fields if not f.has(STATIC)]
+    return sorted(fields, key=lambda f: ranks[f.has(VISIBLE), is_reference(f.type)])
 
 
 def add_fields(known):
@@ -133,8 +137,8 @@ def method_of(known, key):
 
 
 def table(world, known, tokens):
-    """A table of virtual methods: its base, and for each token from there on the class and the method's name and type, or ABOVE. It
-    begins with the least token of a method of the class itself."""
+    """A table of virtual methods: its base, and for each token from there on the class and the method's name and type,
+    or ABOVE. It begins with the least token of a method of the class itself."""
     by_token = {token: key for key, token in tokens.items()}
     own = [token for token, key in by_token.items() if declares(known, key)]
     if not own:

@@ -1,8 +1,9 @@
 """Works out between which numbers each int of a method lies, so that shorts can stand in for ints.
 
-A class file computes with 32 bits, a card with 16. The card's word always has the low 16 bits of the class file's int. Sums, differences,
-products, shifts to the left and operations on bits need no more; a comparison, a quotient, a shift to the right, an index, a length and
-a switch do: there the int has to lie within a short, or the method is refused. A cast to short or byte brings it back.
+A class file computes with 32 bits, a card with 16. The card's word always has the low 16 bits of the class file's int.
+Sums, differences, products, shifts to the left and operations on bits need no more. A comparison, a quotient, a shift
+to the right, an index, a length and a switch do: there the int has to lie within a short, or the method is refused. A
+cast to short or byte brings it back.
 
 A value is a pair of the least and the greatest number, REFERENCE, or None where nothing is known.
 """
@@ -11,6 +12,7 @@ from converter.classfile import Refusal, STATIC, parameters, result
 BYTE, SHORT, INT = (-128, 127), (-1 << 15, (1 << 15) - 1), (-1 << 31, (1 << 31) - 1)
 OF_TYPE = {'Z': BYTE, 'B': BYTE, 'S': SHORT}
 REFERENCE = 'reference'
+GIVEN = {'r': REFERENCE, 'b': BYTE, 's': SHORT, 'l': (0, SHORT[1])}
 PATIENCE = 4  # how often a place is looked at before its numbers are widened
 WIDE = 'an int here may need more than 16 bits: cast the value to short or byte before'
 
@@ -73,12 +75,12 @@ def shifted_without_sign(one, other):
     return (0, 0xFFFFFFFF >> other[0]) if lies_in(other, (1, 31)) else INT
 
 
-BINARY = {
+OPERATORS = {
     'add': lambda a, b: whole(a[0] + b[0], a[1] + b[1]), 'sub': lambda a, b: whole(a[0] - b[1], a[1] - b[0]),
-    'mul': lambda a, b: whole(*[m * n for m in a for n in b]), 'div': quotient, 'rem': remainder, 'and': conjunction, 'or': of_bits,
-    'xor': of_bits, 'shl': shifted_left, 'shr': shifted_right, 'ushr': shifted_without_sign,
+    'mul': lambda a, b: whole(*[m * n for m in a for n in b]), 'neg': lambda a: whole(-a[1], -a[0]), 'div': quotient,
+    'rem': remainder, 'and': conjunction, 'or': of_bits, 'xor': of_bits, 'shl': shifted_left, 'shr': shifted_right,
+    'ushr': shifted_without_sign,
 }
-EXACT = {'div': 2, 'rem': 2, 'shr': 1, 'ushr': 1}  # of how many operands the whole number counts, the lower one first
 
 
 def joined(one, other):
@@ -94,15 +96,8 @@ def widened(before, now):
     return next(limit for limit in (BYTE, SHORT, INT) if lies_in(now, limit))
 
 
-# What `dup` and its like leave of the operands on top: their places, the lowest first, counted from the top.
-MOVES = {
-    'pop': (1, ()), 'pop2': (2, ()), 'dup': (1, (1, 1)), 'dup_x1': (2, (1, 2, 1)), 'dup_x2': (3, (1, 3, 2, 1)), 'dup2': (2, (2, 1, 2, 1)),
-    'dup2_x1': (3, (2, 1, 3, 2, 1)), 'dup2_x2': (4, (2, 1, 4, 3, 2, 1)), 'swap': (2, (1, 2)),
-}
-
-
 class Ranges:
-    """What is known before each instruction that control flow reaches: `states` has pairs of locals and operands, by places."""
+    """What is known before each instruction that is reached: `states` has pairs of locals and operands, by places."""
 
     def __init__(self, method, instructions):
         self.method, self.instructions = method, {i.at: i for i in instructions}
@@ -133,7 +128,8 @@ class Ranges:
                 raise Refusal('ways meet with unlike numbers of operands', at)
             self.visits[at] = self.visits.get(at, 0) + 1
             grow = widened if self.visits[at] > PATIENCE else lambda _, now: now
-            locals, operands = (tuple(grow(b, joined(b, n)) for b, n in zip(was, now)) for was, now in zip(before, (locals, operands)))
+            pairs = zip(before, (locals, operands))
+            locals, operands = (tuple(grow(b, joined(b, n)) for b, n in zip(was, now)) for was, now in pairs)
         if (locals, operands) != before:
             self.states[at] = locals, operands
             if at not in self.waiting:
@@ -155,127 +151,68 @@ class Ranges:
 
     # Operands
 
-    def take(self, count=1):
-        for _ in range(count):
-            value = self.operands.pop()
-        return value
-
-    def give(self, *values):
-        self.operands += values
-
-    def number(self):
-        """The range of the number on top, which is taken."""
-        value = self.take()
-        return value if isinstance(value, tuple) else INT
-
-    def exact(self, limit=SHORT):
-        """The number on top is taken, and has to be what the class file computes."""
-        value = self.number()
-        if not lies_in(value, limit):
+    def take(self, wanted='x'):
+        """Takes the operand on top; a number that is wanted exactly has to lie within a short."""
+        value = self.operands.pop()
+        if wanted in 'ne' and not isinstance(value, tuple):
+            value = INT
+        if wanted == 'e' and not lies_in(value, SHORT):
             self.faults.setdefault(self.at, WIDE)
         return value
 
+    def taken(self, wanted):
+        """Takes as many operands as are wanted, the last one on top."""
+        return [self.take(one) for one in reversed(wanted)][::-1]
+
     def typed(self, kind):
-        """A value is taken as one of a type."""
-        if kind in OF_TYPE:
-            self.exact(OF_TYPE[kind])
-        else:
-            self.take()
+        """Takes a value as one of a type."""
+        value = self.take('n' if kind in OF_TYPE else 'x')
+        if kind in OF_TYPE and not lies_in(value, OF_TYPE[kind]):
+            self.faults.setdefault(self.at, WIDE)
 
     # Instructions
 
-    def on_nothing(self):
-        pass
+    def on_simple(self, takes, gives, card):
+        self.taken(takes)
+        self.operands += [GIVEN[gives]] if gives else []
 
-    def on_null(self):
-        self.give(REFERENCE)
+    def on_operate(self, takes, name, card):
+        self.operands.append(OPERATORS[name](*self.taken(takes)))
+
+    def on_move(self, places, card):
+        top = [self.take() for _ in range(max(places))]
+        self.operands += [top[place - 1] for place in places]
 
     def on_push(self, number):
-        self.give((number, number))
+        self.operands.append((number, number))
 
     def on_load(self, kind, local):
-        self.give(self.locals[local] or INT if kind == 'i' else REFERENCE)
+        self.operands.append(self.locals[local] or INT if kind == 'i' else REFERENCE)
 
     def on_store(self, kind, local):
         self.locals[local] = self.take()
 
     def on_increment(self, local, by):
-        self.locals[local] = BINARY['add'](self.locals[local] or INT, (by, by))
-
-    def on_load_component(self, kind):
-        self.exact()
-        self.take()
-        self.give({'a': REFERENCE, 'b': BYTE, 's': SHORT}[kind])
-
-    def on_store_component(self, kind):
-        self.take()
-        self.exact()
-        self.take()
-
-    def on_move(self, name):
-        count, places = MOVES[name]
-        top = [self.take() for _ in range(count)]
-        self.give(*[top[place - 1] for place in places])
-
-    def on_binary(self, name):
-        exact = EXACT.get(name, 0)
-        upper = self.exact() if exact == 2 else self.number()
-        lower = self.exact() if exact else self.number()
-        self.give(BINARY[name](lower, upper))
-
-    def on_negate(self):
-        low, high = self.number()
-        self.give(whole(-high, -low))
+        self.locals[local] = OPERATORS['add'](self.locals[local] or INT, (by, by))
 
     def on_narrow(self, kind):
-        value = self.number()
-        self.give(value if lies_in(value, OF_TYPE[kind]) else OF_TYPE[kind])
+        value = self.take('n')
+        self.operands.append(value if lies_in(value, OF_TYPE[kind]) else OF_TYPE[kind])
 
-    def on_if(self, condition):
-        self.exact()
+    def on_switch(self, kind, matches):
+        self.take('e')
 
-    def on_if_both(self, condition):
-        self.exact()
-        self.exact()
-
-    def on_if_same(self, condition):
-        self.take(2)
-
-    def on_if_null(self, condition):
-        self.take()
-
-    def on_goto(self):
-        pass
-
-    def on_table(self, *matches):
-        self.exact()
-
-    on_lookup = on_table
-
-    def on_return(self, kind):
-        if kind:
+    def on_return(self, card):
+        if card != 'return':
             self.typed(result(self.method.type))
 
-    def on_throw(self):
-        self.take()
-
-    def on_length(self):
-        self.take()
-        self.give((0, SHORT[1]))
-
-    def on_get_static(self, field):
-        self.give(value_of(field.type))
-
-    def on_put_static(self, field):
-        self.typed(field.type)
-
-    def on_get_field(self, field):
-        self.take()
-        self.give(value_of(field.type))
-
-    def on_put_field(self, field):
-        self.typed(field.type)
-        self.take()
+    def on_field(self, of, how, field):
+        if how == 'put':
+            self.typed(field.type)
+        if of == 'object':
+            self.take()
+        if how == 'get':
+            self.operands.append(value_of(field.type))
 
     def on_call(self, how, method):
         for kind in reversed(parameters(method.type)):
@@ -283,14 +220,14 @@ class Ranges:
         if how != 'static':
             self.take()
         if result(method.type) != 'V':
-            self.give(value_of(result(method.type)))
+            self.operands.append(value_of(result(method.type)))
 
     def on_new(self, name):
-        self.give(REFERENCE)
+        self.operands.append(REFERENCE)
 
     def on_new_words(self, kind):
-        self.exact()
-        self.give(REFERENCE)
+        self.take('e')
+        self.operands.append(REFERENCE)
 
     on_new_references = on_new_words
 
@@ -299,4 +236,4 @@ class Ranges:
 
     def on_test(self, name):
         self.take()
-        self.give((0, 1))
+        self.operands.append((0, 1))

@@ -20,7 +20,7 @@ class Array:
 
 
 class Initialiser:
-    """Follows the code that initialises a class's static fields: `values` has what they get, by their names and types."""
+    """Follows the code that initialises a class's static fields: `values` has what they get, by name and type."""
 
     def __init__(self, known, code):
         self.known, self.operands, self.values = known, [], {}
@@ -39,8 +39,18 @@ class Initialiser:
     def on_push(self, number):
         self.operands.append(number)
 
-    def on_null(self):
-        self.operands.append(None)
+    def on_simple(self, takes, gives, card):
+        """Null, or a component of an array that is being made."""
+        if (takes, gives) == ('', 'r'):
+            self.operands.append(None)
+            return
+        if takes != 'ren':
+            raise Refusal(ONLY)
+        array, index, value = self.operands[-3:]
+        del self.operands[-3:]
+        if not isinstance(array, Array) or not 0 <= index < len(array.values):
+            raise Refusal(ONLY)
+        array.values[index] = value
 
     def on_narrow(self, kind):
         if not lies_in((self.operands[-1],) * 2, BYTE if kind == 'B' else SHORT):
@@ -49,27 +59,20 @@ class Initialiser:
     def on_new_words(self, kind):
         self.operands.append(Array(kind, [0] * self.operands.pop()))
 
-    def on_move(self, name):
-        if name != 'dup':
+    def on_move(self, places, card):
+        if places != [1, 1]:
             raise Refusal(ONLY)
         self.operands.append(self.operands[-1])
 
-    def on_store_component(self, kind):
-        array, index, value = self.operands[-3:]
-        del self.operands[-3:]
-        if not isinstance(array, Array) or not 0 <= index < len(array.values):
-            raise Refusal(ONLY)
-        array.values[index] = value
-
-    def on_put_static(self, member):
-        value = self.operands.pop()
-        if member.of != self.known.name or isinstance(value, Array) and value.is_placed:
+    def on_field(self, of, how, member):
+        value = self.operands.pop() if how == 'put' else None
+        if (of, how, member.of) != ('static', 'put', self.known.name) or isinstance(value, Array) and value.is_placed:
             raise Refusal(ONLY)
         if isinstance(value, Array):
             value.is_placed = True
         self.values[member.name, member.type] = value
 
-    def on_return(self, kind):
+    def on_return(self, card):
         pass
 
 
@@ -94,7 +97,7 @@ class Statics:
 
 
 def laid_out(classes):
-    """The static image of a package's classes: initialised arrays, other references, then numbers that are 0, then the others."""
+    """The static image of a package's classes: initialised arrays, other references, numbers that are 0, the others."""
     rows = []
     for k in classes:
         values = initial_values(k)

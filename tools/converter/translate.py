@@ -1,23 +1,21 @@
 """Turns the code of a class file's method into instructions of the card."""
 from dataclasses import dataclass
 
-from converter.bytecode import CONDITIONS, Decoder
+from converter.bytecode import Decoder
 from converter.classfile import PRIVATE, Refusal, STATIC, parameters
 from converter.layout import method_of, place_of
-from converter.ranges import BYTE, Ranges, lies_in
+from converter.ranges import BYTE, INT, Ranges, SHORT, lies_in
 from converter.world import MOST, OBJECT, dotted
 
-# The first opcode of each family; the forms for references, bytes and shorts stand behind each other.
+# Opcodes of the card, of a family the first. The forms for references, bytes and shorts stand one behind the other.
 OPCODES = {
-    'nothing': 0, 'null': 1, 'sconst_0': 3, 'bspush': 16, 'sspush': 17, 'aload': 21, 'sload': 22, 'aload_0': 24, 'sload_0': 28, 'aaload': 36,
-    'astore': 40, 'sstore': 41, 'astore_0': 43, 'sstore_0': 47, 'aastore': 55, 'pop': 59, 'pop2': 60, 'dup': 61, 'dup2': 62, 'dup_x': 63,
-    'swap_x': 64, 'negate': 75, 'sinc': 89, 's2b': 91, 'if': 96, 'if_null': 102, 'if_same': 104, 'if_both': 106, 'goto': 112, 'table': 115,
-    'lookup': 117, 'areturn': 119, 'sreturn': 120, 'return': 122, 'get_static': 123, 'put_static': 127, 'get_field': 131, 'put_field': 135,
-    'virtual': 139, 'special': 140, 'static': 141, 'interface': 142, 'new': 143, 'new_words': 144, 'new_references': 145, 'length': 146,
-    'throw': 147, 'cast': 148, 'test': 149, 'sinc_w': 150, 'get_field_w': 169, 'get_field_this': 173, 'put_field_w': 177,
+    'sconst_0': 3, 'bspush': 16, 'sspush': 17, 'aload': 21, 'sload': 22, 'aload_0': 24, 'sload_0': 28, 'astore': 40,
+    'sstore': 41, 'astore_0': 43, 'sstore_0': 47, 'sinc': 89, 's2b': 91, 'table': 115, 'lookup': 117, 'areturn': 119,
+    'sreturn': 120, 'return': 122, 'get_static': 123, 'put_static': 127, 'get_object': 131, 'put_object': 135,
+    'virtual': 139, 'special': 140, 'static': 141, 'interface': 142, 'new': 143, 'new_words': 144,
+    'new_references': 145, 'cast': 148, 'test': 149, 'sinc_w': 150, 'get_object_w': 169, 'get_this': 173,
+    'put_object_w': 177,
 }
-OPERATORS = {name: 65 + 2 * at for at, name in enumerate(['add', 'sub', 'mul', 'div', 'rem', '', 'shl', 'shr', 'ushr', 'and', 'or', 'xor'])}
-DUPLICATES = {'dup_x1': 0x12, 'dup_x2': 0x13, 'dup2_x1': 0x23, 'dup2_x2': 0x24}  # for dup_x
 KINDS = {'Z': 10, 'B': 11, 'S': 12}  # of arrays, for newarray, checkcast and instanceof
 FORMS = {'Z': 1, 'B': 1, 'S': 2}
 WIDER = 56  # between a branch and the same with an offset of two bytes
@@ -25,7 +23,8 @@ WIDER = 56  # between a branch and the same with an offset of two bytes
 
 @dataclass(frozen=True)
 class Entry:
-    """An entry of the constant pool. `of` is a class; of a static member of the package itself it is a class, and a name and type."""
+    """An entry of the constant pool. `of` is a class; of a static member of the package itself it is a class, and a
+    name and type."""
     kind: str
     of: object
     token: int = None
@@ -34,8 +33,8 @@ class Entry:
 
 @dataclass
 class Card:
-    """An instruction of the card, at a place of the class file's code. Its operands are entries of the pool, or pairs of a size and a
-    number. A branch has a target, and a switch its default and then one for each of its numbers."""
+    """An instruction of the card, at a place of the class file's code. Its operands are entries of the pool, or pairs
+    of a size and a number. A branch has a target, and a switch its default and then one for each of its numbers."""
     at: int
     opcode: int
     operands: tuple = ()
@@ -48,7 +47,7 @@ class Card:
 
 @dataclass
 class Translated:
-    """A method of the card: its instructions, handlers as the class file has them with entries in place of classes, and counts."""
+    """A method of the card: instructions, handlers as in the class file with entries in place of classes, counts."""
     cards: list
     handlers: list
     stack: int
@@ -76,12 +75,13 @@ class Translator:
         self.instructions = Decoder(code.bytes, self.known.file.pool).instructions()
         self.check_members()
         self.states = Ranges(self.method, self.instructions).states
-        self.stops = {place for handler in code.handlers for place in handler[:3]}.union(*(i.targets for i in self.instructions))
+        self.stops = {place for handler in code.handlers for place in handler[:3]}
+        self.stops.update(target for i in self.instructions for target in i.targets)
         self.cards, self.depth, self.used, number = [], 0, 0, 0
         while number < len(self.instructions):
             number += self.translate(self.instructions[number:number + 5])
         arguments = len(parameters(self.method.type)) + (not self.method.has(STATIC))
-        handlers = [(start, end, at, self.class_entry(caught) if caught else None) for start, end, at, caught in code.handlers]
+        handlers = [(*places, self.class_entry(caught) if caught else None) for *places, caught in code.handlers]
         for count, word in (self.depth, 'operands'), (max(self.used, arguments), 'locals'):
             if count > MOST:
                 raise Refusal('the method needs more than %d %s' % (MOST, word))
@@ -96,7 +96,8 @@ class Translator:
                     self.world.check_type(operand.type)
 
     def translate(self, waiting):
-        """Translates the first of the instructions, perhaps with some behind it; gives how many. What is never reached is left out."""
+        """Translates the first of the instructions, perhaps with some behind it; gives how many. What is never reached
+        is left out."""
         self.at, self.targets = waiting[0].at, waiting[0].targets
         if self.at not in self.states:
             return 1
@@ -120,40 +121,44 @@ class Translator:
 
     def increment_by(self, waiting):
         """A short local plus or minus a constant is `sinc`."""
-        if not self.are_together(waiting, 'load', 'push', 'binary', 'narrow', 'store'):
+        if not self.are_together(waiting, 'load', 'push', 'operate', 'narrow', 'store'):
             return 0
-        load, push, binary, narrow, store = (i.operands for i in waiting[:5])
-        if load != store or load[0] != 'i' or binary[0] not in ('add', 'sub') or narrow != ('S',):
-            return 0
-        by = push[0] if binary[0] == 'add' else -push[0]
-        if not lies_in((by, by), BYTE):
+        load, push, operator, narrow, store = (i.operands for i in waiting)
+        by = {'add': push[0], 'sub': -push[0]}.get(operator[1], INT[1])
+        if load != store or load[0] != 'i' or narrow != ('S',) or not lies_in((by, by), BYTE):
             return 0
         self.on_increment(load[1], by)
         return 5
 
     def field_of_this(self, waiting):
         """A field of the object in local 0."""
-        if not self.are_together(waiting, 'load', 'get_field') or waiting[0].operands != ('a', 0):
+        if not self.are_together(waiting, 'load', 'field') or waiting[0].operands != ('a', 0):
             return 0
-        field = waiting[1].operands[0]
-        self.emit(OPCODES['get_field_this'] + FORMS.get(field.type, 0), self.field_entry(field))
+        of, how, field = waiting[1].operands
+        if (of, how) != ('object', 'get'):
+            return 0
+        self.emit(OPCODES['get_this'] + FORMS.get(field.type, 0), self.field_entry(field))
         self.used = max(self.used, 1)
         return 2
 
     # Numbers, locals and the stack
 
-    def on_nothing(self):
-        self.emit(OPCODES['nothing'])
+    def on_simple(self, takes, gives, card):
+        self.emit(card, targets=self.targets)
 
-    def on_null(self):
-        self.emit(OPCODES['null'])
+    def on_operate(self, takes, name, card):
+        self.emit(card)
+
+    def on_move(self, places, card):
+        self.emit(card[0], *((1, byte) for byte in card[1:]))
 
     def on_push(self, number):
         number = (number + 0x8000) % 0x10000 - 0x8000
         if -1 <= number <= 5:
             self.emit(OPCODES['sconst_0'] + number)
         else:
-            self.emit(*((OPCODES['bspush'], (1, number)) if lies_in((number, number), BYTE) else (OPCODES['sspush'], (2, number))))
+            size, name = (1, 'bspush') if lies_in((number, number), BYTE) else (2, 'sspush')
+            self.emit(OPCODES[name], (size, number))
 
     def on_local(self, name, local):
         self.used = max(self.used, local + 1)
@@ -173,74 +178,22 @@ class Translator:
         size = 1 if lies_in((by, by), BYTE) else 2
         self.emit(OPCODES['sinc' if size == 1 else 'sinc_w'], (1, local), (size, by))
 
-    def on_move(self, name):
-        if name == 'swap':
-            self.emit(OPCODES['swap_x'], (1, 0x11))
-        elif name in DUPLICATES:
-            self.emit(OPCODES['dup_x'], (1, DUPLICATES[name]))
-        else:
-            self.emit(OPCODES[name])
-
-    def on_binary(self, name):
-        self.emit(OPERATORS[name])
-
-    def on_negate(self):
-        self.emit(OPCODES['negate'])
-
     def on_narrow(self, kind):
         """A cast to short changes no word, nor does one to byte of what lies in a byte."""
         value = self.states[self.at][1][-1]
         if kind == 'B' and not (isinstance(value, tuple) and lies_in(value, BYTE)):
             self.emit(OPCODES['s2b'])
 
-    # Branches
-
-    def branch(self, family, condition):
-        self.emit(OPCODES[family] + CONDITIONS.index(condition), targets=self.targets)
-
-    def on_if(self, condition):
-        self.branch('if', condition)
-
-    def on_if_both(self, condition):
-        self.branch('if_both', condition)
-
-    def on_if_same(self, condition):
-        self.branch('if_same', condition)
-
-    def on_if_null(self, condition):
-        self.branch('if_null', condition)
-
-    def on_goto(self):
-        self.branch('goto', 'eq')
-
-    def switch(self, family, matches):
+    def on_switch(self, kind, matches):
         """A switch; a case that no short can be is refused."""
-        if any(not -0x8000 <= m <= 0x7FFF for m in matches):
+        if any(not lies_in((m, m), SHORT) for m in matches):
             raise Refusal('a case of a switch isn\'t a short')
-        self.emit(OPCODES[family], *((2, m) for m in matches), targets=self.targets)
+        self.emit(OPCODES[kind], *((2, m) for m in matches), targets=self.targets)
 
-    def on_table(self, *matches):
-        self.switch('table', matches)
-
-    def on_lookup(self, *matches):
-        self.switch('lookup', matches)
-
-    def on_return(self, kind):
-        self.emit(OPCODES[{'i': 'sreturn', 'a': 'areturn', '': 'return'}[kind]])
-
-    def on_throw(self):
-        self.emit(OPCODES['throw'])
+    def on_return(self, card):
+        self.emit(OPCODES[card])
 
     # Arrays
-
-    def on_load_component(self, kind):
-        self.emit(OPCODES['aaload'] + 'abs'.index(kind))
-
-    def on_store_component(self, kind):
-        self.emit(OPCODES['aastore'] + 'abs'.index(kind))
-
-    def on_length(self):
-        self.emit(OPCODES['length'])
 
     def on_new_words(self, kind):
         self.emit(OPCODES['new_words'], (1, KINDS[kind]))
@@ -301,17 +254,9 @@ class Translator:
                     return self.static_entry('static field', holder, key)
         raise self.missing(member)
 
-    def on_get_static(self, member):
-        self.emit(OPCODES['get_static'] + FORMS.get(member.type, 0), self.static_field_entry(member))
-
-    def on_put_static(self, member):
-        self.emit(OPCODES['put_static'] + FORMS.get(member.type, 0), self.static_field_entry(member))
-
-    def on_get_field(self, member):
-        self.emit(OPCODES['get_field'] + FORMS.get(member.type, 0), self.field_entry(member))
-
-    def on_put_field(self, member):
-        self.emit(OPCODES['put_field'] + FORMS.get(member.type, 0), self.field_entry(member))
+    def on_field(self, of, how, member):
+        entry = self.static_field_entry(member) if of == 'static' else self.field_entry(member)
+        self.emit(OPCODES['%s_%s' % (how, of)] + FORMS.get(member.type, 0), entry)
 
     def on_call(self, how, member):
         if member.of.startswith('['):
@@ -358,7 +303,8 @@ class Translator:
     def call_interface(self, member, key):
         k = self.world.find(member.of)
         if k.is_interface and key in k.virtual:
-            self.emit(OPCODES['interface'], (1, len(parameters(member.type)) + 1), self.class_entry(k.name), (1, k.virtual[key]))
+            words = len(parameters(member.type)) + 1
+            self.emit(OPCODES['interface'], (1, words), self.class_entry(k.name), (1, k.virtual[key]))
         elif key in self.world.find(OBJECT).virtual:
             self.emit(OPCODES['virtual'], Entry('virtual', OBJECT, self.world.find(OBJECT).virtual[key], member.type))
         else:

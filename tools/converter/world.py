@@ -1,5 +1,5 @@
-"""The classes that a package sees: its own, those of packages that it imports, and the API's. Also the texts in which packages are
-handed on to later ones (`--import`).
+"""The classes that a package sees: its own, those of packages that it imports, and the API's. Also the texts in which
+packages are handed on to later ones (`--import`).
 
 A line of such a text is one of these. Names and types are those of class files; a class's lines stand below its own.
 
@@ -32,8 +32,8 @@ class Package:
 
 @dataclass
 class Known:
-    """A class or an interface, and its members' tokens, each by its name and type. A class of the package itself has no package and
-    perhaps no token; of its static members the tokens are those that others see."""
+    """A class or an interface, and its members' tokens, each by its name and type. A class of the package itself has a
+    class file and no package, and perhaps no token; of its static members the tokens are those that others see."""
     name: str
     above: str = None
     package: Package = None
@@ -56,7 +56,7 @@ class World:
 
     def find(self, name):
         if name not in self.known:
-            raise Refusal('the class %s is neither in the package, nor in the API, nor in what is imported' % dotted(name))
+            raise Refusal('the class %s isn\'t in the package, the API or an import' % dotted(name))
         return self.known[name]
 
     def chain(self, name):
@@ -93,7 +93,10 @@ def dotted(name):
     return name.replace('/', '.')
 
 
-TABLES = {'virtual': 'virtual', 'method': 'virtual', 'static': 'static_methods', 'field': 'fields', 'static_field': 'static_fields'}
+TABLES = {
+    'virtual': 'virtual', 'method': 'virtual', 'static': 'static_methods', 'field': 'fields',
+    'static_field': 'static_fields',
+}
 
 
 def read_exports(text):
@@ -131,10 +134,12 @@ def write_exports(package, world, exported):
     lines = ['# What later packages name of this one. Written by tools/convert.',
              'package %s %s %d %d' % (package.name, package.aid.hex().upper(), major, minor)]
     for k in exported:
-        lines.append('interface %s %d' % (k.name, k.token) if k.is_interface else 'class %s %d %s' % (k.name, k.token, seen_above(world, k)))
+        head = '%s %d' % (k.name, k.token)
+        lines.append('interface ' + head if k.is_interface else 'class %s %s' % (head, seen_above(world, k)))
         lines += ['implements ' + name for name in k.interfaces]
         hidden = {f.key for f in k.file.fields if not f.has(PUBLIC | PROTECTED)}
         for word in ['method' if k.is_interface else 'virtual', 'static', 'field', 'static_field']:
             shown = [(token, key) for key, token in getattr(k, TABLES[word]).items() if token is not None]
-            lines += ['%s %s %s %d' % (word, *key, token) for token, key in sorted(shown) if word != 'field' or key not in hidden]
+            shown = [(token, key) for token, key in sorted(shown) if word != 'field' or key not in hidden]
+            lines += ['%s %s %s %d' % (word, *key, token) for token, key in shown]
     return '\n'.join(lines) + '\n'

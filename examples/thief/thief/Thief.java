@@ -5,7 +5,7 @@ import vault.Box;
 import vault.Door;
 import vault.Vault;
 
-/** Tries to get at what the vault has, in ways that compile. The card lets it do what the vault shares, and nothing else. */
+/** Tries to get at what the vault has, in ways that compile. The card allows it what the vault shares, no more. */
 public class Thief extends Applet {
     private static final byte[] VAULT = {(byte) 0xF0, 0x01, 0x01, 0x04, 0x01};
 

@@ -3,7 +3,7 @@ package wallet;
 import javacard.framework.*;
 import loyalty.Points;
 
-/** Holds money, pays, and tells the loyalty applet of what was paid. The AID of that one is handed over at the install. */
+/** Holds money, pays, and tells the loyalty applet, whose AID it gets at its install, of what was paid. */
 public class Wallet extends Applet {
     private static final byte LOAD = 1; // two bytes of data
     private static final byte PAY = 2; // two bytes of data; answers balance and points

@@ -118,11 +118,10 @@ def add_static_members(known):
     """Static members and constructors; those that other packages see get tokens."""
     methods = [m for m in known.file.methods if m.name == '<init>' or m.has(STATIC) and m.name != '<clinit>']
     for members, table in (methods, known.static_methods), (static_fields(known.file), known.static_fields):
-        for member in members:
-            is_seen = known.token is not None and member.has(VISIBLE)
-            table[member.key] = sum(token is not None for token in table.values()) if is_seen else None
-        if len(table) > MOST:
-            raise Refusal('it has more than %d static members' % MOST)
+        seen = [m for m in members if known.token is not None and m.has(VISIBLE)]
+        table.update({m.key: seen.index(m) if m in seen else None for m in members})
+        if len(seen) > MOST:
+            raise Refusal('it has more than %d static members that other packages see' % MOST)
 
 
 def place_of(known, member):

@@ -68,11 +68,13 @@ def add_methods(world, known):
     above = world.find(known.above)
     if above.is_interface:
         raise Refusal('%s is an interface' % dotted(known.above))
-    known.virtual, known.package_virtual = dict(above.virtual), dict(above.package_virtual)
+    known.virtual, known.package_virtual, known.closed = dict(above.virtual), dict(above.package_virtual), above.closed
     for method in known.file.methods:
         if method.has(NATIVE | SYNCHRONIZED):
             word = 'native' if method.has(NATIVE) else 'synchronized'
             raise Refusal('a %s method isn\'t in the profile' % word, place_of(known, method))
+        if method.is_virtual and method.key in known.closed:
+            raise Refusal('it overrides a method that overrides a package-visible one of another package', place_of(known, method))
         if method.is_virtual and method.has(VISIBLE):
             known.virtual.setdefault(method.key, max(known.virtual.values(), default=-1) + 1)
         elif method.is_virtual:

@@ -9,6 +9,7 @@ from converter.world import dotted
 
 ONLY = 'a static field can be initialised by constants and by arrays of constants only'
 SIZES = {'Z': 1, 'B': 1, 'S': 2}
+LONGEST = 0x7FFF  # bytes of an array
 ARRAYS = {'[Z': 2, '[B': 3, '[S': 4}
 
 
@@ -57,7 +58,10 @@ class Initialiser:
             raise Refusal(ONLY)
 
     def on_new_words(self, kind):
-        self.operands.append(Array(kind, [0] * self.operands.pop()))
+        length = self.operands.pop()
+        if not 0 <= length * SIZES[kind] <= LONGEST:
+            raise Refusal('an array in the static image has at most %d bytes' % LONGEST)
+        self.operands.append(Array(kind, [0] * length))
 
     def on_move(self, places, card):
         if places != [1, 1]:

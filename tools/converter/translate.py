@@ -249,9 +249,9 @@ class Translator:
     def static_field_entry(self, member):
         key = member.name, member.type
         for k in self.world.chain(member.of):
-            for holder in [k, *map(self.world.find, k.interfaces)]:
-                if key in holder.static_fields:
-                    return self.static_entry('static field', holder, key)
+            for name in [k.name, *k.interfaces]:
+                if name in self.world.known and key in self.world.find(name).static_fields:
+                    return self.static_entry('static field', self.world.find(name), key)
         raise self.missing(member)
 
     def on_field(self, of, how, member):

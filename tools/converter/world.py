@@ -8,6 +8,7 @@ A line of such a text is one of these. Names and types are those of class files;
     interface NAME TOKEN
     implements NAME                 an interface that it implements or extends, all of them
     virtual NAME TYPE TOKEN         a public or protected method, inherited ones too
+    closed NAME TYPE                one of these that other packages can't override, as it overrides a package-visible one
     method NAME TYPE TOKEN          of an interface, inherited ones too
     static NAME TYPE TOKEN          a static method or a constructor
     field NAME TYPE TOKEN           of objects
@@ -42,6 +43,7 @@ class Known:
     interfaces: list = field(default_factory=list)
     virtual: dict = field(default_factory=dict)  # of an interface: its methods
     package_virtual: dict = field(default_factory=dict)
+    closed: set = field(default_factory=set)
     fields: dict = field(default_factory=dict)
     static_methods: dict = field(default_factory=dict)
     static_fields: dict = field(default_factory=dict)
@@ -113,6 +115,8 @@ def read_exports(text):
                 known[at.name] = at
             elif word == 'implements':
                 at.interfaces.append(rest[0])
+            elif word == 'closed':
+                at.closed.add((rest[0], rest[1]))
             elif word in TABLES:
                 name, kind, token = rest
                 getattr(at, TABLES[word])[name, kind] = int(token)
@@ -137,6 +141,7 @@ def write_exports(package, world, exported):
         head = '%s %d' % (k.name, k.token)
         lines.append('interface ' + head if k.is_interface else 'class %s %s' % (head, seen_above(world, k)))
         lines += ['implements ' + name for name in k.interfaces]
+        lines += ['closed %s %s' % key for key in sorted({*k.closed, *k.virtual} & {*k.closed, *k.package_virtual})]
         hidden = {f.key for f in k.file.fields if not f.has(PUBLIC | PROTECTED)}
         for word in ['method' if k.is_interface else 'virtual', 'static', 'field', 'static_field']:
             shown = [(token, key) for key, token in getattr(k, TABLES[word]).items() if token is not None]

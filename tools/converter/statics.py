@@ -1,6 +1,7 @@
 """Lays out static fields: what the initialiser of each class gives them, and their places in the static image."""
 from dataclasses import dataclass, field
 
+from converter.assemble import spelled
 from converter.bytecode import Decoder
 from converter.classfile import Refusal
 from converter.layout import is_reference, static_fields
@@ -69,10 +70,12 @@ class Initialiser:
         self.operands.append(self.operands[-1])
 
     def on_field(self, of, how, member):
-        value = self.operands.pop() if how == 'put' else None
-        if (of, how, member.of) != ('static', 'put', self.known.name) or isinstance(value, Array) and value.is_placed:
+        if (of, how, member.of) != ('static', 'put', self.known.name):
             raise Refusal(ONLY)
+        value = self.operands.pop()
         if isinstance(value, Array):
+            if value.is_placed or member.type != '[' + value.kind:
+                raise Refusal(ONLY)
             value.is_placed = True
         self.values[member.name, member.type] = value
 
@@ -84,10 +87,6 @@ def initial_values(known):
     """What the static fields of a class hold at first, those that its initialiser says."""
     code = next((m.code for m in known.file.methods if m.name == '<clinit>'), None)
     return Initialiser(known, code).values if code else {}
-
-
-def spelled(value, size):
-    return (value % 256 ** size).to_bytes(size, 'big')
 
 
 @dataclass

@@ -160,7 +160,8 @@ class Translator:
             size, name = (1, 'bspush') if lies_in((number, number), BYTE) else (2, 'sspush')
             self.emit(OPCODES[name], (size, number))
 
-    def on_local(self, name, local):
+    def access(self, name, local):
+        """A load or a store of a local."""
         self.used = max(self.used, local + 1)
         if local < 4:
             self.emit(OPCODES[name + '_0'] + local)
@@ -168,10 +169,10 @@ class Translator:
             self.emit(OPCODES[name], (1, local))
 
     def on_load(self, kind, local):
-        self.on_local('aload' if kind == 'a' else 'sload', local)
+        self.access('aload' if kind == 'a' else 'sload', local)
 
     def on_store(self, kind, local):
-        self.on_local('astore' if kind == 'a' else 'sstore', local)
+        self.access('astore' if kind == 'a' else 'sstore', local)
 
     def on_increment(self, local, by):
         self.used = max(self.used, local + 1)

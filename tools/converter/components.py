@@ -36,7 +36,9 @@ def gathered(refusals, place, work, *arguments):
         return work(*arguments)
     except Refusal as refusal:
         refusals.append(Refusal(refusal.text, refusal.place or place))
-        return None
+    except (IndexError, KeyError, TypeError, ValueError, AttributeError):
+        refusals.append(Refusal('it isn\'t as a compiler writes it', place))
+    return None
 
 
 def translated(world, classes, refusals):

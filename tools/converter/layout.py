@@ -9,13 +9,13 @@ ABOVE = None  # in a table, where another package has the method
 
 def in_order(files):
     """Interfaces first, and each class or interface behind those of the package that it stands on."""
-    by_name, found = {f.name: f for f in files}, []
+    waiting, found = {f.name: f for f in files}, []
 
     def put(file):
-        if file not in found:
+        if waiting.pop(file.name, None):
             for name in [file.above, *file.interfaces]:
-                if name in by_name:
-                    put(by_name[name])
+                if name in waiting:
+                    put(waiting[name])
             found.append(file)
 
     for file in sorted(files, key=lambda f: (not f.has(INTERFACE), f.name)):

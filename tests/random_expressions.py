@@ -1,15 +1,14 @@
-"""Random methods in Java on shorts and bytes, as an applet and as a program of the JDK that answers the same. tests/convert
-compares both: what the converter accepts has to be computed with 16 bits as Java computes it with 32.
+"""Random methods in Java on shorts and bytes, as an applet and as a program of the JDK that answers the same.
+tests/convert compares both: what the converter accepts has to be computed with 16 bits as Java computes it with 32.
 """
-CONSTANTS = [-32768, -1000, -256, -129, -128, -17, -2, -1, 0, 1, 2, 3, 7, 15, 16, 31, 32, 127, 128, 255, 256, 4096, 32767, 32768,
-             40000, 65535, 65536, 100000]
+CONSTANTS = [-32768, -1000, -256, -129, -128, -17, -2, -1, 0, 1, 2, 3, 7, 15, 16, 31, 32, 127, 128, 255, 256, 4096, 32767,
+             32768, 40000, 65535, 65536, 100000]
 SHORTS = [-32768, -32767, -12345, -256, -129, -128, -1, 0, 1, 2, 127, 128, 255, 256, 12345, 32766, 32767]
 BYTES = [-128, -127, -1, 0, 1, 2, 7, 100, 127]
 DISTANCES = [0, 1, 2, 3, 7, 8, 15, 16, 17, 31, 32, 33, -1]
 OPERATORS = ['+', '-', '*', '/', '%', '&', '|', '^', '<<', '>>', '>>>', '+', '-', '*', '&', '>>']
 ASSIGNMENTS = ['+=', '-=', '*=', '/=', '%=', '^=', '<<=', '>>=', '>>>=']
 CALLS = 8  # of each method
-DIVIDED = 0x6A00  # the status of an ArithmeticException
 
 APPLET = """package random;
 
@@ -36,8 +35,8 @@ public class Expressions extends Applet {
         byte[] buffer = apdu.getBuffer();
         apdu.setIncomingAndReceive();
         try {
-            short a = Util.getShort(buffer, (short) 5);
-            Util.setShort(buffer, (short) 0, call(Util.getShort(buffer, (short) 2), a, Util.getShort(buffer, (short) 7), buffer[9]));
+            short a = Util.getShort(buffer, (short) 5), b = Util.getShort(buffer, (short) 7);
+            Util.setShort(buffer, (short) 0, call(Util.getShort(buffer, (short) 2), a, b, buffer[9]));
             apdu.setOutgoingAndSend((short) 0, (short) 2);
         } catch (ArithmeticException e) {
             ISOException.throwIt((short) 0x6A00);
@@ -53,8 +52,9 @@ public class Program {
         for (String line : words[0].split(";")) {
             String[] n = line.split(" ");
             try {
-                int given = Expressions.call(Short.parseShort(n[0]), Short.parseShort(n[1]), Short.parseShort(n[2]), Byte.parseByte(n[3]));
-                System.out.println(String.format("data %04X sw 9000", given & 0xFFFF));
+                short a = Short.parseShort(n[1]), b = Short.parseShort(n[2]);
+                int given = Expressions.call(Short.parseShort(n[0]), a, b, Byte.parseByte(n[3])) & 0xFFFF;
+                System.out.println(String.format("data %04X sw 9000", given));
             } catch (ArithmeticException e) {
                 System.out.println("sw 6A00");
             }
@@ -79,7 +79,8 @@ def expression(chance, depth):
     if '%s' in form:
         return form % expression(chance, depth - 1)
     if form == '?':
-        return '(%s ? %s : %s)' % (condition(chance, depth - 1), expression(chance, depth - 1), expression(chance, depth - 1))
+        either = expression(chance, depth - 1), expression(chance, depth - 1)
+        return '(%s ? %s : %s)' % (condition(chance, depth - 1), *either)
     operator, right = chance.choice(OPERATORS), expression(chance, depth - 1)
     if operator in ('<<', '>>', '>>>') and chance.random() < 0.7:
         right = str(chance.choice(DISTANCES))

@@ -5,6 +5,7 @@ from converter.world import Known, MOST, dotted
 VISIBLE = PUBLIC | PROTECTED
 PACKAGE_VISIBLE = 128  # the least token of a package-visible method
 ABOVE = None  # in a table, where another package has the method
+CLOSED = 'it overrides a method that overrides a package-visible one of another package'
 
 
 def in_order(files):
@@ -74,7 +75,7 @@ def add_methods(world, known):
             word = 'native' if method.has(NATIVE) else 'synchronized'
             raise Refusal('a %s method isn\'t in the profile' % word, place_of(known, method))
         if method.is_virtual and method.key in known.closed:
-            raise Refusal('it overrides a method that overrides a package-visible one of another package', place_of(known, method))
+            raise Refusal(CLOSED, place_of(known, method))
         if method.is_virtual and method.has(VISIBLE):
             known.virtual.setdefault(method.key, max(known.virtual.values(), default=-1) + 1)
         elif method.is_virtual:

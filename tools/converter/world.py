@@ -8,7 +8,7 @@ A line of such a text is one of these. Names and types are those of class files;
     interface NAME TOKEN
     implements NAME                 an interface that it implements or extends, all of them
     virtual NAME TYPE TOKEN         a public or protected method, inherited ones too
-    closed NAME TYPE                one of these that other packages can't override, as it overrides a package-visible one
+    closed NAME TYPE                one of these that other packages can't override: it overrides a package-visible one
     method NAME TYPE TOKEN          of an interface, inherited ones too
     static NAME TYPE TOKEN          a static method or a constructor
     field NAME TYPE TOKEN           of objects
@@ -18,7 +18,7 @@ from dataclasses import dataclass, field
 
 from converter.classfile import PROTECTED, PUBLIC, Refusal, parameters, result
 
-OBJECT, SHAREABLE, APPLET = 'java/lang/Object', 'javacard/framework/Shareable', 'javacard/framework/Applet'
+OBJECT, SHAREABLE = 'java/lang/Object', 'javacard/framework/Shareable'
 PRIMITIVES = 'ZBS'
 WORDS = {'I': 'int', 'J': 'long', 'F': 'float', 'D': 'double', 'C': 'char'}
 MOST = 255  # classes, tokens, locals: what a byte counts

@@ -1,8 +1,8 @@
 """Random methods in Java on shorts and bytes, as an applet and as a program of the JDK that answers the same.
 tests/convert compares both: what the converter accepts has to be computed with 16 bits as Java computes it with 32.
 """
-CONSTANTS = [-32768, -1000, -256, -129, -128, -17, -2, -1, 0, 1, 2, 3, 7, 15, 16, 31, 32, 127, 128, 255, 256, 4096, 32767,
-             32768, 40000, 65535, 65536, 100000]
+CONSTANTS = [-32768, -1000, -256, -129, -128, -17, -2, -1, 0, 1, 2, 3, 7, 15, 16, 31, 32, 127, 128, 255, 256, 4096,
+             32767, 32768, 40000, 65535, 65536, 100000]
 SHORTS = [-32768, -32767, -12345, -256, -129, -128, -1, 0, 1, 2, 127, 128, 255, 256, 12345, 32766, 32767]
 BYTES = [-128, -127, -1, 0, 1, 2, 7, 100, 127]
 DISTANCES = [0, 1, 2, 3, 7, 8, 15, 16, 17, 31, 32, 33, -1]
@@ -88,7 +88,15 @@ def expression(chance, depth):
 
 
 def body(chance):
-    form = chance.choice(['plain'] * 4 + ['loop', 'locals'])
+    form = chance.choice(['plain'] * 8 + ['loop', 'loop', 'locals', 'locals', 'ints', 'arrays'])
+    if form == 'ints':
+        return 'int s = %s; s %s %s; s++; s -= 200; return (short) (s %s %s);' % (
+            expression(chance, 2), chance.choice(ASSIGNMENTS), expression(chance, 2), chance.choice(OPERATORS),
+            expression(chance, 2))
+    if form == 'arrays':
+        return '%s[] v = new %s[4]; v[(%s) & 3] %s %s; v[c & 3]++; return v[(%s) & 3];' % (
+            *[chance.choice(['short', 'byte'])] * 2, expression(chance, 2), chance.choice(ASSIGNMENTS),
+            expression(chance, 3), expression(chance, 2))
     if form == 'loop':
         return 'short s = a; for (byte i = 0; i < 5; i++) { s %s %s; } return s;' % (
             chance.choice(ASSIGNMENTS), expression(chance, 3).replace('c', chance.choice('ci')))

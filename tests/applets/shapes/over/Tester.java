@@ -10,6 +10,8 @@ import javacard.framework.*;
 public class Tester extends Applet {
     private final Shape[] shapes = {new Line((short) 5), new Square((short) 6), new Cube((short) 7)};
 
+    private byte[] kept;
+
     public static void install(byte[] array, short offset, byte length) {
         new Tester().register();
     }
@@ -47,10 +49,13 @@ public class Tester extends Applet {
                 return Shape.made;
             case 10:
                 return (short) (sized == shape && shape.equals(sized) && !shape.equals(this) ? 1 : 0);
-            case 11: // an array of the other package's
+            case 11: // an array of the library's
                 return Shape.LETTERS[by];
+            case 13:
+                kept = Shape.LETTERS;
+                return 0;
             default:
-                return (short) (what > 11 && (Object) shapes instanceof Shape[] ? shapes.length : 0);
+                return (short) (what > 13 && (Object) shapes instanceof Shape[] ? shapes.length : 0);
         }
     }
 

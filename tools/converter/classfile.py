@@ -183,6 +183,11 @@ def read_class(content):
     return ClassFile(name, pool.class_name(above) if above else None, interfaces, flags, fields, methods, pool)
 
 
+def with_line(name, line):
+    """How a place is named: the line stands behind where it is known."""
+    return '%s, line %d' % (name, line) if line else name
+
+
 def parameters(kind):
     """The types of the parameters of a method's type."""
     found, at = [], 1

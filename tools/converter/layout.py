@@ -1,5 +1,6 @@
 """Gives the classes of a package their order, and their members tokens and places in tables."""
 from converter.classfile import ABSTRACT, INTERFACE, Member, NATIVE, PROTECTED, PUBLIC, Refusal, STATIC, SYNCHRONIZED
+from converter.classfile import with_line
 from converter.world import Known, MOST, dotted
 
 VISIBLE = PUBLIC | PROTECTED
@@ -129,8 +130,7 @@ def add_static_members(known):
 
 def place_of(known, member):
     """How a member is named where something is wrong with it."""
-    line = member.code and member.code.line(0)
-    return '%s.%s' % (dotted(known.name), member.name) + (', line %d' % line if line else '')
+    return with_line('%s.%s' % (dotted(known.name), member.name), member.code and member.code.line(0))
 
 
 def method_of(known, key):

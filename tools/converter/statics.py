@@ -3,7 +3,7 @@ from dataclasses import dataclass, field
 
 from converter.assemble import spelled
 from converter.bytecode import Decoder
-from converter.classfile import Refusal
+from converter.classfile import Refusal, with_line
 from converter.layout import is_reference, static_fields
 from converter.ranges import BYTE, SHORT, lies_in
 from converter.world import dotted
@@ -36,7 +36,7 @@ class Initialiser:
                 step(*instruction.operands)
         except Refusal as refusal:
             line = code.line(refusal.place if isinstance(refusal.place, int) else at)
-            raise Refusal(refusal.text, dotted(known.name) + (', line %d' % line if line else '')) from None
+            raise Refusal(refusal.text, with_line(dotted(known.name), line)) from None
 
     def on_push(self, number):
         self.operands.append(number)

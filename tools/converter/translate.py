@@ -2,7 +2,7 @@
 from dataclasses import dataclass
 
 from converter.bytecode import Decoder
-from converter.classfile import PRIVATE, Refusal, STATIC, parameters
+from converter.classfile import PRIVATE, Refusal, STATIC, parameters, with_line
 from converter.layout import method_of, place_of
 from converter.ranges import BYTE, INT, Ranges, SHORT, lies_in
 from converter.world import MOST, OBJECT, dotted
@@ -67,8 +67,8 @@ class Translator:
             return self.whole()
         except Refusal as refusal:
             line = self.method.code.line(refusal.place if isinstance(refusal.place, int) else self.at)
-            place = '%s.%s' % (dotted(self.known.name), self.method.name) + (', line %d' % line if line else '')
-            raise Refusal(refusal.text, place) from None
+            name = '%s.%s' % (dotted(self.known.name), self.method.name)
+            raise Refusal(refusal.text, with_line(name, line)) from None
 
     def whole(self):
         code = self.method.code

@@ -1,0 +1,7 @@
+package base;
+
+public interface Named extends Sized {
+    byte name();
+
+    short size();
+}

@@ -1,0 +1,5 @@
+package over;
+
+interface Sizes {
+    short[] SIZES = {1, -2, 300};
+}

@@ -1,0 +1,5 @@
+package javacard.framework;
+
+/** Marks interfaces whose objects other packages may call. */
+public interface Shareable {
+}

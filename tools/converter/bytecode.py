@@ -1,0 +1,174 @@
+"""Decodes the code of class files, and refuses instructions for which the profile has none."""
+from dataclasses import dataclass
+
+from converter.classfile import Refusal
+
+# Instructions that stand for one of the card's: the opcode of a class file, and the last of its family where there are
+# several; what is taken, the top at the right; what is given; the opcode of the card. Taken is a reference r, anything
+# x, a number n of which the low 16 bits count, or one e that has to lie within a short. Given is a reference r, a byte
+# b, a short s, a length l, or nothing.
+SIMPLE = """
+00 - - 0       01 - r 1       32 re r 36     33 re b 37     35 re s 38     53 rer - 55    54 ren - 56    56 ren - 57
+57 x - 59      58 xx - 60     BE r l 146     BF r - 147     99-9E e - 96   9F-A4 ee - 106 A5-A6 rr - 104 C6-C7 r - 102
+A7 - - 112     C8 - - 112
+"""
+
+# Operators: the opcode of a class file, what is taken, the name, the opcode of the card.
+OPERATORS = """
+60 nn add 65   64 nn sub 67   68 nn mul 69   6C ee div 71   70 ee rem 73   74 n neg 75    78 nn shl 77   7A en shr 79
+7C en ushr 81  7E nn and 83   80 nn or 85    82 nn xor 87
+"""
+
+# What `dup` and its like leave of the operands on top, by their places counted from the top; the bytes of the card.
+MOVES = """
+59 11 3D       5A 121 3F12    5B 1321 3F13   5C 2121 3E     5D 21321 3F23  5E 214321 3F24 5F 12 4011
+"""
+
+# Opcodes for which there is nothing in the profile, by what they are for.
+REFUSED = """
+09-0A long     0B-0D float    0E-0F double   14 long_or_double             16 long        17 float       18 double
+1E-21 long     22-25 float    26-29 double   2E an_array_of_int            2F long        30 float       31 double
+34 char        37 long        38 float       39 double      3F-42 long     43-46 float    47-4A double
+4F an_array_of_int
+50 long        51 float       52 double      55 char        85 long        86 float       87 double      92 char
+94 long        95-96 float    97-98 double   A8-A9 a_subroutine            AD long        AE float       AF double
+BA a_lambda_or_invokedynamic  C2-C3 synchronized            C5 an_array_of_arrays         C9 a_subroutine
+"""
+ELEMENTS = {4: 'Z', 8: 'B', 9: 'S'}  # of newarray
+
+
+def rows(text, width):
+    """A table by opcodes: for each its place in its family, and the words of its row."""
+    found = {}
+    for first, *words in zip(*[iter(text.split())] * width):
+        low, _, high = first.partition('-')
+        for at, opcode in enumerate(range(int(low, 16), int(high or low, 16) + 1)):
+            found[opcode] = at, *words
+    return found
+
+
+SIMPLE, OPERATORS, MOVES, REFUSED = rows(SIMPLE, 4), rows(OPERATORS, 4), rows(MOVES, 3), rows(REFUSED, 2)
+
+
+@dataclass
+class Instruction:
+    """What stands at a place: an operation and its operands. Branches name places of the class file's code, a switch
+    its default first. Nothing goes on behind an instruction that ends."""
+    at: int
+    operation: str
+    operands: tuple
+    targets: tuple = ()
+    ends: bool = False
+
+
+class Decoder:
+    """Decodes one method's code."""
+
+    def __init__(self, code, pool):
+        self.code, self.pool, self.at, self.start = code, pool, 0, 0
+
+    def number(self, count, signed=False):
+        self.at += count
+        return int.from_bytes(self.code[self.at - count:self.at], 'big', signed=signed)
+
+    def made(self, operation, *operands, targets=(), ends=False):
+        return Instruction(self.start, operation, operands, targets, ends)
+
+    def instructions(self):
+        """All instructions in their order; with a refusal its place in the code."""
+        found = []
+        while self.at < len(self.code):
+            self.start = self.at
+            try:
+                found.append(self.instruction(self.number(1)))
+            except Refusal as refusal:
+                raise Refusal(refusal.text, self.start) from None
+        return found
+
+    def instruction(self, opcode):
+        if opcode in REFUSED:
+            raise Refusal('%s isn\'t in the profile' % REFUSED[opcode][1].replace('_', ' '))
+        if opcode in SIMPLE:
+            return self.simple(opcode, *SIMPLE[opcode])
+        if opcode in OPERATORS:
+            _, takes, name, card = OPERATORS[opcode]
+            return self.made('operate', takes, name, int(card))
+        if opcode in MOVES:
+            _, places, card = MOVES[opcode]
+            return self.made('move', [int(place) for place in places], bytes.fromhex(card))
+        for read in self.constant, self.on_local, self.on_member, self.other:
+            found = read(opcode)
+            if found:
+                return found
+        raise Refusal('the opcode %d isn\'t in the profile' % opcode)
+
+    def simple(self, opcode, at, takes, gives, card):
+        targets = ()
+        if 0x99 <= opcode <= 0xA7 or opcode >= 0xC6:
+            targets = self.start + self.number(4 if opcode == 0xC8 else 2, signed=True),
+        ends = opcode in (0xA7, 0xBF, 0xC8)
+        return self.made('simple', takes.strip('-'), gives.strip('-'), int(card) + at, targets=targets, ends=ends)
+
+    def constant(self, opcode):
+        if 0x02 <= opcode <= 0x08:
+            return self.made('push', opcode - 3)
+        if opcode in (0x10, 0x11):
+            return self.made('push', self.number(opcode - 0x0F, signed=True))
+        if opcode in (0x12, 0x13):
+            return self.made('push', self.pool.constant(self.number(opcode - 0x11)))
+        return None
+
+    def on_local(self, opcode):
+        """Loads and stores of ints (i) and references (a), and increments."""
+        size = 1
+        if opcode == 0xC4:
+            opcode, size = self.number(1), 2
+        if opcode == 0x84:
+            return self.made('increment', self.number(size), self.number(size, signed=True))
+        for operation, general, short in ('load', 0x15, 0x1A), ('store', 0x36, 0x3B):
+            for kind, at in ('i', 0), ('a', 4):
+                if opcode == general + at:
+                    return self.made(operation, kind, self.number(size))
+                if short + 4 * at <= opcode < short + 4 * at + 4:
+                    return self.made(operation, kind, opcode - short - 4 * at)
+        return None
+
+    def on_member(self, opcode):
+        if 0xB2 <= opcode <= 0xB5:
+            of = 'static' if opcode < 0xB4 else 'object'
+            return self.made('field', of, 'get' if opcode % 2 == 0 else 'put', self.pool.member(self.number(2)))
+        if 0xB6 <= opcode <= 0xB9:
+            reference = self.pool.member(self.number(2))
+            self.at += 2 if opcode == 0xB9 else 0
+            return self.made('call', ['virtual', 'special', 'static', 'interface'][opcode - 0xB6], reference)
+        if opcode in (0xBB, 0xBD, 0xC0, 0xC1):
+            names = {0xBB: 'new', 0xBD: 'new_references', 0xC0: 'cast', 0xC1: 'test'}
+            return self.made(names[opcode], self.pool.class_name(self.number(2)))
+        return None
+
+    def other(self, opcode):
+        if opcode in (0x91, 0x93):
+            return self.made('narrow', 'B' if opcode == 0x91 else 'S')
+        if opcode in (0xAA, 0xAB):
+            return self.switch(opcode == 0xAA)
+        if opcode in (0xAC, 0xB0, 0xB1):
+            return self.made('return', {0xAC: 'sreturn', 0xB0: 'areturn', 0xB1: 'return'}[opcode], ends=True)
+        if opcode == 0xBC:
+            kind = self.number(1)
+            if kind not in ELEMENTS:
+                raise Refusal('an array of this type isn\'t in the profile')
+            return self.made('new_words', ELEMENTS[kind])
+        return None
+
+    def switch(self, is_table):
+        """A switch by the numbers that it knows, with a target for each behind the default."""
+        self.at += -self.at % 4
+        default, first = self.number(4, signed=True), self.number(4, signed=True)
+        if is_table:
+            matches = range(first, self.number(4, signed=True) + 1)
+            targets = [self.number(4, signed=True) for _ in matches]
+        else:
+            pairs = [(self.number(4, signed=True), self.number(4, signed=True)) for _ in range(first)]
+            matches, targets = [m for m, _ in pairs], [t for _, t in pairs]
+        targets = tuple(self.start + target for target in [default, *targets])
+        return self.made('switch', 'table' if is_table else 'lookup', list(matches), targets=targets, ends=True)

@@ -1,0 +1,319 @@
+"""Turns the code of a class file's method into instructions of the card."""
+from dataclasses import dataclass
+
+from converter.bytecode import Decoder
+from converter.classfile import PRIVATE, Refusal, STATIC, parameters, with_line
+from converter.layout import method_of, place_of
+from converter.ranges import BYTE, INT, Ranges, SHORT, lies_in
+from converter.world import MOST, OBJECT, dotted
+
+# Opcodes of the card, of a family the first. The forms for references, bytes and shorts stand one behind the other.
+OPCODES = {
+    'sconst_0': 3, 'bspush': 16, 'sspush': 17, 'aload': 21, 'sload': 22, 'aload_0': 24, 'sload_0': 28, 'astore': 40,
+    'sstore': 41, 'astore_0': 43, 'sstore_0': 47, 'sinc': 89, 's2b': 91, 'table': 115, 'lookup': 117, 'areturn': 119,
+    'sreturn': 120, 'return': 122, 'get_static': 123, 'put_static': 127, 'get_object': 131, 'put_object': 135,
+    'virtual': 139, 'special': 140, 'static': 141, 'interface': 142, 'new': 143, 'new_words': 144,
+    'new_references': 145, 'cast': 148, 'test': 149, 'sinc_w': 150, 'get_object_w': 169, 'get_this': 173,
+    'put_object_w': 177,
+}
+KINDS = {'Z': 10, 'B': 11, 'S': 12}  # of arrays, for newarray, checkcast and instanceof
+FORMS = {'Z': 1, 'B': 1, 'S': 2}
+WIDER = 56  # between a branch and the same with an offset of two bytes
+
+
+@dataclass(frozen=True)
+class Entry:
+    """An entry of the constant pool. `of` is a class; of a static member of the package itself it is a class, and a
+    name and type."""
+    kind: str
+    of: object
+    token: int = None
+    type: str = None
+
+
+@dataclass
+class Card:
+    """An instruction of the card, at a place of the class file's code. Its operands are entries of the pool, or pairs
+    of a size and a number. A branch has a target, and a switch its default and then one for each of its numbers."""
+    at: int
+    opcode: int
+    operands: tuple = ()
+    targets: tuple = ()
+
+    @property
+    def entry(self):
+        return next((o for o in self.operands if isinstance(o, Entry)), None)
+
+
+@dataclass
+class Translated:
+    """A method of the card: instructions, handlers as in the class file with entries in place of classes, counts."""
+    cards: list
+    handlers: list
+    stack: int
+    arguments: int
+    locals: int
+
+
+class Translator:
+    """Translates one method of a class."""
+
+    def __init__(self, world, known, method):
+        self.world, self.known, self.method, self.at = world, known, method, 0
+
+    def translated(self):
+        try:
+            self.world.check_type(self.method.type)
+            return self.whole()
+        except Refusal as refusal:
+            line = self.method.code.line(refusal.place if isinstance(refusal.place, int) else self.at)
+            name = '%s.%s' % (dotted(self.known.name), self.method.name)
+            raise Refusal(refusal.text, with_line(name, line)) from None
+
+    def whole(self):
+        code = self.method.code
+        self.instructions = Decoder(code.bytes, self.known.file.pool).instructions()
+        self.check_members()
+        self.states = Ranges(self.method, self.instructions).states
+        self.stops = {place for handler in code.handlers for place in handler[:3]}
+        self.stops.update(target for i in self.instructions for target in i.targets)
+        self.cards, self.depth, self.used, number = [], 0, 0, 0
+        while number < len(self.instructions):
+            number += self.translate(self.instructions[number:number + 5])
+        arguments = len(parameters(self.method.type)) + (not self.method.has(STATIC))
+        handlers = [(*places, self.class_entry(caught) if caught else None) for *places, caught in code.handlers]
+        for count, word in (self.depth, 'operands'), (max(self.used, arguments), 'locals'):
+            if count > MOST:
+                raise Refusal('the method needs more than %d %s' % (MOST, word))
+        return Translated(self.cards, handlers, self.depth, arguments, max(self.used - arguments, 0))
+
+    def check_members(self):
+        """Refuses types of members before numbers are looked at, so that the reason is the plainer one."""
+        for instruction in self.instructions:
+            self.at = instruction.at
+            for operand in instruction.operands:
+                if hasattr(operand, 'type'):
+                    self.world.check_type(operand.type)
+
+    def translate(self, waiting):
+        """Translates the first of the instructions, perhaps with some behind it; gives how many. What is never reached
+        is left out."""
+        self.at, self.targets = waiting[0].at, waiting[0].targets
+        if self.at not in self.states:
+            return 1
+        self.depth = max(self.depth, len(self.states[self.at][1]))
+        for fuse in self.increment_by, self.field_of_this:
+            count = fuse(waiting)
+            if count:
+                return count
+        getattr(self, 'on_' + waiting[0].operation)(*waiting[0].operands)
+        return 1
+
+    def emit(self, opcode, *operands, targets=()):
+        self.cards.append(Card(self.at, opcode, operands, targets))
+
+    # Several instructions in one
+
+    def are_together(self, waiting, *operations):
+        """Whether these operations stand first, and control flow comes only to the first of them."""
+        some = waiting[:len(operations)]
+        return [i.operation for i in some] == list(operations) and not any(i.at in self.stops for i in some[1:])
+
+    def increment_by(self, waiting):
+        """A short local plus or minus a constant is `sinc`."""
+        if not self.are_together(waiting, 'load', 'push', 'operate', 'narrow', 'store'):
+            return 0
+        load, push, operator, narrow, store = (i.operands for i in waiting)
+        by = {'add': push[0], 'sub': -push[0]}.get(operator[1], INT[1])
+        if load != store or load[0] != 'i' or narrow != ('S',) or not lies_in((by, by), BYTE):
+            return 0
+        self.on_increment(load[1], by)
+        return 5
+
+    def field_of_this(self, waiting):
+        """A field of the object in local 0."""
+        if not self.are_together(waiting, 'load', 'field') or waiting[0].operands != ('a', 0):
+            return 0
+        of, how, field = waiting[1].operands
+        if (of, how) != ('object', 'get'):
+            return 0
+        self.emit(OPCODES['get_this'] + FORMS.get(field.type, 0), self.field_entry(field))
+        self.used = max(self.used, 1)
+        return 2
+
+    # Numbers, locals and the stack
+
+    def on_simple(self, takes, gives, card):
+        self.emit(card, targets=self.targets)
+
+    def on_operate(self, takes, name, card):
+        self.emit(card)
+
+    def on_move(self, places, card):
+        self.emit(card[0], *((1, byte) for byte in card[1:]))
+
+    def on_push(self, number):
+        number = (number + 0x8000) % 0x10000 - 0x8000
+        if -1 <= number <= 5:
+            self.emit(OPCODES['sconst_0'] + number)
+        else:
+            size, name = (1, 'bspush') if lies_in((number, number), BYTE) else (2, 'sspush')
+            self.emit(OPCODES[name], (size, number))
+
+    def access(self, name, local):
+        """A load or a store of a local."""
+        self.used = max(self.used, local + 1)
+        if local < 4:
+            self.emit(OPCODES[name + '_0'] + local)
+        else:
+            self.emit(OPCODES[name], (1, local))
+
+    def on_load(self, kind, local):
+        self.access('aload' if kind == 'a' else 'sload', local)
+
+    def on_store(self, kind, local):
+        self.access('astore' if kind == 'a' else 'sstore', local)
+
+    def on_increment(self, local, by):
+        self.used = max(self.used, local + 1)
+        size = 1 if lies_in((by, by), BYTE) else 2
+        self.emit(OPCODES['sinc' if size == 1 else 'sinc_w'], (1, local), (size, by))
+
+    def on_narrow(self, kind):
+        """A cast to short changes no word, nor does one to byte of what lies in a byte."""
+        value = self.states[self.at][1][-1]
+        if kind == 'B' and not (isinstance(value, tuple) and lies_in(value, BYTE)):
+            self.emit(OPCODES['s2b'])
+
+    def on_switch(self, kind, matches):
+        """A switch; a case that no short can be is refused."""
+        if any(not lies_in((m, m), SHORT) for m in matches):
+            raise Refusal('a case of a switch isn\'t a short')
+        self.emit(OPCODES[kind], *((2, m) for m in matches), targets=self.targets)
+
+    def on_return(self, card):
+        self.emit(OPCODES[card])
+
+    # Arrays
+
+    def on_new_words(self, kind):
+        self.emit(OPCODES['new_words'], (1, KINDS[kind]))
+
+    def on_new_references(self, name):
+        if name.startswith('['):
+            raise Refusal('an array of arrays isn\'t in the profile')
+        self.emit(OPCODES['new_references'], self.class_entry(name))
+
+    # Classes, fields and methods
+
+    def class_entry(self, name):
+        return Entry('class', self.world.find(name).name)
+
+    def on_new(self, name):
+        self.emit(OPCODES['new'], self.class_entry(name))
+
+    def tested(self, opcode, name):
+        """A cast or a test: the kind stands in front of the entry."""
+        if not name.startswith('['):
+            self.emit(opcode, (1, 0), self.class_entry(name))
+        else:
+            self.world.check_type(name)
+            element = name[1:]
+            if element in KINDS:
+                self.emit(opcode, (1, KINDS[element]), (2, 0))
+            else:
+                self.emit(opcode, (1, 14), self.class_entry(element[1:-1]))
+
+    def on_cast(self, name):
+        self.tested(OPCODES['cast'], name)
+
+    def on_test(self, name):
+        self.tested(OPCODES['test'], name)
+
+    def missing(self, member):
+        return Refusal('%s.%s isn\'t among the members that a package can name' % (dotted(member.of), member.name))
+
+    def field_entry(self, member):
+        """An entry for a field of objects, of the class that declares it."""
+        for k in self.world.chain(member.of):
+            if (member.name, member.type) in k.fields:
+                return Entry('field', k.name, k.fields[member.name, member.type], member.type)
+        raise self.missing(member)
+
+    def static_entry(self, kind, k, key):
+        """An entry for a static member or a constructor of a class that has it."""
+        if k.file is not None:
+            return Entry(kind, (k.name, key), None, key[1])
+        table = k.static_methods if kind == 'static method' else k.static_fields
+        return Entry(kind, k.name, table[key], key[1])
+
+    def static_field_entry(self, member):
+        key = member.name, member.type
+        for k in self.world.chain(member.of):
+            for name in [k.name, *k.interfaces]:
+                if name in self.world.known and key in self.world.find(name).static_fields:
+                    return self.static_entry('static field', self.world.find(name), key)
+        raise self.missing(member)
+
+    def on_field(self, of, how, member):
+        entry = self.static_field_entry(member) if of == 'static' else self.field_entry(member)
+        self.emit(OPCODES['%s_%s' % (how, of)] + FORMS.get(member.type, 0), entry)
+
+    def on_call(self, how, member):
+        if member.of.startswith('['):
+            raise Refusal('a method of an array isn\'t in the profile')
+        getattr(self, 'call_' + how)(member, (member.name, member.type))
+
+    def virtual_token(self, k, member):
+        """The token of a virtual method, or None."""
+        key = member.name, member.type
+        return k.virtual.get(key, k.package_virtual.get(key))
+
+    def is_private(self, k, key):
+        method = method_of(k, key) if k.file else None
+        return method is not None and method.has(PRIVATE) and not method.has(STATIC)
+
+    def call_virtual(self, member, key):
+        k = self.world.find(member.of)
+        token = self.virtual_token(k, member)
+        if self.is_private(k, key):
+            self.emit(OPCODES['special'], self.static_entry('static method', k, key))
+        elif token is None or k.is_interface:
+            raise self.missing(member)
+        else:
+            self.emit(OPCODES['virtual'], Entry('virtual', k.name, token, member.type))
+
+    def call_special(self, member, key):
+        """A constructor, a private method, or one of the class above."""
+        k = self.world.find(member.of)
+        if self.is_private(k, key) or member.name == '<init>' and key in k.static_methods:
+            self.emit(OPCODES['special'], self.static_entry('static method', k, key))
+            return
+        token = self.virtual_token(k, member)
+        if token is None or k.is_interface:
+            raise self.missing(member)
+        self.emit(OPCODES['special'], Entry('super', self.known.name, token, member.type))
+
+    def call_static(self, member, key):
+        for k in self.world.chain(member.of):
+            if key in k.static_methods and member.name != '<init>':
+                self.emit(OPCODES['static'], self.static_entry('static method', k, key))
+                return
+        raise self.missing(member)
+
+    def call_interface(self, member, key):
+        k = self.world.find(member.of)
+        if k.is_interface and key in k.virtual:
+            words = len(parameters(member.type)) + 1
+            self.emit(OPCODES['interface'], (1, words), self.class_entry(k.name), (1, k.virtual[key]))
+        elif key in self.world.find(OBJECT).virtual:
+            self.emit(OPCODES['virtual'], Entry('virtual', OBJECT, self.world.find(OBJECT).virtual[key], member.type))
+        else:
+            raise self.missing(member)
+
+
+def translate(world, known, method):
+    """A method of a class, for the card."""
+    if method.code is None:
+        raise Refusal('it has no code', place_of(known, method))
+    return Translator(world, known, method).translated()

@@ -1,0 +1,150 @@
+"""The classes that a package sees: its own, those of packages that it imports, and the API's. Also the texts in which
+packages are handed on to later ones (`--import`).
+
+A line of such a text is one of these. Names and types are those of class files; a class's lines stand below its own.
+
+    package NAME AID MAJOR MINOR
+    class NAME TOKEN ABOVE          the nearest class above that other packages see
+    interface NAME TOKEN
+    implements NAME                 an interface that it implements or extends, all of them
+    virtual NAME TYPE TOKEN         a public or protected method, inherited ones too
+    closed NAME TYPE                one of these that other packages can't override: it overrides a package-visible one
+    method NAME TYPE TOKEN          of an interface, inherited ones too
+    static NAME TYPE TOKEN          a static method or a constructor
+    field NAME TYPE TOKEN           of objects
+    static_field NAME TYPE TOKEN
+"""
+from dataclasses import dataclass, field
+
+from converter.classfile import PROTECTED, PUBLIC, Refusal, parameters, result
+
+OBJECT, SHAREABLE = 'java/lang/Object', 'javacard/framework/Shareable'
+PRIMITIVES = 'ZBS'
+WORDS = {'I': 'int', 'J': 'long', 'F': 'float', 'D': 'double', 'C': 'char'}
+MOST = 255  # classes, tokens, locals: what a byte counts
+
+
+@dataclass(frozen=True)
+class Package:
+    name: str
+    aid: bytes
+    version: tuple
+
+
+@dataclass
+class Known:
+    """A class or an interface, and its members' tokens, each by its name and type. A class of the package itself has a
+    class file and no package, and perhaps no token; of its static members the tokens are those that others see."""
+    name: str
+    above: str = None
+    package: Package = None
+    token: int = None
+    is_interface: bool = False
+    interfaces: list = field(default_factory=list)
+    virtual: dict = field(default_factory=dict)  # of an interface: its methods
+    package_virtual: dict = field(default_factory=dict)
+    closed: set = field(default_factory=set)
+    fields: dict = field(default_factory=dict)
+    static_methods: dict = field(default_factory=dict)
+    static_fields: dict = field(default_factory=dict)
+    file: object = None
+
+
+class World:
+    """All classes by their names."""
+
+    def __init__(self, known):
+        self.known = dict(known)
+
+    def find(self, name):
+        if name not in self.known:
+            raise Refusal('the class %s isn\'t in the package, the API or an import' % dotted(name))
+        return self.known[name]
+
+    def chain(self, name):
+        """A class and those above it, the nearest first."""
+        while name is not None:
+            found = self.find(name)
+            yield found
+            name = found.above
+
+    def all_interfaces(self, names):
+        """Interfaces and those that they extend, each once."""
+        found = []
+        for name in names:
+            interface = self.find(name)
+            if not interface.is_interface:
+                raise Refusal('%s isn\'t an interface' % dotted(name))
+            found += [n for n in [name, *interface.interfaces] if n not in found]
+        return found
+
+    def check_type(self, kind):
+        """Refuses a type that the profile hasn't."""
+        if kind.startswith('('):
+            for part in [*parameters(kind), *([] if result(kind) == 'V' else [result(kind)])]:
+                self.check_type(part)
+        elif kind.startswith('[['):
+            raise Refusal('an array of arrays isn\'t in the profile')
+        elif kind.strip('[') in WORDS:
+            raise Refusal('the type %s isn\'t in the profile' % WORDS[kind.strip('[')])
+        elif kind.strip('[') not in PRIMITIVES:
+            self.find(kind.strip('[')[1:-1])
+
+
+def dotted(name):
+    return name.replace('/', '.')
+
+
+TABLES = {
+    'virtual': 'virtual', 'method': 'virtual', 'static': 'static_methods', 'field': 'fields',
+    'static_field': 'static_fields',
+}
+
+
+def read_exports(text):
+    """The classes of a package that was converted before, by their names."""
+    known, package, at = {}, None, None
+    for number, line in enumerate(text.split('\n'), 1):
+        word, *rest = line.split() or ['#']
+        try:
+            if word == 'package':
+                name, aid, major, minor = rest
+                package = Package(name, bytes.fromhex(aid), (int(major), int(minor)))
+            elif word in ('class', 'interface'):
+                at = Known(rest[0], rest[2] if word == 'class' else None, package, int(rest[1]), word == 'interface')
+                known[at.name] = at
+            elif word == 'implements':
+                at.interfaces.append(rest[0])
+            elif word == 'closed':
+                at.closed.add((rest[0], rest[1]))
+            elif word in TABLES:
+                name, kind, token = rest
+                getattr(at, TABLES[word])[name, kind] = int(token)
+            elif not word.startswith('#'):
+                raise ValueError
+        except (ValueError, IndexError, AttributeError):
+            raise Refusal('line %d is none of an export file' % number) from None
+    return known
+
+
+def seen_above(world, of):
+    """The nearest class above that other packages see."""
+    return next(k.name for k in world.chain(of.above) if k.token is not None)
+
+
+def write_exports(package, world, exported):
+    """The text for later packages."""
+    major, minor = package.version
+    lines = ['# What later packages name of this one. Written by tools/convert.',
+             'package %s %s %d %d' % (package.name, package.aid.hex().upper(), major, minor)]
+    for k in exported:
+        head = '%s %d' % (k.name, k.token)
+        lines.append('interface ' + head if k.is_interface else 'class %s %s' % (head, seen_above(world, k)))
+        lines += ['implements ' + name for name in k.interfaces]
+        lines += ['closed %s %s' % key for key in sorted({*k.closed, *k.virtual} & {*k.closed, *k.package_virtual})]
+        hidden = {f.key for f in k.file.fields if not f.has(PUBLIC | PROTECTED)}
+        for word in ['method' if k.is_interface else 'virtual', 'static', 'field', 'static_field']:
+            shown = [(token, key) for key, token in getattr(k, TABLES[word]).items() if token is not None]
+            shown = [(token, key) for token, key in sorted(shown) if word != 'field' or key not in hidden]
+            lines += ['%s %s %s %d' % (word, *key, token) for token, key in shown]
+    return '\n'.join(lines) + '\n'

@@ -187,7 +187,9 @@ class Code:
         name, kind = self.chance.choice(self.room.arrays)
         made = '%s; newarray %d' % (self.pick('bspush 8', 'bspush 4', self.short(1) + '; bspush 7; sand', 'sconst_m1'),
                                     11 if kind == 'bytes' else 12)
-        return 'aload_0; %s; putfield_a %s' % (self.pick(made, self.array(kind)), name)
+        transient = '%s; %s; invokestatic %s' % (self.pick('bspush 8', 'sconst_5', 'sconst_m1'), self.pick(
+            'sconst_1', 'sconst_2', 'sconst_2', 'sconst_3'), 'transientBytes' if kind == 'bytes' else 'transientShorts')
+        return 'aload_0; %s; putfield_a %s' % (self.pick(made, self.array(kind), transient), name)
 
     def set_static(self, depth):
         name, form = self.chance.choice(self.room.statics)
@@ -283,6 +285,8 @@ ENTRIES = """
     entry throwIt: static method ISOException 1
     entry lookupAID: static method JCSystem 1
     entry ask: static method JCSystem 3
+    entry transientBytes: static method JCSystem 5
+    entry transientShorts: static method JCSystem 6
     entry copy: static method Util 0
     entry copyOnce: static method Util 1
     entry fill: static method Util 2

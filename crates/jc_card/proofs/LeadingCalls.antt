@@ -15,7 +15,7 @@ use Rattle.jc_machine.specs.Natives.{AreNativesGuarded, IsGuardedAnswer, KeepsOb
 use Rattle.jc_machine.specs.Step.{Called, CallEnd, Gave, RanOut, Start, Threw, WasStuck, after_first_native, begun}
 use Rattle.jc_machine.specs.Step.{begun_by, called_so_far, continued, defensive_step, ended_by, first_answer, may_begin}
 use Rattle.jc_machine.specs.Step.{native_called, native_ended, native_gave, native_started, native_threw, no_frame}
-use Rattle.jc_machine.specs.Step.{runtime_call, standing, started, started_by, steps_of}
+use Rattle.jc_machine.specs.Step.{runtime_call, standing, started, started_by, steps_of, first_native_call}
 use Rattle.jc_names.specs.declared.name.ClassName.{ClassName}
 use Rattle.jc_names.specs.declared.name.MethodName.{MethodName}
 use Rattle.jc_names.specs.declared.name.MethodName.TheVariants.{Api, Loaded}
@@ -125,16 +125,7 @@ module _ (laws : StepsGuarded) (c : CardState) (selected : Option ℕ) where
     -- ---- a native member
 
     abbrev call_of : ℕ → NativeCall Kept
-    call_of member = record {
-      member = member;
-      arguments = start.arguments;
-      active = start.owner;
-      previous = None;
-      heap = start.heap;
-      runtime = start.runtime;
-      selected = s.selected;
-      limits = s.limits;
-    }
+    call_of member = first_native_call s start member
 
     gave_leads : (touches : List Touch) (m : Machine Kept) (value : Option TaggedValue) (b : Bool)
         → Leads w start.heap touches m.heap → leads_end start.heap touches (cond b (Gave m value) WasStuck)

@@ -14,6 +14,7 @@ pub mod Accepted
 pub mod Typed
 pub mod Guarded
 pub mod Natives
+pub mod Apart
 pub mod Running
 pub mod Uncounted
 pub mod WordNatives

@@ -1,6 +1,6 @@
 //! What holds of accepted worlds.
 
-ghost use Rattle.std.specs.Prelude.{◌≡◌, ◌↔◌, List, Some, false, option_map, ℕ};
+ghost use Rattle.std.specs.Prelude.{◌≡◌, ◌↔◌, Bool, List, Some, true, false, option_map, ℕ};
 ghost use Rattle.jc_api.specs.Bound.{Bound};
 ghost use Rattle.jc_api.specs.NoClash.{HasNoClash};
 ghost use Rattle.jc_cap_desc.specs.Shape.{MethodBody, Shape};
@@ -12,6 +12,7 @@ ghost use Rattle.jc_code.specs.Listing.{IsListing, PlacedInstr, placed_at};
 ghost use Rattle.jc_code.specs.declared.instr.Instr.{Instr};
 ghost use Rattle.jc_link.specs.Built.{IsBuilt};
 ghost use Rattle.jc_machine.specs.Accepted.{HaveByteTokens, HaveCode, IsAccepted, api_alone, linked_as};
+ghost use Rattle.jc_machine.specs.Apart.{AddsFor, AreNativesApart, HaveApiMembers, IsApart, IsSetApart, StaysApart, is_applets};
 ghost use Rattle.jc_machine.specs.Guarded.{IsGuarded, IsRefused, KeepsPlain, are_allowed, machine_of};
 ghost use Rattle.jc_machine.specs.Lookup.{body_at, code_at, instruction_at};
 ghost use Rattle.jc_machine.specs.Machine.{Machine, MethodPlace, Surroundings};
@@ -20,6 +21,7 @@ ghost use Rattle.jc_machine.specs.Runtime.{HasRuntimeObjects};
 ghost use Rattle.jc_machine.specs.Step.{defensive_step};
 ghost use Rattle.jc_machine.specs.Uncounted.{HaveCells, IsInstructionAt};
 ghost use Rattle.jc_link.specs.Linked.{IsBoundTo, IsLast, IsWorld, Linked, LinkedBody, World, with_linked};
+ghost use Rattle.jc_names.specs.declared.owner.Owner.{Owner};
 ghost use Rattle.jc_store.specs.Heap.{Heap};
 ghost use Rattle.jc_words.specs.Values.{TaggedValue};
 
@@ -71,6 +73,18 @@ pub fn accesses_are_guarded<N: Natives>(_natives: &N)
     ensures plain { (s : Surroundings N.Kept) → AreNativesGuarded s.natives → (m : Machine N.Kept) → KeepsPlain s m }
     ensures kept { (s : Surroundings N.Kept) → AreNativesGuarded s.natives → (m after : Machine N.Kept)
         → machine_of (defensive_step s m).outcome ≡ Some after → KeepsObjects m.heap after.heap }
+{}
+
+/// The runtime's name is its own. Where no frame is active as the runtime and its objects have no code of packages, this
+/// is so behind each step, and the step's accesses in the runtime's name spare plain objects. Objects are set apart still
+/// where each stays and others are added for an owner in the context of a package. What the runtime keeps may be of any
+/// type, with any test that the native members keep. It does nothing.
+pub fn steps_stay_apart<N: Natives>(_natives: &N)
+    ensures steps { (keeps : N.Kept → Bool) (s : Surroundings N.Kept) → AreNativesGuarded s.natives
+        → AreNativesApart keeps s.natives → HaveApiMembers s.world.shapes → (m : Machine N.Kept) → IsApart keeps m
+        → StaysApart keeps s m }
+    ensures objects { (before after : Heap TaggedValue) (owner : Owner) → IsSetApart before → KeepsObjects before after
+        → is_applets owner ≡ true → AddsFor owner before after → IsSetApart after }
 {}
 
 /// An instruction is found at a pc of code where it begins there behind others that stand one behind the other from the

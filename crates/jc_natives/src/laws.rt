@@ -5,10 +5,12 @@ ghost use Rattle.jc_api.specs.Member.{ApiMember, member_of};
 ghost use Rattle.jc_cap_desc.specs.Shape.{Shape};
 ghost use Rattle.jc_link.specs.Built.{IsBuilt};
 ghost use Rattle.jc_link.specs.Linked.{IsBoundTo, Linked, World, with_linked};
+ghost use Rattle.jc_machine.specs.Apart.{AreNativesApart, is_applets};
 ghost use Rattle.jc_machine.specs.Calls.{type_of_member};
 ghost use Rattle.jc_machine.specs.Machine.{NativeCall};
 ghost use Rattle.jc_machine.specs.Natives.{IsGuardedAnswer, KeepsObjects};
 ghost use Rattle.jc_names.specs.declared.owner.Owner.{Owner};
+ghost use Rattle.jc_natives.specs.Apart.{names_applets};
 ghost use Rattle.jc_natives.specs.MemberTypes.{declared_signature};
 ghost use Rattle.jc_natives.specs.Kept.{Kept, after_install, are_bytes, is_aid, is_instance_number, nothing_kept, with_command, with_install, without_command};
 ghost use Rattle.jc_natives.specs.Meaning.{meaning};
@@ -47,6 +49,21 @@ pub fn calls_keep_fitting()
         → meaning.fits w heap (with_command k incoming expected selecting) ≡ true }
     ensures closed { (w : World) (heap : Heap TaggedValue) (k : Kept) → meaning.fits w heap k ≡ true
         → meaning.fits w heap (without_command k) ≡ true }
+{}
+
+/// The runtime's name is its own in native members too: what an applet calls writes to no plain object in the runtime's
+/// name, makes objects for its caller, and has applets alone called; and what the runtime keeps names applets alone. So
+/// it does when a card is new, and behind each call of the runtime itself. It does nothing.
+pub fn members_stay_apart()
+    ensures members { AreNativesApart names_applets meaning }
+    ensures new { names_applets nothing_kept ≡ true }
+    ensures begun { (k : Kept) → names_applets k ≡ true → (owner : Owner) (aid : List ℕ) → is_applets owner ≡ true
+        → is_instance_number owner.instance ≡ true → names_applets (with_install k owner aid) ≡ true }
+    ensures over { (k : Kept) → names_applets k ≡ true → (succeeds : Bool)
+        → names_applets (after_install k succeeds) ≡ true }
+    ensures opened { (k : Kept) → names_applets k ≡ true → (incoming : List ℕ) (expected : ℕ) (selecting : Bool)
+        → names_applets (with_command k incoming expected selecting) ≡ true }
+    ensures closed { (k : Kept) → names_applets k ≡ true → names_applets (without_command k) ≡ true }
 {}
 
 /// What the runtime keeps fits still behind a load: in the world with the package, and with more objects behind those

@@ -27,7 +27,7 @@ use Rattle.jc_machine.specs.Machine.{NativeEnd, Surroundings, ThrowsObject}
 use Rattle.jc_machine.specs.Natives.{EndsFit, IsFitCall}
 use Rattle.jc_machine.specs.Step.{Called, Gave, RanOut, Start, Threw, WasStuck, after_first_native, begun, begun_by, ended_by}
 use Rattle.jc_machine.specs.Step.{may_begin, native_called, native_ended, native_started, no_frame}
-use Rattle.jc_machine.specs.Step.{runtime_call, standing, started, started_by, steps_of}
+use Rattle.jc_machine.specs.Step.{runtime_call, standing, started, started_by, steps_of, first_native_call}
 use Rattle.jc_machine.specs.Typed.{HaveTypes, IsTyped, IsTypedBeside}
 use Rattle.jc_words.specs.Values.{Ref, TaggedValue}
 use Rattle.jc_safety.specs.Safety.{EndsTyped}
@@ -118,16 +118,7 @@ module _ {C : Type 0} (s : Surroundings C) (ground : Ground s) (members : HaveMe
   module _ (member : ℕ) (k : MemberCanBegin s start member)
       (beside : IsTypedBeside s (standing start (no_frame start.owner))) where
     abbrev call : NativeCall C
-    call = record {
-      member = member;
-      arguments = start.arguments;
-      active = start.owner;
-      previous = None;
-      heap = start.heap;
-      runtime = start.runtime;
-      selected = s.selected;
-      limits = s.limits;
-    }
+    call = first_native_call s start member
 
     abbrev a : NativeAnswer C
     a = s.natives.answer s.world call

@@ -1,10 +1,10 @@
 -- The members of the API in a built world are what its tables say.
 use Rattle.std.proofs.Common.{◌≡◌, ◌⊎◌, inl, inr, ℕ, zero, suc, ◌+◌, ◌-◌, ◌<◌, ◌≤◌, ◌==◌, List, [], ◌∷◌, ◌++◌, length}
 use Rattle.std.proofs.Common.{take}
-use Rattle.std.proofs.Common.{Bool, true, false, cond, ◌&&◌, ◌||◌, Option, Some, None, is_some, nat_lt, slice_get}
+use Rattle.std.proofs.Common.{Bool, true, false, cond, ◌&&◌, ◌||◌, Option, Some, None, nat_lt, slice_get}
 use Rattle.std.proofs.Common.{unwrap_or}
 use Rattle.std.proofs.Common.{refl, sym, ap, ◌∙◌, subst, arith, eqb-true}
-use Rattle.std.proofs.lemmas.Bool.{eq-eqb, le-ltb, lt-ltb, ltb-true}
+use Rattle.std.proofs.lemmas.Bool.{eq-eqb, lt-ltb, ltb-true}
 use Rattle.std.proofs.lemmas.List.Folds.{find_at}
 use Rattle.std.proofs.lemmas.Option.{slice_get_within}
 use Rattle.std.specs.List.{find, position, position_or_len}
@@ -25,19 +25,19 @@ use Rattle.jc_cap_class.specs.declared.record.ClassRecord.{ClassRecord}
 use Rattle.jc_cap_class.specs.declared.record.RecordBody.{RecordBody}
 use Rattle.jc_cap_class.specs.declared.record.RecordBody.TheVariants.{Class, Interface}
 use Rattle.jc_cap_class.specs.declared.record.VirtualTable.{VirtualTable}
-use Rattle.jc_cap_desc.specs.Shape.{ClassShape, MethodShape, Shape}
+use Rattle.jc_cap_desc.specs.Shape.{ClassShape, Shape}
 use Rattle.jc_classes.specs.Api.{api_shape, api_world, class_in_api, each_below, is_static, last_member, method_in}
 use Rattle.jc_classes.specs.Api.{number_to}
 use Rattle.jc_classes.specs.Api.{public_table}
 use Rattle.jc_classes.specs.Growth.{IsMethodWithin, KeepsAllLookups, LiesWithin}
-use Rattle.jc_classes.specs.Members.{DeclaredMethod, declared_in, method_at, name_of}
-use Rattle.jc_classes.specs.Methods.{declared_above, entry_visit, has_method, method_name, method_of_class}
+use Rattle.jc_classes.specs.Members.{DeclaredMethod, method_at}
+use Rattle.jc_classes.specs.Methods.{declared_above, entry_visit, has_method, method_name}
 use Rattle.jc_classes.specs.Methods.{method_there, package_visible}
 use Rattle.jc_classes.specs.Methods.{record_visit, table_visit, virtual_method_of, virtual_visit}
 use Rattle.jc_classes.specs.Subtype.{is_class_at, is_class_below}
 use Rattle.jc_classes.specs.Walk.{found_from, most_classes, walk}
 use Rattle.jc_classes.specs.World.{class_at, superclass_of}
-use Rattle.jc_link.proofs.ApiClasses.{above_itself, above_super, class_itself, class_there}
+use Rattle.jc_link.proofs.ApiClasses.{above_itself, class_itself, class_there}
 use Rattle.jc_link.proofs.ApiLists.{each_is, each_there, number_there, numbered_there, within_room}
 use Rattle.jc_link.proofs.ApiMembers.{has_member, member_range, member_there, no_interface}
 use Rattle.jc_link.proofs.ApiTables.{IsDeclared, class_record, declared_token, entry, found_step, inherited_token}
@@ -46,13 +46,14 @@ use Rattle.jc_link.specs.Built.{IsBuilt, api, loaded}
 use Rattle.jc_link.specs.Sound.{IsHeir}
 use Rattle.jc_link.specs.Sound.IsHeir.{behind, itself}
 use Rattle.jc_names.specs.Names as names
-use Rattle.jc_names.specs.Names.{api_home, home_of, name_in}
+use Rattle.jc_names.specs.Names.{api_home, home_of}
 use Rattle.jc_names.specs.declared.name.ClassName.{ClassName}
 use Rattle.jc_names.specs.declared.name.ClassName.TheVariants as classes
 use Rattle.jc_names.specs.declared.name.MethodName.{MethodName}
-use Rattle.jc_names.specs.declared.name.MethodName.TheVariants.{Api, Loaded}
+use Rattle.jc_names.specs.declared.name.MethodName.TheVariants.{Api}
 use Rattle.jc_machine.specs.Calls.{VirtualMember, token_in, virtual_member, virtual_member_in}
 use Rattle.jc_machine.specs.Machine.{Surroundings}
+use Rattle.jc_safety.proofs.ApiCode.{api_above, api_name}
 use Rattle.jc_safety.proofs.Callees.{and_then, got_within, mapped_from}
 use Rattle.jc_safety.proofs.Ground.{Ground, named}
 use Rattle.jc_safety.proofs.Lists.{and_true}
@@ -394,51 +395,6 @@ module _ {C : Type 0} (s : Surroundings C) (ground : Ground s) (begins : BeginsS
       let same : d ≡ g = cc in
       either d e i h (subst (λ (x : ClassName). IsHeir shapes x i) (sym same) k)
 
-  -- above a class of the API are classes of the API
-  record IsAbove (b : ApiClass) (c : ClassName) : Type 0 where
-    class : ApiClass
-    is : c ≡ classes.Api class
-    above : is_at_or_above class b ≡ true
-
-  api_above : (a c : ClassName) → IsHeir shapes a c → (b : ApiClass) → a ≡ classes.Api b → IsAbove b c
-  api_above _ _ (itself a) b is = record { class = b; is = is; above = above_itself b }
-  api_above _ _ (behind a d e up h) b is =
-      let there = ap (superclass_of shapes) (sym is) ∙ up in
-      let f = mapped_from classes.Api (tables.superclass_of b) d (sym (ground.api b).superclass ∙ there) in
-      let g = api_above d e h f.0 (sym f.2) in
-      record { class = g.class; is = g.is; above = above_super g.class b f.0 f.1 g.above }
-
-  some_class : (b : Bool) (o : Option ClassName) (c : ClassName) → cond b o None ≡ Some c → o ≡ Some c
-  some_class true o c e = e
-  some_class false o c e = absurd cc
-
-  loaded_name : (n offset : ℕ) (c : ClassName) → name_in (suc (suc n)) offset ≡ Some c → (b : ApiClass)
-      → c ≡ classes.Api b → ⊥
-  loaded_name n offset c e b is =
-      let far = le-ltb (suc (suc n)) 2 (omega arith) in
-      let its : Some (classes.Loaded (suc (suc n) - 1) offset) ≡ Some c =
-      sym (ap (λ (x : Bool). cond x (names.api_name (suc (suc n)) offset) (Some (classes.Loaded (suc
-      (suc n) - 1) offset))) far) ∙ e in
-      absurd cc
-
-  -- a method of a loaded package isn't declared by a class of the API
-  api_name : (name : MethodName) (d : DeclaredMethod) (b : ApiClass) → method_at shapes name ≡ Some d
-      → d.class ≡ classes.Api b → (j : ℕ) × (name ≡ Api j)
-  api_name (Api j) d b e is = (j, refl)
-  api_name (Loaded zero offset) d b e is = absurd cc
-  api_name (Loaded (suc n) offset) d b e is =
-      let a = and_then (declared_in (suc (suc n)) offset) (slice_get shapes (suc (suc n))) d e in
-      let k = and_then (λ (k : ClassShape). option_and_then (λ class. option_map
-      (λ m. record { class = class; method = m }) (method_of_class offset k)) (name_of (suc (suc n)) k))
-      (find (λ (k : ClassShape). is_some (method_of_class offset k)) (a.0).classes) d a.2 in
-      let c = and_then (λ class. option_map (λ m. record { class = class; method = m }) (method_of_class offset k.0))
-      (name_of (suc (suc n)) k.0) d k.2 in
-      let f = mapped_from (λ (m : MethodShape). record { class = c.0; method = m })
-      (method_of_class offset k.0) d c.2 in
-      let class_is : c.0 ≡ classes.Api b = ap (λ (y : DeclaredMethod). y.class) f.2 ∙ is in
-      absurd (loaded_name n (k.0).offset c.0 (some_class (nat_lt (k.0).offset 0x10000) (name_in (suc (suc n))
-      (k.0).offset) c.0 c.1) b class_is)
-
   module _ (n : ℕ) (x : ApiMember) (is : member_of n ≡ Some x) (virtual : x.kind ≡ Virtual) where
     abbrev its : InTable bound begins.clear n x is virtual
     its = in_table bound begins.clear n x is virtual
@@ -506,8 +462,8 @@ module _ {C : Type 0} (s : Surroundings C) (ground : Ground s) (begins : BeginsS
             → is_class_below shapes d.class (classes.Api x.class) ≡ true
         by_side (inl h) = below_heir s ground d.class (classes.Api x.class) h at_class
         by_side (inr h) =
-            let a = api_above (classes.Api x.class) d.class h x.class refl in
-            let j = api_name name d a.class there a.is in
+            let a = api_above shapes ground.api (classes.Api x.class) d.class h x.class refl in
+            let j = api_name shapes ground.api name d a.class there a.is in
             by_member j.0 j.1 a.class a.is a.above
 
     has_virtual : HasVirtual shapes n x.class

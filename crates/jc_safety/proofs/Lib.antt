@@ -1,9 +1,11 @@
+mod ApiCode
 mod ApiMembers
 mod Arrays
 mod Below
 mod Blank
 mod Bounds
 mod Callees
+mod CallTargets
 mod Calling
 mod Casting
 mod Constants

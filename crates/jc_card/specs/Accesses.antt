@@ -1,15 +1,18 @@
 -- What a command does to objects: the firewall judges each of its accesses; one that it denies throws, and changes
--- nothing; and a plain object changes only where its own context, or the runtime, accessed it (Java Card Runtime
--- Environment Specification, Applet Isolation and Object Sharing: Class and Object Access Behavior).
-use Rattle.std.specs.Prelude.{◌≡◌, ◌⊎◌, ℕ, true, false, List, [], ◌++◌, Option, Some, None}
+-- nothing; and a plain object changes only in its own context, or by clearing (Java Card Runtime Environment
+-- Specification, Applet Isolation and Object Sharing: Class and Object Access Behavior; Transient Objects).
+use Rattle.std.specs.Prelude.{◌≡◌, ◌⊎◌, ℕ, true, false, List, [], ◌++◌, Option, Some, None, IsSome, slice_get}
 use Rattle.std.specs.List.{AllByRecursion}
 use Rattle.jc_firewall.specs.Verdict.{runtime_context, verdict_of}
 use Rattle.jc_link.specs.Linked.{World}
+use Rattle.jc_machine.specs.Accepted.{IsAccepted}
+use Rattle.jc_machine.specs.Apart.{IsSetApart}
 use Rattle.jc_machine.specs.Going.{facts_in}
-use Rattle.jc_machine.specs.Guarded.{ChangesAccessed, IsAccessedBy, IsGuarded, are_allowed, machine_of}
+use Rattle.jc_machine.specs.Guarded.{ChangesAccessed, IsGuarded, are_allowed, is_allowed, machine_of}
 use Rattle.jc_machine.specs.Machine.{Machine, NativeCall, Surroundings, Touch}
 use Rattle.jc_machine.specs.Natives.{IsGuardedAnswer, KeepsObjects}
 use Rattle.jc_machine.specs.Step.{defensive_step}
+use Rattle.jc_natives.specs.Apart.{names_applets}
 use Rattle.jc_natives.specs.Kept.{Kept}
 use Rattle.jc_natives.specs.Meaning.{meaning}
 use Rattle.jc_store.specs.Heap.{Heap, Object, object_at}
@@ -55,18 +58,10 @@ pub data Leads (w : World) : Heap TaggedValue → List Touch → Heap TaggedValu
 
 -- ---- a command
 
--- a plain object has the components that it had, or was accessed by its own context, or by the runtime
-abbrev pub KeepsPlain : List Touch → Heap TaggedValue → Heap TaggedValue → Type 0
-KeepsPlain touches before after = (number : ℕ) (o p : Object TaggedValue) → object_at before number ≡ Some o
-    → object_at after number ≡ Some p → o.kind.mark ≡ Plain
-    → (p.cells ≡ o.cells) ⊎ IsAccessedBy touches number o.owner.context
-
--- what accesses change: the objects that were there stay; only those change that were accessed; and a plain one only
--- by its own context, or by the runtime
+-- what accesses change: the objects that were there stay, and only those change that were accessed
 pub record ChangesBy (touches : List Touch) (before after : Heap TaggedValue) : Type 0 where
   pub objects : KeepsObjects before after
   pub components : ChangesAccessed touches before after
-  pub plain : KeepsPlain touches before after
 
 -- the law of accesses, of a command on a card: how its accesses lead on, one after the other; that the packages stay;
 -- and what the accesses change
@@ -74,6 +69,42 @@ pub record IsGuardedCommand {A : Type 0} (c : CardState) (l : Left A) : Type 0 w
   pub accesses : Leads c.world c.heap l.touches l.card.heap
   pub packages : l.card.world ≡ c.world
   pub changes : ChangesBy l.touches c.heap l.card.heap
+
+-- ---- plain objects
+
+-- an object was accessed, while a context was active
+pub record IsAccessedIn (touches : List Touch) (number context : ℕ) : Type 0 where
+  pub place : ℕ
+  pub touch : Touch
+  pub listed : slice_get touches place ≡ Some touch
+  pub is : touch.object ≡ number
+  pub allowed : is_allowed touch.verdict ≡ true
+  pub active : touch.active ≡ context
+
+-- the runtime cleared an object: an event clears it, since it is a transient array
+pub record IsCleared (touches : List Touch) (number : ℕ) (object : Object TaggedValue) : Type 0 where
+  pub transient : IsSome object.kind.clears
+  pub by_runtime : IsAccessedIn touches number runtime_context
+
+-- a plain object has the components that it had, or was accessed in its own context, or was cleared
+abbrev pub KeepsPlain : List Touch → Heap TaggedValue → Heap TaggedValue → Type 0
+KeepsPlain touches before after = (number : ℕ) (o p : Object TaggedValue) → object_at before number ≡ Some o
+    → object_at after number ≡ Some p → o.kind.mark ≡ Plain
+    → (p.cells ≡ o.cells) ⊎ IsAccessedIn touches number o.owner.context ⊎ IsCleared touches number o
+
+-- a card on which the runtime's name is its own: its packages are accepted, no code of theirs runs as the runtime, and
+-- the instances are of their contexts
+pub record IsApartCard (c : CardState) : Type 0 where
+  pub packages : IsAccepted c.world
+  pub objects : IsSetApart c.heap
+  pub instances : names_applets c.kept ≡ true
+
+-- it stays so behind a command, of which plain objects are kept
+pub record KeepsApart {A : Type 0} (c : CardState) (l : Left A) : Type 0 where
+  pub card : IsApartCard l.card
+  pub plain : KeepsPlain l.touches c.heap l.card.heap
+
+-- ---- a load
 
 -- a load leaves each object as it was
 abbrev pub LeavesObjects : Heap TaggedValue → Heap TaggedValue → Type 0

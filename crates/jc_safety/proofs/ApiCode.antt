@@ -1,14 +1,22 @@
 -- No code of packages is found by classes of the API: what is above them is of the API, and so are their methods.
+use Rattle.std.proofs.Common.{take, [], ◌∷◌, ◌++◌, ◌<◌}
 use Rattle.std.proofs.Common.{◌≡◌, ℕ, zero, suc, ◌-◌, Bool, true, false, cond, ◌||◌, List, Option, Some, None, is_some}
 use Rattle.std.proofs.Common.{nat_lt, slice_get, refl, sym, ap, ◌∙◌, arith}
 use Rattle.std.proofs.lemmas.Bool.{le-ltb}
 use Rattle.std.specs.List.{find}
 use Rattle.std.specs.Option.{option_and_then, option_map, option_map_or}
+use Rattle.jc_api.specs.Bound.{Bound}
 use Rattle.jc_api.specs.Class as tables
+use Rattle.jc_api.specs.Class.{package_of}
+use Rattle.jc_api.specs.NoClash.{HasNoClash}
 use Rattle.jc_api.specs.Token.{is_at_or_above as is_at_or_above_in_tables, is_same_class}
 use Rattle.jc_api.specs.declared.class.ApiClass.{ApiClass}
 use Rattle.jc_api.specs.declared.class.ApiClass.TheVariants as api_classes
+use Rattle.jc_api.specs.declared.class.ApiPackage.{ApiPackage}
+use Rattle.jc_api.specs.declared.class.ApiPackage.TheVariants.{Framework, Lang}
 use Rattle.jc_cap_desc.specs.Shape.{ClassShape, MethodShape, Shape}
+use Rattle.jc_classes.specs.Api.{api_shape, api_world}
+use Rattle.jc_classes.specs.Growth.{KeepsAllLookups, LiesWithin}
 use Rattle.jc_classes.specs.Members.{DeclaredMethod, declared_in, method_at, name_of}
 use Rattle.jc_classes.specs.Methods.{method_of_class}
 use Rattle.jc_classes.specs.Subtype.{is_at_or_above}
@@ -16,16 +24,42 @@ use Rattle.jc_classes.specs.Walk.{most_classes}
 use Rattle.jc_classes.specs.World.{superclass_of}
 use Rattle.jc_link.proofs.ApiClasses.{above_itself, above_super}
 use Rattle.jc_link.specs.ApiClasses.{StandsThere}
+use Rattle.jc_link.specs.Built.{IsBuilt, api, loaded}
 use Rattle.jc_link.specs.Sound.{IsHeir, IsSound}
 use Rattle.jc_link.specs.Sound.IsHeir.{behind, itself}
 use Rattle.jc_names.specs.Names as names
-use Rattle.jc_names.specs.Names.{is_same_name, name_in}
+use Rattle.jc_names.specs.Names.{api_home, is_same_name, name_in}
 use Rattle.jc_names.specs.declared.name.ClassName.{ClassName}
 use Rattle.jc_names.specs.declared.name.ClassName.TheVariants as classes
 use Rattle.jc_names.specs.declared.name.MethodName.{MethodName}
 use Rattle.jc_names.specs.declared.name.MethodName.TheVariants.{Api, Loaded}
 use Rattle.jc_machine.specs.Apart.{HaveApiMembers, is_member}
 use Rattle.jc_safety.proofs.Callees.{and_then, mapped_from}
+
+-- ---- the world begins with the packages of the API
+
+pub record BeginsSo (world : List Shape) : Type 0 where
+  pub bound : Bound
+  pub clear : HasNoClash bound
+  pub rest : List Shape
+  pub is : world ≡ api_shape bound Lang ∷ api_shape bound Framework ∷ rest
+
+pub begins_so : (world : List Shape) → IsBuilt world → BeginsSo world
+begins_so _ (api bound clear) = record { bound = bound; clear = clear; rest = []; is = refl }
+begins_so _ (loaded before p built fine) =
+    let k = begins_so before built in record {
+      bound = k.bound;
+      clear = k.clear;
+      rest = k.rest ++ p.shape ∷ [];
+      is = ap (λ (x : List Shape). x ++ p.shape ∷ []) k.is;
+    }
+
+pub lies : (world : List Shape) (k : BeginsSo world) → LiesWithin (api_world k.bound) world
+lies world k = ap (take 2) k.is
+
+pub low_home : (p : ApiPackage) → api_home p < 2
+low_home Lang = omega arith
+low_home Framework = omega arith
 
 -- ---- tests
 
@@ -135,3 +169,13 @@ module _ (world : List Shape) (api : (c : ApiClass) → StandsThere world c) whe
         ap is_member j.1;
     applets = λ c h. applet_alone most_classes c h;
   }
+
+-- what is found in a world by classes of the API is found in the world of the API alone
+pub found_in_api : (world : List Shape) (bound : Bound) → KeepsAllLookups (api_world bound) world
+    → ((c : ApiClass) → StandsThere world c) → HaveApiMembers (api_world bound) → HaveApiMembers world
+found_in_api world bound looks api alone = record {
+  methods = λ c token asker name e.
+      alone.methods c token asker name
+      (sym (looks.virtual_methods (classes.Api c) token asker (low_home (package_of c))) ∙ e);
+  applets = λ c h. applet_alone world api most_classes c h;
+}

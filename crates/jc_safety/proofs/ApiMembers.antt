@@ -1,6 +1,5 @@
 -- The members of the API in a built world are what its tables say.
-use Rattle.std.proofs.Common.{◌≡◌, ◌⊎◌, inl, inr, ℕ, zero, suc, ◌+◌, ◌-◌, ◌<◌, ◌≤◌, ◌==◌, List, [], ◌∷◌, ◌++◌, length}
-use Rattle.std.proofs.Common.{take}
+use Rattle.std.proofs.Common.{◌≡◌, ◌⊎◌, inl, inr, ℕ, zero, suc, ◌+◌, ◌-◌, ◌<◌, ◌≤◌, ◌==◌, List, [], ◌∷◌, length}
 use Rattle.std.proofs.Common.{Bool, true, false, cond, ◌&&◌, ◌||◌, Option, Some, None, nat_lt, slice_get}
 use Rattle.std.proofs.Common.{unwrap_or}
 use Rattle.std.proofs.Common.{refl, sym, ap, ◌∙◌, subst, arith, eqb-true}
@@ -29,7 +28,7 @@ use Rattle.jc_cap_desc.specs.Shape.{ClassShape, Shape}
 use Rattle.jc_classes.specs.Api.{api_shape, api_world, class_in_api, each_below, is_static, last_member, method_in}
 use Rattle.jc_classes.specs.Api.{number_to}
 use Rattle.jc_classes.specs.Api.{public_table}
-use Rattle.jc_classes.specs.Growth.{IsMethodWithin, KeepsAllLookups, LiesWithin}
+use Rattle.jc_classes.specs.Growth.{IsMethodWithin, KeepsAllLookups}
 use Rattle.jc_classes.specs.Members.{DeclaredMethod, method_at}
 use Rattle.jc_classes.specs.Methods.{declared_above, entry_visit, has_method, method_name}
 use Rattle.jc_classes.specs.Methods.{method_there, package_visible}
@@ -42,7 +41,6 @@ use Rattle.jc_link.proofs.ApiLists.{each_is, each_there, number_there, numbered_
 use Rattle.jc_link.proofs.ApiMembers.{has_member, member_range, member_there, no_interface}
 use Rattle.jc_link.proofs.ApiTables.{IsDeclared, class_record, declared_token, entry, found_step, inherited_token}
 use Rattle.jc_link.proofs.ApiTables.{is_declared, room}
-use Rattle.jc_link.specs.Built.{IsBuilt, api, loaded}
 use Rattle.jc_link.specs.Sound.{IsHeir}
 use Rattle.jc_link.specs.Sound.IsHeir.{behind, itself}
 use Rattle.jc_names.specs.Names as names
@@ -53,7 +51,7 @@ use Rattle.jc_names.specs.declared.name.MethodName.{MethodName}
 use Rattle.jc_names.specs.declared.name.MethodName.TheVariants.{Api}
 use Rattle.jc_machine.specs.Calls.{VirtualMember, token_in, virtual_member, virtual_member_in}
 use Rattle.jc_machine.specs.Machine.{Surroundings}
-use Rattle.jc_safety.proofs.ApiCode.{api_above, api_name}
+use Rattle.jc_safety.proofs.ApiCode.{BeginsSo, api_above, api_name, begins_so, lies, low_home}
 use Rattle.jc_safety.proofs.Callees.{and_then, got_within, mapped_from}
 use Rattle.jc_safety.proofs.Ground.{Ground, named}
 use Rattle.jc_safety.proofs.Lists.{and_true}
@@ -73,31 +71,6 @@ false_if false h = refl
 never : (b : Bool) → b ≡ true → b ≡ false → ⊥
 never true e f = absurd cc
 never false e f = absurd cc
-
--- ---- the world begins with the packages of the API
-
-pub record BeginsSo (world : List Shape) : Type 0 where
-  pub bound : Bound
-  pub clear : HasNoClash bound
-  pub rest : List Shape
-  pub is : world ≡ api_shape bound Lang ∷ api_shape bound Framework ∷ rest
-
-pub begins_so : (world : List Shape) → IsBuilt world → BeginsSo world
-begins_so _ (api bound clear) = record { bound = bound; clear = clear; rest = []; is = refl }
-begins_so _ (loaded before p built fine) =
-    let k = begins_so before built in record {
-      bound = k.bound;
-      clear = k.clear;
-      rest = k.rest ++ p.shape ∷ [];
-      is = ap (λ (x : List Shape). x ++ p.shape ∷ []) k.is;
-    }
-
-lies : (world : List Shape) (k : BeginsSo world) → LiesWithin (api_world k.bound) world
-lies world k = ap (take 2) k.is
-
-low_home : (p : ApiPackage) → api_home p < 2
-low_home Lang = omega arith
-low_home Framework = omega arith
 
 -- ---- where a number stands
 

@@ -2,15 +2,15 @@
 #![tactic(auto)]
 
 ghost use Rattle.std.specs.Prelude.{◌≡◌, ◌<◌, ℕ, Bool, List, Some, slice_get};
-ghost use Rattle.jc_machine.specs.Accepted.{IsAccepted};
 ghost use Rattle.jc_machine.specs.Apart.{HaveApiMembers};
 ghost use Rattle.jc_machine.specs.Running.{MayRun};
 ghost use Rattle.jc_machine.specs.Machine.{Machine, MethodPlace, Surroundings};
 ghost use Rattle.jc_machine.specs.Step.{Start, defensive_step, no_frame, runtime_call, standing, steps_of};
 ghost use Rattle.jc_machine.specs.Typed.{IsTyped, IsTypedBeside};
 ghost use Rattle.jc_cap_desc.specs.Shape.{Shape};
+ghost use Rattle.jc_link.specs.Built.{IsBuilt};
 ghost use Rattle.jc_link.specs.Kept.{Kept};
-ghost use Rattle.jc_link.specs.Linked.{IsLoadedAt, Linked, World};
+ghost use Rattle.jc_link.specs.Linked.{IsLoadedAt, Linked};
 ghost use Rattle.jc_link.specs.Statics.{static_fields};
 ghost use Rattle.jc_safety.specs.Loading.{HaveOwnOffsets, MayLoad, around_behind, machine_behind};
 ghost use Rattle.jc_safety.specs.Safety.{EndsTyped, StaysTyped};
@@ -30,7 +30,7 @@ use jc_link::{
     growing_keeps_linking,
 };
 use jc_machine::{
-    Natives, accepted_methods_are_typed, cells_follow_superclasses, instructions_begin_in_turn,
+    Natives, accepted_methods_are_typed, accepted_worlds_grow, cells_follow_superclasses, instructions_begin_in_turn,
     methods_have_code, runtime_objects_stay,
 };
 use jc_step::growing_keeps_effects;
@@ -119,13 +119,15 @@ pub fn loads_stay_typed<N: Natives>(_natives: &N)
     runtime_objects_stay();
 }
 
-/// In a world of accepted packages classes of the API have methods of the API alone, and none but Applet is below Applet. It
-/// does nothing.
+/// In a world that is built of well-formed packages classes of the API have methods of the API alone, and none but Applet
+/// is below Applet. It does nothing.
 pub fn api_runs_its_own_code()
-    ensures { (w : World) → IsAccepted w → HaveApiMembers w.shapes }
+    ensures { (world : List Shape) → IsBuilt world → HaveApiMembers world }
 {
+    growing_keeps_lookups();
     built_worlds_are_sound();
     built_worlds_have_the_api();
+    accepted_worlds_grow();
 }
 
 /// The static fields of a loaded package stand within its image, each at an offset of its own. It does nothing.

@@ -1,14 +1,14 @@
 -- Each command of a card is guarded, part by part.
-use Rattle.std.proofs.Common.{◌≡◌, ℕ, Bool, true, false, cond, List, [], ◌++◌, Option, Some, None, IfSome, refl, sym, ◌∙◌}
-use Rattle.std.proofs.Common.{subst, is_some, length, ◌∷◌, zero, suc, slice_get, Result, Ok, Err}
+use Rattle.std.proofs.Common.{◌≡◌, ℕ, Bool, true, false, cond, List, [], ◌++◌, Option, Some, None, IfSome, refl, sym}
+use Rattle.std.proofs.Common.{◌∙◌}
+use Rattle.std.proofs.Common.{subst, is_some, length, ◌∷◌, zero, suc, Result, Ok, Err}
 use Rattle.std.specs.Option.{option_and_then, option_map, option_map_or}
 use Rattle.jc_link.specs.Linked.{World}
-use Rattle.jc_machine.specs.Machine.{Touch}
 use Rattle.jc_names.specs.declared.name.MethodName.{MethodName}
 use Rattle.jc_names.specs.declared.name.MethodName.TheVariants.{Loaded}
 use Rattle.jc_names.specs.declared.owner.Owner.{Owner}
 use Rattle.jc_machine.specs.Runtime.{apdu_buffer, install_array}
-use Rattle.jc_natives.specs.Kept.{after_install, with_command, with_install, without_command}
+use Rattle.jc_natives.specs.Kept.{after_install, with_command, with_install}
 use Rattle.jc_natives.specs.declared.kept.Instance.{Instance}
 use Rattle.jc_safety.specs.Starting.{method_for}
 use Rattle.jc_store.specs.Heap.{Heap, Object, object_at}
@@ -26,13 +26,24 @@ use Rattle.jc_card.specs.Command.{Command, buffer_of, command_of, not_selected, 
 use Rattle.jc_card.specs.Commands as commands
 use Rattle.jc_card.specs.Install as installs
 use Rattle.jc_card.specs.Load.{IsLoad}
-use Rattle.jc_card.specs.Parts.{Ended, Left, Normally, and_then, arguments_of, behind, call_applet, call_method, call_on}
+use Rattle.jc_card.specs.Parts.{Ended, Left, Normally, and_then, arguments_of, behind, call_applet, call_method}
+use Rattle.jc_card.specs.Parts.{call_on}
 use Rattle.jc_card.specs.Parts.{call_selected, clear, gives, member_called, write}
 use Rattle.jc_card.specs.declared.calls.AppletCall.{AppletCall}
 use Rattle.jc_card.specs.declared.calls.AppletCall.TheVariants as calls
-use Rattle.jc_card.specs.declared.fault.InstallFault.{InstallFault}
 use Rattle.jc_card.specs.declared.fault.InstallFault.TheVariants as faults
 use Rattle.jc_card.specs.declared.places.AppletPlace.{AppletPlace}
+use Rattle.std.proofs.Common.{ap, not, nat_le, ◌==◌}
+use Rattle.jc_link.specs.Built.{IsBuilt}
+use Rattle.jc_machine.specs.Apart.{IsSetApart, is_applets}
+use Rattle.jc_machine.specs.Runtime.{most_instances}
+use Rattle.jc_natives.specs.Apart.{names_applets}
+use Rattle.jc_natives.specs.Kept.{is_instance_number}
+use Rattle.jc_card.proofs.Leading.{led}
+use Rattle.jc_card.proofs.Owners.{buffer_is_global, deselect_keeps_numbers, install_is_global, next_number_fits}
+use Rattle.jc_card.proofs.Owners.{not_refused_few, place_has_number, selected_owner}
+use Rattle.jc_card.proofs.Sparing.{kept_through, nothing_kept_plain}
+use Rattle.jc_card.specs.Accesses.{IsApartCard, KeepsApart, KeepsPlain}
 
 -- ---- one part after the other
 
@@ -41,7 +52,11 @@ abbrev Fine : {A : Type 0} → CardState → Option (Left A) → Type 0
 Fine c done = IfSome done (IsPart c)
 
 gives_part : {A : Type 0} (c : CardState) (value : A) → Fine c (gives c value)
-gives_part c value = record { accesses = nowhere c.heap; packages = refl }
+gives_part c value = record {
+  accesses = nowhere c.heap;
+  packages = refl;
+  apart = λ p. record { card = p; plain = nothing_kept_plain c.heap };
+}
 
 joined : {A B : Type 0} (c : CardState) (l : Left A) (next : Option (Left B)) → IsPart c l → Fine l.card next
     → Fine c (option_map (behind l.touches) next)
@@ -51,6 +66,13 @@ joined c l (Some m) first h = record {
       onward c.heap l.card.heap m.card.heap l.touches m.touches first.accesses
       (subst (λ (w : World). Leads w l.card.heap m.touches m.card.heap) first.packages h.accesses);
   packages = h.packages ∙ first.packages;
+  apart = λ p.
+      let f = first.apart p in
+      let n = h.apart f.card in record {
+        card = n.card;
+        plain = kept_through c.heap l.card.heap m.card.heap l.touches m.touches (led first.accesses).objects f.plain
+            n.plain;
+      };
 }
 
 then_part : {A B : Type 0} (c : CardState) (done : Option (Left A)) (next : CardState → A → Option (Left B)) → Fine c done
@@ -58,15 +80,31 @@ then_part : {A B : Type 0} (c : CardState) (done : Option (Left A)) (next : Card
 then_part c None next h each = tt
 then_part c (Some l) next h each = joined c l (next l.card l.value) h (each l.card l.value)
 
--- a card with the same packages and objects
-moved : {A : Type 0} (c d : CardState) (done : Option (Left A)) → d.world ≡ c.world → d.heap ≡ c.heap → Fine d done
-    → Fine c done
-moved c d None packages heap h = tt
-moved c d (Some l) packages heap h = record {
+-- the same, where something is known of the card behind the first part
+then_known : {A B : Type 0} (c : CardState) (done : Option (Left A)) (next : CardState → A → Option (Left B))
+    (Known : CardState → Type 0) → Fine c done → IfSome done (λ l. Known l.card)
+    → ((d : CardState) (value : A) → Known d → Fine d (next d value)) → Fine c (and_then done next)
+then_known c None next Known h k each = tt
+then_known c (Some l) next Known h k each = joined c l (next l.card l.value) h (each l.card l.value k)
+
+-- a card with the same packages and objects, on which the runtime keeps applets' instances if it did before
+moved : {A : Type 0} (c d : CardState) (done : Option (Left A)) → d.world ≡ c.world → d.heap ≡ c.heap
+    → (names_applets c.kept ≡ true → names_applets d.kept ≡ true) → Fine d done → Fine c done
+moved c d None packages heap instances h = tt
+moved c d (Some l) packages heap instances h = record {
   accesses =
       subst (λ (w : World). Leads w c.heap l.touches l.card.heap) packages
       (subst (λ (before : Heap TaggedValue). Leads d.world before l.touches l.card.heap) heap h.accesses);
   packages = h.packages ∙ packages;
+  apart = λ p.
+      let k = h.apart (record {
+        packages = subst (λ (w : World). IsBuilt w.shapes) (sym packages) p.packages;
+        objects = subst IsSetApart (sym heap) p.objects;
+        instances = instances p.instances;
+      }) in record {
+        card = k.card;
+        plain = subst (λ (before : Heap TaggedValue). KeepsPlain l.touches before l.card.heap) heap k.plain;
+      };
 }
 
 either : {A : Type 0} (c : CardState) (b : Bool) (x y : Option (Left A)) → Fine c x → Fine c y → Fine c (cond b x y)
@@ -79,31 +117,34 @@ if_some c None go each = tt
 if_some c (Some x) go each = each x
 
 or_else : {A B : Type 0} (c : CardState) (o : Option B) (go : B → Option (Left A)) (other : Option (Left A))
-    → ((x : B) → Fine c (go x)) → Fine c other → Fine c (option_map_or go o other)
-or_else c None go other each h = h
-or_else c (Some x) go other each h = each x
+    → ((x : B) → o ≡ Some x → Fine c (go x)) → (o ≡ None → Fine c other) → Fine c (option_map_or go o other)
+or_else c None go other each h = h refl
+or_else c (Some x) go other each h = each x refl
 
 module _ (laws : StepsGuarded) where
   -- ---- calls
 
   method_part : (c : CardState) (selected : ℕ) (owner : Owner) (method : MethodName) (arguments : List TaggedValue)
-      → Fine c (call_method c selected owner method arguments)
-  method_part c selected owner method arguments = call_part laws c (Some selected) owner method arguments
+      → (IsApartCard c → is_applets owner ≡ true) → Fine c (call_method c selected owner method arguments)
+  method_part c selected owner method arguments whose = call_part laws c (Some selected) owner method arguments whose
 
   on_part : (c : CardState) (i : Instance) (call : AppletCall) (object : Object TaggedValue)
-      → Fine c (call_on c i call object)
-  on_part c i call object =
+      → (IsApartCard c → is_applets i.owner ≡ true) → Fine c (call_on c i call object)
+  on_part c i call object whose =
       if_some c (method_for c.world.shapes object (member_called call))
       (λ method. call_method c i.owner.context i.owner method (Ref i.object ∷ arguments_of call))
-      (λ method. method_part c i.owner.context i.owner method (Ref i.object ∷ arguments_of call))
+      (λ method. method_part c i.owner.context i.owner method (Ref i.object ∷ arguments_of call) whose)
 
-  applet_part : (c : CardState) (i : Instance) (call : AppletCall) → Fine c (call_applet c i call)
-  applet_part c i call = if_some c (object_at c.heap i.object) (call_on c i call) (on_part c i call)
+  applet_part : (c : CardState) (i : Instance) (call : AppletCall) → (IsApartCard c → is_applets i.owner ≡ true)
+      → Fine c (call_applet c i call)
+  applet_part c i call whose =
+      if_some c (object_at c.heap i.object) (call_on c i call) (λ object. on_part c i call object whose)
 
   selected_part : (call : AppletCall) (c : CardState) → Fine c (call_selected c call)
   selected_part call c =
       or_else c (selected_instance c) (λ i. call_applet c i call) (gives c (Normally None))
-      (λ i. applet_part c i call) (gives_part c (Normally None))
+      (λ i e. applet_part c i call (λ p. selected_owner c.kept c.selected i p.instances e))
+      (λ e. gives_part c (Normally None))
 
   -- ---- selection
 
@@ -111,9 +152,9 @@ module _ (laws : StepsGuarded) where
   unselect_part c =
       or_else c c.selected
       (λ (owner : Owner). clear events.Deselect (Some owner.context) (with_selected c None)) (gives c tt)
-      (λ owner. moved c (with_selected c None)
-      (clear events.Deselect (Some owner.context) (with_selected c None)) refl refl
-      (clear_part events.Deselect (Some owner.context) (with_selected c None))) (gives_part c tt)
+      (λ owner e. moved c (with_selected c None)
+      (clear events.Deselect (Some owner.context) (with_selected c None)) refl refl (λ names. names)
+      (clear_part laws events.Deselect (Some owner.context) (with_selected c None))) (λ e. gives_part c tt)
 
   deselect_part : (c : CardState) → Fine c (commands.deselect c)
   deselect_part c =
@@ -123,12 +164,24 @@ module _ (laws : StepsGuarded) where
   -- ---- a command
 
   answered_part : (c : CardState) (ended : Ended) → Fine c (commands.answered c ended)
-  answered_part c ended = record { accesses = nowhere c.heap; packages = refl }
+  answered_part c ended = record {
+    accesses = nowhere c.heap;
+    packages = refl;
+    apart = λ p. record {
+      card = record {
+        packages = p.packages;
+        objects = p.objects;
+        instances = laws.closed c.kept p.instances;
+      };
+      plain = nothing_kept_plain c.heap;
+    };
+  }
 
   process_part : (c : CardState) (k : Command) (selecting : Bool) → Fine c (commands.process c k selecting)
   process_part c k selecting =
       let d = with_kept c (with_command c.kept k.incoming k.expected selecting) in
       moved c d (and_then (call_selected d calls.Process) commands.answered) refl refl
+      (λ names. laws.opened c.kept names k.incoming k.expected selecting)
       (then_part d (call_selected d calls.Process) commands.answered (selected_part calls.Process d) answered_part)
 
   refused_part : (c : CardState) → Fine c (commands.refused c)
@@ -149,7 +202,7 @@ module _ (laws : StepsGuarded) where
   choose_part : (owner : Owner) (k : Command) (c : CardState) → Fine c (commands.choose c owner k)
   choose_part owner k c =
       let d = with_selected c (Some owner) in
-      moved c d (commands.ask d k) refl refl (ask_part k d)
+      moved c d (commands.ask d k) refl refl (λ names. names) (ask_part k d)
 
   select_part : (c : CardState) (owner : Owner) (k : Command) → Fine c (commands.select c owner k)
   select_part c owner k =
@@ -165,24 +218,25 @@ module _ (laws : StepsGuarded) where
   perform_part : (k : Command) (c : CardState) → Fine c (commands.perform c k)
   perform_part k c =
       or_else c (commands.selected_by c k) (λ (i : Instance). commands.select c i.owner k) (commands.dispatch c k)
-      (λ i. select_part c i.owner k) (dispatch_part c k)
+      (λ i e. select_part c i.owner k) (λ e. dispatch_part c k)
 
   receive_part : (c : CardState) (k : Command) → Fine c (commands.receive c k)
   receive_part c k =
       then_part c (write apdu_buffer (buffer_of k) c) (λ c u. commands.perform c k)
-      (write_part apdu_buffer (buffer_of k) c) (λ d u. perform_part k d)
+      (write_part laws apdu_buffer (buffer_of k) c (buffer_is_global c)) (λ d u. perform_part k d)
 
   apdu_part : (c : CardState) (bytes : List ℕ) → Fine c (commands.apdu_command c bytes)
   apdu_part c bytes =
       or_else c (command_of bytes) (commands.receive c) (gives c (commands.status_alone wrong_length))
-      (receive_part c) (gives_part c (commands.status_alone wrong_length))
+      (λ k e. receive_part c k) (λ e. gives_part c (commands.status_alone wrong_length))
 
   reset_part : (c : CardState) → Fine c (commands.reset_command c)
   reset_part c =
       let d = with_selected c None in
       moved c d (and_then (clear events.Reset None d) (λ c u. clear events.Deselect None c)) refl refl
+      (λ names. names)
       (then_part d (clear events.Reset None d) (λ c u. clear events.Deselect None c)
-      (clear_part events.Reset None d) (λ e u. clear_part events.Deselect None e))
+      (clear_part laws events.Reset None d) (λ e u. clear_part laws events.Deselect None e))
 
   -- ---- an installation
 
@@ -191,51 +245,76 @@ module _ (laws : StepsGuarded) where
       let d = with_kept c (after_install c.kept (installs.succeeds c ended)) in
       let says = λ (after : CardState) (u : Unit {0}). gives after (installs.installed c owner ended) in
       moved c d (and_then (clear events.Deselect (Some owner.context) d) says) refl refl
+      (λ names. laws.over c.kept names (installs.succeeds c ended))
       (then_part d (clear events.Deselect (Some owner.context) d) says
-      (clear_part events.Deselect (Some owner.context) d)
+      (clear_part laws events.Deselect (Some owner.context) d)
       (λ e u. gives_part e (installs.installed c owner ended)))
 
-  called_part : (place : AppletPlace) (owner : Owner) (size : ℕ) (c : CardState)
-      → Fine c (and_then (installs.call_install c place owner size) (λ c ended. installs.settle c owner ended))
-  called_part place owner size c =
-      then_part c (installs.call_install c place owner size) (λ c ended. installs.settle c owner ended)
-      (method_part c owner.context owner (Loaded place.number place.install)
-      (Ref install_array ∷ Word 0 ∷ Word size ∷ [])) (settle_part owner)
+  module _ (place : AppletPlace) (owner : Owner) (whose : is_applets owner ≡ true) where
+    called_part : (size : ℕ) (c : CardState)
+        → Fine c (and_then (installs.call_install c place owner size) (λ c ended. installs.settle c owner ended))
+    called_part size c =
+        then_part c (installs.call_install c place owner size) (λ c ended. installs.settle c owner ended)
+        (method_part c owner.context owner (Loaded place.number place.install)
+        (Ref install_array ∷ Word 0 ∷ Word size ∷ []) (λ p. whose)) (settle_part owner)
 
-  install_as_part : (c : CardState) (place : AppletPlace) (owner : Owner) (applet instance incoming : List ℕ)
-      → Fine c (installs.install_as c place owner applet instance incoming)
-  install_as_part c place owner applet instance incoming =
-      let parameters = installs.parameters_of instance incoming in
-      let d = record c { numbers = owner.instance; kept = with_install c.kept owner applet } in
-      let words = installs.padded installs.install_size parameters in
-      let next = λ (c : CardState) (u : Unit {0}). and_then
-      (installs.call_install c place owner (length parameters))
-      (λ (c : CardState) (ended : Ended). installs.settle c owner ended) in
-      moved c d (and_then (write install_array words d) next) refl refl
-      (then_part d (write install_array words d) next (write_part install_array words d)
-      (λ e u. called_part place owner (length parameters) e))
+    install_as_part : is_instance_number owner.instance ≡ true → (c : CardState) (applet instance incoming : List ℕ)
+        → Fine c (installs.install_as c place owner applet instance incoming)
+    install_as_part numbered c applet instance incoming =
+        let parameters = installs.parameters_of instance incoming in
+        let d = record c { numbers = owner.instance; kept = with_install c.kept owner applet } in
+        let words = installs.padded installs.install_size parameters in
+        let next = λ (c : CardState) (u : Unit {0}). and_then
+        (installs.call_install c place owner (length parameters))
+        (λ (c : CardState) (ended : Ended). installs.settle c owner ended) in
+        moved c d (and_then (write install_array words d) next) refl refl
+        (λ names. laws.begun c.kept names owner applet whose numbered)
+        (then_part d (write install_array words d) next
+        (write_part laws install_array words d (install_is_global d)) (λ e u. called_part (length parameters) e))
 
+  -- an applet's package has a number from one on, and an instance that isn't refused one to 32
   accepted_part : (c : CardState) (place : AppletPlace) (applet instance incoming : List ℕ)
+      → (place.number == 0) ≡ false → nat_le most_instances c.numbers ≡ false
       → Fine c (installs.accepted c place applet instance incoming)
-  accepted_part c place applet instance incoming =
-      then_part c (commands.deselect c) (λ c u. installs.begin c place applet instance incoming) (deselect_part c)
-      (λ d u. install_as_part d place (installs.next_owner d place) applet instance incoming)
+  accepted_part c place applet instance incoming some few =
+      then_known c (commands.deselect c) (λ c u. installs.begin c place applet instance incoming)
+      (λ d. d.numbers ≡ c.numbers) (deselect_part c) (deselect_keeps_numbers c)
+      (λ d u same. install_as_part place (installs.next_owner d place) (ap not some)
+      (next_number_fits d.numbers (ap (nat_le most_instances) same ∙ few)) d applet instance incoming)
 
   install_at_part : (c : CardState) (applet instance incoming : List ℕ) (place : AppletPlace)
-      → Fine c (installs.install_at c applet instance incoming place)
-  install_at_part c applet instance incoming place =
+      → (place.number == 0) ≡ false → Fine c (installs.install_at c applet instance incoming place)
+  install_at_part c applet instance incoming place some =
       or_else c (installs.refusal_of c instance incoming) (λ fault. gives c (installs.Refused fault))
-      (installs.accepted c place applet instance incoming) (λ fault. gives_part c (installs.Refused fault))
-      (accepted_part c place applet instance incoming)
+      (installs.accepted c place applet instance incoming) (λ fault e. gives_part c (installs.Refused fault))
+      (λ e. accepted_part c place applet instance incoming some (not_refused_few c instance incoming e))
 
   install_part : (c : CardState) (applet instance incoming : List ℕ)
       → Fine c (installs.install_command c applet instance incoming)
   install_part c applet instance incoming =
       or_else c (installs.applet_of c applet) (installs.install_at c applet instance incoming)
-      (gives c (installs.Refused faults.UnknownApplet)) (install_at_part c applet instance incoming)
-      (gives_part c (installs.Refused faults.UnknownApplet))
+      (gives c (installs.Refused faults.UnknownApplet))
+      (λ place e. install_at_part c applet instance incoming place (place_has_number 0 c.world.bodies applet place e))
+      (λ e. gives_part c (installs.Refused faults.UnknownApplet))
 
   -- ---- whole commands
+
+  kept_apart : {A : Type 0} (c : CardState) (done : Option (Left A)) → Fine c done → IsApartCard c
+      → IfSome done (KeepsApart c)
+  kept_apart c None h p = tt
+  kept_apart c (Some l) h p = h.apart p
+
+  pub apdus_stay_apart : (c : CardState) → IsApartCard c → (bytes : List ℕ)
+      → IfSome (commands.apdu_command c bytes) (KeepsApart c)
+  apdus_stay_apart c p bytes = kept_apart c (commands.apdu_command c bytes) (apdu_part c bytes) p
+
+  pub installs_stay_apart : (c : CardState) → IsApartCard c → (applet instance incoming : List ℕ)
+      → IfSome (installs.install_command c applet instance incoming) (KeepsApart c)
+  installs_stay_apart c p applet instance incoming =
+      kept_apart c (installs.install_command c applet instance incoming) (install_part c applet instance incoming) p
+
+  pub resets_stay_apart : (c : CardState) → IsApartCard c → IfSome (commands.reset_command c) (KeepsApart c)
+  resets_stay_apart c p = kept_apart c (commands.reset_command c) (reset_part c) p
 
   whole : {A : Type 0} (c : CardState) (done : Option (Left A)) → Fine c done → IfSome done (IsGuardedCommand c)
   whole c None h = tt

@@ -1,16 +1,16 @@
 -- Accesses, one after the other: what was accessed then, and which objects change.
-use Rattle.std.proofs.Common.{◌≡◌, ◌⊎◌, ℕ, zero, suc, List, [], ◌∷◌, ◌++◌, Option, Some, None, inl, inr, refl, sym}
+use Rattle.std.proofs.Common.{◌≡◌, ℕ, zero, suc, List, [], ◌∷◌, ◌++◌, Some, inl, inr, refl, sym}
 use Rattle.std.proofs.Common.{ap, ◌∙◌, slice_get}
 use Rattle.std.proofs.lemmas.Option.{same_Some}
 use Rattle.jc_link.specs.Linked.{World}
-use Rattle.jc_machine.specs.Guarded.{ChangesAccessed, IsAccessed}
+use Rattle.jc_machine.specs.Guarded.{IsAccessed}
 use Rattle.jc_machine.specs.Machine.{Touch}
 use Rattle.jc_machine.specs.Natives.{KeepsObjects}
 use Rattle.jc_names.specs.declared.owner.Owner.{Owner}
-use Rattle.jc_store.specs.Heap.{Heap, Object, object_at}
+use Rattle.jc_store.specs.Heap.{Heap, Object}
 use Rattle.jc_store.specs.declared.kind.Kind.{Kind}
 use Rattle.jc_words.specs.Values.{TaggedValue}
-use Rattle.jc_card.specs.Accesses.{ChangesBy, IsGuardedCommand, KeepsPlain, Leads, LeavesObjects}
+use Rattle.jc_card.specs.Accesses.{ChangesBy, IsApartCard, IsGuardedCommand, KeepsApart, Leads, LeavesObjects}
 use Rattle.jc_card.specs.Accesses.Leads.{by_native, by_runtime, by_step, nowhere, onward}
 use Rattle.jc_card.specs.Card.{CardState}
 use Rattle.jc_card.specs.Parts.{Left}
@@ -78,26 +78,22 @@ accessed_before xs n o p kind owner a = record {
 
 -- ---- what changes
 
-pub record KeepsHeap (touches : List Touch) (before after : Heap TaggedValue) : Type 0 where
-  pub kept : KeepsObjects before after
-  pub changes : ChangesAccessed touches before after
-
-pub nothing_changes : (heap : Heap TaggedValue) → KeepsHeap [] heap heap
+pub nothing_changes : (heap : Heap TaggedValue) → ChangesBy [] heap heap
 nothing_changes heap = record {
-  kept = keeps_self heap;
-  changes = λ n o p e f.
+  objects = keeps_self heap;
+  components = λ n o p e f.
       inl (ap (λ (x : Object TaggedValue). x.cells) (same_Some p o (sym f ∙ e)));
 }
 
-pub changes_through : (a b c : Heap TaggedValue) (xs ys : List Touch) → KeepsHeap xs a b → KeepsHeap ys b c
-    → KeepsHeap (xs ++ ys) a c
-changes_through a b c xs ys first next = record {
-  kept = keeps_through a b c first.kept next.kept;
-  changes = λ n o p e f.
-      let q = first.kept n o e in
-      elim (next.changes n q.object p q.found f) [
+pub added_up : (a b c : Heap TaggedValue) (xs ys : List Touch) → ChangesBy xs a b → ChangesBy ys b c
+    → ChangesBy (xs ++ ys) a c
+added_up a b c xs ys first next = record {
+  objects = keeps_through a b c first.objects next.objects;
+  components = λ n o p e f.
+      let q = first.objects n o e in
+      elim (next.components n q.object p q.found f) [
         | inl same ↦
-            elim (first.changes n o q.object e q.found) [
+            elim (first.components n o q.object e q.found) [
               | inl was ↦ inl (same ∙ was)
               | inr accessed ↦ inr (accessed_first xs ys n o accessed)
             ]
@@ -107,63 +103,31 @@ changes_through a b c xs ys first next = record {
       ];
 }
 
-plain_kept : (xs : List Touch) (a b : Heap TaggedValue) → ChangesAccessed xs a b → KeepsPlain xs a b
-plain_kept xs a b changes n o p e f plain =
-    elim (changes n o p e f) [
-      | inl same ↦ inl same
-      | inr x ↦
-          inr (record {
-            place = x.place;
-            touch = x.touch;
-            listed = x.listed;
-            is = x.is;
-            allowed = x.allowed;
-            active = x.own plain;
-          })
-    ]
-
 -- ---- a command
 
-pub led : {w : World} {a b : Heap TaggedValue} {xs : List Touch} → Leads w a xs b → KeepsHeap xs a b
+pub led : {w : World} {a b : Heap TaggedValue} {xs : List Touch} → Leads w a xs b → ChangesBy xs a b
 led (nowhere heap) = nothing_changes heap
-led (by_step s m after is e guarded kept) = record { kept = kept; changes = guarded.changes after e }
-led (by_native call guarded) = record { kept = guarded.kept; changes = guarded.changes }
-led (by_runtime before after touches work) = record { kept = work.kept; changes = work.changes }
+led (by_step s m after is e guarded kept) = record { objects = kept; components = guarded.changes after e }
+led (by_native call guarded) = record { objects = guarded.kept; components = guarded.changes }
+led (by_runtime before after touches work) = record { objects = work.kept; components = work.changes }
 led (onward before between after touches more first next) =
-    changes_through before between after touches more (led first) (led next)
+    added_up before between after touches more (led first) (led next)
 
--- a part of a command: where its accesses lead, and that the packages stay
+-- a part of a command: where its accesses lead, that the packages stay, and that it keeps a card apart
 pub record IsPart {A : Type 0} (c : CardState) (l : Left A) : Type 0 where
   pub accesses : Leads c.world c.heap l.touches l.card.heap
   pub packages : l.card.world ≡ c.world
-
-pub changes_by : (xs : List Touch) (a b : Heap TaggedValue) → KeepsHeap xs a b → ChangesBy xs a b
-changes_by xs a b k = record {
-  objects = k.kept;
-  components = k.changes;
-  plain = plain_kept xs a b k.changes;
-}
+  pub apart : IsApartCard c → KeepsApart c l
 
 pub part_guarded : {A : Type 0} (c : CardState) (l : Left A) → IsPart c l → IsGuardedCommand c l
-part_guarded c l p = record {
-  accesses = p.accesses;
-  packages = p.packages;
-  changes =
-      changes_by l.touches c.heap l.card.heap (led p.accesses);
-}
+part_guarded c l p =
+    record { accesses = p.accesses; packages = p.packages; changes = led p.accesses }
 
--- ---- accesses behind others
+-- ---- a load
 
 pub nothing_accessed : (before after : Heap TaggedValue) → LeavesObjects before after → ChangesBy [] before after
-nothing_accessed before after leaves = changes_by [] before after (record {
-  kept = λ n o e. record { object = o; found = leaves n o e; kind = refl; owner = refl; size = refl };
-  changes = λ n o p e f.
+nothing_accessed before after leaves = record {
+  objects = λ n o e. record { object = o; found = leaves n o e; kind = refl; owner = refl; size = refl };
+  components = λ n o p e f.
       inl (ap (λ (x : Object TaggedValue). x.cells) (same_Some p o (sym f ∙ leaves n o e)));
-})
-
-pub added_up : (a b c : Heap TaggedValue) (xs ys : List Touch) → ChangesBy xs a b → ChangesBy ys b c
-    → ChangesBy (xs ++ ys) a c
-added_up a b c xs ys first next =
-    changes_by (xs ++ ys) a c (changes_through a b c xs ys
-    (record { kept = first.objects; changes = first.components })
-    (record { kept = next.objects; changes = next.components }))
+}

@@ -1,12 +1,22 @@
 -- Where the runtime's own accesses lead: what it writes, and what it clears.
-use Rattle.std.proofs.Common.{◌≡◌, ◌&&◌, ℕ, zero, suc, ◌+◌, List, [], ◌∷◌, ◌++◌, map, set, length, Option, Some, None}
+use Rattle.std.proofs.Common.{◌≡◌, ℕ, zero, suc, ◌+◌, List, [], ◌∷◌, ◌++◌, map, set, length, Option, Some, None}
 use Rattle.std.proofs.Common.{Bool, true, false, cond, refl, sym, ap, subst, ◌∙◌, inl, inr, ◌⊎◌, slice_get, IfSome}
+use Rattle.std.proofs.Common.{◌≢◌, IsSome}
+use Rattle.std.proofs.lemmas.Bool.{and_parts as both}
+use Rattle.std.proofs.lemmas.Option.{none-some}
+use Rattle.jc_machine.specs.Apart.{AddsFor, SparesPlain}
+use Rattle.jc_names.specs.declared.owner.Owner.{Owner}
+use Rattle.jc_store.specs.Heap.{is_same_event}
+use Rattle.jc_store.specs.declared.kind.Mark.TheVariants.{Plain}
+use Rattle.jc_card.proofs.Leading.{led}
+use Rattle.jc_card.proofs.LeadingCalls.{StepsGuarded}
+use Rattle.jc_card.proofs.Sparing.{spared}
+use Rattle.jc_card.specs.Accesses.{IsAccessedIn, IsApartCard, IsCleared, KeepsPlain}
 use Rattle.std.proofs.Common.{arith}
 use Rattle.std.proofs.Math.Seq.{length-sets, sets}
 use Rattle.std.proofs.lemmas.Option.{same_Some}
 use Rattle.std.specs.List.{AllByRecursion}
 use Rattle.std.specs.Option.{option_map_or}
-use Rattle.jc_cap_desc.specs.Shape.{Shape}
 use Rattle.jc_firewall.specs.Verdict.{runtime_context, verdict_of}
 use Rattle.jc_firewall.specs.declared.access.Access.TheVariants.{PutField, StoreComponent}
 use Rattle.jc_firewall.specs.declared.access.Facts.{Facts}
@@ -16,16 +26,16 @@ use Rattle.jc_machine.specs.Going.{facts_in}
 use Rattle.jc_machine.specs.Guarded.{ChangesAccessed, IsAccessed, are_allowed}
 use Rattle.jc_machine.specs.Lookup.{is_array}
 use Rattle.jc_machine.specs.Machine.{Touch}
-use Rattle.jc_machine.specs.Natives.{IsStill, KeepsObjects}
+use Rattle.jc_machine.specs.Natives.{KeepsObjects}
 use Rattle.jc_natives.specs.Cells.{put, put_all}
-use Rattle.jc_natives.specs.Meaning.{own_touch, write_access}
+use Rattle.jc_natives.specs.Meaning.{own_touch}
 use Rattle.jc_safety.specs.Zeroing.{zero_or_null, zeroed, zeroed_where}
 use Rattle.jc_store.specs.Heap.{Heap, Object, is_cleared_by, object_at, with_cell, with_object}
 use Rattle.jc_store.specs.declared.kind.ClearingEvent.{ClearingEvent}
 use Rattle.jc_words.specs.Values.{TaggedValue, Word}
 use Rattle.jc_card.proofs.Heaps.{all_put}
 use Rattle.jc_card.proofs.Leading.{IsPart}
-use Rattle.jc_card.specs.Accesses.{IsOwnAccess, IsOwnWork, Leads}
+use Rattle.jc_card.specs.Accesses.{IsOwnAccess, Leads}
 use Rattle.jc_card.specs.Accesses.Leads.{by_runtime, nowhere}
 use Rattle.jc_card.specs.Card.{CardState}
 use Rattle.jc_card.specs.Parts.{clear, clearing_touches, runtime_touch, write}
@@ -130,13 +140,80 @@ module _ (w : World) (heap : Heap TaggedValue) (number : ℕ) (values : List Tag
         changes = one_changes touches heap o p refl refl size number e (own_accessed touches 0 number o refl);
       }))
 
-pub write_part : (number : ℕ) (words : List ℕ) (c : CardState) → IfSome (write number words c) (IsPart c)
-write_part number words c = record {
-  accesses = put_leads c.world c.heap number (map Word words) (object_at c.heap number) refl;
-  packages = refl;
-}
+-- no object is added where as many are there
+set_none : {A : Type 0} (xs : List A) (k i : ℕ) (x : A) → slice_get xs i ≡ None → slice_get (set xs k x) i ≡ None
+set_none [] k i x e = refl
+set_none (y ∷ xs) zero zero x e = absurd cc
+set_none (y ∷ xs) zero (suc i) x e = e
+set_none (y ∷ xs) (suc k) zero x e = absurd cc
+set_none (y ∷ xs) (suc k) (suc i) x e = set_none xs k i x e
+
+none_added : (owner : Owner) (before after : Heap TaggedValue)
+    → ((n : ℕ) → object_at before n ≡ None → object_at after n ≡ None) → AddsFor owner before after
+none_added owner before after none n o e f = absurd (none-some o (sym (none n f) ∙ e))
+
+one_set : (heap : Heap TaggedValue) (number : ℕ) (p : Object TaggedValue) (n : ℕ) → object_at heap n ≡ None
+    → object_at (with_object heap number p) n ≡ None
+one_set heap zero p n e = e
+one_set heap (suc k) p zero e = refl
+one_set heap (suc k) p (suc i) e = set_none heap k i p e
+
+none_put : (heap : Heap TaggedValue) (number : ℕ) (values : List TaggedValue) (found : Option (Object TaggedValue))
+    → object_at heap number ≡ found → (n : ℕ) → object_at heap n ≡ None
+    → object_at (put_all heap number 0 values) n ≡ None
+none_put heap number values None e n f =
+    ap (λ (h : Heap TaggedValue). object_at h n) (nothing_put heap number 0 values e) ∙ f
+none_put heap number values (Some o) e n f =
+    ap (λ (h : Heap TaggedValue). object_at h n) (all_put heap number 0 values o e)
+    ∙ one_set heap number (record { kind = o.kind; owner = o.owner; cells = sets o.cells 0 values }) n f
+
+-- an object that isn't plain is accessed
+one_spared : (heap : Heap TaggedValue) (number : ℕ) (found : Option (Object TaggedValue))
+    → object_at heap number ≡ found → ((o : Object TaggedValue) → object_at heap number ≡ Some o → o.kind.mark ≢ Plain)
+    → AllByRecursion (SparesPlain heap) (option_map_or (λ object. own_touch number object ∷ []) found [])
+one_spared heap number None e other = tt
+one_spared heap number (Some o) e other = (λ runtime q f. other q f, tt)
+
+-- some applet's owner
+abbrev any_owner : Owner
+any_owner = record { context = 1; instance = 1 }
+
+module _ (laws : StepsGuarded) where
+  pub write_part : (number : ℕ) (words : List ℕ) (c : CardState)
+      → (IsApartCard c → (o : Object TaggedValue) → object_at c.heap number ≡ Some o → o.kind.mark ≢ Plain)
+      → IfSome (write number words c) (IsPart c)
+  write_part number words c other =
+      let after = put_all c.heap number 0 (map Word words) in
+      let touches = runtime_touch c.heap number in
+      let leads = put_leads c.world c.heap number (map Word words) (object_at c.heap number) refl in
+      record {
+        accesses = leads;
+        packages = refl;
+        apart = λ p. record {
+          card = record {
+            packages = p.packages;
+            objects = laws.apart_objects c.heap after any_owner p.objects (led leads).objects refl
+                (none_added any_owner c.heap after
+                (none_put c.heap number (map Word words) (object_at c.heap number) refl));
+            instances = p.instances;
+          };
+          plain = spared touches c.heap after (led leads).components
+              (one_spared c.heap number (object_at c.heap number) refl (other p));
+        };
+      }
 
 -- ---- what is cleared
+
+has_event : (event : ClearingEvent) (context : Option ℕ) (o : Object TaggedValue)
+    → is_cleared_by event context o ≡ true → IsSome o.kind.clears
+has_event event context o h =
+    by_clears o.kind.clears (both (option_map_or (is_same_event event) o.kind.clears false) _ h).0
+  where
+    by_clears : (clears : Option ClearingEvent) → option_map_or (is_same_event event) clears false ≡ true
+        → IsSome clears
+    by_clears None h = absurd cc
+    by_clears (Some e) h = tt
+
 
 module _ (w : World) (event : ClearingEvent) (context : Option ℕ) where
   abbrev test : Object TaggedValue → Bool
@@ -275,7 +352,60 @@ module _ (w : World) (event : ClearingEvent) (context : Option ℕ) where
         changes = changes heap;
       })
 
-pub clear_part : (event : ClearingEvent) (context : Option ℕ) (c : CardState)
+  -- of a plain object that changed an event clears it
+  cleared_only : (heap : Heap TaggedValue)
+      → KeepsPlain (clearing_touches event context 1 heap) heap (zeroed_where test heap)
+  cleared_only heap zero o p e f plain = absurd cc
+  cleared_only heap (suc n) o p e f plain =
+      by_test (test o) refl (same_Some p (one (test o) o) (sym f ∙ got_cleared heap n o e))
+    where
+      abbrev touches : List Touch
+      touches = clearing_touches event context 1 heap
+
+      by_runtime : test o ≡ true → IsAccessedIn touches (suc n) runtime_context
+      by_runtime t =
+          let at : 1 + n ≡ suc n = omega arith in
+          let l = subst (λ (k : ℕ). IsListed touches (own_touch k o)) at (listed heap 1 n o e t) in record {
+            place = l.place;
+            touch = own_touch (suc n) o;
+            listed = l.there;
+            is = refl;
+            allowed = refl;
+            active = refl;
+          }
+
+      by_test : (b : Bool) → test o ≡ b → p ≡ one b o
+          → (p.cells ≡ o.cells) ⊎ IsAccessedIn touches (suc n) o.owner.context ⊎ IsCleared touches (suc n) o
+      by_test true t is =
+          inr (inr (record { transient = has_event event context o t; by_runtime = by_runtime t }))
+      by_test false t is = inl (ap (λ (x : Object TaggedValue). x.cells) is)
+
+  none_cleared : (heap : Heap TaggedValue) (n : ℕ) → slice_get heap n ≡ None
+      → slice_get (zeroed_where test heap) n ≡ None
+  none_cleared [] n e = refl
+  none_cleared (x ∷ heap) zero e = absurd cc
+  none_cleared (x ∷ heap) (suc n) e = none_cleared heap n e
+
+  none_cleared_at : (heap : Heap TaggedValue) (n : ℕ) → object_at heap n ≡ None
+      → object_at (zeroed_where test heap) n ≡ None
+  none_cleared_at heap zero e = refl
+  none_cleared_at heap (suc n) e = none_cleared heap n e
+
+pub clear_part : (laws : StepsGuarded) (event : ClearingEvent) (context : Option ℕ) (c : CardState)
     → IfSome (clear event context c) (IsPart c)
-clear_part event context c =
-    record { accesses = clear_leads c.world event context c.heap; packages = refl }
+clear_part laws event context c =
+    let after = zeroed_where (is_cleared_by event context) c.heap in
+    let leads = clear_leads c.world event context c.heap in
+    record {
+      accesses = leads;
+      packages = refl;
+      apart = λ p. record {
+        card = record {
+          packages = p.packages;
+          objects = laws.apart_objects c.heap after any_owner p.objects (led leads).objects refl
+              (none_added any_owner c.heap after (none_cleared_at c.world event context c.heap));
+          instances = p.instances;
+        };
+        plain = cleared_only c.world event context c.heap;
+      };
+    }

@@ -4,8 +4,11 @@ mod AppletCalls
 mod Doing
 mod Clearing
 mod Selecting
+mod SetApart
+mod Sparing
 mod Thrown
 mod Making
+mod Owners
 mod Counting
 mod Loading
 mod Ends

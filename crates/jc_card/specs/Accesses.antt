@@ -4,8 +4,8 @@
 use Rattle.std.specs.Prelude.{◌≡◌, ◌⊎◌, ℕ, true, false, List, [], ◌++◌, Option, Some, None, IsSome, slice_get}
 use Rattle.std.specs.List.{AllByRecursion}
 use Rattle.jc_firewall.specs.Verdict.{runtime_context, verdict_of}
+use Rattle.jc_link.specs.Built.{IsBuilt}
 use Rattle.jc_link.specs.Linked.{World}
-use Rattle.jc_machine.specs.Accepted.{IsAccepted}
 use Rattle.jc_machine.specs.Apart.{IsSetApart}
 use Rattle.jc_machine.specs.Going.{facts_in}
 use Rattle.jc_machine.specs.Guarded.{ChangesAccessed, IsGuarded, are_allowed, is_allowed, machine_of}
@@ -92,10 +92,10 @@ KeepsPlain touches before after = (number : ℕ) (o p : Object TaggedValue) → 
     → object_at after number ≡ Some p → o.kind.mark ≡ Plain
     → (p.cells ≡ o.cells) ⊎ IsAccessedIn touches number o.owner.context ⊎ IsCleared touches number o
 
--- a card on which the runtime's name is its own: its packages are accepted, no code of theirs runs as the runtime, and
--- the instances are of their contexts
+-- a card on which the runtime's name is its own: its packages are linked, no code of theirs runs as the runtime, and the
+-- instances are of their contexts
 pub record IsApartCard (c : CardState) : Type 0 where
-  pub packages : IsAccepted c.world
+  pub packages : IsBuilt c.world.shapes
   pub objects : IsSetApart c.heap
   pub instances : names_applets c.kept ≡ true
 

@@ -23,7 +23,7 @@ mod selection;
 mod status;
 mod writing;
 
-pub use accesses::{accesses_add_up, commands_are_guarded};
+pub use accesses::{accesses_add_up, commands_are_guarded, commands_stay_apart};
 pub use answer::{Answer, MOST_SENT};
 pub use card::Card;
 pub use fault::{CardFault, InstallFault};

@@ -1,3 +1,4 @@
+use Rattle.jc_natives.specs.Apart.{names_applets}
 use Rattle.jc_card.proofs.Guarding.{apdus_guarded, installs_guarded, loads_leave, resets_guarded}
 use Rattle.jc_card.proofs.accesses.commands_are_guarded.Goals as goal
 
@@ -6,6 +7,14 @@ returns-clause-apdu c = apdus_guarded (record {
   members = c.members_are_guarded.ensures;
   steps = c.accesses_are_guarded.ensures.guarded;
   kept = c.accesses_are_guarded.ensures.kept;
+  apart_members = c.members_stay_apart.ensures.members;
+  apart_steps = c.steps_stay_apart.ensures.steps names_applets;
+  apart_objects = c.steps_stay_apart.ensures.objects;
+  api = c.api_runs_its_own_code.ensures;
+  begun = c.members_stay_apart.ensures.begun;
+  over = c.members_stay_apart.ensures.over;
+  opened = c.members_stay_apart.ensures.opened;
+  closed = c.members_stay_apart.ensures.closed;
 })
 
 pub returns-clause-install : goal.returns-clause-install
@@ -13,6 +22,14 @@ returns-clause-install c = installs_guarded (record {
   members = c.members_are_guarded.ensures;
   steps = c.accesses_are_guarded.ensures.guarded;
   kept = c.accesses_are_guarded.ensures.kept;
+  apart_members = c.members_stay_apart.ensures.members;
+  apart_steps = c.steps_stay_apart.ensures.steps names_applets;
+  apart_objects = c.steps_stay_apart.ensures.objects;
+  api = c.api_runs_its_own_code.ensures;
+  begun = c.members_stay_apart.ensures.begun;
+  over = c.members_stay_apart.ensures.over;
+  opened = c.members_stay_apart.ensures.opened;
+  closed = c.members_stay_apart.ensures.closed;
 })
 
 pub returns-clause-reset : goal.returns-clause-reset
@@ -20,6 +37,14 @@ returns-clause-reset c = resets_guarded (record {
   members = c.members_are_guarded.ensures;
   steps = c.accesses_are_guarded.ensures.guarded;
   kept = c.accesses_are_guarded.ensures.kept;
+  apart_members = c.members_stay_apart.ensures.members;
+  apart_steps = c.steps_stay_apart.ensures.steps names_applets;
+  apart_objects = c.steps_stay_apart.ensures.objects;
+  api = c.api_runs_its_own_code.ensures;
+  begun = c.members_stay_apart.ensures.begun;
+  over = c.members_stay_apart.ensures.over;
+  opened = c.members_stay_apart.ensures.opened;
+  closed = c.members_stay_apart.ensures.closed;
 })
 
 pub returns-clause-load : goal.returns-clause-load

@@ -1,0 +1,160 @@
+-- Whose an instance is, which number it has, and that the runtime's arrays aren't plain.
+use Rattle.std.proofs.Common.{◌≡◌, ℕ, Bool, true, false, cond, List, [], Option, Some, None, IfSome, refl, sym, ◌∙◌}
+use Rattle.std.proofs.Common.{subst, ◌∷◌, suc}
+use Rattle.std.specs.Option.{option_and_then, option_map, option_map_or}
+use Rattle.jc_machine.specs.Machine.{Touch}
+use Rattle.jc_names.specs.declared.name.MethodName.{MethodName}
+use Rattle.jc_names.specs.declared.owner.Owner.{Owner}
+use Rattle.jc_machine.specs.Runtime.{apdu_buffer, install_array}
+use Rattle.jc_natives.specs.declared.kept.Instance.{Instance}
+use Rattle.jc_safety.specs.Starting.{method_for}
+use Rattle.jc_store.specs.Heap.{Object, object_at}
+use Rattle.jc_store.specs.declared.kind.ClearingEvent.TheVariants as events
+use Rattle.jc_words.specs.Values.{Ref, TaggedValue}
+use Rattle.jc_card.specs.Card.{CardState, selected_instance, with_selected}
+use Rattle.jc_card.specs.Commands as commands
+use Rattle.jc_card.specs.Install as installs
+use Rattle.jc_card.specs.Parts.{Ended, Left, Normally, and_then, arguments_of, behind, call_applet, call_method}
+use Rattle.jc_card.specs.Parts.{call_on}
+use Rattle.jc_card.specs.Parts.{call_selected, clear, gives, member_called}
+use Rattle.jc_card.specs.declared.calls.AppletCall.{AppletCall}
+use Rattle.jc_card.specs.declared.calls.AppletCall.TheVariants as calls
+use Rattle.jc_card.specs.declared.fault.InstallFault.{InstallFault}
+use Rattle.jc_card.specs.declared.fault.InstallFault.TheVariants as faults
+use Rattle.jc_card.specs.declared.places.AppletPlace.{AppletPlace}
+use Rattle.std.proofs.Common.{◌≢◌, ap, nat_le, ◌==◌, arith}
+use Rattle.std.proofs.lemmas.Bool.{and_parts, le-leb, leb-false}
+use Rattle.std.proofs.lemmas.Option.{same_Some}
+use Rattle.std.specs.List.{find, list_all}
+use Rattle.jc_cap_data.specs.declared.applets.Applet.{Applet}
+use Rattle.jc_link.specs.Linked.{LinkedBody}
+use Rattle.jc_machine.specs.Apart.{is_applets}
+use Rattle.jc_machine.specs.Runtime.{most_instances}
+use Rattle.jc_machine.specs.Step.{Called, CallEnd, Gave, RanOut, Threw, WasStuck}
+use Rattle.jc_natives.specs.Apart.{installs_applet, names_applets}
+use Rattle.jc_natives.specs.Kept.{Kept, instance_of, is_instance_number}
+use Rattle.jc_store.specs.declared.kind.Mark.TheVariants.{Plain}
+use Rattle.jc_card.specs.Accesses.{IsApartCard}
+use Rattle.jc_card.specs.Parts.{call_applet, ended, ended_call}
+
+-- ---- whose an instance is
+
+found_passes : {A : Type 0} (test wanted : A → Bool) (xs : List A) (x : A) → list_all test xs ≡ true
+    → find wanted xs ≡ Some x → test x ≡ true
+found_passes test wanted [] x all e = absurd cc
+found_passes {A} test wanted (y ∷ xs) x all e =
+    by_first (wanted y) (and_parts (test y) (list_all test xs) all) e
+  where
+    by_first : (b : Bool) → (test y ≡ true) × (list_all test xs ≡ true) → cond b (Some y) (find wanted xs) ≡ Some x
+        → test x ≡ true
+    by_first true parts f = subst (λ (z : A). test z ≡ true) (same_Some y x f) parts.0
+    by_first false parts f = found_passes test wanted xs x parts.1 f
+
+pub selected_owner : (k : Kept) (selected : Option Owner) (i : Instance) → names_applets k ≡ true
+    → option_and_then (instance_of k.instances) selected ≡ Some i → is_applets i.owner ≡ true
+selected_owner k None i names e = absurd cc
+selected_owner k (Some owner) i names e =
+    found_passes (λ (i : Instance). is_applets i.owner) _ k.instances i
+    (and_parts (list_all (λ (i : Instance). is_applets i.owner) k.instances)
+    (option_map_or installs_applet k.installing true) names).0 e
+
+-- ---- the runtime's arrays aren't plain
+
+pub buffer_is_global : (c : CardState) → IsApartCard c → (o : Object TaggedValue) → object_at c.heap apdu_buffer ≡ Some o
+    → o.kind.mark ≢ Plain
+buffer_is_global c p o e plain =
+    let own = p.objects.own.1.1.1.1.1.1.1.1.1.1.1.0 in
+    let same = same_Some own.object o (sym own.found ∙ e) in
+    let is = sym own.mark ∙ ap (λ (x : Object TaggedValue). x.kind.mark) same ∙ plain in
+    absurd cc
+
+pub install_is_global : (c : CardState) → IsApartCard c → (o : Object TaggedValue)
+    → object_at c.heap install_array ≡ Some o → o.kind.mark ≢ Plain
+install_is_global c p o e plain =
+    let own = p.objects.own.1.1.1.1.1.1.1.1.1.1.1.1.0 in
+    let same = same_Some own.object o (sym own.found ∙ e) in
+    let is = sym own.mark ∙ ap (λ (x : Object TaggedValue). x.kind.mark) same ∙ plain in
+    absurd cc
+
+-- ---- numbers
+
+-- a package with applets has a number from one on
+pub place_has_number : (before : ℕ) (bodies : List LinkedBody) (aid : List ℕ) (place : AppletPlace)
+    → installs.applet_from (suc before) bodies aid ≡ Some place → (place.number == 0) ≡ false
+place_has_number before [] aid place e = absurd cc
+place_has_number before (body ∷ bodies) aid place e = by_row (installs.applet_in aid body) e
+  where
+    by_row : (row : Option Applet)
+        → option_map_or (λ (a : Applet). Some (record { number = suc before; install = a.install })) row
+        (installs.applet_from (suc (suc before)) bodies aid) ≡ Some place → (place.number == 0) ≡ false
+    by_row None f = place_has_number (suc before) bodies aid place f
+    by_row (Some a) f =
+        subst (λ (x : AppletPlace). (x.number == 0) ≡ false)
+        (same_Some (record { number = suc before; install = a.install }) place f) refl
+
+pub next_number_fits : (numbers : ℕ) → nat_le most_instances numbers ≡ false → is_instance_number (suc numbers) ≡ true
+next_number_fits numbers e =
+    let less = leb-false most_instances numbers e in
+    le-leb (suc numbers) 32 (omega (arith, less))
+
+none_refused : (condition : Bool) (fault : InstallFault) (otherwise : Option InstallFault)
+    → installs.refused_if condition fault otherwise ≡ None → (condition ≡ false) × (otherwise ≡ None)
+none_refused true fault otherwise e = absurd cc
+none_refused false fault otherwise e = (refl, e)
+
+pub not_refused_few : (c : CardState) (instance incoming : List ℕ) → installs.refusal_of c instance incoming ≡ None
+    → nat_le most_instances c.numbers ≡ false
+not_refused_few c instance incoming e =
+    let first = none_refused _ _ _ e in
+    let second = none_refused _ _ _ first.1 in
+    (none_refused (nat_le most_instances c.numbers) faults.NoInstance None second.1).0
+
+-- parts that use no number of an instance
+abbrev SameNumbers : {A : Type 0} → CardState → Option (Left A) → Type 0
+SameNumbers c done = IfSome done (λ l. l.card.numbers ≡ c.numbers)
+
+ended_numbers : (c : CardState) (touches : List Touch) (ends : CallEnd Kept)
+    → SameNumbers c (ended_call c touches ends)
+ended_numbers c touches (Gave m value) = refl
+ended_numbers c touches (Threw m object) = refl
+ended_numbers c touches (RanOut m) = refl
+ended_numbers c touches WasStuck = tt
+
+call_numbers : (c : CardState) (called : Called Kept) → SameNumbers c (ended c called)
+call_numbers c called = ended_numbers c called.touches called.ends
+
+on_numbers : (c : CardState) (i : Instance) (call : AppletCall) (method : Option MethodName)
+    → SameNumbers c (option_and_then
+    (λ method. call_method c i.owner.context i.owner method (Ref i.object ∷ arguments_of call)) method)
+on_numbers c i call None = tt
+on_numbers c i call (Some method) = call_numbers c _
+
+applet_numbers : (c : CardState) (i : Instance) (call : AppletCall) (object : Option (Object TaggedValue))
+    → SameNumbers c (option_and_then (call_on c i call) object)
+applet_numbers c i call None = tt
+applet_numbers c i call (Some object) = on_numbers c i call (method_for c.world.shapes object (member_called call))
+
+called_numbers : (c : CardState) (call : AppletCall) (i : Option Instance)
+    → SameNumbers c (option_map_or (λ i. call_applet c i call) i (gives c (Normally None)))
+called_numbers c call None = refl
+called_numbers c call (Some i) = applet_numbers c i call (object_at c.heap i.object)
+
+unselected_numbers : (c : CardState) (selected : Option Owner)
+    → SameNumbers c (option_map_or
+    (λ (owner : Owner). clear events.Deselect (Some owner.context) (with_selected c None)) selected (gives c tt))
+unselected_numbers c None = refl
+unselected_numbers c (Some owner) = refl
+
+then_numbers : (c : CardState) (done : Option (Left Ended)) → SameNumbers c done
+    → SameNumbers c (and_then done (λ c ended. commands.unselect c))
+then_numbers c None h = tt
+then_numbers c (Some l) h = behind_numbers (commands.unselect l.card) (unselected_numbers l.card l.card.selected)
+  where
+    behind_numbers : (next : Option (Left (Unit {0}))) → SameNumbers l.card next
+        → SameNumbers c (option_map (behind l.touches) next)
+    behind_numbers None k = tt
+    behind_numbers (Some m) k = k ∙ h
+
+pub deselect_keeps_numbers : (c : CardState) → SameNumbers c (commands.deselect c)
+deselect_keeps_numbers c =
+    then_numbers c (call_selected c calls.Deselect) (called_numbers c calls.Deselect (selected_instance c))

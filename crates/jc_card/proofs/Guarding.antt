@@ -300,20 +300,20 @@ module _ (laws : StepsGuarded) where
   -- ---- whole commands
 
   kept_apart : {A : Type 0} (c : CardState) (done : Option (Left A)) → Fine c done → IsApartCard c
-      → IfSome done (KeepsApart c)
+      → IfSome done (λ l. KeepsApart c l.touches l.card)
   kept_apart c None h p = tt
   kept_apart c (Some l) h p = h.apart p
 
   pub apdus_stay_apart : (c : CardState) → IsApartCard c → (bytes : List ℕ)
-      → IfSome (commands.apdu_command c bytes) (KeepsApart c)
+      → IfSome (commands.apdu_command c bytes) (λ l. KeepsApart c l.touches l.card)
   apdus_stay_apart c p bytes = kept_apart c (commands.apdu_command c bytes) (apdu_part c bytes) p
 
   pub installs_stay_apart : (c : CardState) → IsApartCard c → (applet instance incoming : List ℕ)
-      → IfSome (installs.install_command c applet instance incoming) (KeepsApart c)
+      → IfSome (installs.install_command c applet instance incoming) (λ l. KeepsApart c l.touches l.card)
   installs_stay_apart c p applet instance incoming =
       kept_apart c (installs.install_command c applet instance incoming) (install_part c applet instance incoming) p
 
-  pub resets_stay_apart : (c : CardState) → IsApartCard c → IfSome (commands.reset_command c) (KeepsApart c)
+  pub resets_stay_apart : (c : CardState) → IsApartCard c → IfSome (commands.reset_command c) (λ l. KeepsApart c l.touches l.card)
   resets_stay_apart c p = kept_apart c (commands.reset_command c) (reset_part c) p
 
   whole : {A : Type 0} (c : CardState) (done : Option (Left A)) → Fine c done → IfSome done (IsGuardedCommand c)

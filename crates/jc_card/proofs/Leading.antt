@@ -117,7 +117,7 @@ led (onward before between after touches more first next) =
 pub record IsPart {A : Type 0} (c : CardState) (l : Left A) : Type 0 where
   pub accesses : Leads c.world c.heap l.touches l.card.heap
   pub packages : l.card.world ≡ c.world
-  pub apart : IsApartCard c → KeepsApart c l
+  pub apart : IsApartCard c → KeepsApart c l.touches l.card
 
 pub part_guarded : {A : Type 0} (c : CardState) (l : Left A) → IsPart c l → IsGuardedCommand c l
 part_guarded c l p =

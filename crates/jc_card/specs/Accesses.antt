@@ -99,10 +99,10 @@ pub record IsApartCard (c : CardState) : Type 0 where
   pub objects : IsSetApart c.heap
   pub instances : names_applets c.kept ≡ true
 
--- it stays so behind a command, of which plain objects are kept
-pub record KeepsApart {A : Type 0} (c : CardState) (l : Left A) : Type 0 where
-  pub card : IsApartCard l.card
-  pub plain : KeepsPlain l.touches c.heap l.card.heap
+-- behind accesses it stays so on a card, and plain objects are kept
+pub record KeepsApart (c : CardState) (touches : List Touch) (after : CardState) : Type 0 where
+  pub card : IsApartCard after
+  pub plain : KeepsPlain touches c.heap after.heap
 
 -- ---- a load
 

@@ -46,10 +46,12 @@ pub fn commands_are_guarded()
 /// So of plain objects the components change only by accesses in their own contexts, or by clearing. It does nothing.
 pub fn commands_stay_apart()
     ensures new { (limits : Limits) (binding : Bound) → HasNoClash binding → IsApartCard (new_card limits binding) }
-    ensures apdu { (c : CardState) → IsApartCard c → (bytes : List ℕ) → IfSome (apdu_command c bytes) (KeepsApart c) }
+    ensures apdu { (c : CardState) → IsApartCard c → (bytes : List ℕ)
+        → IfSome (apdu_command c bytes) (λ l. KeepsApart c l.touches l.card) }
     ensures install { (c : CardState) → IsApartCard c → (applet instance incoming : List ℕ)
-        → IfSome (install_command c applet instance incoming) (KeepsApart c) }
-    ensures reset { (c : CardState) → IsApartCard c → IfSome (reset_command c) (KeepsApart c) }
+        → IfSome (install_command c applet instance incoming) (λ l. KeepsApart c l.touches l.card) }
+    ensures reset { (c : CardState) → IsApartCard c
+        → IfSome (reset_command c) (λ l. KeepsApart c l.touches l.card) }
     ensures load { (c after : CardState) (image certificate : List ℕ) (result : Result ℕ LoadFault) → IsApartCard c
         → IsLoad c image certificate result after → IsApartCard after }
 {

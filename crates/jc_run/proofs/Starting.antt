@@ -2,6 +2,7 @@
 use Rattle.std.proofs.Common.{◌≡◌, ℕ, List, [], Option, Some, Bool, true, false, Result, Ok, Err, ◌↔◌, rules, refl}
 use Rattle.std.proofs.Common.{sym, ◌∙◌}
 use Rattle.jc_api.specs.Bound.{Bound}
+use Rattle.jc_api.specs.NoClash.{HasNoClash}
 use Rattle.jc_card.specs.New.{are_limits, new_card}
 use Rattle.jc_card.specs.declared.fault.CardFault.{CardFault}
 use Rattle.jc_card.specs.declared.fault.CardFault.TheVariants as cards
@@ -23,7 +24,7 @@ limits_fit false result made told is other = absurd (other (sym is ∙ told refl
 
 module _ (laws : Laws) (images certificates : List ℕ → List ℕ → Type 0) (limits : Limits) (binding : Bound)
     (script before : List ℕ) (now : Option (List ℕ)) {A : Type 0} (result : Result A CardFault)
-    (told : (result ≡ Err cards.BadLimits) ↔ (are_limits limits ≡ false)) where
+    (told : (result ≡ Err cards.BadLimits) ↔ (are_limits limits ≡ false)) (clear : HasNoClash binding) where
   pub made_runs : (card : A) (end : ScriptEnd) → result ≡ Ok card
       → PlaysOn images certificates 1 script (new_card limits binding) before now end
       → HasRun images certificates limits binding script before now end
@@ -34,6 +35,7 @@ module _ (laws : Laws) (images certificates : List ℕ → List ℕ → Type 0) 
       responses =
           run_of images certificates p.plays;
       accesses = all_guarded laws images certificates;
+      apart = laws.new limits binding clear;
     };
     now_is = p.now_is;
   }
@@ -45,6 +47,7 @@ module _ (laws : Laws) (images certificates : List ℕ → List ℕ → Type 0) 
         none_done images certificates (commands_in (script_commands script)) (new_card limits binding) [] end
         (λ e. absurd (other e)) (λ e. refl);
     accesses = all_guarded laws images certificates;
+    apart = laws.new limits binding clear;
   }
 
   pub not_made : (fault : CardFault) → result ≡ Err fault → now ≡ Some before

@@ -4,7 +4,7 @@
 use Rattle.std.specs.Prelude.{◌≡◌, List, [], ◌∷◌, ◌++◌, ℕ, Option, IfSome, map}
 use Rattle.std.specs.Option.{option_map_or}
 use Rattle.jc_api.specs.Bound.{Bound}
-use Rattle.jc_card.specs.Accesses.{ChangesBy, IsGuardedCommand, LeavesObjects}
+use Rattle.jc_card.specs.Accesses.{ChangesBy, IsApartCard, IsGuardedCommand, KeepsApart, LeavesObjects}
 use Rattle.jc_card.specs.Card.{CardState}
 use Rattle.jc_card.specs.Commands.{apdu_command, reset_command}
 use Rattle.jc_card.specs.Install.{install_command}
@@ -48,13 +48,17 @@ IsGuarded c (Install applet instance incoming) after =
 IsGuarded c (Apdu bytes) after = IfSome (apdu_command c bytes) (IsGuardedCommand c)
 IsGuarded c Reset after = IfSome (reset_command c) (IsGuardedCommand c)
 
--- of each command on each card, and of each run from each card on
+-- of each command on each card, and of each run from each card on. A run from a card on which the runtime's name is its
+-- own leaves such a card, and plain objects change in their own contexts alone, or by clearing
 pub record AreGuarded (images certificates : List ℕ → List ℕ → Type 0) : Type 0 where
   pub commands : (c : CardState) (command : ScriptCommand) (answer : Answered) (after : CardState)
       → IsAnswered images certificates c command answer after → IsGuarded c command after
   pub runs : (commands : List ScriptCommand) (c : CardState) (answers : List Answered) (touches : List Touch)
       (after : CardState) → IsCardRun images certificates commands c answers touches after
       → ChangesBy touches c.heap after.heap
+  pub apart : (commands : List ScriptCommand) (c : CardState) (answers : List Answered) (touches : List Touch)
+      (after : CardState) → IsApartCard c → IsCardRun images certificates commands c answers touches after
+      → KeepsApart c touches after
 
 -- ---- a script
 
@@ -84,10 +88,11 @@ pub record IsDone (images certificates : List ℕ → List ℕ → Type 0) (comm
   pub lines : written ≡ answer_lines answers ++ part
   pub whole : (end ≡ NotWritten → ⊥) → part ≡ []
 
--- the theorem: the responses are those of the defensive machine on a new card; and each access is one that the firewall
--- allows, or is denied, throws and changes nothing
+-- the theorem: the responses are those of the defensive machine on a new card; each access is one that the firewall
+-- allows, or is denied, throws and changes nothing; and on that card the runtime's name is its own
 pub record IsSimulated (images certificates : List ℕ → List ℕ → Type 0) (limits : Limits) (binding : Bound)
     (script written : List ℕ) (end : ScriptEnd) : Type 0 where
   pub responses : IsDone images certificates (commands_in (script_commands script)) (new_card limits binding) written
       end
   pub accesses : AreGuarded images certificates
+  pub apart : IsApartCard (new_card limits binding)

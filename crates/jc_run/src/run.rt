@@ -17,7 +17,7 @@ use crate::command::perform;
 use crate::fault::ScriptFault;
 use crate::writing::write_answer;
 use jc_api::Binding;
-use jc_card::{Card, Limits, accesses_add_up, commands_are_guarded};
+use jc_card::{Card, Limits, accesses_add_up, commands_are_guarded, commands_stay_apart};
 use jc_packages::{PackageSource, SourceFault};
 use jc_script::{MOST_LINES, NextLine, ScriptCommand, ScriptLine, ScriptReader, said_by};
 use std::alloc::Global;
@@ -207,7 +207,9 @@ pub fn run_script<R: Read, W: Write, S: PackageSource>(
     ensures same_certificates { HoldSame (S.holds_certificate source.old) (S.holds_certificate source.new) }
 {
     commands_are_guarded();
+    commands_stay_apart();
     accesses_add_up();
+    binding.has_no_clash();
     let mut card = Card::new(alloc, limits, binding)?;
     play(alloc, reader, writer, source, &mut card)
 }

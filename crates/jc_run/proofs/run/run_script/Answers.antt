@@ -12,9 +12,16 @@ returns-clause-run g c = λ bytes before is known.
       install = c.commands_are_guarded.ensures.install;
       reset = c.commands_are_guarded.ensures.reset;
       load = c.commands_are_guarded.ensures.load;
+      new = c.commands_stay_apart.ensures.new;
+      apart_apdu = c.commands_stay_apart.ensures.apdu;
+      apart_install = c.commands_stay_apart.ensures.install;
+      apart_reset = c.commands_stay_apart.ensures.reset;
+      apart_load = c.commands_stay_apart.ensures.load;
+      plain = c.accesses_add_up.ensures.plain;
+      unchanged = c.accesses_add_up.ensures.unchanged;
       none = c.accesses_add_up.ensures.none;
       more = c.accesses_add_up.ensures.more;
-    }) _ _ c.args.limits c.args.binding.now bytes before _ c.new.result c.new.ensures.limits c.in_ok-card.card _
+    }) _ _ c.args.limits c.args.binding.now bytes before _ c.new.result c.new.ensures.limits c.has_no_clash.ensures c.in_ok-card.card _
     c.in_ok-card.was (c.play.ensures.played card bytes before c.in_ok-card.ensures.new is known)
 
 pub returns-in_err-card-clause-run : goal.returns-in_err-card-clause-run
@@ -25,7 +32,14 @@ returns-in_err-card-clause-run g c = λ bytes before is known.
       install = c.commands_are_guarded.ensures.install;
       reset = c.commands_are_guarded.ensures.reset;
       load = c.commands_are_guarded.ensures.load;
+      new = c.commands_stay_apart.ensures.new;
+      apart_apdu = c.commands_stay_apart.ensures.apdu;
+      apart_install = c.commands_stay_apart.ensures.install;
+      apart_reset = c.commands_stay_apart.ensures.reset;
+      apart_load = c.commands_stay_apart.ensures.load;
+      plain = c.accesses_add_up.ensures.plain;
+      unchanged = c.accesses_add_up.ensures.unchanged;
       none = c.accesses_add_up.ensures.none;
       more = c.accesses_add_up.ensures.more;
-    }) _ _ c.args.limits c.args.binding.now bytes before _ c.new.result c.new.ensures.limits
+    }) _ _ c.args.limits c.args.binding.now bytes before _ c.new.result c.new.ensures.limits c.has_no_clash.ensures
     c.in_err-card.field-0.0 c.in_err-card.was known)

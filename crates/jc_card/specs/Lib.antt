@@ -10,3 +10,4 @@ pub mod New
 pub mod PrivateNew
 pub mod Load
 pub mod PrivateLoad
+pub mod Examples

@@ -1,0 +1,36 @@
+use Rattle.std.proofs.Common.{refl}
+use Rattle.jc_code.specs.Decoding.{next_stable_switch, next_lookup_switch, next_wide_increment, when_of, next_wide_branch, next_control, next_branch, operator_of, next_arithmetic, next_shuffle, next_local, next_constant, next_word_operation}
+use Rattle.jc_code.specs.Instructions.{next_operation, instr_at}
+use Rattle.jc_code.specs.Objects.{word_kind_of, next_tested_type, next_creation, next_interface, next_invocation, narrow_field_of, wide_field_of, next_narrow_field, next_field, reference_condition_of, next_wide_condition, next_condition, next_array, next_reference}
+use Rattle.jc_api.specs.Token.{chain, is_at_or_above}
+use Rattle.jc_classes.specs.Api.{those_to, each_below, room_to, number_to}
+use Rattle.jc_classes.specs.Walk.{most_classes}
+use Rattle.jc_machine.specs.Objects.{act_object}
+use Rattle.jc_machine.specs.Step.{act_at, defensive_step, steps_of, runtime_call}
+use Rattle.jc_machine.specs.Words.{act_word}
+use Rattle.jc_card.specs.Examples.{install_on, send_to}
+use Rattle.jc_card.proofs.examples.applets_are_selected.Goals as goal
+
+pub returns-clause-selected : goal.returns-clause-selected
+unfolding next_stable_switch next_lookup_switch next_wide_increment when_of next_wide_branch next_control next_branch operator_of next_arithmetic next_shuffle next_local next_constant next_word_operation next_operation instr_at word_kind_of next_tested_type next_creation next_interface next_invocation narrow_field_of wide_field_of next_narrow_field next_field reference_condition_of next_wide_condition next_condition next_array next_reference chain is_at_or_above those_to each_below room_to number_to most_classes act_object act_at defensive_step steps_of runtime_call act_word install_on send_to
+returns-clause-selected c = refl
+
+pub returns-clause-processed : goal.returns-clause-processed
+unfolding next_stable_switch next_lookup_switch next_wide_increment when_of next_wide_branch next_control next_branch operator_of next_arithmetic next_shuffle next_local next_constant next_word_operation next_operation instr_at word_kind_of next_tested_type next_creation next_interface next_invocation narrow_field_of wide_field_of next_narrow_field next_field reference_condition_of next_wide_condition next_condition next_array next_reference chain is_at_or_above those_to each_below room_to number_to most_classes act_object act_at defensive_step steps_of runtime_call act_word install_on send_to
+returns-clause-processed c = refl
+
+pub returns-clause-before : goal.returns-clause-before
+unfolding next_stable_switch next_lookup_switch next_wide_increment when_of next_wide_branch next_control next_branch operator_of next_arithmetic next_shuffle next_local next_constant next_word_operation next_operation instr_at word_kind_of next_tested_type next_creation next_interface next_invocation narrow_field_of wide_field_of next_narrow_field next_field reference_condition_of next_wide_condition next_condition next_array next_reference chain is_at_or_above those_to each_below room_to number_to most_classes act_object act_at defensive_step steps_of runtime_call act_word install_on send_to
+returns-clause-before c = refl
+
+pub returns-clause-after_reset : goal.returns-clause-after_reset
+unfolding next_stable_switch next_lookup_switch next_wide_increment when_of next_wide_branch next_control next_branch operator_of next_arithmetic next_shuffle next_local next_constant next_word_operation next_operation instr_at word_kind_of next_tested_type next_creation next_interface next_invocation narrow_field_of wide_field_of next_narrow_field next_field reference_condition_of next_wide_condition next_condition next_array next_reference chain is_at_or_above those_to each_below room_to number_to most_classes act_object act_at defensive_step steps_of runtime_call act_word install_on send_to
+returns-clause-after_reset c = refl
+
+pub returns-clause-other : goal.returns-clause-other
+unfolding next_stable_switch next_lookup_switch next_wide_increment when_of next_wide_branch next_control next_branch operator_of next_arithmetic next_shuffle next_local next_constant next_word_operation next_operation instr_at word_kind_of next_tested_type next_creation next_interface next_invocation narrow_field_of wide_field_of next_narrow_field next_field reference_condition_of next_wide_condition next_condition next_array next_reference chain is_at_or_above those_to each_below room_to number_to most_classes act_object act_at defensive_step steps_of runtime_call act_word install_on send_to
+returns-clause-other c = refl
+
+pub returns-clause-malformed : goal.returns-clause-malformed
+unfolding next_stable_switch next_lookup_switch next_wide_increment when_of next_wide_branch next_control next_branch operator_of next_arithmetic next_shuffle next_local next_constant next_word_operation next_operation instr_at word_kind_of next_tested_type next_creation next_interface next_invocation narrow_field_of wide_field_of next_narrow_field next_field reference_condition_of next_wide_condition next_condition next_array next_reference chain is_at_or_above those_to each_below room_to number_to most_classes act_object act_at defensive_step steps_of runtime_call act_word install_on send_to
+returns-clause-malformed c = refl

@@ -1,0 +1,29 @@
+//! Examples of the card: what the prover computes of its definitions.
+
+ghost use Rattle.std.specs.Prelude.{◌≡◌, [], ◌∷◌, Some};
+ghost use Rattle.std.specs.Option.{option_and_then};
+ghost use Rattle.jc_card.specs.Command.{normal, not_selected, wrong_length};
+ghost use Rattle.jc_card.specs.Commands.{status_alone};
+ghost use Rattle.jc_card.specs.Examples.{answer_on, applet_aid, header_alone, install_on, installed_card, loaded_card, objects_accessed, other_aid, reset_card, said_by, select_of, selected_card, send_to};
+ghost use Rattle.jc_card.specs.Install.{HasNumber, Refused};
+ghost use Rattle.jc_card.specs.declared.fault.InstallFault.TheVariants.{AidInUse, UnknownApplet};
+
+/// The applet of a small package is installed: its install method makes an object, which registers. It does nothing.
+pub fn applets_are_installed()
+    ensures number { said_by (install_on loaded_card applet_aid applet_aid) ≡ Some (HasNumber 1) }
+    ensures accesses { objects_accessed (install_on loaded_card applet_aid applet_aid)
+        ≡ Some (13 ∷ 46 ∷ 46 ∷ 14 ∷ []) }
+    ensures unknown { said_by (install_on loaded_card other_aid other_aid) ≡ Some (Refused UnknownApplet) }
+    ensures used { option_and_then (λ c. said_by (install_on c applet_aid applet_aid)) installed_card
+        ≡ Some (Refused AidInUse) }
+{}
+
+/// It is selected, and then each command is before it, until a reset. It does nothing.
+pub fn applets_are_selected()
+    ensures selected { answer_on installed_card (select_of applet_aid) ≡ Some (status_alone normal) }
+    ensures processed { answer_on selected_card header_alone ≡ Some (status_alone normal) }
+    ensures before { answer_on installed_card header_alone ≡ Some (status_alone not_selected) }
+    ensures after_reset { answer_on reset_card header_alone ≡ Some (status_alone not_selected) }
+    ensures other { answer_on installed_card (select_of other_aid) ≡ Some (status_alone not_selected) }
+    ensures malformed { answer_on selected_card (0 ∷ 0 ∷ []) ≡ Some (status_alone wrong_length) }
+{}

@@ -19,6 +19,20 @@ use std::convert::AsStr;
 const FOLDER_HELP: &str =
     "A folder holds the component files of a package: Header.cap, Applet.cap, Import.cap, ConstantPool.cap,\nClass.cap, Method.cap, StaticField.cap, Export.cap, Descriptor.cap. One that isn't there is left out; other\nfiles are ignored.";
 
+// What the help of `run` says of scripts.
+const SCRIPT_HELP: &str = "A line of the script is one of these, and each is answered before the next one is read:
+
+  load FOLDER CERT                 loads the package in a folder, with the certificate that verify wrote
+  install APPLET INSTANCE [DATA]   installs the applet with an AID, as an instance with this or another AID
+  apdu BYTES                       sends a command
+  reset                            resets the card
+
+AIDs, DATA and BYTES are in hexadecimal. An empty line, or one that begins with #, says nothing. For example:
+
+  printf 'apdu 00A4040006F00102031001\\nreset\\n' | jcard run /dev/stdin
+
+answers `sw 6999`, since no applet has that AID yet, and `reset`.";
+
 /// Why there is no job.
 #[derive(Debug, Drop)]
 pub enum LineFault {
@@ -135,6 +149,7 @@ fn run_command<'a>(alloc: Global) -> Result<Command<'a>, AllocError>
     );
     Command::new(alloc, "run")
         .about("Plays a script on a new card")
+        .after_help(SCRIPT_HELP)
         .arg(script)?
         .arg(steps)?
         .arg(binding_argument(alloc))

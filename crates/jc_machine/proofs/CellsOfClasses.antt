@@ -32,7 +32,8 @@ use Rattle.jc_link.proofs.SameNames.{same_name}
 use Rattle.jc_link.proofs.SoundChains.{ends_above, heir_of_walk}
 use Rattle.jc_machine.specs.Lookup.{fields_of, fields_within, own_fields}
 use Rattle.jc_machine.specs.Uncounted.{HaveCells}
-use Rattle.jc_machine.proofs.Guarding.{get_first}
+use Rattle.jc_machine.proofs.GuardingHeaps.{get_first}
+
 
 most_is : most_classes ≡ 17_085
 unfolding most_classes

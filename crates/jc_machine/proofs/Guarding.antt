@@ -1,8 +1,6 @@
--- The law of accesses, of a part of a step: each test that an instruction makes keeps it.
-use Rattle.std.proofs.Common.{◌≡◌, ℕ, zero, suc, Bool, true, false, not, List, [], ◌∷◌, ◌++◌, Option, Some, None}
-use Rattle.std.proofs.Common.{inl, inr, refl, sym, ap, ◌∙◌, subst, append-nil, append_assoc, slice_get, length}
-use Rattle.std.proofs.Common.{nat_lt, ℤ, pos, negsuc}
-use Rattle.std.proofs.lemmas.Bool.{and_from, and_parts}
+-- The law of accesses, of a part of a step: each test that an instruction makes keeps it. What is apart stays so too.
+use Rattle.std.proofs.Common.{◌≡◌, ℕ, Bool, true, false, not, List, [], ◌∷◌, ◌++◌, Option, Some, None, refl, sym, ap}
+use Rattle.std.proofs.Common.{◌∙◌, subst, append-nil, append_assoc, length, nat_lt, ℤ, pos, negsuc}
 use Rattle.std.proofs.lemmas.Option.{none-some, same_Some}
 use Rattle.std.specs.List.{AllByRecursion}
 use Rattle.std.specs.Option.{option_and_then}
@@ -16,24 +14,22 @@ use Rattle.jc_link.specs.declared.target.PoolTarget.{PoolTarget}
 use Rattle.jc_store.specs.Heap.{Heap, Object, object_at}
 use Rattle.jc_store.specs.declared.kind.Mark.{Mark}
 use Rattle.jc_names.specs.declared.owner.Owner.{Owner}
+use Rattle.jc_machine.specs.Apart.{SparesPlain, IsApart}
 use Rattle.jc_machine.specs.Going.{Here, accessed, accessed_to_store, branches, by_verdict, check, facts_of, gives}
 use Rattle.jc_machine.specs.Going.{goes_on, goes_to, judged, jumps, leaves_operands, on_object, on_operands}
-use Rattle.jc_machine.specs.Going.{on_reference, on_reference_local, on_some, on_target, on_top, on_word}
-use Rattle.jc_machine.specs.Going.{on_word_local, plain, pushed, require, stuck, throws, touch_of, touched}
-use Rattle.jc_machine.specs.Guarded.{AreGuarded, ChangesAccessed, IsAccessed, IsJudged, allowed, are_allowed, denied}
-use Rattle.jc_machine.specs.Guarded.{is_allowed, is_last_denied, machine_of, of_frame}
+use Rattle.jc_machine.specs.Going.{on_reference, on_reference_local, on_some, on_target, on_top, on_word, on_word_local}
+use Rattle.jc_machine.specs.Going.{plain, pushed, require, stuck, throws, touch_of, touched}
+use Rattle.jc_machine.specs.Guarded.{AreGuarded, IsJudged, allowed, are_allowed, denied, is_allowed, is_last_denied}
+use Rattle.jc_machine.specs.Guarded.{machine_of, of_frame}
 use Rattle.jc_machine.specs.Lookup.{target_at}
 use Rattle.jc_machine.specs.Machine.{Machine, Next, Outcome, Stepped, Surroundings, Throws, Touch}
-use Rattle.jc_machine.specs.Natives.{IsStill, KeepsObjects}
 use Rattle.jc_machine.specs.Runtime.{security_exception}
 use Rattle.jc_words.specs.Values.{Null, Ref, TaggedValue, Unset, Word, is_reference}
+use Rattle.jc_machine.proofs.StayingApart.{IsApartIn, IsApartPart, LeadsApart, is_apart_itself, moved_apart, own_spares}
+use Rattle.jc_machine.proofs.Switching.{switched_by}
+use Rattle.jc_machine.proofs.GuardingHeaps.{KeepsHeap, all_joined, changes_first, guarded_behind, nothing_changes}
 
 -- ---- a part of a step
-
--- by these accesses objects become others: those that were there stay, and change only where they were accessed
-pub record KeepsHeap (touches : List Touch) (before after : Heap TaggedValue) : Type 0 where
-  pub changes : ChangesAccessed touches before after
-  pub kept : KeepsObjects before after
 
 -- behind these accesses, a part of a step that began in this machine keeps the law
 pub record KeepsLaw {C : Type 0} (around : Surroundings C) (m : Machine C) (before : List Touch) (s : Stepped C)
@@ -42,141 +38,53 @@ pub record KeepsLaw {C : Type 0} (around : Surroundings C) (m : Machine C) (befo
   pub accesses : AreGuarded s.touches (s.outcome ≡ Throws m security_exception)
   pub changes : (after : Machine C) → machine_of s.outcome ≡ Some after
       → KeepsHeap (before ++ s.touches) m.heap after.heap
-
--- ---- lists of accesses
-
-all_joined : {A : Type 0} (P : A → Type 0) (xs ys : List A) → AllByRecursion P xs → AllByRecursion P ys
-    → AllByRecursion P (xs ++ ys)
-all_joined P [] ys h k = k
-all_joined P (x ∷ xs) ys h k = (h.0, all_joined P xs ys h.1 k)
-
-pub each_mapped : {A : Type 0} (P Q : A → Type 0) (xs : List A) → ((x : A) → P x → Q x) → AllByRecursion P xs
-    → AllByRecursion Q xs
-each_mapped P Q [] f h = tt
-each_mapped P Q (x ∷ xs) f h = (f x h.0, each_mapped P Q xs f h.1)
-
-pub all_allowed : (xs ys : List Touch) → are_allowed xs ≡ true → are_allowed ys ≡ true → are_allowed (xs ++ ys) ≡ true
-all_allowed [] ys h k = k
-all_allowed (x ∷ xs) ys h k =
-    let parts = and_parts (is_allowed x.verdict) (are_allowed xs) h in
-    and_from (is_allowed x.verdict) (are_allowed (xs ++ ys)) parts.0 (all_allowed xs ys parts.1 k)
-
-one_before : (x : Touch) (ys : List Touch) → is_allowed x.verdict ≡ true → is_last_denied ys ≡ true
-    → is_last_denied (x ∷ ys) ≡ true
-one_before x [] h k = absurd cc
-one_before x (y ∷ ys) h k = and_from (is_allowed x.verdict) (is_last_denied (y ∷ ys)) h k
-
-last_denied : (xs ys : List Touch) → are_allowed xs ≡ true → is_last_denied ys ≡ true
-    → is_last_denied (xs ++ ys) ≡ true
-last_denied [] ys h k = k
-last_denied (x ∷ xs) ys h k =
-    let parts = and_parts (is_allowed x.verdict) (are_allowed xs) h in
-    one_before x (xs ++ ys) parts.0 (last_denied xs ys parts.1 k)
-
-guarded_behind : (xs ys : List Touch) (R : Type 0) → are_allowed xs ≡ true → AreGuarded ys R → AreGuarded (xs ++ ys) R
-guarded_behind xs ys R h (allowed k) = allowed (all_allowed xs ys h k)
-guarded_behind xs ys R h (denied k r) = denied (last_denied xs ys h k) r
-
-pub mapped : (xs : List Touch) (R S : Type 0) → (R → S) → AreGuarded xs R → AreGuarded xs S
-mapped xs R S f (allowed h) = allowed h
-mapped xs R S f (denied h r) = denied h (f r)
-
--- ---- what is accessed
-
-pub get_first : {A : Type 0} (xs ys : List A) (k : ℕ) (x : A) → slice_get xs k ≡ Some x → slice_get
-    (xs ++ ys) k ≡ Some x
-get_first [] ys k x e = absurd (none-some x e)
-get_first (y ∷ xs) ys zero x e = e
-get_first (y ∷ xs) ys (suc k) x e = get_first xs ys k x e
-
-accessed_first : (xs ys : List Touch) (n : ℕ) (o : Object TaggedValue) → IsAccessed xs n o → IsAccessed (xs ++ ys) n o
-accessed_first xs ys n o a = record {
-  place = a.place;
-  touch = a.touch;
-  listed = get_first xs ys a.place a.touch a.listed;
-  is = a.is;
-  allowed = a.allowed;
-  own = a.own;
-}
-
-accessed_later : (xs ys : List Touch) (n : ℕ) (o : Object TaggedValue) → IsAccessed ys n o → IsAccessed (xs ++ ys) n o
-accessed_later [] ys n o a = a
-accessed_later (x ∷ xs) ys n o a =
-    let b = accessed_later xs ys n o a in record {
-      place = suc b.place;
-      touch = b.touch;
-      listed = b.listed;
-      is = b.is;
-      allowed = b.allowed;
-      own = b.own;
-    }
-
--- ---- what changes
-
-pub changes_first : (xs ys : List Touch) (a b : Heap TaggedValue) → KeepsHeap xs a b → KeepsHeap (xs ++ ys) a b
-changes_first xs ys a b h = record {
-  changes = λ n o p e f.
-      elim (h.changes n o p e f)
-      [ inl same ↦ inl same | inr accessed ↦ inr (accessed_first xs ys n o accessed) ];
-  kept = h.kept;
-}
-
-pub changes_later : (xs ys : List Touch) (a b : Heap TaggedValue) → KeepsHeap ys a b → KeepsHeap (xs ++ ys) a b
-changes_later xs ys a b h = record {
-  changes = λ n o p e f.
-      elim (h.changes n o p e f)
-      [ inl same ↦ inl same | inr accessed ↦ inr (accessed_later xs ys n o accessed) ];
-  kept = h.kept;
-}
-
-one_object : (found : Option (Object TaggedValue)) (o p : Object TaggedValue) → found ≡ Some o → found ≡ Some p
-    → p ≡ o
-one_object found o p e f = same_Some p o (sym f ∙ e)
-
--- an object is as it was
-pub is_still : (heap : Heap TaggedValue) (n : ℕ) (o : Object TaggedValue) → object_at heap n ≡ Some o
-    → IsStill heap n o
-is_still heap n o e = record { object = o; found = e; kind = refl; owner = refl; size = refl }
-
-pub nothing_changes : (xs : List Touch) (heap : Heap TaggedValue) → KeepsHeap xs heap heap
-nothing_changes xs heap = record {
-  changes = λ n o p e f.
-      inl (ap (λ (x : Object TaggedValue). x.cells) (one_object (object_at heap n) o p e f));
-  kept = λ n o e. is_still heap n o e;
-}
+  -- what is apart stays so
+  pub apart : (keeps : C → Bool) → IsApartIn keeps around m → IsApartPart keeps m s
 
 -- ---- ends
 
 pub leaves : {C : Type 0} {around : Surroundings C} {m : Machine C} {before : List Touch} (o : Outcome C)
     (x : Machine C)
-    → machine_of o ≡ Some x → KeepsHeap before m.heap x.heap → KeepsLaw around m before (plain o)
-leaves {C = C} {m = m} {before = before} o x e h = record {
+    → machine_of o ≡ Some x → KeepsHeap before m.heap x.heap → LeadsApart around m x
+    → KeepsLaw around m before (plain o)
+leaves {C = C} {m = m} {before = before} o x e h a = record {
   judged = tt;
   accesses = allowed refl;
   changes = λ after f.
       subst (λ (y : Machine C). KeepsHeap (before ++ []) m.heap y.heap) (same_Some x after (sym e ∙ f))
       (changes_first before [] m.heap x.heap h);
+  apart = λ keeps p. record {
+    spares = tt;
+    after = λ after f. subst (IsApart keeps) (same_Some x after (sym e ∙ f)) (a keeps p);
+  };
 }
 
 pub stays : {C : Type 0} {around : Surroundings C} {m : Machine C} {before : List Touch} (o : Outcome C) (x : Machine C)
-    → machine_of o ≡ Some x → m.heap ≡ x.heap → KeepsLaw around m before (plain o)
-stays {C = C} {m = m} {before = before} o x e same =
+    → machine_of o ≡ Some x → m.heap ≡ x.heap → LeadsApart around m x → KeepsLaw around m before (plain o)
+stays {C = C} {m = m} {before = before} o x e same a =
     leaves o x e
-    (subst (λ (heap : Heap TaggedValue). KeepsHeap before m.heap heap) same (nothing_changes before m.heap))
+    (subst (λ (heap : Heap TaggedValue). KeepsHeap before m.heap heap) same (nothing_changes before m.heap)) a
 
 pub is_stuck : {C : Type 0} {around : Surroundings C} {m : Machine C} {before : List Touch}
     → KeepsLaw around m before stuck
-is_stuck = record { judged = tt; accesses = allowed refl; changes = λ after f. absurd (none-some after f) }
+is_stuck = record {
+  judged = tt;
+  accesses = allowed refl;
+  changes = λ after f. absurd (none-some after f);
+  apart = λ keeps p. record { spares = tt; after = λ after f. absurd (none-some after f) };
+}
 
 pub goes : {C : Type 0} {around : Surroundings C} {m : Machine C} {before : List Touch} (h : Here C) (pc : ℕ)
     (locals operands : List TaggedValue)
-    → KeepsHeap before m.heap h.machine.heap → KeepsLaw around m before (goes_to h pc locals operands)
-goes h pc locals operands changes = leaves (Next _) _ refl changes
+    → KeepsHeap before m.heap h.machine.heap → LeadsApart around m h.machine
+    → KeepsLaw around m before (goes_to h pc locals operands)
+goes h pc locals operands changes a =
+    leaves (Next _) _ refl changes (λ keeps p. moved_apart keeps h.machine pc locals operands (a keeps p))
 
 pub goes_still : {C : Type 0} {before : List Touch} (h : Here C) (pc : ℕ) (locals operands : List TaggedValue)
     → KeepsLaw h.around h.machine before (goes_to h pc locals operands)
 goes_still {before = before} h pc locals operands =
-    goes h pc locals operands (nothing_changes before h.machine.heap)
+    goes h pc locals operands (nothing_changes before h.machine.heap) (is_apart_itself h.around h.machine)
 
 pub goes_behind : {C : Type 0} {before : List Touch} (h : Here C) (locals operands : List TaggedValue)
     → KeepsLaw h.around h.machine before (goes_on h locals operands)
@@ -188,7 +96,8 @@ leaves_still h operands = goes_still h h.next_pc h.machine.top.locals operands
 
 pub throws_still : {C : Type 0} {before : List Touch} (h : Here C) (object : ℕ)
     → KeepsLaw h.around h.machine before (throws h object)
-throws_still h object = stays (Throws h.machine object) h.machine refl refl
+throws_still h object =
+    stays (Throws h.machine object) h.machine refl refl (is_apart_itself h.around h.machine)
 
 jumps_still : {C : Type 0} {before : List Touch} (h : Here C) (to : ℤ) (operands : List TaggedValue)
     → KeepsLaw h.around h.machine before (jumps h to operands)
@@ -208,6 +117,12 @@ pub at_check : {C : Type 0} {around : Surroundings C} {m : Machine C} {before : 
 at_check true s k = k
 at_check false s k = is_stuck
 
+-- what goes on knows that the test passed
+pub at_checked : {C : Type 0} {around : Surroundings C} {m : Machine C} {before : List Touch} (b : Bool)
+    (s : Stepped C) → (b ≡ true → KeepsLaw around m before s) → KeepsLaw around m before (check b s)
+at_checked true s k = k refl
+at_checked false s k = is_stuck
+
 pub at_some : {A C : Type 0} {around : Surroundings C} {m : Machine C} {before : List Touch} (o : Option A)
     (go : A → Stepped C)
     → ((x : A) → o ≡ Some x → KeepsLaw around m before (go x)) → KeepsLaw around m before (on_some o go)
@@ -226,10 +141,10 @@ gives_still h v operands = at_pushed h v operands (leaves_operands h) (leaves_st
 
 pub gives_changed : {C : Type 0} {around : Surroundings C} {m : Machine C} {before : List Touch} (h : Here C)
     (v : TaggedValue)
-    (operands : List TaggedValue) → KeepsHeap before m.heap h.machine.heap
+    (operands : List TaggedValue) → KeepsHeap before m.heap h.machine.heap → LeadsApart around m h.machine
     → KeepsLaw around m before (gives h v operands)
-gives_changed h v operands changes =
-    at_pushed h v operands (leaves_operands h) (goes h h.next_pc h.machine.top.locals (v ∷ operands) changes)
+gives_changed h v operands changes a =
+    at_pushed h v operands (leaves_operands h) (goes h h.next_pc h.machine.top.locals (v ∷ operands) changes a)
 
 pub at_top : {C : Type 0} {around : Surroundings C} {m : Machine C} {before : List Touch} (vs : List TaggedValue)
     (go : TaggedValue → List TaggedValue → Stepped C)
@@ -304,12 +219,17 @@ at_object h Unset go k = is_stuck
 -- what goes on behind accesses, of which the last may be denied; then the security exception is thrown
 pub behind : {C : Type 0} {around : Surroundings C} {m : Machine C} {before : List Touch} (ts : List Touch)
     (s : Stepped C) → AllByRecursion (IsJudged around m) ts
-    → AreGuarded ts (s ≡ plain (Throws m security_exception)) → KeepsLaw around m (before ++ ts) s
-    → KeepsLaw around m before (touched ts s)
-behind {C = C} {around = around} {m = m} {before = before} ts s judges guarded k = record {
+    → AreGuarded ts (s ≡ plain (Throws m security_exception))
+    → ((keeps : C → Bool) → IsApartIn keeps around m → AllByRecursion (SparesPlain m.heap) ts)
+    → KeepsLaw around m (before ++ ts) s → KeepsLaw around m before (touched ts s)
+behind {C = C} {around = around} {m = m} {before = before} ts s judges guarded spares k = record {
   judged = all_joined (IsJudged around m) ts s.touches judges k.judged;
   accesses = by_guard guarded;
   changes = λ after e. joined after (k.changes after e);
+  apart = λ keeps p. record {
+    spares = all_joined (SparesPlain m.heap) ts s.touches (spares keeps p) (k.apart keeps p).spares;
+    after = λ after e. (k.apart keeps p).after after e;
+  };
 }
   where
     by_guard : AreGuarded ts (s ≡ plain (Throws m security_exception))
@@ -326,30 +246,33 @@ behind {C = C} {around = around} {m = m} {before = before} ts s judges guarded k
 
 -- one that is allowed
 pub behind_allowed : {C : Type 0} {around : Surroundings C} {m : Machine C} {before : List Touch} (t : Touch)
-    (s : Stepped C) → IsJudged around m t → are_allowed (t ∷ []) ≡ true → KeepsLaw around m (before ++ t ∷ []) s
-    → KeepsLaw around m before (touched (t ∷ []) s)
-behind_allowed t s judges h k = behind (t ∷ []) s (judges, tt) (allowed h) k
+    (s : Stepped C) → IsJudged around m t → are_allowed (t ∷ []) ≡ true
+    → ((keeps : C → Bool) → IsApartIn keeps around m → SparesPlain m.heap t)
+    → KeepsLaw around m (before ++ t ∷ []) s → KeepsLaw around m before (touched (t ∷ []) s)
+behind_allowed t s judges h spares k =
+    behind (t ∷ []) s (judges, tt) (allowed h) (λ keeps p. (spares keeps p, tt)) k
 
 denied_still : {C : Type 0} {before : List Touch} (h : Here C) (t : Touch) → IsJudged h.around h.machine t
-    → is_allowed t.verdict ≡ false
+    → is_allowed t.verdict ≡ false → t.active ≡ h.machine.top.active.context
     → KeepsLaw h.around h.machine before (touched (t ∷ []) (throws h security_exception))
-denied_still h t judges e =
+denied_still h t judges e own =
     behind (t ∷ []) (throws h security_exception) (judges, tt) (denied (ap not e) refl)
-    (throws_still h security_exception)
+    (λ keeps p. (own_spares h.around h.machine t own keeps p, tt)) (throws_still h security_exception)
 
--- a verdict: what goes on knows that the access was allowed
+-- a verdict: what goes on knows that the access was allowed, and whether it switches
 pub at_verdict : {C : Type 0} {before : List Touch} (h : Here C) (access : Access) (number : ℕ) (v : Verdict)
     (go : Option Owner → Stepped C) → IsJudged h.around h.machine (touch_of h access number v)
-    → (is_allowed v ≡ true → (switch : Option Owner)
+    → (is_allowed v ≡ true → (switch : Option Owner) → switch ≡ switched_by v
     → KeepsLaw h.around h.machine (before ++ touch_of h access number v ∷ []) (go switch))
     → KeepsLaw h.around h.machine before (by_verdict h access number v go)
 at_verdict h access number Allowed go judges k =
-    behind_allowed (touch_of h access number Allowed) (go None) judges refl (k refl None)
+    behind_allowed (touch_of h access number Allowed) (go None) judges refl
+    (own_spares h.around h.machine (touch_of h access number Allowed) refl) (k refl None refl)
 at_verdict h access number (AllowedSwitch owner) go judges k =
     behind_allowed (touch_of h access number (AllowedSwitch owner)) (go (Some owner)) judges refl
-    (k refl (Some owner))
+    (own_spares h.around h.machine (touch_of h access number (AllowedSwitch owner)) refl) (k refl (Some owner) refl)
 at_verdict h access number (Denied rule) go judges k =
-    denied_still h (touch_of h access number (Denied rule)) judges refl
+    denied_still h (touch_of h access number (Denied rule)) judges refl refl
 
 -- the firewall's verdict on an access in a place, and the access with it
 abbrev pub verdict_in : {C : Type 0} → Here C → Access → Facts → Verdict
@@ -362,6 +285,7 @@ pub at_judged : {C : Type 0} {before : List Touch} (h : Here C) (access : Access
     (object : Object TaggedValue) → object_at h.machine.heap number ≡ Some object → (stored : Option Mark)
     (shared : Bool) (go : Option Owner → Stepped C)
     → (is_allowed (verdict_in h access (facts_of h object stored shared)) ≡ true → (switch : Option Owner)
+    → switch ≡ switched_by (verdict_in h access (facts_of h object stored shared))
     → KeepsLaw h.around h.machine (before ++ touch_in h access number (facts_of h object stored shared) ∷ [])
     (go switch))
     → KeepsLaw h.around h.machine before (judged h access number (facts_of h object stored shared) go)
@@ -383,7 +307,7 @@ pub at_stored : {C : Type 0} {before : List Touch} (h : Here C) (access : Access
     → KeepsLaw h.around h.machine (before ++ touch_in h access number (facts_of h object mark false) ∷ []) s)
     → KeepsLaw h.around h.machine before (accessed_to_store h access number object mark s)
 at_stored h access number object there mark s k =
-    at_judged h access number object there mark false (λ switch. s) (λ fine switch. k fine)
+    at_judged h access number object there mark false (λ switch. s) (λ fine switch by. k fine)
 
 pub at_accessed : {C : Type 0} {before : List Touch} (h : Here C) (access : Access) (number : ℕ)
     (object : Object TaggedValue) → object_at h.machine.heap number ≡ Some object → (s : Stepped C)

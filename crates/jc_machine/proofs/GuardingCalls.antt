@@ -1,309 +1,67 @@
 -- Calls keep the law of accesses, where native members keep theirs.
-use Rattle.std.proofs.Common.{◌≡◌, ◌⊎◌, inl, inr, ℕ, ◌+◌, ◌==◌, Bool, true, false, not, List, [], ◌∷◌, ◌++◌, length}
-use Rattle.std.proofs.Common.{take, drop, reverse, Option, Some, None, cond, refl, sym, ap, ◌∙◌, subst}
-use Rattle.std.specs.List.{AllByRecursion}
-use Rattle.std.specs.Option.{option_and_then}
+use Rattle.std.proofs.Common.{◌≡◌, ℕ, ◌+◌, ◌==◌, Bool, true, false, List, [], ◌∷◌, length, take, drop, reverse, Option}
+use Rattle.std.proofs.Common.{Some, None, refl}
 use Rattle.jc_base.specs.Signature.{Signature}
-use Rattle.jc_cap_method.specs.declared.header.MethodHeader.{MethodHeader}
-use Rattle.jc_classes.specs.Methods.{interface_method_of, virtual_method_of}
+use Rattle.jc_classes.specs.Methods.{interface_method_of}
 use Rattle.jc_code.specs.declared.object.Invocation.{Invocation}
 use Rattle.jc_code.specs.declared.object.Invocation.TheVariants.{Virtual, Special, Static, Interface}
-use Rattle.jc_firewall.specs.Verdict.{runtime_context}
+use Rattle.jc_firewall.specs.declared.access.Access.{Access}
 use Rattle.jc_firewall.specs.declared.access.Access.TheVariants.{InvokeInterface, InvokeVirtual}
+use Rattle.jc_names.specs.Names.{home_at}
 use Rattle.jc_names.specs.declared.name.ClassName.{ClassName}
 use Rattle.jc_names.specs.declared.name.MethodName.{MethodName}
 use Rattle.jc_names.specs.declared.name.MethodName.TheVariants.{Api, Loaded}
 use Rattle.jc_names.specs.declared.owner.Owner.{Owner}
 use Rattle.jc_step.specs.Objects.{class_target, interface_method_type}
-use Rattle.jc_store.specs.Heap.{Heap, Object, object_at}
+use Rattle.jc_store.specs.Heap.{Object, object_at}
+use Rattle.jc_machine.specs.Apart.{HaveApiMembers, has_no_code, is_member}
 use Rattle.jc_machine.specs.Calls.{MethodTarget, VirtualTarget, act_call, act_interface, act_of_interface, act_special}
-use Rattle.jc_machine.specs.Calls.{act_static_call, act_virtual, active_in, after_native, called_as, callback_fits}
-use Rattle.jc_machine.specs.Calls.{calls_back, entered, enters, found_for, frame_of, has_interface, has_room}
-use Rattle.jc_machine.specs.Calls.{inner_native_ends, invokes, is_in_place_of, native_answer, native_ends, native_gives}
-use Rattle.jc_machine.specs.Calls.{native_may_begin, native_type, on_native, previous_in, special_target}
-use Rattle.jc_machine.specs.Calls.{static_target, type_of_member}
-use Rattle.jc_machine.specs.Calls.{virtual_member, virtual_target, with_arguments, with_given, with_receiver}
-use Rattle.jc_machine.specs.Going.{Here, moved, plain, throws, touched, with_machine}
-use Rattle.jc_machine.specs.Guarded.{AreGuarded, IsActive, IsJudged, of_callee, of_frame, of_runtime}
-use Rattle.jc_machine.specs.Lookup.{are_of_types, class_of, declared_at, is_given, is_of_class, is_shared_interface}
-use Rattle.jc_machine.specs.Machine.{Callback, Calls, Frame, Gives, IsStuck, Machine, MethodPlace, NativeAnswer}
-use Rattle.jc_machine.specs.Machine.{NativeCall, NativeEnd, Next, Stepped, Surroundings, Throws, ThrowsObject, Touch}
-use Rattle.jc_machine.specs.Machine.{UsedUp}
-use Rattle.jc_machine.specs.Natives.{AreNativesGuarded, IsGuardedAnswer, IsNativeTouch, IsRefusedAnswer}
-use Rattle.jc_machine.specs.Runtime.{class_cast_exception, security_exception}
-use Rattle.jc_words.specs.Values.{Ref, TaggedValue}
-use Rattle.jc_machine.proofs.Guarding.{KeepsHeap, KeepsLaw, at_check, at_judged, at_object, at_reference, at_require}
-use Rattle.jc_machine.proofs.Guarding.{at_some, at_target, behind, changes_later, each_mapped, gives_changed, goes}
-use Rattle.jc_machine.proofs.Guarding.{is_stuck, leaves, mapped, stays}
-
--- ---- frames
-
-abbrev above : {C : Type 0} → Here C → Frame → List TaggedValue → Machine C
-above h f operands = record {
-  heap = h.machine.heap;
-  statics = h.machine.statics;
-  runtime = h.machine.runtime;
-  top = f;
-  waiting = moved h.machine.top h.machine.top.pc h.machine.top.locals operands ∷ h.machine.waiting;
-}
-
-by_room : {C : Type 0} {before : List Touch} (h : Here C) (f : Frame) (operands : List TaggedValue) (room : Bool)
-    → KeepsLaw h.around h.machine before (cond room (plain (Next (above h f operands))) (plain (UsedUp h.machine)))
-by_room h f operands true = stays (Next (above h f operands)) (above h f operands) refl refl
-by_room h f operands false = stays (UsedUp h.machine) h.machine refl refl
-
-entered_keeps : {C : Type 0} {before : List Touch} (h : Here C) (f : Frame) (max_stack : ℕ)
-    (operands : List TaggedValue) → KeepsLaw h.around h.machine before (entered h f max_stack operands)
-entered_keeps h f max_stack operands =
-    by_room h f operands (has_room h.around (h.machine.top ∷ h.machine.waiting) (length f.locals + max_stack))
-
-enters_keeps : {C : Type 0} {before : List Touch} (h : Here C) (switch : Option Owner) (place : MethodPlace)
-    (arguments operands : List TaggedValue) → KeepsLaw h.around h.machine before
-    (enters h switch place arguments operands)
-enters_keeps h switch place arguments operands =
-    at_some (option_and_then (λ d. d.method.header) (declared_at h.around.world place)) _ (λ (header : MethodHeader) e.
-    at_check (not header.is_abstract) _
-    (entered_keeps h
-    (frame_of place header arguments (active_in h.machine.top switch) (previous_in h.machine.top switch))
-    header.max_stack operands))
-
--- ---- native members
-
--- with what a native member is called
-abbrev call_of : {C : Type 0} → Here C → Owner → Option Owner → ℕ → List TaggedValue → NativeCall C
-call_of h active previous member arguments = record {
-  member = member;
-  arguments = arguments;
-  active = active;
-  previous = previous;
-  heap = h.machine.heap;
-  runtime = h.machine.runtime;
-  selected = h.around.selected;
-  limits = h.around.limits;
-}
-
--- an answer has changed nothing in a machine; and what the law of native members says of it there
-record IsAsWas {C : Type 0} (m : Machine C) (a : NativeAnswer C) : Type 0 where
-  heap : a.heap ≡ m.heap
-  runtime : a.runtime ≡ m.runtime
-
-record IsRefusal {C : Type 0} (m : Machine C) (a : NativeAnswer C) : Type 0 where
-  unchanged : IsAsWas m a
-  throws : a.ends ≡ ThrowsObject security_exception
-
-record IsFineAnswer {C : Type 0} (around : Surroundings C) (m : Machine C) (a : NativeAnswer C) : Type 0 where
-  judged : AllByRecursion (IsJudged around m) a.touches
-  guarded : AreGuarded a.touches (IsRefusal m a)
-  changes : KeepsHeap a.touches m.heap a.heap
-  calls : (callback : Callback) → a.ends ≡ Calls callback → IsAsWas m a
-
--- its accesses are judged, where whose owner is active may be so
-native_context : {C : Type 0} (m : Machine C) (active context : ℕ) → IsActive m active
-    → (context ≡ active) ⊎ (context ≡ runtime_context) → IsActive m context
-native_context m active context may (inl e) = subst (IsActive m) (sym e) may
-native_context m active context may (inr e) = of_runtime e
-
-native_judged : {C : Type 0} (h : Here C) (active : Owner) (previous : Option Owner) (member : ℕ)
-    (arguments : List TaggedValue) → IsActive h.machine active.context → (t : Touch)
-    → IsNativeTouch h.around.world (call_of h active previous member arguments) t → IsJudged h.around h.machine t
-native_judged h active previous member arguments may t n = record {
-  active = native_context h.machine active.context t.active may n.active;
-  object = n.object;
-  found = n.found;
-  stored = None;
-  shared = false;
-  verdict = n.verdict;
-}
-
-fine_answer : {C : Type 0} (h : Here C) → AreNativesGuarded h.around.natives → (active : Owner)
-    → IsActive h.machine active.context → (previous : Option Owner) (member : ℕ) (arguments : List TaggedValue)
-    → IsFineAnswer h.around h.machine (native_answer h active previous member arguments)
-fine_answer {C = C} h natives active may previous member arguments =
-    let call : NativeCall C = call_of h active previous member arguments in
-    let a : NativeAnswer C = native_answer h active previous member arguments in
-    let g : IsGuardedAnswer h.around.world call a = natives h.around.world call in record {
-      judged =
-          each_mapped (IsNativeTouch h.around.world call) (IsJudged h.around h.machine) a.touches
-          (native_judged h active previous member arguments may) g.touches;
-      guarded = mapped a.touches (IsRefusedAnswer call a) (IsRefusal h.machine a) (λ r. record {
-        unchanged = record { heap = r.unchanged.heap; runtime = r.unchanged.runtime };
-        throws = r.throws;
-      }) g.guarded;
-      changes = record { changes = g.changes; kept = g.kept };
-      calls = λ callback e. record { heap = (g.calls callback e).heap; runtime = (g.calls callback e).runtime };
-    }
-
-same_place : {C : Type 0} (h : Here C) (a : NativeAnswer C) → IsAsWas h.machine a → after_native h a ≡ h
-same_place {C = C} h a same =
-    ap
-    (λ (heap : Heap TaggedValue). with_machine h (record {
-      heap = heap;
-      statics = h.machine.statics;
-      runtime = a.runtime;
-      top = h.machine.top;
-      waiting = h.machine.waiting;
-    })) same.heap
-    ∙ ap
-    (λ (runtime : C). with_machine h (record {
-      heap = h.machine.heap;
-      statics = h.machine.statics;
-      runtime = runtime;
-      top = h.machine.top;
-      waiting = h.machine.waiting;
-    })) same.runtime
-
-same_machine : {C : Type 0} (h : Here C) (a : NativeAnswer C) → IsAsWas h.machine a
-    → (after_native h a).machine ≡ h.machine
-same_machine {C = C} h a same = ap (λ (x : Here C). x.machine) (same_place h a same)
-
--- what an end that isn't an exception says of a refusal
-not_given : (ends : NativeEnd) (value : Option TaggedValue) → ends ≡ Gives value
-    → ends ≡ ThrowsObject security_exception → ⊥
-not_given ends value e f = cc
-
-not_called : (ends : NativeEnd) (callback : Callback) → ends ≡ Calls callback
-    → ends ≡ ThrowsObject security_exception → ⊥
-not_called ends callback e f = cc
-
-not_stuck : (ends : NativeEnd) → ends ≡ IsStuck → ends ≡ ThrowsObject security_exception → ⊥
-not_stuck ends e f = cc
-
-same_thrown : (ends : NativeEnd) (number : ℕ) → ends ≡ ThrowsObject number
-    → ends ≡ ThrowsObject security_exception → number ≡ security_exception
-same_thrown ends number e f = cc
-
--- behind an answer that isn't a refusal
-goes_behind_answer : {C : Type 0} {before : List Touch} (h : Here C) (a : NativeAnswer C) (s : Stepped C)
-    → IsFineAnswer h.around h.machine a → (a.ends ≡ ThrowsObject security_exception → ⊥)
-    → KeepsLaw h.around h.machine (before ++ a.touches) s → KeepsLaw h.around h.machine before (touched a.touches s)
-goes_behind_answer h a s fine other k =
-    behind a.touches s fine.judged
-    (mapped a.touches (IsRefusal h.machine a) (s ≡ plain (Throws h.machine security_exception)) (λ r.
-    absurd (other r.throws)) fine.guarded) k
-
--- it gives what it gives
-given_keeps : {C : Type 0} {around : Surroundings C} {m : Machine C} {before : List Touch} (h : Here C)
-    (value : Option TaggedValue)
-    (operands : List TaggedValue) → KeepsHeap before m.heap h.machine.heap
-    → KeepsLaw around m before (with_given h value operands)
-given_keeps h None operands changes = goes h h.next_pc h.machine.top.locals operands changes
-given_keeps h (Some v) operands changes = gives_changed h v operands changes
-
-gives_keeps : {C : Type 0} {around : Surroundings C} {m : Machine C} {before : List Touch} (h : Here C)
-    (signature : Signature ClassName)
-    (value : Option TaggedValue) (operands : List TaggedValue) → KeepsHeap before m.heap h.machine.heap
-    → KeepsLaw around m before (native_gives h signature value operands)
-gives_keeps h signature value operands changes =
-    at_check (is_given h.around.world.shapes h.machine.heap signature.result value) _
-    (given_keeps h value operands changes)
-
-gave_keeps : {C : Type 0} {before : List Touch} (h : Here C) (a : NativeAnswer C) (signature : Signature ClassName)
-    (value : Option TaggedValue) (operands : List TaggedValue) → IsFineAnswer h.around h.machine a
-    → a.ends ≡ Gives value
-    → KeepsLaw h.around h.machine before (touched a.touches (native_gives (after_native h a) signature value operands))
-gave_keeps {before = before} h a signature value operands fine e =
-    goes_behind_answer h a (native_gives (after_native h a) signature value operands) fine
-    (not_given a.ends value e)
-    (gives_keeps (after_native h a) signature value operands
-    (changes_later before a.touches h.machine.heap a.heap fine.changes))
-
--- it throws, as where an access of its own was denied
-threw_keeps : {C : Type 0} {before : List Touch} (h : Here C) (a : NativeAnswer C) (number : ℕ)
-    → IsFineAnswer h.around h.machine a → a.ends ≡ ThrowsObject number
-    → KeepsLaw h.around h.machine before (touched a.touches (throws (after_native h a) number))
-threw_keeps {C = C} {before = before} h a number fine e =
-    behind a.touches (throws (after_native h a) number) fine.judged
-    (mapped a.touches (IsRefusal h.machine a)
-    (throws (after_native h a) number ≡ plain (Throws h.machine security_exception)) (λ r.
-    ap (λ (m : Machine C). plain (Throws m number)) (same_machine h a r.unchanged)
-    ∙ ap (λ n. plain (Throws h.machine n)) (same_thrown a.ends number e r.throws)) fine.guarded)
-    (leaves (Throws (after_native h a).machine number) (after_native h a).machine refl
-    (changes_later before a.touches h.machine.heap a.heap fine.changes))
-
--- ---- a native member that another one called
-
-inner_end_keeps : {C : Type 0} {before : List Touch} (h : Here C) (a : NativeAnswer C)
-    (signature : Signature ClassName) (operands : List TaggedValue) → IsFineAnswer h.around h.machine a →
-    (ends : NativeEnd)
-    → a.ends ≡ ends
-    → KeepsLaw h.around h.machine before
-    (touched a.touches (inner_native_ends operands (after_native h a) signature ends))
-inner_end_keeps h a signature operands fine (Gives value) e = gave_keeps h a signature value operands fine e
-inner_end_keeps h a signature operands fine (ThrowsObject number) e = threw_keeps h a number fine e
-inner_end_keeps h a signature operands fine (Calls callback) e =
-    goes_behind_answer h a _ fine (not_called a.ends callback e) is_stuck
-inner_end_keeps h a signature operands fine IsStuck e = goes_behind_answer h a _ fine (not_stuck a.ends e) is_stuck
-
-inner_keeps : {C : Type 0} {before : List Touch} (h : Here C) → AreNativesGuarded h.around.natives → (active : Owner)
-    → IsActive h.machine active.context → (previous : Option Owner) (member : ℕ) (arguments operands : List TaggedValue)
-    → KeepsLaw h.around h.machine before (on_native h active previous member arguments (inner_native_ends operands))
-inner_keeps h natives active may previous member arguments operands =
-    at_check (native_may_begin h.around.world.shapes h.machine.heap member arguments) _
-    (at_some (native_type h.around.world.shapes member) _ (λ signature e.
-    inner_end_keeps h (native_answer h active previous member arguments) signature operands
-    (fine_answer h natives active may previous member arguments)
-    (native_answer h active previous member arguments).ends refl))
-
-called_as_keeps : {C : Type 0} {before : List Touch} (h : Here C) → AreNativesGuarded h.around.natives
-    → (owner : Owner) → IsActive h.machine owner.context → (method : MethodName) (arguments operands : List TaggedValue)
-    → KeepsLaw h.around h.machine before (called_as h owner method arguments operands)
-called_as_keeps h natives owner may (Loaded number offset) arguments operands =
-    enters_keeps h (Some owner) (record { number = number; offset = offset }) arguments operands
-called_as_keeps h natives owner may (Api member) arguments operands =
-    inner_keeps h natives owner may (Some h.machine.top.active) member arguments operands
-
-calls_back_keeps : {C : Type 0} {before : List Touch} (h : Here C) → AreNativesGuarded h.around.natives
-    → (given : Signature ClassName) (callback : Callback) (operands : List TaggedValue)
-    → KeepsLaw h.around h.machine before (calls_back h given callback operands)
-calls_back_keeps h natives given callback operands =
-    at_some (object_at h.machine.heap callback.object) _ (λ object there.
-    at_some (type_of_member h.around.world.shapes callback.member) _ (λ signature e.
-    at_some (virtual_member h.around.world.shapes callback.member) _ (λ member e.
-    at_check (callback_fits h given signature member.class object callback.arguments) _
-    (at_some (virtual_method_of h.around.world.shapes (class_of object.kind.object) member.token 0) _ (λ method e.
-    at_check (is_in_place_of h.around.world.shapes member.class signature method) _
-    (called_as_keeps h natives object.owner (of_callee callback.object object there refl) method
-    (Ref callback.object ∷ callback.arguments) operands))))))
-
--- a native member that makes a call has changed nothing
-called_back_keeps : {C : Type 0} {before : List Touch} (h : Here C) → AreNativesGuarded h.around.natives
-    → (a : NativeAnswer C) (given : Signature ClassName) (callback : Callback) (operands : List TaggedValue)
-    → IsAsWas h.machine a → KeepsLaw h.around h.machine before (calls_back (after_native h a) given callback operands)
-called_back_keeps {C = C} {before = before} h natives a given callback operands same =
-    subst (λ (x : Here C). KeepsLaw h.around h.machine before (calls_back x given callback operands))
-    (sym (same_place h a same)) (calls_back_keeps h natives given callback operands)
-
-end_keeps : {C : Type 0} {before : List Touch} (h : Here C) → AreNativesGuarded h.around.natives
-    → (a : NativeAnswer C) (signature : Signature ClassName) (operands : List TaggedValue)
-    → IsFineAnswer h.around h.machine a → (ends : NativeEnd) → a.ends ≡ ends
-    → KeepsLaw h.around h.machine before (touched a.touches (native_ends operands (after_native h a) signature ends))
-end_keeps h natives a signature operands fine (Gives value) e = gave_keeps h a signature value operands fine e
-end_keeps h natives a signature operands fine (ThrowsObject number) e = threw_keeps h a number fine e
-end_keeps h natives a signature operands fine (Calls callback) e =
-    goes_behind_answer h a _ fine (not_called a.ends callback e)
-    (called_back_keeps h natives a signature callback operands (fine.calls callback e))
-end_keeps h natives a signature operands fine IsStuck e = goes_behind_answer h a _ fine (not_stuck a.ends e) is_stuck
-
-native_keeps : {C : Type 0} {before : List Touch} (h : Here C) → AreNativesGuarded h.around.natives
-    → (active : Owner) → IsActive h.machine active.context → (previous : Option Owner) (member : ℕ)
-    (arguments operands : List TaggedValue)
-    → KeepsLaw h.around h.machine before (on_native h active previous member arguments (native_ends operands))
-native_keeps h natives active may previous member arguments operands =
-    at_check (native_may_begin h.around.world.shapes h.machine.heap member arguments) _
-    (at_some (native_type h.around.world.shapes member) _ (λ signature e.
-    end_keeps h natives (native_answer h active previous member arguments) signature operands
-    (fine_answer h natives active may previous member arguments)
-    (native_answer h active previous member arguments).ends refl))
+use Rattle.jc_machine.specs.Calls.{act_static_call, act_virtual, active_in, found_for, has_interface, invokes}
+use Rattle.jc_machine.specs.Calls.{special_target, static_target, virtual_target, with_arguments, with_receiver}
+use Rattle.jc_machine.specs.Going.{Here, facts_of}
+use Rattle.jc_machine.specs.Guarded.{of_frame}
+use Rattle.jc_machine.specs.Lookup.{are_of_types, class_of, is_of_class, is_shared_interface}
+use Rattle.jc_machine.specs.Machine.{Stepped, Touch}
+use Rattle.jc_machine.specs.Natives.{AreNativesGuarded}
+use Rattle.jc_machine.specs.Runtime.{class_cast_exception}
+use Rattle.jc_words.specs.Values.{TaggedValue}
+use Rattle.jc_machine.proofs.Guarding.{KeepsLaw, at_check, at_judged, at_object, at_reference, at_require, at_some}
+use Rattle.jc_machine.proofs.Guarding.{at_target, verdict_in}
+use Rattle.jc_machine.proofs.StayingApart.{RunsApplets, top_is_applets, top_runs}
+use Rattle.jc_machine.proofs.Switching.{found_has_code, listed_has_code, switched_by, switched_runs}
+use Rattle.jc_machine.proofs.GuardingNatives.{enters_keeps, native_keeps}
 
 -- ---- a method that was found
 
 invokes_keeps : {C : Type 0} {before : List Touch} (h : Here C) → AreNativesGuarded h.around.natives
     → (switch : Option Owner) (method : MethodName) (arguments operands : List TaggedValue)
+    → (is_member method ≡ false → RunsApplets h.around h.machine (active_in h.machine.top switch))
     → KeepsLaw h.around h.machine before (invokes h switch method arguments operands)
-invokes_keeps h natives switch (Loaded number offset) arguments operands =
-    enters_keeps h switch (record { number = number; offset = offset }) arguments operands
-invokes_keeps h natives switch (Api member) arguments operands =
-    native_keeps h natives h.machine.top.active (of_frame refl) h.machine.top.previous member arguments operands
+invokes_keeps h natives switch (Loaded number offset) arguments operands runs =
+    enters_keeps h switch (record { number = number; offset = offset }) arguments operands (runs refl)
+invokes_keeps h natives switch (Api member) arguments operands runs =
+    native_keeps h natives h.machine.top.active (of_frame refl) (top_runs h.around h.machine) h.machine.top.previous
+    member arguments operands
+
+-- a call that doesn't switch
+unswitched_keeps : {C : Type 0} {before : List Touch} (h : Here C) → AreNativesGuarded h.around.natives
+    → (method : MethodName) (arguments operands : List TaggedValue)
+    → KeepsLaw h.around h.machine before (invokes h None method arguments operands)
+unswitched_keeps h natives method arguments operands =
+    invokes_keeps h natives None method arguments operands (λ loaded. top_runs h.around h.machine)
+
+-- one that may: what was found for an object, if a package has it, is no method of the runtime's objects
+switched_keeps : {C : Type 0} {before : List Touch} (h : Here C) → AreNativesGuarded h.around.natives
+    → (access : Access) (number : ℕ) (o : Object TaggedValue) → object_at h.machine.heap number ≡ Some o
+    → (shared : Bool) (switch : Option Owner)
+    → switch ≡ switched_by (verdict_in h access (facts_of h o None shared)) → (method : MethodName)
+    → (HaveApiMembers h.around.world.shapes → is_member method ≡ false → has_no_code o.kind.object ≡ true → ⊥)
+    → (arguments operands : List TaggedValue)
+    → KeepsLaw h.around h.machine before (invokes h switch method arguments operands)
+switched_keeps h natives access number o there shared switch by method code arguments operands =
+    invokes_keeps h natives switch method arguments operands (λ loaded keeps p.
+    switched_runs h.machine.heap p.machine.objects number o there (code p.members loaded) h.machine.top.active
+    (top_is_applets keeps h.machine p.machine) access (facts_of h o None shared) refl refl switch by)
 
 -- ---- instructions
 
@@ -332,22 +90,24 @@ virtual_keeps : {C : Type 0} (h : Here C) → AreNativesGuarded h.around.natives
 virtual_keeps h natives target =
     at_receiver h target.signature _ (λ arguments number o operands there.
     at_check (is_of_class h.around.world.shapes target.class o.kind.object) _
-    (at_judged h InvokeVirtual number o there None false _ (λ fine switch.
+    (at_judged h InvokeVirtual number o there None false _ (λ fine switch by.
     at_some (found_for h target.token o) _ (λ method e.
-    invokes_keeps h natives switch method arguments operands))))
+    switched_keeps h natives InvokeVirtual number o there false switch by method
+    (λ api. found_has_code h.around.world.shapes api o.kind.object target.token
+    (home_at h.machine.top.method.number) method e) arguments operands))))
 
 special_keeps : {C : Type 0} (h : Here C) → AreNativesGuarded h.around.natives → (target : MethodTarget)
     → KeepsLaw h.around h.machine [] (act_special h target)
 special_keeps h natives target =
     at_receiver h target.signature _ (λ arguments number o operands there.
     at_check (is_of_class h.around.world.shapes target.class o.kind.object) _
-    (invokes_keeps h natives None target.method arguments operands))
+    (unswitched_keeps h natives target.method arguments operands))
 
 static_call_keeps : {C : Type 0} (h : Here C) → AreNativesGuarded h.around.natives → (target : MethodTarget)
     → KeepsLaw h.around h.machine [] (act_static_call h target)
 static_call_keeps h natives target =
     at_arguments h target.signature _ (λ arguments operands.
-    invokes_keeps h natives None target.method arguments operands)
+    unswitched_keeps h natives target.method arguments operands)
 
 of_interface_keeps : {C : Type 0} (h : Here C) → AreNativesGuarded h.around.natives → (interface : ClassName)
     (token : ℕ) (signature : Signature ClassName)
@@ -355,10 +115,12 @@ of_interface_keeps : {C : Type 0} (h : Here C) → AreNativesGuarded h.around.na
 of_interface_keeps h natives interface token signature =
     at_receiver h signature _ (λ arguments number o operands there.
     at_judged h InvokeInterface number o there None (is_shared_interface h.around.world.shapes interface) _
-    (λ fine switch.
+    (λ fine switch by.
     at_require h class_cast_exception (has_interface h.around.world.shapes interface o) _
     (at_some (interface_method_of h.around.world.shapes (class_of o.kind.object) interface token) _ (λ method e.
-    invokes_keeps h natives switch method arguments operands))))
+    switched_keeps h natives InvokeInterface number o there (is_shared_interface h.around.world.shapes interface)
+    switch by method
+    (λ api. listed_has_code h.around.world.shapes api o.kind.object interface token method e) arguments operands))))
 
 interface_keeps : {C : Type 0} (h : Here C) → AreNativesGuarded h.around.natives → (count token : ℕ)
     (interface : ClassName) → KeepsLaw h.around h.machine [] (act_interface h count token interface)

@@ -24,8 +24,9 @@ use Rattle.jc_machine.specs.Machine.{Machine, Stepped, Surroundings, Touch}
 use Rattle.jc_words.specs.Values.{Null, Ref, TaggedValue, Unset, Word}
 use Rattle.jc_machine.proofs.Guarding.{KeepsLaw, at_accessed, at_check, at_object, at_reference, at_reference_local}
 use Rattle.jc_machine.proofs.Guarding.{at_some, at_stored, at_target, at_top, gives_still, goes, is_stuck}
-use Rattle.jc_machine.proofs.Guarding.{nothing_changes}
+use Rattle.jc_machine.proofs.GuardingHeaps.{nothing_changes}
 use Rattle.jc_machine.proofs.GuardingWrites.{stores}
+use Rattle.jc_machine.proofs.StayingApart.{LeadsApart}
 
 -- ---- static fields
 
@@ -46,6 +47,12 @@ at_stored_value h (Ref n) s k =
 at_stored_value h Null s k = k []
 at_stored_value h Unset s k = is_stuck
 
+-- static fields alone change
+static_apart : {C : Type 0} (h : Here C) (place : StaticPlace) (v : TaggedValue)
+    → LeadsApart h.around h.machine (put_static h place v).machine
+static_apart h place v keeps p =
+    record { objects = p.machine.objects; frames = p.machine.frames; kept = p.machine.kept }
+
 put_static_keeps : {C : Type 0} (h : Here C) (form : Form) (place : StaticPlace) (declared : DeclaredType ClassName)
     → KeepsLaw h.around h.machine [] (act_put_static h form place declared)
 put_static_keeps h form place declared =
@@ -53,7 +60,7 @@ put_static_keeps h form place declared =
     at_check (is_of_type h.around.world.shapes h.machine.heap declared v) _
     (at_some (static_at h.machine.statics place.home place.offset) _ (λ s e. at_stored_value h v _ (λ before.
     goes (put_static h place (stored_as form v)) h.next_pc h.machine.top.locals vs
-    (nothing_changes before h.machine.heap)))))
+    (nothing_changes before h.machine.heap) (static_apart h place (stored_as form v))))))
 
 static_keeps : {C : Type 0} (h : Here C) (access : FieldAccess) (place : StaticPlace)
     (declared : DeclaredType ClassName) (action : FieldAction) (holder : Holder)

@@ -1,6 +1,7 @@
 -- Objects that are made, cast and thrown, and references that are moved, keep the law of accesses.
-use Rattle.std.proofs.Common.{ℕ, ℤ, pos, Bool, true, false, cond, not, List, [], ◌∷◌, length, Some, None}
-use Rattle.std.proofs.Common.{inr, int_lt, nat_lt, refl, replicate, slice_get, slice_set}
+use Rattle.std.proofs.Common.{ℕ, ℤ, pos, Bool, true, false, cond, not, List, [], ◌∷◌, length, Some, None, ◌≡◌, inr}
+use Rattle.std.proofs.Common.{int_lt, nat_lt, refl, sym, ap, ◌∙◌, replicate, slice_get, slice_set}
+use Rattle.std.proofs.lemmas.Option.{same_Some}
 use Rattle.std.specs.Option.{option_map_or}
 use Rattle.jc_classes.specs.Subtype.{is_subtype}
 use Rattle.jc_code.specs.declared.object.Creation.{Creation}
@@ -20,12 +21,15 @@ use Rattle.jc_firewall.specs.declared.access.Access.TheVariants as accesses
 use Rattle.jc_firewall.specs.declared.access.Verdict.TheVariants.{Allowed}
 use Rattle.jc_names.specs.declared.name.ClassName.{ClassName}
 use Rattle.jc_step.specs.Objects.{class_target, has_objects}
-use Rattle.jc_store.specs.Heap.{Object, next_number, object_at}
-use Rattle.jc_store.specs.declared.kind.Mark.TheVariants.{Plain}
+use Rattle.jc_store.specs.Heap.{Heap, Object, next_number, object_at}
+use Rattle.jc_store.specs.declared.kind.Mark.{Mark}
+use Rattle.jc_store.specs.declared.kind.Mark.TheVariants.{Plain, TemporaryEntryPoint}
 use Rattle.jc_store.specs.declared.kind.ObjectType.{ObjectType}
 use Rattle.jc_store.specs.declared.kind.ObjectType.TheVariants.{Instance, ReferenceArray}
 use Rattle.jc_words.specs.Shorts.{short}
 use Rattle.jc_words.specs.Values.{Null, Ref, TaggedValue, Unset, Word}
+use Rattle.jc_api.specs.declared.class.ApiClass.TheVariants.{SystemException}
+use Rattle.jc_machine.specs.Apart.{SparesPlain}
 use Rattle.jc_machine.specs.Going.{Here, gives, no_resource, stored_in, throws, throws_system}
 use Rattle.jc_machine.specs.Guarded.{IsAccessed, of_runtime}
 use Rattle.jc_machine.specs.Lookup.{component_class, is_instance, is_shared_interface, is_throwable}
@@ -33,9 +37,10 @@ use Rattle.jc_machine.specs.Machine.{Machine, Stepped, Surroundings, Throws, Tou
 use Rattle.jc_machine.specs.Natives.{AreNativesGuarded}
 use Rattle.jc_machine.specs.Objects.{Test, act_branch, act_check_cast, act_create, act_instance_of, act_object}
 use Rattle.jc_machine.specs.Objects.{act_throw, bit, cells_of, creates, creates_array, has_space, is_array_of_words}
-use Rattle.jc_machine.specs.Arrays.{is_there}
 use Rattle.jc_machine.specs.Objects.{is_null, is_same, made, on_class, on_known, on_test, tested, word_array}
-use Rattle.jc_machine.specs.Runtime.{class_cast_exception, negative_size_exception, system_exception}
+use Rattle.jc_machine.specs.Arrays.{is_there}
+use Rattle.jc_machine.specs.Runtime.{HasRuntimeObject, HasRuntimeObjects, class_cast_exception, negative_size_exception}
+use Rattle.jc_machine.specs.Runtime.{system_exception, temporary}
 use Rattle.jc_machine.proofs.Guarding.{KeepsLaw, at_accessed, at_check, at_judged, at_object, at_reference}
 use Rattle.jc_machine.proofs.Guarding.{at_reference_local, at_require, at_some, at_target, at_word, behind_allowed}
 use Rattle.jc_machine.proofs.Guarding.{branches_still, gives_changed, gives_still, goes_behind, is_stuck, leaves}
@@ -44,7 +49,7 @@ use Rattle.jc_machine.proofs.GuardingArrays.{length_keeps, load_keeps, store_kee
 use Rattle.jc_machine.proofs.GuardingCalls.{call_keeps}
 use Rattle.jc_machine.proofs.GuardingFields.{field_keeps}
 use Rattle.jc_machine.proofs.GuardingReturns.{at_returns}
-use Rattle.jc_machine.proofs.GuardingWrites.{more_changes, one_changes}
+use Rattle.jc_machine.proofs.GuardingWrites.{more_changes, new_apart, one_changes, stored_apart}
 
 -- ---- new objects
 
@@ -57,6 +62,9 @@ reason_touch = record {
   verdict = Allowed;
 }
 
+not_plain_too : (mark : Mark) → mark ≡ TemporaryEntryPoint → mark ≡ Plain → ⊥
+not_plain_too mark e f = cc
+
 reason_accessed : (object : Object TaggedValue) → IsAccessed (reason_touch ∷ []) system_exception object
 reason_accessed object = record {
   place = 0;
@@ -66,6 +74,13 @@ reason_accessed object = record {
   allowed = refl;
   own = λ plain. inr refl;
 }
+
+-- to an object that isn't plain
+reason_spares : (heap : Heap TaggedValue) → HasRuntimeObjects heap → SparesPlain heap reason_touch
+reason_spares heap own e o there plain =
+    let s : HasRuntimeObject heap (temporary system_exception SystemException 1) = own.1.1.1.1.1.1.1.1.0 in
+    not_plain_too o.kind.mark
+    (ap (λ (x : Object TaggedValue). x.kind.mark) (same_Some o s.object (sym there ∙ s.found)) ∙ s.mark) plain
 
 system_keeps : {C : Type 0} (h : Here C) (reason : ℕ) → KeepsLaw h.around h.machine [] (throws_system h reason)
 system_keeps h reason =
@@ -78,11 +93,11 @@ system_keeps h reason =
       stored = None;
       shared = false;
       verdict = refl;
-    }) refl
+    }) refl (λ keeps p. reason_spares h.machine.heap p.machine.objects.own)
     (leaves (Throws (stored_in h system_exception object 0 (Word reason)).machine system_exception)
     (stored_in h system_exception object 0 (Word reason)).machine refl
     (one_changes (reason_touch ∷ []) h.machine.heap object 0 (Word reason) system_exception
-    (reason_accessed object) there)))
+    (reason_accessed object) there) (stored_apart h system_exception object 0 (Word reason) there)))
 
 made_keeps : {C : Type 0} (h : Here C) (object : ObjectType) (cells vs : List TaggedValue)
     → KeepsLaw h.around h.machine [] (gives (made h object cells) (Ref (next_number h.machine.heap)) vs)
@@ -92,7 +107,11 @@ made_keeps h object cells vs =
       kind = record { object = object; mark = Plain; clears = None };
       owner = h.machine.top.active;
       cells = cells;
-    }))
+    })) (new_apart h (record {
+      kind = record { object = object; mark = Plain; clears = None };
+      owner = h.machine.top.active;
+      cells = cells;
+    }) (record { whose = refl; plain = refl }))
 
 by_space : {C : Type 0} (h : Here C) (object : ObjectType) (cells vs : List TaggedValue) (space : Bool)
     → KeepsLaw h.around h.machine []
@@ -149,7 +168,7 @@ at_tested : {C : Type 0} (h : Here C) (access : Access) (type : TestedType) (v :
 at_tested h access type (Word n) of_null go k l = is_stuck
 at_tested h access type (Ref n) of_null go k l =
     at_test h type _ (λ test. at_object h (Ref n) _ (λ number o there.
-    at_judged h access number o there None test.is_shared _ (λ fine switch.
+    at_judged h access number o there None test.is_shared _ (λ fine switch by.
     l _ (test.passes o.kind.object))))
 at_tested h access type Null of_null go k l = at_test h type _ (λ test. k)
 at_tested h access type Unset of_null go k l = is_stuck

@@ -1,11 +1,12 @@
 -- Returns keep the law of accesses.
-use Rattle.std.proofs.Common.{List, [], ◌∷◌, length, nat_lt, Option, Some, None, ℕ, refl}
+use Rattle.std.proofs.Common.{◌≡◌, List, [], ◌∷◌, length, nat_lt, Option, Some, None, ℕ, true, refl, subst}
 use Rattle.jc_machine.specs.Going.{Here}
 use Rattle.jc_machine.specs.Lookup.{is_given}
 use Rattle.jc_machine.specs.Machine.{Ends, Frame, Machine, Next, Stepped, Surroundings, Touch}
 use Rattle.jc_machine.specs.Returns.{pc_behind_call, result_of, resumed, returns, returns_to, room_of, with_result}
 use Rattle.jc_words.specs.Values.{TaggedValue}
 use Rattle.jc_machine.proofs.Guarding.{KeepsLaw, at_check, at_some, stays}
+use Rattle.jc_machine.proofs.StayingApart.{LeadsApart, are_applets, is_apart_itself, waiting_are_applets}
 
 at_result : {C : Type 0} {around : Surroundings C} {m : Machine C} {before : List Touch} (h : Here C) (room : ℕ)
     (v : Option TaggedValue)
@@ -16,16 +17,29 @@ at_result h room None operands go k = k operands
 at_result h room (Some v) operands go k =
     at_check (nat_lt (length operands) room) (go (v ∷ operands)) (k (v ∷ operands))
 
+-- the frame that waited is active as an applet
+resumed_apart : {C : Type 0} (h : Here C) (f : Frame) (waiting : List Frame) (pc : ℕ) (operands : List TaggedValue)
+    → h.machine.waiting ≡ f ∷ waiting → LeadsApart h.around h.machine (resumed h.machine f waiting pc operands)
+resumed_apart h f waiting pc operands there keeps p = record {
+  objects = p.machine.objects;
+  frames =
+      subst (λ (frames : List Frame). are_applets frames ≡ true) there
+      (waiting_are_applets keeps h.machine p.machine);
+  kept = p.machine.kept;
+}
+
 returns_still : {C : Type 0} {before : List Touch} (h : Here C) (result : Option TaggedValue) (waiting : List Frame)
-    → KeepsLaw h.around h.machine before (returns_to h result waiting)
-returns_still h result [] = stays (Ends h.machine result) h.machine refl refl
-returns_still h result (f ∷ waiting) =
+    → h.machine.waiting ≡ waiting → KeepsLaw h.around h.machine before (returns_to h result waiting)
+returns_still h result [] there =
+    stays (Ends h.machine result) h.machine refl refl (is_apart_itself h.around h.machine)
+returns_still h result (f ∷ waiting) there =
     at_some (pc_behind_call h.around f) _ (λ pc e. at_some (room_of h.around f) _ (λ room d.
     at_result h room result f.operands _ (λ operands.
-    stays (Next (resumed h.machine f waiting pc operands)) (resumed h.machine f waiting pc operands) refl refl)))
+    stays (Next (resumed h.machine f waiting pc operands)) (resumed h.machine f waiting pc operands) refl refl
+    (resumed_apart h f waiting pc operands there))))
 
 pub at_returns : {C : Type 0} {before : List Touch} (h : Here C) (value : Option TaggedValue)
     → KeepsLaw h.around h.machine before (returns h value)
 at_returns h value =
     at_some (result_of h) _ (λ result e. at_check (is_given h.around.world.shapes h.machine.heap result value) _
-    (returns_still h value h.machine.waiting))
+    (returns_still h value h.machine.waiting refl))

@@ -1,7 +1,7 @@
--- Each step keeps the law of accesses, where native members keep theirs.
-use Rattle.std.proofs.Common.{◌≡◌, inl, inr, ℕ, ◌-◌, Bool, true, false, cond, List, [], ◌∷◌, Option, Some, None}
-use Rattle.std.proofs.Common.{refl, sym, ap, ◌∙◌, subst, nat_lt}
-use Rattle.std.proofs.lemmas.Bool.{both_ways}
+-- Each step keeps the law of accesses, where native members keep theirs; and what is apart stays so.
+use Rattle.std.proofs.Common.{◌≡◌, inl, inr, ℕ, ◌-◌, Bool, true, false, cond, List, [], ◌∷◌, Option, Some, None, refl}
+use Rattle.std.proofs.Common.{sym, ap, ◌∙◌, subst, nat_lt}
+use Rattle.std.proofs.lemmas.Bool.{and_parts, both_ways}
 use Rattle.std.proofs.lemmas.Option.{none-some, same_Some}
 use Rattle.std.specs.List.{list_all}
 use Rattle.std.specs.Option.{option_map_or}
@@ -11,9 +11,10 @@ use Rattle.jc_code.specs.declared.instr.Operation.{Operation}
 use Rattle.jc_code.specs.declared.instr.Operation.TheVariants as operations
 use Rattle.jc_names.specs.declared.name.ClassName.{ClassName}
 use Rattle.jc_store.specs.Heap.{Heap, Object, object_at}
+use Rattle.jc_machine.specs.Apart.{AreNativesApart, HaveApiMembers, IsApart, StaysApart, is_applets}
 use Rattle.jc_machine.specs.Going.{Here, moved}
-use Rattle.jc_machine.specs.Guarded.{AreGuarded, IsGuarded, IsRefused, KeepsPlain, allowed}
-use Rattle.jc_machine.specs.Guarded.{are_allowed, denied, machine_of}
+use Rattle.jc_machine.specs.Guarded.{AreGuarded, IsGuarded, IsRefused, KeepsPlain, allowed, are_allowed, denied}
+use Rattle.jc_machine.specs.Guarded.{machine_of}
 use Rattle.jc_machine.specs.Lookup.{class_of, code_at, declared_at, instruction_at, is_throwable}
 use Rattle.jc_machine.specs.Machine.{Ends, Frame, Machine, Next, Outcome, Stuck, Surroundings, Throws, Touch, UsedUp}
 use Rattle.jc_machine.specs.Natives.{AreNativesGuarded, KeepsObjects}
@@ -22,9 +23,11 @@ use Rattle.jc_machine.specs.Runtime.{security_exception}
 use Rattle.jc_machine.specs.Step.{act, act_at, caught_in, covering, defensive_step, handler_for, here, is_found}
 use Rattle.jc_machine.specs.Step.{settled, settled_object, through, unwound}
 use Rattle.jc_words.specs.Values.{Ref, TaggedValue}
-use Rattle.jc_machine.proofs.Guarding.{KeepsHeap, KeepsLaw, at_some, mapped}
+use Rattle.jc_machine.proofs.Guarding.{KeepsLaw, at_some}
+use Rattle.jc_machine.proofs.GuardingHeaps.{KeepsHeap, mapped}
 use Rattle.jc_machine.proofs.GuardingObjects.{object_keeps}
 use Rattle.jc_machine.proofs.GuardingWords.{word_keeps}
+use Rattle.jc_machine.proofs.StayingApart.{IsApartPart, are_applets}
 
 -- ---- one instruction
 
@@ -41,30 +44,44 @@ at_keeps s natives m =
     at_some (code_at s.world m.top.method) _ (λ body e. at_some (instruction_at body.code m.top.pc) _ (λ instr e.
     act_keeps (here s m method header instr) natives instr.operation))))
 
--- ---- what is thrown: no object changes
+-- ---- what is thrown: no object changes, and no frame is active otherwise
 
--- what an outcome leaves has these objects
-record LeavesHeap {C : Type 0} (heap : Heap TaggedValue) (o : Outcome C) : Type 0 where
-  same : (after : Machine C) → machine_of o ≡ Some after → heap ≡ after.heap
+-- what an outcome leaves has these objects, and is apart where the machine is
+record LeavesHeap {C : Type 0} (m : Machine C) (o : Outcome C) : Type 0 where
+  same : (after : Machine C) → machine_of o ≡ Some after → m.heap ≡ after.heap
+  apart : (keeps : C → Bool) → IsApart keeps m → (after : Machine C) → machine_of o ≡ Some after
+      → IsApart keeps after
 
-of_machine : {C : Type 0} (o : Outcome C) (m : Machine C) → machine_of o ≡ Some m → LeavesHeap m.heap o
-of_machine {C = C} o m e = record {
-  same = λ after f. ap (λ (x : Machine C). x.heap) (same_Some m after (sym e ∙ f));
+of_machine : {C : Type 0} (m : Machine C) (o : Outcome C) (x : Machine C) → machine_of o ≡ Some x
+    → m.heap ≡ x.heap → ((keeps : C → Bool) → IsApart keeps m → IsApart keeps x) → LeavesHeap m o
+of_machine {C = C} m o x e same a = record {
+  same = λ after f. same ∙ ap (λ (y : Machine C). y.heap) (same_Some x after (sym e ∙ f));
+  apart = λ keeps p after f. subst (IsApart keeps) (same_Some x after (sym e ∙ f)) (a keeps p);
 }
 
-of_stuck : {C : Type 0} (heap : Heap TaggedValue) → LeavesHeap {C = C} heap Stuck
-of_stuck heap = record { same = λ after f. absurd (none-some after f) }
+of_stuck : {C : Type 0} (m : Machine C) → LeavesHeap m Stuck
+of_stuck m = record {
+  same = λ after f. absurd (none-some after f);
+  apart = λ keeps p after f. absurd (none-some after f);
+}
 
-either : {C : Type 0} (heap : Heap TaggedValue) (b : Bool) (o p : Outcome C) → LeavesHeap heap o → LeavesHeap heap p
-    → LeavesHeap heap (cond b o p)
-either heap true o p h k = h
-either heap false o p h k = k
+either : {C : Type 0} (m : Machine C) (b : Bool) (o p : Outcome C) → LeavesHeap m o → LeavesHeap m p
+    → LeavesHeap m (cond b o p)
+either m true o p h k = h
+either m false o p h k = k
+
+-- frames are active as applets, where those of a machine are
+abbrev AreOf : {C : Type 0} → Machine C → List Frame → Type 0
+AreOf {C} m frames = (keeps : C → Bool) → IsApart keeps m → are_applets frames ≡ true
+
+outer_are : {C : Type 0} (m : Machine C) (f : Frame) (frames : List Frame) → AreOf m (f ∷ frames) → AreOf m frames
+outer_are m f frames h keeps p = (and_parts (is_applets f.active) (are_applets frames) (h keeps p)).1
 
 caught_leaves : {C : Type 0} (m : Machine C) (object : ℕ) (f : Frame) (waiting : List Frame) (body : MethodBody)
-    (room : Option ℕ) (outward : Outcome C) (handler : Option Handler) → LeavesHeap m.heap outward
-    → LeavesHeap m.heap (caught_in m object f waiting body room outward handler)
-caught_leaves m object f waiting body room outward None h = h
-caught_leaves {C = C} m object f waiting body room outward (Some handler) h =
+    (room : Option ℕ) (outward : Outcome C) (handler : Option Handler) → AreOf m (f ∷ waiting)
+    → LeavesHeap m outward → LeavesHeap m (caught_in m object f waiting body room outward handler)
+caught_leaves m object f waiting body room outward None are h = h
+caught_leaves {C = C} m object f waiting body room outward (Some handler) are h =
     let caught : Machine C = record {
       heap = m.heap;
       statics = m.statics;
@@ -72,33 +89,37 @@ caught_leaves {C = C} m object f waiting body room outward (Some handler) h =
       top = moved f (handler.handler - body.code_offset) f.locals (Ref object ∷ []);
       waiting = waiting;
     } in
-    either m.heap (option_map_or (nat_lt 0) room false) (Next caught) Stuck (of_machine (Next caught) caught refl)
-    (of_stuck m.heap)
+    either m (option_map_or (nat_lt 0) room false) (Next caught) Stuck
+    (of_machine m (Next caught) caught refl refl (λ keeps p. record {
+      objects = p.objects;
+      frames = are keeps p;
+      kept = p.kept;
+    })) (of_stuck m)
 
 through_leaves : {C : Type 0} (s : Surroundings C) (m : Machine C) (object : ℕ) (class : ClassName) (f : Frame)
-    (waiting : List Frame) (outward : Outcome C) (body : Option MethodBody) → LeavesHeap m.heap outward
-    → LeavesHeap m.heap (through s m object class f waiting outward body)
-through_leaves s m object class f waiting outward None h = of_stuck m.heap
-through_leaves s m object class f waiting outward (Some body) h =
-    either m.heap (list_all (is_found s.world f.method.number) (covering body f.pc))
+    (waiting : List Frame) (outward : Outcome C) (body : Option MethodBody) → AreOf m (f ∷ waiting)
+    → LeavesHeap m outward → LeavesHeap m (through s m object class f waiting outward body)
+through_leaves s m object class f waiting outward None are h = of_stuck m
+through_leaves s m object class f waiting outward (Some body) are h =
+    either m (list_all (is_found s.world f.method.number) (covering body f.pc))
     (caught_in m object f waiting body (room_of s f) outward (handler_for s.world f class body)) Stuck
-    (caught_leaves m object f waiting body (room_of s f) outward (handler_for s.world f class body) h)
-    (of_stuck m.heap)
+    (caught_leaves m object f waiting body (room_of s f) outward (handler_for s.world f class body) are h)
+    (of_stuck m)
 
 unwound_leaves : {C : Type 0} (s : Surroundings C) (m : Machine C) (object : ℕ) (class : ClassName)
-    (waiting : List Frame) → LeavesHeap m.heap (unwound s m object class waiting)
-unwound_leaves s m object class [] = of_machine (Throws m object) m refl
-unwound_leaves s m object class (f ∷ waiting) =
-    through_leaves s m object class f waiting (unwound s m object class waiting) (code_at s.world f.method)
-    (unwound_leaves s m object class waiting)
+    (waiting : List Frame) → AreOf m waiting → LeavesHeap m (unwound s m object class waiting)
+unwound_leaves s m object class [] are = of_machine m (Throws m object) m refl refl (λ keeps p. p)
+unwound_leaves s m object class (f ∷ waiting) are =
+    through_leaves s m object class f waiting (unwound s m object class waiting) (code_at s.world f.method) are
+    (unwound_leaves s m object class waiting (outer_are m f waiting are))
 
 object_leaves : {C : Type 0} (s : Surroundings C) (m : Machine C) (number : ℕ) (o : Option (Object TaggedValue))
-    → LeavesHeap m.heap (settled_object s m number o)
-object_leaves s m number None = of_stuck m.heap
+    → LeavesHeap m (settled_object s m number o)
+object_leaves s m number None = of_stuck m
 object_leaves s m number (Some o) =
-    either m.heap (is_throwable s.world.shapes o.kind.object)
+    either m (is_throwable s.world.shapes o.kind.object)
     (unwound s m number (class_of o.kind.object) (m.top ∷ m.waiting)) Stuck
-    (unwound_leaves s m number (class_of o.kind.object) (m.top ∷ m.waiting)) (of_stuck m.heap)
+    (unwound_leaves s m number (class_of o.kind.object) (m.top ∷ m.waiting) (λ keeps p. p.frames)) (of_stuck m)
 
 -- what an outcome changes is what it changes when it is settled
 settled_changes : {C : Type 0} (s : Surroundings C) (touches : List Touch) (heap : Heap TaggedValue) (o : Outcome C)
@@ -111,6 +132,17 @@ settled_changes s touches heap (Throws m object) h after e =
 settled_changes s touches heap (Ends m value) h after e = h after e
 settled_changes s touches heap (UsedUp m) h after e = h after e
 settled_changes s touches heap Stuck h after e = absurd (none-some after e)
+
+-- so is what it leaves that is apart
+settled_apart : {C : Type 0} (s : Surroundings C) (keeps : C → Bool) (o : Outcome C)
+    → ((x : Machine C) → machine_of o ≡ Some x → IsApart keeps x) → (after : Machine C)
+    → machine_of (settled s o) ≡ Some after → IsApart keeps after
+settled_apart s keeps (Next m) h after e = h after e
+settled_apart s keeps (Throws m object) h after e =
+    (object_leaves s m object (object_at m.heap object)).apart keeps (h m refl) after e
+settled_apart s keeps (Ends m value) h after e = h after e
+settled_apart s keeps (UsedUp m) h after e = h after e
+settled_apart s keeps Stuck h after e = absurd (none-some after e)
 
 -- ---- a step
 
@@ -132,6 +164,17 @@ steps_keep {C = C} s natives m =
           (λ e. ap (λ (o : Outcome C). settled s o) e) k.accesses;
       changes = λ after e. (steps_keep_heap s natives m after e).changes;
     }
+
+pub steps_stay_apart : {C : Type 0} (keeps : C → Bool) (s : Surroundings C) → AreNativesGuarded s.natives
+    → AreNativesApart keeps s.natives → HaveApiMembers s.world.shapes → (m : Machine C) → IsApart keeps m
+    → StaysApart keeps s m
+unfolding defensive_step
+steps_stay_apart {C = C} keeps s natives apart members m a =
+    let p : IsApartPart keeps m (act_at s m) =
+        (at_keeps s natives m).apart keeps (record { members = members; natives = apart; machine = a }) in record {
+          spares = p.spares;
+          after = λ after e. settled_apart s keeps (act_at s m).outcome p.after after e;
+        }
 
 -- ---- what follows
 

@@ -14,12 +14,15 @@ use Rattle.jc_firewall.specs.declared.access.Verdict.TheVariants.{Allowed, Denie
 use Rattle.jc_store.specs.Heap.{Heap, Object, object_at, with_cell, with_new, with_object}
 use Rattle.jc_store.specs.declared.kind.Mark.{Mark}
 use Rattle.jc_store.specs.declared.kind.Mark.TheVariants.{Plain}
-use Rattle.jc_machine.specs.Going.{Here, facts_of, leaves_operands, stored_in, touch_of}
+use Rattle.jc_machine.specs.Apart.{IsPlainOf}
+use Rattle.jc_machine.specs.Going.{Here, facts_of, leaves_operands, stored_in, touch_of, with_heap}
 use Rattle.jc_machine.specs.Guarded.{ChangesAccessed, IsAccessed, is_allowed}
 use Rattle.jc_machine.specs.Machine.{Touch}
 use Rattle.jc_machine.specs.Natives.{IsStill, KeepsObjects}
 use Rattle.jc_words.specs.Values.{TaggedValue}
-use Rattle.jc_machine.proofs.Guarding.{KeepsHeap, KeepsLaw, get_first, goes, is_still, verdict_in}
+use Rattle.jc_machine.proofs.Guarding.{KeepsLaw, goes, verdict_in}
+use Rattle.jc_machine.proofs.GuardingHeaps.{KeepsHeap, get_first, is_still}
+use Rattle.jc_machine.proofs.StayingApart.{LeadsApart, adds_none, adds_one, objects_stay_apart, top_is_applets}
 
 -- ---- whose a plain object is that is written to
 
@@ -161,6 +164,33 @@ pub more_changes : (touches : List Touch) (heap : Heap TaggedValue) (new : Objec
 more_changes touches heap new =
     record { changes = more_changes_only touches heap new; kept = all_stay heap new }
 
+-- ---- what is apart
+
+pub stored_apart : {C : Type 0} (h : Here C) (number : ℕ) (object : Object TaggedValue) (index : ℕ) (v : TaggedValue)
+    → object_at h.machine.heap number ≡ Some object
+    → LeadsApart h.around h.machine (stored_in h number object index v).machine
+stored_apart h number object index v there keeps p = record {
+  objects =
+      objects_stay_apart h.machine.heap (with_object h.machine.heap number (with_cell object index v))
+      h.machine.top.active p.machine.objects (each_stays [] h.machine.heap object index v number there)
+      (top_is_applets keeps h.machine p.machine)
+      (adds_none h.machine.top.active h.machine.heap number (with_cell object index v));
+  frames = p.machine.frames;
+  kept = p.machine.kept;
+}
+
+-- a plain object of the owner that is active
+pub new_apart : {C : Type 0} (h : Here C) (new : Object TaggedValue) → IsPlainOf h.machine.top.active new
+    → LeadsApart h.around h.machine (with_heap h.machine (with_new h.machine.heap new))
+new_apart h new plain keeps p = record {
+  objects =
+      objects_stay_apart h.machine.heap (with_new h.machine.heap new) h.machine.top.active p.machine.objects
+      (all_stay h.machine.heap new) (top_is_applets keeps h.machine p.machine)
+      (adds_one h.machine.top.active h.machine.heap new plain);
+  frames = p.machine.frames;
+  kept = p.machine.kept;
+}
+
 -- a component is stored, and the frame goes on
 pub stores : {C : Type 0} (h : Here C) (access : Access) (number : ℕ) (object : Object TaggedValue)
     (mark : Option Mark) (index : ℕ) (v : TaggedValue) (vs : List TaggedValue)
@@ -172,3 +202,4 @@ stores h access number object mark index v vs there written fine =
     goes (stored_in h number object index v) h.next_pc h.machine.top.locals vs
     (one_changes (touch_of h access number (verdict_in h access (facts_of h object mark false)) ∷ []) h.machine.heap
     object index v number (is_accessed h access number object mark written fine) there)
+    (stored_apart h number object index v there)

@@ -10,6 +10,8 @@ mod Guarding
 mod GuardingArrays
 mod GuardingCalls
 mod GuardingFields
+mod GuardingHeaps
+mod GuardingNatives
 mod GuardingObjects
 mod GuardingReturns
 mod GuardingSteps
@@ -20,3 +22,5 @@ mod IdleLaw
 mod NewMachines
 mod SmallWorlds
 mod Staying
+mod StayingApart
+mod Switching

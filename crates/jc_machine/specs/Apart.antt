@@ -42,11 +42,14 @@ pub record IsRuntimes (o : Object TaggedValue) : Type 0 where
   pub instance : o.owner.instance ≡ 0
   pub codeless : has_no_code o.kind.object ≡ true
 
--- the runtime has its own objects, and whatever else is in its context has no code
+-- the runtime has its own objects, whatever else is in its context has no code, and an object that isn't plain is in
+-- its context: a call of such an object switches to the runtime, whose ever it is
 pub record IsSetApart (heap : Heap TaggedValue) : Type 0 where
   pub own : HasRuntimeObjects heap
   pub others : (number : ℕ) (o : Object TaggedValue) → object_at heap number ≡ Some o
       → o.owner.context ≡ runtime_context → IsRuntimes o
+  pub marked : (number : ℕ) (o : Object TaggedValue) → object_at heap number ≡ Some o → o.kind.mark ≢ Plain
+      → o.owner.context ≡ runtime_context
 
 -- an owner in the context of a package
 abbrev pub is_applets : Owner → Bool
@@ -80,10 +83,15 @@ SparesPlain heap touch = touch.active ≡ runtime_context → (o : Object Tagged
 
 -- ---- native members
 
--- objects that weren't there are an owner's
+-- a plain object of an owner
+pub record IsPlainOf (owner : Owner) (o : Object TaggedValue) : Type 0 where
+  pub whose : o.owner ≡ owner
+  pub plain : o.kind.mark ≡ Plain
+
+-- objects that weren't there are an owner's, and plain
 abbrev pub AddsFor : Owner → Heap TaggedValue → Heap TaggedValue → Type 0
 AddsFor owner before after = (number : ℕ) (o : Object TaggedValue) → object_at after number ≡ Some o
-    → object_at before number ≡ None → o.owner ≡ owner
+    → object_at before number ≡ None → IsPlainOf owner o
 
 -- a call that a native member makes is of a member of Applet
 abbrev pub AsksApplet : Callback → Type 0

@@ -1,0 +1,121 @@
+-- Lists of accesses, and what changes of objects by them.
+use Rattle.std.proofs.Common.{◌≡◌, ℕ, zero, suc, true, List, [], ◌∷◌, ◌++◌, Option, Some, inl, inr, refl, sym, ap, ◌∙◌}
+use Rattle.std.proofs.Common.{slice_get}
+use Rattle.std.proofs.lemmas.Bool.{and_from, and_parts}
+use Rattle.std.proofs.lemmas.Option.{none-some, same_Some}
+use Rattle.std.specs.List.{AllByRecursion}
+use Rattle.jc_store.specs.Heap.{Heap, Object, object_at}
+use Rattle.jc_machine.specs.Guarded.{AreGuarded, ChangesAccessed, IsAccessed, allowed, are_allowed, denied, is_allowed}
+use Rattle.jc_machine.specs.Guarded.{is_last_denied}
+use Rattle.jc_machine.specs.Machine.{Touch}
+use Rattle.jc_machine.specs.Natives.{IsStill, KeepsObjects}
+use Rattle.jc_words.specs.Values.{TaggedValue}
+
+-- ---- objects
+
+-- by these accesses objects become others: those that were there stay, and change only where they were accessed
+pub record KeepsHeap (touches : List Touch) (before after : Heap TaggedValue) : Type 0 where
+  pub changes : ChangesAccessed touches before after
+  pub kept : KeepsObjects before after
+
+-- ---- lists of accesses
+
+pub all_joined : {A : Type 0} (P : A → Type 0) (xs ys : List A) → AllByRecursion P xs → AllByRecursion P ys
+    → AllByRecursion P (xs ++ ys)
+all_joined P [] ys h k = k
+all_joined P (x ∷ xs) ys h k = (h.0, all_joined P xs ys h.1 k)
+
+pub each_mapped : {A : Type 0} (P Q : A → Type 0) (xs : List A) → ((x : A) → P x → Q x) → AllByRecursion P xs
+    → AllByRecursion Q xs
+each_mapped P Q [] f h = tt
+each_mapped P Q (x ∷ xs) f h = (f x h.0, each_mapped P Q xs f h.1)
+
+pub all_allowed : (xs ys : List Touch) → are_allowed xs ≡ true → are_allowed ys ≡ true → are_allowed (xs ++ ys) ≡ true
+all_allowed [] ys h k = k
+all_allowed (x ∷ xs) ys h k =
+    let parts = and_parts (is_allowed x.verdict) (are_allowed xs) h in
+    and_from (is_allowed x.verdict) (are_allowed (xs ++ ys)) parts.0 (all_allowed xs ys parts.1 k)
+
+one_before : (x : Touch) (ys : List Touch) → is_allowed x.verdict ≡ true → is_last_denied ys ≡ true
+    → is_last_denied (x ∷ ys) ≡ true
+one_before x [] h k = absurd cc
+one_before x (y ∷ ys) h k = and_from (is_allowed x.verdict) (is_last_denied (y ∷ ys)) h k
+
+pub last_denied : (xs ys : List Touch) → are_allowed xs ≡ true → is_last_denied ys ≡ true
+    → is_last_denied (xs ++ ys) ≡ true
+last_denied [] ys h k = k
+last_denied (x ∷ xs) ys h k =
+    let parts = and_parts (is_allowed x.verdict) (are_allowed xs) h in
+    one_before x (xs ++ ys) parts.0 (last_denied xs ys parts.1 k)
+
+pub guarded_behind : (xs ys : List Touch) (R : Type 0) → are_allowed xs ≡ true → AreGuarded ys R → AreGuarded (xs ++ ys) R
+guarded_behind xs ys R h (allowed k) = allowed (all_allowed xs ys h k)
+guarded_behind xs ys R h (denied k r) = denied (last_denied xs ys h k) r
+
+pub mapped : (xs : List Touch) (R S : Type 0) → (R → S) → AreGuarded xs R → AreGuarded xs S
+mapped xs R S f (allowed h) = allowed h
+mapped xs R S f (denied h r) = denied h (f r)
+
+-- ---- what is accessed
+
+pub get_first : {A : Type 0} (xs ys : List A) (k : ℕ) (x : A) → slice_get xs k ≡ Some x → slice_get
+    (xs ++ ys) k ≡ Some x
+get_first [] ys k x e = absurd (none-some x e)
+get_first (y ∷ xs) ys zero x e = e
+get_first (y ∷ xs) ys (suc k) x e = get_first xs ys k x e
+
+accessed_first : (xs ys : List Touch) (n : ℕ) (o : Object TaggedValue) → IsAccessed xs n o → IsAccessed (xs ++ ys) n o
+accessed_first xs ys n o a = record {
+  place = a.place;
+  touch = a.touch;
+  listed = get_first xs ys a.place a.touch a.listed;
+  is = a.is;
+  allowed = a.allowed;
+  own = a.own;
+}
+
+accessed_later : (xs ys : List Touch) (n : ℕ) (o : Object TaggedValue) → IsAccessed ys n o → IsAccessed (xs ++ ys) n o
+accessed_later [] ys n o a = a
+accessed_later (x ∷ xs) ys n o a =
+    let b = accessed_later xs ys n o a in record {
+      place = suc b.place;
+      touch = b.touch;
+      listed = b.listed;
+      is = b.is;
+      allowed = b.allowed;
+      own = b.own;
+    }
+
+-- ---- what changes
+
+pub changes_first : (xs ys : List Touch) (a b : Heap TaggedValue) → KeepsHeap xs a b → KeepsHeap (xs ++ ys) a b
+changes_first xs ys a b h = record {
+  changes = λ n o p e f.
+      elim (h.changes n o p e f)
+      [ inl same ↦ inl same | inr accessed ↦ inr (accessed_first xs ys n o accessed) ];
+  kept = h.kept;
+}
+
+pub changes_later : (xs ys : List Touch) (a b : Heap TaggedValue) → KeepsHeap ys a b → KeepsHeap (xs ++ ys) a b
+changes_later xs ys a b h = record {
+  changes = λ n o p e f.
+      elim (h.changes n o p e f)
+      [ inl same ↦ inl same | inr accessed ↦ inr (accessed_later xs ys n o accessed) ];
+  kept = h.kept;
+}
+
+pub one_object : (found : Option (Object TaggedValue)) (o p : Object TaggedValue) → found ≡ Some o → found ≡ Some p
+    → p ≡ o
+one_object found o p e f = same_Some p o (sym f ∙ e)
+
+-- an object is as it was
+pub is_still : (heap : Heap TaggedValue) (n : ℕ) (o : Object TaggedValue) → object_at heap n ≡ Some o
+    → IsStill heap n o
+is_still heap n o e = record { object = o; found = e; kind = refl; owner = refl; size = refl }
+
+pub nothing_changes : (xs : List Touch) (heap : Heap TaggedValue) → KeepsHeap xs heap heap
+nothing_changes xs heap = record {
+  changes = λ n o p e f.
+      inl (ap (λ (x : Object TaggedValue). x.cells) (one_object (object_at heap n) o p e f));
+  kept = λ n o e. is_still heap n o e;
+}

@@ -1,6 +1,6 @@
 -- On a card that is new the runtime's name is its own, and it is so behind a load.
 use Rattle.std.proofs.Common.{◌≡◌, ◌⊎◌, ℕ, zero, suc, true, List, [], ◌∷◌, ◌++◌, map, Option, Some, None, slice_get}
-use Rattle.std.proofs.Common.{Bool, inl, inr, refl, sym, subst, Result, Ok, Err}
+use Rattle.std.proofs.Common.{◌≢◌, Bool, inl, inr, refl, sym, subst, Result, Ok, Err}
 use Rattle.std.proofs.lemmas.Bool.{and_parts}
 use Rattle.std.proofs.lemmas.Option.{same_Some}
 use Rattle.std.specs.List.{list_all, range_with_len}
@@ -20,8 +20,10 @@ use Rattle.jc_machine.specs.Natives.{KeepsObjects}
 use Rattle.jc_machine.specs.Runtime.{HasRuntimeObjects, RuntimeObject, aid_object, first_aid_object, most_instances}
 use Rattle.jc_machine.specs.Runtime.{runtime_objects}
 use Rattle.jc_machine.specs.TypedExamples.{made, new_heap}
-use Rattle.jc_safety.specs.Loading.{loaded_array, loaded_arrays, next_package, owner_of_arrays, type_of_array}
+use Rattle.jc_safety.specs.Loading.{loaded_array, loaded_arrays, mark_of_arrays, next_package, owner_of_arrays}
+use Rattle.jc_safety.specs.Loading.{type_of_array}
 use Rattle.jc_store.specs.Heap.{Heap, Object, object_at}
+use Rattle.jc_store.specs.declared.kind.Mark.TheVariants.{Plain}
 use Rattle.jc_words.specs.Values.{TaggedValue}
 use Rattle.jc_card.proofs.Leading.{got_first}
 use Rattle.jc_card.specs.Accesses.{IsApartCard}
@@ -56,11 +58,27 @@ new_others : (number : ℕ) (o : Object TaggedValue) → object_at new_heap numb
 new_others zero o e context = absurd cc
 new_others (suc n) o e context = made_codeless runtime_objects all_codeless n o e
 
+made_context : (wanted : List RuntimeObject) (n : ℕ) (o : Object TaggedValue) → slice_get (map made wanted) n ≡ Some o
+    → o.owner.context ≡ runtime_context
+made_context [] n o e = absurd cc
+made_context (x ∷ xs) zero o e =
+    subst (λ (o : Object TaggedValue). o.owner.context ≡ runtime_context) (same_Some (made x) o e) refl
+made_context (x ∷ xs) (suc n) o e = made_context xs n o e
+
+new_context : (number : ℕ) (o : Object TaggedValue) → object_at new_heap number ≡ Some o
+    → o.owner.context ≡ runtime_context
+new_context zero o e = absurd cc
+new_context (suc n) o e = made_context runtime_objects n o e
+
 pub new_apart : HasRuntimeObjects new_heap → (limits : Limits) (binding : Bound) → HasNoClash binding
     → IsApartCard (new_card limits binding)
 new_apart own limits binding clear = record {
   packages = api binding clear;
-  objects = record { own = own; others = new_others };
+  objects = record {
+    own = own;
+    others = new_others;
+    marked = λ number o e other. new_context number o e;
+  };
   instances = refl;
 }
 
@@ -88,6 +106,21 @@ of_no_instance : (number : ℕ) (applets : Option (List Applet)) → (owner_of_a
 of_no_instance number None = refl
 of_no_instance number (Some applets) = refl
 
+-- the arrays of a library alone aren't plain
+marked_of_runtime : (number : ℕ) (applets : Option (List Applet)) → mark_of_arrays applets ≢ Plain
+    → (owner_of_arrays number applets).context ≡ runtime_context
+marked_of_runtime number None other = refl
+marked_of_runtime number (Some applets) other = absurd (other refl)
+
+arrays_marked : (number : ℕ) (body : LinkedBody) (arrays : List StaticArray) (k : ℕ) (o : Object TaggedValue)
+    → slice_get (map (loaded_array number body) arrays) k ≡ Some o → o.kind.mark ≢ Plain
+    → o.owner.context ≡ runtime_context
+arrays_marked number body [] k o e = absurd cc
+arrays_marked number body (x ∷ xs) zero o e =
+    subst (λ (o : Object TaggedValue). o.kind.mark ≢ Plain → o.owner.context ≡ runtime_context)
+    (same_Some (loaded_array number body x) o e) (marked_of_runtime number body.kept.applets)
+arrays_marked number body (x ∷ xs) (suc k) o e = arrays_marked number body xs k o e
+
 arrays_codeless : (number : ℕ) (body : LinkedBody) (arrays : List StaticArray) (k : ℕ) (o : Object TaggedValue)
     → slice_get (map (loaded_array number body) arrays) k ≡ Some o → IsRuntimes o
 arrays_codeless number body [] k o e = absurd cc
@@ -108,11 +141,20 @@ module _ (stay : (before after : Heap TaggedValue) → KeepsObjects before after
     | inr new ↦ arrays_codeless number body body.kept.statics.arrays new.0 o new.1
   ]
 
+  marked_behind : (n : ℕ) (o : Object TaggedValue) → object_at (heap ++ loaded_arrays number body) n ≡ Some o
+      → o.kind.mark ≢ Plain → o.owner.context ≡ runtime_context
+  marked_behind zero o e other = absurd cc
+  marked_behind (suc n) o e other = elim (joined_either heap (loaded_arrays number body) n o e) [
+    | inl before ↦ apart.marked (suc n) o before other
+    | inr new ↦ arrays_marked number body body.kept.statics.arrays new.0 o new.1 other
+  ]
+
   apart_behind : IsSetApart (heap ++ loaded_arrays number body)
   apart_behind = record {
     own =
         stay heap (heap ++ loaded_arrays number body) (all_stay heap (loaded_arrays number body)) apart.own;
     others = others_behind;
+    marked = marked_behind;
   }
 
 built_behind : (before : List Shape) (l : Linked) → IsBuilt before

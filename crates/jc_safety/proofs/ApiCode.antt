@@ -92,7 +92,7 @@ below_applet api_classes.Applet d e h = let is = e in cc
 below_applet api_classes.JcSystem d e h = let is = e in cc
 below_applet api_classes.Util d e h = let is = e in cc
 
-module _ (world : List Shape) (api : (c : ApiClass) → StandsThere world c) where
+module _ (world : List Shape) (stand : (c : ApiClass) → StandsThere world c) where
   -- above a class of the API are classes of the API
   pub record IsAbove (b : ApiClass) (c : ClassName) : Type 0 where
     pub class : ApiClass
@@ -103,7 +103,7 @@ module _ (world : List Shape) (api : (c : ApiClass) → StandsThere world c) whe
   api_above _ _ (itself a) b is = record { class = b; is = is; above = above_itself b }
   api_above _ _ (behind a d e up h) b is =
       let there = ap (superclass_of world) (sym is) ∙ up in
-      let f = mapped_from classes.Api (tables.superclass_of b) d (sym (api b).superclass ∙ there) in
+      let f = mapped_from classes.Api (tables.superclass_of b) d (sym (stand b).superclass ∙ there) in
       let g = api_above d e h f.0 (sym f.2) in
       record { class = g.class; is = g.is; above = above_super g.class b f.0 f.1 g.above }
 
@@ -158,7 +158,7 @@ module _ (world : List Shape) (api : (c : ApiClass) → StandsThere world c) whe
       (option_map_or (is_below_applet n) (superclass_of world (classes.Api c)) false)
       (is_same_class c api_classes.Applet ≡ true) (λ same. same)
       (λ up. absurd (none_above n (applet_alone n) c (tables.superclass_of c) refl
-      (sym (ap (λ (o : Option ClassName). option_map_or (is_below_applet n) o false) (api c).superclass) ∙ up))) h
+      (sym (ap (λ (o : Option ClassName). option_map_or (is_below_applet n) o false) (stand c).superclass) ∙ up))) h
 
   pub have_api_members : IsSound world → HaveApiMembers world
   have_api_members sound = record {
@@ -173,9 +173,9 @@ module _ (world : List Shape) (api : (c : ApiClass) → StandsThere world c) whe
 -- what is found in a world by classes of the API is found in the world of the API alone
 pub found_in_api : (world : List Shape) (bound : Bound) → KeepsAllLookups (api_world bound) world
     → ((c : ApiClass) → StandsThere world c) → HaveApiMembers (api_world bound) → HaveApiMembers world
-found_in_api world bound looks api alone = record {
+found_in_api world bound looks stand alone = record {
   methods = λ c token asker name e.
       alone.methods c token asker name
       (sym (looks.virtual_methods (classes.Api c) token asker (low_home (package_of c))) ∙ e);
-  applets = λ c h. applet_alone world api most_classes c h;
+  applets = λ c h. applet_alone world stand most_classes c h;
 }

@@ -30,7 +30,7 @@ pub each_mapped : {A : Type 0} (P Q : A → Type 0) (xs : List A) → ((x : A) �
 each_mapped P Q [] f h = tt
 each_mapped P Q (x ∷ xs) f h = (f x h.0, each_mapped P Q xs f h.1)
 
-pub all_allowed : (xs ys : List Touch) → are_allowed xs ≡ true → are_allowed ys ≡ true → are_allowed (xs ++ ys) ≡ true
+all_allowed : (xs ys : List Touch) → are_allowed xs ≡ true → are_allowed ys ≡ true → are_allowed (xs ++ ys) ≡ true
 all_allowed [] ys h k = k
 all_allowed (x ∷ xs) ys h k =
     let parts = and_parts (is_allowed x.verdict) (are_allowed xs) h in
@@ -41,14 +41,15 @@ one_before : (x : Touch) (ys : List Touch) → is_allowed x.verdict ≡ true →
 one_before x [] h k = absurd cc
 one_before x (y ∷ ys) h k = and_from (is_allowed x.verdict) (is_last_denied (y ∷ ys)) h k
 
-pub last_denied : (xs ys : List Touch) → are_allowed xs ≡ true → is_last_denied ys ≡ true
+last_denied : (xs ys : List Touch) → are_allowed xs ≡ true → is_last_denied ys ≡ true
     → is_last_denied (xs ++ ys) ≡ true
 last_denied [] ys h k = k
 last_denied (x ∷ xs) ys h k =
     let parts = and_parts (is_allowed x.verdict) (are_allowed xs) h in
     one_before x (xs ++ ys) parts.0 (last_denied xs ys parts.1 k)
 
-pub guarded_behind : (xs ys : List Touch) (R : Type 0) → are_allowed xs ≡ true → AreGuarded ys R → AreGuarded (xs ++ ys) R
+pub guarded_behind : (xs ys : List Touch) (R : Type 0) → are_allowed xs ≡ true → AreGuarded ys R
+    → AreGuarded (xs ++ ys) R
 guarded_behind xs ys R h (allowed k) = allowed (all_allowed xs ys h k)
 guarded_behind xs ys R h (denied k r) = denied (last_denied xs ys h k) r
 
@@ -104,7 +105,7 @@ changes_later xs ys a b h = record {
   kept = h.kept;
 }
 
-pub one_object : (found : Option (Object TaggedValue)) (o p : Object TaggedValue) → found ≡ Some o → found ≡ Some p
+one_object : (found : Option (Object TaggedValue)) (o p : Object TaggedValue) → found ≡ Some o → found ≡ Some p
     → p ≡ o
 one_object found o p e f = same_Some p o (sym f ∙ e)
 

@@ -46,7 +46,7 @@ above h f operands = record {
   waiting = moved h.machine.top h.machine.top.pc h.machine.top.locals operands ∷ h.machine.waiting;
 }
 
--- what a frame is active as, if that is an applet
+-- a frame that is active as an applet
 above_apart : {C : Type 0} (h : Here C) (f : Frame) (operands : List TaggedValue)
     → RunsApplets h.around h.machine f.active → LeadsApart h.around h.machine (above h f operands)
 above_apart h f operands runs keeps p = record {

@@ -133,7 +133,7 @@ settled_changes s touches heap (Ends m value) h after e = h after e
 settled_changes s touches heap (UsedUp m) h after e = h after e
 settled_changes s touches heap Stuck h after e = absurd (none-some after e)
 
--- so is what it leaves that is apart
+-- a machine that is apart is so behind what is caught
 settled_apart : {C : Type 0} (s : Surroundings C) (keeps : C → Bool) (o : Outcome C)
     → ((x : Machine C) → machine_of o ≡ Some x → IsApart keeps x) → (after : Machine C)
     → machine_of (settled s o) ≡ Some after → IsApart keeps after

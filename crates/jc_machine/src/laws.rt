@@ -75,10 +75,11 @@ pub fn accesses_are_guarded<N: Natives>(_natives: &N)
         → machine_of (defensive_step s m).outcome ≡ Some after → KeepsObjects m.heap after.heap }
 {}
 
-/// The runtime's name is its own. Where no frame is active as the runtime and its objects have no code of packages, this
-/// is so behind each step, and the step's accesses in the runtime's name spare plain objects. Objects are set apart still
-/// where each stays and others are added for an owner in the context of a package. What the runtime keeps may be of any
-/// type, with any test that the native members keep. It does nothing.
+/// The runtime's name is its own. Where no frame is active as the runtime, its objects have no code of packages, and each
+/// object that isn't plain is its own, this is so behind each step, and the step's accesses in the runtime's name spare
+/// plain objects. Objects are set apart still where each stays and others are added that are plain, for an owner in the
+/// context of a package. What the runtime keeps may be of any type, with any test that the native members keep. It does
+/// nothing.
 pub fn steps_stay_apart<N: Natives>(_natives: &N)
     ensures steps { (keeps : N.Kept → Bool) (s : Surroundings N.Kept) → AreNativesGuarded s.natives
         → AreNativesApart keeps s.natives → HaveApiMembers s.world.shapes → (m : Machine N.Kept) → IsApart keeps m

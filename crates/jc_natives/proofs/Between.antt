@@ -12,7 +12,7 @@ use Rattle.jc_natives.specs.Meaning.{fits_command, fits_installing, fits_instanc
 use Rattle.jc_store.specs.Heap.{Heap}
 use Rattle.jc_words.specs.Values.{TaggedValue}
 
-all_taken : {A : Type 0} (p : A → Bool) (xs : List A) (n : ℕ) → list_all p xs ≡ true → list_all p (take n xs) ≡ true
+pub all_taken : {A : Type 0} (p : A → Bool) (xs : List A) (n : ℕ) → list_all p xs ≡ true → list_all p (take n xs) ≡ true
 all_taken p [] zero e = refl
 all_taken p [] (suc n) e = refl
 all_taken p (x ∷ xs) zero e = refl

@@ -61,7 +61,7 @@ denied_behind (x ∷ z ∷ xs) ys e f =
     let b = both (is_allowed x.verdict) (are_allowed (z ∷ xs)) e in
     ap (λ a. a && is_last_denied (z ∷ xs ++ ys)) b.0 ∙ denied_behind (z ∷ xs) ys b.1 f
 
-all_both : {A : Type 0} (P : A → Type 0) (xs ys : List A) → AllByRecursion P xs → AllByRecursion P ys
+pub all_both : {A : Type 0} (P : A → Type 0) (xs ys : List A) → AllByRecursion P xs → AllByRecursion P ys
     → AllByRecursion P (xs ++ ys)
 all_both P [] ys a b = b
 all_both P (x ∷ xs) ys a b = (a.0, all_both P xs ys a.1 b)
@@ -80,18 +80,18 @@ got_back (x ∷ xs) ys n =
 -- ---- what the tests access
 
 -- an access of the caller's, by one of the ways in which members use objects
-record IsUse (w : World) (call : NativeCall Kept) (touch : Touch) : Type 0 where
-  native : IsNativeTouch w call touch
-  way : Way
-  access : touch.access ≡ access_of way
-  active : touch.active ≡ call.active.context
+pub record IsUse (w : World) (call : NativeCall Kept) (touch : Touch) : Type 0 where
+  pub native : IsNativeTouch w call touch
+  pub way : Way
+  pub access : touch.access ≡ access_of way
+  pub active : touch.active ≡ call.active.context
 
-abbrev Refuses : Tested → Type 0
+abbrev pub Refuses : Tested → Type 0
 Refuses t = (is_last_denied t.touches ≡ true) × (t.thrown ≡ Some security_exception)
 
-record AreUses (w : World) (call : NativeCall Kept) (t : Tested) : Type 0 where
-  uses : AllByRecursion (IsUse w call) t.touches
-  verdicts : (are_allowed t.touches ≡ true) ⊎ Refuses t
+pub record AreUses (w : World) (call : NativeCall Kept) (t : Tested) : Type 0 where
+  pub uses : AllByRecursion (IsUse w call) t.touches
+  pub verdicts : (are_allowed t.touches ≡ true) ⊎ Refuses t
 
 module _ (w : World) (call : NativeCall Kept) where
   no_use : (thrown : Option ℕ) → AreUses w call (record { touches = []; thrown = thrown })
@@ -175,7 +175,7 @@ module _ (w : World) (call : NativeCall Kept) where
         verdicts = behind e a.verdicts b.verdicts;
       }
 
-  tested_uses : (arguments : List ℕ) (row : Row) → AreUses w call (tested (seen_of w call) arguments row)
+  pub tested_uses : (arguments : List ℕ) (row : Row) → AreUses w call (tested (seen_of w call) arguments row)
   tested_uses arguments row =
       followed_uses _ _ (test_uses arguments row.first)
       (followed_uses _ _ (test_uses arguments row.second)
@@ -188,7 +188,7 @@ module _ (w : World) (call : NativeCall Kept) where
 
 -- ---- objects that are written
 
-same_found : {V : Type 0} (found : Option (Object V)) (o p : Object V) → found ≡ Some o → found ≡ Some p → p ≡ o
+pub same_found : {V : Type 0} (found : Option (Object V)) (o p : Object V) → found ≡ Some o → found ≡ Some p → p ≡ o
 same_found found o p e f = same_Some p o (sym f ∙ e)
 
 keeps_itself : (heap : Heap TaggedValue) → KeepsObjects heap heap
@@ -300,7 +300,7 @@ written_apart heap (x ∷ writes) number e =
 
 -- ---- what is written was accessed
 
-either_is : (a b : Bool) → (a || b) ≡ true → (a ≡ true) ⊎ (b ≡ true)
+pub either_is : (a b : Bool) → (a || b) ≡ true → (a ≡ true) ⊎ (b ≡ true)
 either_is true b e = inl refl
 either_is false b e = inr e
 
@@ -534,9 +534,9 @@ sums_set (o ∷ heap) zero before after e same =
 sums_set (o ∷ heap) (suc n) before after e same =
     ap (λ k. 1 + length o.cells + k) (sums_set heap n before after e same)
 
-record IsAsLarge (before after : Heap TaggedValue) : Type 0 where
-  objects : length after ≡ length before
-  cells : cells_in after ≡ cells_in before
+pub record IsAsLarge (before after : Heap TaggedValue) : Type 0 where
+  pub objects : length after ≡ length before
+  pub cells : cells_in after ≡ cells_in before
 
 put_as_large : (heap : Heap TaggedValue) (number index : ℕ) (value : TaggedValue)
     → IsAsLarge heap (put heap number index value)
@@ -564,7 +564,7 @@ put_all_as_large heap number from (v ∷ values) =
     let more = put_all_as_large (put heap number from v) number (from + 1) values in
     record { objects = more.objects ∙ one.objects; cells = more.cells ∙ one.cells }
 
-written_as_large : (heap : Heap TaggedValue) (writes : List Write) → IsAsLarge heap (written Word heap writes)
+pub written_as_large : (heap : Heap TaggedValue) (writes : List Write) → IsAsLarge heap (written Word heap writes)
 written_as_large heap [] = record { objects = refl; cells = refl }
 written_as_large heap (x ∷ writes) =
     let one = put_all_as_large heap x.object x.from (map Word x.words) in
@@ -604,7 +604,7 @@ module _ (w : World) (call : NativeCall Kept) where
     calls = λ callback e. record { heap = refl; runtime = refl };
   }
 
-  no_call : (ending : Ending) (callback : Callback) → end_of ending ≡ Calls callback → ⊥
+  pub no_call : (ending : Ending) (callback : Callback) → end_of ending ≡ Calls callback → ⊥
   no_call NoResult callback e = cc
   no_call (GivesWord word) callback e = cc
   no_call (GivesReference number) callback e = cc

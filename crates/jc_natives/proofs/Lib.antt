@@ -16,3 +16,6 @@ mod Fits
 mod Law
 mod Loading
 mod Between
+mod Reaching
+mod Spared
+mod Apart

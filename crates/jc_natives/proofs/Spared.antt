@@ -1,0 +1,305 @@
+-- What a member writes: objects that its tests reached, or the runtime's own. And what the runtime keeps names applets
+-- still.
+use Rattle.std.specs.Prelude.{⊤}
+use Rattle.std.proofs.Common.{◌≡◌, ◌⊎◌, inl, inr, ℕ, zero, suc, ◌+◌, ◌==◌, ◌&&◌, ◌||◌, not, Bool, true, false, cond, List, [], ◌∷◌, ◌++◌, is_some, length, nat_le, nat_lt, slice_get, Option, Some, None, refl, sym, ap, subst, ◌∙◌}
+use Rattle.std.proofs.lemmas.Bool.{eqb-true}
+use Rattle.std.proofs.lemmas.Option.{none-some, same_Some}
+use Rattle.std.specs.List.{AllByRecursion, list_all}
+use Rattle.std.specs.Option.{option_map, option_map_or}
+use Rattle.jc_api.specs.Numbered.{numbered}
+use Rattle.jc_machine.specs.Apart.{is_applets}
+use Rattle.jc_machine.specs.Runtime.{apdu_buffer, apdu_exception, iso_exception, most_instances, system_exception}
+use Rattle.jc_natives.proofs.Bare.{both}
+use Rattle.jc_natives.proofs.Guarding.{either_is}
+use Rattle.jc_natives.proofs.Keeping.{both_are}
+use Rattle.jc_natives.specs.Aids.{aid_work}
+use Rattle.jc_natives.specs.Apdus.{apdu_work, is_fresh, is_in_buffer, is_incoming, is_length_set, is_outgoing, sends}
+use Rattle.jc_natives.specs.Apart.{installs_applet, names_applets}
+use Rattle.jc_natives.specs.Applets.{aid_object, allowed, applet_work, may_register, on_allowed, owner_of, registers}
+use Rattle.jc_natives.specs.Cells.{Write, argument, extended, has_room, is_count}
+use Rattle.jc_natives.specs.Kept.{Kept, has_aid_length, instance_with, is_instance_number, most_sent, now_registered, with_instance}
+use Rattle.jc_natives.specs.Meaning.{array_or_refusal, with_room, work_of}
+use Rattle.jc_natives.specs.Objects.{object_work}
+use Rattle.jc_natives.specs.Rows.{aid_row, natives, object_row, row_of, utility_row}
+use Rattle.jc_natives.specs.Seen.{Seen}
+use Rattle.jc_natives.specs.System.{asks, makes, may_make, system_work}
+use Rattle.jc_natives.specs.Utilities.{utility_work}
+use Rattle.jc_natives.specs.Work.{Asks, Does, Makes, Work, bad_length, buffer_bounds, illegal_aid, illegal_transient, illegal_use, illegal_value, no_transient_space, throws_apdu, throws_system}
+use Rattle.jc_natives.specs.declared.kept.Installing.{Installing}
+use Rattle.jc_natives.specs.declared.kept.Instance.{Instance}
+use Rattle.jc_natives.specs.declared.native.AidNative.{AidNative}
+use Rattle.jc_natives.specs.declared.native.AidNative.TheVariants as aids
+use Rattle.jc_natives.specs.declared.native.ApduNative.{ApduNative}
+use Rattle.jc_natives.specs.declared.native.ApduNative.TheVariants as apdus
+use Rattle.jc_natives.specs.declared.native.AppletNative.{AppletNative}
+use Rattle.jc_natives.specs.declared.native.AppletNative.TheVariants as applets
+use Rattle.jc_natives.specs.declared.native.Elements.{Elements}
+use Rattle.jc_natives.specs.declared.native.Native.{Native}
+use Rattle.jc_natives.specs.declared.native.Native.TheVariants.{OfAid, OfApdu, OfApplet, OfObject, OfSystem, OfUtility}
+use Rattle.jc_natives.specs.declared.native.ObjectNative.{ObjectNative}
+use Rattle.jc_natives.specs.declared.native.ObjectNative.TheVariants as objects
+use Rattle.jc_natives.specs.declared.native.SystemNative.{SystemNative}
+use Rattle.jc_natives.specs.declared.native.SystemNative.TheVariants as system
+use Rattle.jc_natives.specs.declared.native.UtilityNative.{UtilityNative}
+use Rattle.jc_natives.specs.declared.native.UtilityNative.TheVariants as utilities
+use Rattle.jc_natives.specs.declared.row.Row.{Row}
+use Rattle.jc_natives.specs.declared.row.Test.TheVariants as tests
+use Rattle.jc_natives.specs.declared.row.Way.{Way}
+use Rattle.jc_natives.specs.declared.row.Way.TheVariants as ways
+use Rattle.jc_store.specs.Heap.{Heap}
+use Rattle.jc_store.specs.declared.kind.ClearingEvent.{ClearingEvent}
+
+-- ---- what is thrown by throwIt is the runtime's
+
+abbrev is_own_exception : ℕ → Bool
+is_own_exception object = object == iso_exception || (object == system_exception || object == apdu_exception)
+
+abbrev object_throws_own : ObjectNative → Bool
+object_throws_own objects.Construct = true
+object_throws_own objects.Equals = true
+object_throws_own objects.ConstructWithReason = true
+object_throws_own objects.GetReason = true
+object_throws_own objects.SetReason = true
+object_throws_own (objects.ThrowIt object) = is_own_exception object
+
+abbrev pub throws_own : Native → Bool
+throws_own (OfObject native) = object_throws_own native
+throws_own (OfAid native) = true
+throws_own (OfApdu native) = true
+throws_own (OfApplet native) = true
+throws_own (OfSystem native) = true
+throws_own (OfUtility native) = true
+
+each_is : {A : Type 0} (p : A → Bool) (xs : List A) (n : ℕ) (x : A) → list_all p xs ≡ true → slice_get xs n ≡ Some x
+    → p x ≡ true
+each_is p [] n x e f = absurd (none-some x f)
+each_is p (y ∷ xs) zero x e f = ap p (sym (same_Some y x f)) ∙ (both (p y) (list_all p xs) e).0
+each_is p (y ∷ xs) (suc n) x e f = each_is p xs n x (both (p y) (list_all p xs) e).1 f
+
+pub all_throw_own : (number : ℕ) (native : Native) → numbered natives number ≡ Some native → throws_own native ≡ true
+all_throw_own zero native e = absurd (none-some native e)
+all_throw_own (suc n) native e = each_is throws_own natives n native refl e
+
+-- ---- what the runtime keeps
+
+abbrev of_applet : Instance → Bool
+of_applet i = is_applets i.owner
+
+all_with_last : {A : Type 0} (p : A → Bool) (xs : List A) (x : A) → list_all p xs ≡ true → p x ≡ true
+    → list_all p (xs ++ x ∷ []) ≡ true
+all_with_last p [] x e f = both_are (p x) true f refl
+all_with_last p (y ∷ xs) x e f =
+    let b = both (p y) (list_all p xs) e in
+    both_are (p y) (list_all p (xs ++ x ∷ [])) b.0 (all_with_last p xs x b.1 f)
+
+still_installs : (o : Option Installing) → option_map_or installs_applet o true ≡ true
+    → option_map_or installs_applet (option_map now_registered o) true ≡ true
+still_installs None e = refl
+still_installs (Some i) e = e
+
+with_instance_named : (k : Kept) (i : Instance) → names_applets k ≡ true → is_applets i.owner ≡ true
+    → names_applets (with_instance k i) ≡ true
+with_instance_named k i e f =
+    let b = both (list_all of_applet k.instances) (option_map_or installs_applet k.installing true) e in
+    both_are (list_all of_applet (k.instances ++ i ∷ []))
+    (option_map_or installs_applet (option_map now_registered k.installing) true)
+    (all_with_last of_applet k.instances i b.0 f) (still_installs k.installing b.1)
+
+-- ---- works
+
+-- the objects of the runtime's that members write
+pub record SparesOwn (Spared : ℕ → Type 0) : Type 0 where
+  pub iso : Spared iso_exception
+  pub system : Spared system_exception
+  pub apdu : Spared apdu_exception
+  pub buffer : Spared apdu_buffer
+  pub aids : (number : ℕ) → is_instance_number number ≡ true → Spared (aid_object number)
+
+module _ (Spared : ℕ → Type 0) where
+  -- each object that is written is spared, and what is kept names applets
+  abbrev pub AreSpared : List Write → Type 0
+  AreSpared writes = AllByRecursion (λ (x : Write). Spared x.object) writes
+
+  abbrev pub IsApartWork : Work → Type 0
+  IsApartWork (Does writes k ending) = AreSpared writes × (names_applets k ≡ true)
+  IsApartWork (Makes array) = ⊤
+  IsApartWork (Asks question) = ⊤
+
+  either_apart : (b : Bool) (x y : Work) → (b ≡ true → IsApartWork x) → IsApartWork y → IsApartWork (cond b x y)
+  either_apart true x y p q = p refl
+  either_apart false x y p q = q
+
+  -- an object that a row tests, whatever it is
+  abbrev pub AreTested : List ℕ → Row → Type 0
+  AreTested args row = (place : ℕ) (way : Way)
+      → (row.first ≡ tests.Object place way) ⊎ (row.second ≡ tests.Object place way) → Spared (argument args place)
+
+  module _ (own : SparesOwn Spared) (s : Seen) (k : Kept) (args : List ℕ) (kept : names_applets k ≡ true)
+      (owners : (number : ℕ) → is_instance_number (owner_of s.objects number).instance ≡ true
+      → is_applets (owner_of s.objects number) ≡ true)
+    where
+      system_apart : (reason : ℕ) → IsApartWork (throws_system k reason)
+      system_apart reason = ((own.system, tt), kept)
+
+      apdu_apart : (reason : ℕ) → IsApartWork (throws_apdu k reason)
+      apdu_apart reason = ((own.apdu, tt), kept)
+
+      exception_spared : (object : ℕ) → is_own_exception object ≡ true → Spared object
+      exception_spared object e =
+          by_first (either_is (object == iso_exception) (object == system_exception || object == apdu_exception) e)
+        where
+          by_second : ((object == system_exception) ≡ true) ⊎ ((object == apdu_exception) ≡ true) → Spared object
+          by_second (inl f) = subst Spared (sym (eqb-true object system_exception f)) own.system
+          by_second (inr f) = subst Spared (sym (eqb-true object apdu_exception f)) own.apdu
+
+          by_first : ((object == iso_exception) ≡ true)
+              ⊎ ((object == system_exception || object == apdu_exception) ≡ true) → Spared object
+          by_first (inl f) = subst Spared (sym (eqb-true object iso_exception f)) own.iso
+          by_first (inr f) = by_second (either_is (object == system_exception) (object == apdu_exception) f)
+
+      object_apart : (native : ObjectNative) → object_throws_own native ≡ true → AreTested args (object_row native)
+          → IsApartWork (object_work s k args native)
+      object_apart objects.Construct e tested = (tt, kept)
+      object_apart objects.Equals e tested = (tt, kept)
+      object_apart objects.ConstructWithReason e tested = ((tested 0 ways.Fields (inl refl), tt), kept)
+      object_apart objects.GetReason e tested = (tt, kept)
+      object_apart objects.SetReason e tested = ((tested 0 ways.Calls (inl refl), tt), kept)
+      object_apart (objects.ThrowIt object) e tested = ((exception_spared object e, tt), kept)
+
+      aid_apart : (native : AidNative) → AreTested args (aid_row native) → IsApartWork (aid_work s k args native)
+      aid_apart aids.Construct tested =
+          either_apart (has_aid_length (extended (argument args 3))) _ _
+          (λ e. ((tested 0 ways.Fields (inl refl), tt), kept)) (system_apart illegal_value)
+      aid_apart aids.Equals tested = (tt, kept)
+      aid_apart aids.GetBytes tested = ((tested 1 ways.Stores (inr refl), tt), kept)
+
+      sends_apart : (array offset count : ℕ) → IsApartWork (sends s k array offset count)
+      sends_apart array offset count =
+          either_apart (nat_le (length k.sent + count) k.announced) _ _ (λ e. (tt, kept)) (apdu_apart illegal_use)
+
+      apdu_work_apart : (native : ApduNative) → IsApartWork (apdu_work s k args native)
+      apdu_work_apart apdus.GetBuffer = (tt, kept)
+      apdu_work_apart apdus.SetIncomingAndReceive =
+          either_apart (is_fresh k.state) _ _ (λ e. ((own.buffer, tt), kept)) (apdu_apart illegal_use)
+      apdu_work_apart apdus.SetOutgoing =
+          either_apart (is_incoming k.state) _ _ (λ e. (tt, kept)) (apdu_apart illegal_use)
+      apdu_work_apart apdus.SetOutgoingLength =
+          either_apart (is_outgoing k.state) _ _
+          (λ e. either_apart (nat_le (argument args 1) most_sent) _ _ (λ f. (tt, kept)) (apdu_apart bad_length))
+          (apdu_apart illegal_use)
+      apdu_work_apart apdus.SendBytes =
+          either_apart (is_length_set k.state) _ _
+          (λ e. either_apart (is_in_buffer s (argument args 1) (argument args 2)) _ _
+          (λ f. sends_apart apdu_buffer (argument args 1) (argument args 2)) (apdu_apart buffer_bounds))
+          (apdu_apart illegal_use)
+      apdu_work_apart apdus.SendBytesLong =
+          either_apart (is_length_set k.state) _ _
+          (λ e. sends_apart (argument args 1) (argument args 2) (argument args 3)) (apdu_apart illegal_use)
+      apdu_work_apart apdus.SetOutgoingAndSend =
+          either_apart (is_incoming k.state) _ _
+          (λ e. either_apart (nat_le (argument args 2) most_sent) _ _
+          (λ f. either_apart (is_in_buffer s (argument args 1) (argument args 2)) _ _ (λ g. (tt, kept))
+          (apdu_apart buffer_bounds)) (apdu_apart bad_length)) (apdu_apart illegal_use)
+
+      -- the instance that is being installed, where an object may register in its name
+      record May (object : ℕ) (i : Installing) : Type 0 where
+        installs : installs_applet i ≡ true
+        number : ((owner_of s.objects object).instance == i.owner.instance) ≡ true
+
+      may_of : (object : ℕ) (o : Option Installing) (i : Installing) → option_map_or installs_applet o true ≡ true
+          → allowed s object o ≡ Some i → May object i
+      may_of object None i e f = absurd (none-some i f)
+      may_of object (Some j) i e f = by_test (may_register s object j) refl f
+        where
+          by_test : (b : Bool) → may_register s object j ≡ b → cond b (Some j) None ≡ Some i → May object i
+          by_test true g h =
+              subst (May object) (same_Some j i h) (record {
+                installs = e;
+                number = (both (not j.registered) ((owner_of s.objects object).instance == j.owner.instance) g).1;
+              })
+          by_test false g h = absurd (none-some i h)
+
+      registers_apart : (object : ℕ) (aid : List ℕ) (i : Installing) → May object i
+          → IsApartWork (registers s k i.owner.instance object aid)
+      registers_apart object aid i may =
+          let own_number = (both (is_applets i.owner) (is_instance_number i.owner.instance) may.installs).1 in
+          let number = ap is_instance_number (eqb-true (owner_of s.objects object).instance i.owner.instance may.number)
+          ∙ own_number in
+          either_apart (not (is_some (instance_with k.instances aid)) && nat_lt (length k.instances) most_instances) _ _
+          (λ e. ((own.aids i.owner.instance own_number, tt), with_instance_named k _ kept (owners object number)))
+          (system_apart illegal_aid)
+
+      on_allowed_apart : (object : ℕ) (go : Installing → Work)
+          → ((i : Installing) → May object i → IsApartWork (go i))
+          → IsApartWork (on_allowed k (allowed s object k.installing) go)
+      on_allowed_apart object go each = by_option (allowed s object k.installing) refl
+        where
+          installs : option_map_or installs_applet k.installing true ≡ true
+          installs = (both (list_all of_applet k.instances) (option_map_or installs_applet k.installing true) kept).1
+
+          by_option : (o : Option Installing) → allowed s object k.installing ≡ o → IsApartWork (on_allowed k o go)
+          by_option None e = system_apart illegal_aid
+          by_option (Some i) e = each i (may_of object k.installing i installs e)
+
+      applet_apart : (native : AppletNative) → IsApartWork (applet_work s k args native)
+      applet_apart applets.Register =
+          on_allowed_apart (argument args 0) _ (λ i may. registers_apart (argument args 0) _ i may)
+      applet_apart applets.RegisterBytes =
+          on_allowed_apart (argument args 0) _
+          (λ i may. either_apart (has_aid_length (extended (argument args 3))) _ _
+          (λ e. registers_apart (argument args 0) _ i may) (system_apart illegal_value))
+      applet_apart applets.Select = (tt, kept)
+      applet_apart applets.Deselect = (tt, kept)
+      applet_apart applets.Process = (tt, kept)
+      applet_apart applets.SelectingApplet = (tt, kept)
+      applet_apart applets.GetShareable = (tt, kept)
+
+      asks_apart : (word : ℕ) (o : Option Instance) → IsApartWork (asks s k word o)
+      asks_apart word None = (tt, kept)
+      asks_apart word (Some i) = tt
+
+      makes_apart : (elements : Elements) (size : ℕ) (event : Option ClearingEvent)
+          → IsApartWork (makes s k elements size event)
+      makes_apart elements size None = system_apart illegal_value
+      makes_apart elements size (Some event) =
+          either_apart (may_make s event) _ _ (λ e. either_apart (is_count size) _ _ (λ f. tt) (tt, kept))
+          (system_apart illegal_transient)
+
+      system_work_apart : (native : SystemNative) → IsApartWork (system_work s k args native)
+      system_work_apart system.GetAid = (tt, kept)
+      system_work_apart system.LookupAid = (tt, kept)
+      system_work_apart system.GetPreviousAid = (tt, kept)
+      system_work_apart system.AskForShareable = asks_apart (argument args 1) _
+      system_work_apart system.MakeBooleans = makes_apart _ (argument args 0) _
+      system_work_apart system.MakeBytes = makes_apart _ (argument args 0) _
+      system_work_apart system.MakeShorts = makes_apart _ (argument args 0) _
+      system_work_apart system.MakeReferences = makes_apart _ (argument args 0) _
+
+      utility_apart : (native : UtilityNative) → AreTested args (utility_row native)
+          → IsApartWork (utility_work s k args native)
+      utility_apart utilities.ArrayCopy tested = ((tested 2 ways.Stores (inr refl), tt), kept)
+      utility_apart utilities.ArrayFill tested = ((tested 0 ways.Stores (inl refl), tt), kept)
+      utility_apart utilities.ArrayCompare tested = (tt, kept)
+      utility_apart utilities.GetShort tested = (tt, kept)
+      utility_apart utilities.SetShort tested = ((tested 0 ways.Stores (inl refl), tt), kept)
+      utility_apart utilities.MakeShort tested = (tt, kept)
+
+      pub work_apart : (native : Native) → throws_own native ≡ true → AreTested args (row_of native)
+          → IsApartWork (work_of s k args native)
+      work_apart (OfObject native) e tested = object_apart native e tested
+      work_apart (OfAid native) e tested = aid_apart native tested
+      work_apart (OfApdu native) e tested = apdu_work_apart native
+      work_apart (OfApplet native) e tested = applet_apart native
+      work_apart (OfSystem native) e tested = system_work_apart native
+      work_apart (OfUtility native) e tested = utility_apart native tested
+
+      -- also where there is no room for an array
+      pub roomy_apart : (objects cells : ℕ) {V : Type 0} (heap : Heap V) (work : Work) → IsApartWork work
+          → IsApartWork (with_room objects cells heap k work)
+      roomy_apart objects cells heap (Does writes runtime ending) apart = apart
+      roomy_apart objects cells heap (Makes array) apart = by_room (has_room objects cells heap array.size)
+        where
+          by_room : (b : Bool) → IsApartWork (array_or_refusal b array k)
+          by_room true = tt
+          by_room false = system_apart no_transient_space
+      roomy_apart objects cells heap (Asks question) apart = tt

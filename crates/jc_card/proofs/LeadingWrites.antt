@@ -212,7 +212,7 @@ has_event event context o h =
     by_clears : (clears : Option ClearingEvent) → option_map_or (is_same_event event) clears false ≡ true
         → IsSome clears
     by_clears None h = absurd cc
-    by_clears (Some e) h = tt
+    by_clears (Some e) h = refl
 
 
 module _ (w : World) (event : ClearingEvent) (context : Option ℕ) where
@@ -359,11 +359,9 @@ module _ (w : World) (event : ClearingEvent) (context : Option ℕ) where
   cleared_only heap (suc n) o p e f plain =
       by_test (test o) refl (same_Some p (one (test o) o) (sym f ∙ got_cleared heap n o e))
     where
-      abbrev touches : List Touch
-      touches = clearing_touches event context 1 heap
-
-      by_runtime : test o ≡ true → IsAccessedIn touches (suc n) runtime_context
+      by_runtime : test o ≡ true → IsAccessedIn (clearing_touches event context 1 heap) (suc n) runtime_context
       by_runtime t =
+          let touches = clearing_touches event context 1 heap in
           let at : 1 + n ≡ suc n = omega arith in
           let l = subst (λ (k : ℕ). IsListed touches (own_touch k o)) at (listed heap 1 n o e t) in record {
             place = l.place;
@@ -375,7 +373,8 @@ module _ (w : World) (event : ClearingEvent) (context : Option ℕ) where
           }
 
       by_test : (b : Bool) → test o ≡ b → p ≡ one b o
-          → (p.cells ≡ o.cells) ⊎ IsAccessedIn touches (suc n) o.owner.context ⊎ IsCleared touches (suc n) o
+          → (p.cells ≡ o.cells) ⊎ IsAccessedIn (clearing_touches event context 1 heap) (suc n) o.owner.context
+          ⊎ IsCleared (clearing_touches event context 1 heap) (suc n) o
       by_test true t is =
           inr (inr (record { transient = has_event event context o t; by_runtime = by_runtime t }))
       by_test false t is = inl (ap (λ (x : Object TaggedValue). x.cells) is)

@@ -1,4 +1,5 @@
 -- Whose an instance is, which number it has, and that the runtime's arrays aren't plain.
+use Rattle.std.proofs.Common.{nat_lt, length, is_some}
 use Rattle.std.proofs.Common.{◌≡◌, ℕ, Bool, true, false, cond, List, [], Option, Some, None, IfSome, refl, sym, ◌∙◌}
 use Rattle.std.proofs.Common.{subst, ◌∷◌, suc}
 use Rattle.std.specs.Option.{option_and_then, option_map, option_map_or}
@@ -23,7 +24,7 @@ use Rattle.jc_card.specs.declared.fault.InstallFault.{InstallFault}
 use Rattle.jc_card.specs.declared.fault.InstallFault.TheVariants as faults
 use Rattle.jc_card.specs.declared.places.AppletPlace.{AppletPlace}
 use Rattle.std.proofs.Common.{◌≢◌, ap, nat_le, ◌==◌, arith}
-use Rattle.std.proofs.lemmas.Bool.{and_parts, le-leb, leb-false}
+use Rattle.std.proofs.lemmas.Bool.{and_from, and_parts, le-leb, leb-false, ne_eqb}
 use Rattle.std.proofs.lemmas.Option.{same_Some}
 use Rattle.std.specs.List.{find, list_all}
 use Rattle.jc_cap_data.specs.declared.applets.Applet.{Applet}
@@ -32,7 +33,7 @@ use Rattle.jc_machine.specs.Apart.{is_applets}
 use Rattle.jc_machine.specs.Runtime.{most_instances}
 use Rattle.jc_machine.specs.Step.{Called, CallEnd, Gave, RanOut, Threw, WasStuck}
 use Rattle.jc_natives.specs.Apart.{installs_applet, names_applets}
-use Rattle.jc_natives.specs.Kept.{Kept, instance_of, is_instance_number}
+use Rattle.jc_natives.specs.Kept.{Kept, instance_of, instance_with, is_instance_number}
 use Rattle.jc_store.specs.declared.kind.Mark.TheVariants.{Plain}
 use Rattle.jc_card.specs.Accesses.{IsApartCard}
 use Rattle.jc_card.specs.Parts.{call_applet, ended, ended_call}
@@ -43,12 +44,13 @@ found_passes : {A : Type 0} (test wanted : A → Bool) (xs : List A) (x : A) →
     → find wanted xs ≡ Some x → test x ≡ true
 found_passes test wanted [] x all e = absurd cc
 found_passes {A} test wanted (y ∷ xs) x all e =
-    by_first (wanted y) (and_parts (test y) (list_all test xs) all) e
+    let parts = and_parts (test y) (list_all test xs) all in
+    by_first (wanted y) parts.0 (found_passes test wanted xs x parts.1) e
   where
-    by_first : (b : Bool) → (test y ≡ true) × (list_all test xs ≡ true) → cond b (Some y) (find wanted xs) ≡ Some x
-        → test x ≡ true
-    by_first true parts f = subst (λ (z : A). test z ≡ true) (same_Some y x f) parts.0
-    by_first false parts f = found_passes test wanted xs x parts.1 f
+    by_first : (b : Bool) → test y ≡ true → (find wanted xs ≡ Some x → test x ≡ true)
+        → cond b (Some y) (find wanted xs) ≡ Some x → test x ≡ true
+    by_first true first later f = subst (λ (z : A). test z ≡ true) (same_Some y x f) first
+    by_first false first later f = later f
 
 pub selected_owner : (k : Kept) (selected : Option Owner) (i : Instance) → names_applets k ≡ true
     → option_and_then (instance_of k.instances) selected ≡ Some i → is_applets i.owner ≡ true
@@ -82,20 +84,23 @@ install_is_global c p o e plain =
 pub place_has_number : (before : ℕ) (bodies : List LinkedBody) (aid : List ℕ) (place : AppletPlace)
     → installs.applet_from (suc before) bodies aid ≡ Some place → (place.number == 0) ≡ false
 place_has_number before [] aid place e = absurd cc
-place_has_number before (body ∷ bodies) aid place e = by_row (installs.applet_in aid body) e
+place_has_number before (body ∷ bodies) aid place e =
+    by_row (installs.applet_in aid body) (place_has_number (suc before) bodies aid place) e
   where
     by_row : (row : Option Applet)
+        → (installs.applet_from (suc (suc before)) bodies aid ≡ Some place → (place.number == 0) ≡ false)
         → option_map_or (λ (a : Applet). Some (record { number = suc before; install = a.install })) row
         (installs.applet_from (suc (suc before)) bodies aid) ≡ Some place → (place.number == 0) ≡ false
-    by_row None f = place_has_number (suc before) bodies aid place f
-    by_row (Some a) f =
+    by_row None later f = later f
+    by_row (Some a) later f =
         subst (λ (x : AppletPlace). (x.number == 0) ≡ false)
-        (same_Some (record { number = suc before; install = a.install }) place f) refl
+        (same_Some (record { number = suc before; install = a.install }) place f) (ne_eqb (suc before) 0 (omega arith))
 
 pub next_number_fits : (numbers : ℕ) → nat_le most_instances numbers ≡ false → is_instance_number (suc numbers) ≡ true
 next_number_fits numbers e =
     let less = leb-false most_instances numbers e in
-    le-leb (suc numbers) 32 (omega (arith, less))
+    and_from (nat_le 1 (suc numbers)) (nat_le (suc numbers) 32) (le-leb 1 (suc numbers) (omega arith))
+    (le-leb (suc numbers) 32 (omega (arith, less)))
 
 none_refused : (condition : Bool) (fault : InstallFault) (otherwise : Option InstallFault)
     → installs.refused_if condition fault otherwise ≡ None → (condition ≡ false) × (otherwise ≡ None)
@@ -105,8 +110,11 @@ none_refused false fault otherwise e = (refl, e)
 pub not_refused_few : (c : CardState) (instance incoming : List ℕ) → installs.refusal_of c instance incoming ≡ None
     → nat_le most_instances c.numbers ≡ false
 not_refused_few c instance incoming e =
-    let first = none_refused _ _ _ e in
-    let second = none_refused _ _ _ first.1 in
+    let few = installs.refused_if (nat_le most_instances c.numbers) faults.NoInstance None in
+    let unused =
+    installs.refused_if (is_some (instance_with c.kept.instances instance)) faults.AidInUse few in
+    let first = none_refused (nat_lt installs.most_data (length incoming)) faults.TooLong unused e in
+    let second = none_refused (is_some (instance_with c.kept.instances instance)) faults.AidInUse few first.1 in
     (none_refused (nat_le most_instances c.numbers) faults.NoInstance None second.1).0
 
 -- parts that use no number of an instance

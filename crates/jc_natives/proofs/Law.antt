@@ -28,6 +28,7 @@ use Rattle.jc_names.specs.declared.name.ClassName.TheVariants as classes
 use Rattle.jc_natives.specs.MemberTypes.{counted_name}
 use Rattle.jc_natives.proofs.ApiTypes.{IsDeclared, is_declared}
 use Rattle.jc_natives.proofs.Facts.{AreTyped}
+use Rattle.jc_natives.proofs.FitWrites.{Known}
 use Rattle.jc_natives.proofs.Fits.{begun_fits}
 use Rattle.jc_natives.proofs.Guarding.{answers_guarded}
 use Rattle.jc_natives.proofs.Keeping.{kept_fits_still}
@@ -78,7 +79,15 @@ module _ (lookups : (before after : List Shape) → LiesWithin before after → 
       let d = is_declared lookups linking w.shapes built call.member b.member b.is in
       let a = is_declared lookups linking w.shapes built 40 asking refl in
       let ends = (sound w.shapes accepted.small built).superclasses.orderly.ends in
-      let done = begun_fits w call (stands w.shapes built) ends fit (given_of b.member) b.member b.is refl
+      let known : Known = record {
+        w = w;
+        call = call;
+        there = stands w.shapes built;
+        ends = ends;
+        fit = fit;
+        given = given_of b.member;
+      } in
+      let done = begun_fits known b.member b.is refl
       (arguments_typed w call b d) asking refl a.type refl refl refl b.native
       (suits call.member b.native b.member b.numbered b.is) in
       let same : answer_of w call ≡ begun w call (Some b.native) =

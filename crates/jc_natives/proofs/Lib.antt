@@ -12,6 +12,9 @@ mod ApiTypes
 mod Tables
 mod Suits
 mod Facts
+mod FitWrites
+mod FitWork
+mod FitKept
 mod Fits
 mod Law
 mod Loading

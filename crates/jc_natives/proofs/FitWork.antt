@@ -1,0 +1,249 @@
+-- A work that fits leaves objects typed and ends as it is declared to; and what tests throw may be thrown.
+use Rattle.std.specs.Prelude.{⊤}
+use Rattle.std.proofs.Common.{◌≡◌, ℕ, ◌<◌, ◌==◌, ◌&&◌, Bool, true, false, cond, List, [], ◌∷◌, Option, Some, None, refl, ap, ◌∙◌, arith}
+use Rattle.std.proofs.lemmas.Bool.{lt-ltb}
+use Rattle.std.specs.Option.{option_map_or}
+use Rattle.jc_api.specs.declared.class.ApiClass.{ApiClass}
+use Rattle.jc_api.specs.declared.class.ApiClass.TheVariants as api
+use Rattle.jc_base.specs.Signature.{return_map, type_map}
+use Rattle.jc_base.specs.declared.declared_type.DeclaredType.{DeclaredType}
+use Rattle.jc_base.specs.declared.declared_type.DeclaredType.TheVariants as types
+use Rattle.jc_base.specs.declared.declared_type.ReturnType.{ReturnType}
+use Rattle.jc_base.specs.declared.declared_type.ReturnType.TheVariants.{Void, Value}
+use Rattle.jc_firewall.specs.Verdict.{verdict_of}
+use Rattle.jc_firewall.specs.declared.access.Verdict.{Verdict}
+use Rattle.jc_firewall.specs.declared.access.Verdict.TheVariants.{Allowed, AllowedSwitch, Denied}
+use Rattle.jc_machine.specs.Lookup.{is_byte_array, is_given, is_throwable}
+use Rattle.jc_machine.specs.Machine.{NativeAnswer}
+use Rattle.jc_machine.specs.Natives.{EndsFit, IsFitCallback, IsThrown, KeepsObjects}
+use Rattle.jc_machine.specs.Typed.{HeapTyped}
+use Rattle.jc_names.specs.declared.name.ClassName.{ClassName}
+use Rattle.jc_natives.specs.MemberTypes.{counted_name}
+use Rattle.jc_natives.proofs.Facts.{own_object}
+use Rattle.jc_natives.proofs.FitWrites.{Known, Writes, index_thrown, null_thrown, security_thrown, system_leads, system_reason, system_thrown}
+use Rattle.jc_natives.proofs.Guarding.{keeps_new, keeps_written}
+use Rattle.jc_natives.proofs.Keeping.{array_typed, kept_fits_still, type_still, write_typed}
+use Rattle.jc_natives.proofs.Suits as suits
+use Rattle.jc_natives.proofs.Suits.{Gives, is_word_type}
+use Rattle.jc_natives.specs.Cells.{Write, argument, has_room, written}
+use Rattle.jc_natives.specs.Kept.{Kept}
+use Rattle.jc_natives.specs.Meaning.{array_or_refusal, asked, did, done, end_of, ended, fits_kept, new_array, reference, with_room}
+use Rattle.jc_natives.specs.Seen.{Seen, is_aid_object}
+use Rattle.jc_natives.specs.Tests.{Tested, access_of, by_verdict, facts_of, fails, followed, goes_on, is_in_range, on_object, passes, ranged, test, tested, used}
+use Rattle.jc_natives.specs.Work.{Asks, Does, Ending, GivesReference, GivesWord, Makes, NoResult, Throws, Work}
+use Rattle.jc_natives.specs.declared.ended.Question.{Question}
+use Rattle.jc_natives.specs.declared.row.Range.{Range}
+use Rattle.jc_natives.specs.declared.row.Row.{Row}
+use Rattle.jc_natives.specs.declared.row.Test.{Test}
+use Rattle.jc_natives.specs.declared.row.Test.TheVariants as tests
+use Rattle.jc_natives.specs.declared.row.Way.{Way}
+use Rattle.jc_natives.specs.declared.row.Way.TheVariants as ways
+use Rattle.jc_store.specs.Heap.{Heap, Object, next_number, object_at, with_new}
+use Rattle.jc_store.specs.declared.kind.Kind.{Kind}
+use Rattle.jc_words.specs.Values.{Null, Ref, TaggedValue, Word}
+
+module _ (known : Known) where
+  open known use {w, call, there, ends, fit, given}
+
+  -- ---- what a work is to keep to
+
+  abbrev Ends : Ending → Type 0
+  Ends NoResult = is_given w.shapes call.heap given.result None ≡ true
+  Ends (GivesWord n) = is_given w.shapes call.heap given.result (Some (Word n)) ≡ true
+  Ends (GivesReference n) = is_given w.shapes call.heap given.result (Some (reference n)) ≡ true
+  Ends (Throws object) = IsThrown w call.heap object
+
+  -- the question is a call that fits
+  abbrev pub AsksWell : Question → Type 0
+  AsksWell q = IsFitCallback w call (asked call [] q) given
+      (record { member = 40; object = q.object; arguments = reference q.aid ∷ Word q.word ∷ [] })
+
+  abbrev pub Fits : Work → Type 0
+  Fits (Does writes k ending) = Writes known writes × ((fits_kept w call.heap k ≡ true) × Ends ending)
+  Fits (Makes array) = (array.size < 65536)
+      × (is_given w.shapes (with_new call.heap (new_array call.active array)) given.result
+      (Some (Ref (next_number call.heap))) ≡ true)
+  Fits (Asks q) = AsksWell q
+
+  pub either_fits : (b : Bool) (x y : Work) → (b ≡ true → Fits x) → Fits y → Fits (cond b x y)
+  either_fits true x y p q = p refl
+  either_fits false x y p q = q
+
+  -- ---- an answer
+
+  abbrev pub Answers : NativeAnswer Kept → Type 0
+  Answers a = HeapTyped w.shapes a.heap × ((fits_kept w a.heap a.runtime ≡ true) × EndsFit w call a given a.ends)
+
+  thrown_still : (after : Heap TaggedValue) (object : ℕ) → KeepsObjects call.heap after → IsThrown w call.heap object
+      → IsThrown w after object
+  thrown_still after object stay thrown =
+      let s = stay object thrown.object thrown.found in
+      record {
+        object = s.object;
+        found = s.found;
+        throwable = ap (λ (kind : Kind). is_throwable w.shapes kind.object) s.kind ∙ thrown.throwable;
+      }
+
+  given_still : (after : Heap TaggedValue) (r : ReturnType ClassName) (v : Option TaggedValue)
+      → KeepsObjects call.heap after → is_given w.shapes call.heap r v ≡ true → is_given w.shapes after r v ≡ true
+  given_still after Void None stay e = e
+  given_still after Void (Some v) stay e = e
+  given_still after (Value t) None stay e = e
+  given_still after (Value t) (Some v) stay e = type_still w.shapes call.heap after stay t v e
+
+  ending_still : (a : NativeAnswer Kept) (ending : Ending) → KeepsObjects call.heap a.heap → Ends ending
+      → EndsFit w call a given (end_of ending)
+  ending_still a NoResult stay e = given_still a.heap given.result None stay e
+  ending_still a (GivesWord n) stay e = given_still a.heap given.result (Some (Word n)) stay e
+  ending_still a (GivesReference n) stay e = given_still a.heap given.result (Some (reference n)) stay e
+  ending_still a (Throws object) stay e = thrown_still a.heap object stay e
+
+  writes_typed : (writes : List Write) → Writes known writes → HeapTyped w.shapes (written Word call.heap writes)
+  writes_typed [] fits = fit.heap
+  writes_typed (x ∷ []) fits = write_typed w.shapes call.heap x fits fit.heap
+  writes_typed (x ∷ y ∷ writes) fits = absurd fits
+
+  no_space : Fits (Does (record { object = 9; from = 0; words = 2 ∷ [] } ∷ []) call.runtime (Throws 9))
+  no_space = (system_reason known 9 2 (system_leads known) (omega arith), (fit.fits, system_thrown known))
+
+  done_fits : (touches : List _) (work : Work) → Fits work → Answers (done call touches work)
+  done_fits touches (Does writes k ending) fits = (
+    writes_typed writes fits.0,
+    (
+      kept_fits_still w call.heap (written Word call.heap writes) k (keeps_written call.heap writes) (fits.1).0,
+      ending_still (did call touches writes k ending) ending (keeps_written call.heap writes) (fits.1).1,
+    ),
+  )
+  done_fits touches (Makes array) fits = (
+    array_typed w.shapes call.heap call.active array fits.0 fit.heap,
+    (
+      kept_fits_still w call.heap (with_new call.heap (new_array call.active array)) call.runtime
+          (keeps_new call.heap (new_array call.active array)) fit.fits,
+      fits.1,
+    ),
+  )
+  done_fits touches (Asks q) fits = (
+    fit.heap,
+    (
+      fit.fits,
+      record {
+        caller = fits.caller;
+        caller_is = fits.caller_is;
+        static = fits.static;
+        member = fits.member;
+        member_is = fits.member_is;
+        virtual = fits.virtual;
+        object = fits.object;
+        there = fits.there;
+        below = fits.below;
+        signature = fits.signature;
+        declared = fits.declared;
+        arguments = fits.arguments;
+        result = fits.result;
+      },
+    ),
+  )
+
+  roomy_fits : (touches : List _) (work : Work) → Fits work
+      → Answers (done call touches (with_room call.limits.objects call.limits.cells call.heap call.runtime work))
+  roomy_fits touches (Does writes k ending) fits = done_fits touches (Does writes k ending) fits
+  roomy_fits touches (Makes array) fits = by_room (has_room call.limits.objects call.limits.cells call.heap array.size)
+    where
+      by_room : (b : Bool) → Answers (done call touches (array_or_refusal b array call.runtime))
+      by_room true = done_fits touches (Makes array) fits
+      by_room false =
+          done_fits touches (Does (record { object = 9; from = 0; words = 2 ∷ [] } ∷ []) call.runtime (Throws 9))
+          no_space
+  roomy_fits touches (Asks q) fits = done_fits touches (Asks q) fits
+
+  -- ---- what tests throw
+
+  abbrev Thrown : Option ℕ → Type 0
+  Thrown None = ⊤
+  Thrown (Some object) = IsThrown w call.heap object
+
+  verdict_thrown : (s : Seen) (way : Way) (number : ℕ) (v : Verdict) → Thrown (by_verdict s way number v).thrown
+  verdict_thrown s way number Allowed = tt
+  verdict_thrown s way number (AllowedSwitch owner) = tt
+  verdict_thrown s way number (Denied rule) = security_thrown known
+
+  object_thrown : (s : Seen) (way : Way) (number : ℕ) (o : Option (Object ℕ)) → Thrown (on_object s way number o).thrown
+  object_thrown s way number None = null_thrown known
+  object_thrown s way number (Some o) =
+      verdict_thrown s way number (verdict_of (access_of way) s.active.context (facts_of s o))
+
+  either_thrown : (b : Bool) (t u : Tested) → Thrown t.thrown → Thrown u.thrown → Thrown (cond b t u).thrown
+  either_thrown true t u p q = p
+  either_thrown false t u p q = q
+
+  used_thrown : (s : Seen) (way : Way) (number : ℕ) → Thrown (used s way number).thrown
+  used_thrown s way number = object_thrown s way number (object_at s.objects number)
+
+  test_thrown : (s : Seen) (arguments : List ℕ) (one : Test) → Thrown (test s arguments one).thrown
+  test_thrown s arguments tests.Nothing = tt
+  test_thrown s arguments (tests.Object place way) = used_thrown s way (argument arguments place)
+  test_thrown s arguments (tests.ObjectOrNull place way) =
+      either_thrown (argument arguments place == 0) passes (used s way (argument arguments place)) tt
+      (used_thrown s way (argument arguments place))
+  test_thrown s arguments tests.BesideAid =
+      either_thrown (is_aid_object s (argument arguments 0) && is_aid_object s (argument arguments 1))
+      (used s ways.Calls (argument arguments 1)) passes (used_thrown s ways.Calls (argument arguments 1)) tt
+
+  range_thrown : (s : Seen) (arguments : List ℕ) (r : Option Range) → Thrown (ranged s arguments r).thrown
+  range_thrown s arguments None = tt
+  range_thrown s arguments (Some r) =
+      either_thrown (is_in_range s arguments r) passes (fails 4) tt (index_thrown known)
+
+  followed_thrown : (t u : Tested) → Thrown t.thrown → Thrown u.thrown → Thrown (followed t u).thrown
+  followed_thrown t u p q = by_thrown t.thrown p
+    where
+      by_thrown : (o : Option ℕ) → Thrown o → Thrown (goes_on t.touches o u).thrown
+      by_thrown (Some object) r = r
+      by_thrown None r = q
+
+  pub tested_thrown : (s : Seen) (arguments : List ℕ) (row : Row) → Thrown (tested s arguments row).thrown
+  tested_thrown s arguments row =
+      followed_thrown (test s arguments row.first) _ (test_thrown s arguments row.first)
+      (followed_thrown (test s arguments row.second) _ (test_thrown s arguments row.second)
+      (followed_thrown (ranged s arguments row.first_range) (ranged s arguments row.second_range)
+      (range_thrown s arguments row.first_range) (range_thrown s arguments row.second_range)))
+
+  pub ended_fits : (touches : List _) (thrown : Option ℕ) (work : Work) → Thrown thrown → Fits work
+      → Answers (ended call touches thrown work)
+  ended_fits touches (Some object) work thrown fits = (fit.heap, (fit.fits, thrown))
+  ended_fits touches None work thrown fits = roomy_fits touches work fits
+
+  -- ---- what members give
+
+  module _ (r : ReturnType ApiClass) (is : given.result ≡ return_map counted_name r) where
+    pub gives_as : (s : ReturnType ApiClass) → r ≡ s → (v : Option TaggedValue) (heap : Heap TaggedValue)
+        → is_given w.shapes heap (return_map counted_name s) v ≡ true → is_given w.shapes heap given.result v ≡ true
+    gives_as s e v heap f =
+        ap (λ x. is_given w.shapes heap x v) (is ∙ ap (return_map counted_name) e) ∙ f
+
+    pub void_ends : Gives suits.nothing r → Ends NoResult
+    void_ends g = gives_as Void g None call.heap refl
+
+    pub word_ends : (n : ℕ) → n < 65536 → Gives suits.word r → Ends (GivesWord n)
+    word_ends n small g = gives_as (Value g.0) g.1 (Some (Word n)) call.heap (by_type g.0 g.2)
+      where
+        by_type : (t : DeclaredType ApiClass) → is_word_type t ≡ true
+            → is_given w.shapes call.heap (Value (type_map counted_name t)) (Some (Word n)) ≡ true
+        by_type types.Boolean e = lt-ltb n 65536 small
+        by_type types.Byte e = lt-ltb n 65536 small
+        by_type types.Short e = lt-ltb n 65536 small
+        by_type (types.Reference c) e = absurd cc
+        by_type types.BooleanArray e = absurd cc
+        by_type types.ByteArray e = absurd cc
+        by_type types.ShortArray e = absurd cc
+        by_type (types.ReferenceArray c) e = absurd cc
+
+    pub null_ends : Gives suits.shareable r → Ends (GivesReference 0)
+    null_ends g = gives_as (Value (types.Reference api.Shareable)) g (Some Null) call.heap refl
+
+    pub buffer_ends : Gives suits.bytes r → Ends (GivesReference 12)
+    buffer_ends g =
+        let has = own_object call.heap 11 _ fit.runtime_objects refl in
+        gives_as (Value types.ByteArray) g (Some (Ref 12)) call.heap
+        (ap (λ o. option_map_or (λ (p : Object TaggedValue). is_byte_array p.kind.object) o false) has.found
+        ∙ ap is_byte_array has.type)

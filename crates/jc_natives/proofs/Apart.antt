@@ -1,4 +1,4 @@
--- The law of the runtime's name: a member writes to no plain object in it, makes objects for its caller, and has
+-- The law of the runtime's name: a member writes to no plain object in it, makes plain ones for its caller, and has
 -- applets alone called.
 use Rattle.std.proofs.Common.{◌≡◌, ◌≢◌, ◌⊎◌, inl, inr, ℕ, zero, suc, ◌==◌, ◌&&◌, ◌-◌, ◌<◌, ◌≤◌, not, Bool, true, false, cond, List, [], ◌∷◌, ◌++◌, get_or, length, slice_get, Option, Some, None, refl, sym, ap, subst, ◌∙◌, arith}
 use Rattle.std.proofs.lemmas.Bool.{eq-eqb, eqb-true}

@@ -1,15 +1,15 @@
 -- Results and options whose refusals have numbers of one range.
-use Rattle.std.proofs.Common.{◌≡◌, ℕ, zero, suc, ◌==◌, Bool, true, false, cond, List, [], ◌∷◌, length, arith, refl, subst}
+use Rattle.std.proofs.Common.{◌≡◌, ℕ, zero, suc, ◌==◌, Bool, true, false, cond, List}
+use Rattle.std.proofs.Common.{[], ◌∷◌, length, arith, refl, subst}
 use Rattle.std.proofs.Common.{Option, Some, None, Result, Ok, Err}
 use Rattle.std.specs.Option.{option_map, option_or}
 use Rattle.jc_base.specs.Cursor.{Read, field, whole}
-use Rattle.jc_base.specs.Fault.{is_told_before, least_of, number_of}
+use Rattle.jc_base.specs.Fault.{is_told_before, least_of}
 use Rattle.jc_base.specs.PlacedRows.{placed_in, placed_rows}
 use Rattle.jc_base.specs.Results.{◌>>=◌}
 use Rattle.jc_base.specs.Rows.{repeat}
 use Rattle.jc_base.specs.declared.fault.LoadFault.{LoadFault}
 use Rattle.jc_base.specs.declared.fault.LoadFault.TheVariants.{Malformed}
-use Rattle.jc_base.specs.declared.placed_rows.Placed.{Placed}
 use Rattle.jc_cap_desc.specs.Package.{fault_of, told, unless}
 use Rattle.jc_refusals.specs.Order.{IsBetween}
 
@@ -32,7 +32,8 @@ the_told a b e = cc
 pub gives : (least most : ℕ) {A : Type 0} (x : A) → Refuses least most {A = A} (Ok x)
 gives least most x = record { each = λ fault e. absurd cc }
 
-pub refuses : (least most : ℕ) {A : Type 0} (a : LoadFault) → IsBetween least most a → Refuses least most {A = A} (Err a)
+pub refuses : (least most : ℕ) {A : Type 0} (a : LoadFault) → IsBetween least most a
+    → Refuses least most {A = A} (Err a)
 refuses least most a h = record { each = λ b e. subst (IsBetween least most) (the_fault a b e) h }
 
 pub behind : (least most : ℕ) {A B : Type 0} (r : Result A LoadFault) (next : A → Result B LoadFault)
@@ -62,15 +63,17 @@ in_whole tag (Err a) h = refuses 5 9 a (h.each a refl)
 pub guarded : {A : Type 0} (tag : ℕ) (b : Bool) (x : A) → Refuses 5 9 (cond b (Ok x) (Err (Malformed tag)))
 guarded tag b x = either 5 9 b (Ok x) (Err (Malformed tag)) (gives 5 9 x) (refuses 5 9 (Malformed tag) (malformed tag))
 
-pub in_rows : {A : Type 0} (next_row : List ℕ → Result (Read A) LoadFault) → ((bytes : List ℕ) → Refuses 5 9 (next_row bytes))
-    → (n : ℕ) (bytes : List ℕ) → Refuses 5 9 (repeat next_row n bytes)
+pub in_rows : {A : Type 0} (next_row : List ℕ → Result (Read A) LoadFault)
+    → ((bytes : List ℕ) → Refuses 5 9 (next_row bytes)) → (n : ℕ) (bytes : List ℕ)
+    → Refuses 5 9 (repeat next_row n bytes)
 unfolding repeat
 in_rows next_row h zero bytes = gives 5 9 _
 in_rows next_row h (suc n) bytes =
     behind 5 9 _ _ (h bytes) (λ first. behind 5 9 _ _ (in_rows next_row h n first.rest) (λ more. gives 5 9 _))
 
-in_placed : {A : Type 0} (next_row : List ℕ → Result (Read A) LoadFault) → ((bytes : List ℕ) → Refuses 5 9 (next_row bytes))
-    → (total steps : ℕ) (bytes : List ℕ) → Refuses 5 9 (placed_in next_row total steps bytes)
+in_placed : {A : Type 0} (next_row : List ℕ → Result (Read A) LoadFault)
+    → ((bytes : List ℕ) → Refuses 5 9 (next_row bytes)) → (total steps : ℕ) (bytes : List ℕ)
+    → Refuses 5 9 (placed_in next_row total steps bytes)
 in_placed next_row h total zero [] = gives 5 9 _
 in_placed next_row h total (suc steps) [] = gives 5 9 _
 in_placed next_row h total zero (b ∷ bytes) = gives 5 9 _
@@ -108,7 +111,8 @@ told_both least most (Some x) None h k = h
 told_both least most (Some x) (Some y) h k =
     tells least most (least_of x y) (least_between least most x y (h.each x refl) (k.each y refl))
 
-pub told_of : (least most : ℕ) {A : Type 0} (r : Result A LoadFault) → Refuses least most r → Tells least most (fault_of r)
+pub told_of : (least most : ℕ) {A : Type 0} (r : Result A LoadFault) → Refuses least most r
+    → Tells least most (fault_of r)
 told_of least most (Ok x) h = silent least most
 told_of least most (Err a) h = tells least most a (h.each a refl)
 

@@ -1,6 +1,6 @@
--- The readers of the Header, Applet, Import, StaticField, Export, ConstantPool and Method components refuse with a number
--- of 5 to 9.
-use Rattle.std.specs.Prelude.{ℕ, ◌-◌, ◌*◌, ◌==◌, ◌&&◌, List, length}
+-- The readers of the Header, Applet, Import, StaticField, Export, ConstantPool and Method components refuse with a
+-- number of 5 to 9.
+use Rattle.std.specs.Prelude.{ℕ, ◌-◌, ◌*◌, ◌==◌, ◌&&◌, List}
 use Rattle.std.specs.Prelude.{Option, Some, None, Result, Ok, Err}
 use Rattle.std.proofs.Common.{arith}
 use Rattle.std.specs.Option.{ok_or}

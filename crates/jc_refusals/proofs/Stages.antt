@@ -1,7 +1,7 @@
 -- Each stage of a load tells refusals of its own range.
-use Rattle.std.proofs.Common.{◌≡◌, ℕ, Bool, true, false, List, [], ◌∷◌, length, arith, refl, ap, ◌∙◌}
-use Rattle.std.specs.Prelude.{◌==◌, ◌&&◌}
-use Rattle.std.proofs.Common.{Option, Some, None, Result, Ok, Err}
+use Rattle.std.specs.Prelude.{◌≡◌, ℕ, ◌==◌, Bool, true, false, ◌&&◌, List, [], ◌∷◌, length}
+use Rattle.std.specs.Prelude.{Option, Some, None, Result, Ok, Err}
+use Rattle.std.proofs.Common.{arith, refl, ap, ◌∙◌}
 use Rattle.std.specs.List.{list_all}
 use Rattle.std.specs.Result.{result_ok}
 use Rattle.jc_base.proofs.Once.{one_split}
@@ -26,8 +26,8 @@ use Rattle.jc_cap_desc.specs.Across.{applets_install, class_methods, is_describe
 use Rattle.jc_cap_desc.specs.Across.{stands_inside}
 use Rattle.jc_cap_desc.specs.Component as Descriptor
 use Rattle.jc_cap_desc.specs.Package.{across_fault, applets_fault, class_fault, classes_fault, component_fault}
-use Rattle.jc_cap_desc.specs.Package.{components_of, fault_of, methods_fault, package_fault, package_of, pool_fault}
-use Rattle.jc_cap_desc.specs.Package.{layout_in, refused, unless}
+use Rattle.jc_cap_desc.specs.Package.{components_of, fault_of, layout_in, methods_fault, package_fault, package_of}
+use Rattle.jc_cap_desc.specs.Package.{pool_fault, refused, unless}
 use Rattle.jc_cap_desc.specs.Shape.{Package, Shape}
 use Rattle.jc_cap_desc.specs.Types.{descriptor_of}
 use Rattle.jc_cap_desc.specs.declared.component.DescriptorInfo.{DescriptorInfo}
@@ -56,6 +56,7 @@ in_single : (again : Option ℕ) (infos : Infos) → Refuses 1 4 (single again i
 in_single None infos = gives 1 4 infos
 in_single (Some tag) infos = refuses 1 4 (RepeatedComponent tag) (record { from = omega arith; to = omega arith })
 
+-- the infos that are needed, with those that may be missing
 abbrev infos_with : (ℕ → Option (List ℕ)) → List ℕ → List ℕ → List ℕ → List ℕ → List ℕ → List ℕ → Infos
 infos_with info header constant_pool class methods static_field descriptor =
     record {

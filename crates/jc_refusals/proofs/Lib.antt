@@ -1,0 +1,4 @@
+mod Ranges
+mod Readers
+mod Descriptors
+mod Stages

@@ -1,0 +1,32 @@
+//! The refusals of a load are told in the order of their numbers.
+#![tactic(auto)]
+
+ghost use Rattle.jc_base.specs.Cutting.{Piece, Splits, answer};
+ghost use Rattle.jc_base.specs.Fault.{number_of};
+ghost use Rattle.jc_base.specs.Parts.{Infos};
+ghost use Rattle.jc_base.specs.declared.fault.LoadFault.{LoadFault};
+ghost use Rattle.jc_cap_desc.specs.Package.{package_of};
+ghost use Rattle.jc_cap_desc.specs.Shape.{Package, Shape};
+ghost use Rattle.jc_cert.specs.Cert.{Row};
+ghost use Rattle.jc_check.specs.Checked.{IsFirstRefusal};
+ghost use Rattle.jc_link.specs.Linked.{Linked};
+ghost use Rattle.jc_link.specs.WellFormed.{fault_behind};
+ghost use Rattle.jc_refusals.specs.Order.{IsBetween};
+ghost use Rattle.std.specs.Prelude.{◌≡◌, ℕ, List, Some, Err};
+
+/// The stages of a load tell refusals of their own numbers, and a later stage those of greater ones. Where an image
+/// isn't cut into its components, the number is one of 1 to 4; where a component isn't read, or components don't fit
+/// each other, one of 5 to 9; where the package isn't well-formed in its world, one of 10 to 15; and where a
+/// certificate doesn't carry it, the number is 17. An image is cut in one way only, so it has one answer. It does
+/// nothing.
+pub fn refusals_are_in_order()
+    ensures cut { (pieces : List Piece) (rest : List ℕ) (fault : LoadFault) → answer pieces rest ≡ Err fault
+        → IsBetween 1 4 fault }
+    ensures read { (parts : Infos) (fault : LoadFault) → package_of parts ≡ Err fault → IsBetween 5 9 fault }
+    ensures linked { (before : List Shape) (p : Package) (fault : LoadFault) → fault_behind before p ≡ Some fault
+        → IsBetween 10 15 fault }
+    ensures checked { (l : Linked) (rows : List Row) (fault : LoadFault) → IsFirstRefusal l rows fault
+        → number_of fault ≡ 17 }
+    ensures once { (image : List ℕ) (ps qs : List Piece) (rest others : List ℕ) → Splits image ps rest
+        → Splits image qs others → answer ps rest ≡ answer qs others }
+{}

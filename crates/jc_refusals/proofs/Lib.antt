@@ -2,3 +2,4 @@ mod Ranges
 mod Readers
 mod Descriptors
 mod Stages
+mod Least

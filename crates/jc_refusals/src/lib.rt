@@ -11,8 +11,15 @@ ghost use Rattle.jc_cert.specs.Cert.{Row};
 ghost use Rattle.jc_check.specs.Checked.{IsFirstRefusal};
 ghost use Rattle.jc_link.specs.Linked.{Linked};
 ghost use Rattle.jc_link.specs.WellFormed.{fault_behind};
+ghost use Rattle.jc_base.specs.declared.fault.LoadFault.TheVariants.{Memory};
+ghost use Rattle.jc_card.specs.Card.{CardState};
+ghost use Rattle.jc_card.specs.Load.{IsLoad};
+ghost use Rattle.jc_refusals.specs.Loads.{Applies, IsLeast};
 ghost use Rattle.jc_refusals.specs.Order.{IsBetween};
-ghost use Rattle.std.specs.Prelude.{◌≡◌, ℕ, List, Some, Err};
+ghost use Rattle.std.specs.Prelude.{◌≡◌, ◌≢◌, ℕ, List, Some, Ok, Err};
+
+use jc_check::first_fault_laws;
+use jc_code::listing_laws;
 
 /// The stages of a load tell refusals of their own numbers, and a later stage those of greater ones. Where an image
 /// isn't cut into its components, the number is one of 1 to 4; where a component isn't read, or components don't fit
@@ -30,3 +37,16 @@ pub fn refusals_are_in_order()
     ensures once { (image : List ℕ) (ps qs : List Piece) (rest others : List ℕ) → Splits image ps rest
         → Splits image qs others → answer ps rest ≡ answer qs others }
 {}
+
+/// Of the refusals that apply to a load the one with the least number is told, if it isn't want of memory; and a
+/// package to which one applies isn't loaded. It does nothing.
+pub fn the_least_refusal_is_told()
+    ensures told { (c after : CardState) (image certificate : List ℕ) (fault : LoadFault)
+        → IsLoad c image certificate (Err fault) after → fault ≢ Memory → IsLeast c image certificate fault }
+    ensures loaded { (c after : CardState) (image certificate : List ℕ) (number : ℕ)
+        → IsLoad c image certificate (Ok number) after → (other : LoadFault) → Applies c image certificate other → ⊥ }
+{
+    refusals_are_in_order();
+    first_fault_laws();
+    listing_laws();
+}

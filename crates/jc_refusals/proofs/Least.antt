@@ -1,0 +1,242 @@
+-- Of the refusals that apply to a load the one with the least number is told.
+use Rattle.std.proofs.Common.{◌≡◌, ◌⊎◌, ℕ, ◌≢◌, true, List, Some, Result, Ok, Err, inl, inr}
+use Rattle.std.proofs.Common.{refl, sym, ap, ◌∙◌, subst, arith}
+use Rattle.std.proofs.lemmas.Option.{none-some}
+use Rattle.jc_base.specs.Cutting.{Piece, Splits, answer}
+use Rattle.jc_base.specs.Fault.{number_of}
+use Rattle.jc_base.specs.Parts.{Infos}
+use Rattle.jc_base.specs.declared.fault.LoadFault.{LoadFault}
+use Rattle.jc_base.specs.declared.fault.LoadFault.TheVariants.{BadCertificate, Full, Memory}
+use Rattle.jc_cap_desc.specs.Package.{package_of}
+use Rattle.jc_cap_desc.specs.Shape.{Package, Shape}
+use Rattle.jc_cert.specs.Cert.{Row}
+use Rattle.jc_cert.specs.Cert.{Stated}
+use Rattle.jc_check.specs.Carried.{Carries}
+use Rattle.jc_check.specs.Checked.{CarriesPackage, IsFirstRefusal, stated_for}
+use Rattle.jc_check.specs.Checked.IsFirstRefusal.{method, stray}
+use Rattle.jc_check.specs.FirstFault.{IsFirstFault}
+use Rattle.jc_check.specs.Package.{method_of, package_rules}
+use Rattle.jc_check.specs.Method.{Method}
+use Rattle.jc_check.specs.Rules.{Rules}
+use Rattle.jc_check.specs.declared.fault.Fault.{Fault}
+use Rattle.jc_code.specs.Instructions.{instr_at}
+use Rattle.jc_code.specs.Listing.{ListingLaws}
+use Rattle.jc_link.specs.Linked.{Linked, refusal_of}
+use Rattle.jc_link.specs.WellFormed.{fault_behind}
+use Rattle.jc_card.specs.Card.{CardState}
+use Rattle.jc_card.specs.Load.{AreSpelled, IsCut, IsLinkedBehind, IsLoad, IsUnfit, IsWithoutRoom, has_room}
+use Rattle.jc_card.specs.Load.IsUnfit.{uncarried as not_carried, unlinked as not_linked, unspelled as not_spelled}
+use Rattle.jc_refusals.specs.Loads.{Applies, IsLeast, roomless, uncarried, uncut, unlinked, unread, unspelled}
+use Rattle.jc_refusals.specs.Order.{IsBetween}
+
+-- ---- a package that is carried isn't refused
+
+module _ (listing : ListingLaws instr_at) (never : (rules : Rules) → ListingLaws rules.decoder → (m : Method)
+    (states : List Stated) (fault : Fault) → IsFirstFault rules m states fault → Carries rules m states → ⊥)
+    (l : Linked) (rows : List Row) (carried : CarriesPackage l rows) where
+  first_faults_none : (fault : LoadFault) → IsFirstRefusal l rows fault → ⊥
+  first_faults_none _ (stray offset e) = absurd (none-some offset (sym carried.no_stray ∙ e))
+  first_faults_none _ (method b fault none u) =
+      never (package_rules l) listing (method_of l b) (stated_for rows b.offset) fault u.first
+      (carried.methods u.place b u.is)
+
+pub never_refused : ListingLaws instr_at → ((rules : Rules) → ListingLaws rules.decoder → (m : Method)
+    (states : List Stated) (fault : Fault) → IsFirstFault rules m states fault → Carries rules m states → ⊥)
+    → (l : Linked) (rows : List Row) (fault : LoadFault) → IsFirstRefusal l rows fault → CarriesPackage l rows → ⊥
+never_refused listing never l rows fault first carried = first_faults_none listing never l rows carried fault first
+
+-- ---- the stages
+
+-- what each stage tells, and that a stage tells one refusal
+pub record Stages : Type 0 where
+  pub cut : (pieces : List Piece) (rest : List ℕ) (fault : LoadFault) → answer pieces rest ≡ Err fault
+      → IsBetween 1 4 fault
+  pub read : (parts : Infos) (fault : LoadFault) → package_of parts ≡ Err fault → IsBetween 5 9 fault
+  pub linked : (before : List Shape) (p : Package) (fault : LoadFault) → fault_behind before p ≡ Some fault
+      → IsBetween 10 15 fault
+  pub checked : (l : Linked) (rows : List Row) (fault : LoadFault) → IsFirstRefusal l rows fault
+      → number_of fault ≡ 17
+  pub once : (image : List ℕ) (ps qs : List Piece) (rest others : List ℕ) → Splits image ps rest
+      → Splits image qs others → answer ps rest ≡ answer qs others
+  pub never_both : (l : Linked) (rows : List Row) (fault : LoadFault) → IsFirstRefusal l rows fault
+      → CarriesPackage l rows → ⊥
+
+module _ (s : Stages) (c : CardState) (image certificate : List ℕ) where
+  abbrev before : List Shape
+  before = c.world.shapes
+
+  abbrev Linked_as : Linked → Type 0
+  Linked_as l = IsLinkedBehind before image l
+
+  -- ---- one stage, one answer
+
+  same_cut : (one other : Result Infos LoadFault) → IsCut image one → IsCut image other → one ≡ other
+  same_cut one other h k =
+      h.is ∙ s.once image h.pieces k.pieces h.rest k.rest h.splits k.splits ∙ sym k.is
+
+  both_cut : (fault : LoadFault) (parts : Infos) → IsCut image (Err fault) → IsCut image (Ok parts) → ⊥
+  both_cut fault parts h k = let e = same_cut (Err fault) (Ok parts) h k in cc
+
+  same_parts : (parts more : Infos) → IsCut image (Ok parts) → IsCut image (Ok more) → parts ≡ more
+  same_parts parts more h k = let e = same_cut (Ok parts) (Ok more) h k in cc
+
+  same_read : (parts more : Infos) (one other : Result Package LoadFault) → IsCut image (Ok parts)
+      → IsCut image (Ok more) → package_of parts ≡ one → package_of more ≡ other → one ≡ other
+  same_read parts more one other h k e f =
+      sym e ∙ ap package_of (same_parts parts more h k) ∙ f
+
+  -- ---- what a linked package excludes
+
+  module _ (l : Linked) (h : Linked_as l) where
+    not_uncut : (fault : LoadFault) → IsCut image (Err fault) → ⊥
+    not_uncut fault k = both_cut fault h.parts k h.cut
+
+    not_unread : (parts : Infos) (fault : LoadFault) → IsCut image (Ok parts) → package_of parts ≡ Err fault → ⊥
+    not_unread parts fault k e =
+        let f =
+        same_read parts h.parts (Err fault) (Ok h.linked.«package») k h.cut e h.linked.read in cc
+
+    not_unlinked : (parts : Infos) (p : Package) (fault : LoadFault) → IsCut image (Ok parts)
+        → package_of parts ≡ Ok p → fault_behind before p ≡ Some fault → ⊥
+    not_unlinked parts p fault k e f =
+        let g = same_read parts h.parts (Ok p) (Ok h.linked.«package») k h.cut e h.linked.read in
+        let same : p ≡ h.linked.«package» = cc in
+        let n = sym f ∙ ap (fault_behind before) same ∙ h.linked.linked.fine in cc
+
+  -- ---- the least, by the stage that tells it
+
+  of_cut : (fault : LoadFault) → IsCut image (Err fault) → IsBetween 1 4 fault
+  of_cut fault h = s.cut h.pieces h.rest fault (sym h.is)
+
+  least_uncut : (fault : LoadFault) → IsCut image (Err fault) → IsLeast c image certificate fault
+  least_uncut fault h other (uncut g k) =
+      let e = same_cut (Err fault) (Err g) h k in
+      let same : number_of fault ≡ number_of g = cc in
+      omega (arith, same)
+  least_uncut fault h other (unread parts g k e) = absurd (both_cut fault parts h k)
+  least_uncut fault h other (unlinked parts p g k e f) = absurd (both_cut fault parts h k)
+  least_uncut fault h other (unspelled none) =
+      let small = (of_cut fault h).to in omega (arith, small)
+  least_uncut fault h other (uncarried l rows g linked spelled each) =
+      absurd (not_uncut l linked fault h)
+  least_uncut fault h other (roomless l linked each) = absurd (not_uncut l linked fault h)
+
+  least_unread : (parts : Infos) (fault : LoadFault) → IsCut image (Ok parts) → package_of parts ≡ Err fault
+      → IsLeast c image certificate fault
+  least_unread parts fault h e other (uncut g k) = absurd (both_cut g parts k h)
+  least_unread parts fault h e other (unread more g k f) =
+      let is = same_read parts more (Err fault) (Err g) h k e f in
+      let same : number_of fault ≡ number_of g = cc in
+      omega (arith, same)
+  least_unread parts fault h e other (unlinked more p g k f x) =
+      let is = same_read parts more (Err fault) (Ok p) h k e f in absurd cc
+  least_unread parts fault h e other (unspelled none) =
+      let small = (s.read parts fault e).to in omega (arith, small)
+  least_unread parts fault h e other (uncarried l rows g linked spelled each) =
+      absurd (not_unread l linked parts fault h e)
+  least_unread parts fault h e other (roomless l linked each) = absurd (not_unread l linked parts fault h e)
+
+  least_unlinked : (parts : Infos) (p : Package) (fault : LoadFault) → IsCut image (Ok parts)
+      → package_of parts ≡ Ok p → fault_behind before p ≡ Some fault → IsLeast c image certificate fault
+  least_unlinked parts p fault h e f other (uncut g k) = absurd (both_cut g parts k h)
+  least_unlinked parts p fault h e f other (unread more g k x) =
+      let is = same_read parts more (Ok p) (Err g) h k e x in absurd cc
+  least_unlinked parts p fault h e f other (unlinked more q g k x y) =
+      let is = same_read parts more (Ok p) (Ok q) h k e x in
+      let same_package : p ≡ q = cc in
+      let both = sym f ∙ ap (fault_behind before) same_package ∙ y in
+      let same : number_of fault ≡ number_of g = cc in
+      omega (arith, same)
+  least_unlinked parts p fault h e f other (unspelled none) =
+      let small = (s.linked before p fault f).to in omega (arith, small)
+  least_unlinked parts p fault h e f other (uncarried l rows g linked spelled each) =
+      absurd (not_unlinked l linked parts p fault h e f)
+  least_unlinked parts p fault h e f other (roomless l linked each) =
+      absurd (not_unlinked l linked parts p fault h e f)
+
+  -- of a package that is linked: the stages behind linking are left
+  module _ (l : Linked) (h : Linked_as l) where
+    least_unspelled : IsLeast c image certificate BadCertificate
+    least_unspelled other (uncut g k) = absurd (not_uncut l h g k)
+    least_unspelled other (unread parts g k e) = absurd (not_unread l h parts g k e)
+    least_unspelled other (unlinked parts p g k e f) = absurd (not_unlinked l h parts p g k e f)
+    least_unspelled other (unspelled none) = omega arith
+    least_unspelled other (uncarried m rows g linked spelled each) =
+        let is = s.checked m rows g (each m rows linked spelled) in omega (arith, is)
+    least_unspelled other (roomless m linked each) = omega arith
+
+    least_uncarried : (rows : List Row) (fault : LoadFault) → AreSpelled certificate rows
+        → IsFirstRefusal l rows fault → IsLeast c image certificate fault
+    least_uncarried rows fault spelled first other (uncut g k) = absurd (not_uncut l h g k)
+    least_uncarried rows fault spelled first other (unread parts g k e) = absurd (not_unread l h parts g k e)
+    least_uncarried rows fault spelled first other (unlinked parts p g k e f) =
+        absurd (not_unlinked l h parts p g k e f)
+    least_uncarried rows fault spelled first other (unspelled none) = absurd (none rows spelled)
+    least_uncarried rows fault spelled first other (uncarried m more g linked its each) =
+        let one = s.checked l rows fault first in
+        let two = s.checked m more g (each m more linked its) in
+        omega (arith, one, two)
+    least_uncarried rows fault spelled first other (roomless m linked each) =
+        let one = s.checked l rows fault first in omega (arith, one)
+
+    least_roomless : (rows : List Row) → AreSpelled certificate rows → CarriesPackage l rows
+        → IsLeast c image certificate Full
+    least_roomless rows spelled carried other (uncut g k) = absurd (not_uncut l h g k)
+    least_roomless rows spelled carried other (unread parts g k e) = absurd (not_unread l h parts g k e)
+    least_roomless rows spelled carried other (unlinked parts p g k e f) =
+        absurd (not_unlinked l h parts p g k e f)
+    least_roomless rows spelled carried other (unspelled none) = absurd (none rows spelled)
+    least_roomless rows spelled carried other (uncarried m more g linked its each) =
+        absurd (s.never_both l rows g (each l rows h spelled) carried)
+    least_roomless rows spelled carried other (roomless m linked each) = omega arith
+
+    -- nothing applies to a package that is carried and has room
+    none_applies : (rows : List Row) → AreSpelled certificate rows → CarriesPackage l rows → has_room c l ≡ true
+        → (other : LoadFault) → Applies c image certificate other → ⊥
+    none_applies rows spelled carried room other (uncut g k) = not_uncut l h g k
+    none_applies rows spelled carried room other (unread parts g k e) = not_unread l h parts g k e
+    none_applies rows spelled carried room other (unlinked parts p g k e f) = not_unlinked l h parts p g k e f
+    none_applies rows spelled carried room other (unspelled none) = none rows spelled
+    none_applies rows spelled carried room other (uncarried m more g linked its each) =
+        s.never_both l rows g (each l rows h spelled) carried
+    none_applies rows spelled carried room other (roomless m linked each) =
+        let e = sym room ∙ each l h in cc
+
+  -- ---- a load
+
+  least_read : (parts : Infos) (found : Result Package LoadFault) (fault : LoadFault) → IsCut image (Ok parts)
+      → package_of parts ≡ found → refusal_of before found ≡ Some fault → IsLeast c image certificate fault
+  least_read parts (Err g) fault h e f =
+      let same : g ≡ fault = cc in
+      subst (IsLeast c image certificate) same (least_unread parts g h e)
+  least_read parts (Ok p) fault h e f = least_unlinked parts p fault h e f
+
+  least_unfit : (fault : LoadFault) → IsUnfit before image certificate fault → IsLeast c image certificate fault
+  least_unfit fault (not_linked (Err g) _ h e) =
+      let same : g ≡ fault = cc in
+      subst (IsLeast c image certificate) same (least_uncut g h)
+  least_unfit fault (not_linked (Ok parts) _ h e) = least_read parts (package_of parts) fault h refl e
+  least_unfit fault (not_spelled l h none) = least_unspelled l h
+  least_unfit fault (not_carried l rows _ h spelled first) = least_uncarried l h rows fault spelled first
+
+  least_without_room : (fault : LoadFault) → IsWithoutRoom c image certificate fault
+      → IsLeast c image certificate fault
+  least_without_room fault h =
+      subst (IsLeast c image certificate) (sym h.is)
+      (least_roomless h.linked h.fit.linked h.fit.rows h.fit.spelled h.fit.carried)
+
+  by_reason : (fault : LoadFault) → fault ≢ Memory
+      → (fault ≡ Memory) ⊎ IsUnfit before image certificate fault ⊎ IsWithoutRoom c image certificate fault
+      → IsLeast c image certificate fault
+  by_reason fault other (inl e) = absurd (other e)
+  by_reason fault other (inr (inl unfit)) = least_unfit fault unfit
+  by_reason fault other (inr (inr without)) = least_without_room fault without
+
+  pub told_is_least : (after : CardState) (fault : LoadFault) → IsLoad c image certificate (Err fault) after
+      → fault ≢ Memory → IsLeast c image certificate fault
+  told_is_least after fault h other = by_reason fault other h.why
+
+  pub loaded_has_none : (after : CardState) (number : ℕ) → IsLoad c image certificate (Ok number) after
+      → (other : LoadFault) → Applies c image certificate other → ⊥
+  loaded_has_none after number h =
+      none_applies h.linked h.fit.linked h.fit.rows h.fit.spelled h.fit.carried h.room

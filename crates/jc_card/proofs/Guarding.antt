@@ -75,7 +75,8 @@ joined c l (Some m) first h = record {
       };
 }
 
-then_part : {A B : Type 0} (c : CardState) (done : Option (Left A)) (next : CardState → A → Option (Left B)) → Fine c done
+then_part : {A B : Type 0} (c : CardState) (done : Option (Left A)) (next : CardState → A → Option (Left B))
+    → Fine c done
     → ((d : CardState) (value : A) → Fine d (next d value)) → Fine c (and_then done next)
 then_part c None next h each = tt
 then_part c (Some l) next h each = joined c l (next l.card l.value) h (each l.card l.value)
@@ -313,7 +314,8 @@ module _ (laws : StepsGuarded) where
   installs_stay_apart c p applet instance incoming =
       kept_apart c (installs.install_command c applet instance incoming) (install_part c applet instance incoming) p
 
-  pub resets_stay_apart : (c : CardState) → IsApartCard c → IfSome (commands.reset_command c) (λ l. KeepsApart c l.touches l.card)
+  pub resets_stay_apart : (c : CardState) → IsApartCard c
+      → IfSome (commands.reset_command c) (λ l. KeepsApart c l.touches l.card)
   resets_stay_apart c p = kept_apart c (commands.reset_command c) (reset_part c) p
 
   whole : {A : Type 0} (c : CardState) (done : Option (Left A)) → Fine c done → IfSome done (IsGuardedCommand c)

@@ -33,7 +33,8 @@ keeps_through a b c first next n o e =
 
 -- ---- accesses stay listed
 
-pub got_first : {A : Type 0} (xs ys : List A) (k : ℕ) (x : A) → slice_get xs k ≡ Some x → slice_get (xs ++ ys) k ≡ Some x
+pub got_first : {A : Type 0} (xs ys : List A) (k : ℕ) (x : A) → slice_get xs k ≡ Some x
+    → slice_get (xs ++ ys) k ≡ Some x
 got_first [] ys k x e = absurd cc
 got_first (y ∷ xs) ys zero x e = e
 got_first (y ∷ xs) ys (suc k) x e = got_first xs ys k x e

@@ -223,7 +223,8 @@ module _ (laws : StepsGuarded) (c : CardState) (selected : Option ℕ) where
     -- ---- a native member
 
     gave_leads : (touches : List Touch) (m : Machine Kept) (value : Option TaggedValue) (b : Bool)
-        → AreLed IsFitStart start.heap touches m → led_end IsFitStart start.heap touches (cond b (Gave m value) WasStuck)
+        → AreLed IsFitStart start.heap touches m
+        → led_end IsFitStart start.heap touches (cond b (Gave m value) WasStuck)
     gave_leads touches m value true h = h
     gave_leads touches m value false h = tt
 

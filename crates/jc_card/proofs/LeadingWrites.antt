@@ -214,7 +214,6 @@ has_event event context o h =
     by_clears None h = absurd cc
     by_clears (Some e) h = refl
 
-
 module _ (w : World) (event : ClearingEvent) (context : Option ℕ) where
   abbrev test : Object TaggedValue → Bool
   test object = is_cleared_by event context object

@@ -62,7 +62,8 @@ selected_owner k (Some owner) i names e =
 
 -- ---- the runtime's arrays aren't plain
 
-pub buffer_is_global : (c : CardState) → IsApartCard c → (o : Object TaggedValue) → object_at c.heap apdu_buffer ≡ Some o
+pub buffer_is_global : (c : CardState) → IsApartCard c → (o : Object TaggedValue)
+    → object_at c.heap apdu_buffer ≡ Some o
     → o.kind.mark ≢ Plain
 buffer_is_global c p o e plain =
     let own = p.objects.own.1.1.1.1.1.1.1.1.1.1.1.0 in

@@ -132,7 +132,8 @@ arrays_codeless number body (x ∷ xs) zero o e =
 arrays_codeless number body (x ∷ xs) (suc k) o e = arrays_codeless number body xs k o e
 
 module _ (stay : (before after : Heap TaggedValue) → KeepsObjects before after → HasRuntimeObjects before
-    → HasRuntimeObjects after) (heap : Heap TaggedValue) (apart : IsSetApart heap) (number : ℕ) (body : LinkedBody) where
+    → HasRuntimeObjects after) (heap : Heap TaggedValue) (apart : IsSetApart heap) (number : ℕ)
+    (body : LinkedBody) where
   others_behind : (n : ℕ) (o : Object TaggedValue) → object_at (heap ++ loaded_arrays number body) n ≡ Some o
       → o.owner.context ≡ runtime_context → IsRuntimes o
   others_behind zero o e context = absurd cc

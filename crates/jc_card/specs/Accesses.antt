@@ -92,8 +92,8 @@ KeepsPlain touches before after = (number : ℕ) (o p : Object TaggedValue) → 
     → object_at after number ≡ Some p → o.kind.mark ≡ Plain
     → (p.cells ≡ o.cells) ⊎ IsAccessedIn touches number o.owner.context ⊎ IsCleared touches number o
 
--- a card on which the runtime's name is its own: its packages are linked, no code of theirs runs as the runtime, and the
--- instances are of their contexts
+-- a card on which the runtime's name is its own: its packages are linked, no code of theirs runs as the runtime, and
+-- the instances are of their contexts
 pub record IsApartCard (c : CardState) : Type 0 where
   pub packages : IsBuilt c.world.shapes
   pub objects : IsSetApart c.heap

@@ -5,7 +5,8 @@ ghost use Rattle.std.specs.Prelude.{ℕ, List, [], ◌++◌, Result, IfSome};
 ghost use Rattle.jc_base.specs.declared.fault.LoadFault.{LoadFault};
 ghost use Rattle.jc_api.specs.Bound.{Bound};
 ghost use Rattle.jc_api.specs.NoClash.{HasNoClash};
-ghost use Rattle.jc_card.specs.Accesses.{ChangesBy, IsApartCard, IsGuardedCommand, KeepsApart, KeepsPlain, LeavesObjects};
+ghost use Rattle.jc_card.specs.Accesses.{ChangesBy, IsApartCard, IsGuardedCommand, KeepsApart, KeepsPlain};
+ghost use Rattle.jc_card.specs.Accesses.{LeavesObjects};
 ghost use Rattle.jc_card.specs.Card.{CardState};
 ghost use Rattle.jc_card.specs.Commands.{apdu_command, reset_command};
 ghost use Rattle.jc_card.specs.Install.{install_command};
@@ -42,8 +43,9 @@ pub fn commands_are_guarded()
     api_runs_its_own_code();
 }
 
-/// The runtime's name is its own, on a card that is new and behind each command: no code of packages runs as the runtime.
-/// So of plain objects the components change only by accesses in their own contexts, or by clearing. It does nothing.
+/// The runtime's name is its own, on a card that is new and behind each command: no code of packages runs as the
+/// runtime. So of plain objects the components change only by accesses in their own contexts, or by clearing. It does
+/// nothing.
 pub fn commands_stay_apart()
     ensures new { (limits : Limits) (binding : Bound) → HasNoClash binding → IsApartCard (new_card limits binding) }
     ensures apdu { (c : CardState) → IsApartCard c → (bytes : List ℕ)
@@ -71,6 +73,7 @@ pub fn accesses_add_up()
     ensures more { (first between last : Heap TaggedValue) (touches behind : List Touch)
         → ChangesBy touches first between → ChangesBy behind between last → ChangesBy (touches ++ behind) first last }
     ensures plain { (first between last : Heap TaggedValue) (touches behind : List Touch) → KeepsObjects first between
-        → KeepsPlain touches first between → KeepsPlain behind between last → KeepsPlain (touches ++ behind) first last }
+        → KeepsPlain touches first between → KeepsPlain behind between last
+        → KeepsPlain (touches ++ behind) first last }
     ensures unchanged { (before after : Heap TaggedValue) → LeavesObjects before after → KeepsPlain [] before after }
 {}

@@ -4,7 +4,9 @@ ghost use Rattle.std.specs.Prelude.{◌≡◌, [], ◌∷◌, Some};
 ghost use Rattle.std.specs.Option.{option_and_then};
 ghost use Rattle.jc_card.specs.Command.{normal, not_selected, wrong_length};
 ghost use Rattle.jc_card.specs.Commands.{status_alone};
-ghost use Rattle.jc_card.specs.Examples.{answer_on, applet_aid, header_alone, install_on, installed_card, loaded_card, objects_accessed, other_aid, reset_card, said_by, select_of, selected_card, send_to};
+ghost use Rattle.jc_card.specs.Examples.{answer_on, applet_aid, header_alone, install_on, installed_card, loaded_card};
+ghost use Rattle.jc_card.specs.Examples.{objects_accessed, other_aid, reset_card, said_by, select_of, selected_card};
+ghost use Rattle.jc_card.specs.Examples.{send_to};
 ghost use Rattle.jc_card.specs.Install.{HasNumber, Refused};
 ghost use Rattle.jc_card.specs.declared.fault.InstallFault.TheVariants.{AidInUse, UnknownApplet};
 

@@ -34,7 +34,6 @@ use Rattle.jc_machine.specs.Lookup.{fields_of, fields_within, own_fields}
 use Rattle.jc_machine.specs.Uncounted.{HaveCells}
 use Rattle.jc_machine.proofs.GuardingHeaps.{get_first}
 
-
 most_is : most_classes ≡ 17_085
 unfolding most_classes
 most_is = refl

@@ -157,13 +157,13 @@ fine_answer {C = C} h natives active may runs previous member arguments =
       calls = λ callback e. record { heap = (g.calls callback e).heap; runtime = (g.calls callback e).runtime };
       apart = λ keeps p.
           let n : IsApartAnswer keeps call a =
-              p.natives h.around.world call p.machine.objects (runs keeps p) p.machine.kept in record {
-                spares = n.spares;
-                objects =
-                    objects_stay_apart call.heap a.heap active p.machine.objects g.kept (runs keeps p) n.adds;
-                kept = n.kept;
-                calls = n.calls;
-              };
+          p.natives h.around.world call p.machine.objects (runs keeps p) p.machine.kept in record {
+            spares = n.spares;
+            objects =
+                objects_stay_apart call.heap a.heap active p.machine.objects g.kept (runs keeps p) n.adds;
+            kept = n.kept;
+            calls = n.calls;
+          };
     }
 
 -- the machine behind it

@@ -171,10 +171,10 @@ pub steps_stay_apart : {C : Type 0} (keeps : C → Bool) (s : Surroundings C) �
 unfolding defensive_step
 steps_stay_apart {C = C} keeps s natives apart members m a =
     let p : IsApartPart keeps m (act_at s m) =
-        (at_keeps s natives m).apart keeps (record { members = members; natives = apart; machine = a }) in record {
-          spares = p.spares;
-          after = λ after e. settled_apart s keeps (act_at s m).outcome p.after after e;
-        }
+    (at_keeps s natives m).apart keeps (record { members = members; natives = apart; machine = a }) in record {
+      spares = p.spares;
+      after = λ after e. settled_apart s keeps (act_at s m).outcome p.after after e;
+    }
 
 -- ---- what follows
 

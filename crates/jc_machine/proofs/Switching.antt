@@ -185,7 +185,7 @@ pub listed_has_code : (world : List Shape) → HaveApiMembers world → (t : Obj
     → is_member name ≡ false → has_no_code t ≡ true → ⊥
 listed_has_code world api t interface token name e loaded h =
     let v : IsVirtual world (class_of t) name =
-        of_indexes world (class_of t) token name (found (interface_visit world interface) world (class_of t)) e in
+    of_indexes world (class_of t) token name (found (interface_visit world interface) world (class_of t)) e in
     found_has_code world api t v.token 0 name v.found loaded h
 
 -- ---- who runs
@@ -243,7 +243,7 @@ pub called_runs : (world : List Shape) → HaveApiMembers world → (heap : Heap
     → is_of_class world v.class o.kind.object ≡ true → is_applets o.owner ≡ true
 called_runs world api heap apart callback asks o there v e below =
     let m : IsOfMember callback.member v.class =
-        of_declared world callback.member v (member_of callback.member) refl e in
+    of_declared world callback.member v (member_of callback.member) refl e in
     owner_with_code heap apart callback.object o there (λ h.
     no_applet world api o.kind.object h
     (subst (λ (c : ClassName). is_of_class world c o.kind.object ≡ true)

@@ -1,6 +1,6 @@
--- The runtime's name is its own. Code of packages never runs as the runtime: frames are active as applets, and an object
--- of the runtime's has no class of a package. So a step accesses no plain object in the runtime's name (Java Card Runtime
--- Environment Specification, Contexts and Context Switching; JCRE Privileges).
+-- The runtime's name is its own. Code of packages never runs as the runtime: frames are active as applets, and an
+-- object of the runtime's has no class of a package. So a step accesses no plain object in the runtime's name (Java
+-- Card Runtime Environment Specification, Contexts and Context Switching; JCRE Privileges).
 use Rattle.std.specs.Prelude.{◌≡◌, ◌≢◌, ℕ, ◌==◌, Bool, true, false, not, List, ◌∷◌, Some, None}
 use Rattle.std.specs.List.{AllByRecursion, list_all}
 use Rattle.jc_api.specs.Member.{ApiMember, member_of}
@@ -19,9 +19,11 @@ use Rattle.jc_names.specs.declared.owner.Owner.{Owner}
 use Rattle.jc_store.specs.Heap.{Heap, Object, object_at}
 use Rattle.jc_store.specs.declared.kind.Mark.TheVariants.{Plain}
 use Rattle.jc_store.specs.declared.kind.ObjectType.{ObjectType}
-use Rattle.jc_store.specs.declared.kind.ObjectType.TheVariants.{BooleanArray, ByteArray, Instance, ReferenceArray, ShortArray}
+use Rattle.jc_store.specs.declared.kind.ObjectType.TheVariants.{BooleanArray, ByteArray, Instance, ReferenceArray}
+use Rattle.jc_store.specs.declared.kind.ObjectType.TheVariants.{ShortArray}
 use Rattle.jc_machine.specs.Guarded.{machine_of}
-use Rattle.jc_machine.specs.Machine.{Callback, Calls, Frame, Machine, NativeAnswer, NativeCall, Natives, Surroundings, Touch}
+use Rattle.jc_machine.specs.Machine.{Callback, Calls, Frame, Machine, NativeAnswer, NativeCall, Natives, Surroundings}
+use Rattle.jc_machine.specs.Machine.{Touch}
 use Rattle.jc_machine.specs.Runtime.{HasRuntimeObjects}
 use Rattle.jc_machine.specs.Step.{defensive_step}
 use Rattle.jc_words.specs.Values.{TaggedValue}

@@ -12,7 +12,8 @@ ghost use Rattle.jc_code.specs.Listing.{IsListing, PlacedInstr, placed_at};
 ghost use Rattle.jc_code.specs.declared.instr.Instr.{Instr};
 ghost use Rattle.jc_link.specs.Built.{IsBuilt};
 ghost use Rattle.jc_machine.specs.Accepted.{HaveByteTokens, HaveCode, IsAccepted, api_alone, linked_as};
-ghost use Rattle.jc_machine.specs.Apart.{AddsFor, AreNativesApart, HaveApiMembers, IsApart, IsSetApart, StaysApart, is_applets};
+ghost use Rattle.jc_machine.specs.Apart.{AddsFor, AreNativesApart, HaveApiMembers, IsApart, IsSetApart, StaysApart};
+ghost use Rattle.jc_machine.specs.Apart.{is_applets};
 ghost use Rattle.jc_machine.specs.Guarded.{IsGuarded, IsRefused, KeepsPlain, are_allowed, machine_of};
 ghost use Rattle.jc_machine.specs.Lookup.{body_at, code_at, instruction_at};
 ghost use Rattle.jc_machine.specs.Machine.{Machine, MethodPlace, Surroundings};
@@ -36,7 +37,8 @@ pub fn methods_have_code()
     ensures { (w : World) → IsWorld w → HaveCode w }
 {}
 
-/// In an accepted world each method with code is well typed, by a typing whose states are of its shape. It does nothing.
+/// In an accepted world each method with code is well typed, by a typing whose states are of its shape. It does
+/// nothing.
 pub fn accepted_methods_are_typed()
     ensures { (w : World) → IsAccepted w → (place : MethodPlace) (body : LinkedBody) (code : MethodBody)
         → body_at w place.number ≡ Some body → code_at w place ≡ Some code
@@ -75,11 +77,11 @@ pub fn accesses_are_guarded<N: Natives>(_natives: &N)
         → machine_of (defensive_step s m).outcome ≡ Some after → KeepsObjects m.heap after.heap }
 {}
 
-/// The runtime's name is its own. Where no frame is active as the runtime, its objects have no code of packages, and each
-/// object that isn't plain is its own, this is so behind each step, and the step's accesses in the runtime's name spare
-/// plain objects. Objects are set apart still where each stays and others are added that are plain, for an owner in the
-/// context of a package. What the runtime keeps may be of any type, with any test that the native members keep. It does
-/// nothing.
+/// The runtime's name is its own. Where no frame is active as the runtime, its objects have no code of packages, and
+/// each object that isn't plain is its own, this is so behind each step, and the step's accesses in the runtime's name
+/// spare plain objects. Objects are set apart still where each stays and others are added that are plain, for an owner
+/// in the context of a package. What the runtime keeps may be of any type, with any test that the native members keep.
+/// It does nothing.
 pub fn steps_stay_apart<N: Natives>(_natives: &N)
     ensures steps { (keeps : N.Kept → Bool) (s : Surroundings N.Kept) → AreNativesGuarded s.natives
         → AreNativesApart keeps s.natives → HaveApiMembers s.world.shapes → (m : Machine N.Kept) → IsApart keeps m

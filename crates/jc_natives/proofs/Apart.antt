@@ -1,6 +1,8 @@
 -- The law of the runtime's name: a member writes to no plain object in it, makes plain ones for its caller, and has
 -- applets alone called.
-use Rattle.std.proofs.Common.{◌≡◌, ◌≢◌, ◌⊎◌, inl, inr, ℕ, zero, suc, ◌==◌, ◌&&◌, ◌-◌, ◌<◌, ◌≤◌, not, Bool, true, false, cond, List, [], ◌∷◌, ◌++◌, get_or, length, slice_get, Option, Some, None, refl, sym, ap, subst, ◌∙◌, arith}
+use Rattle.std.proofs.Common.{◌≡◌, ◌≢◌, ◌⊎◌, inl, inr, ℕ, zero, suc, ◌==◌, ◌&&◌, ◌-◌, ◌<◌, ◌≤◌, not, Bool, true, false}
+use Rattle.std.proofs.Common.{cond, List, [], ◌∷◌, ◌++◌, get_or, length, slice_get, Option, Some, None, refl, sym, ap}
+use Rattle.std.proofs.Common.{subst, ◌∙◌, arith}
 use Rattle.std.proofs.lemmas.Bool.{eq-eqb, eqb-true}
 use Rattle.std.proofs.lemmas.Option.{none-some, same_Some, slice_get_cases, slice_get_past}
 use Rattle.std.specs.List.{AllByRecursion, list_all}
@@ -26,7 +28,8 @@ use Rattle.jc_natives.specs.Apart.{installs_applet, names_applets}
 use Rattle.jc_natives.specs.Applets.{owner_of}
 use Rattle.jc_natives.specs.Cells.{Write, bare, bared, written}
 use Rattle.jc_natives.specs.Kept.{Kept, after_install, has_registered, is_instance_number, kept_instances, with_install}
-use Rattle.jc_natives.specs.Meaning.{answering_member, begun, did, done, ended, is_touched, made, meaning, new_array, own_touch, own_touch_of, own_touches, unchanged, work_of}
+use Rattle.jc_natives.specs.Meaning.{answering_member, begun, did, done, ended, is_touched, made, meaning, new_array}
+use Rattle.jc_natives.specs.Meaning.{own_touch, own_touch_of, own_touches, unchanged, work_of}
 use Rattle.jc_natives.specs.Rows.{natives, row_of}
 use Rattle.jc_natives.specs.Seen.{Seen, arguments_of, seen_of}
 use Rattle.jc_natives.specs.Tests.{tested}

@@ -1,5 +1,6 @@
 -- What the runtime keeps fits the objects behind its own calls too.
-use Rattle.std.proofs.Common.{◌≡◌, ℕ, zero, suc, ◌-◌, ◌<◌, ◌≤◌, ◌&&◌, not, Bool, true, false, List, [], ◌∷◌, length, nat_le, nat_lt, refl, take}
+use Rattle.std.proofs.Common.{◌≡◌, ℕ, zero, suc, ◌-◌, ◌<◌, ◌≤◌, ◌&&◌, not, Bool, true, false, List, [], ◌∷◌, length}
+use Rattle.std.proofs.Common.{nat_le, nat_lt, refl, take}
 use Rattle.std.proofs.lemmas.Bool.{le-leb, lt-ltb}
 use Rattle.std.specs.List.{list_all}
 use Rattle.std.specs.Option.{option_map_or}
@@ -7,7 +8,8 @@ use Rattle.jc_link.specs.Linked.{World}
 use Rattle.jc_names.specs.declared.owner.Owner.{Owner}
 use Rattle.jc_natives.proofs.Bare.{both}
 use Rattle.jc_natives.proofs.Keeping.{both_are}
-use Rattle.jc_natives.specs.Kept.{Kept, after_install, are_bytes, has_registered, is_aid, is_instance_number, kept_instances, with_command, with_install}
+use Rattle.jc_natives.specs.Kept.{Kept, after_install, are_bytes, has_registered, is_aid, is_instance_number}
+use Rattle.jc_natives.specs.Kept.{kept_instances, with_command, with_install}
 use Rattle.jc_natives.specs.Meaning.{fits_command, fits_installing, fits_instance, fits_kept}
 use Rattle.jc_store.specs.Heap.{Heap}
 use Rattle.jc_words.specs.Values.{TaggedValue}

@@ -1,5 +1,7 @@
 -- AIDs of applets, exceptions with a reason, registrations and transient arrays fit.
-use Rattle.std.proofs.Common.{◌≡◌, ◌⊎◌, inl, inr, ℕ, ◌+◌, ◌<◌, ◌==◌, ◌&&◌, not, Bool, true, false, cond, List, [], ◌∷◌, ◌++◌, length, nat_le, nat_lt, is_some, Option, Some, None, refl, sym, ap, subst, ◌∙◌, arith}
+use Rattle.std.proofs.Common.{◌≡◌, ◌⊎◌, inl, inr, ℕ, ◌+◌, ◌<◌, ◌==◌, ◌&&◌, not, Bool, true, false, cond, List, [], ◌∷◌}
+use Rattle.std.proofs.Common.{◌++◌, length, nat_le, nat_lt, is_some, Option, Some, None, refl, sym, ap, subst, ◌∙◌}
+use Rattle.std.proofs.Common.{arith}
 use Rattle.std.proofs.lemmas.Bool.{eq-eqb, eqb-true, leb-true, ltb-true}
 use Rattle.std.proofs.lemmas.Option.{none-some, same_Some}
 use Rattle.std.specs.List.{find, list_all}
@@ -18,15 +20,19 @@ use Rattle.jc_natives.specs.MemberTypes.{counted_name}
 use Rattle.jc_natives.proofs.Bare.{bare_object, both}
 use Rattle.jc_natives.proofs.Facts.{LeadsToClass, found_fits}
 use Rattle.jc_natives.proofs.FitWork.{Fits, either_fits, gives_as, void_ends}
-use Rattle.jc_natives.proofs.FitWrites.{Known, aid_leads, aid_written, apdu_leads, apdu_reason, apdu_thrown, bytes_are, iso_leads, iso_reason, iso_thrown, size_thrown, system_leads, system_reason, system_thrown}
+use Rattle.jc_natives.proofs.FitWrites.{Known, aid_leads, aid_written, apdu_leads, apdu_reason, apdu_thrown, bytes_are}
+use Rattle.jc_natives.proofs.FitWrites.{iso_leads, iso_reason, iso_thrown, size_thrown, system_leads, system_reason}
+use Rattle.jc_natives.proofs.FitWrites.{system_thrown}
 use Rattle.jc_natives.proofs.Keeping.{both_are}
 use Rattle.jc_natives.proofs.Ranges.{length_of_bytes}
 use Rattle.jc_natives.proofs.Suits as suits
 use Rattle.jc_natives.proofs.Suits.{Gives}
 use Rattle.jc_natives.specs.Applets.{allowed, may_register, on_allowed, owner_of, registers}
 use Rattle.jc_natives.specs.Cells.{bare, bared, bytes_of, is_count}
-use Rattle.jc_natives.specs.Kept.{are_bytes, has_aid_length, instance_of, instance_with, is_aid, is_instance_number, is_same_owner, now_registered, with_instance}
-use Rattle.jc_natives.specs.Meaning.{fits_command, fits_installing, fits_instance, fits_kept, has_applet, new_array, reference}
+use Rattle.jc_natives.specs.Kept.{are_bytes, has_aid_length, instance_of, instance_with, is_aid, is_instance_number}
+use Rattle.jc_natives.specs.Kept.{is_same_owner, now_registered, with_instance}
+use Rattle.jc_natives.specs.Meaning.{fits_command, fits_installing, fits_instance, fits_kept, has_applet, new_array}
+use Rattle.jc_natives.specs.Meaning.{reference}
 use Rattle.jc_natives.specs.Seen.{seen_of}
 use Rattle.jc_natives.specs.System.{aid_of, aid_of_owner, makes, may_make}
 use Rattle.jc_natives.specs.Tests.{test}

@@ -1,6 +1,7 @@
 -- A work that fits leaves objects typed and ends as it is declared to; and what tests throw may be thrown.
 use Rattle.std.specs.Prelude.{⊤}
-use Rattle.std.proofs.Common.{◌≡◌, ℕ, ◌<◌, ◌==◌, ◌&&◌, Bool, true, false, cond, List, [], ◌∷◌, Option, Some, None, refl, ap, ◌∙◌, arith}
+use Rattle.std.proofs.Common.{◌≡◌, ℕ, ◌<◌, ◌==◌, ◌&&◌, Bool, true, false, cond, List, [], ◌∷◌, Option, Some, None}
+use Rattle.std.proofs.Common.{refl, ap, ◌∙◌, arith}
 use Rattle.std.proofs.lemmas.Bool.{lt-ltb}
 use Rattle.std.specs.Option.{option_map_or}
 use Rattle.jc_api.specs.declared.class.ApiClass.{ApiClass}
@@ -20,16 +21,19 @@ use Rattle.jc_machine.specs.Typed.{HeapTyped}
 use Rattle.jc_names.specs.declared.name.ClassName.{ClassName}
 use Rattle.jc_natives.specs.MemberTypes.{counted_name}
 use Rattle.jc_natives.proofs.Facts.{own_object}
-use Rattle.jc_natives.proofs.FitWrites.{Known, Writes, index_thrown, null_thrown, security_thrown, system_leads, system_reason, system_thrown}
+use Rattle.jc_natives.proofs.FitWrites.{Known, Writes, index_thrown, null_thrown, security_thrown, system_leads}
+use Rattle.jc_natives.proofs.FitWrites.{system_reason, system_thrown}
 use Rattle.jc_natives.proofs.Guarding.{keeps_new, keeps_written}
 use Rattle.jc_natives.proofs.Keeping.{array_typed, kept_fits_still, type_still, write_typed}
 use Rattle.jc_natives.proofs.Suits as suits
 use Rattle.jc_natives.proofs.Suits.{Gives, is_word_type}
 use Rattle.jc_natives.specs.Cells.{Write, argument, has_room, written}
 use Rattle.jc_natives.specs.Kept.{Kept}
-use Rattle.jc_natives.specs.Meaning.{array_or_refusal, asked, did, done, end_of, ended, fits_kept, new_array, reference, with_room}
+use Rattle.jc_natives.specs.Meaning.{array_or_refusal, asked, did, done, end_of, ended, fits_kept, new_array}
+use Rattle.jc_natives.specs.Meaning.{reference, with_room}
 use Rattle.jc_natives.specs.Seen.{Seen, is_aid_object}
-use Rattle.jc_natives.specs.Tests.{Tested, access_of, by_verdict, facts_of, fails, followed, goes_on, is_in_range, on_object, passes, ranged, test, tested, used}
+use Rattle.jc_natives.specs.Tests.{Tested, access_of, by_verdict, facts_of, fails, followed, goes_on, is_in_range}
+use Rattle.jc_natives.specs.Tests.{on_object, passes, ranged, test, tested, used}
 use Rattle.jc_natives.specs.Work.{Asks, Does, Ending, GivesReference, GivesWord, Makes, NoResult, Throws, Work}
 use Rattle.jc_natives.specs.declared.ended.Question.{Question}
 use Rattle.jc_natives.specs.declared.row.Range.{Range}

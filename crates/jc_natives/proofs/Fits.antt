@@ -1,5 +1,7 @@
 -- Native members keep objects typed and what the runtime keeps fitting, and end as they are declared to.
-use Rattle.std.proofs.Common.{◌≡◌, ◌⊎◌, inl, inr, ℕ, ◌+◌, ◌/◌, ◌<◌, ◌==◌, ◌&&◌, Bool, true, false, cond, List, [], ◌∷◌, bytes_eq, length, replicate, nat_le, nat_lt, Option, Some, None, refl, ap, subst, ◌∙◌, arith}
+use Rattle.std.proofs.Common.{◌≡◌, ◌⊎◌, inl, inr, ℕ, ◌+◌, ◌/◌, ◌<◌, ◌==◌, ◌&&◌, Bool, true, false, cond, List, [], ◌∷◌}
+use Rattle.std.proofs.Common.{bytes_eq, length, replicate, nat_le, nat_lt, Option, Some, None, refl, ap, subst, ◌∙◌}
+use Rattle.std.proofs.Common.{arith}
 use Rattle.std.proofs.lemmas.Bool.{leb-true, lt-ltb, ltb-true}
 use Rattle.std.specs.List.{find}
 use Rattle.std.specs.Option.{option_map_or}
@@ -14,15 +16,21 @@ use Rattle.jc_classes.specs.Subtype.{is_class_below}
 use Rattle.jc_link.specs.Found.{is_same_return}
 use Rattle.jc_link.specs.MemberType.{counted}
 use Rattle.jc_machine.specs.Calls.{type_of_member}
-use Rattle.jc_machine.specs.Lookup.{are_of_types, component_class, is_boolean_array, is_byte_array, is_of_class, is_short_array, leads_to}
+use Rattle.jc_machine.specs.Lookup.{are_of_types, component_class, is_boolean_array, is_byte_array, is_of_class}
+use Rattle.jc_machine.specs.Lookup.{is_short_array, leads_to}
 use Rattle.jc_names.specs.declared.name.ClassName.{ClassName}
 use Rattle.jc_names.specs.declared.name.ClassName.TheVariants.{Api}
 use Rattle.jc_natives.specs.MemberTypes.{counted_name}
 use Rattle.jc_natives.proofs.Bare.{both}
 use Rattle.jc_natives.proofs.Facts.{AreTyped, LeadsToClass, found_fits, object_bytes, object_class, static_bytes}
-use Rattle.jc_natives.proofs.FitKept.{aid_reference, apdu_throw, command_fits, installing_aid, instances_fit, made_given, makes_fit, on_allowed_fits, owner_reference, range_aid, registers_fit, system_throw, throw_fits}
-use Rattle.jc_natives.proofs.FitWork.{Answers, AsksWell, Fits, buffer_ends, either_fits, ended_fits, gives_as, null_ends, tested_thrown, void_ends, word_ends}
-use Rattle.jc_natives.proofs.FitWrites.{Known, aid_written, apdu_reason, bit_is, buffer_leads, bytes_are, bytes_fit, extended_is, iso_reason, listed_bytes_fit, low_is, order_is, runtime_reason, same_bytes_fit, system_reason, to_bytes, two_are, word_is}
+use Rattle.jc_natives.proofs.FitKept.{aid_reference, apdu_throw, command_fits, installing_aid, instances_fit}
+use Rattle.jc_natives.proofs.FitKept.{made_given, makes_fit, on_allowed_fits, owner_reference, range_aid}
+use Rattle.jc_natives.proofs.FitKept.{registers_fit, system_throw, throw_fits}
+use Rattle.jc_natives.proofs.FitWork.{Answers, AsksWell, Fits, buffer_ends, either_fits, ended_fits, gives_as}
+use Rattle.jc_natives.proofs.FitWork.{null_ends, tested_thrown, void_ends, word_ends}
+use Rattle.jc_natives.proofs.FitWrites.{Known, aid_written, apdu_reason, bit_is, buffer_leads, bytes_are, bytes_fit}
+use Rattle.jc_natives.proofs.FitWrites.{extended_is, iso_reason, listed_bytes_fit, low_is, order_is, runtime_reason}
+use Rattle.jc_natives.proofs.FitWrites.{same_bytes_fit, system_reason, to_bytes, two_are, word_is}
 use Rattle.jc_natives.proofs.Keeping.{FitsWrite, both_are}
 use Rattle.jc_natives.proofs.Ranges.{length_of_bytes}
 use Rattle.jc_natives.proofs.Simulation.{passed_some}
@@ -33,7 +41,8 @@ use Rattle.jc_natives.specs.Apdus.{apdu_work, is_fresh, is_in_buffer, is_incomin
 use Rattle.jc_natives.specs.Applets.{applet_work}
 use Rattle.jc_natives.specs.Cells as cells
 use Rattle.jc_natives.specs.Cells.{aid_bytes, aid_count, argument, bared, bytes_of, cell_of, extended, high, low}
-use Rattle.jc_natives.specs.Kept.{Kept, are_bytes, expected_of, has_aid_length, instance_with, is_aid, is_instance_number, is_same_owner}
+use Rattle.jc_natives.specs.Kept.{Kept, are_bytes, expected_of, has_aid_length, instance_with, is_aid}
+use Rattle.jc_natives.specs.Kept.{is_instance_number, is_same_owner}
 use Rattle.jc_natives.specs.Meaning.{begun, fits_instance, has_applet, reference, work_of}
 use Rattle.jc_natives.specs.Objects.{equals, object_work}
 use Rattle.jc_natives.specs.Rows.{row_of}

@@ -1,12 +1,15 @@
 -- The law of accesses: each access of a native member is allowed or the last, and only what was accessed changes.
-use Rattle.std.proofs.Common.{◌≡◌, ◌≢◌, ◌⊎◌, inl, inr, ℕ, zero, suc, ◌+◌, ◌==◌, ◌&&◌, ◌||◌, Bool, true, false, cond, List, [], ◌∷◌, ◌++◌, length, map, set, slice_get, nat_le, nat_lt, Option, Some, None, refl, sym, ap, subst, ◌∙◌, arith, length-append}
+use Rattle.std.proofs.Common.{◌≡◌, ◌≢◌, ◌⊎◌, inl, inr, ℕ, zero, suc, ◌+◌, ◌==◌, ◌&&◌, ◌||◌, Bool, true, false, cond}
+use Rattle.std.proofs.Common.{List, [], ◌∷◌, ◌++◌, length, map, set, slice_get, nat_le, nat_lt, Option, Some, None}
+use Rattle.std.proofs.Common.{refl, sym, ap, subst, ◌∙◌, arith, length-append}
 use Rattle.std.proofs.lemmas.Bool.{eq-eqb, eqb-true, leb-true, ltb-true}
 use Rattle.std.proofs.lemmas.List.{length-replicate, length-set}
 use Rattle.std.proofs.lemmas.Option.{none-some, same_Some}
 use Rattle.std.specs.List.{AllByRecursion, list_any}
 use Rattle.std.specs.Option.{option_map, option_map_or}
 use Rattle.jc_api.specs.Numbered.{numbered}
-use Rattle.jc_firewall.specs.Verdict.{is_entry_point, is_global_array, is_out_of_selection, is_own, runtime, runtime_context, verdict_of}
+use Rattle.jc_firewall.specs.Verdict.{is_entry_point, is_global_array, is_out_of_selection, is_own, runtime}
+use Rattle.jc_firewall.specs.Verdict.{runtime_context, verdict_of}
 use Rattle.jc_firewall.specs.declared.access.Access.TheVariants.{PutField, StoreComponent}
 use Rattle.jc_firewall.specs.declared.access.Facts.{Facts}
 use Rattle.jc_firewall.specs.declared.access.Rule.TheVariants as rules
@@ -15,7 +18,8 @@ use Rattle.jc_firewall.specs.declared.access.Verdict.TheVariants.{Allowed, Allow
 use Rattle.jc_link.specs.Linked.{World}
 use Rattle.jc_machine.specs.Calls.{native_may_begin}
 use Rattle.jc_machine.specs.Going.{facts_in}
-use Rattle.jc_machine.specs.Guarded.{AreGuarded, ChangesAccessed, IsAccessed, allowed, are_allowed, denied, is_allowed, is_last_denied}
+use Rattle.jc_machine.specs.Guarded.{AreGuarded, ChangesAccessed, IsAccessed, allowed, are_allowed, denied, is_allowed}
+use Rattle.jc_machine.specs.Guarded.{is_last_denied}
 use Rattle.jc_machine.specs.Lookup.{is_array}
 use Rattle.jc_machine.specs.Machine.{Callback, Calls, IsStuck, Limits, NativeCall, NativeEnd, ThrowsObject, Touch}
 use Rattle.jc_machine.specs.Natives.{IsGuardedAnswer, IsNativeTouch, IsRefusedAnswer, IsStill, IsWithin, KeepsObjects}
@@ -25,11 +29,14 @@ use Rattle.jc_natives.proofs.Getting.{new_object, other_object}
 use Rattle.jc_natives.proofs.Putting.{put_none, put_some, same_or_not}
 use Rattle.jc_natives.specs.Cells.{Write, bare, has_room, put, put_all, written}
 use Rattle.jc_natives.specs.Kept.{Kept}
-use Rattle.jc_natives.specs.Meaning.{answer_of, array_or_refusal, begun, did, done, end_of, ended, is_touched, made, new_array, own_touch, own_touch_of, own_touches, unchanged, with_room, work_of}
+use Rattle.jc_natives.specs.Meaning.{answer_of, array_or_refusal, begun, did, done, end_of, ended, is_touched, made}
+use Rattle.jc_natives.specs.Meaning.{new_array, own_touch, own_touch_of, own_touches, unchanged, with_room, work_of}
 use Rattle.jc_natives.specs.Rows.{natives, row_of}
 use Rattle.jc_natives.specs.Seen.{arguments_of, seen_of}
-use Rattle.jc_natives.specs.Tests.{Tested, access_of, by_verdict, facts_of, followed, goes_on, on_object, ranged, test, tested, touch_of, used}
-use Rattle.jc_natives.specs.Work.{Asks, Does, Ending, GivesReference, GivesWord, Makes, NewArray, NoResult, Throws, Work, no_transient_space}
+use Rattle.jc_natives.specs.Tests.{Tested, access_of, by_verdict, facts_of, followed, goes_on, on_object, ranged, test}
+use Rattle.jc_natives.specs.Tests.{tested, touch_of, used}
+use Rattle.jc_natives.specs.Work.{Asks, Does, Ending, GivesReference, GivesWord, Makes, NewArray, NoResult, Throws}
+use Rattle.jc_natives.specs.Work.{Work, no_transient_space}
 use Rattle.jc_natives.specs.declared.native.Native.{Native}
 use Rattle.jc_natives.specs.declared.row.Range.{Range}
 use Rattle.jc_natives.specs.declared.row.Row.{Row}

@@ -1,5 +1,6 @@
 -- Tests that pass have accessed the objects that they name.
-use Rattle.std.proofs.Common.{◌≡◌, ◌⊎◌, inl, inr, ℕ, ◌==◌, ◌||◌, Bool, true, false, List, [], ◌∷◌, ◌++◌, Option, Some, None, refl, sym, ap, subst, ◌∙◌}
+use Rattle.std.proofs.Common.{◌≡◌, ◌⊎◌, inl, inr, ℕ, ◌==◌, ◌||◌, Bool, true, false, List, [], ◌∷◌, ◌++◌, Option, Some}
+use Rattle.std.proofs.Common.{None, refl, sym, ap, subst, ◌∙◌}
 use Rattle.std.proofs.lemmas.Bool.{eq-eqb}
 use Rattle.std.proofs.lemmas.Option.{none-some}
 use Rattle.jc_firewall.specs.Verdict.{verdict_of}
@@ -10,7 +11,8 @@ use Rattle.jc_machine.specs.Runtime.{null_pointer_exception, security_exception}
 use Rattle.jc_natives.specs.Cells.{argument}
 use Rattle.jc_natives.specs.Meaning.{is_touched}
 use Rattle.jc_natives.specs.Seen.{Seen}
-use Rattle.jc_natives.specs.Tests.{Tested, access_of, by_verdict, facts_of, followed, goes_on, on_object, ranged, test, tested, used}
+use Rattle.jc_natives.specs.Tests.{Tested, access_of, by_verdict, facts_of, followed, goes_on, on_object, ranged, test}
+use Rattle.jc_natives.specs.Tests.{tested, used}
 use Rattle.jc_natives.specs.declared.row.Row.{Row}
 use Rattle.jc_natives.specs.declared.row.Test.{Test}
 use Rattle.jc_natives.specs.declared.row.Test.TheVariants as tests

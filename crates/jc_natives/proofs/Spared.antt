@@ -1,7 +1,9 @@
 -- What a member writes: objects that its tests reached, or the runtime's own. And what the runtime keeps names applets
 -- still.
 use Rattle.std.specs.Prelude.{⊤}
-use Rattle.std.proofs.Common.{◌≡◌, ◌⊎◌, inl, inr, ℕ, zero, suc, ◌+◌, ◌==◌, ◌&&◌, ◌||◌, not, Bool, true, false, cond, List, [], ◌∷◌, ◌++◌, is_some, length, nat_le, nat_lt, slice_get, Option, Some, None, refl, sym, ap, subst, ◌∙◌}
+use Rattle.std.proofs.Common.{◌≡◌, ◌⊎◌, inl, inr, ℕ, zero, suc, ◌+◌, ◌==◌, ◌&&◌, ◌||◌, not, Bool, true, false, cond}
+use Rattle.std.proofs.Common.{List, [], ◌∷◌, ◌++◌, is_some, length, nat_le, nat_lt, slice_get, Option, Some, None}
+use Rattle.std.proofs.Common.{refl, sym, ap, subst, ◌∙◌}
 use Rattle.std.proofs.lemmas.Bool.{eqb-true}
 use Rattle.std.proofs.lemmas.Option.{none-some, same_Some}
 use Rattle.std.specs.List.{AllByRecursion, list_all}
@@ -17,14 +19,16 @@ use Rattle.jc_natives.specs.Apdus.{apdu_work, is_fresh, is_in_buffer, is_incomin
 use Rattle.jc_natives.specs.Apart.{installs_applet, names_applets}
 use Rattle.jc_natives.specs.Applets.{aid_object, allowed, applet_work, may_register, on_allowed, owner_of, registers}
 use Rattle.jc_natives.specs.Cells.{Write, argument, extended, has_room, is_count}
-use Rattle.jc_natives.specs.Kept.{Kept, has_aid_length, instance_with, is_instance_number, most_sent, now_registered, with_instance}
+use Rattle.jc_natives.specs.Kept.{Kept, has_aid_length, instance_with, is_instance_number, most_sent, now_registered}
+use Rattle.jc_natives.specs.Kept.{with_instance}
 use Rattle.jc_natives.specs.Meaning.{array_or_refusal, with_room, work_of}
 use Rattle.jc_natives.specs.Objects.{object_work}
 use Rattle.jc_natives.specs.Rows.{aid_row, natives, object_row, row_of, utility_row}
 use Rattle.jc_natives.specs.Seen.{Seen}
 use Rattle.jc_natives.specs.System.{asks, makes, may_make, system_work}
 use Rattle.jc_natives.specs.Utilities.{utility_work}
-use Rattle.jc_natives.specs.Work.{Asks, Does, Makes, Work, bad_length, buffer_bounds, illegal_aid, illegal_transient, illegal_use, illegal_value, no_transient_space, throws_apdu, throws_system}
+use Rattle.jc_natives.specs.Work.{Asks, Does, Makes, Work, bad_length, buffer_bounds, illegal_aid, illegal_transient}
+use Rattle.jc_natives.specs.Work.{illegal_use, illegal_value, no_transient_space, throws_apdu, throws_system}
 use Rattle.jc_natives.specs.declared.kept.Installing.{Installing}
 use Rattle.jc_natives.specs.declared.kept.Instance.{Instance}
 use Rattle.jc_natives.specs.declared.native.AidNative.{AidNative}

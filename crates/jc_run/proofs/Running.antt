@@ -17,7 +17,8 @@ use Rattle.jc_machine.specs.Natives.{KeepsObjects}
 use Rattle.jc_store.specs.Heap.{Heap}
 use Rattle.jc_words.specs.Values.{TaggedValue}
 use Rattle.jc_run.specs.Answer.{Answered}
-use Rattle.jc_run.specs.Play.{EndsAt, IsAnswered, IsGiven, IsLinePlayed, NotWritten, Over, Plays, ScriptEnd, answer_line}
+use Rattle.jc_run.specs.Play.{EndsAt, IsAnswered, IsGiven, IsLinePlayed, NotWritten, Over, Plays, ScriptEnd}
+use Rattle.jc_run.specs.Play.{answer_line}
 use Rattle.jc_run.specs.Play.EndsAt.{bad, memory, source, unwritten}
 use Rattle.jc_run.specs.Play.Plays.{ended, line, over, unread}
 use Rattle.jc_run.specs.Runs.{AreGuarded, IsCardRun, IsDone, IsGuarded, accesses_in, accesses_of, answer_lines}

@@ -1,6 +1,6 @@
--- The simulation theorem, of a whole script: which commands were done, what the defensive machine answers to them, which
--- objects it accessed, and what changed by that (Java Card Runtime Environment Specification, Applet Isolation and
--- Object Sharing).
+-- The simulation theorem, of a whole script: which commands were done, what the defensive machine answers to them,
+-- which objects it accessed, and what changed by that (Java Card Runtime Environment Specification, Applet Isolation
+-- and Object Sharing).
 use Rattle.std.specs.Prelude.{◌≡◌, List, [], ◌∷◌, ◌++◌, ℕ, Option, IfSome, map}
 use Rattle.std.specs.Option.{option_map_or}
 use Rattle.jc_api.specs.Bound.{Bound}
@@ -28,8 +28,8 @@ accesses_of c (Install applet instance incoming) = accesses_in (install_command 
 accesses_of c (Apdu bytes) = accesses_in (apdu_command c bytes)
 accesses_of c Reset = accesses_in (reset_command c)
 
--- commands one behind the other, each on the card that the one before it left: what they are answered, their accesses in
--- their order, and the card behind them. No call of a command that is answered is stuck
+-- commands one behind the other, each on the card that the one before it left: what they are answered, their accesses
+-- in their order, and the card behind them. No call of a command that is answered is stuck
 pub data IsCardRun (images certificates : List ℕ → List ℕ → Type 0)
     : List ScriptCommand → CardState → List Answered → List Touch → CardState → Type 0 where
   nothing : (c : CardState) → IsCardRun images certificates [] c [] [] c
@@ -72,8 +72,8 @@ answer_lines [] = []
 answer_lines (answer ∷ answers) = answer_line answer ++ answer_lines answers
 
 -- the first of these commands were done, on a card: what they are answered is what is written, each answer in a line of
--- its own. Only where an answer can't be written a part of its line may stand there. Where nothing ended it early all were
--- done
+-- its own. Only where an answer can't be written a part of its line may stand there. Where nothing ended it early all
+-- were done
 pub record IsDone (images certificates : List ℕ → List ℕ → Type 0) (commands : List ScriptCommand) (c : CardState)
     (written : List ℕ) (end : ScriptEnd) : Type 0 where
   pub done : List ScriptCommand

@@ -126,6 +126,7 @@ split n xs lt =
       taken = ap reverse k.3 ∙ reverse-append (take n xs) (k.0 ∷ []);
       left = k.4;
     }
+
 -- ---- the instructions
 
 module _ {C : Type 0} (s : Surroundings C) (ground : Ground s) (m : Machine C) (t : IsTyped s m) where

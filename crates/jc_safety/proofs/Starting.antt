@@ -25,7 +25,8 @@ use Rattle.jc_machine.specs.Lookup.{class_of, code_at, declared_at, is_given, is
 use Rattle.jc_machine.specs.Machine.{Calls, Frame, Gives, IsStuck, Machine, MethodPlace, NativeAnswer, NativeCall}
 use Rattle.jc_machine.specs.Machine.{NativeEnd, Surroundings, ThrowsObject}
 use Rattle.jc_machine.specs.Natives.{EndsFit, IsFitCall}
-use Rattle.jc_machine.specs.Step.{Called, Gave, RanOut, Start, Threw, WasStuck, after_first_native, begun, begun_by, ended_by}
+use Rattle.jc_machine.specs.Step.{Called, Gave, RanOut, Start, Threw, WasStuck, after_first_native, begun, begun_by}
+use Rattle.jc_machine.specs.Step.{ended_by}
 use Rattle.jc_machine.specs.Step.{may_begin, native_called, native_ended, native_started, no_frame}
 use Rattle.jc_machine.specs.Step.{runtime_call, standing, started, started_by, steps_of, first_native_call}
 use Rattle.jc_machine.specs.Typed.{HaveTypes, IsTyped, IsTypedBeside}
@@ -33,7 +34,8 @@ use Rattle.jc_words.specs.Values.{Ref, TaggedValue}
 use Rattle.jc_safety.specs.Safety.{EndsTyped}
 use Rattle.jc_safety.specs.Starting.{CanBegin, FindsMethod, IsMemberCall, IsTypedStart, MemberCanBegin, MethodCanBegin}
 use Rattle.jc_safety.specs.Starting.{first_frame}
-use Rattle.jc_safety.proofs.Callees.{MayCall, abstract_is, begins_typed, its_body, its_header, not_so, runs, same_declared}
+use Rattle.jc_safety.proofs.Callees.{MayCall, abstract_is, begins_typed, its_body, its_header, not_so, runs}
+use Rattle.jc_safety.proofs.Callees.{same_declared}
 use Rattle.jc_safety.proofs.Callees.{the_some}
 use Rattle.jc_safety.proofs.Ground.{Ground, method_of_code}
 use Rattle.jc_safety.proofs.Growing.{statics_still}

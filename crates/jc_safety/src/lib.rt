@@ -30,8 +30,8 @@ use jc_link::{
     growing_keeps_linking,
 };
 use jc_machine::{
-    Natives, accepted_methods_are_typed, accepted_worlds_grow, cells_follow_superclasses, instructions_begin_in_turn,
-    methods_have_code, runtime_objects_stay,
+    Natives, accepted_methods_are_typed, accepted_worlds_grow, cells_follow_superclasses,
+    instructions_begin_in_turn, methods_have_code, runtime_objects_stay,
 };
 use jc_step::growing_keeps_effects;
 
@@ -119,8 +119,8 @@ pub fn loads_stay_typed<N: Natives>(_natives: &N)
     runtime_objects_stay();
 }
 
-/// In a world that is built of well-formed packages classes of the API have methods of the API alone, and none but Applet
-/// is below Applet. It does nothing.
+/// In a world that is built of well-formed packages classes of the API have methods of the API alone, and none but
+/// Applet is below Applet. It does nothing.
 pub fn api_runs_its_own_code()
     ensures { (world : List Shape) → IsBuilt world → HaveApiMembers world }
 {

@@ -17,10 +17,13 @@ use std::convert::AsStr;
 
 // What the help of `verify` says of folders.
 const FOLDER_HELP: &str =
-    "A folder holds the component files of a package: Header.cap, Applet.cap, Import.cap, ConstantPool.cap,\nClass.cap, Method.cap, StaticField.cap, Export.cap, Descriptor.cap. One that isn't there is left out; other\nfiles are ignored.";
+    "A folder holds the component files of a package: Header.cap, Applet.cap, Import.cap, ConstantPool.cap,
+Class.cap, Method.cap, StaticField.cap, Export.cap, Descriptor.cap. One that isn't there is left out; other
+files are ignored.";
 
 // What the help of `run` says of scripts.
-const SCRIPT_HELP: &str = "A line of the script is one of these, and each is answered before the next one is read:
+const SCRIPT_HELP: &str =
+    "A line of the script is one of these, and each is answered before the next one is read:
 
   load FOLDER CERT                 loads the package in a folder, with the certificate that verify wrote
   install APPLET INSTANCE [DATA]   installs the applet with an AID, as an instance with this or another AID

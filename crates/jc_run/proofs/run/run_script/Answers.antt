@@ -21,7 +21,8 @@ returns-clause-run g c = λ bytes before is known.
       unchanged = c.accesses_add_up.ensures.unchanged;
       none = c.accesses_add_up.ensures.none;
       more = c.accesses_add_up.ensures.more;
-    }) _ _ c.args.limits c.args.binding.now bytes before _ c.new.result c.new.ensures.limits c.has_no_clash.ensures c.in_ok-card.card _
+    }) _ _ c.args.limits c.args.binding.now bytes before _ c.new.result c.new.ensures.limits c.has_no_clash.ensures
+    c.in_ok-card.card _
     c.in_ok-card.was (c.play.ensures.played card bytes before c.in_ok-card.ensures.new is known)
 
 pub returns-in_err-card-clause-run : goal.returns-in_err-card-clause-run

@@ -14,7 +14,7 @@ returns c =
     let script_local : c.help-script.result.global ≡ false =
     ap (λ (a : Arg). a.global) c.help-script.ensures ∙ ap (λ (a : Arg). a.global) c.required.ensures
     ∙ c.new.ensures.optional.1 in
-    let empty_is : app_of c.about.result ≡ new_app (codes "run") = search rules in
+    let empty_is : app_of c.after_help.result ≡ new_app (codes "run") = search rules in
     let steps = c.steps_argument-steps.ensures in
     let binding = c.binding_argument.ensures in
     let one = adds_rule _ _ _ _ _ c.in_ok-arg.ensures script_local empty_is script_is (search rules) in

@@ -128,7 +128,8 @@ class Reader:
 
     def field(self, text):
         _, kind = text.split()
-        self.of().fields.append(Field(self.type_of(kind), token=len(self.of().fields)))
+        token = sum(field.offset is None for field in self.of().fields)
+        self.of().fields.append(Field(self.type_of(kind), token=token))
 
     def static_field(self, text):
         kind, offset = text.split()

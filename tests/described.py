@@ -11,8 +11,9 @@
     method NAME(TYPE, TYPE) TYPE: CODE      where no type stands behind, nothing is given
     static method NAME() TYPE, stack 8, 2 locals: CODE | START to END: CLASS at LABEL, START to END: all at LABEL
     statics 1 4                             references in the static image, and other bytes behind them
+    array TYPE HEX                          an initialised array, for the first reference that has none
     entry NAME: KIND WHAT TOKEN TYPE        of the constant pool; code goes by its name. `entry A` is the class A
-    export NAME 0 2                         a class, with the static fields at these offsets
+    export NAME 0 2 METHOD                  a class, with the static fields at these offsets, and its static methods
     applet AID METHOD                       an applet and its install method
 
 KIND is class, field, virtual, super, static field or static method. WHAT is a class, for a static field its offset and
@@ -59,7 +60,7 @@ class Reader:
             'import': self.imports, 'interface': self.interface, 'class': self.a_class, 'implements': self.implements,
             'table': self.table, 'package table': self.package_table, 'field': self.field,
             'static field': self.static_field, 'method': self.method, 'static method': self.static_method,
-            'statics': self.statics, 'entry': self.entry, 'export': self.export,
+            'statics': self.statics, 'array': self.array, 'entry': self.entry, 'export': self.export,
             'applet': self.applet,
         }
 
@@ -127,7 +128,8 @@ class Reader:
 
     def field(self, text):
         _, kind = text.split()
-        self.of().fields.append(Field(self.type_of(kind), token=len(self.of().fields)))
+        token = sum(field.offset is None for field in self.of().fields)
+        self.of().fields.append(Field(self.type_of(kind), token=token))
 
     def static_field(self, text):
         kind, offset = text.split()
@@ -135,11 +137,16 @@ class Reader:
 
     def statics(self, text):
         references, others = text.split()
-        self.package.statics = Statics(int(references), defaults=int(others))
+        self.package.statics.references, self.package.statics.defaults = int(references), int(others)
+
+    def array(self, text):
+        kind, content = text.split()
+        self.package.statics.arrays.append((kind, bytes.fromhex(content)))
 
     def export(self, text):
-        name, *offsets = text.split()
-        self.package.exports.append((name, [int(offset) for offset in offsets], []))
+        name, *words = text.split()
+        offsets = [int(word) for word in words if word.isdigit()]
+        self.package.exports.append((name, offsets, [word for word in words if not word.isdigit()]))
 
     def applet(self, text):
         aid, method = text.split()

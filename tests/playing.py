@@ -1,5 +1,5 @@
 """Scripts on a card: packages in folders, their certificates by `jcard verify`, and scripts by `jcard run`, both of the
-program that ./jcard builds. tests/card-rows, tests/machine-rows and tests/check use it."""
+program that ./jcard builds. tests/card-rows, tests/machine-rows, tests/check and tests of failures use it."""
 import os
 import subprocess
 from dataclasses import dataclass, field
@@ -24,6 +24,14 @@ def jcard(*words, folder=None, stdin=b''):
     run = subprocess.run([PROGRAM, *words], input=stdin, capture_output=True, timeout=SECONDS, env={}, cwd=folder)
     stdout, stderr = (text.decode(errors='backslashreplace') for text in (run.stdout, run.stderr))
     return Said(stdout, stderr, run.returncode)
+
+
+def preloaded(folder, code):
+    """A library in a folder, of C code, that a program is run with by LD_PRELOAD: its functions are called in place of
+    those of the system's. It wants a C compiler."""
+    path = os.path.join(folder, 'preloaded.so')
+    subprocess.run(['cc', '-shared', '-fPIC', '-o', path, '-x', 'c', '-'], input=code.encode(), check=True)
+    return path
 
 
 def write_folder(path, files):

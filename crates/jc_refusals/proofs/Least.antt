@@ -1,4 +1,5 @@
 -- Of the refusals that apply to a load the one with the least number is told.
+use Rattle.std.proofs.Common.{◌≤◌}
 use Rattle.std.proofs.Common.{◌≡◌, ◌⊎◌, ℕ, ◌≢◌, true, List, Some, Result, Ok, Err, inl, inr}
 use Rattle.std.proofs.Common.{refl, sym, ap, ◌∙◌, subst, arith}
 use Rattle.std.proofs.lemmas.Option.{none-some}
@@ -7,6 +8,13 @@ use Rattle.jc_base.specs.Fault.{number_of}
 use Rattle.jc_base.specs.Parts.{Infos}
 use Rattle.jc_base.specs.declared.fault.LoadFault.{LoadFault}
 use Rattle.jc_base.specs.declared.fault.LoadFault.TheVariants.{BadCertificate, Full, Memory}
+use Rattle.std.proofs.Common.{[], ◌∷◌, map, length}
+use Rattle.jc_cert.specs.Cert.{IsCert}
+use Rattle.jc_cert.specs.Writing.{spelling}
+use Rattle.jc_link.specs.Kept.{Kept}
+use Rattle.jc_link.specs.Linked.{IsLinked}
+use Rattle.jc_link.specs.Target.{pool_targets}
+use Rattle.jc_link.specs.declared.target.PoolTarget.{PoolTarget}
 use Rattle.jc_cap_desc.specs.Package.{package_of}
 use Rattle.jc_cap_desc.specs.Shape.{Package, Shape}
 use Rattle.jc_cert.specs.Cert.{Row}
@@ -60,6 +68,43 @@ pub record Stages : Type 0 where
       → Splits image qs others → answer ps rest ≡ answer qs others
   pub never_both : (l : Linked) (rows : List Row) (fault : LoadFault) → IsFirstRefusal l rows fault
       → CarriesPackage l rows → ⊥
+  pub spelled : (a b : List Row) → IsCert a → IsCert b → spelling a ≡ spelling b → a ≡ b
+
+-- ---- linked in one way
+
+mapped_once : {A : Type 0} (xs ys : List A) → map Some xs ≡ map Some ys → xs ≡ ys
+mapped_once [] [] e = refl
+mapped_once [] (y ∷ ys) e = absurd cc
+mapped_once (x ∷ xs) [] e = absurd cc
+mapped_once {A = A} (x ∷ xs) (y ∷ ys) e =
+    let first : x ≡ y = cc in
+    let rest : map Some xs ≡ map Some ys = cc in
+    ap (λ (z : A). z ∷ xs) first ∙ ap (λ (zs : List A). y ∷ zs) (mapped_once xs ys rest)
+
+module _ (before : List Shape) (p : Package) (l m : Linked) (h : IsLinked before p l) (k : IsLinked before p m) where
+  same_world : l.world ≡ m.world
+  same_world = h.world ∙ sym k.world
+
+  same_kept : l.body.kept ≡ m.body.kept
+  same_kept = h.kept ∙ sym k.kept
+
+  same_targets : l.body.targets ≡ m.body.targets
+  same_targets =
+      mapped_once l.body.targets m.body.targets
+      (h.targets ∙ ap (λ (w : List Shape). pool_targets w (length before) l.body.kept.pool) same_world
+      ∙ ap (λ (x : Kept). pool_targets m.world (length before) x.pool) same_kept ∙ sym k.targets)
+
+  linked_once : l ≡ m
+  linked_once =
+      ap (λ (w : List Shape). record { world = w; body = l.body }) same_world
+      ∙ ap (λ (x : Kept). record {
+        world = m.world;
+        body = record { kept = x; targets = l.body.targets };
+      }) same_kept
+      ∙ ap (λ (ts : List PoolTarget). record {
+        world = m.world;
+        body = record { kept = m.body.kept; targets = ts };
+      }) same_targets
 
 module _ (s : Stages) (c : CardState) (image certificate : List ℕ) where
   abbrev before : List Shape
@@ -67,6 +112,10 @@ module _ (s : Stages) (c : CardState) (image certificate : List ℕ) where
 
   abbrev Linked_as : Linked → Type 0
   Linked_as l = IsLinkedBehind before image l
+
+  -- no refusal that applies has a smaller number
+  abbrev HasNone : LoadFault → Type 0
+  HasNone fault = (other : LoadFault) → Applies c image certificate other → number_of fault ≤ number_of other
 
   -- ---- one stage, one answer
 
@@ -84,6 +133,18 @@ module _ (s : Stages) (c : CardState) (image certificate : List ℕ) where
       → IsCut image (Ok more) → package_of parts ≡ one → package_of more ≡ other → one ≡ other
   same_read parts more one other h k e f =
       sym e ∙ ap package_of (same_parts parts more h k) ∙ f
+
+  same_linked : (l m : Linked) → Linked_as l → Linked_as m → l ≡ m
+  same_linked l m h k =
+      let e =
+      same_read h.parts k.parts (Ok h.linked.«package») (Ok k.linked.«package») h.cut k.cut h.linked.read
+      k.linked.read in
+      let same : k.linked.«package» ≡ h.linked.«package» = cc in
+      linked_once before h.linked.«package» l m h.linked.linked
+      (subst (λ (p : Package). IsLinked before p m) same k.linked.linked)
+
+  same_rows : (rows more : List Row) → AreSpelled certificate rows → AreSpelled certificate more → rows ≡ more
+  same_rows rows more h k = s.spelled rows more h.cert k.cert (sym h.bytes_are ∙ k.bytes_are)
 
   -- ---- what a linked package excludes
 
@@ -108,7 +169,7 @@ module _ (s : Stages) (c : CardState) (image certificate : List ℕ) where
   of_cut : (fault : LoadFault) → IsCut image (Err fault) → IsBetween 1 4 fault
   of_cut fault h = s.cut h.pieces h.rest fault (sym h.is)
 
-  least_uncut : (fault : LoadFault) → IsCut image (Err fault) → IsLeast c image certificate fault
+  least_uncut : (fault : LoadFault) → IsCut image (Err fault) → HasNone fault
   least_uncut fault h other (uncut g k) =
       let e = same_cut (Err fault) (Err g) h k in
       let same : number_of fault ≡ number_of g = cc in
@@ -117,12 +178,12 @@ module _ (s : Stages) (c : CardState) (image certificate : List ℕ) where
   least_uncut fault h other (unlinked parts p g k e f) = absurd (both_cut fault parts h k)
   least_uncut fault h other (unspelled none) =
       let small = (of_cut fault h).to in omega (arith, small)
-  least_uncut fault h other (uncarried l rows g linked spelled each) =
+  least_uncut fault h other (uncarried l rows g linked spelled first) =
       absurd (not_uncut l linked fault h)
-  least_uncut fault h other (roomless l linked each) = absurd (not_uncut l linked fault h)
+  least_uncut fault h other (roomless l linked full) = absurd (not_uncut l linked fault h)
 
   least_unread : (parts : Infos) (fault : LoadFault) → IsCut image (Ok parts) → package_of parts ≡ Err fault
-      → IsLeast c image certificate fault
+      → HasNone fault
   least_unread parts fault h e other (uncut g k) = absurd (both_cut g parts k h)
   least_unread parts fault h e other (unread more g k f) =
       let is = same_read parts more (Err fault) (Err g) h k e f in
@@ -132,12 +193,12 @@ module _ (s : Stages) (c : CardState) (image certificate : List ℕ) where
       let is = same_read parts more (Err fault) (Ok p) h k e f in absurd cc
   least_unread parts fault h e other (unspelled none) =
       let small = (s.read parts fault e).to in omega (arith, small)
-  least_unread parts fault h e other (uncarried l rows g linked spelled each) =
+  least_unread parts fault h e other (uncarried l rows g linked spelled first) =
       absurd (not_unread l linked parts fault h e)
-  least_unread parts fault h e other (roomless l linked each) = absurd (not_unread l linked parts fault h e)
+  least_unread parts fault h e other (roomless l linked full) = absurd (not_unread l linked parts fault h e)
 
   least_unlinked : (parts : Infos) (p : Package) (fault : LoadFault) → IsCut image (Ok parts)
-      → package_of parts ≡ Ok p → fault_behind before p ≡ Some fault → IsLeast c image certificate fault
+      → package_of parts ≡ Ok p → fault_behind before p ≡ Some fault → HasNone fault
   least_unlinked parts p fault h e f other (uncut g k) = absurd (both_cut g parts k h)
   least_unlinked parts p fault h e f other (unread more g k x) =
       let is = same_read parts more (Ok p) (Err g) h k e x in absurd cc
@@ -149,46 +210,53 @@ module _ (s : Stages) (c : CardState) (image certificate : List ℕ) where
       omega (arith, same)
   least_unlinked parts p fault h e f other (unspelled none) =
       let small = (s.linked before p fault f).to in omega (arith, small)
-  least_unlinked parts p fault h e f other (uncarried l rows g linked spelled each) =
+  least_unlinked parts p fault h e f other (uncarried l rows g linked spelled first) =
       absurd (not_unlinked l linked parts p fault h e f)
-  least_unlinked parts p fault h e f other (roomless l linked each) =
+  least_unlinked parts p fault h e f other (roomless l linked full) =
       absurd (not_unlinked l linked parts p fault h e f)
 
   -- of a package that is linked: the stages behind linking are left
   module _ (l : Linked) (h : Linked_as l) where
-    least_unspelled : IsLeast c image certificate BadCertificate
+    least_unspelled : HasNone BadCertificate
     least_unspelled other (uncut g k) = absurd (not_uncut l h g k)
     least_unspelled other (unread parts g k e) = absurd (not_unread l h parts g k e)
     least_unspelled other (unlinked parts p g k e f) = absurd (not_unlinked l h parts p g k e f)
     least_unspelled other (unspelled none) = omega arith
-    least_unspelled other (uncarried m rows g linked spelled each) =
-        let is = s.checked m rows g (each m rows linked spelled) in omega (arith, is)
-    least_unspelled other (roomless m linked each) = omega arith
+    least_unspelled other (uncarried m rows g linked spelled first) =
+        let is = s.checked m rows g first in omega (arith, is)
+    least_unspelled other (roomless m linked full) = omega arith
 
     least_uncarried : (rows : List Row) (fault : LoadFault) → AreSpelled certificate rows
-        → IsFirstRefusal l rows fault → IsLeast c image certificate fault
+        → IsFirstRefusal l rows fault → HasNone fault
     least_uncarried rows fault spelled first other (uncut g k) = absurd (not_uncut l h g k)
     least_uncarried rows fault spelled first other (unread parts g k e) = absurd (not_unread l h parts g k e)
     least_uncarried rows fault spelled first other (unlinked parts p g k e f) =
         absurd (not_unlinked l h parts p g k e f)
     least_uncarried rows fault spelled first other (unspelled none) = absurd (none rows spelled)
-    least_uncarried rows fault spelled first other (uncarried m more g linked its each) =
+    least_uncarried rows fault spelled first other (uncarried m more g linked its next) =
         let one = s.checked l rows fault first in
-        let two = s.checked m more g (each m more linked its) in
+        let two = s.checked m more g next in
         omega (arith, one, two)
-    least_uncarried rows fault spelled first other (roomless m linked each) =
+    least_uncarried rows fault spelled first other (roomless m linked full) =
         let one = s.checked l rows fault first in omega (arith, one)
 
+    not_refused : (rows more : List Row) (m : Linked) (g : LoadFault) → AreSpelled certificate rows
+        → CarriesPackage l rows → Linked_as m → AreSpelled certificate more → IsFirstRefusal m more g → ⊥
+    not_refused rows more m g spelled carried linked its first =
+        s.never_both l rows g
+        (subst (λ (x : Linked). IsFirstRefusal x rows g) (same_linked m l linked h)
+        (subst (λ (x : List Row). IsFirstRefusal m x g) (same_rows more rows its spelled) first)) carried
+
     least_roomless : (rows : List Row) → AreSpelled certificate rows → CarriesPackage l rows
-        → IsLeast c image certificate Full
+        → HasNone Full
     least_roomless rows spelled carried other (uncut g k) = absurd (not_uncut l h g k)
     least_roomless rows spelled carried other (unread parts g k e) = absurd (not_unread l h parts g k e)
     least_roomless rows spelled carried other (unlinked parts p g k e f) =
         absurd (not_unlinked l h parts p g k e f)
     least_roomless rows spelled carried other (unspelled none) = absurd (none rows spelled)
-    least_roomless rows spelled carried other (uncarried m more g linked its each) =
-        absurd (s.never_both l rows g (each l rows h spelled) carried)
-    least_roomless rows spelled carried other (roomless m linked each) = omega arith
+    least_roomless rows spelled carried other (uncarried m more g linked its first) =
+        absurd (not_refused rows more m g spelled carried linked its first)
+    least_roomless rows spelled carried other (roomless m linked full) = omega arith
 
     -- nothing applies to a package that is carried and has room
     none_applies : (rows : List Row) → AreSpelled certificate rows → CarriesPackage l rows → has_room c l ≡ true
@@ -197,40 +265,66 @@ module _ (s : Stages) (c : CardState) (image certificate : List ℕ) where
     none_applies rows spelled carried room other (unread parts g k e) = not_unread l h parts g k e
     none_applies rows spelled carried room other (unlinked parts p g k e f) = not_unlinked l h parts p g k e f
     none_applies rows spelled carried room other (unspelled none) = none rows spelled
-    none_applies rows spelled carried room other (uncarried m more g linked its each) =
-        s.never_both l rows g (each l rows h spelled) carried
-    none_applies rows spelled carried room other (roomless m linked each) =
-        let e = sym room ∙ each l h in cc
+    none_applies rows spelled carried room other (uncarried m more g linked its first) =
+        not_refused rows more m g spelled carried linked its first
+    none_applies rows spelled carried room other (roomless m linked full) =
+        let e = sym room ∙ ap (has_room c) (same_linked l m h linked) ∙ full in cc
 
   -- ---- a load
 
   least_read : (parts : Infos) (found : Result Package LoadFault) (fault : LoadFault) → IsCut image (Ok parts)
-      → package_of parts ≡ found → refusal_of before found ≡ Some fault → IsLeast c image certificate fault
+      → package_of parts ≡ found → refusal_of before found ≡ Some fault → HasNone fault
   least_read parts (Err g) fault h e f =
       let same : g ≡ fault = cc in
-      subst (IsLeast c image certificate) same (least_unread parts g h e)
+      subst HasNone same (least_unread parts g h e)
   least_read parts (Ok p) fault h e f = least_unlinked parts p fault h e f
 
-  least_unfit : (fault : LoadFault) → IsUnfit before image certificate fault → IsLeast c image certificate fault
+  least_unfit : (fault : LoadFault) → IsUnfit before image certificate fault → HasNone fault
   least_unfit fault (not_linked (Err g) _ h e) =
       let same : g ≡ fault = cc in
-      subst (IsLeast c image certificate) same (least_uncut g h)
+      subst HasNone same (least_uncut g h)
   least_unfit fault (not_linked (Ok parts) _ h e) = least_read parts (package_of parts) fault h refl e
   least_unfit fault (not_spelled l h none) = least_unspelled l h
   least_unfit fault (not_carried l rows _ h spelled first) = least_uncarried l h rows fault spelled first
 
   least_without_room : (fault : LoadFault) → IsWithoutRoom c image certificate fault
-      → IsLeast c image certificate fault
+      → HasNone fault
   least_without_room fault h =
-      subst (IsLeast c image certificate) (sym h.is)
+      subst HasNone (sym h.is)
       (least_roomless h.linked h.fit.linked h.fit.rows h.fit.spelled h.fit.carried)
+
+  -- ---- what is told applies
+
+  applies_read : (parts : Infos) (found : Result Package LoadFault) (fault : LoadFault) → IsCut image (Ok parts)
+      → package_of parts ≡ found → refusal_of before found ≡ Some fault → Applies c image certificate fault
+  applies_read parts (Err g) fault h e f =
+      let same : g ≡ fault = cc in
+      subst (Applies c image certificate) same (unread parts g h e)
+  applies_read parts (Ok p) fault h e f = unlinked parts p fault h e f
+
+  applies_unfit : (fault : LoadFault) → IsUnfit before image certificate fault → Applies c image certificate fault
+  applies_unfit fault (not_linked (Err g) _ h e) =
+      let same : g ≡ fault = cc in
+      subst (Applies c image certificate) same (uncut g h)
+  applies_unfit fault (not_linked (Ok parts) _ h e) = applies_read parts (package_of parts) fault h refl e
+  applies_unfit fault (not_spelled l h none) = unspelled none
+  applies_unfit fault (not_carried l rows _ h spelled first) = uncarried l rows fault h spelled first
+
+  applies_without_room : (fault : LoadFault) → IsWithoutRoom c image certificate fault
+      → Applies c image certificate fault
+  applies_without_room fault h =
+      subst (Applies c image certificate) (sym h.is) (roomless h.linked h.fit.linked h.room)
+
+  -- ---- both
 
   by_reason : (fault : LoadFault) → fault ≢ Memory
       → (fault ≡ Memory) ⊎ IsUnfit before image certificate fault ⊎ IsWithoutRoom c image certificate fault
       → IsLeast c image certificate fault
   by_reason fault other (inl e) = absurd (other e)
-  by_reason fault other (inr (inl unfit)) = least_unfit fault unfit
-  by_reason fault other (inr (inr without)) = least_without_room fault without
+  by_reason fault other (inr (inl unfit)) =
+      record { applies = applies_unfit fault unfit; least = least_unfit fault unfit }
+  by_reason fault other (inr (inr without)) =
+      record { applies = applies_without_room fault without; least = least_without_room fault without }
 
   pub told_is_least : (after : CardState) (fault : LoadFault) → IsLoad c image certificate (Err fault) after
       → fault ≢ Memory → IsLeast c image certificate fault

@@ -27,15 +27,12 @@ pub data Applies (c : CardState) (image certificate : List ℕ) : LoadFault → 
   unspelled : ((rows : List Row) → AreSpelled certificate rows → ⊥) → Applies c image certificate BadCertificate
   -- a method of the linked package isn't carried by the certificate
   uncarried : (l : Linked) (rows : List Row) (fault : LoadFault) → IsLinkedBehind c.world.shapes image l
-      → AreSpelled certificate rows
-      → ((m : Linked) (more : List Row) → IsLinkedBehind c.world.shapes image m → AreSpelled certificate more
-      → IsFirstRefusal m more fault) → Applies c image certificate fault
+      → AreSpelled certificate rows → IsFirstRefusal l rows fault → Applies c image certificate fault
   -- there is no room for the linked package, or for its arrays
-  roomless : (l : Linked) → IsLinkedBehind c.world.shapes image l
-      → ((m : Linked) → IsLinkedBehind c.world.shapes image m → has_room c m ≡ false)
+  roomless : (l : Linked) → IsLinkedBehind c.world.shapes image l → has_room c l ≡ false
       → Applies c image certificate Full
 
--- no refusal that applies has a smaller number
-abbrev pub IsLeast : CardState → List ℕ → List ℕ → LoadFault → Type 0
-IsLeast c image certificate fault = (other : LoadFault) → Applies c image certificate other
-    → number_of fault ≤ number_of other
+-- a refusal applies, and none that applies has a smaller number
+pub record IsLeast (c : CardState) (image certificate : List ℕ) (fault : LoadFault) : Type 0 where
+  pub applies : Applies c image certificate fault
+  pub least : (other : LoadFault) → Applies c image certificate other → number_of fault ≤ number_of other

@@ -18,6 +18,7 @@ ghost use Rattle.jc_refusals.specs.Loads.{Applies, IsLeast};
 ghost use Rattle.jc_refusals.specs.Order.{IsBetween};
 ghost use Rattle.std.specs.Prelude.{◌≡◌, ◌≢◌, ℕ, List, Some, Ok, Err};
 
+use jc_cert::one_spelling;
 use jc_check::first_fault_laws;
 use jc_code::listing_laws;
 
@@ -38,8 +39,8 @@ pub fn refusals_are_in_order()
         → Splits image qs others → answer ps rest ≡ answer qs others }
 {}
 
-/// Of the refusals that apply to a load the one with the least number is told, if it isn't want of memory; and a
-/// package to which one applies isn't loaded. It does nothing.
+/// A refusal that a load is told applies to it, if it isn't want of memory, and no other that applies has a smaller
+/// number; and a package to which one applies isn't loaded. It does nothing.
 pub fn the_least_refusal_is_told()
     ensures told { (c after : CardState) (image certificate : List ℕ) (fault : LoadFault)
         → IsLoad c image certificate (Err fault) after → fault ≢ Memory → IsLeast c image certificate fault }
@@ -49,4 +50,5 @@ pub fn the_least_refusal_is_told()
     refusals_are_in_order();
     first_fault_laws();
     listing_laws();
+    one_spelling();
 }

@@ -8,6 +8,7 @@ returns-clause-told c card after image certificate = told_is_least (record {
   linked = c.refusals_are_in_order.ensures.linked;
   checked = c.refusals_are_in_order.ensures.checked;
   once = c.refusals_are_in_order.ensures.once;
+  spelled = c.one_spelling.ensures;
   never_both = never_refused c.listing_laws.ensures.all c.first_fault_laws.ensures.never_both;
 }) card image certificate after
 
@@ -18,5 +19,6 @@ returns-clause-loaded c card after image certificate = loaded_has_none (record {
   linked = c.refusals_are_in_order.ensures.linked;
   checked = c.refusals_are_in_order.ensures.checked;
   once = c.refusals_are_in_order.ensures.once;
+  spelled = c.one_spelling.ensures;
   never_both = never_refused c.listing_laws.ensures.all c.first_fault_laws.ensures.never_both;
 }) card image certificate after

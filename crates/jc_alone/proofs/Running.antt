@@ -2,19 +2,21 @@
 use Rattle.std.proofs.Common.{◌≡◌, ℕ, zero, suc, ◌+◌, ◌<◌, List, [], ◌∷◌, length, drop, Option}
 use Rattle.std.proofs.Common.{Some, None, Bool, true, false, if◌then◌else◌, Result, Ok, Err, IfSome, nat_lt, refl, sym, ap, ◌∙◌, subst}
 use Rattle.std.proofs.Common.{arith}
-use Rattle.std.proofs.Math.Seq.{drop-cons}
-use Rattle.std.specs.Prelude.{⊤, ◌≢◌, get_or, slice_index}
+use Rattle.std.specs.Prelude.{⊤, ◌≢◌, slice_index}
 use Rattle.std.specs.Option.{option_map_or}
 use Rattle.jc_base.proofs.Binding as binding
-use Rattle.jc_base.specs.Cursor.{Read}
+use Rattle.jc_base.specs.Cursor.{Read, next_u1}
 use Rattle.jc_base.specs.Results.{◌>>=◌}
 use Rattle.jc_check.specs.Method.{word_max_stack, word_method}
 use Rattle.jc_check.specs.Rules.{word_rules}
 use Rattle.jc_check.specs.Typing.{IsTyping, Typing}
 use Rattle.jc_code.specs.Decoding.{next_constant, next_word_operation}
-use Rattle.jc_code.specs.Instructions.{instr_of, word_instr_at}
+use Rattle.jc_code.specs.Instructions.{either_operation, instr_at, instr_of, next_operation, word_instr_at}
 use Rattle.jc_code.specs.Listing.{PlacedInstr}
+use Rattle.jc_code.specs.Objects.{next_object}
+use Rattle.jc_code.specs.Tables.{operand}
 use Rattle.jc_code.specs.declared.fault.CodeFault.{CodeFault}
+use Rattle.jc_code.specs.declared.fault.CodeFault.TheVariants.{BadOpcode, BadOperand, CutShort}
 use Rattle.jc_code.specs.declared.instr.BinaryOperator.{BinaryOperator}
 use Rattle.jc_code.specs.declared.instr.Instr.{Instr}
 use Rattle.jc_code.specs.declared.instr.Operation.{Operation}
@@ -22,8 +24,10 @@ use Rattle.jc_code.specs.declared.instr.Operation.TheVariants as operations
 use Rattle.jc_code.specs.declared.instr.When.TheVariants.{Always, Zero, Compare}
 use Rattle.jc_code.specs.declared.instr.WordOperation.{WordOperation}
 use Rattle.jc_code.specs.declared.instr.WordOperation.TheVariants as ops
+use Rattle.jc_code.specs.declared.object.ObjectOperation.{ObjectOperation}
 use Rattle.jc_loop.specs.Following.{ComesTo, FollowsTagged, GoesAlong, ReadsTop, WordsFollow}
-use Rattle.jc_loop.specs.Loop.{MayRun, Ran, ReadReady, frame_behind, next_frame, onward, ran, word_at}
+use Rattle.jc_loop.specs.Loop.{MayRun, MayRunBy, Ran, ReadReady, frame_behind, next_frame, onward, ran, ran_by}
+use Rattle.jc_loop.specs.Moves.{IsRead, WordsAreDecoded, word_at, word_for}
 use Rattle.jc_loop.specs.Words.{Continues, Divides, IsReady, Outcome as WordOutcome, WordFrame, Yields, done_by}
 use Rattle.jc_loop.specs.Words as words
 use Rattle.jc_machine.specs.Going.{Here, check, moved, on_some, with_top}
@@ -43,24 +47,60 @@ use Rattle.jc_alone.specs.declared.run.CodeEnd.TheVariants as ends
 abbrev as_any : Read WordOperation → Read Operation
 as_any read = record { value = operations.Word read.value; rest = read.rest }
 
-at_opcode : (code : List ℕ) (pc : ℕ) → pc < length code
-    → word_instr_at code pc ≡ (word_at code pc >>= (λ read. Ok (instr_of code (as_any read))))
-unfolding word_instr_at next_word_operation
-at_opcode code pc lt =
-    let front : drop pc code ≡ get_or code pc 0 ∷ drop (suc pc) code = drop-cons code pc 0 lt in
-    let next : suc pc ≡ pc + 1 = omega arith in
-    ap (λ bytes. next_word_operation bytes >>= (λ read. Ok (instr_of code (as_any read)))) front
-    ∙ ap (λ (n : ℕ). next_constant (get_or code pc 0) (drop n code) >>= (λ read. Ok (instr_of code (as_any read)))) next
+-- what is decoded of code alone is one on words, and decoded so of any code
+record IsWord (code : List ℕ) (pc : ℕ) (instr : Instr) : Type 0 where
+  word : WordOperation
+  is : instr.operation ≡ operations.Word word
+  decoded : instr_at code pc ≡ Ok instr
+
+-- what is decoded behind an opcode that was read, of words alone and of any code
+abbrev word_of : List ℕ → Result (Read ℕ) CodeFault → Result Instr CodeFault
+word_of code o =
+    (o >>= (λ opcode. next_constant opcode.value opcode.rest)) >>= (λ read. Ok (instr_of code (as_any read)))
+
+abbrev any_of : List ℕ → Result (Read ℕ) CodeFault → Result Instr CodeFault
+any_of code o =
+    (o >>= (λ opcode. either_operation (next_constant opcode.value opcode.rest)
+    (next_object opcode.value opcode.rest))) >>= (λ read. Ok (instr_of code read))
+
+word_read : (code : List ℕ) (pc : ℕ) (instr : Instr) (r : Result (Read WordOperation) CodeFault)
+    (object : Result (Read ObjectOperation) CodeFault)
+    → ((either_operation r object >>= (λ read. Ok (instr_of code read))) ≡ Ok instr → instr_at code pc ≡ Ok instr)
+    → (r >>= (λ read. Ok (instr_of code (as_any read)))) ≡ Ok instr → IsWord code pc instr
+word_read code pc instr (Ok read) object k e = record {
+  word = read.value;
+  is = ap (λ (x : Instr). x.operation) (sym (binding.the_ok (instr_of code (as_any read)) instr e));
+  decoded = k e;
+}
+word_read code pc instr (Err fault) object k e = absurd cc
+
+is_word : (code : List ℕ) (pc : ℕ) (instr : Instr) → word_instr_at code pc ≡ Ok instr → IsWord code pc instr
+unfolding word_instr_at next_word_operation instr_at next_operation
+is_word code pc instr = by_opcode (operand (next_u1 (drop pc code))) refl
+  where
+    by_opcode : (o : Result (Read ℕ) CodeFault) → operand (next_u1 (drop pc code)) ≡ o → word_of code o ≡ Ok instr
+        → IsWord code pc instr
+    by_opcode (Ok opcode) is e =
+        word_read code pc instr (next_constant opcode.value opcode.rest) (next_object opcode.value opcode.rest)
+        (λ any. ap (any_of code) is ∙ any) e
+    by_opcode (Err fault) is e = absurd cc
 
 -- what is decoded is the instruction that is read
 abbrev IsDecoded : List ℕ → Instr → Result (Read WordOperation) CodeFault → Type 0
 IsDecoded code instr (Ok read) = instr ≡ instr_of code (as_any read)
 IsDecoded code instr (Err fault) = ⊥
 
-is_decoded_by : (code : List ℕ) (instr : Instr) (r : Result (Read WordOperation) CodeFault)
-    → (r >>= (λ read. Ok (instr_of code (as_any read)))) ≡ Ok instr → IsDecoded code instr r
-is_decoded_by code instr (Ok read) e = sym (binding.the_ok (instr_of code (as_any read)) instr e)
-is_decoded_by code instr (Err fault) e = absurd cc
+is_decoded_by : (code : List ℕ) (pc : ℕ) (instr : Instr) → IsWord code pc instr
+    → (r : Result (Read WordOperation) CodeFault) → IsRead code instr r → IsDecoded code instr r
+is_decoded_by code pc instr w (Ok read) h =
+    let same : w.word ≡ read.value =
+    binding.the_some w.word read.value (sym (ap word_for w.is) ∙ h.word) in
+    ap (λ (o : Operation). record { operation = o; next_pc = instr.next_pc }) (w.is ∙ ap operations.Word same)
+    ∙ ap (λ (n : ℕ). record { operation = operations.Word read.value; next_pc = n }) h.next
+is_decoded_by code pc instr w (Err BadOpcode) h =
+    absurd (binding.none_some w.word (sym h ∙ ap word_for w.is))
+is_decoded_by code pc instr w (Err BadOperand) h = absurd h
+is_decoded_by code pc instr w (Err CutShort) h = absurd h
 
 -- the frame on words that the code begins with
 abbrev pub first_frame : WordFrame
@@ -72,6 +112,7 @@ pub record Laws (code : List ℕ) (typing : Typing) (t : IsTyping word_rules (wo
   pub stands : (m : Machine ⊤) → IsTypedAlone typing m → StandsAt code t.listing m
   pub steps : (m : Machine ⊤) → IsTypedAlone typing m → StepsTyped typing m (alone_step t.listing m).outcome
   pub follow : (h : Here ⊤) → WordsFollow h
+  pub decoded : WordsAreDecoded
 
 module _ (code : List ℕ) (typing : Typing) (t : IsTyping word_rules (word_method code) typing)
     (laws : Laws code typing t) where
@@ -100,8 +141,9 @@ module _ (code : List ℕ) (typing : Typing) (t : IsTyping word_rules (word_meth
 
     decoded_here : IsDecoded code at.instr.instr (word_at code w.pc)
     decoded_here =
-        is_decoded_by code at.instr.instr (word_at code w.pc)
-        (sym (at_opcode code w.pc within_code) ∙ ap (word_instr_at code) g.reads.pc ∙ at.spelled)
+        let is = is_word code w.pc at.instr.instr (ap (word_instr_at code) g.reads.pc ∙ at.spelled) in
+        is_decoded_by code w.pc at.instr.instr is (word_at code w.pc)
+        (laws.decoded code w.pc at.instr.instr is.decoded within_code)
 
     step_is : alone_step listing m ≡ act_alone h at.instr.instr.operation
     unfolding alone_step
@@ -116,9 +158,9 @@ module _ (code : List ℕ) (typing : Typing) (t : IsTyping word_rules (word_meth
     not_stuck o s e = subst (StepsTyped typing m) e s
 
     follows : (operation : WordOperation) → at.instr.instr.operation ≡ operations.Word operation
-        → FollowsTagged h operation w
+        → FollowsTagged h (operations.Word operation) operation w
     follows operation is =
-        laws.follow h operation w g.reads
+        laws.follow h (operations.Word operation) operation w refl g.reads
         (subst (λ (x : Stepped ⊤). x.outcome ≢ Stuck) (acts_is operation is)
         (not_stuck (alone_step listing m).outcome (laws.steps m g.typed)))
 
@@ -287,7 +329,7 @@ module _ (code : List ℕ) (typing : Typing) (t : IsTyping word_rules (word_meth
   -- ---- so many steps
 
   may_run : (left : ℕ) (w : WordFrame) (end : CallEnd ⊤) → GoesWith w left end → MayRun code word_max_stack left w
-  unfolding MayRun
+  unfolding MayRunBy
   may_run zero w end g = within_code w zero end g
   may_run (suc n) w end g = (
     within_code w (suc n) end g,
@@ -302,24 +344,24 @@ module _ (code : List ℕ) (typing : Typing) (t : IsTyping word_rules (word_meth
       each (Some v) go k = go v k
 
   -- where it ends: no step is left, or it has stopped
-  abbrev HasEnded : Ran → CallEnd ⊤ → Type 0
+  abbrev HasEnded : Ran WordFrame → CallEnd ⊤ → Type 0
   HasEnded r end =
       ((r.left ≡ 0) → EndsAs ends.UsedUp end)
-      × ((r.left ≡ 0 → ⊥) → EndsAs (end_of (word_instr_at code r.frame.pc) (slice_index r.frame.operands 0)) end)
+      × ((r.left ≡ 0 → ⊥) → EndsAs (end_of (word_instr_at code r.state.pc) (slice_index r.state.operands 0)) end)
 
   spent : (w : WordFrame) (end : CallEnd ⊤) → GoesWith w zero end → EndsAs ends.UsedUp end
   unfolding alone_steps
   spent w end g = subst (EndsAs ends.UsedUp) g.rest tt
 
   has_ended : (left : ℕ) (w : WordFrame) (end : CallEnd ⊤) → GoesWith w left end → HasEnded (ran code left w) end
-  unfolding ran
+  unfolding ran_by
   has_ended zero w end g = ((λ _. spent w end g), (λ more. absurd (more refl)))
   has_ended (suc n) w end g = each (next_frame code w) refl (λ v. has_ended n v end) (behind w n end g)
     where
       each : (o : Option WordFrame) → next_frame code w ≡ o
           → ((v : WordFrame) → GoesWith v n end → HasEnded (ran code n v) end)
           → IfSome o (λ v. GoesWith v n end)
-          → HasEnded (option_map_or (ran code n) o (record { frame = w; left = suc n })) end
+          → HasEnded (option_map_or (ran code n) o (record { state = w; left = suc n })) end
       each None e go k = ((λ none. absurd (omega (arith, none))), (λ _. stopped w n end g e))
       each (Some v) e go k = go v k
 
@@ -337,12 +379,12 @@ module _ (code : List ℕ) (typing : Typing) (t : IsTyping word_rules (word_meth
   pub run_ends : (steps : ℕ) → HasEnded (ran code steps first_frame) (alone_call listing steps).ends
   run_ends steps = has_ended steps first_frame (alone_call listing steps).ends (begins steps)
 
-  pub used_up : (steps : ℕ) (r : Ran) → r ≡ ran code steps first_frame → r.left ≡ 0
+  pub used_up : (steps : ℕ) (r : Ran WordFrame) → r ≡ ran code steps first_frame → r.left ≡ 0
       → EndsAs ends.UsedUp (alone_call listing steps).ends
   used_up steps r is none =
-      (subst (λ (x : Ran). HasEnded x (alone_call listing steps).ends) (sym is) (run_ends steps)).0 none
+      (subst (λ (x : Ran WordFrame). HasEnded x (alone_call listing steps).ends) (sym is) (run_ends steps)).0 none
 
-  pub over : (steps : ℕ) (r : Ran) → r ≡ ran code steps first_frame → (r.left ≡ 0 → ⊥)
-      → EndsAs (end_of (word_instr_at code r.frame.pc) (slice_index r.frame.operands 0)) (alone_call listing steps).ends
+  pub over : (steps : ℕ) (r : Ran WordFrame) → r ≡ ran code steps first_frame → (r.left ≡ 0 → ⊥)
+      → EndsAs (end_of (word_instr_at code r.state.pc) (slice_index r.state.operands 0)) (alone_call listing steps).ends
   over steps r is more =
-      (subst (λ (x : Ran). HasEnded x (alone_call listing steps).ends) (sym is) (run_ends steps)).1 more
+      (subst (λ (x : Ran WordFrame). HasEnded x (alone_call listing steps).ends) (sym is) (run_ends steps)).1 more

@@ -11,7 +11,7 @@ ghost use Rattle.jc_check.specs.Typing.{IsTyping, Typing};
 use crate::carried_code_is_safe;
 use jc_check::{CheckedWords, WORD_LOCALS, WORD_MAX_STACK};
 use jc_code::{Operation, WordOperation, decode_words};
-use jc_loop::{Place, run_words, words_follow};
+use jc_loop::{Place, run_words, words_are_decoded, words_follow};
 use jc_machine::IdleNatives;
 
 /// How a run of code alone ends.
@@ -76,6 +76,7 @@ pub fn run_code(checked: &CheckedWords<'_>, steps: u32) -> CodeEnd
 {
     carried_code_is_safe();
     words_follow(&IdleNatives);
+    words_are_decoded();
     let code = checked.code();
     let mut locals = [0; WORD_LOCALS];
     let mut slots = [0; WORD_MAX_STACK];

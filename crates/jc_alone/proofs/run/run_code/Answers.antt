@@ -2,7 +2,7 @@ use Rattle.std.proofs.Common.{List, ℕ, ◌≡◌, subst, sym, slice_index}
 use Rattle.jc_check.specs.Method.{word_max_stack}
 use Rattle.jc_code.specs.Instructions.{word_instr_at}
 use Rattle.jc_loop.specs.Loop.{MayRun, Ran, ran}
-use Rattle.jc_loop.specs.Words.{frame_at}
+use Rattle.jc_loop.specs.Words.{WordFrame, frame_at}
 use Rattle.jc_alone.specs.Alone.{EndsAs, alone_call}
 use Rattle.jc_alone.specs.PrivateRuns.{end_of}
 use Rattle.jc_alone.specs.declared.run.CodeEnd.{CodeEnd}
@@ -19,6 +19,7 @@ run_words-stopped-requires-clause-may_run c =
       stands = safe.stands code well.typing well.typed;
       steps = safe.steps code well.typing well.typed;
       follow = c.words_follow.ensures;
+      decoded = c.words_are_decoded.ensures;
     } in
     subst (λ (x : List ℕ). MayRun x word_max_stack c.args.steps first_frame) (sym c.code-code.ensures.code)
     (may_begin code well.typing well.typed laws c.args.steps)
@@ -32,10 +33,12 @@ returns-then-stopped-eq0 c = λ typing t.
       stands = safe.stands code typing t;
       steps = safe.steps code typing t;
       follow = c.words_follow.ensures;
+      decoded = c.words_are_decoded.ensures;
     } in
     let stopped = c.run_words-stopped.result in
-    let r : Ran = record {
-      frame = frame_at stopped.place.pc stopped.place.depth c.run_words-stopped.new.locals c.run_words-stopped.new.slots;
+    let r : Ran WordFrame = record {
+      state = frame_at stopped.place.pc stopped.place.depth c.run_words-stopped.new.locals
+          c.run_words-stopped.new.slots;
       left = stopped.left;
     } in
     used_up code typing t laws c.args.steps r
@@ -51,14 +54,16 @@ returns c = λ typing t.
       stands = safe.stands code typing t;
       steps = safe.steps code typing t;
       follow = c.words_follow.ensures;
+      decoded = c.words_are_decoded.ensures;
     } in
     let stopped = c.run_words-stopped.result in
-    let r : Ran = record {
-      frame = frame_at stopped.place.pc stopped.place.depth c.run_words-stopped.new.locals c.run_words-stopped.new.slots;
+    let r : Ran WordFrame = record {
+      state = frame_at stopped.place.pc stopped.place.depth c.run_words-stopped.new.locals
+          c.run_words-stopped.new.slots;
       left = stopped.left;
     } in
-    let is : c.end_at.result ≡ end_of (word_instr_at code r.frame.pc) (slice_index r.frame.operands 0) =
-    subst (λ (x : List ℕ). c.end_at.result ≡ end_of (word_instr_at x r.frame.pc) (slice_index r.frame.operands 0))
+    let is : c.end_at.result ≡ end_of (word_instr_at code r.state.pc) (slice_index r.state.operands 0) =
+    subst (λ (x : List ℕ). c.end_at.result ≡ end_of (word_instr_at x r.state.pc) (slice_index r.state.operands 0))
     c.code-code.ensures.code c.end_at.ensures in
     subst (λ (e : CodeEnd). EndsAs e (alone_call t.listing c.args.steps).ends) (sym is)
     (over code typing t laws c.args.steps r

@@ -16,6 +16,9 @@ mod MatchingReferences
 mod StaticFields
 mod MatchingFields
 mod MatchingObjects
+mod QuickObjects
+mod QuickFields
+mod QuickSteps
 mod MatchingThrows
 mod MatchingFrames
 mod Answering
@@ -26,9 +29,15 @@ mod MembersFor
 mod VirtualTokens
 mod MatchingInvocations
 mod MatchingSteps
+mod Fetching
+mod Telling
 mod Running
+mod WordRoom
+mod WordScenes
 mod Leafing
+mod SceneSteps
 mod LeafRuns
+mod LeafCalls
 mod LoadedAgree
 mod ImageWords
 mod MadeArrays

@@ -1,4 +1,5 @@
 pub mod Statics
+pub mod PrivateStatics
 pub mod Agree
 pub mod Loading
 pub mod Following
@@ -18,10 +19,12 @@ pub mod PrivateEntering
 pub mod PrivateNatives
 pub mod PrivatePerform
 pub mod PrivateStep
+pub mod PrivateTold
 pub mod PrivateKnows
 pub mod PrivateImage
 pub mod PrivateMaking
 pub mod PrivateSimulates
 pub mod PrivateRuns
 pub mod PrivateLeaf
+pub mod PrivateScenes
 pub mod PrivateCalling

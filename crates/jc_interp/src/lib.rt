@@ -27,6 +27,7 @@ mod run;
 mod seen;
 mod statics;
 mod step;
+mod told;
 mod unwinding;
 mod words;
 

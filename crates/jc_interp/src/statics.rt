@@ -1,7 +1,10 @@
 //! The static fields of loaded packages, as words.
 
-ghost use Rattle.std.specs.Prelude.{◌≡◌, ◌++◌, ◌∷◌, [], IfErr, IfOk};
+ghost use Rattle.std.specs.Prelude.{◌≡◌, ◌++◌, ◌∷◌, [], is_some, length, List, ℕ, Some, IfErr, IfOk};
+ghost use Rattle.std.specs.Borrow.{sem};
+ghost use Rattle.jc_interp.specs.PrivateStatics.{HasImage, LendsAll, LendsImage, with_left};
 ghost use Rattle.jc_interp.specs.Statics.{static_in, with_static};
+ghost use Rattle.jc_machine.specs.Lookup.{of_package, with_package};
 
 use std::alloc::{AllocError, Global};
 use std::marker::Model;
@@ -26,6 +29,15 @@ impl Image {
         ensures { result.now ≡ self.now }
     {
         &self.words
+    }
+
+    #[inline]
+    fn all_mut(&mut self) -> &mut [u16]
+        ensures* given_back { sem 𝓛 (LendsAll self.entry result) }
+        ensures words { result.now ≡ self.old }
+    {
+        let end = self.words.len();
+        self.words.slice_mut(0..end)
     }
 }
 
@@ -91,4 +103,29 @@ impl Statics {
             }
         }
     }
+
+    /// Whether there are static fields of the package with a number.
+    #[inline]
+    pub(crate) fn has(&self, package: u8) -> bool
+        ensures { result ≡ is_some (of_package self.now «package») }
+    {
+        package != 0 && usize::from(package) - 1 < self.images.len()
+    }
+
+    /// The words of that package, for writing.
+    #[inline]
+    pub(crate) fn image_mut(&mut self, package: u8) -> &mut [u16]
+        requires there { HasImage self.old «package» }
+        ensures* given_back { sem 𝓛 (LendsImage self.entry «package» result) }
+        ensures words { (image : List ℕ) → of_package self.old «package» ≡ Some image → result.now ≡ image }
+    {
+        let image = &mut self.images[usize::from(package) - 1];
+        image.all_mut()
+    }
 }
+
+/// As many words as were lent are left, so they are the package's. It does nothing.
+pub(crate) fn image_laws()
+    ensures { (images : List (List ℕ)) (number : ℕ) (image left : List ℕ) → of_package images number ≡ Some image
+        → length left ≡ length image → with_left images number left ≡ with_package images number left }
+{}

@@ -22,3 +22,4 @@ mod Between
 mod Reaching
 mod Spared
 mod Apart
+mod Owning

@@ -4,8 +4,9 @@ ghost use Rattle.std.specs.Prelude.{◌≡◌, ◌∷◌};
 ghost use Rattle.jc_natives.specs.Aids.{aid_work, is_range};
 ghost use Rattle.jc_natives.specs.Cells.{argument, bytes_of, extended, put_all};
 ghost use Rattle.jc_natives.specs.Kept.{has_aid_length};
-ghost use Rattle.jc_natives.specs.PrivateWords.{done_of, seen_in};
+ghost use Rattle.jc_natives.specs.PrivateWords.{done_of, native_work, seen_in};
 ghost use Rattle.jc_natives.specs.declared.native.AidNative.TheVariants as natives;
+ghost use Rattle.jc_natives.specs.declared.native.Native.TheVariants.{OfAid};
 ghost use Rattle.jc_store.specs.Store.{with_objects};
 
 use crate::bytes::{copy_bytes, same_bytes};
@@ -13,6 +14,8 @@ use crate::cells::{argument, bit, cell, extended, put};
 use crate::ended::{Ended, throw_system};
 use crate::kept::Runtime;
 use crate::native::AidNative;
+use crate::rows::aid_row;
+use crate::tests::refusal;
 use jc_link::World;
 use jc_machine::WordCall;
 use jc_store::Store;
@@ -95,8 +98,9 @@ fn get_bytes(world: &World, store: &mut Store, call: &WordCall<'_>, runtime: &Ru
     Ended::Returned(Some(count))
 }
 
-/// Does the work of a member of AID.
-pub(crate) fn aid_native(
+// Does the work of a member of AID.
+#[inline(always)]
+fn aid_work(
     world: &World,
     store: &mut Store,
     call: &WordCall<'_>,
@@ -111,5 +115,44 @@ pub(crate) fn aid_native(
         AidNative::Construct => construct(world, store, call, runtime),
         AidNative::Equals => Ended::Returned(Some(bit(equals(world, store, call)))),
         AidNative::GetBytes => get_bytes(world, store, call, runtime),
+    }
+}
+
+// Tests the arguments of a member of AID, and does its work.
+#[inline(always)]
+fn tested(
+    world: &World,
+    store: &mut Store,
+    call: &WordCall<'_>,
+    runtime: &Runtime,
+    native: AidNative,
+) -> Ended
+    ensures { record { store = store.new; kept = runtime.now; ended = result }
+        ≡ done_of call.now.active store.old runtime.now
+        (native_work (seen_in world.now store.old call.now) runtime.now call.now.arguments.now (OfAid native)) }
+{
+    match refusal(world, store, call, &aid_row(native)) {
+        Some(object) => Ended::Thrown(object),
+        None => aid_work(world, store, call, runtime, native),
+    }
+}
+
+/// Calls a member of AID. Each arm names its member, so that its row is known when it is compiled.
+#[inline(never)]
+pub(crate) fn aid_native(
+    world: &World,
+    store: &mut Store,
+    call: &WordCall<'_>,
+    runtime: &Runtime,
+    native: AidNative,
+) -> Ended
+    ensures { record { store = store.new; kept = runtime.now; ended = result }
+        ≡ done_of call.now.active store.old runtime.now
+        (native_work (seen_in world.now store.old call.now) runtime.now call.now.arguments.now (OfAid native)) }
+{
+    match native {
+        AidNative::Construct => tested(world, store, call, runtime, AidNative::Construct),
+        AidNative::Equals => tested(world, store, call, runtime, AidNative::Equals),
+        AidNative::GetBytes => tested(world, store, call, runtime, AidNative::GetBytes),
     }
 }

@@ -2,14 +2,17 @@
 
 ghost use Rattle.std.specs.Prelude.{◌≡◌};
 ghost use Rattle.jc_natives.specs.Apdus.{apdu_work, is_fresh, is_in_buffer, is_incoming, is_length_set, is_outgoing, sends, sends_at_once};
-ghost use Rattle.jc_natives.specs.PrivateWords.{done_of, seen_in};
+ghost use Rattle.jc_natives.specs.PrivateWords.{done_of, native_work, seen_in};
 ghost use Rattle.jc_natives.specs.declared.native.ApduNative.TheVariants as natives;
+ghost use Rattle.jc_natives.specs.declared.native.Native.TheVariants.{OfApdu};
 
 use crate::bytes::put_bytes;
 use crate::cells::{argument, is_within, size};
 use crate::ended::{Ended, throw_apdu};
 use crate::kept::{ApduState, Runtime};
 use crate::native::ApduNative;
+use crate::rows::apdu_row;
+use crate::tests::refusal;
 use jc_link::World;
 use jc_machine::WordCall;
 use jc_store::Store;
@@ -203,8 +206,9 @@ fn send_at_once(
     Ended::Returned(None)
 }
 
-/// Does the work of a member of APDU.
-pub(crate) fn apdu_native(
+// Does the work of a member of APDU.
+#[inline(always)]
+fn apdu_work(
     world: &World,
     store: &mut Store,
     call: &WordCall<'_>,
@@ -226,6 +230,61 @@ pub(crate) fn apdu_native(
             let offset = argument(call.arguments, 1);
             let count = argument(call.arguments, 2);
             send_at_once(world, store, call, runtime, offset, count)
+        }
+    }
+}
+
+// Tests the arguments of a member of APDU, and does its work.
+#[inline(always)]
+fn tested(
+    world: &World,
+    store: &mut Store,
+    call: &WordCall<'_>,
+    runtime: &mut Runtime,
+    native: ApduNative,
+) -> Ended
+    ensures { record { store = store.new; kept = runtime.new; ended = result }
+        ≡ done_of call.now.active store.old runtime.old
+        (native_work (seen_in world.now store.old call.now) runtime.old call.now.arguments.now (OfApdu native)) }
+{
+    match refusal(world, store, call, &apdu_row(native)) {
+        Some(object) => Ended::Thrown(object),
+        None => apdu_work(world, store, call, runtime, native),
+    }
+}
+
+/// Calls a member of APDU. Each arm names its member, so that its row is known when it is compiled.
+#[inline(never)]
+pub(crate) fn apdu_native(
+    world: &World,
+    store: &mut Store,
+    call: &WordCall<'_>,
+    runtime: &mut Runtime,
+    native: ApduNative,
+) -> Ended
+    ensures { record { store = store.new; kept = runtime.new; ended = result }
+        ≡ done_of call.now.active store.old runtime.old
+        (native_work (seen_in world.now store.old call.now) runtime.old call.now.arguments.now (OfApdu native)) }
+{
+    match native {
+        ApduNative::GetBuffer => tested(world, store, call, runtime, ApduNative::GetBuffer),
+        ApduNative::SetIncomingAndReceive => {
+            tested(
+                world,
+                store,
+                call,
+                runtime,
+                ApduNative::SetIncomingAndReceive,
+            )
+        }
+        ApduNative::SetOutgoing => tested(world, store, call, runtime, ApduNative::SetOutgoing),
+        ApduNative::SetOutgoingLength => {
+            tested(world, store, call, runtime, ApduNative::SetOutgoingLength)
+        }
+        ApduNative::SendBytes => tested(world, store, call, runtime, ApduNative::SendBytes),
+        ApduNative::SendBytesLong => tested(world, store, call, runtime, ApduNative::SendBytesLong),
+        ApduNative::SetOutgoingAndSend => {
+            tested(world, store, call, runtime, ApduNative::SetOutgoingAndSend)
         }
     }
 }

@@ -5,8 +5,9 @@ ghost use Rattle.jc_machine.specs.Runtime.{most_instances};
 ghost use Rattle.jc_natives.specs.Applets.{aid_object, allowed, applet_work, may_register, owner_of, registers, registers_range};
 ghost use Rattle.jc_natives.specs.Cells.{bytes_of};
 ghost use Rattle.jc_natives.specs.Kept.{has_aid_length, instance_with};
-ghost use Rattle.jc_natives.specs.PrivateWords.{done_of, seen_in};
+ghost use Rattle.jc_natives.specs.PrivateWords.{done_of, native_work, seen_in};
 ghost use Rattle.jc_natives.specs.declared.native.AppletNative.TheVariants as natives;
+ghost use Rattle.jc_natives.specs.declared.native.Native.TheVariants.{OfApplet};
 
 use crate::aid::{ILLEGAL_VALUE, has_aid_length};
 use crate::bytes::{append_bytes, put_bytes};
@@ -14,6 +15,8 @@ use crate::cells::{argument, bit, extended, put};
 use crate::ended::{Ended, throw_system};
 use crate::kept::{Installing, Instance, Runtime};
 use crate::native::AppletNative;
+use crate::rows::applet_row;
+use crate::tests::refusal;
 use arrayvec::ArrayVec;
 use jc_base::Aid;
 use jc_link::World;
@@ -174,8 +177,9 @@ fn register_bytes(
     }
 }
 
-/// Does the work of a member of Applet.
-pub(crate) fn applet_native(
+// Does the work of a member of Applet.
+#[inline(always)]
+fn applet_work(
     world: &World,
     store: &mut Store,
     call: &WordCall<'_>,
@@ -193,5 +197,54 @@ pub(crate) fn applet_native(
         AppletNative::Deselect | AppletNative::Process => Ended::Returned(None),
         AppletNative::SelectingApplet => Ended::Returned(Some(bit(runtime.is_selecting()))),
         AppletNative::GetShareable => Ended::Returned(Some(0)),
+    }
+}
+
+// Tests the arguments of a member of Applet, and does its work.
+#[inline(always)]
+fn tested(
+    world: &World,
+    store: &mut Store,
+    call: &WordCall<'_>,
+    runtime: &mut Runtime,
+    native: AppletNative,
+) -> Ended
+    ensures { record { store = store.new; kept = runtime.new; ended = result }
+        ≡ done_of call.now.active store.old runtime.old
+        (native_work (seen_in world.now store.old call.now) runtime.old call.now.arguments.now (OfApplet native)) }
+{
+    match refusal(world, store, call, &applet_row(native)) {
+        Some(object) => Ended::Thrown(object),
+        None => applet_work(world, store, call, runtime, native),
+    }
+}
+
+/// Calls a member of Applet. Each arm names its member, so that its row is known when it is compiled.
+#[inline(never)]
+pub(crate) fn applet_native(
+    world: &World,
+    store: &mut Store,
+    call: &WordCall<'_>,
+    runtime: &mut Runtime,
+    native: AppletNative,
+) -> Ended
+    ensures { record { store = store.new; kept = runtime.new; ended = result }
+        ≡ done_of call.now.active store.old runtime.old
+        (native_work (seen_in world.now store.old call.now) runtime.old call.now.arguments.now (OfApplet native)) }
+{
+    match native {
+        AppletNative::Register => tested(world, store, call, runtime, AppletNative::Register),
+        AppletNative::RegisterBytes => {
+            tested(world, store, call, runtime, AppletNative::RegisterBytes)
+        }
+        AppletNative::Select => tested(world, store, call, runtime, AppletNative::Select),
+        AppletNative::Deselect => tested(world, store, call, runtime, AppletNative::Deselect),
+        AppletNative::Process => tested(world, store, call, runtime, AppletNative::Process),
+        AppletNative::SelectingApplet => {
+            tested(world, store, call, runtime, AppletNative::SelectingApplet)
+        }
+        AppletNative::GetShareable => {
+            tested(world, store, call, runtime, AppletNative::GetShareable)
+        }
     }
 }

@@ -10,6 +10,7 @@ ghost use Rattle.jc_store.specs.Store.{IsThere, with_objects};
 use jc_store::Store;
 
 /// How many components an object has; 0 where there is none.
+#[inline(always)]
 pub(crate) fn size(store: &Store, number: u16) -> u16
     ensures { result ≡ size_of store.now.objects number }
 {
@@ -21,6 +22,7 @@ pub(crate) fn size(store: &Store, number: u16) -> u16
 }
 
 /// The component of an object at an index; 0 where there is none.
+#[inline(always)]
 pub(crate) fn cell(store: &Store, number: u16, index: usize) -> u16
     ensures { result ≡ cell_of store.now.objects number index }
 {
@@ -32,6 +34,7 @@ pub(crate) fn cell(store: &Store, number: u16, index: usize) -> u16
 }
 
 /// Its low byte.
+#[inline(always)]
 pub(crate) fn byte(store: &Store, number: u16, index: usize) -> u8
     ensures { result ≡ byte_of store.now.objects number index }
 {
@@ -74,6 +77,7 @@ pub(crate) fn put(store: &mut Store, number: u16, index: usize, word: u16)
 }
 
 /// The argument at a place; 0 where there is none.
+#[inline(always)]
 pub(crate) fn argument(arguments: &[u16], place: usize) -> u16
     ensures argument { result ≡ argument arguments.now place }
     ensures word { result ≡ word (argument arguments.now place) }
@@ -85,6 +89,7 @@ pub(crate) fn argument(arguments: &[u16], place: usize) -> u16
 }
 
 /// The low byte of a word, with its sign.
+#[inline(always)]
 pub(crate) fn extended(word: u16) -> u16
     ensures { result ≡ extended word }
 {
@@ -93,6 +98,7 @@ pub(crate) fn extended(word: u16) -> u16
 }
 
 /// Two bytes as a word, the high one first.
+#[inline(always)]
 pub(crate) fn word_of(high: u8, low: u8) -> u16
     ensures { result ≡ word_of_bytes high low }
 {
@@ -100,6 +106,7 @@ pub(crate) fn word_of(high: u8, low: u8) -> u16
 }
 
 /// The high byte of a word.
+#[inline(always)]
 pub(crate) fn high(word: u16) -> u16
     ensures { result ≡ high word }
 {
@@ -107,6 +114,7 @@ pub(crate) fn high(word: u16) -> u16
 }
 
 /// The sum of two words, as a word.
+#[inline(always)]
 pub(crate) fn sum(one: u16, other: u16) -> u16
     ensures { result ≡ word (one + other) }
 {
@@ -114,6 +122,7 @@ pub(crate) fn sum(one: u16, other: u16) -> u16
 }
 
 /// 1 for true.
+#[inline(always)]
 pub(crate) fn bit(truth: bool) -> u16
     ensures { result ≡ bit truth }
 {
@@ -121,6 +130,7 @@ pub(crate) fn bit(truth: bool) -> u16
 }
 
 /// Whether a word is no negative short.
+#[inline(always)]
 pub(crate) fn is_count(word: u16) -> bool
     ensures { result ≡ is_count word }
 {
@@ -128,6 +138,7 @@ pub(crate) fn is_count(word: u16) -> bool
 }
 
 /// Whether so many components from an index on lie within so many; a negative short is no number of components.
+#[inline(always)]
 pub(crate) fn is_within(size: u16, from: u16, count: u16) -> bool
     ensures { result ≡ is_within size from count }
 {

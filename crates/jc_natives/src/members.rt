@@ -2,7 +2,6 @@
 
 ghost use Rattle.std.specs.Prelude.{◌≡◌};
 ghost use Rattle.jc_api.specs.Numbered.{numbered};
-ghost use Rattle.jc_natives.specs.Meaning.{work_of};
 ghost use Rattle.jc_natives.specs.PrivateWords.{AsksSo, TellsEnd, done_of, native_work, seen_in, word_work};
 ghost use Rattle.jc_natives.specs.Rows.{natives};
 
@@ -13,9 +12,7 @@ use crate::ended::{Ended, Question};
 use crate::kept::Runtime;
 use crate::native::{Native, native_of};
 use crate::object::object_native;
-use crate::rows::row_of;
 use crate::system::system_native;
-use crate::tests::refusal;
 use crate::utility::utility_native;
 use arrayvec::ArrayVec;
 use jc_classes::growing_keeps_lookups;
@@ -26,8 +23,9 @@ use jc_store::Store;
 // The member that applets answer questions for shareable objects by.
 const ANSWERING_MEMBER: u16 = 40;
 
-// Does the work of a member whose tests have passed.
-fn work(
+// Tests the arguments of a member, and does its work.
+#[inline]
+fn call_native(
     world: &World,
     store: &mut Store,
     call: &WordCall<'_>,
@@ -36,7 +34,7 @@ fn work(
 ) -> Ended
     ensures { record { store = store.new; kept = runtime.new; ended = result }
         ≡ done_of call.now.active store.old runtime.old
-        (work_of (seen_in world.now store.old call.now) runtime.old call.now.arguments.now native) }
+        (native_work (seen_in world.now store.old call.now) runtime.old call.now.arguments.now native) }
 {
     match native {
         Native::OfObject(native) => object_native(world, store, call, runtime, native),
@@ -48,25 +46,8 @@ fn work(
     }
 }
 
-// Tests the arguments of a member, and does its work.
-fn tested(
-    world: &World,
-    store: &mut Store,
-    call: &WordCall<'_>,
-    runtime: &mut Runtime,
-    native: Native,
-) -> Ended
-    ensures { record { store = store.new; kept = runtime.new; ended = result }
-        ≡ done_of call.now.active store.old runtime.old
-        (native_work (seen_in world.now store.old call.now) runtime.old call.now.arguments.now native) }
-{
-    match refusal(world, store, call, &row_of(native)) {
-        Some(object) => Ended::Thrown(object),
-        None => work(world, store, call, runtime, native),
-    }
-}
-
 // Calls the member with a number, if there is one.
+#[inline]
 fn call_member(
     world: &World,
     store: &mut Store,
@@ -79,12 +60,13 @@ fn call_member(
         (numbered natives call.now.member)) }
 {
     match native_of(call.member) {
-        Some(native) => tested(world, store, call, runtime, native),
+        Some(native) => call_native(world, store, call, runtime, native),
         None => Ended::Returned(None),
     }
 }
 
 // A question as a call of the member that answers it.
+#[inline]
 fn callback_of(question: Question) -> WordCallback
     ensures { AsksSo result question }
 {
@@ -99,6 +81,7 @@ fn callback_of(question: Question) -> WordCallback
 }
 
 // How a member ends, as an interpreter is told it.
+#[inline]
 fn outcome_of(ended: Ended) -> WordOutcome
     ensures { TellsEnd result ended }
 {
@@ -119,6 +102,7 @@ impl Natives for Runtime {
 
     ghost meaning = { meaning };
 
+    #[inline]
     fn call(&mut self, world: &World, store: &mut Store, call: &WordCall<'_>) -> WordOutcome {
         // each object has a number for its class
         let _used = store.objects_used();

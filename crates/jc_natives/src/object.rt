@@ -3,14 +3,16 @@
 
 ghost use Rattle.std.specs.Prelude.{◌≡◌};
 ghost use Rattle.jc_natives.specs.Objects.{are_same_aids, equals, have_same_aid, object_work};
-ghost use Rattle.jc_natives.specs.PrivateWords.{done_of, seen_in};
+ghost use Rattle.jc_natives.specs.PrivateWords.{done_of, native_work, seen_in};
+ghost use Rattle.jc_natives.specs.declared.native.Native.TheVariants.{OfObject};
 
 use crate::bytes::same_bytes;
 use crate::cells::{argument, bit, cell, put};
 use crate::ended::{Ended, throw_with};
 use crate::kept::Runtime;
 use crate::native::ObjectNative;
-use crate::tests::is_aid_object;
+use crate::rows::object_row;
+use crate::tests::{is_aid_object, refusal};
 use jc_link::World;
 use jc_machine::WordCall;
 use jc_store::Store;
@@ -37,8 +39,9 @@ fn equals(world: &World, store: &Store, call: &WordCall<'_>, one: u16, other: u1
     one == other || are_same_aids(world, store, call, one, other)
 }
 
-/// Does the work of a member of Object or of an exception.
-pub(crate) fn object_native(
+// Does the work of a member of Object or of an exception.
+#[inline(always)]
+fn object_work(
     world: &World,
     store: &mut Store,
     call: &WordCall<'_>,
@@ -62,5 +65,57 @@ pub(crate) fn object_native(
         }
         ObjectNative::GetReason => Ended::Returned(Some(cell(store, first, 0))),
         ObjectNative::ThrowIt(object) => throw_with(store, object, first),
+    }
+}
+
+// Tests the arguments of a member of Object or of an exception, and does its work.
+#[inline(always)]
+fn tested(
+    world: &World,
+    store: &mut Store,
+    call: &WordCall<'_>,
+    runtime: &Runtime,
+    native: ObjectNative,
+) -> Ended
+    ensures { record { store = store.new; kept = runtime.now; ended = result }
+        ≡ done_of call.now.active store.old runtime.now
+        (native_work (seen_in world.now store.old call.now) runtime.now call.now.arguments.now (OfObject native)) }
+{
+    match refusal(world, store, call, &object_row(native)) {
+        Some(object) => Ended::Thrown(object),
+        None => object_work(world, store, call, runtime, native),
+    }
+}
+
+/// Calls a member of Object or of an exception. Each arm names its member, so that its row is known when it is compiled.
+#[inline(never)]
+pub(crate) fn object_native(
+    world: &World,
+    store: &mut Store,
+    call: &WordCall<'_>,
+    runtime: &Runtime,
+    native: ObjectNative,
+) -> Ended
+    ensures { record { store = store.new; kept = runtime.now; ended = result }
+        ≡ done_of call.now.active store.old runtime.now
+        (native_work (seen_in world.now store.old call.now) runtime.now call.now.arguments.now (OfObject native)) }
+{
+    match native {
+        ObjectNative::Construct => tested(world, store, call, runtime, ObjectNative::Construct),
+        ObjectNative::Equals => tested(world, store, call, runtime, ObjectNative::Equals),
+        ObjectNative::ConstructWithReason => {
+            tested(
+                world,
+                store,
+                call,
+                runtime,
+                ObjectNative::ConstructWithReason,
+            )
+        }
+        ObjectNative::GetReason => tested(world, store, call, runtime, ObjectNative::GetReason),
+        ObjectNative::SetReason => tested(world, store, call, runtime, ObjectNative::SetReason),
+        ObjectNative::ThrowIt(object) => {
+            tested(world, store, call, runtime, ObjectNative::ThrowIt(object))
+        }
     }
 }

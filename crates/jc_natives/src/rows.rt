@@ -1,14 +1,16 @@
-//! What each member tests.
+//! What each member tests. All of it is inlined: where a member is known, so is its row when it is compiled, and none is
+//! made.
 
 ghost use Rattle.std.specs.Prelude.{◌≡◌, Some};
-ghost use Rattle.jc_natives.specs.Rows.{aid_row, apdu_row, applet_row, called, called_on, constructed, object_row, on_array, on_arrays, range, row_of, system_row, untested, utility_row};
+ghost use Rattle.jc_natives.specs.Rows.{aid_row, apdu_row, applet_row, called, called_on, constructed, object_row, on_array, on_arrays, range, system_row, untested, utility_row};
 
 use crate::native::{
-    AidNative, ApduNative, AppletNative, Native, ObjectNative, SystemNative, UtilityNative,
+    AidNative, ApduNative, AppletNative, ObjectNative, SystemNative, UtilityNative,
 };
 use crate::row::{Length, Range, Row, Test, Way};
 
 // A range in an array, whose array and offset stand at these places.
+#[inline(always)]
 fn range(array: usize, offset: usize, length: Length) -> Option<Range>
     ensures { result ≡ range array offset length }
 {
@@ -26,6 +28,7 @@ const UNTESTED: Row = Row {
     second_range: None,
 };
 
+#[inline(always)]
 fn constructed() -> Row
     ensures { result ≡ constructed }
 {
@@ -35,6 +38,7 @@ fn constructed() -> Row
     }
 }
 
+#[inline(always)]
 fn called() -> Row
     ensures { result ≡ called }
 {
@@ -44,6 +48,7 @@ fn called() -> Row
     }
 }
 
+#[inline(always)]
 fn called_on(array: Test, length: Length) -> Row
     ensures { result ≡ called_on array length }
 {
@@ -55,6 +60,7 @@ fn called_on(array: Test, length: Length) -> Row
     }
 }
 
+#[inline(always)]
 fn on_array(array: Test, length: Length) -> Row
     ensures { result ≡ on_array array length }
 {
@@ -66,6 +72,7 @@ fn on_array(array: Test, length: Length) -> Row
     }
 }
 
+#[inline(always)]
 fn on_arrays(source: Test, target: Test) -> Row
     ensures { result ≡ on_arrays source target }
 {
@@ -77,7 +84,9 @@ fn on_arrays(source: Test, target: Test) -> Row
     }
 }
 
-fn object_row(native: ObjectNative) -> Row
+/// What a member of Object or of an exception tests.
+#[inline(always)]
+pub(crate) fn object_row(native: ObjectNative) -> Row
     ensures { result ≡ object_row native }
 {
     match native {
@@ -92,7 +101,9 @@ fn object_row(native: ObjectNative) -> Row
     }
 }
 
-fn aid_row(native: AidNative) -> Row
+/// What a member of AID tests.
+#[inline(always)]
+pub(crate) fn aid_row(native: AidNative) -> Row
     ensures { result ≡ aid_row native }
 {
     match native {
@@ -107,7 +118,9 @@ fn aid_row(native: AidNative) -> Row
     }
 }
 
-fn apdu_row(native: ApduNative) -> Row
+/// What a member of APDU tests.
+#[inline(always)]
+pub(crate) fn apdu_row(native: ApduNative) -> Row
     ensures { result ≡ apdu_row native }
 {
     match native {
@@ -121,7 +134,9 @@ fn apdu_row(native: ApduNative) -> Row
     }
 }
 
-fn applet_row(native: AppletNative) -> Row
+/// What a member of Applet tests.
+#[inline(always)]
+pub(crate) fn applet_row(native: AppletNative) -> Row
     ensures { result ≡ applet_row native }
 {
     match native {
@@ -135,7 +150,9 @@ fn applet_row(native: AppletNative) -> Row
     }
 }
 
-fn system_row(native: SystemNative) -> Row
+/// What a member of JCSystem tests.
+#[inline(always)]
+pub(crate) fn system_row(native: SystemNative) -> Row
     ensures { result ≡ system_row native }
 {
     match native {
@@ -150,7 +167,9 @@ fn system_row(native: SystemNative) -> Row
     }
 }
 
-fn utility_row(native: UtilityNative) -> Row
+/// What a member of Util tests.
+#[inline(always)]
+pub(crate) fn utility_row(native: UtilityNative) -> Row
     ensures { result ≡ utility_row native }
 {
     match native {
@@ -166,19 +185,5 @@ fn utility_row(native: UtilityNative) -> Row
         UtilityNative::GetShort => on_array(Test::Object(0, Way::Loads), Length::Fixed(2)),
         UtilityNative::SetShort => on_array(Test::Object(0, Way::Stores), Length::Fixed(2)),
         UtilityNative::MakeShort => UNTESTED,
-    }
-}
-
-/// What a member tests of its arguments.
-pub(crate) fn row_of(native: Native) -> Row
-    ensures { result ≡ row_of native }
-{
-    match native {
-        Native::OfObject(native) => object_row(native),
-        Native::OfAid(native) => aid_row(native),
-        Native::OfApdu(native) => apdu_row(native),
-        Native::OfApplet(native) => applet_row(native),
-        Native::OfSystem(native) => system_row(native),
-        Native::OfUtility(native) => utility_row(native),
     }
 }

@@ -3,10 +3,11 @@
 ghost use Rattle.std.specs.Prelude.{◌≡◌};
 ghost use Rattle.jc_natives.specs.Cells.{argument, bytes_of, extended};
 ghost use Rattle.jc_natives.specs.Kept.{instance_with};
-ghost use Rattle.jc_natives.specs.PrivateWords.{done_of, seen_in};
+ghost use Rattle.jc_natives.specs.PrivateWords.{done_of, native_work, seen_in};
 ghost use Rattle.jc_natives.specs.System.{aid_of, aid_of_owner, asks, event_of, makes, makes_array, may_make, system_work};
 ghost use Rattle.jc_natives.specs.Work.{Makes, array_type};
 ghost use Rattle.jc_natives.specs.declared.native.SystemNative.TheVariants as natives;
+ghost use Rattle.jc_natives.specs.declared.native.Native.TheVariants.{OfSystem};
 
 use crate::aid::ILLEGAL_VALUE;
 use crate::applet::aid_object;
@@ -14,6 +15,8 @@ use crate::cells::{argument, cell, extended, is_count};
 use crate::ended::{Ended, Question, throw_system};
 use crate::kept::{Instance, Runtime};
 use crate::native::{Elements, SystemNative};
+use crate::rows::system_row;
+use crate::tests::refusal;
 use jc_api::ApiClass;
 use jc_link::World;
 use jc_machine::WordCall;
@@ -208,8 +211,9 @@ fn make_array(
     make(world, store, call, runtime, elements, size, event)
 }
 
-/// Does the work of a member of JCSystem.
-pub(crate) fn system_native(
+// Does the work of a member of JCSystem.
+#[inline(always)]
+fn system_work(
     world: &World,
     store: &mut Store,
     call: &WordCall<'_>,
@@ -230,6 +234,58 @@ pub(crate) fn system_native(
         SystemNative::MakeShorts => make_array(world, store, call, runtime, Elements::Shorts),
         SystemNative::MakeReferences => {
             make_array(world, store, call, runtime, Elements::References)
+        }
+    }
+}
+
+// Tests the arguments of a member of JCSystem, and does its work.
+#[inline(always)]
+fn tested(
+    world: &World,
+    store: &mut Store,
+    call: &WordCall<'_>,
+    runtime: &Runtime,
+    native: SystemNative,
+) -> Ended
+    ensures { record { store = store.new; kept = runtime.now; ended = result }
+        ≡ done_of call.now.active store.old runtime.now
+        (native_work (seen_in world.now store.old call.now) runtime.now call.now.arguments.now (OfSystem native)) }
+{
+    match refusal(world, store, call, &system_row(native)) {
+        Some(object) => Ended::Thrown(object),
+        None => system_work(world, store, call, runtime, native),
+    }
+}
+
+/// Calls a member of JCSystem. Each arm names its member, so that its row is known when it is compiled.
+#[inline(never)]
+pub(crate) fn system_native(
+    world: &World,
+    store: &mut Store,
+    call: &WordCall<'_>,
+    runtime: &Runtime,
+    native: SystemNative,
+) -> Ended
+    ensures { record { store = store.new; kept = runtime.now; ended = result }
+        ≡ done_of call.now.active store.old runtime.now
+        (native_work (seen_in world.now store.old call.now) runtime.now call.now.arguments.now (OfSystem native)) }
+{
+    match native {
+        SystemNative::GetAid => tested(world, store, call, runtime, SystemNative::GetAid),
+        SystemNative::LookupAid => tested(world, store, call, runtime, SystemNative::LookupAid),
+        SystemNative::GetPreviousAid => {
+            tested(world, store, call, runtime, SystemNative::GetPreviousAid)
+        }
+        SystemNative::AskForShareable => {
+            tested(world, store, call, runtime, SystemNative::AskForShareable)
+        }
+        SystemNative::MakeBooleans => {
+            tested(world, store, call, runtime, SystemNative::MakeBooleans)
+        }
+        SystemNative::MakeBytes => tested(world, store, call, runtime, SystemNative::MakeBytes),
+        SystemNative::MakeShorts => tested(world, store, call, runtime, SystemNative::MakeShorts),
+        SystemNative::MakeReferences => {
+            tested(world, store, call, runtime, SystemNative::MakeReferences)
         }
     }
 }

@@ -1,6 +1,6 @@
-//! What all members test, by one rule.
+//! What all members test, by one rule. It is inlined, so that of a row that is known no more is left than its tests.
 
-ghost use Rattle.std.specs.Prelude.{◌≡◌, ℕ, Some};
+ghost use Rattle.std.specs.Prelude.{◌≡◌, ℕ, true, Some};
 ghost use Rattle.jc_natives.specs.PrivateWords.{seen_in};
 ghost use Rattle.jc_natives.specs.Seen.{is_aid_object};
 ghost use Rattle.jc_natives.specs.Tests.{access_of, by_verdict, facts_of, is_in_range, length_of, ranged, test, tested, used};
@@ -11,12 +11,12 @@ ghost use Rattle.jc_machine.specs.declared.natives.WordCall as words;
 ghost use Rattle.jc_store.specs.Heap as heaps;
 ghost use Rattle.jc_store.specs.Heap.{object_at};
 ghost use Rattle.jc_store.specs.Store as stores;
-ghost use Rattle.jc_store.specs.Store.{IsThere};
+ghost use Rattle.jc_store.specs.Store.{IsOwn, IsThere};
 
 use crate::cells::{argument, cell, extended, is_within, size};
 use crate::row::{Length, Range, Row, Test, Way};
 use jc_api::ApiClass;
-use jc_firewall::{Access, Facts, Verdict, decide};
+use jc_firewall::{Access, Facts, Verdict, decide, own_is_allowed};
 use jc_link::World;
 use jc_machine::WordCall;
 use jc_names::ClassName;
@@ -32,6 +32,7 @@ const AID: ClassName = ClassName::Api(ApiClass::Aid);
 
 const OBJECT: ClassName = ClassName::Api(ApiClass::Object);
 
+#[inline(always)]
 fn access_of(way: Way) -> Access
     ensures { result ≡ access_of way }
 {
@@ -43,6 +44,7 @@ fn access_of(way: Way) -> Access
     }
 }
 
+#[inline(always)]
 fn is_array(object: ObjectType) -> bool
     ensures { result ≡ is_array object }
 {
@@ -56,6 +58,7 @@ fn is_array(object: ObjectType) -> bool
 }
 
 // What the firewall asks of an object that is there.
+#[inline(always)]
 fn facts_of(world: &World, store: &Store, call: &WordCall<'_>, number: u16) -> Facts
     requires { IsThere store.now number }
     ensures { (object : heaps.Object ℕ) → object_at store.now.objects number ≡ Some object
@@ -75,6 +78,7 @@ fn facts_of(world: &World, store: &Store, call: &WordCall<'_>, number: u16) -> F
 }
 
 // What is thrown by a verdict, if it denies.
+#[inline(always)]
 fn thrown_by(verdict: Verdict) -> Option<u16>
     ensures { (world : linked.World) (store : stores.Store) (call : words.WordCall) (way : Way) (number : ℕ)
         → result ≡ (by_verdict (seen_in world store call) way number verdict).thrown }
@@ -85,18 +89,43 @@ fn thrown_by(verdict: Verdict) -> Option<u16>
     }
 }
 
+// Whether an object is the active context's own, and isn't cleared on deselect. Then each use of it is allowed. No
+// context is 255.
+#[inline(always)]
+fn is_own(store: &Store, call: &WordCall<'_>, number: u16) -> bool
+    requires { IsThere store.now number }
+    ensures { result ≡ true → IsOwn store.now number call.now.active.context }
+{
+    call.active.context < 255 && store.is_own(number, call.active.context)
+}
+
+// Tests a use of any object, by the firewall.
+#[inline(never)]
+fn judged(world: &World, store: &Store, call: &WordCall<'_>, way: Way, number: u16) -> Option<u16>
+    requires { IsThere store.now number }
+    ensures { result ≡ (used (seen_in world.now store.now call.now) way number).thrown }
+{
+    let facts = facts_of(world, store, call, number);
+    thrown_by(decide(access_of(way), call.active.context, &facts))
+}
+
 // Tests a use of an object.
+#[inline(always)]
 fn used(world: &World, store: &Store, call: &WordCall<'_>, way: Way, number: u16) -> Option<u16>
     ensures { result ≡ (used (seen_in world.now store.now call.now) way number).thrown }
 {
     if !store.is_there(number) {
         return Some(NULL_POINTER_EXCEPTION);
     }
-    let facts = facts_of(world, store, call, number);
-    thrown_by(decide(access_of(way), call.active.context, &facts))
+    if is_own(store, call, number) {
+        own_is_allowed();
+        return None;
+    }
+    judged(world, store, call, way, number)
 }
 
 // The class whose methods an object has.
+#[inline(always)]
 fn class_of(object: ObjectType) -> ClassName
     ensures { result ≡ class_of object }
 {
@@ -120,6 +149,7 @@ pub(crate) fn is_aid_object(world: &World, store: &Store, call: &WordCall<'_>, n
 }
 
 // Makes one test.
+#[inline(always)]
 fn test(world: &World, store: &Store, call: &WordCall<'_>, wanted: Test) -> Option<u16>
     ensures { result ≡ (test (seen_in world.now store.now call.now) call.now.arguments.now wanted).thrown }
 {
@@ -139,6 +169,7 @@ fn test(world: &World, store: &Store, call: &WordCall<'_>, wanted: Test) -> Opti
 }
 
 // The second argument may be called, where both are AIDs.
+#[inline(never)]
 fn beside_aid(world: &World, store: &Store, call: &WordCall<'_>) -> Option<u16>
     ensures { result ≡ (test (seen_in world.now store.now call.now) call.now.arguments.now BesideAid).thrown }
 {
@@ -152,6 +183,7 @@ fn beside_aid(world: &World, store: &Store, call: &WordCall<'_>) -> Option<u16>
 }
 
 // How many components a range has.
+#[inline(always)]
 fn length_of(world: &World, store: &Store, call: &WordCall<'_>, length: Length) -> u16
     ensures { result ≡ length_of (seen_in world.now store.now call.now) call.now.arguments.now length }
 {
@@ -163,6 +195,7 @@ fn length_of(world: &World, store: &Store, call: &WordCall<'_>, length: Length) 
     }
 }
 
+#[inline(always)]
 fn is_in_range(world: &World, store: &Store, call: &WordCall<'_>, range: Range) -> bool
     ensures { result ≡ is_in_range (seen_in world.now store.now call.now) call.now.arguments.now range }
 {
@@ -172,6 +205,7 @@ fn is_in_range(world: &World, store: &Store, call: &WordCall<'_>, range: Range) 
     array == 0 || is_within(size(store, array), offset, count)
 }
 
+#[inline(always)]
 fn ranged(world: &World, store: &Store, call: &WordCall<'_>, range: Option<Range>) -> Option<u16>
     ensures { result ≡ (ranged (seen_in world.now store.now call.now) call.now.arguments.now range).thrown }
 {
@@ -184,6 +218,7 @@ fn ranged(world: &World, store: &Store, call: &WordCall<'_>, range: Option<Range
 }
 
 /// Makes the tests of a member. What is thrown is told where one fails.
+#[inline(always)]
 pub(crate) fn refusal(world: &World, store: &Store, call: &WordCall<'_>, row: &Row) -> Option<u16>
     ensures { result ≡ (tested (seen_in world.now store.now call.now) call.now.arguments.now row.now).thrown }
 {

@@ -1,15 +1,18 @@
 //! Members of Util (Java Card API Specification, Util).
 
 ghost use Rattle.std.specs.Prelude.{◌≡◌};
-ghost use Rattle.jc_natives.specs.PrivateWords.{done_of, seen_in};
+ghost use Rattle.jc_natives.specs.PrivateWords.{done_of, native_work, seen_in};
 ghost use Rattle.jc_natives.specs.Utilities.{utility_work};
 ghost use Rattle.jc_natives.specs.declared.native.UtilityNative.TheVariants as natives;
+ghost use Rattle.jc_natives.specs.declared.native.Native.TheVariants.{OfUtility};
 
 use crate::bytes::{compare_bytes, copy_bytes, fill_bytes, put_short, short_at};
 use crate::cells::{argument, sum, word_of};
 use crate::ended::Ended;
 use crate::kept::Runtime;
 use crate::native::UtilityNative;
+use crate::rows::utility_row;
+use crate::tests::refusal;
 use crate::words::low;
 use jc_link::World;
 use jc_machine::WordCall;
@@ -94,8 +97,9 @@ fn make_short(world: &World, store: &mut Store, call: &WordCall<'_>, runtime: &R
     Ended::Returned(Some(word_of(low(first), low(second))))
 }
 
-/// Does the work of a member of Util.
-pub(crate) fn utility_native(
+// Does the work of a member of Util.
+#[inline(always)]
+fn utility_work(
     world: &World,
     store: &mut Store,
     call: &WordCall<'_>,
@@ -113,5 +117,49 @@ pub(crate) fn utility_native(
         UtilityNative::GetShort => get_short(world, store, call, runtime),
         UtilityNative::SetShort => set_short(world, store, call, runtime),
         UtilityNative::MakeShort => make_short(world, store, call, runtime),
+    }
+}
+
+// Tests the arguments of a member of Util, and does its work.
+#[inline(always)]
+fn tested(
+    world: &World,
+    store: &mut Store,
+    call: &WordCall<'_>,
+    runtime: &Runtime,
+    native: UtilityNative,
+) -> Ended
+    ensures { record { store = store.new; kept = runtime.now; ended = result }
+        ≡ done_of call.now.active store.old runtime.now
+        (native_work (seen_in world.now store.old call.now) runtime.now call.now.arguments.now (OfUtility native)) }
+{
+    match refusal(world, store, call, &utility_row(native)) {
+        Some(object) => Ended::Thrown(object),
+        None => utility_work(world, store, call, runtime, native),
+    }
+}
+
+/// Calls a member of Util. Each arm names its member, so that its row is known when it is compiled.
+#[inline(never)]
+pub(crate) fn utility_native(
+    world: &World,
+    store: &mut Store,
+    call: &WordCall<'_>,
+    runtime: &Runtime,
+    native: UtilityNative,
+) -> Ended
+    ensures { record { store = store.new; kept = runtime.now; ended = result }
+        ≡ done_of call.now.active store.old runtime.now
+        (native_work (seen_in world.now store.old call.now) runtime.now call.now.arguments.now (OfUtility native)) }
+{
+    match native {
+        UtilityNative::ArrayCopy => tested(world, store, call, runtime, UtilityNative::ArrayCopy),
+        UtilityNative::ArrayFill => tested(world, store, call, runtime, UtilityNative::ArrayFill),
+        UtilityNative::ArrayCompare => {
+            tested(world, store, call, runtime, UtilityNative::ArrayCompare)
+        }
+        UtilityNative::GetShort => tested(world, store, call, runtime, UtilityNative::GetShort),
+        UtilityNative::SetShort => tested(world, store, call, runtime, UtilityNative::SetShort),
+        UtilityNative::MakeShort => tested(world, store, call, runtime, UtilityNative::MakeShort),
     }
 }

@@ -54,7 +54,8 @@ own_passes law s store way number same own =
     passes false e =
         ap thrown (law store number s.active.context (access_of way) f (record {
           own = own;
-          of_applet = λ is. both_ways (s.active.context == runtime_context) e (eq-eqb s.active.context runtime_context is);
+          of_applet = λ is.
+              both_ways (s.active.context == runtime_context) e (eq-eqb s.active.context runtime_context is);
           owner = refl;
           clears = refl;
           storable = stores_none way;

@@ -24,7 +24,7 @@ use jc_store::Store;
 const ANSWERING_MEMBER: u16 = 40;
 
 // Tests the arguments of a member, and does its work.
-#[inline]
+#[inline(always)]
 fn call_native(
     world: &World,
     store: &mut Store,
@@ -47,7 +47,7 @@ fn call_native(
 }
 
 // Calls the member with a number, if there is one.
-#[inline]
+#[inline(always)]
 fn call_member(
     world: &World,
     store: &mut Store,
@@ -66,7 +66,7 @@ fn call_member(
 }
 
 // A question as a call of the member that answers it.
-#[inline]
+#[inline(never)]
 fn callback_of(question: Question) -> WordCallback
     ensures { AsksSo result question }
 {
@@ -81,7 +81,7 @@ fn callback_of(question: Question) -> WordCallback
 }
 
 // How a member ends, as an interpreter is told it.
-#[inline]
+#[inline(always)]
 fn outcome_of(ended: Ended) -> WordOutcome
     ensures { TellsEnd result ended }
 {
@@ -102,7 +102,7 @@ impl Natives for Runtime {
 
     ghost meaning = { meaning };
 
-    #[inline]
+    #[inline(always)]
     fn call(&mut self, world: &World, store: &mut Store, call: &WordCall<'_>) -> WordOutcome {
         // each object has a number for its class
         let _used = store.objects_used();

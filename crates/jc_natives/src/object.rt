@@ -87,7 +87,8 @@ fn tested(
     }
 }
 
-/// Calls a member of Object or of an exception. Each arm names its member, so that its row is known when it is compiled.
+/// Calls a member of Object or of an exception. Each arm names its member, so that its row is known when it is
+/// compiled.
 #[inline(never)]
 pub(crate) fn object_native(
     world: &World,

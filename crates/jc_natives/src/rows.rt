@@ -1,5 +1,5 @@
-//! What each member tests. All of it is inlined: where a member is known, so is its row when it is compiled, and none is
-//! made.
+//! What each member tests. All of it is inlined: where the member is known so is its row when it is compiled, and none
+//! is made.
 
 ghost use Rattle.std.specs.Prelude.{◌≡◌, Some};
 ghost use Rattle.jc_natives.specs.Rows.{aid_row, apdu_row, applet_row, called, called_on, constructed, object_row, on_array, on_arrays, range, system_row, untested, utility_row};

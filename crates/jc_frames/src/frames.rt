@@ -121,7 +121,7 @@ impl Frames {
     }
 
     // Whether there is room for one frame more of a size.
-    #[inline]
+    #[inline(always)]
     fn has_room(&self, size: FrameSize) -> bool
         ensures room { result ≡ true → HasRoom self.now size }
         ensures full { result ≡ false → IsFull self.now size }
@@ -175,7 +175,7 @@ impl Frames {
     }
 
     // The same where there is room.
-    #[inline]
+    #[inline(always)]
     fn put_call(&mut self, header: FrameHeader, size: FrameSize, first: u8, count: u8)
         requires there { HasOperands self.old first count }
         requires fit { count ≤ size.locals }
@@ -291,7 +291,7 @@ impl Frames {
     }
 
     /// Takes so many operands away, or all where there are fewer.
-    #[inline]
+    #[inline(always)]
     pub fn drop_operands(&mut self, count: u8)
         ensures { self.new ≡ on_top (dropped count) self.old }
     {
@@ -372,7 +372,7 @@ impl Frames {
     /// Puts a frame on top, if there is room for it: its first locals are so many of the top operands of the frame that
     /// was on top, which loses them; its other words hold anything. Where the operands aren't there, or there are fewer
     /// locals, the answer is false.
-    #[inline]
+    #[inline(always)]
     pub fn enter_call(&mut self, header: FrameHeader, size: FrameSize, words: u8) -> bool
         ensures pushed { (top : Frame) (below : List Frame) → self.old.frames ≡ top ∷ below
             → words ≤ length (in_use top) → words ≤ size.locals → result ≡ true

@@ -25,6 +25,7 @@ pub mod PrivateImage
 pub mod PrivateMaking
 pub mod PrivateSimulates
 pub mod PrivateRuns
+pub mod PrivateLaws
 pub mod PrivateLeaf
 pub mod PrivateScenes
 pub mod PrivateCalling

@@ -1,20 +1,24 @@
 //! Which method a call leads to (Java Card Virtual Machine Specification, invokevirtual, invokespecial, invokestatic,
 //! invokeinterface).
 
-ghost use Rattle.std.specs.Prelude.{◌≡◌, ◌-◌};
-ghost use Rattle.jc_interp.specs.PrivateCalls.{guarded_call, interface_plan, listed_plan, on_interface, plan_of};
+ghost use Rattle.std.specs.Prelude.{◌≡◌, ◌-◌, None, false};
+ghost use Rattle.jc_firewall.specs.declared.access.Access.TheVariants.{InvokeVirtual};
+ghost use Rattle.jc_interp.specs.PrivateCalls.{guarded_call, interface_plan, listed_plan, on_interface};
 ghost use Rattle.jc_interp.specs.PrivateCalls.{receiver};
 ghost use Rattle.jc_interp.specs.PrivateCalls.{special_plan, static_plan, virtual_called, virtual_plan};
+ghost use Rattle.jc_interp.specs.PrivateSeen.{verdict_on};
 
 use crate::casts::is_shared_interface;
 use crate::ends::{CLASS_CAST_EXCEPTION, NULL_POINTER_EXCEPTION, SECURITY_EXCEPTION};
 use crate::here::Here;
 use crate::machine::WordMachine;
 use crate::seen::{Seen, class_named, look_at, verdict};
-use jc_code::Invocation;
 use jc_firewall::{Access, Verdict};
 use jc_loaded::{Called, ClassNumber, Entry, InterfaceCall};
 use jc_names::{ClassName, Owner};
+
+/// The context of the runtime.
+const RUNTIME: u8 = 0;
 
 /// Tokens from here on are package-visible.
 const PACKAGE_VISIBLE: u8 = 128;
@@ -48,6 +52,20 @@ fn virtual_called(here: &Here<'_>, class: u16, token: u8) -> Called
         here.program
             .visible_methods
             .visible_method(number, token, package)
+    }
+}
+
+/// The firewall's verdict on a call of a virtual method. An applet may call its context's own objects, whatever else is
+/// known of them.
+#[inline(always)]
+fn verdict_on_call(here: &Here<'_>, object: Seen) -> Verdict
+    ensures { result ≡ verdict_on here.now InvokeVirtual object None false }
+{
+    let context = here.frame.active.context;
+    if context != RUNTIME && object.owner.context == context {
+        Verdict::Allowed
+    } else {
+        verdict(here, Access::InvokeVirtual, object, None, false)
     }
 }
 
@@ -87,7 +105,7 @@ fn listed_plan(verdict: Verdict, call: InterfaceCall, words: u8) -> Plan
 
 impl WordMachine {
     /// The object of a call of so many words.
-    #[inline]
+    #[inline(always)]
     fn receiver(&self, words: u8) -> Option<Seen>
         ensures { result ≡ receiver self.now words }
     {
@@ -95,7 +113,8 @@ impl WordMachine {
     }
 
     /// invokevirtual
-    fn plan_virtual(&self, here: &Here<'_>, index: u16) -> Plan
+    #[inline(always)]
+    pub(crate) fn plan_virtual(&self, here: &Here<'_>, index: u16) -> Plan
         ensures { result ≡ virtual_plan here.now index self.now }
     {
         let (token, words) = match here.program.entries.at(here.frame.method.package, index) {
@@ -109,12 +128,13 @@ impl WordMachine {
         let Some(object) = self.receiver(words) else {
             return Plan::Throws(NULL_POINTER_EXCEPTION);
         };
-        let verdict = verdict(here, Access::InvokeVirtual, object, None, false);
+        let verdict = verdict_on_call(here, object);
         guarded_call(verdict, virtual_called(here, object.class, token), words)
     }
 
     /// invokespecial: no access is tested, and no owner changes. Where no method is found the object is taken for null.
-    fn plan_special(&self, here: &Here<'_>, index: u16) -> Plan
+    #[inline(always)]
+    pub(crate) fn plan_special(&self, here: &Here<'_>, index: u16) -> Plan
         ensures { result ≡ special_plan here.now index self.now }
     {
         match self.plan_static(here, index) {
@@ -136,7 +156,8 @@ impl WordMachine {
     }
 
     /// invokestatic
-    fn plan_static(&self, here: &Here<'_>, index: u16) -> Plan
+    #[inline(always)]
+    pub(crate) fn plan_static(&self, here: &Here<'_>, index: u16) -> Plan
         ensures { result ≡ static_plan here.now index }
     {
         let Some(entry) = here.program.entries.at(here.frame.method.package, index) else {
@@ -152,6 +173,8 @@ impl WordMachine {
         }
     }
 
+    /// invokeinterface, of a method of this interface.
+    #[inline]
     fn plan_on_interface(&self, here: &Here<'_>, words: u8, token: u8, interface: ClassName) -> Plan
         ensures { result ≡ on_interface here.now words token self.now interface }
     {
@@ -172,28 +195,13 @@ impl WordMachine {
     }
 
     /// invokeinterface
-    fn plan_interface(&self, here: &Here<'_>, words: u8, index: u16, token: u8) -> Plan
+    #[inline]
+    pub(crate) fn plan_interface(&self, here: &Here<'_>, words: u8, index: u16, token: u8) -> Plan
         ensures { result ≡ interface_plan here.now words index token self.now }
     {
         match class_named(here, index) {
             Some(interface) => self.plan_on_interface(here, words, token, interface),
             None => Plan::Nothing,
-        }
-    }
-
-    /// What a call comes to before a frame is made.
-    pub(crate) fn plan(&self, here: &Here<'_>, invocation: Invocation) -> Plan
-        ensures { result ≡ plan_of here.now invocation self.now }
-    {
-        match invocation {
-            Invocation::Virtual { index } => self.plan_virtual(here, index),
-            Invocation::Special { index } => self.plan_special(here, index),
-            Invocation::Static { index } => self.plan_static(here, index),
-            Invocation::Interface {
-                arguments,
-                index,
-                token,
-            } => self.plan_interface(here, arguments, index, token),
         }
     }
 }

@@ -1,6 +1,7 @@
 //! New objects (Java Card Virtual Machine Specification, new, newarray, anewarray).
 
 ghost use Rattle.std.specs.Prelude.{◌≡◌};
+ghost use Rattle.jc_code.specs.declared.object.Creation.TheVariants.{Object};
 ghost use Rattle.jc_interp.specs.PrivateCreation.{do_create, do_create_array, do_creation, do_new, is_count, made};
 ghost use Rattle.jc_interp.specs.PrivateCreation.{made_in};
 ghost use Rattle.jc_interp.specs.PrivateCreation.{word_array};
@@ -52,6 +53,7 @@ fn make(store: &mut Store, object: ObjectType, owner: Owner, len: usize, class: 
 
 impl WordMachine {
     /// A new object of the active owner in place of so many operands; without room the runtime throws SystemException.
+    #[inline(always)]
     fn create(
         &mut self,
         here: &Here<'_>,
@@ -82,7 +84,8 @@ impl WordMachine {
         self.create(here, object, usize::from(count), OBJECT, 1)
     }
 
-    /// new
+    /// new, of this class
+    #[inline(always)]
     fn create_object(&mut self, here: &Here<'_>, class: ClassName) -> StepEnd
         ensures { done self.new result ≡ do_new here.now class self.old }
     {
@@ -93,15 +96,23 @@ impl WordMachine {
         self.create(here, ObjectType::Instance(class), len, number.index(), 0)
     }
 
+    /// new, of the class that an entry of the constant pool names
+    #[inline(always)]
+    pub(crate) fn create_named(&mut self, here: &Here<'_>, index: u16) -> StepEnd
+        ensures { done self.new result ≡ do_creation here.now (Object index) self.old }
+    {
+        match class_named(here, index) {
+            Some(class) => self.create_object(here, class),
+            None => StepEnd::UsedUp,
+        }
+    }
+
     /// new, newarray, anewarray
     pub(crate) fn perform_creation(&mut self, here: &Here<'_>, creation: Creation) -> StepEnd
         ensures { done self.new result ≡ do_creation here.now creation self.old }
     {
         match creation {
-            Creation::Object { index } => match class_named(here, index) {
-                Some(class) => self.create_object(here, class),
-                None => StepEnd::UsedUp,
-            },
+            Creation::Object { index } => self.create_named(here, index),
             Creation::WordArray(kind) => self.create_array(here, word_array(kind)),
             Creation::ReferenceArray { index } => match class_named(here, index) {
                 Some(class) => self.create_array(here, ObjectType::ReferenceArray(class)),

@@ -67,6 +67,7 @@ pub(crate) fn size_of(header: MethodHeader, words: u8) -> FrameSize
 
 impl WordMachine {
     /// Calls a method on so many of the operands, which the caller loses.
+    #[inline(always)]
     pub(crate) fn enter(
         &mut self,
         here: &Here<'_>,

@@ -24,7 +24,7 @@ pub(crate) struct Seen {
 }
 
 /// The object that a word refers to; none for null.
-#[inline]
+#[inline(always)]
 pub(crate) fn look_at(store: &Store, number: u16) -> Option<Seen>
     ensures { result ≡ seen_of store.now number }
 {

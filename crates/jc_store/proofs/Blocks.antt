@@ -1,14 +1,13 @@
 -- Many cells at once, and the components of one object among them.
-use Rattle.std.proofs.Common.{◌≡◌, ◌⊎◌, inl, inr, ℕ, zero, suc, ◌+◌, ◌-◌, ◌<◌, ◌≤◌, List, [], ◌∷◌, ◌++◌}
-use Rattle.std.proofs.Common.{refl, sym, ap, subst, ◌∙◌, arith, length, map, take, drop, set, get_or, append-nil}
-use Rattle.std.proofs.Common.{append_assoc, Some, slice_get, slice_range, unwrap_or}
-use Rattle.std.proofs.Math.Seq.{length-sets, paste, sets}
-use Rattle.std.proofs.lemmas.List.{get_or-map, length-take-le, take-append-drop}
-use Rattle.std.proofs.lemmas.List.{drop-take, drop-drop, drop_all, length-map, take-take, take_all}
+use Rattle.std.proofs.Common.{◌≡◌, ℕ, zero, suc, ◌+◌, ◌-◌, ◌≤◌, List, [], ◌∷◌, ◌++◌}
+use Rattle.std.proofs.Common.{refl, sym, ap, subst, ◌∙◌, arith, length, map, take, drop, set, append-nil}
+use Rattle.std.proofs.Common.{append_assoc, Some, slice_get, slice_range, replicate, unwrap_or}
+use Rattle.std.proofs.Math.Seq.{length-sets, sets}
+use Rattle.std.proofs.lemmas.List.{drop-take, drop-drop, drop_all, replicate-append-replicate, take-take, take_all}
 use Rattle.std.proofs.lemmas.Option.{same_Some}
-use Rattle.std.proofs.lemmas.List.Edits.{paste_more, sets-eq}
+use Rattle.std.proofs.lemmas.List.Edits.{sets-eq}
 use Rattle.std.specs.Option.{option_map_or}
-use Rattle.jc_store.specs.Blocks.{components_of, low_byte, low_bytes, put_over, with_cells}
+use Rattle.jc_store.specs.Blocks.{components_of, part_in, put_over, with_cells}
 use Rattle.jc_store.specs.Heap.{Heap, Object, object_at, with_object}
 use Rattle.jc_store.specs.PrivateLaid.{Header, IsLaid, IsStored, Sizes, classes_in, head_of, headers_of, null_head}
 use Rattle.jc_store.specs.PrivateLaid.{object_in, objects_in}
@@ -21,166 +20,36 @@ use Rattle.jc_store.proofs.Blanking.{dropped_past, put_all}
 use Rattle.jc_store.proofs.Held.{found, object_put, sized, viewed}
 use Rattle.jc_store.proofs.Rows.{HasHead, its_head, store_of}
 
--- ---- copied from the front
+-- ---- filled by copies
 
--- what was copied so far, of words that are put over cells from an index on
-abbrev pub front : List ℕ → ℕ → List ℕ → ℕ → List ℕ
-front cells to words at = paste cells to words at
+front_of : (n more word : ℕ) (rest : List ℕ) → more ≤ n → take more (replicate n word ++ rest) ≡ replicate more word
+front_of n zero word rest low = refl
+front_of zero (suc more) word rest low = absurd (omega (arith, low))
+front_of (suc n) (suc more) word rest low = ap (λ words. word ∷ words) (front_of n more word rest (omega (arith, low)))
 
--- the low bytes of a part
-abbrev pub lowered : List ℕ → ℕ → ℕ → List ℕ
-lowered cells from count = map low_byte (slice_range cells from (from + count))
+behind : (n word : ℕ) (rest : List ℕ) → drop n (replicate n word ++ rest) ≡ rest
+behind zero word rest = refl
+behind (suc n) word rest = behind n word rest
 
-part_length : (cells : List ℕ) (from count : ℕ) → from + count ≤ length cells
-    → length (lowered cells from count) ≡ count
-part_length cells from count within =
-    length-map (slice_range cells from (from + count)) low_byte ∙ range_length cells from count within
-
-read_dropped : (cells : List ℕ) (from at : ℕ) → get_or (drop from cells) at 0 ≡ get_or cells (from + at) 0
-read_dropped cells zero at = let e : zero + at ≡ at = omega arith in ap (λ k. get_or cells k 0) (sym e)
-read_dropped [] (suc from) at = refl
-read_dropped (c ∷ cells) (suc from) at =
-    let e : suc from + at ≡ suc (from + at) = omega arith in
-    read_dropped cells from at ∙ ap (λ k. get_or (c ∷ cells) k 0) (sym e)
-
-read_taken : (cells : List ℕ) (n at : ℕ) → at < n → get_or (take n cells) at 0 ≡ get_or cells at 0
-read_taken cells zero at low = absurd (omega (arith, low))
-read_taken [] (suc n) at low = refl
-read_taken (c ∷ cells) (suc n) zero low = refl
-read_taken (c ∷ cells) (suc n) (suc at) low = read_taken cells n at (omega (arith, low))
-
--- a low byte of them
-low_at : (cells : List ℕ) (from count at : ℕ) → from + count ≤ length cells → at < count
-    → get_or (lowered cells from count) at 0 ≡ low_byte (get_or cells (from + at) 0)
-low_at cells from count at within low =
-    let n = range_length cells from count within in
-    let size : from + count - from ≡ count = omega arith in
-    get_or-map low_byte (slice_range cells from (from + count)) at 0 0 (omega (arith, n, low))
-    ∙ ap (λ k. low_byte (get_or (take k (drop from cells)) at 0)) size
-    ∙ ap low_byte (read_taken (drop from cells) count at low ∙ read_dropped cells from at)
-
--- reads before and behind what is put in
-read_before : (cells rest : List ℕ) (n at : ℕ) → at < n → n ≤ length cells
-    → get_or (take n cells ++ rest) at 0 ≡ get_or cells at 0
-read_before cells rest zero at low within = absurd (omega (arith, low))
-read_before [] rest (suc n) at low within = absurd (omega (arith, within))
-read_before (c ∷ cells) rest (suc n) zero low within = refl
-read_before (c ∷ cells) rest (suc n) (suc at) low within =
-    read_before cells rest n at (omega (arith, low)) (omega (arith, within))
-
-abbrev nil : List ℕ
-nil = []
-
-read_behind : (words rest : List ℕ) (at : ℕ) → length words ≤ at
-    → get_or (words ++ rest) at 0 ≡ get_or rest (at - length words) 0
-read_behind [] rest at low = let e : at - length nil ≡ at = omega arith in ap (λ k. get_or rest k 0) (sym e)
-read_behind (w ∷ words) rest zero low = absurd (omega (arith, low))
-read_behind (w ∷ words) rest (suc at) low =
-    let e : at - length words ≡ suc at - suc (length words) = omega arith in
-    read_behind words rest at (omega (arith, low)) ∙ ap (λ k. get_or rest k 0) e
-
--- a cell that isn't yet written
-pub read_on : (cells words : List ℕ) (to at place : ℕ) → to + at ≤ length cells → at ≤ length words
-    → (place < to) ⊎ (to + at ≤ place) → get_or (front cells to words at) place 0 ≡ get_or cells place 0
-read_on cells words to at place within short (inl before) =
-    ap (λ xs. get_or xs place 0) (append_assoc (take to cells) (take at words) (drop (to + at) cells))
-    ∙ read_before cells (take at words ++ drop (to + at) cells) to place before (omega (arith, within))
-read_on cells words to at place within short (inr behind) =
-    let one = length-take-le to cells (omega (arith, within)) in
-    let two = length-take-le at words short in
-    let first : place - length (take to cells) - length (take at words) ≡ place - (to + at) = omega (arith, one, two) in
-    let whole : to + at + (place - (to + at)) ≡ place = omega (arith, behind) in
-    ap (λ xs. get_or xs place 0) (append_assoc (take to cells) (take at words) (drop (to + at) cells))
-    ∙ read_behind (take to cells) (take at words ++ drop (to + at) cells) place (omega (arith, one, behind))
-    ∙ read_behind (take at words) (drop (to + at) cells) (place - length (take to cells))
-    (omega (arith, one, two, behind))
-    ∙ ap (λ k. get_or (drop (to + at) cells) k 0) first
-    ∙ read_dropped cells (to + at) (place - (to + at)) ∙ ap (λ k. get_or cells k 0) whole
-
--- one more is copied
-pub front_more : (cells : List ℕ) (from to count at : ℕ) (now : List ℕ) → from + count ≤ length cells
-    → to + count ≤ length cells → (to ≤ from) ⊎ (from + count ≤ to) → at < count
-    → now ≡ front cells to (lowered cells from count) at
-    → set now (to + at) (low_byte (get_or now (from + at) 0)) ≡ front cells to (lowered cells from count) (at + 1)
-front_more cells from to count at now from_within to_within apart low is =
-    let words = lowered cells from count in
-    let n = part_length cells from count from_within in
-    ap (λ xs. set xs (to + at) (low_byte (get_or xs (from + at) 0))) is
-    ∙ ap (λ w. set (front cells to words at) (to + at) (low_byte w))
-    (read_on cells words to at (from + at) (omega (arith, to_within, low)) (omega (arith, n, low)) (aside apart))
-    ∙ ap (set (front cells to words at) (to + at)) (sym (low_at cells from count at from_within low))
-    ∙ paste_more cells to words at 0 (omega (arith, to_within, low)) (omega (arith, n, low))
-  where
-    aside : (to ≤ from) ⊎ (from + count ≤ to) → (from + at < to) ⊎ (to + at ≤ from + at)
-    aside (inl h) = inr (omega (arith, h))
-    aside (inr h) = inl (omega (arith, h, low))
-
-pub front_all : (cells : List ℕ) (from to count at : ℕ) → from + count ≤ length cells → count ≤ at → at ≤ count
-    → front cells to (lowered cells from count) at ≡ put_over cells to (lowered cells from count)
-front_all cells from to count at within past end =
-    let n = part_length cells from count within in
-    let all : at ≡ length (lowered cells from count) = omega (arith, n, past, end) in
-    ap (λ xs. take to cells ++ xs ++ drop (to + at) cells)
-    (take_all at (lowered cells from count) (omega (arith, n, past)))
-    ∙ ap (λ k. take to cells ++ lowered cells from count ++ drop (to + k) cells) all
-
--- ---- copied from the back
-
--- what was copied so far: all but the first
-abbrev pub back : List ℕ → ℕ → List ℕ → ℕ → List ℕ
-back cells to words left = take (to + left) cells ++ (drop left words ++ drop (to + length words) cells)
-
-put_last : (cells rest : List ℕ) (n word : ℕ) → n < length cells
-    → set (take (suc n) cells ++ rest) n word ≡ take n cells ++ word ∷ rest
-put_last [] rest n word low = absurd (omega (arith, low))
-put_last (c ∷ cells) rest zero word low = refl
-put_last (c ∷ cells) rest (suc n) word low = ap (λ xs. c ∷ xs) (put_last cells rest n word (omega (arith, low)))
-
-one_dropped : (words : List ℕ) (at : ℕ) → at < length words → get_or words at 0 ∷ drop (suc at) words ≡ drop at words
-one_dropped [] at low = absurd (omega (arith, low))
-one_dropped (w ∷ words) zero low = refl
-one_dropped (w ∷ words) (suc at) low = one_dropped words at (omega (arith, low))
-
-pub back_more : (cells : List ℕ) (from to count at left : ℕ) (now : List ℕ) → from + count ≤ length cells
-    → to + count ≤ length cells → from ≤ to → left ≡ at + 1 → left ≤ count
-    → now ≡ back cells to (lowered cells from count) left
-    → set now (to + at) (low_byte (get_or now (from + at) 0)) ≡ back cells to (lowered cells from count) at
-back_more cells from to count at left now from_within to_within behind next low is =
-    let words = lowered cells from count in
-    let n = part_length cells from count from_within in
-    let place : to + left ≡ suc (to + at) = omega (arith, next) in
-    let more : left ≡ suc at = omega (arith, next) in
-    let rest = drop left words ++ drop (to + length words) cells in
-    ap (λ xs. set xs (to + at) (low_byte (get_or xs (from + at) 0))) is
-    ∙ ap (λ w. set (take (to + left) cells ++ rest) (to + at) (low_byte w))
-    (read_before cells rest (to + left) (from + at) (omega (arith, behind, next)) (omega (arith, to_within, low)))
-    ∙ ap (set (take (to + left) cells ++ rest) (to + at))
-    (sym (low_at cells from count at from_within (omega (arith, next, low))))
-    ∙ ap (λ k. set (take k cells ++ rest) (to + at) (get_or words at 0)) place
-    ∙ put_last cells rest (to + at) (get_or words at 0) (omega (arith, to_within, low, next))
-    ∙ ap (λ k. take (to + at) cells ++ get_or words at 0 ∷ (drop k words ++ drop (to + length words) cells)) more
-    ∙ ap (λ xs. take (to + at) cells ++ (xs ++ drop (to + length words) cells))
-    (one_dropped words at (omega (arith, n, next, low)))
-
-none_back : (words cells : List ℕ) (n : ℕ) → n ≡ length words → drop n words ++ cells ≡ cells
-none_back words cells n is = ap (λ xs. xs ++ cells) (drop_all n words (omega (arith, is)))
-
-pub back_none : (cells : List ℕ) (from to count : ℕ) → from + count ≤ length cells
-    → cells ≡ back cells to (lowered cells from count) count
-back_none cells from to count within =
-    let words = lowered cells from count in
-    let n = part_length cells from count within in
-    sym (ap (λ xs. take (to + count) cells ++ xs)
-    (none_back words (drop (to + length words) cells) count (omega (arith, n)))
-    ∙ ap (λ k. take (to + count) cells ++ drop (to + k) cells) n ∙ take-append-drop (to + count) cells)
-
-pub back_all : (cells : List ℕ) (to left : ℕ) (words : List ℕ) → left ≡ 0
-    → back cells to words left ≡ put_over cells to words
-back_all cells to left words none =
-    let e : to + 0 ≡ to = omega arith in
-    ap (λ k. take (to + k) cells ++ (drop k words ++ drop (to + length words) cells)) none
-    ∙ ap (λ k. take k cells ++ (words ++ drop (to + length words) cells)) e
-    ∙ sym (append_assoc (take to cells) words (drop (to + length words) cells))
+-- what is filled is copied behind itself
+pub filled_more : (cells now : List ℕ) (word filled more : ℕ) → now ≡ replicate filled word ++ drop filled cells
+    → more ≤ filled
+    → take filled now ++ (take more (take filled now) ++ drop more (drop filled now))
+    ≡ replicate (filled + more) word ++ drop (filled + more) cells
+filled_more cells now word filled more is low =
+    let rest = drop filled cells in
+    let words : List ℕ = replicate filled word in
+    let none : replicate filled word ++ [] ≡ replicate filled word = append-nil words in
+    let front : take filled now ≡ words = ap (take filled) is ∙ front_of filled filled word rest (omega arith) in
+    let part : take more words ≡ replicate more word =
+    ap (take more) (sym none) ∙ front_of filled more word [] low in
+    let back : drop more (drop filled now) ≡ drop (filled + more) cells =
+    ap (λ xs. drop more (drop filled xs)) is ∙ ap (drop more) (behind filled word rest) ∙ drop-drop more filled cells in
+    ap (λ xs. xs ++ (take more xs ++ drop more (drop filled now))) front
+    ∙ ap (λ xs. words ++ (xs ++ drop more (drop filled now))) part
+    ∙ ap (λ xs. words ++ (replicate more word ++ xs)) back
+    ∙ sym (append_assoc words (replicate more word) (drop (filled + more) cells))
+    ∙ ap (λ xs. xs ++ drop (filled + more) cells) (replicate-append-replicate filled more word)
 
 -- a part of a part
 part_of_part : (cells : List ℕ) (start len index count : ℕ) → index + count ≤ len
@@ -341,12 +210,10 @@ pub same_within : (heap : Heap ℕ) (number : ℕ) (there object : Object ℕ) (
 same_within heap number there object end e f within =
     let n = ap (λ (o : Object ℕ). length o.cells) (same_Some there object (sym e ∙ f)) in omega (arith, n, within)
 
--- as many low bytes as components
-pub low_count : (object : Object ℕ) (index count : ℕ) → index + count ≤ length object.cells
-    → length (low_bytes object index count) ≡ count
-low_count object index count within =
-    length-map (slice_range object.cells index (index + count)) low_byte
-    ∙ range_length object.cells index count within
+-- as many words as components
+pub part_count : (object : Object ℕ) (index count : ℕ) → index + count ≤ length object.cells
+    → length (part_in object index count) ≡ count
+part_count object index count within = range_length object.cells index count within
 
 -- ---- all components of an object, or none where it isn't there
 

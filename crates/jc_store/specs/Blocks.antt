@@ -1,5 +1,5 @@
 -- Many components of an object at once.
-use Rattle.std.specs.Prelude.{◌≡◌, ℕ, ◌+◌, ◌%◌, ◌≤◌, List, [], ◌++◌, length, map, take, drop, slice_range, Some}
+use Rattle.std.specs.Prelude.{◌≡◌, ℕ, ◌+◌, ◌≤◌, List, [], ◌++◌, length, take, drop, slice_range, Some}
 use Rattle.std.specs.Option.{option_map_or}
 use Rattle.jc_store.specs.Heap.{Heap, Object, object_at}
 use Rattle.jc_store.specs.Store.{Store}
@@ -23,10 +23,6 @@ abbrev pub with_cells : Object ℕ → ℕ → List ℕ → Object ℕ
 with_cells object index words =
     record { kind = object.kind; owner = object.owner; cells = put_over object.cells index words }
 
--- the low byte of a word
-abbrev pub low_byte : ℕ → ℕ
-low_byte word = word % 256
-
--- the low bytes of so many of its components from an index on
-abbrev pub low_bytes : Object ℕ → ℕ → ℕ → List ℕ
-low_bytes object index count = map low_byte (slice_range object.cells index (index + count))
+-- so many of its components from an index on
+abbrev pub part_in : Object ℕ → ℕ → ℕ → List ℕ
+part_in object index count = slice_range object.cells index (index + count)

@@ -1,9 +1,12 @@
 //! Many cells at once.
 
-ghost use Rattle.std.specs.Prelude.{◌≡◌, ◌+◌, ◌≤◌, ◌⊎◌, length, map, replicate, slice_range};
-ghost use Rattle.jc_store.specs.Blocks.{low_byte, put_over};
+ghost use Rattle.std.specs.Prelude.{◌≡◌, ◌+◌, ◌≤◌, length, replicate, slice_range};
+ghost use Rattle.jc_store.specs.Blocks.{put_over};
 
 use crate::header::Head;
+
+// How many words are written one by one before what is written is copied.
+const BLOCK: usize = 64;
 
 /// The components of an object.
 #[inline]
@@ -15,6 +18,22 @@ pub(crate) fn part_of(cells: &[u16], head: Head) -> &[u16]
     &cells[start..start + usize::from(head.len)]
 }
 
+// Puts a word into each cell. What is written is copied behind it, twice as many cells each time: the C library copies
+// more at a time than one word takes.
+#[inline]
+fn fill_by_copies(cells: &mut [u16], word: u16)
+    ensures { cells.new ≡ replicate (length cells.old) word }
+{
+    let mut filled = cells.len().min(BLOCK);
+    cells[..filled].fill(word);
+    while filled < cells.len() {
+        let more = filled.min(cells.len() - filled);
+        let (front, back) = cells.split_at_mut(filled);
+        back[..more].copy_from_slice(&front[..more]);
+        filled += more;
+    }
+}
+
 /// Puts a word into so many components of an object, from an index on.
 #[inline]
 pub(crate) fn fill_part(cells: &mut [u16], head: Head, index: usize, count: usize, word: u16)
@@ -23,11 +42,11 @@ pub(crate) fn fill_part(cells: &mut [u16], head: Head, index: usize, count: usiz
 {
     let start = usize::from(head.start) + index;
     let part = &mut cells[start..start + count];
-    // a constant is written in larger blocks
+    // the C library fills with 0
     if word == 0 {
         part.fill(0);
     } else {
-        part.fill(word);
+        fill_by_copies(part, word);
     }
 }
 
@@ -52,36 +71,29 @@ pub(crate) fn put_part(cells: &mut [u16], head: Head, index: usize, bytes: &[u8]
     put_each(&mut cells[start..start + bytes.len()], bytes);
 }
 
-// Copies the low bytes of so many cells to where another one is, from the front. So what is read is written later, if
-// at all.
+// Copies so many cells to others that lie behind them.
 #[inline]
-fn copy_from_front(cells: &mut [u16], from: usize, to: usize, count: usize)
-    requires from_within { from + count ≤ length cells.old }
+fn copy_behind(cells: &mut [u16], from: usize, to: usize, count: usize)
     requires to_within { to + count ≤ length cells.old }
-    requires apart { (to ≤ from) ⊎ (from + count ≤ to) }
-    ensures { cells.new ≡ put_over cells.old to (map low_byte (slice_range cells.old from (from + count))) }
+    requires apart { from + count ≤ to }
+    ensures { cells.new ≡ put_over cells.old to (slice_range cells.old from (from + count)) }
 {
-    for at in 0..count {
-        cells[to + at] = cells[from + at] % 256;
-    }
+    let (front, back) = cells.split_at_mut(to);
+    back[..count].copy_from_slice(&front[from..from + count]);
 }
 
-// The same from the back.
+// Copies so many cells to others that lie in front of them.
 #[inline]
-fn copy_from_back(cells: &mut [u16], from: usize, to: usize, count: usize)
+fn copy_before(cells: &mut [u16], from: usize, to: usize, count: usize)
     requires from_within { from + count ≤ length cells.old }
-    requires to_within { to + count ≤ length cells.old }
-    requires behind { from ≤ to }
-    ensures { cells.new ≡ put_over cells.old to (map low_byte (slice_range cells.old from (from + count))) }
+    requires apart { to + count ≤ from }
+    ensures { cells.new ≡ put_over cells.old to (slice_range cells.old from (from + count)) }
 {
-    for done in 0..count {
-        let at = count - done - 1;
-        cells[to + at] = cells[from + at] % 256;
-    }
+    let (front, back) = cells.split_at_mut(from);
+    front[to..to + count].copy_from_slice(&back[..count]);
 }
 
-/// Copies the low bytes of so many components of an object to those of an object, from indexes on, as through a copy of
-/// them.
+/// Copies so many components of an object to those of an object, from indexes on, as through a copy of them.
 #[inline]
 pub(crate) fn copy_part(
     cells: &mut [u16],
@@ -94,13 +106,15 @@ pub(crate) fn copy_part(
     requires source_within { source.start + source_index + count ≤ length cells.old }
     requires target_within { target.start + target_index + count ≤ length cells.old }
     ensures { cells.new ≡ put_over cells.old (target.start + target_index)
-        (map low_byte (slice_range cells.old (source.start + source_index) (source.start + source_index + count))) }
+        (slice_range cells.old (source.start + source_index) (source.start + source_index + count)) }
 {
     let from = usize::from(source.start) + source_index;
     let to = usize::from(target.start) + target_index;
-    if to <= from || from + count <= to {
-        copy_from_front(cells, from, to, count);
+    if from + count <= to {
+        copy_behind(cells, from, to, count);
+    } else if to + count <= from {
+        copy_before(cells, from, to, count);
     } else {
-        copy_from_back(cells, from, to, count);
+        cells.copy_within(from..from + count, to);
     }
 }

@@ -1,7 +1,7 @@
 //! The store: the objects on a card.
 
 ghost use Rattle.std.specs.Prelude.{◌≡◌, ◌<◌, ℕ, true, false, [], Some, length, replicate, slice_get, IfOk, IfSome, IfNone};
-ghost use Rattle.jc_store.specs.Blocks.{HasCells, components_of, low_bytes, with_cells};
+ghost use Rattle.jc_store.specs.Blocks.{HasCells, components_of, part_in, with_cells};
 ghost use Rattle.jc_store.specs.Heap.{Object, cells_in, cleared, next_number, object_at, with_cell, with_object};
 ghost use Rattle.jc_store.specs.Store.{HasCell, IsFull, IsOwn, IsReference, IsThere, class_number_at, fresh, with_made, with_objects};
 ghost use Rattle.jc_store.specs.PrivateLaid.{HasRoom};
@@ -221,10 +221,9 @@ impl Store {
         put_part(&mut self.cells, head, index, bytes);
     }
 
-    /// Copies the low bytes of so many components of an object to those of an object, from indexes on, as through a
-    /// copy of them.
+    /// Copies so many components of an object to those of an object, from indexes on, as through a copy of them.
     #[inline]
-    pub fn copy_bytes(
+    pub fn copy(
         &mut self,
         source: u16,
         source_index: usize,
@@ -237,7 +236,7 @@ impl Store {
         ensures { (from to : Object ℕ) → object_at self.old.objects source ≡ Some from
             → object_at self.old.objects target ≡ Some to
             → self.new ≡ with_objects self.old (with_object self.old.objects target
-            (with_cells to target_index (low_bytes from source_index count))) }
+            (with_cells to target_index (part_in from source_index count))) }
     {
         let from = head_at(&self.heads, source);
         let to = head_at(&self.heads, target);

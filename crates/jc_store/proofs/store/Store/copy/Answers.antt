@@ -1,7 +1,7 @@
-use Rattle.std.proofs.Common.{ℕ, ◌+◌, List, length, map, slice_range, ap, ◌∙◌, arith}
-use Rattle.jc_store.specs.Blocks.{low_byte, low_bytes, put_over}
-use Rattle.jc_store.proofs.Blocks.{block_at, block_within, kept_back, low_count, put_back, same_within}
-use Rattle.jc_store.proofs.store.Store.copy_bytes.Goals as goal
+use Rattle.std.proofs.Common.{ℕ, ◌+◌, List, length, slice_range, ap, ◌∙◌, arith}
+use Rattle.jc_store.specs.Blocks.{part_in, put_over}
+use Rattle.jc_store.proofs.Blocks.{block_at, block_within, kept_back, part_count, put_back, same_within}
+use Rattle.jc_store.proofs.store.Store.copy.Goals as goal
 
 pub copy_part-requires-clause-source_within : goal.copy_part-requires-clause-source_within
 copy_part-requires-clause-source_within c =
@@ -27,14 +27,14 @@ invariant_of-self c =
     let from = c.head_at-from.result in let to = c.head_at-to.result in
     kept_back c.self.invariant c.self.view_is c.args.target c.args.target_index c.args.count target.object
     c.deref-2.result.now to target.is target.within c.deref-2.ensures.value c.head_at-to.ensures c.copy_part.new.cells
-    (low_bytes source.object c.args.source_index c.args.count)
-    (low_count source.object c.args.source_index c.args.count source.within)
+    (part_in source.object c.args.source_index c.args.count)
+    (part_count source.object c.args.source_index c.args.count source.within)
     (c.copy_part.ensures
     ∙ ap (λ (xs : List ℕ). put_over xs (to.start + c.args.target_index)
-    (map low_byte (slice_range xs (from.start + c.args.source_index)
-    (from.start + c.args.source_index + c.args.count))))
+    (slice_range xs (from.start + c.args.source_index)
+    (from.start + c.args.source_index + c.args.count)))
     c.deref_mut.ensures.value
-    ∙ ap (λ (xs : List ℕ). put_over c.self.inside.cells.items (to.start + c.args.target_index) (map low_byte xs))
+    ∙ ap (λ (xs : List ℕ). put_over c.self.inside.cells.items (to.start + c.args.target_index) xs)
     (block_at c.self.invariant c.self.view_is c.args.source c.args.source_index c.args.count
     source.object c.deref.result.now from source.is source.within c.deref.ensures.value c.head_at-from.ensures))
 
@@ -48,13 +48,13 @@ returns c source_object target_object source_at target_at =
     (c.args.target_index + c.args.count) target.is target_at target.within in
     put_back c.self.invariant c.self.view_is c.args.target c.args.target_index c.args.count target_object
     c.deref-2.result.now to target_at target_fits c.deref-2.ensures.value c.head_at-to.ensures c.copy_part.new.cells
-    (low_bytes source_object c.args.source_index c.args.count)
-    (low_count source_object c.args.source_index c.args.count source_fits)
+    (part_in source_object c.args.source_index c.args.count)
+    (part_count source_object c.args.source_index c.args.count source_fits)
     (c.copy_part.ensures
     ∙ ap (λ (xs : List ℕ). put_over xs (to.start + c.args.target_index)
-    (map low_byte (slice_range xs (from.start + c.args.source_index)
-    (from.start + c.args.source_index + c.args.count))))
+    (slice_range xs (from.start + c.args.source_index)
+    (from.start + c.args.source_index + c.args.count)))
     c.deref_mut.ensures.value
-    ∙ ap (λ (xs : List ℕ). put_over c.self.inside.cells.items (to.start + c.args.target_index) (map low_byte xs))
+    ∙ ap (λ (xs : List ℕ). put_over c.self.inside.cells.items (to.start + c.args.target_index) xs)
     (block_at c.self.invariant c.self.view_is c.args.source c.args.source_index c.args.count source_object
     c.deref.result.now from source_at source_fits c.deref.ensures.value c.head_at-from.ensures))

@@ -1,5 +1,6 @@
 -- Private. Objects laid one behind the other over one array of cells, and two rows for each of them.
-use Rattle.std.specs.Prelude.{◌≡◌, ℕ, zero, suc, ◌+◌, ◌-◌, ◌<◌, ◌≤◌, ◌^◌, List, Option, None, Some, if◌then◌else◌, [], ◌∷◌, ◌++◌, length, map, take, drop, replicate, slice_range}
+use Rattle.std.specs.Prelude.{◌≡◌, ℕ, zero, suc, ◌+◌, ◌-◌, ◌<◌, ◌≤◌, ◌^◌, List, Option, None, Some, if◌then◌else◌}
+use Rattle.std.specs.Prelude.{[], ◌∷◌, ◌++◌, length, map, take, drop, replicate, slice_range}
 use Rattle.jc_store.specs.Heap.{Heap, Object, blanked, cells_in, is_cleared_by}
 use Rattle.jc_store.specs.Store.{Store}
 use Rattle.jc_store.specs.declared.header.Head.{Head}
@@ -91,8 +92,8 @@ pub record Sizes : Type 0 where
   pub most_objects : ℕ
   pub most_cells : ℕ
 
--- the objects lie within the cells, with one cell left for each of them, and the cells behind them are 0; room for exactly
--- the most headers is reserved
+-- the objects lie within the cells, with one cell left for each of them, and the cells behind them are 0; room for
+-- exactly the most headers is reserved
 pub record IsLaid (headers : List Header) (cells : List ℕ) (s : Sizes) : Type 0 where
   pub laid : AreLaid 0 headers s.used
   pub header_count : s.headers ≡ length headers
@@ -136,10 +137,12 @@ if_cleared event context object = if is_cleared_by event context object then bla
 abbrev pub first_cleared : ClearingEvent → Option ℕ → ℕ → Heap ℕ → Heap ℕ
 first_cleared event context zero heap = heap
 first_cleared event context (suc n) [] = []
-first_cleared event context (suc n) (object ∷ heap) = if_cleared event context object ∷ first_cleared event context n heap
+first_cleared event context (suc n) (object ∷ heap) =
+    if_cleared event context object ∷ first_cleared event context n heap
 
 -- the objects of the first headers were cleared, and nothing was changed behind the last
-pub record AreCleared (headers : List Header) (event : ClearingEvent) (context : Option ℕ) (n : ℕ) (before after : List ℕ) : Type 0 where
+pub record AreCleared (headers : List Header) (event : ClearingEvent) (context : Option ℕ) (n : ℕ)
+    (before after : List ℕ) : Type 0 where
   pub objects : objects_in after headers ≡ first_cleared event context n (objects_in before headers)
   pub len : length after ≡ length before
   pub behind : (end : ℕ) → AreLaid 0 headers end → drop end after ≡ drop end before

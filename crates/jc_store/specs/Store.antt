@@ -1,5 +1,6 @@
 -- What a store is: the heap in words, and how much was reserved for it.
-use Rattle.std.specs.Prelude.{◌≡◌, ◌⊎◌, ℕ, zero, suc, ◌+◌, ◌<◌, ◌≤◌, List, [], ◌∷◌, ◌++◌, length, replicate, slice_get, Option, None, Some}
+use Rattle.std.specs.Prelude.{◌≡◌, ◌⊎◌, ℕ, zero, suc, ◌+◌, ◌<◌, ◌≤◌, List, [], ◌∷◌, ◌++◌, length, replicate}
+use Rattle.std.specs.Prelude.{slice_get, Option, None, Some}
 use Rattle.jc_store.specs.Heap.{Heap, Object, cells_in, object_at, with_new}
 use Rattle.jc_store.specs.declared.kind.ClearingEvent.TheVariants.{Deselect}
 use Rattle.jc_store.specs.declared.kind.Kind.{Kind}

@@ -2,7 +2,8 @@
 
 ghost use Rattle.std.specs.Prelude.{◌≡◌, ◌+◌, ◌≤◌, ℕ, List, Some, length, drop, slice_get};
 ghost use Rattle.jc_store.specs.Heap.{cleared, is_cleared_by, is_same_event};
-ghost use Rattle.jc_store.specs.PrivateLaid.{AreCleared, AreLaid, AreRows, AreWithin, Header, header_in, headers_of, object_in, objects_in, zeroed};
+ghost use Rattle.jc_store.specs.PrivateLaid.{AreCleared, AreLaid, AreRows, AreWithin, Header, header_in, headers_of};
+ghost use Rattle.jc_store.specs.PrivateLaid.{object_in, objects_in, zeroed};
 ghost use Rattle.jc_store.specs.declared.header.Head.{Head as HeadOf};
 
 use crate::header::{Head, Rest};

@@ -17,8 +17,8 @@ pub enum ObjectType {
     ReferenceArray(ClassName),
 }
 
-/// How an object is marked for the firewall (Java Card Runtime Environment Specification, Applet Isolation and Object Sharing: JCRE
-/// entry point objects, global arrays).
+/// How an object is marked for the firewall (Java Card Runtime Environment Specification, Applet Isolation and Object
+/// Sharing: JCRE entry point objects, global arrays).
 #[derive(Clone, Copy, Debug, PartialEq, Eq)]
 pub enum Mark {
     /// An object like any other.

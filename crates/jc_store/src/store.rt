@@ -1,9 +1,11 @@
 //! The store: the objects on a card.
 
-ghost use Rattle.std.specs.Prelude.{◌≡◌, ◌<◌, ℕ, true, false, [], Some, length, replicate, slice_get, IfOk, IfSome, IfNone};
+ghost use Rattle.std.specs.Prelude.{◌≡◌, ◌<◌, ℕ, true, false, [], Some, length, replicate, slice_get};
+ghost use Rattle.std.specs.Prelude.{IfOk, IfSome, IfNone};
 ghost use Rattle.jc_store.specs.Blocks.{HasCells, components_of, part_in, with_cells};
 ghost use Rattle.jc_store.specs.Heap.{Object, cells_in, cleared, next_number, object_at, with_cell, with_object};
-ghost use Rattle.jc_store.specs.Store.{HasCell, IsFull, IsOwn, IsReference, IsThere, class_number_at, fresh, with_made, with_objects};
+ghost use Rattle.jc_store.specs.Store.{HasCell, IsFull, IsOwn, IsReference, IsThere, class_number_at, fresh};
+ghost use Rattle.jc_store.specs.Store.{with_made, with_objects};
 ghost use Rattle.jc_store.specs.PrivateLaid.{HasRoom};
 
 use crate::block::{copy_part, fill_part, part_of, put_part};
@@ -14,8 +16,8 @@ use jc_names::Owner;
 use std::alloc::{AllocError, Global};
 use std::marker::Model;
 
-/// The objects on a card, by numbers from 1 on. All the room that they may ever take is reserved when the store is made; no other
-/// call takes memory.
+/// The objects on a card, by numbers from 1 on. All the room that they may ever take is reserved when the store is
+/// made; no other call takes memory.
 #[derive(Drop)]
 pub struct Store {
     heads: Vec<Head>,
@@ -53,8 +55,8 @@ impl Model for Store {
 }
 
 impl Store {
-    /// A store without an object, with room for so many objects, and for so many cells: an object takes one, and one for each of its
-    /// components.
+    /// A store without an object, with room for so many objects, and for so many cells: an object takes one, and one
+    /// for each of its components.
     pub fn new(alloc: Global, objects: u16, cells: u16) -> Result<Store, AllocError>
         ensures { IfOk result (λ s.
             s ≡ record { objects = []; classes = []; most_objects = objects; most_cells = cells }) }
@@ -171,7 +173,8 @@ impl Store {
     #[inline]
     pub fn get(&self, number: u16, index: u16) -> u16
         requires there { HasCell self.now number index }
-        ensures { (object : Object ℕ) → object_at self.now.objects number ≡ Some object → slice_get object.cells index ≡ Some result }
+        ensures { (object : Object ℕ) → object_at self.now.objects number ≡ Some object
+            → slice_get object.cells index ≡ Some result }
     {
         let head = head_at(&self.heads, number);
         cell_at(&self.cells, head, index)

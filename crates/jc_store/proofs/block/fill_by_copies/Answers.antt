@@ -11,14 +11,15 @@ loop-filled-preserved c =
     let least = c.min-more.ensures in
     let within = (c.loop-filled.invariant).1 in
     let len = c.loop-filled.auto.cells in
-    let some = (c.loop-filled.invariant).2 in (
-      ap (λ (xs : List ℕ). xs ++ (c.copy_from_slice.new.self ++ drop more c.split_at_mut-front.result.1.now)) split.front
-          ∙ ap (λ (xs : List ℕ). take c.loop-filled.filled now ++ (xs ++ drop more c.split_at_mut-front.result.1.now))
+    let some = (c.loop-filled.invariant).2 in
+    let filled = c.loop-filled.filled in
+    let before = take filled now in
+    let rest = c.split_at_mut-front.result.1.now in (
+      ap (λ (xs : List ℕ). xs ++ (c.copy_from_slice.new.self ++ drop more rest)) split.front
+          ∙ ap (λ (xs : List ℕ). before ++ (xs ++ drop more rest))
           (c.copy_from_slice.ensures.after ∙ ap (take more) split.front)
-          ∙ ap (λ (xs : List ℕ). take c.loop-filled.filled now ++ (take more (take c.loop-filled.filled now) ++ drop more xs))
-          split.back
-          ∙ filled_more c.args.cells.now now c.args.word c.loop-filled.filled more (c.loop-filled.invariant).0
-          (omega (arith, least)),
+          ∙ ap (λ (xs : List ℕ). before ++ (take more before ++ drop more xs)) split.back
+          ∙ filled_more c.args.cells.now now c.args.word filled more (c.loop-filled.invariant).0 (omega (arith, least)),
       omega (arith, least, within, len),
       λ any. let first = some any in omega (arith, first),
     )

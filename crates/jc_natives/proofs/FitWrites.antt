@@ -1,9 +1,12 @@
 -- What native members write fits: bytes, reasons and AIDs, in arrays and in the cells of objects.
 use Rattle.std.specs.Prelude.{⊤}
 use Rattle.std.proofs.Common.{◌≡◌, ℕ, zero, suc, ◌+◌, ◌<◌, ◌≤◌, ◌||◌, Bool, true, false, cond, List, [], ◌∷◌, length}
-use Rattle.std.proofs.Common.{replicate, nat_lt, unwrap_or, Some, None, refl, sym, ap, subst, ◌∙◌, arith}
+use Rattle.std.proofs.Common.{get_or, map, replicate, nat_lt, unwrap_or, Option, Some, None, refl, sym, ap, subst, ◌∙◌}
+use Rattle.std.proofs.Common.{arith}
 use Rattle.std.proofs.lemmas.Bool.{lt-ltb, ltb-true}
 use Rattle.std.proofs.lemmas.Option.{same_Some}
+use Rattle.std.specs.List.{AllByRecursion}
+use Rattle.std.specs.Option.{option_map, option_map_or}
 use Rattle.jc_api.specs.declared.class.ApiClass.{ApiClass}
 use Rattle.jc_api.specs.declared.class.ApiClass.TheVariants as api
 use Rattle.jc_base.specs.Signature.{Signature}
@@ -11,27 +14,29 @@ use Rattle.jc_classes.specs.Subtype.{comes_to_end, is_at_or_above, is_class_belo
 use Rattle.jc_classes.specs.Walk.{most_classes}
 use Rattle.jc_link.specs.ApiClasses.{StandsThere, cells_within}
 use Rattle.jc_link.specs.Linked.{World}
-use Rattle.jc_machine.specs.Lookup.{is_of_class, is_throwable}
+use Rattle.jc_machine.specs.Lookup.{is_byte, is_of_class, is_throwable}
 use Rattle.jc_machine.specs.Machine.{NativeCall}
 use Rattle.jc_machine.specs.Natives.{IsFitCall, IsThrown}
 use Rattle.jc_machine.specs.Runtime.{HasRuntimeObject, RuntimeObject}
+use Rattle.jc_machine.specs.Typed.{CellsTyped, HeapTyped}
 use Rattle.jc_cap_desc.specs.Shape.{Shape}
 use Rattle.jc_names.specs.Names.{is_same_name}
 use Rattle.jc_names.specs.declared.name.ClassName.{ClassName}
 use Rattle.jc_names.specs.declared.name.ClassName.TheVariants.{Api}
-use Rattle.jc_natives.proofs.Bare.{both}
+use Rattle.jc_natives.proofs.Bare.{bare_object, both}
 use Rattle.jc_natives.proofs.Facts.{LeadsToBytes, LeadsToClass, own_aid, own_object}
-use Rattle.jc_natives.proofs.Keeping.{FitsWords, FitsWrite, IsBlankAt, both_are}
+use Rattle.jc_natives.proofs.Keeping.{FitsWords, FitsWrite, IsBlankAt, both_are, object_typed}
 use Rattle.jc_natives.proofs.Tables.{above_in, above_is, aid_cells, below_is, below_reason, blank_at, reason_cells}
 use Rattle.jc_natives.specs.Cells as cells
-use Rattle.jc_natives.specs.Cells.{Write, bit, byte_of, bytes_of, cell_of, extended, low, order_of, word_of_bytes}
+use Rattle.jc_natives.specs.Cells.{Write, bare, bared, bit, bits, byte_of, bytes_of, cell_of, extended, low, order_of}
+use Rattle.jc_natives.specs.Cells.{word_of_bytes, words_of}
 use Rattle.jc_natives.specs.Kept.{Kept, are_bytes, is_instance_number}
 use Rattle.jc_natives.specs.Meaning.{meaning}
-use Rattle.jc_store.specs.Heap.{Heap, Object}
+use Rattle.jc_store.specs.Heap.{Heap, Object, object_at}
 use Rattle.jc_store.specs.declared.kind.ObjectType.{ObjectType}
 use Rattle.jc_store.specs.declared.kind.ObjectType.TheVariants.{BooleanArray, ByteArray, Instance as OfClass}
 use Rattle.jc_store.specs.declared.kind.ObjectType.TheVariants.{ReferenceArray, ShortArray}
-use Rattle.jc_words.specs.Values.{TaggedValue}
+use Rattle.jc_words.specs.Values.{Null, Ref, TaggedValue, Unset, Word}
 
 -- ---- numbers
 
@@ -73,6 +78,42 @@ pub bytes_fit : (world : List Shape) (from : ℕ) (objects : Heap ℕ) (number a
 bytes_fit world from objects number at zero = tt
 bytes_fit world from objects number at (suc count) =
     (low_is (cell_of objects number at), bytes_fit world (from + 1) objects number (at + 1) count)
+
+-- a component of an array of bytes is a byte; one that isn't there is 0
+byte_bits : (v : TaggedValue) → is_byte v ≡ true → bits v < 256
+byte_bits (Word n) e = ltb-true n 256 e
+byte_bits (Ref n) e = absurd cc
+byte_bits Null e = absurd cc
+byte_bits Unset e = absurd cc
+
+byte_at : (cells : List TaggedValue) (at : ℕ) → AllByRecursion (λ v. is_byte v ≡ true) cells
+    → get_or (map bits cells) at 0 < 256
+byte_at [] at typed = omega arith
+byte_at (v ∷ cells) zero typed = byte_bits v typed.0
+byte_at (v ∷ cells) (suc at) typed = byte_at cells at typed.1
+
+component_is : (world : List Shape) (heap : Heap TaggedValue) (number at : ℕ) → HeapTyped world heap
+    → LeadsToBytes heap number → cell_of (bared heap) number at < 256
+component_is world heap number at typed leads =
+    subst (λ o. option_map_or (λ (object : Object ℕ). get_or object.cells at 0) o 0 < 256)
+    (sym (bare_object heap number)) (by_object (object_at heap number) refl)
+  where
+    by_object : (o : Option (Object TaggedValue)) → object_at heap number ≡ o
+        → option_map_or (λ (object : Object ℕ). get_or object.cells at 0) (option_map bare o) 0 < 256
+    by_object None e = omega arith
+    by_object (Some o) e =
+        byte_at o.cells at (subst (CellsTyped world heap o.cells) (leads o e)
+        (object_typed world heap number o e typed).cells)
+
+-- so what an array of bytes holds fits another
+pub copied_fit : (world : List Shape) (from : ℕ) (heap : Heap TaggedValue) (number at count : ℕ)
+    → HeapTyped world heap → LeadsToBytes heap number
+    → FitsWords world ByteArray from (words_of (bared heap) number at count)
+copied_fit world from heap number at zero typed leads = tt
+copied_fit world from heap number at (suc count) typed leads = (
+  component_is world heap number at typed leads,
+  copied_fit world (from + 1) heap number (at + 1) count typed leads,
+)
 
 pub same_bytes_fit : (world : List Shape) (from n b : ℕ) → b < 256 → FitsWords world ByteArray from (replicate n b)
 same_bytes_fit world from zero b h = tt

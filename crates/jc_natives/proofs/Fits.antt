@@ -29,8 +29,8 @@ use Rattle.jc_natives.proofs.FitKept.{registers_fit, system_throw, throw_fits}
 use Rattle.jc_natives.proofs.FitWork.{Answers, AsksWell, Fits, buffer_ends, either_fits, ended_fits, gives_as}
 use Rattle.jc_natives.proofs.FitWork.{null_ends, tested_thrown, void_ends, word_ends}
 use Rattle.jc_natives.proofs.FitWrites.{Known, aid_written, apdu_reason, bit_is, buffer_leads, bytes_are, bytes_fit}
-use Rattle.jc_natives.proofs.FitWrites.{extended_is, iso_reason, listed_bytes_fit, low_is, order_is, runtime_reason}
-use Rattle.jc_natives.proofs.FitWrites.{same_bytes_fit, system_reason, to_bytes, two_are, word_is}
+use Rattle.jc_natives.proofs.FitWrites.{copied_fit, extended_is, iso_reason, listed_bytes_fit, low_is, order_is}
+use Rattle.jc_natives.proofs.FitWrites.{runtime_reason, same_bytes_fit, system_reason, to_bytes, two_are, word_is}
 use Rattle.jc_natives.proofs.Keeping.{FitsWrite, both_are}
 use Rattle.jc_natives.proofs.Ranges.{length_of_bytes}
 use Rattle.jc_natives.proofs.Simulation.{passed_some}
@@ -41,6 +41,7 @@ use Rattle.jc_natives.specs.Apdus.{apdu_work, is_fresh, is_in_buffer, is_incomin
 use Rattle.jc_natives.specs.Applets.{applet_work}
 use Rattle.jc_natives.specs.Cells as cells
 use Rattle.jc_natives.specs.Cells.{aid_bytes, aid_count, argument, bared, bytes_of, cell_of, extended, high, low}
+use Rattle.jc_natives.specs.Cells.{words_of}
 use Rattle.jc_natives.specs.Kept.{Kept, are_bytes, expected_of, has_aid_length, instance_with, is_aid}
 use Rattle.jc_natives.specs.Kept.{is_instance_number, is_same_owner}
 use Rattle.jc_natives.specs.Meaning.{begun, fits_instance, has_applet, reference, work_of}
@@ -349,9 +350,10 @@ module _ (known : Known) where
       utility_fits : (native : UtilityNative) → Suits (OfUtility native) m → Fits known (utility_work s k args native)
       utility_fits utilities.ArrayCopy g = (
         to_bytes known (argument args 2) (argument args 3)
-            (bytes_of o (argument args 0) (argument args 1) (argument args 4))
-            (static_bytes w.shapes call.heap m call.arguments typed g.1 2 g.2)
-            (bytes_fit w.shapes (argument args 3) o (argument args 0) (argument args 1) (argument args 4)),
+            (words_of o (argument args 0) (argument args 1) (argument args 4))
+            (static_bytes w.shapes call.heap m call.arguments typed g.1 2 g.3)
+            (copied_fit w.shapes (argument args 3) call.heap (argument args 0) (argument args 1) (argument args 4)
+            fit.heap (static_bytes w.shapes call.heap m call.arguments typed g.1 0 g.2)),
         (fit.fits, word_ends known m.signature.result is _ (word_is (argument args 3 + argument args 4)) g.0),
       )
       utility_fits utilities.ArrayFill g = (

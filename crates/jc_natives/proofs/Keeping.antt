@@ -187,7 +187,7 @@ module _ (world : List Shape) (heap : Heap TaggedValue) where
   heap_set zero o p e typed all = all
   heap_set (suc n) o p e typed all = all_set (ObjectTyped world heap) heap n p all typed
 
-  object_typed : (number : ℕ) (o : Object TaggedValue) → object_at heap number ≡ Some o → HeapTyped world heap
+  pub object_typed : (number : ℕ) (o : Object TaggedValue) → object_at heap number ≡ Some o → HeapTyped world heap
       → ObjectTyped world heap o
   object_typed zero o e all = absurd (none-some o e)
   object_typed (suc n) o e all = all_got (ObjectTyped world heap) heap n o all e

@@ -1,9 +1,10 @@
 -- What is the active context's own may be used in each way.
-use Rattle.std.proofs.Common.{◌≡◌, ℕ, Bool, true, false, ◌==◌, ◌&&◌, Option, Some, None, refl, ap, ◌∙◌, if◌then◌else◌}
+use Rattle.std.proofs.Common.{◌≡◌, ℕ, Bool, true, false, ◌==◌, ◌&&◌, Option, None, refl, ap, ◌∙◌, if◌then◌else◌}
 use Rattle.std.proofs.lemmas.Bool.{both_ways, eq-eqb}
 use Rattle.std.specs.Option.{option_map_or}
-use Rattle.jc_firewall.specs.Own.{IsOwnAccess, OwnIsAllowed}
-use Rattle.jc_firewall.specs.Verdict.{is_never_stored, row_of, runtime_context, stores_reference, verdict_for_runtime, verdict_in, verdict_of}
+use Rattle.jc_firewall.specs.Own.{OwnIsAllowed}
+use Rattle.jc_firewall.specs.Verdict.{is_never_stored, row_of, runtime_context, stores_reference}
+use Rattle.jc_firewall.specs.Verdict.{verdict_for_runtime, verdict_in, verdict_of}
 use Rattle.jc_firewall.specs.declared.access.Facts.{Facts}
 use Rattle.jc_firewall.specs.declared.access.Rule.TheVariants.{Storing}
 use Rattle.jc_firewall.specs.declared.access.Verdict.{Verdict}

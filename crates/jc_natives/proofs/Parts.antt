@@ -10,8 +10,8 @@ use Rattle.std.specs.Option.{option_map_or}
 use Rattle.std.specs.Slice.{IsGetRangeResult}
 use Rattle.jc_natives.proofs.Getting.{new_object}
 use Rattle.jc_natives.proofs.Putting.{cells_of_kind, put_some, same_heap, twice}
-use Rattle.jc_natives.specs.Cells.{byte_order, bytes_of, cell_of, low, order_of, put_all, size_of}
-use Rattle.jc_store.specs.Blocks.{components_of, with_cells}
+use Rattle.jc_natives.specs.Cells.{byte_order, bytes_of, cell_of, low, order_of, put_all, size_of, words_of}
+use Rattle.jc_store.specs.Blocks.{components_of, part_in, with_cells}
 use Rattle.jc_store.specs.Heap.{Heap, Object, object_at, with_cell, with_object}
 
 -- ---- read
@@ -33,26 +33,26 @@ dropped (x ∷ xs) (suc at) h =
     let next : suc (at + 1) ≡ suc at + 1 = omega arith in
     dropped xs at (omega (arith, h)) ∙ ap (λ k. get_or xs at 0 ∷ drop k (x ∷ xs)) next
 
--- bytes of an object are the low bytes of a part of its components
-low_part : (objects : Heap ℕ) (number from count : ℕ) → from + count ≤ length (components_of objects number)
-    → bytes_of objects number from count ≡ map low (take count (drop from (components_of objects number)))
-low_part objects number from zero h = refl
-low_part objects number from (suc count) h =
+-- so many components of an object are a part of all of them
+taken_words : (objects : Heap ℕ) (number from count : ℕ) → from + count ≤ length (components_of objects number)
+    → words_of objects number from count ≡ take count (drop from (components_of objects number))
+taken_words objects number from zero h = refl
+taken_words objects number from (suc count) h =
     let cells = components_of objects number in
-    ap (λ c. low c ∷ bytes_of objects number (from + 1) count) (cell_in objects number from)
-    ∙ ap (λ bytes. low (get_or cells from 0) ∷ bytes) (low_part objects number (from + 1) count (omega (arith, h)))
-    ∙ ap (λ xs. map low (take (suc count) xs)) (sym (dropped cells from (omega (arith, h))))
+    ap (λ c. c ∷ words_of objects number (from + 1) count) (cell_in objects number from)
+    ∙ ap (λ words. get_or cells from 0 ∷ words) (taken_words objects number (from + 1) count (omega (arith, h)))
+    ∙ ap (take (suc count)) (sym (dropped cells from (omega (arith, h))))
 
-pub part_bytes : (objects : Heap ℕ) (number from count end : ℕ) (cells words : List ℕ)
+part_words : (objects : Heap ℕ) (number from count end : ℕ) (cells words : List ℕ)
     → cells ≡ components_of objects number → end ≡ from + count → end ≤ length cells
-    → words ≡ slice_range cells from end → bytes_of objects number from count ≡ map low words
-part_bytes objects number from count end cells words are stop within is =
+    → words ≡ slice_range cells from end → words_of objects number from count ≡ words
+part_words objects number from count end cells words are stop within is =
     let size : end - from ≡ count = omega (arith, stop) in
     let n = ap (λ (xs : List ℕ). length xs) are in
-    low_part objects number from count (omega (arith, n, stop, within))
-    ∙ ap (λ xs. map low (take count (drop from xs))) (sym are)
-    ∙ ap (λ k. map low (take k (drop from cells))) (sym size)
-    ∙ ap (map low) (sym is)
+    taken_words objects number from count (omega (arith, n, stop, within))
+    ∙ ap (λ xs. take count (drop from xs)) (sym are)
+    ∙ ap (λ k. take k (drop from cells)) (sym size)
+    ∙ sym is
 
 -- a part that `get` gave, or none
 pub part_given : (objects : Heap ℕ) (number from count end : ℕ) (cells : List ℕ) (given : Option (Bor (List ℕ)))
@@ -60,7 +60,7 @@ pub part_given : (objects : Heap ℕ) (number from count end : ℕ) (cells : Lis
     → IfSome given (λ words. bytes_of objects number from count ≡ map low words.now)
 part_given objects number from count end cells None are stop h = tt
 part_given objects number from count end cells (Some words) are stop h =
-    let g = h.0 in part_bytes objects number from count end cells words.now are stop g.1 g.2
+    let g = h.0 in ap (map low) (part_words objects number from count end cells words.now are stop g.1 g.2)
 
 size_in : (objects : Heap ℕ) (number : ℕ) → size_of objects number ≡ length (components_of objects number)
 size_in objects number = by_object (object_at objects number)
@@ -188,12 +188,10 @@ put_part heap number from words object e h =
     sym (sets_in heap number from words object e
     ∙ ap (λ cells. with_object heap number (cells_of_kind object cells)) (sets-eq words object.cells from h))
 
--- the low bytes of a part
-pub low_bytes_of : (heap : Heap ℕ) (number from count : ℕ) (object : Object ℕ) → object_at heap number ≡ Some object
-    → from + count ≤ length object.cells
-    → map low (slice_range object.cells from (from + count)) ≡ bytes_of heap number from count
-low_bytes_of heap number from count object e h =
+-- a part, as it is
+pub words_in : (heap : Heap ℕ) (number from count : ℕ) (object : Object ℕ) → object_at heap number ≡ Some object
+    → from + count ≤ length object.cells → part_in object from count ≡ words_of heap number from count
+words_in heap number from count object e h =
     let are : object.cells ≡ components_of heap number =
     ap (λ o. option_map_or (λ (x : Object ℕ). x.cells) o []) (sym e) in
-    sym (part_bytes heap number from count (from + count) object.cells
-    (slice_range object.cells from (from + count)) are refl h refl)
+    sym (part_words heap number from count (from + count) object.cells (part_in object from count) are refl h refl)

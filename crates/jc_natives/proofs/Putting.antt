@@ -4,7 +4,7 @@ use Rattle.std.proofs.lemmas.List.{get_or-set_other, set-set, set_comm, set_past
 use Rattle.std.proofs.lemmas.Option.{same_Some}
 use Rattle.std.specs.Option.{option_map_or}
 use Rattle.jc_natives.proofs.Getting.{new_object, other_object}
-use Rattle.jc_natives.specs.Cells.{byte_of, bytes_of, cell_of, low, put, put_all, size_of}
+use Rattle.jc_natives.specs.Cells.{cell_of, put, put_all, size_of, words_of}
 use Rattle.jc_store.specs.Heap.{Heap, Object, object_at, with_cell, with_object}
 
 -- a heap with an object that was found, and one where there is none
@@ -96,15 +96,15 @@ cell_stays objects number index word other at apart = by_object (object_at objec
         ap (λ h. cell_of h other at) (put_some objects number index word o e)
         ∙ by_number o e other (same_or_not number other)
 
--- bytes behind an index that is written, and a component before
-pub bytes_stay : (objects : Heap ℕ) (number index word other from count : ℕ) → index < from
-    → bytes_of (put objects number index word) other from count ≡ bytes_of objects other from count
-bytes_stay objects number index word other from zero h = refl
-bytes_stay objects number index word other from (suc count) h =
-    ap (λ c. low c ∷ bytes_of (put objects number index word) other (from + 1) count)
+-- components behind an index that is written, and a component before
+pub words_stay : (objects : Heap ℕ) (number index word other from count : ℕ) → index < from
+    → words_of (put objects number index word) other from count ≡ words_of objects other from count
+words_stay objects number index word other from zero h = refl
+words_stay objects number index word other from (suc count) h =
+    ap (λ c. c ∷ words_of (put objects number index word) other (from + 1) count)
     (cell_stays objects number index word other from (apart h))
-    ∙ ap (λ bytes. byte_of objects other from ∷ bytes)
-    (bytes_stay objects number index word other (from + 1) count (omega (arith, h)))
+    ∙ ap (λ words. cell_of objects other from ∷ words)
+    (words_stay objects number index word other (from + 1) count (omega (arith, h)))
   where
     apart : index < from → index ≢ from
     apart h e = omega (arith, h, e)

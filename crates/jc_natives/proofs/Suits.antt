@@ -103,7 +103,8 @@ Suits (OfSystem system.MakeBooleans) m = Gives booleans m.signature.result
 Suits (OfSystem system.MakeBytes) m = Gives bytes m.signature.result
 Suits (OfSystem system.MakeShorts) m = Gives shorts m.signature.result
 Suits (OfSystem system.MakeReferences) m = Gives references m.signature.result
-Suits (OfUtility utilities.ArrayCopy) m = Gives word m.signature.result × (m.kind ≡ Static) × IsBytes m 2
+Suits (OfUtility utilities.ArrayCopy) m =
+    Gives word m.signature.result × (m.kind ≡ Static) × IsBytes m 0 × IsBytes m 2
 Suits (OfUtility utilities.ArrayFill) m = Gives word m.signature.result × (m.kind ≡ Static) × IsBytes m 0
 Suits (OfUtility utilities.ArrayCompare) m = Gives word m.signature.result
 Suits (OfUtility utilities.GetShort) m = Gives word m.signature.result
@@ -224,9 +225,9 @@ all_suit = (
                                                                                               (
                                                                                                 refl,
                                                                                                 (
-                                                                                                  (gives_short, refl, refl),
+                                                                                                  (gives_short, refl, refl, refl),
                                                                                                   (
-                                                                                                    (gives_short, refl, refl),
+                                                                                                    (gives_short, refl, refl, refl),
                                                                                                     (
                                                                                                       (gives_short, refl, refl),
                                                                                                       (

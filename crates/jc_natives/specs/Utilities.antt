@@ -1,18 +1,19 @@
 -- Arrays of bytes and shorts (Java Card API Specification, Util).
 use Rattle.std.specs.Prelude.{ℕ, ◌+◌, List, [], ◌∷◌, replicate}
 use Rattle.jc_natives.specs.Aids.{range_bytes}
-use Rattle.jc_natives.specs.Cells.{argument, byte_of, high, low, order_of, word, word_of_bytes}
+use Rattle.jc_natives.specs.Cells.{argument, byte_of, high, low, order_of, word, word_of_bytes, words_of}
 use Rattle.jc_natives.specs.Kept.{Kept}
 use Rattle.jc_natives.specs.Seen.{Seen}
 use Rattle.jc_natives.specs.Work.{GivesWord, Work, gives, writes_to}
 use Rattle.jc_natives.specs.declared.native.UtilityNative.{UtilityNative}
 use Rattle.jc_natives.specs.declared.native.UtilityNative.TheVariants.{ArrayCompare, ArrayCopy, ArrayFill, GetShort, MakeShort, SetShort}
 
--- a copy is as through a copy of the source; what is written ends behind the offset that is given
+-- A copy is as through a copy of the source. What the source holds is written as it is: arrays of bytes hold bytes, so
+-- these are bytes. What is written ends behind the offset that is given.
 abbrev pub utility_work : Seen → Kept → List ℕ → UtilityNative → Work
 utility_work s k arguments ArrayCopy =
     writes_to k (argument arguments 2) (argument arguments 3)
-    (range_bytes s (argument arguments 0) (argument arguments 1) (argument arguments 4))
+    (words_of s.objects (argument arguments 0) (argument arguments 1) (argument arguments 4))
     (GivesWord (word (argument arguments 3 + argument arguments 4)))
 utility_work s k arguments ArrayFill =
     writes_to k (argument arguments 0) (argument arguments 1)

@@ -2,14 +2,23 @@
 
 ghost use Rattle.std.specs.Prelude.{◌≡◌, ◌+◌, ◌++◌, ◌≤◌, [], ◌∷◌, bytes_eq, length, replicate};
 ghost use Rattle.arrayvec.specs.ArrayVec.{array_vec_len};
-ghost use Rattle.jc_natives.specs.Cells.{byte_of, bytes_of, high, low, order_of, put_all, word_of_bytes};
+ghost use Rattle.jc_natives.specs.Cells.{byte_of, bytes_of, cell_of, high, low, order_of, put_all, word_of_bytes};
+ghost use Rattle.jc_natives.specs.Cells.{words_of};
+ghost use Rattle.jc_natives.specs.PrivateTaken.{of_word, taken_of};
 ghost use Rattle.jc_store.specs.Store.{with_objects};
 
-use crate::cells::{byte, has_part, high, part, put, word_of};
+use crate::cells::{byte, cell, has_part, high, part, put, word_of};
 use crate::kept::MOST_SENT;
 use crate::words::{append_words, are_same_words, are_words, low, order_of_bytes, order_of_words};
 use arrayvec::ArrayVec;
 use jc_store::Store;
+
+// What is taken of each component that is copied.
+#[derive(Clone, Copy)]
+enum Taken {
+    Word,
+    LowByte,
+}
 
 /// Whether so many bytes of an object, from an index on, are these.
 pub(crate) fn are_bytes(store: &Store, number: u16, from: usize, count: u16, bytes: &[u8]) -> bool
@@ -196,6 +205,18 @@ pub(crate) fn fill_bytes(store: &mut Store, number: u16, from: u16, count: u16, 
     }
 }
 
+// What is taken of a component; 0 where there is none.
+#[inline(always)]
+fn taken_at(store: &Store, number: u16, index: usize, taken: Taken) -> u16
+    ensures { result ≡ of_word taken (cell_of store.now.objects number index) }
+{
+    let word = cell(store, number, index);
+    match taken {
+        Taken::Word => word,
+        Taken::LowByte => word % 256,
+    }
+}
+
 // Copies from the front.
 fn copy_forward(
     store: &mut Store,
@@ -204,15 +225,16 @@ fn copy_forward(
     target: u16,
     target_from: usize,
     count: u16,
+    taken: Taken,
 )
     requires source_low { source_from ≤ 65536 }
     requires target_low { target_from ≤ 65536 }
     requires before { target_from ≤ source_from }
     ensures { store.new ≡ with_objects store.old (put_all store.old.objects target target_from
-        (bytes_of store.old.objects source source_from count)) }
+        (taken_of taken store.old.objects source source_from count)) }
 {
     for at in 0..usize::from(count) {
-        let word = u16::from(byte(store, source, source_from + at));
+        let word = taken_at(store, source, source_from + at, taken);
         put(store, target, target_from + at, word);
     }
 }
@@ -225,17 +247,57 @@ fn copy_backward(
     target: u16,
     target_from: usize,
     count: u16,
+    taken: Taken,
 )
     requires source_low { source_from ≤ 65536 }
     requires target_low { target_from ≤ 65536 }
     requires behind { source_from ≤ target_from }
     ensures { store.new ≡ with_objects store.old (put_all store.old.objects target target_from
-        (bytes_of store.old.objects source source_from count)) }
+        (taken_of taken store.old.objects source source_from count)) }
 {
     for done in 0..usize::from(count) {
         let at = usize::from(count) - done - 1;
-        let word = u16::from(byte(store, source, source_from + at));
+        let word = taken_at(store, source, source_from + at, taken);
         put(store, target, target_from + at, word);
+    }
+}
+
+// Copies what is taken of so many components, one by one, as through a copy of the source.
+#[inline(never)]
+fn copy_one_by_one(
+    store: &mut Store,
+    source: u16,
+    source_from: usize,
+    target: u16,
+    target_from: usize,
+    count: u16,
+    taken: Taken,
+)
+    requires source_low { source_from ≤ 65536 }
+    requires target_low { target_from ≤ 65536 }
+    ensures { store.new ≡ with_objects store.old (put_all store.old.objects target target_from
+        (taken_of taken store.old.objects source source_from count)) }
+{
+    if target_from <= source_from {
+        copy_forward(
+            store,
+            source,
+            source_from,
+            target,
+            target_from,
+            count,
+            taken,
+        );
+    } else {
+        copy_backward(
+            store,
+            source,
+            source_from,
+            target,
+            target_from,
+            count,
+            taken,
+        );
     }
 }
 
@@ -253,13 +315,44 @@ pub(crate) fn copy_bytes(
     ensures { store.new ≡ with_objects store.old (put_all store.old.objects target target_from
         (bytes_of store.old.objects source source_from count)) }
 {
+    copy_one_by_one(
+        store,
+        source,
+        source_from,
+        target,
+        target_from,
+        count,
+        Taken::LowByte,
+    );
+}
+
+/// Copies so many components of an object to an object, as they are, from indexes on, as through a copy of the source.
+pub(crate) fn copy_words(
+    store: &mut Store,
+    source: u16,
+    source_from: usize,
+    target: u16,
+    target_from: usize,
+    count: u16,
+)
+    requires source_low { source_from ≤ 65536 }
+    requires target_low { target_from ≤ 65536 }
+    ensures { store.new ≡ with_objects store.old (put_all store.old.objects target target_from
+        (words_of store.old.objects source source_from count)) }
+{
     let words = usize::from(count);
     if has_part(store, source, source_from, words) && has_part(store, target, target_from, words) {
-        store.copy_bytes(source, source_from, target, target_from, words);
-    } else if target_from <= source_from {
-        copy_forward(store, source, source_from, target, target_from, count);
+        store.copy(source, source_from, target, target_from, words);
     } else {
-        copy_backward(store, source, source_from, target, target_from, count);
+        copy_one_by_one(
+            store,
+            source,
+            source_from,
+            target,
+            target_from,
+            count,
+            Taken::Word,
+        );
     }
 }
 

@@ -6,7 +6,7 @@ ghost use Rattle.jc_natives.specs.Utilities.{utility_work};
 ghost use Rattle.jc_natives.specs.declared.native.UtilityNative.TheVariants as natives;
 ghost use Rattle.jc_natives.specs.declared.native.Native.TheVariants.{OfUtility};
 
-use crate::bytes::{compare_bytes, copy_bytes, fill_bytes, put_short, short_at};
+use crate::bytes::{compare_bytes, copy_words, fill_bytes, put_short, short_at};
 use crate::cells::{argument, sum, word_of};
 use crate::ended::Ended;
 use crate::kept::Runtime;
@@ -28,7 +28,7 @@ fn array_copy(world: &World, store: &mut Store, call: &WordCall<'_>, runtime: &R
     let target = argument(call.arguments, 2);
     let to = argument(call.arguments, 3);
     let count = argument(call.arguments, 4);
-    copy_bytes(
+    copy_words(
         store,
         source,
         usize::from(from),

@@ -5,8 +5,9 @@ ghost use Rattle.jc_store.specs.Blocks.{put_over};
 
 use crate::header::Head;
 
-// How many words are written one by one before what is written is copied.
-const BLOCK: usize = 64;
+// How many words are written one by one before what is written is copied. What was written just now is slow to read in
+// larger pieces, so that it doesn't pay for fewer.
+const BLOCK: usize = 256;
 
 /// The components of an object.
 #[inline]
@@ -45,6 +46,8 @@ pub(crate) fn fill_part(cells: &mut [u16], head: Head, index: usize, count: usiz
     // the C library fills with 0
     if word == 0 {
         part.fill(0);
+    } else if count <= BLOCK {
+        part.fill(word);
     } else {
         fill_by_copies(part, word);
     }

@@ -8,7 +8,9 @@ use crate::kept::MOST_SENT;
 use arrayvec::ArrayVec;
 
 // How many words are compared at once, first and then.
-const LARGE: usize = 64;
+const LARGE: usize = 128;
+
+const MIDDLE: usize = 32;
 
 const SMALL: usize = 8;
 
@@ -96,7 +98,9 @@ fn same_start(one: &[u16], other: &[u16]) -> usize
     ensures within { result ≤ length one.now }
     ensures same { take result one.now ≡ take result other.now }
 {
-    same_from(one, other, same_from(one, other, 0, LARGE), SMALL)
+    let large = same_from(one, other, 0, LARGE);
+    let middle = same_from(one, other, large, MIDDLE);
+    same_from(one, other, middle, SMALL)
 }
 
 /// How the low bytes of words compare: -1, 0 or 1.

@@ -3,7 +3,7 @@ use Rattle.std.proofs.Common.{◌≡◌, ℕ, zero, suc, ◌+◌, ◌-◌, ◌�
 use Rattle.std.proofs.Common.{refl, sym, ap, subst, ◌∙◌, arith, length, map, take, drop, set, append-nil}
 use Rattle.std.proofs.Common.{append_assoc, Some, slice_get, slice_range, replicate, unwrap_or}
 use Rattle.std.proofs.Math.Seq.{length-sets, sets}
-use Rattle.std.proofs.lemmas.List.{drop-take, drop-drop, drop_all, replicate-append-replicate, take-take, take_all}
+use Rattle.std.proofs.lemmas.List.{drop-take, drop-drop, drop_all, length-replicate, replicate-append-replicate, take-take, take_all}
 use Rattle.std.proofs.lemmas.Option.{same_Some}
 use Rattle.std.proofs.lemmas.List.Edits.{sets-eq}
 use Rattle.std.specs.Option.{option_map_or}
@@ -30,6 +30,35 @@ front_of (suc n) (suc more) word rest low = ap (λ words. word ∷ words) (front
 behind : (n word : ℕ) (rest : List ℕ) → drop n (replicate n word ++ rest) ≡ rest
 behind zero word rest = refl
 behind (suc n) word rest = behind n word rest
+
+-- a block more is filled
+pub filled_on : (cells now : List ℕ) (word filled count : ℕ) → now ≡ replicate filled word ++ drop filled cells
+    → put_over now filled (replicate count word) ≡ replicate (filled + count) word ++ drop (filled + count) cells
+filled_on cells now word filled count is =
+    let words : List ℕ = replicate count word in
+    let front : take filled now ≡ replicate filled word =
+    ap (take filled) is ∙ front_of filled filled word (drop filled cells) (omega arith) in
+    let rest : drop (filled + count) now ≡ drop (filled + count) cells =
+    sym (drop-drop count filled now) ∙ ap (λ xs. drop count (drop filled xs)) is
+    ∙ ap (drop count) (behind filled word (drop filled cells)) ∙ drop-drop count filled cells in
+    ap (λ k. (take filled now ++ words) ++ drop (filled + k) now) (length-replicate count word)
+    ∙ ap (λ xs. (xs ++ words) ++ drop (filled + count) now) front
+    ∙ ap (λ xs. (replicate filled word ++ words) ++ xs) rest
+    ∙ ap (λ xs. xs ++ drop (filled + count) cells) (replicate-append-replicate filled count word)
+
+-- the last block, which begins within what is filled
+pub filled_last : (cells now : List ℕ) (word filled start count : ℕ) → now ≡ replicate filled word ++ drop filled cells
+    → start ≤ filled → start + count ≡ length now
+    → put_over now start (replicate count word) ≡ replicate (start + count) word
+filled_last cells now word filled start count is low end =
+    let words : List ℕ = replicate count word in
+    let front : take start now ≡ replicate start word =
+    ap (take start) is ∙ front_of filled start word (drop filled cells) low in
+    let none : drop (start + count) now ≡ [] = drop_all (start + count) now (omega (arith, end)) in
+    ap (λ k. (take start now ++ words) ++ drop (start + k) now) (length-replicate count word)
+    ∙ ap (λ xs. (xs ++ words) ++ drop (start + count) now) front
+    ∙ ap (λ xs. (replicate start word ++ words) ++ xs) none
+    ∙ append-nil (replicate start word ++ words) ∙ replicate-append-replicate start count word
 
 -- what is filled is copied behind itself
 pub filled_more : (cells now : List ℕ) (word filled more : ℕ) → now ≡ replicate filled word ++ drop filled cells

@@ -5,9 +5,12 @@ ghost use Rattle.jc_store.specs.Blocks.{put_over};
 
 use crate::header::Head;
 
-// How many words are written one by one before what is written is copied. What was written just now is slow to read in
-// larger pieces, so that it doesn't pay for fewer.
-const BLOCK: usize = 256;
+// How many words are written at once.
+const BLOCK: usize = 16;
+
+// How many words are written before what is written is copied. What was written just now is slow to read in larger
+// pieces, so that it doesn't pay for fewer.
+const FIRST: usize = 256;
 
 /// The components of an object.
 #[inline]
@@ -19,14 +22,41 @@ pub(crate) fn part_of(cells: &[u16], head: Head) -> &[u16]
     &cells[start..start + usize::from(head.len)]
 }
 
+// Puts a word into a block of cells.
+#[inline]
+fn fill_block(cells: &mut [u16], start: usize, word: u16)
+    requires within { start + 16 ≤ length cells.old }
+    ensures { cells.new ≡ put_over cells.old start (replicate 16 word) }
+{
+    cells[start..start + BLOCK].fill(word);
+}
+
+// Puts a word into each cell, in blocks. The last block may begin within the one before.
+#[inline]
+fn fill_in_blocks(cells: &mut [u16], word: u16)
+    ensures { cells.new ≡ replicate (length cells.old) word }
+{
+    let end = cells.len();
+    if end < BLOCK {
+        cells.fill(word);
+        return;
+    }
+    let mut filled = 0;
+    while BLOCK <= end - filled {
+        fill_block(cells, filled, word);
+        filled += BLOCK;
+    }
+    fill_block(cells, end - BLOCK, word);
+}
+
 // Puts a word into each cell. What is written is copied behind it, twice as many cells each time: the C library copies
-// more at a time than one word takes.
+// more at a time than is written here.
 #[inline]
 fn fill_by_copies(cells: &mut [u16], word: u16)
     ensures { cells.new ≡ replicate (length cells.old) word }
 {
-    let mut filled = cells.len().min(BLOCK);
-    cells[..filled].fill(word);
+    let mut filled = cells.len().min(FIRST);
+    fill_in_blocks(&mut cells[..filled], word);
     while filled < cells.len() {
         let more = filled.min(cells.len() - filled);
         let (front, back) = cells.split_at_mut(filled);
@@ -46,8 +76,8 @@ pub(crate) fn fill_part(cells: &mut [u16], head: Head, index: usize, count: usiz
     // the C library fills with 0
     if word == 0 {
         part.fill(0);
-    } else if count <= BLOCK {
-        part.fill(word);
+    } else if count <= FIRST {
+        fill_in_blocks(part, word);
     } else {
         fill_by_copies(part, word);
     }

@@ -1,12 +1,15 @@
 -- What the clearing of objects leaves.
-use Rattle.std.proofs.Common.{◌≡◌, ℕ, zero, suc, ◌+◌, ◌<◌, ◌≤◌, Bool, true, false, List, [], ◌∷◌, ◌++◌, length, map, take, drop, set, replicate, Option, Some, slice_get, append-nil, refl, sym, ap, subst, ◌∙◌, if◌then◌else◌, arith}
+use Rattle.std.proofs.Common.{◌≡◌, ℕ, zero, suc, ◌+◌, ◌<◌, ◌≤◌, Bool, true, false, List, [], ◌∷◌, ◌++◌, length, map}
+use Rattle.std.proofs.Common.{take, drop, set, replicate, Option, Some, slice_get, append-nil, refl, sym, ap, subst}
+use Rattle.std.proofs.Common.{◌∙◌, if◌then◌else◌, arith}
 use Rattle.std.proofs.Math.Seq.{length-sets, sets}
 use Rattle.std.proofs.lemmas.List.{drop-set-lt, drop_all, length-replicate}
 use Rattle.std.proofs.lemmas.List.Edits.{sets-eq}
 use Rattle.std.proofs.lemmas.Option.{none-some, same_Some}
 use Rattle.std.proofs.lemmas.Simd.{splat_is_map}
 use Rattle.jc_store.specs.Heap.{Heap, Object, blanked, cleared, is_cleared_by, with_cell}
-use Rattle.jc_store.specs.PrivateLaid.{AreCleared, AreLaid, AreWithin, Header, first_cleared, if_cleared, object_in, objects_in, zeroed}
+use Rattle.jc_store.specs.PrivateLaid.{AreCleared, AreLaid, AreWithin, Header, first_cleared, if_cleared, object_in}
+use Rattle.jc_store.specs.PrivateLaid.{objects_in, zeroed}
 use Rattle.jc_store.specs.declared.kind.ClearingEvent.{ClearingEvent}
 use Rattle.jc_store.proofs.Laid.{made_of, put_there, seen_within}
 use Rattle.jc_store.proofs.Making.{has_length, lies_before}

@@ -3,7 +3,8 @@ use Rattle.std.proofs.Common.{◌≡◌, ℕ, zero, suc, ◌+◌, ◌-◌, ◌�
 use Rattle.std.proofs.Common.{refl, sym, ap, subst, ◌∙◌, arith, length, map, take, drop, set, append-nil}
 use Rattle.std.proofs.Common.{append_assoc, Some, slice_get, slice_range, replicate, unwrap_or}
 use Rattle.std.proofs.Math.Seq.{length-sets, sets}
-use Rattle.std.proofs.lemmas.List.{drop-take, drop-drop, drop_all, length-replicate, replicate-append-replicate, take-take, take_all}
+use Rattle.std.proofs.lemmas.List.{drop-take, drop-drop, drop_all, length-replicate, replicate-append-replicate}
+use Rattle.std.proofs.lemmas.List.{take-take, take_all}
 use Rattle.std.proofs.lemmas.Option.{same_Some}
 use Rattle.std.proofs.lemmas.List.Edits.{sets-eq}
 use Rattle.std.specs.Option.{option_map_or}

@@ -1,17 +1,21 @@
 -- The two rows that are kept of each object, and what calls read and write by them.
-use Rattle.std.proofs.Common.{◌≡◌, ◌⊎◌, inl, inr, ℕ, zero, suc, ◌+◌, ◌-◌, ◌<◌, ◌≤◌, List, [], ◌∷◌, ◌++◌, length, map, set, Option, None, Some, slice_get, refl, sym, ap, subst, ◌∙◌, arith}
+use Rattle.std.proofs.Common.{◌≡◌, ◌⊎◌, inl, inr, ℕ, zero, suc, ◌+◌, ◌-◌, ◌<◌, ◌≤◌, List, [], ◌∷◌, ◌++◌, length, map}
+use Rattle.std.proofs.Common.{set, Option, None, Some, slice_get, refl, sym, ap, subst, ◌∙◌, arith}
 use Rattle.std.proofs.lemmas.List.{length-map, map-append}
 use Rattle.std.proofs.lemmas.Option.{none-some, same_Some}
 use Rattle.jc_names.specs.declared.owner.Owner.{Owner}
 use Rattle.jc_store.specs.Heap.{Heap, Object, cells_in, object_at, with_cell, with_object}
-use Rattle.jc_store.specs.PrivateLaid.{AreRows, AreWithin, HasRoom, Header, IsStored, Sizes, classes_in, fast_in, head_of, header_in, headers_of, joined, null_head, object_in, objects_in, rest_of}
+use Rattle.jc_store.specs.PrivateLaid.{AreRows, AreWithin, HasRoom, Header, IsStored, Sizes, classes_in, fast_in}
+use Rattle.jc_store.specs.PrivateLaid.{head_of, header_in, headers_of, joined, null_head, object_in, objects_in}
+use Rattle.jc_store.specs.PrivateLaid.{rest_of}
 use Rattle.jc_store.specs.Store.{IsFull, IsOwn, IsReference, IsThere, Store, class_number_at, fresh, with_made}
 use Rattle.jc_store.specs.declared.header.Head.{Head}
 use Rattle.jc_store.specs.declared.header.Rest.{Rest}
 use Rattle.jc_store.specs.declared.kind.ClearingEvent.{ClearingEvent}
 use Rattle.jc_store.specs.declared.kind.ClearingEvent.TheVariants.{Reset, Deselect}
 use Rattle.jc_store.proofs.Blanking.{next_within}
-use Rattle.jc_store.proofs.Held.{cell_of, cells_used, found, kept_laid, left_for, no_room, object_put, objects_more, one_more, put_in, room_there, sized, viewed, within_cells}
+use Rattle.jc_store.proofs.Held.{cell_of, cells_used, found, kept_laid, left_for, no_room, object_put, objects_more}
+use Rattle.jc_store.proofs.Held.{one_more, put_in, room_there, sized, viewed, within_cells}
 
 -- ---- rows and headers
 

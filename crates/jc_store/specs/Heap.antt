@@ -1,7 +1,8 @@
 -- Objects and the heap (Java Card Virtual Machine Specification, Objects; Java Card Runtime Environment Specification,
 -- Object ownership, Transient objects). What a component holds isn't said here: words in a store, tagged values in the
 -- defensive machine.
-use Rattle.std.specs.Prelude.{ℕ, zero, suc, ◌+◌, ◌==◌, ◌&&◌, Bool, true, false, List, [], ◌∷◌, ◌++◌, map, length, Option}
+use Rattle.std.specs.Prelude.{ℕ, zero, suc, ◌+◌, ◌==◌, ◌&&◌, Bool, true, false, List, [], ◌∷◌, ◌++◌, map, length}
+use Rattle.std.specs.Prelude.{Option}
 use Rattle.std.specs.Prelude.{None, slice_get, set, if◌then◌else◌}
 use Rattle.std.specs.Option.{option_map_or}
 use Rattle.jc_store.specs.declared.kind.ClearingEvent.{ClearingEvent}

@@ -1,6 +1,6 @@
 //! Many cells at once.
 
-ghost use Rattle.std.specs.Prelude.{◌≡◌, ◌+◌, ◌≤◌, length, replicate, slice_range};
+ghost use Rattle.std.specs.Prelude.{◌≡◌, ◌+◌, ◌++◌, ◌≤◌, ◌<◌, drop, length, replicate, slice_range};
 ghost use Rattle.jc_store.specs.Blocks.{put_over};
 
 use crate::header::Head;
@@ -49,14 +49,16 @@ fn fill_in_blocks(cells: &mut [u16], word: u16)
     fill_block(cells, end - BLOCK, word);
 }
 
-// Puts a word into each cell. What is written is copied behind it, twice as many cells each time: the C library copies
-// more at a time than is written here.
-#[inline]
-fn fill_by_copies(cells: &mut [u16], word: u16)
+// Puts a word into each cell of which so many in front hold it already. What is written is copied behind it, twice as
+// many cells each time: the C library copies more at a time than a block.
+#[inline(never)]
+fn fill_by_copies(cells: &mut [u16], first: usize, word: u16)
+    requires filled { cells.old ≡ replicate first word ++ drop first cells.old }
+    requires within { first ≤ length cells.old }
+    requires some { 0 < first }
     ensures { cells.new ≡ replicate (length cells.old) word }
 {
-    let mut filled = cells.len().min(FIRST);
-    fill_in_blocks(&mut cells[..filled], word);
+    let mut filled = first;
     while filled < cells.len() {
         let more = filled.min(cells.len() - filled);
         let (front, back) = cells.split_at_mut(filled);
@@ -76,10 +78,13 @@ pub(crate) fn fill_part(cells: &mut [u16], head: Head, index: usize, count: usiz
     // the C library fills with 0
     if word == 0 {
         part.fill(0);
-    } else if count <= FIRST {
-        fill_in_blocks(part, word);
-    } else {
-        fill_by_copies(part, word);
+        return;
+    }
+    // called in one place, so that LLVM takes it in
+    let first = count.min(FIRST);
+    fill_in_blocks(&mut part[..first], word);
+    if first < count {
+        fill_by_copies(part, first, word);
     }
 }
 

@@ -21,5 +21,5 @@ loop-filled-preserved c =
           ∙ ap (λ (xs : List ℕ). before ++ (take more before ++ drop more xs)) split.back
           ∙ filled_more c.args.cells.now now c.args.word filled more (c.loop-filled.invariant).0 (omega (arith, least)),
       omega (arith, least, within, len),
-      λ any. let first = some any in omega (arith, first),
+      omega (arith, some),
     )

@@ -194,6 +194,8 @@ int main(void) {
         show("arrayFill with 7", (struct wanted){FILL, 1, 0, 1, 3, count, 7, 0, turns}, 2.0);
         show(".. with 0", (struct wanted){FILL, 1, 0, 1, 3, count, 0, 0, turns}, 2.0);
         show("arrayCompare, all equal", (struct wanted){COMPARE, 1, 3, 2, 3, count, 0, 0, turns}, 2.0);
+        /* these words repeat after 251 */
+        show(".. that begin elsewhere", (struct wanted){COMPARE, 1, 3, 2, 254, count, 0, 0, turns}, 2.0);
     }
     show("getShort", (struct wanted){GET, 1, 3, 1, 3, 2, 0, 0, 200000}, 1.5);
     show("setShort", (struct wanted){SET, 1, 3, 1, 3, 2, 4660, 0, 200000}, 1.5);

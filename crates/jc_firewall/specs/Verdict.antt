@@ -1,5 +1,6 @@
--- The firewall (Java Card Runtime Environment Specification, Applet Isolation and Object Sharing: Class and Object Access Behavior; and
--- Transient Objects for arrays that are cleared on deselect). A table: the first row that fits decides.
+-- The firewall (Java Card Runtime Environment Specification, Applet Isolation and Object Sharing: Class and Object
+-- Access Behavior; and Transient Objects for arrays that are cleared on deselect). A table: the first row that fits
+-- decides.
 use Rattle.std.specs.Prelude.{ℕ, ◌==◌, Bool, true, false, not, ◌&&◌, ◌||◌, if◌then◌else◌}
 use Rattle.std.specs.Option.{option_map_or}
 use Rattle.jc_store.specs.declared.kind.ClearingEvent.{ClearingEvent}
@@ -8,9 +9,13 @@ use Rattle.jc_store.specs.declared.kind.Mark.{Mark}
 use Rattle.jc_store.specs.declared.kind.Mark.TheVariants.{Plain, PermanentEntryPoint, TemporaryEntryPoint, GlobalArray}
 use Rattle.jc_names.specs.declared.owner.Owner.{Owner}
 use Rattle.jc_firewall.specs.declared.access.Access.{Access}
-use Rattle.jc_firewall.specs.declared.access.Access.TheVariants.{PutStaticReference, PutReferenceField, PutField, GetField, LoadComponent, StoreComponent, StoreReference, ArrayLength, InvokeVirtual, InvokeInterface, Throw, CheckCast, InstanceOf}
+use Rattle.jc_firewall.specs.declared.access.Access.TheVariants.{PutStaticReference, PutReferenceField, PutField}
+use Rattle.jc_firewall.specs.declared.access.Access.TheVariants.{GetField, LoadComponent, StoreComponent}
+use Rattle.jc_firewall.specs.declared.access.Access.TheVariants.{StoreReference, ArrayLength, InvokeVirtual}
+use Rattle.jc_firewall.specs.declared.access.Access.TheVariants.{InvokeInterface, Throw, CheckCast, InstanceOf}
 use Rattle.jc_firewall.specs.declared.access.Facts.{Facts}
-use Rattle.jc_firewall.specs.declared.access.Rule.TheVariants.{Storing, Components, Fields, Calls, SharedCalls, Throws, Casts, SharedCasts, Selection}
+use Rattle.jc_firewall.specs.declared.access.Rule.TheVariants.{Storing, Components, Fields, Calls, SharedCalls, Throws}
+use Rattle.jc_firewall.specs.declared.access.Rule.TheVariants.{Casts, SharedCasts, Selection}
 use Rattle.jc_firewall.specs.declared.access.Verdict.{Verdict}
 use Rattle.jc_firewall.specs.declared.access.Verdict.TheVariants.{Allowed, AllowedSwitch, Denied}
 

@@ -2,9 +2,12 @@
 
 ghost use Rattle.std.specs.Prelude.{◌≡◌, ◌&&◌, false};
 ghost use Rattle.std.specs.Option.{option_map_or};
-ghost use Rattle.jc_firewall.specs.Verdict.{is_deselect, is_entry_point, is_global_array, is_never_stored, is_out_of_selection, is_own, row_of, stores_reference, verdict_for_runtime, verdict_in, verdict_of};
+ghost use Rattle.jc_firewall.specs.Verdict.{is_deselect, is_entry_point, is_global_array, is_never_stored};
+ghost use Rattle.jc_firewall.specs.Verdict.{is_out_of_selection, is_own, row_of, stores_reference, verdict_for_runtime};
+ghost use Rattle.jc_firewall.specs.Verdict.{verdict_in, verdict_of};
 ghost use Rattle.jc_firewall.specs.declared.access.Access.TheVariants.{CheckCast};
-ghost use Rattle.jc_firewall.specs.Verdict.Row.{components, fields, interface_calls, shared_calls, shared_casts, throws, virtual_calls};
+ghost use Rattle.jc_firewall.specs.Verdict.Row.{components, fields, interface_calls, shared_calls, shared_casts};
+ghost use Rattle.jc_firewall.specs.Verdict.Row.{throws, virtual_calls};
 
 use crate::access::{Access, Facts, Rule, Verdict};
 use jc_names::Owner;
@@ -207,8 +210,8 @@ fn stores_reference(access: Access) -> bool
     }
 }
 
-/// Whether an access is allowed to code that runs in the active context (Java Card Runtime Environment Specification, Class and
-/// Object Access Behavior).
+/// Whether an access is allowed to code that runs in the active context (Java Card Runtime Environment Specification,
+/// Class and Object Access Behavior).
 pub fn decide(access: Access, active: u8, facts: &Facts) -> Verdict
     ensures { result ≡ verdict_of access active facts.now }
 {

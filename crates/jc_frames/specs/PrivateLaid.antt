@@ -26,8 +26,8 @@ abbrev pub first_word : List FramePlace → ℕ
 first_word [] = 0
 first_word (p ∷ below) = p.start
 
--- how much of the frames is used: the lengths of the arrays, and how many places there is room for; the word behind the top frame; and
--- the most frames and words
+-- how much of the frames is used: the lengths of the arrays, and how many places there is room for; the word behind the
+-- top frame; and the most frames and words
 pub record Sizes : Type 0 where
   pub places : ℕ
   pub room : ℕ

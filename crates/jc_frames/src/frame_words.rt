@@ -1,7 +1,8 @@
 //! The words of the frame at a place.
 
 ghost use Rattle.std.specs.Prelude.{◌≡◌, ◌+◌, ◌≤◌, length, min};
-ghost use Rattle.jc_frames.specs.Operands.{arguments_in, in_use, local_in, operand_in, pushed, with_duplicated, with_local};
+ghost use Rattle.jc_frames.specs.Operands.{arguments_in, in_use, local_in, operand_in, pushed, with_duplicated};
+ghost use Rattle.jc_frames.specs.Operands.{with_local};
 ghost use Rattle.jc_frames.specs.Operands.{with_swapped};
 ghost use Rattle.jc_frames.specs.PrivateLaid.{IsChanged, IsWithin, frame_in};
 

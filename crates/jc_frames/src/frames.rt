@@ -3,7 +3,8 @@
 ghost use Rattle.std.specs.Prelude.{◌≡◌, ◌+◌, ◌≤◌, ℕ, List, true, false, [], ◌∷◌, Some, None};
 ghost use Rattle.std.specs.Prelude.{length, take, drop, reverse, slice_get, slice_range, IfOk};
 ghost use Rattle.std.specs.Borrow.{sem};
-ghost use Rattle.jc_frames.specs.Frames.{Frame, HasOperands, HasTop, IsFull, IsPushed, with_frames, with_header, with_locals, with_locals_left, with_operands, with_operands_left};
+ghost use Rattle.jc_frames.specs.Frames.{Frame, HasOperands, HasTop, IsFull, IsPushed, with_frames, with_header};
+ghost use Rattle.jc_frames.specs.Frames.{with_locals, with_locals_left, with_operands, with_operands_left};
 ghost use Rattle.jc_frames.specs.Lending.{LendsLocals, LendsOperands, LendsWords};
 ghost use Rattle.jc_frames.specs.Operands.{HasInUse, arguments_in, at_pc, dropped, in_use, local_in, of_top, on_top};
 ghost use Rattle.jc_frames.specs.Operands.{operand_in, placed, pushed, with_duplicated, with_in_use, with_local};
@@ -131,7 +132,8 @@ impl Frames {
         self.places.len() < usize::from(self.most_frames) && wanted <= left
     }
 
-    /// Puts a frame on top, if there is room for it: the arguments are its first locals, and its other words hold anything.
+    /// Puts a frame on top, if there is room for it: the arguments are its first locals, and its other words hold
+    /// anything.
     #[inline]
     pub fn push_frame(&mut self, header: FrameHeader, size: FrameSize, arguments: &[u16]) -> bool
         requires fit { length arguments.now ≤ size.locals }
@@ -155,8 +157,8 @@ impl Frames {
         true
     }
 
-    /// Puts a frame on top, if there is room for it: so many operands of the frame that was on top, from the first one on, are its
-    /// first locals, and its other words hold anything.
+    /// Puts a frame on top, if there is room for it: so many operands of the frame that was on top, from the first one
+    /// on, are its first locals, and its other words hold anything.
     #[inline]
     pub fn push_call(&mut self, header: FrameHeader, size: FrameSize, first: u8, count: u8) -> bool
         requires there { HasOperands self.old first count }

@@ -2,7 +2,8 @@
 
 use jc_names::Owner;
 
-/// A method of a loaded package: the package's number, from 1 on, and the offset of the method's header in the Method component.
+/// A method of a loaded package: the package's number, from 1 on, and the offset of the method's header in the Method
+/// component.
 #[derive(Clone, Copy, Debug, PartialEq, Eq)]
 pub struct CodePlace {
     pub package: u8,

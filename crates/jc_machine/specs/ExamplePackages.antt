@@ -1,4 +1,5 @@
--- Two packages for the examples of the defensive machine: a server with a shareable interface, and a client that calls it.
+-- Two packages for the examples of the defensive machine: a server with a shareable interface, and a client that calls
+-- it.
 use Rattle.std.specs.Prelude.{ℕ, ◌+◌, Bool, true, false, List, [], ◌∷◌, Some, None}
 use Rattle.jc_api.specs.Bound.{default_framework, default_lang}
 use Rattle.jc_base.specs.Signature.{Signature}
@@ -15,7 +16,8 @@ use Rattle.jc_cap_desc.specs.Shape.{ClassShape, FieldShape, MethodBody, MethodSh
 use Rattle.jc_cap_desc.specs.declared.class_row.FieldPlace.TheVariants.{Instance}
 use Rattle.jc_cap_method.specs.declared.handler.Handler.{Handler}
 use Rattle.jc_cap_pool.specs.declared.entry.PoolEntry.{PoolEntry}
-use Rattle.jc_cap_pool.specs.declared.entry.PoolEntry.TheVariants.{Classref, InstanceFieldref, StaticMethodref, VirtualMethodref}
+use Rattle.jc_cap_pool.specs.declared.entry.PoolEntry.TheVariants.{Classref, InstanceFieldref, StaticMethodref}
+use Rattle.jc_cap_pool.specs.declared.entry.PoolEntry.TheVariants.{VirtualMethodref}
 use Rattle.jc_cap_pool.specs.declared.entry.StaticRef.TheVariants as places
 
 -- ---- parts of packages

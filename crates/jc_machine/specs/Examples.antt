@@ -1,9 +1,14 @@
 -- What the examples of the defensive machine are run with: packages, objects, and natives that do next to nothing.
-use Rattle.std.specs.Prelude.{ℕ, Bool, true, false, ◌==◌, if◌then◌else◌, List, [], ◌∷◌, ◌++◌, length, map, Option, Some, None}
+use Rattle.std.specs.Prelude.{ℕ, Bool, true, false, ◌==◌, if◌then◌else◌, List, [], ◌∷◌, ◌++◌, length, map, Option, Some}
+use Rattle.std.specs.Prelude.{None}
 use Rattle.std.specs.List.{list_all}
 use Rattle.jc_api.specs.Bound.{default_binding}
 use Rattle.jc_api.specs.declared.class.ApiClass.{ApiClass}
-use Rattle.jc_api.specs.declared.class.ApiClass.TheVariants.{ArithmeticException, ArrayStoreException, ClassCastException, ArrayIndexOutOfBoundsException, NegativeArraySizeException, NullPointerException, SecurityException, IsoException, SystemException, ApduException}
+use Rattle.jc_api.specs.declared.class.ApiClass.TheVariants.{ArithmeticException, ArrayStoreException}
+use Rattle.jc_api.specs.declared.class.ApiClass.TheVariants.{ClassCastException, ArrayIndexOutOfBoundsException}
+use Rattle.jc_api.specs.declared.class.ApiClass.TheVariants.{NegativeArraySizeException, NullPointerException}
+use Rattle.jc_api.specs.declared.class.ApiClass.TheVariants.{SecurityException, IsoException, SystemException}
+use Rattle.jc_api.specs.declared.class.ApiClass.TheVariants.{ApduException}
 use Rattle.jc_cap_desc.specs.Shape.{Package, Shape}
 use Rattle.jc_classes.specs.Api.{api_world}
 use Rattle.jc_names.specs.declared.name.ClassName.TheVariants as classes
@@ -15,12 +20,14 @@ use Rattle.jc_store.specs.Heap.{Heap, Object}
 use Rattle.jc_store.specs.declared.kind.Mark.{Mark}
 use Rattle.jc_store.specs.declared.kind.Mark.TheVariants.{Plain, TemporaryEntryPoint}
 use Rattle.jc_store.specs.declared.kind.ObjectType.{ObjectType}
-use Rattle.jc_store.specs.declared.kind.ObjectType.TheVariants.{Instance, BooleanArray, ByteArray, ShortArray, ReferenceArray}
+use Rattle.jc_store.specs.declared.kind.ObjectType.TheVariants.{Instance, BooleanArray, ByteArray, ShortArray}
+use Rattle.jc_store.specs.declared.kind.ObjectType.TheVariants.{ReferenceArray}
 use Rattle.jc_names.specs.declared.owner.Owner.{Owner}
 use Rattle.jc_firewall.specs.declared.access.Access.TheVariants.{InvokeVirtual}
 use Rattle.jc_firewall.specs.declared.access.Verdict.TheVariants.{Allowed}
 use Rattle.jc_machine.specs.Lookup.{fields_of}
-use Rattle.jc_machine.specs.Machine.{Calls, Ends, Gives, Limits, Machine, NativeAnswer, NativeCall, Natives, Next, Outcome, Stuck, Surroundings, Throws, Touch, UsedUp}
+use Rattle.jc_machine.specs.Machine.{Calls, Ends, Gives, Limits, Machine, NativeAnswer, NativeCall, Natives, Next}
+use Rattle.jc_machine.specs.Machine.{Outcome, Stuck, Surroundings, Throws, Touch, UsedUp}
 use Rattle.jc_machine.specs.Runtime.{RuntimeObject, runtime_objects}
 use Rattle.jc_machine.specs.Step.{defensive_step, CallEnd, Gave, RanOut, Start, Threw, WasStuck, runtime_call}
 use Rattle.jc_machine.specs.ExamplePackages.{probe}

@@ -16,7 +16,8 @@ use Rattle.jc_machine.specs.Calls.{native_may_begin, native_type, type_of_member
 use Rattle.jc_machine.specs.Going.{facts_in}
 use Rattle.jc_machine.specs.Guarded.{AreGuarded, ChangesAccessed}
 use Rattle.jc_machine.specs.Lookup.{are_of_types, is_given, is_of_class, is_throwable}
-use Rattle.jc_machine.specs.Machine.{Callback, Calls, Gives, IsStuck, Limits, NativeAnswer, NativeCall, NativeEnd, Natives, ThrowsObject, Touch}
+use Rattle.jc_machine.specs.Machine.{Callback, Calls, Gives, IsStuck, Limits, NativeAnswer, NativeCall, NativeEnd}
+use Rattle.jc_machine.specs.Machine.{Natives, ThrowsObject, Touch}
 use Rattle.jc_machine.specs.Runtime.{HasRuntimeObjects, security_exception}
 use Rattle.jc_machine.specs.Typed.{HeapTyped}
 use Rattle.jc_words.specs.Values.{TaggedValue}

@@ -3,7 +3,11 @@
 use Rattle.std.specs.Prelude.{◌≡◌, ℕ, List, ◌∷◌, length, map, Some, None}
 use Rattle.std.specs.List.{AllByRecursion, range_with_len}
 use Rattle.jc_api.specs.declared.class.ApiClass.{ApiClass}
-use Rattle.jc_api.specs.declared.class.ApiClass.TheVariants.{ArithmeticException, ArrayStoreException, ClassCastException, ArrayIndexOutOfBoundsException, NegativeArraySizeException, NullPointerException, SecurityException, IsoException, SystemException, ApduException, Aid, Apdu}
+use Rattle.jc_api.specs.declared.class.ApiClass.TheVariants.{ArithmeticException, ArrayStoreException}
+use Rattle.jc_api.specs.declared.class.ApiClass.TheVariants.{ClassCastException, ArrayIndexOutOfBoundsException}
+use Rattle.jc_api.specs.declared.class.ApiClass.TheVariants.{NegativeArraySizeException, NullPointerException}
+use Rattle.jc_api.specs.declared.class.ApiClass.TheVariants.{SecurityException, IsoException, SystemException}
+use Rattle.jc_api.specs.declared.class.ApiClass.TheVariants.{ApduException, Aid, Apdu}
 use Rattle.jc_names.specs.declared.name.ClassName.TheVariants as classes
 use Rattle.jc_firewall.specs.Verdict as firewall
 use Rattle.jc_store.specs.Heap.{Heap, Object, object_at}

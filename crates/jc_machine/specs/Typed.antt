@@ -1,4 +1,5 @@
--- When a defensive machine is well typed: what it holds is of the types by which its code was checked, and of declared types elsewhere.
+-- When a defensive machine is well typed: what it holds is of the types by which its code was checked, and of declared
+-- types elsewhere.
 use Rattle.std.specs.Prelude.{⊤, ◌≡◌, ℕ, ◌<◌, Bool, true, false, List, [], ◌∷◌, length, Option, Some, None, IsSome, Ok}
 use Rattle.std.specs.List.{AllByRecursion}
 use Rattle.std.specs.Option.{option_and_then, option_map_or}
@@ -21,7 +22,8 @@ use Rattle.jc_step.specs.Objects.{has_objects}
 use Rattle.jc_store.specs.Heap as heaps
 use Rattle.jc_store.specs.Heap.{Heap}
 use Rattle.jc_store.specs.declared.kind.ObjectType.{ObjectType}
-use Rattle.jc_store.specs.declared.kind.ObjectType.TheVariants.{Instance, BooleanArray, ByteArray, ShortArray, ReferenceArray}
+use Rattle.jc_store.specs.declared.kind.ObjectType.TheVariants.{Instance, BooleanArray, ByteArray, ShortArray}
+use Rattle.jc_store.specs.declared.kind.ObjectType.TheVariants.{ReferenceArray}
 use Rattle.jc_types.specs.State.{Types}
 use Rattle.jc_types.specs.declared.ty.Ty.{Ty}
 use Rattle.jc_types.specs.declared.ty.Ty.TheVariants as types
@@ -29,7 +31,9 @@ use Rattle.jc_machine.specs.Accepted.{linked_as}
 use Rattle.jc_machine.specs.Reading.{Pointwise}
 use Rattle.jc_machine.specs.Fields.{static_at}
 use Rattle.jc_names.specs.Names.{home_at}
-use Rattle.jc_machine.specs.Lookup.{body_at, code_at, component_class, declared_at, fields_of, instruction_at, is_array, is_boolean_array, is_byte, is_byte_array, is_instance, is_kept_as, is_of_class, is_short_array, is_word, leads_to, of_package}
+use Rattle.jc_machine.specs.Lookup.{body_at, code_at, component_class, declared_at, fields_of, instruction_at, is_array}
+use Rattle.jc_machine.specs.Lookup.{is_boolean_array, is_byte, is_byte_array, is_instance, is_kept_as, is_of_class}
+use Rattle.jc_machine.specs.Lookup.{is_short_array, is_word, leads_to, of_package}
 use Rattle.jc_machine.specs.Machine.{Frame, Machine, StaticValue, Surroundings}
 use Rattle.jc_machine.specs.Objects.{is_null}
 use Rattle.jc_machine.specs.Runtime.{HasRuntimeObjects}

@@ -4,11 +4,15 @@ ghost use Rattle.std.specs.Prelude.{◌≡◌, [], ◌∷◌, ◌++◌, List, No
 ghost use Rattle.jc_names.specs.declared.name.ClassName.TheVariants as classes;
 ghost use Rattle.jc_cap_desc.specs.Shape.{Shape};
 ghost use Rattle.jc_names.specs.declared.name.MethodName.TheVariants.{Api, Loaded};
-ghost use Rattle.jc_firewall.specs.declared.access.Access.TheVariants.{CheckCast, GetField, InvokeInterface, InvokeVirtual, LoadComponent, PutField, StoreComponent};
+ghost use Rattle.jc_firewall.specs.declared.access.Access.TheVariants.{CheckCast, GetField, InvokeInterface};
+ghost use Rattle.jc_firewall.specs.declared.access.Access.TheVariants.{InvokeVirtual, LoadComponent, PutField};
+ghost use Rattle.jc_firewall.specs.declared.access.Access.TheVariants.{StoreComponent};
 ghost use Rattle.jc_firewall.specs.declared.access.Rule.TheVariants.{Fields};
 ghost use Rattle.jc_firewall.specs.declared.access.Verdict.TheVariants.{Allowed, AllowedSwitch, Denied};
 ghost use Rattle.jc_machine.specs.ExamplePackages.{asker, client, probe, server};
-ghost use Rattle.jc_machine.specs.Examples.{a_value, an_object, asking, exceptions, have_their_sizes, is_stuck_with, owner, probed, probed_on, run, run_with, start_of, stuck, untouched, used_up, with_served};
+ghost use Rattle.jc_machine.specs.Examples.{a_value, an_object, asking, exceptions, have_their_sizes, is_stuck_with};
+ghost use Rattle.jc_machine.specs.Examples.{owner, probed, probed_on, run, run_with, start_of, stuck, untouched};
+ghost use Rattle.jc_machine.specs.Examples.{used_up, with_served};
 ghost use Rattle.jc_machine.specs.Idle.{idle};
 ghost use Rattle.jc_machine.specs.Typed.{IsOperand};
 ghost use Rattle.jc_words.specs.Values.{Null, Ref, TaggedValue, Unset, Word};

@@ -6,11 +6,14 @@ use Rattle.jc_natives.specs.Aids.{range_bytes}
 use Rattle.jc_natives.specs.Cells.{argument, is_within, size_of}
 use Rattle.jc_natives.specs.Kept.{Kept, expected_of, most_sent, with_announced, with_sent, with_state}
 use Rattle.jc_natives.specs.Seen.{Seen}
-use Rattle.jc_natives.specs.Work.{GivesReference, GivesWord, NoResult, Work, bad_length, buffer_bounds, gives, illegal_use, unless_apdu, writes_to}
+use Rattle.jc_natives.specs.Work.{GivesReference, GivesWord, NoResult, Work, bad_length, buffer_bounds, gives}
+use Rattle.jc_natives.specs.Work.{illegal_use, unless_apdu, writes_to}
 use Rattle.jc_natives.specs.declared.kept.ApduState.{ApduState}
 use Rattle.jc_natives.specs.declared.kept.ApduState.TheVariants.{Closed, Fresh, LengthSet, Outgoing, Received}
 use Rattle.jc_natives.specs.declared.native.ApduNative.{ApduNative}
-use Rattle.jc_natives.specs.declared.native.ApduNative.TheVariants.{GetBuffer, SendBytes, SendBytesLong, SetIncomingAndReceive, SetOutgoing, SetOutgoingAndSend, SetOutgoingLength}
+use Rattle.jc_natives.specs.declared.native.ApduNative.TheVariants.{GetBuffer, SendBytes, SendBytesLong}
+use Rattle.jc_natives.specs.declared.native.ApduNative.TheVariants.{SetIncomingAndReceive, SetOutgoing}
+use Rattle.jc_natives.specs.declared.native.ApduNative.TheVariants.{SetOutgoingAndSend, SetOutgoingLength}
 
 -- ---- states
 

@@ -1,5 +1,6 @@
 -- Applets and their registration (Java Card API Specification, Applet).
-use Rattle.std.specs.Prelude.{ℕ, ◌+◌, ◌-◌, ◌==◌, ◌&&◌, Bool, not, List, ◌∷◌, length, Option, Some, None, is_some, nat_lt, if◌then◌else◌}
+use Rattle.std.specs.Prelude.{ℕ, ◌+◌, ◌-◌, ◌==◌, ◌&&◌, Bool, not, List, ◌∷◌, length, Option, Some, None, is_some}
+use Rattle.std.specs.Prelude.{nat_lt, if◌then◌else◌}
 use Rattle.std.specs.Option.{option_map_or}
 use Rattle.jc_firewall.specs.Verdict.{runtime}
 use Rattle.jc_machine.specs.Runtime.{first_aid_object, most_instances}
@@ -8,10 +9,12 @@ use Rattle.jc_natives.specs.Aids.{range_bytes}
 use Rattle.jc_natives.specs.Cells.{argument, bit, extended}
 use Rattle.jc_natives.specs.Kept.{Kept, has_aid_length, instance_with, with_instance}
 use Rattle.jc_natives.specs.Seen.{Seen}
-use Rattle.jc_natives.specs.Work.{GivesReference, GivesWord, NoResult, Work, gives, illegal_aid, illegal_value, throws_system, unless_system, writes_to}
+use Rattle.jc_natives.specs.Work.{GivesReference, GivesWord, NoResult, Work, gives, illegal_aid, illegal_value}
+use Rattle.jc_natives.specs.Work.{throws_system, unless_system, writes_to}
 use Rattle.jc_natives.specs.declared.kept.Installing.{Installing}
 use Rattle.jc_natives.specs.declared.native.AppletNative.{AppletNative}
-use Rattle.jc_natives.specs.declared.native.AppletNative.TheVariants.{Deselect, GetShareable, Process, Register, RegisterBytes, Select, SelectingApplet}
+use Rattle.jc_natives.specs.declared.native.AppletNative.TheVariants.{Deselect, GetShareable, Process, Register}
+use Rattle.jc_natives.specs.declared.native.AppletNative.TheVariants.{RegisterBytes, Select, SelectingApplet}
 use Rattle.jc_store.specs.Heap.{Heap, object_at}
 
 -- the AID object of the instance with a number, from 1 on

@@ -1,6 +1,7 @@
 -- The components of objects as members use them: as words and as bytes, in objects of words and in objects of tagged
 -- values. Where there is no such component a member reads 0, and writes nothing.
-use Rattle.std.specs.Prelude.{ℕ, zero, suc, ◌+◌, ◌*◌, ◌/◌, ◌%◌, ◌&&◌, Bool, true, false, List, [], ◌∷◌, length, map, Option, Some, None, get_or, nat_le, nat_lt, unwrap_or, if◌then◌else◌}
+use Rattle.std.specs.Prelude.{ℕ, zero, suc, ◌+◌, ◌*◌, ◌/◌, ◌%◌, ◌&&◌, Bool, true, false, List, [], ◌∷◌, length, map}
+use Rattle.std.specs.Prelude.{Option, Some, None, get_or, nat_le, nat_lt, unwrap_or, if◌then◌else◌}
 use Rattle.std.specs.Option.{option_map_or}
 use Rattle.jc_store.specs.Heap.{Heap, Object, cells_in, object_at, with_cell, with_object}
 use Rattle.jc_words.specs.Values.{Null, Ref, TaggedValue, Unset, Word}

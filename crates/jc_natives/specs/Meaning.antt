@@ -1,5 +1,6 @@
 -- What the native members mean: each tests its arguments, and then does its work.
-use Rattle.std.specs.Prelude.{ℕ, ◌==◌, ◌&&◌, Bool, false, true, List, [], ◌∷◌, ◌++◌, length, Option, Some, None, nat_le, nat_lt, replicate, if◌then◌else◌}
+use Rattle.std.specs.Prelude.{ℕ, ◌==◌, ◌&&◌, Bool, false, true, List, [], ◌∷◌, ◌++◌, length, Option, Some, None, nat_le}
+use Rattle.std.specs.Prelude.{nat_lt, replicate, if◌then◌else◌}
 use Rattle.std.specs.List.{list_all, list_any}
 use Rattle.std.specs.Option.{option_map_or}
 use Rattle.jc_api.specs.Numbered.{numbered}
@@ -12,7 +13,8 @@ use Rattle.jc_firewall.specs.declared.access.Verdict.TheVariants.{Allowed}
 use Rattle.jc_link.specs.Linked.{World}
 use Rattle.jc_machine.specs.Calls.{native_may_begin}
 use Rattle.jc_machine.specs.Lookup.{is_array, is_of_class}
-use Rattle.jc_machine.specs.Machine.{Calls, Gives, IsStuck, NativeAnswer, NativeCall, NativeEnd, Natives, ThrowsObject, Touch}
+use Rattle.jc_machine.specs.Machine.{Calls, Gives, IsStuck, NativeAnswer, NativeCall, NativeEnd, Natives, ThrowsObject}
+use Rattle.jc_machine.specs.Machine.{Touch}
 use Rattle.jc_names.specs.declared.name.ClassName.TheVariants.{Api}
 use Rattle.jc_names.specs.declared.owner.Owner.{Owner}
 use Rattle.jc_natives.specs.Aids.{aid_work}
@@ -26,7 +28,8 @@ use Rattle.jc_natives.specs.Seen.{Seen, arguments_of, seen_of}
 use Rattle.jc_natives.specs.System.{system_work}
 use Rattle.jc_natives.specs.Tests.{tested}
 use Rattle.jc_natives.specs.Utilities.{utility_work}
-use Rattle.jc_natives.specs.Work.{Asks, Does, Ending, GivesReference, GivesWord, Makes, NewArray, NoResult, Throws, Work, array_type, no_transient_space, throws_system}
+use Rattle.jc_natives.specs.Work.{Asks, Does, Ending, GivesReference, GivesWord, Makes, NewArray, NoResult, Throws}
+use Rattle.jc_natives.specs.Work.{Work, array_type, no_transient_space, throws_system}
 use Rattle.jc_natives.specs.declared.ended.Question.{Question}
 use Rattle.jc_natives.specs.declared.kept.Installing.{Installing}
 use Rattle.jc_natives.specs.declared.kept.Instance.{Instance}

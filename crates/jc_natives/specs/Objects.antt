@@ -6,7 +6,8 @@ use Rattle.jc_natives.specs.Kept.{Kept}
 use Rattle.jc_natives.specs.Seen.{Seen, is_aid_object}
 use Rattle.jc_natives.specs.Work.{GivesWord, NoResult, Work, gives, throws_with, writes_to}
 use Rattle.jc_natives.specs.declared.native.ObjectNative.{ObjectNative}
-use Rattle.jc_natives.specs.declared.native.ObjectNative.TheVariants.{Construct, ConstructWithReason, Equals, GetReason, SetReason, ThrowIt}
+use Rattle.jc_natives.specs.declared.native.ObjectNative.TheVariants.{Construct, ConstructWithReason, Equals, GetReason}
+use Rattle.jc_natives.specs.declared.native.ObjectNative.TheVariants.{SetReason, ThrowIt}
 use Rattle.jc_store.specs.Heap.{Heap}
 
 -- objects have the same bytes as AIDs; and they are AIDs that do

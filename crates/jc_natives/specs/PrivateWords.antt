@@ -12,7 +12,8 @@ use Rattle.jc_natives.specs.Meaning.{answering_member, with_room, work_of}
 use Rattle.jc_natives.specs.Rows.{row_of}
 use Rattle.jc_natives.specs.Seen.{Seen}
 use Rattle.jc_natives.specs.Tests.{tested}
-use Rattle.jc_natives.specs.Work.{Asks, Does, Ending, GivesReference, GivesWord, Makes, NewArray, NoResult, Throws, Work, array_type, gives, throws}
+use Rattle.jc_natives.specs.Work.{Asks, Does, Ending, GivesReference, GivesWord, Makes, NewArray, NoResult, Throws}
+use Rattle.jc_natives.specs.Work.{Work, array_type, gives, throws}
 use Rattle.jc_natives.specs.declared.ended.Ended.{Ended}
 use Rattle.jc_natives.specs.declared.ended.Ended.TheVariants as ends
 use Rattle.jc_natives.specs.declared.ended.Question.{Question}

@@ -8,12 +8,15 @@ use Rattle.jc_natives.specs.Applets.{aid_object}
 use Rattle.jc_natives.specs.Cells.{aid_bytes, argument, extended, is_count}
 use Rattle.jc_natives.specs.Kept.{Kept, instance_of, instance_with}
 use Rattle.jc_natives.specs.Seen.{Seen}
-use Rattle.jc_natives.specs.Work.{Asks, GivesReference, Makes, Work, gives, illegal_transient, illegal_value, throws, throws_system, unless_system}
+use Rattle.jc_natives.specs.Work.{Asks, GivesReference, Makes, Work, gives, illegal_transient, illegal_value, throws}
+use Rattle.jc_natives.specs.Work.{throws_system, unless_system}
 use Rattle.jc_natives.specs.declared.kept.Instance.{Instance}
 use Rattle.jc_natives.specs.declared.native.Elements.{Elements}
 use Rattle.jc_natives.specs.declared.native.Elements.TheVariants.{Booleans, Bytes, References, Shorts}
 use Rattle.jc_natives.specs.declared.native.SystemNative.{SystemNative}
-use Rattle.jc_natives.specs.declared.native.SystemNative.TheVariants.{AskForShareable, GetAid, GetPreviousAid, LookupAid, MakeBooleans, MakeBytes, MakeReferences, MakeShorts}
+use Rattle.jc_natives.specs.declared.native.SystemNative.TheVariants.{AskForShareable, GetAid, GetPreviousAid}
+use Rattle.jc_natives.specs.declared.native.SystemNative.TheVariants.{LookupAid, MakeBooleans, MakeBytes}
+use Rattle.jc_natives.specs.declared.native.SystemNative.TheVariants.{MakeReferences, MakeShorts}
 use Rattle.jc_names.specs.declared.owner.Owner.{Owner}
 use Rattle.jc_store.specs.declared.kind.ClearingEvent.{ClearingEvent}
 use Rattle.jc_store.specs.declared.kind.ClearingEvent.TheVariants.{Deselect, Reset}

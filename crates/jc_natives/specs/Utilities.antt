@@ -6,7 +6,8 @@ use Rattle.jc_natives.specs.Kept.{Kept}
 use Rattle.jc_natives.specs.Seen.{Seen}
 use Rattle.jc_natives.specs.Work.{GivesWord, Work, gives, writes_to}
 use Rattle.jc_natives.specs.declared.native.UtilityNative.{UtilityNative}
-use Rattle.jc_natives.specs.declared.native.UtilityNative.TheVariants.{ArrayCompare, ArrayCopy, ArrayFill, GetShort, MakeShort, SetShort}
+use Rattle.jc_natives.specs.declared.native.UtilityNative.TheVariants.{ArrayCompare, ArrayCopy, ArrayFill, GetShort}
+use Rattle.jc_natives.specs.declared.native.UtilityNative.TheVariants.{MakeShort, SetShort}
 
 -- A copy is as through a copy of the source. What the source holds is written as it is: arrays of bytes hold bytes, so
 -- these are bytes. What is written ends behind the offset that is given.

@@ -2,7 +2,8 @@
 
 ghost use Rattle.std.specs.Prelude.{◌≡◌, ◌&&◌, None, Some, if◌then◌else◌, is_some, length, nat_lt, not};
 ghost use Rattle.jc_machine.specs.Runtime.{most_instances};
-ghost use Rattle.jc_natives.specs.Applets.{aid_object, allowed, applet_work, may_register, owner_of, registers, registers_range};
+ghost use Rattle.jc_natives.specs.Applets.{aid_object, allowed, applet_work, may_register, owner_of, registers};
+ghost use Rattle.jc_natives.specs.Applets.{registers_range};
 ghost use Rattle.jc_natives.specs.Cells.{bytes_of};
 ghost use Rattle.jc_natives.specs.Kept.{has_aid_length, instance_with};
 ghost use Rattle.jc_natives.specs.PrivateWords.{done_of, native_work, seen_in};

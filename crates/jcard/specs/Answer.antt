@@ -3,7 +3,8 @@ use Rattle.std.specs.Prelude.{ℕ, List, ◌++◌, codes}
 use Rattle.std.specs.Fmt.{decimal, signed_decimal}
 use Rattle.jc_base.specs.Reason.{name_of}
 use Rattle.jcard.specs.declared.answer.EvalAnswer.{EvalAnswer}
-use Rattle.jcard.specs.declared.answer.EvalAnswer.TheVariants.{Value, Throws, Refused, BadCertificate, StepsUsedUp, Memory}
+use Rattle.jcard.specs.declared.answer.EvalAnswer.TheVariants.{Value, Throws, Refused, BadCertificate, StepsUsedUp}
+use Rattle.jcard.specs.declared.answer.EvalAnswer.TheVariants.{Memory}
 
 -- what is printed of `eval`, numbers in decimal
 abbrev pub line_of : EvalAnswer → List ℕ

@@ -11,7 +11,8 @@ use Rattle.jc_check.specs.Method.{states_of}
 use Rattle.jc_check.specs.Carried.{CertCarriesCode}
 use Rattle.jc_check.specs.FirstFault.{fault_at, IsFirstFaultOf}
 use Rattle.jcard.specs.declared.answer.EvalAnswer.{EvalAnswer}
-use Rattle.jcard.specs.declared.answer.EvalAnswer.TheVariants.{Value, Throws, Refused, BadCertificate, StepsUsedUp, Memory}
+use Rattle.jcard.specs.declared.answer.EvalAnswer.TheVariants.{Value, Throws, Refused, BadCertificate, StepsUsedUp}
+use Rattle.jcard.specs.declared.answer.EvalAnswer.TheVariants.{Memory}
 use Rattle.jc_words.specs.Shorts.{short}
 use Rattle.jc_machine.specs.Step.{CallEnd}
 
@@ -30,7 +31,8 @@ pub record HasFirstFault (code bytes : List ℕ) (pc : ℕ) (reason : Reason) : 
   pub spelled : SpellsCert bytes rows
   pub first : IsFirstFaultOf code (states_of rows) (fault_at pc reason)
 
--- the certificate that the bytes spell carries the code, and the defensive machine's run of it with so many steps ends so
+-- the certificate that the bytes spell carries the code, and the defensive machine's run of it with so many steps ends
+-- so
 pub record RunEnds (code bytes : List ℕ) (steps : ℕ) (IsEnd : CallEnd ⊤ → Type 0) : Type 0 where
   pub rows : List Row
   pub spelled : SpellsCert bytes rows

@@ -40,7 +40,8 @@ impl fmt::Display for TextFault {
     }
 }
 
-/// What `eval` answers to code and a certificate in hexadecimal, which is never `EvalAnswer::Memory`. CODE is read first.
+/// What `eval` answers to code and a certificate in hexadecimal, which is never `EvalAnswer::Memory`. CODE is read
+/// first.
 pub fn answer_of(alloc: Global, code: &str, cert: &str, steps: u32) -> Result<EvalAnswer, TextFault>
     ensures answered { IfOk result (AnswersTexts code.now cert.now steps) }
     ensures faults { IfErr result (IsTextFault code.now cert.now) }

@@ -56,7 +56,8 @@ is_deselect Deselect = true
 
 -- an array that is cleared on deselect, while no applet of the active context is selected
 abbrev pub is_out_of_selection : ℕ → Facts → Bool
-is_out_of_selection active f = option_map_or is_deselect f.clears false && not (option_map_or (λ selected. selected == active) f.selected false)
+is_out_of_selection active f =
+    option_map_or is_deselect f.clears false && not (option_map_or (λ selected. selected == active) f.selected false)
 
 -- ---- accesses
 
@@ -115,14 +116,19 @@ abbrev pub verdict_in : Row → ℕ → Facts → Verdict
 verdict_in static_fields active f = Allowed
 verdict_in fields active f = allowed_if (is_own active f) (Denied Fields)
 verdict_in components active f =
-    if is_out_of_selection active f then Denied Selection else allowed_if (is_own active f || is_global_array f.mark) (Denied Components)
-verdict_in virtual_calls active f = allowed_if (is_own active f) (switched_if (is_entry_point f.mark || is_global_array f.mark) runtime (Denied Calls))
-verdict_in interface_calls active f = allowed_if (is_own active f) (switched_if (is_entry_point f.mark) runtime (Denied Calls))
+    if is_out_of_selection active f then Denied Selection
+    else allowed_if (is_own active f || is_global_array f.mark) (Denied Components)
+verdict_in virtual_calls active f =
+    allowed_if (is_own active f) (switched_if (is_entry_point f.mark || is_global_array f.mark) runtime (Denied Calls))
+verdict_in interface_calls active f =
+    allowed_if (is_own active f) (switched_if (is_entry_point f.mark) runtime (Denied Calls))
 verdict_in shared_calls active f =
-    allowed_if (is_own active f) (switched_if (is_entry_point f.mark) runtime (switched_if f.is_shareable f.owner (Denied SharedCalls)))
+    allowed_if (is_own active f) (switched_if (is_entry_point f.mark) runtime
+    (switched_if f.is_shareable f.owner (Denied SharedCalls)))
 verdict_in throws active f = allowed_if (is_own active f || is_entry_point f.mark) (Denied Throws)
 verdict_in casts active f = allowed_if (is_own active f || is_entry_point f.mark) (Denied Casts)
-verdict_in shared_casts active f = allowed_if (is_own active f || is_entry_point f.mark || f.is_shareable) (Denied SharedCasts)
+verdict_in shared_casts active f =
+    allowed_if (is_own active f || is_entry_point f.mark || f.is_shareable) (Denied SharedCasts)
 
 -- all is allowed to the runtime, and what it calls it calls as the object's owner
 abbrev pub verdict_for_runtime : Row → Facts → Verdict

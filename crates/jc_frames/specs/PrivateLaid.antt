@@ -10,7 +10,12 @@ part words start len = take len (drop start words)
 
 -- the frame at a place
 abbrev pub frame_in : List ℕ → FramePlace → Frame
-frame_in words p = record { header = p.header; locals = part words p.start p.locals; operands = part words (p.start + p.locals) p.operands }
+frame_in words p =
+    record {
+      header = p.header;
+      locals = part words p.start p.locals;
+      operands = part words (p.start + p.locals) p.operands;
+    }
 
 -- the frames at places, of which the last is that of the top one
 abbrev pub frames_in : List ℕ → List FramePlace → List Frame

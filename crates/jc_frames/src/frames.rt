@@ -40,9 +40,20 @@ impl Model for Frames {
 
     ghost use Rattle.jc_frames.specs.PrivateLaid.{IsLaid, frames_in};
 
-    ghost view = { λ s. record { frames = frames_in s.words.items s.places.items; most_frames = s.most_frames; most_words = s.most_words } };
+    ghost view = { λ s. record {
+      frames = frames_in s.words.items s.places.items;
+      most_frames = s.most_frames;
+      most_words = s.most_words;
+    } };
 
-    ghost invariant = { λ s. IsLaid s.places.items s.words.items (record { places = vec_len s.places; room = vec_capacity s.places; words = vec_len s.words; used = s.used; most_frames = s.most_frames; most_words = s.most_words }) };
+    ghost invariant = { λ s. IsLaid s.places.items s.words.items (record {
+      places = vec_len s.places;
+      room = vec_capacity s.places;
+      words = vec_len s.words;
+      used = s.used;
+      most_frames = s.most_frames;
+      most_words = s.most_words;
+    }) };
 }
 
 impl Frames {
@@ -113,7 +124,8 @@ impl Frames {
     pub fn operands(&mut self) -> &mut [u16]
         requires there { HasTop self.old }
         ensures* given_back { sem 𝓛 (LendsOperands self.entry result) }
-        ensures operands { (top : Frame) (below : List Frame) → self.old.frames ≡ top ∷ below → result.now ≡ top.operands }
+        ensures operands { (top : Frame) (below : List Frame) → self.old.frames ≡ top ∷ below
+            → result.now ≡ top.operands }
     {
         let place = top_of(&self.places);
         let start = usize::from(place.start) + usize::from(place.locals);
@@ -207,7 +219,8 @@ impl Frames {
     #[inline]
     pub fn pop_frame(&mut self)
         requires there { HasTop self.old }
-        ensures { (top : Frame) (below : List Frame) → self.old.frames ≡ top ∷ below → self.new ≡ with_frames self.old below }
+        ensures { (top : Frame) (below : List Frame) → self.old.frames ≡ top ∷ below
+            → self.new ≡ with_frames self.old below }
     {
         self.used = top_of(&self.places).start;
         let _ = self.places.pop();

@@ -151,7 +151,8 @@ impl WordMachine {
 
     /// getfield, putfield
     fn use_field(&mut self, here: &Here<'_>, access: FieldAccess, cell_index: u32) -> StepEnd
-        ensures { done self.new result ≡ do_instance here.now access.form cell_index access.action access.holder self.old }
+        ensures { done self.new result
+            ≡ do_instance here.now access.form cell_index access.action access.holder self.old }
     {
         match (access.action, access.holder) {
             (FieldAction::Get, Holder::Operand) => {

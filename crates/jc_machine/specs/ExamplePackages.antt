@@ -66,7 +66,8 @@ a_class offset superclass size table interfaces fields methods = record {
 abbrev pub code : ℕ → List ℕ → List Handler → MethodBody
 code offset bytes handlers = record { offset = offset; code_offset = offset + 2; code = bytes; handlers = handlers }
 
-abbrev pub a_package : ℕ → List PackageInfo → List ExportedClass → List ClassShape → List PoolEntry → List MethodBody → Package
+abbrev pub a_package : ℕ → List PackageInfo → List ExportedClass → List ClassShape → List PoolEntry → List MethodBody
+    → Package
 a_package number imports exports classes pool methods = record {
   shape = record { «package» = info number; imports = imports; exports = exports; classes = classes };
   body = record {
@@ -79,8 +80,8 @@ a_package number imports exports classes pool methods = record {
   };
 }
 
--- ---- the server: the shareable interface Service with a method; Base with a field and the method value; and below it Derived, which
--- overrides it, and Failing, whose value divides by zero in a method that it calls
+-- ---- the server: the shareable interface Service with a method; Base with a field and the method value; and below it
+-- Derived, which overrides it, and Failing, whose value divides by zero in a method that it calls
 
 abbrev pub service : ClassShape
 service = record {
@@ -95,13 +96,16 @@ abbrev pub serves : List Implemented
 serves = record { interface = Internal 0; indexes = 1 ∷ [] } ∷ []
 
 abbrev pub base : ClassShape
-base = a_class 10 object_ref 1 (1 ∷ []) [] (record { place = Instance (Internal 10) 0; type = Short } ∷ []) (a_method 1 1 false [] 1 0 1 ∷ [])
+base =
+    a_class 10 object_ref 1 (1 ∷ []) [] (record { place = Instance (Internal 10) 0; type = Short } ∷ [])
+    (a_method 1 1 false [] 1 0 1 ∷ [])
 
 abbrev pub derived : ClassShape
 derived = a_class 30 (Internal 10) 0 (20 ∷ []) serves [] (a_method 20 1 false [] 1 0 1 ∷ [])
 
 abbrev pub failing : ClassShape
-failing = a_class 50 (Internal 10) 0 (40 ∷ []) serves [] (a_method 40 1 false [] 1 0 1 ∷ a_method 60 0 true [] 0 0 2 ∷ [])
+failing =
+    a_class 50 (Internal 10) 0 (40 ∷ []) serves [] (a_method 40 1 false [] 1 0 1 ∷ a_method 60 0 true [] 0 0 2 ∷ [])
 
 -- Owning, below Base too, whose value is its own field
 abbrev pub owning : ClassShape
@@ -117,7 +121,8 @@ abbrev pub server : Package
 server = a_package 1 (default_framework ∷ default_lang ∷ [])
     (record { class = 0; fields = []; methods = [] } ∷ record { class = 10; fields = []; methods = [] } ∷ [])
     (service ∷ base ∷ derived ∷ failing ∷ callers ∷ owning ∷ [])
-    (VirtualMethodref (record { class = Internal 10; token = 1 }) ∷ InstanceFieldref (record { class = Internal 10; token = 0 })
+    (VirtualMethodref (record { class = Internal 10; token = 1 })
+    ∷ InstanceFieldref (record { class = Internal 10; token = 0 })
     ∷ StaticMethodref (places.Internal 60) ∷ StaticMethodref (places.Internal 120) ∷ [])
     (code 1 (0x04 ∷ 0x78 ∷ []) []  -- Base.value: 1
     ∷ code 20 (0x05 ∷ 0x78 ∷ []) []  -- Derived.value: 2
@@ -134,7 +139,8 @@ server = a_package 1 (default_framework ∷ default_lang ∷ [])
 abbrev pub clients : ClassShape
 clients = a_class 0 (External 0 0) 0 [] [] [] (
     a_method 1 0 true (Reference (External 0 0) ∷ []) 1 0 1 ∷ a_method 20 1 true (Reference (External 0 0) ∷ []) 1 0 1
-    ∷ a_method 40 2 true (Reference (External 0 0) ∷ []) 1 0 1 ∷ a_method 60 3 true (Reference (External 0 0) ∷ []) 1 0 1 ∷ [])
+    ∷ a_method 40 2 true (Reference (External 0 0) ∷ []) 1 0 1
+    ∷ a_method 60 3 true (Reference (External 0 0) ∷ []) 1 0 1 ∷ [])
 
 abbrev pub client : Package
 client = a_package 2 (default_lang ∷ info 1 ∷ []) [] (clients ∷ [])
@@ -143,12 +149,14 @@ client = a_package 2 (default_lang ∷ info 1 ∷ []) [] (clients ∷ [])
     ∷ code 20 (0x18 ∷ 0x8E ∷ 1 ∷ 0 ∷ 0 ∷ 0 ∷ 0x78 ∷ 0x3B ∷ 0x08 ∷ 0x78 ∷ [])  -- the same, or 5 where it throws
     (record { start = 22; active_length = 7; handler = 29; catch_type = 0 } ∷ [])
     ∷ code 40 (0x18 ∷ 0x85 ∷ 1 ∷ 0x78 ∷ []) []  -- its field
-    ∷ code 60 (0x18 ∷ 0x8E ∷ 1 ∷ 0 ∷ 0 ∷ 0 ∷ 0x78 ∷ 0x3B ∷ 0x18 ∷ 0x85 ∷ 1 ∷ 0x78 ∷ [])  -- the service, or its field where that throws
+    -- the service, or its field where that throws
+    ∷ code 60 (0x18 ∷ 0x8E ∷ 1 ∷ 0 ∷ 0 ∷ 0 ∷ 0x78 ∷ 0x3B ∷ 0x18 ∷ 0x85 ∷ 1 ∷ 0x78 ∷ [])
     (record { start = 62; active_length = 7; handler = 69; catch_type = 0 } ∷ [])
     ∷ [])
 
--- ---- a package of code that no check would accept, and of code that throws: Probe's static methods, each for one end, and Open, whose
--- method is abstract; and Mistaken, whose row for the interface Asked leads to Object's equals, which takes no short
+-- ---- a package of code that no check would accept, and of code that throws: Probe's static methods, each for one end,
+-- and Open, whose method is abstract; and Mistaken, whose row for the interface Asked leads to Object's equals, which
+-- takes no short
 
 abbrev pub probes : List ℕ → List MethodShape
 probes [] = []
@@ -160,7 +168,8 @@ probe_of offset = a_method offset 0 true (Reference object_ref ∷ []) 1 0 2
 
 abbrev pub probe_class : ClassShape
 probe_class = a_class 0 object_ref 0 [] [] [] (
-    probe_of 200 ∷ probe_of 210 ∷ probe_of 220 ∷ a_method 230 0 true (Reference (Internal 0) ∷ []) 1 0 1 ∷ probe_of 240 ∷ probe_of 250
+    probe_of 200 ∷ probe_of 210 ∷ probe_of 220 ∷ a_method 230 0 true (Reference (Internal 0) ∷ []) 1 0 1
+    ∷ probe_of 240 ∷ probe_of 250
     ∷ probe_of 260
     ∷ a_method 1 0 true [] 0 1 1 ∷ a_method 130 0 true [] 0 0 0
     ∷ probes (10 ∷ 20 ∷ 30 ∷ 40 ∷ 50 ∷ 60 ∷ 70 ∷ 80 ∷ 100 ∷ 120 ∷ 140 ∷ 160 ∷ 180 ∷ []))
@@ -200,7 +209,8 @@ probe = a_package 1 (default_framework ∷ default_lang ∷ []) []
     ∷ code 60 (0x02 ∷ 0x90 ∷ 11 ∷ 0x92 ∷ 0x78 ∷ []) []  -- an array of -1 bytes
     ∷ code 70 (0x04 ∷ 0x90 ∷ 11 ∷ 0x04 ∷ 0x25 ∷ 0x78 ∷ []) []  -- component 1 of an array of 1
     ∷ code 80 (0x11 ∷ 0x7F ∷ 0xFF ∷ 0x90 ∷ 12 ∷ 0x92 ∷ 0x78 ∷ []) []  -- an array that is too long for the card
-    ∷ code 100 (0x04 ∷ 0x90 ∷ 11 ∷ 0x3D ∷ 0x03 ∷ 0x11 ∷ 0x12 ∷ 0xFF ∷ 0x38 ∷ 0x03 ∷ 0x25 ∷ 0x78 ∷ []) []  -- 12FF as a byte
+    -- 12FF as a byte
+    ∷ code 100 (0x04 ∷ 0x90 ∷ 11 ∷ 0x3D ∷ 0x03 ∷ 0x11 ∷ 0x12 ∷ 0xFF ∷ 0x38 ∷ 0x03 ∷ 0x25 ∷ 0x78 ∷ []) []
     ∷ code 120 (0x02 ∷ 0x04 ∷ 0x51 ∷ 0x78 ∷ []) []  -- -1 shifted by one, zeros before it
     ∷ code 130 (0x8D ∷ 0 ∷ 3 ∷ 0x7A ∷ 0x3B ∷ 0x7A ∷ [])  -- a call whose exception is caught, where no operand has room
     (record { start = 132; active_length = 3; handler = 136; catch_type = 0 } ∷ [])
@@ -220,6 +230,8 @@ probe = a_package 1 (default_framework ∷ default_lang ∷ []) []
 -- ---- a package that asks the runtime for the shareable object of an applet: a static method of JCSystem, and then 1
 
 abbrev pub asker : Package
-asker = a_package 3 (default_framework ∷ default_lang ∷ []) [] (a_class 0 object_ref 0 [] [] [] (a_method 1 0 true [] 0 0 2 ∷ []) ∷ [])
+asker =
+    a_package 3 (default_framework ∷ default_lang ∷ []) []
+    (a_class 0 object_ref 0 [] [] [] (a_method 1 0 true [] 0 0 2 ∷ []) ∷ [])
     (StaticMethodref (places.External 0 8 3) ∷ [])
     (code 1 (0x01 ∷ 0x03 ∷ 0x8D ∷ 0 ∷ 0 ∷ 0x3B ∷ 0x04 ∷ 0x78 ∷ []) [] ∷ [])

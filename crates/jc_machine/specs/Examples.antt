@@ -23,14 +23,16 @@ use Rattle.jc_store.specs.declared.kind.ObjectType.{ObjectType}
 use Rattle.jc_store.specs.declared.kind.ObjectType.TheVariants.{Instance, BooleanArray, ByteArray, ShortArray}
 use Rattle.jc_store.specs.declared.kind.ObjectType.TheVariants.{ReferenceArray}
 use Rattle.jc_names.specs.declared.owner.Owner.{Owner}
+use Rattle.jc_firewall.specs.declared.access.Access.{Access}
 use Rattle.jc_firewall.specs.declared.access.Access.TheVariants.{InvokeVirtual}
+use Rattle.jc_firewall.specs.declared.access.Verdict.{Verdict}
 use Rattle.jc_firewall.specs.declared.access.Verdict.TheVariants.{Allowed}
 use Rattle.jc_machine.specs.Lookup.{fields_of}
 use Rattle.jc_machine.specs.Machine.{Calls, Ends, Gives, Limits, Machine, NativeAnswer, NativeCall, Natives, Next}
 use Rattle.jc_machine.specs.Machine.{Outcome, Stuck, Surroundings, Throws, Touch, UsedUp}
 use Rattle.jc_machine.specs.Runtime.{RuntimeObject, runtime_objects}
 use Rattle.jc_machine.specs.Step.{defensive_step, CallEnd, Gave, RanOut, Start, Threw, WasStuck, runtime_call}
-use Rattle.jc_machine.specs.ExamplePackages.{probe}
+use Rattle.jc_machine.specs.ExamplePackages.{client, probe, server}
 use Rattle.jc_words.specs.Values.{Null, Ref, TaggedValue, Unset, Word}
 
 -- ---- worlds
@@ -41,7 +43,11 @@ body_in p = record { kept = kept_of p.body; targets = [] }
 
 -- packages behind those of the API
 abbrev pub world_with : List Package → World
-world_with packages = record { shapes = api_world default_binding ++ map (λ (p : Package). p.shape) packages; bodies = map body_in packages }
+world_with packages =
+    record {
+      shapes = api_world default_binding ++ map (λ (p : Package). p.shape) packages;
+      bodies = map body_in packages;
+    }
 
 -- natives that give nothing, and keep all as it is
 abbrev pub quiet : Natives (Unit {0})
@@ -53,7 +59,12 @@ quiet = record {
 -- natives of which the one that asks for a shareable object has that of object 11 called, and that one is accessed
 abbrev pub asked_natives : ℕ → NativeCall (Unit {0}) → NativeAnswer (Unit {0})
 asked_natives member call =
-    if member == 44 then record { touches = []; heap = call.heap; runtime = call.runtime; ends = Calls (record { member = 40; object = 11; arguments = Null ∷ Word 0 ∷ [] }) }
+    if member == 44 then record {
+      touches = [];
+      heap = call.heap;
+      runtime = call.runtime;
+      ends = Calls (record { member = 40; object = 11; arguments = Null ∷ Word 0 ∷ [] });
+    }
     else if member == 40 then record {
       touches = record { active = call.active.context; access = InvokeVirtual; object = 11; verdict = Allowed } ∷ [];
       heap = call.heap;
@@ -76,7 +87,8 @@ abbrev pub owner : ℕ → ℕ → Owner
 owner context instance = record { context = context; instance = instance }
 
 abbrev pub object : ObjectType → Mark → Owner → List TaggedValue → Object TaggedValue
-object type mark of cells = record { kind = record { object = type; mark = mark; clears = None }; owner = of; cells = cells }
+object type mark of cells =
+    record { kind = record { object = type; mark = mark; clears = None }; owner = of; cells = cells }
 
 abbrev pub exception : ApiClass → List TaggedValue → Object TaggedValue
 exception class cells = object (Instance (classes.Api class)) TemporaryEntryPoint (owner 0 0) cells
@@ -85,13 +97,16 @@ exception class cells = object (Instance (classes.Api class)) TemporaryEntryPoin
 abbrev pub exceptions : Heap TaggedValue
 exceptions =
     exception ArithmeticException [] ∷ exception ArrayStoreException [] ∷ exception ClassCastException []
-    ∷ exception ArrayIndexOutOfBoundsException [] ∷ exception NegativeArraySizeException [] ∷ exception NullPointerException []
-    ∷ exception SecurityException [] ∷ exception IsoException (Word 0 ∷ []) ∷ exception SystemException (Word 0 ∷ []) ∷ exception ApduException (Word 0 ∷ []) ∷ []
+    ∷ exception ArrayIndexOutOfBoundsException [] ∷ exception NegativeArraySizeException []
+    ∷ exception NullPointerException []
+    ∷ exception SecurityException [] ∷ exception IsoException (Word 0 ∷ []) ∷ exception SystemException (Word 0 ∷ [])
+    ∷ exception ApduException (Word 0 ∷ []) ∷ []
 
 -- ---- runs
 
 abbrev pub start_of : Heap TaggedValue → Owner → MethodName → List TaggedValue → Start (Unit {0})
-start_of heap of method arguments = record { heap = heap; statics = [] ∷ [] ∷ []; runtime = tt; owner = of; method = method; arguments = arguments }
+start_of heap of method arguments =
+    record { heap = heap; statics = [] ∷ [] ∷ []; runtime = tt; owner = of; method = method; arguments = arguments }
 
 -- how a call ends
 pub data End : Type 0 where
@@ -111,8 +126,21 @@ pub record Shown : Type 0 where
   pub touches : List Touch
   pub end : End
 
+abbrev pub shown : List Touch → End → Shown
+shown touches end = record { touches = touches; end = end }
+
+-- what is shown where nothing was accessed
+abbrev pub untouched : End → Shown
+untouched end = shown [] end
+
+-- an access from a context to an object, and the verdict on it
+abbrev pub touch : ℕ → Access → ℕ → Verdict → Touch
+touch active access object verdict = record { active = active; access = access; object = object; verdict = verdict }
+
 unfoldable pub run_with : Natives (Unit {0}) → List Package → ℕ → Start (Unit {0}) → Shown
-run_with natives packages steps start = let called = runtime_call (around natives packages) steps start in record { touches = called.touches; end = end_of called.ends }
+run_with natives packages steps start =
+    let called = runtime_call (around natives packages) steps start in
+    record { touches = called.touches; end = end_of called.ends }
 
 abbrev pub run : List Package → ℕ → Start (Unit {0}) → Shown
 run packages steps start = run_with quiet packages steps start
@@ -126,9 +154,10 @@ served offset = object (Instance (classes.Loaded 1 offset)) Plain (owner 1 1) (W
 abbrev pub with_served : ℕ → Heap TaggedValue
 with_served offset = exceptions ++ served offset ∷ []
 
--- what is shown where nothing was accessed
-abbrev pub untouched : End → Shown
-untouched end = record { touches = []; end = end }
+-- a call of a method of the server or of the client with so many steps, on the server's object of the class at an offset
+abbrev pub served_run : ℕ → ℕ → Owner → MethodName → Shown
+served_run steps class of method =
+    run (server ∷ client ∷ []) steps (start_of (with_served class) of method (Ref 11 ∷ []))
 
 -- a probe without an argument, and one on an object of the class at an offset
 abbrev pub probed : ℕ → Shown

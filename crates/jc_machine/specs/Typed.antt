@@ -51,7 +51,8 @@ has_type world heap v types.BooleanArray = leads_to heap is_boolean_array v
 has_type world heap v types.ByteArray = leads_to heap is_byte_array v
 has_type world heap v types.ShortArray = leads_to heap is_short_array v
 has_type world heap v (types.ReferenceArray c) =
-    leads_to heap (λ object. option_map_or (λ e. is_class_below world (counted world e) c) (component_class object) false) v
+    leads_to heap
+    (λ object. option_map_or (λ e. is_class_below world (counted world e) c) (component_class object) false) v
 
 -- locals of these types
 abbrev pub HaveTypes : List Shape → Heap TaggedValue → List TaggedValue → List Ty → Type 0
@@ -81,7 +82,8 @@ CellsTyped world heap cells (Instance c) =
 CellsTyped world heap cells BooleanArray = AllByRecursion (λ v. is_byte v ≡ true) cells
 CellsTyped world heap cells ByteArray = AllByRecursion (λ v. is_byte v ≡ true) cells
 CellsTyped world heap cells ShortArray = AllByRecursion (λ v. is_word v ≡ true) cells
-CellsTyped world heap cells (ReferenceArray c) = AllByRecursion (λ v. leads_to heap (is_instance world c) v ≡ true) cells
+CellsTyped world heap cells (ReferenceArray c) =
+    AllByRecursion (λ v. leads_to heap (is_instance world c) v ≡ true) cells
 
 -- an object of a class is of one that has objects: it is there, and isn't abstract
 abbrev pub may_be_made : List Shape → ObjectType → Bool
@@ -124,7 +126,8 @@ pub record IsPlaced (w : World) (heap : Heap TaggedValue) (f : Frame) : Type 0 w
   pub code : MethodBody
   pub there : code_at w f.method ≡ Some code
   pub typing : Typing
-  pub typed : IsTyping (package_rules (linked_as w f.method.number body)) (method_of (linked_as w f.method.number body) code) typing
+  pub typed : IsTyping (package_rules (linked_as w f.method.number body))
+      (method_of (linked_as w f.method.number body) code) typing
   pub shaped : IsShaped (method_of (linked_as w f.method.number body) code) typing
   pub state : Types
   pub stated : typing f.pc ≡ Some state

@@ -11,8 +11,8 @@ ghost use Rattle.jc_firewall.specs.declared.access.Rule.TheVariants.{Fields};
 ghost use Rattle.jc_firewall.specs.declared.access.Verdict.TheVariants.{Allowed, AllowedSwitch, Denied};
 ghost use Rattle.jc_machine.specs.ExamplePackages.{asker, client, probe, server};
 ghost use Rattle.jc_machine.specs.Examples.{a_value, an_object, asking, exceptions, have_their_sizes, is_stuck_with};
-ghost use Rattle.jc_machine.specs.Examples.{owner, probed, probed_on, run, run_with, start_of, stuck, untouched};
-ghost use Rattle.jc_machine.specs.Examples.{used_up, with_served};
+ghost use Rattle.jc_machine.specs.Examples.{owner, probed, probed_on, run, run_with, served_run};
+ghost use Rattle.jc_machine.specs.Examples.{shown, start_of, stuck, touch, untouched, used_up, with_served};
 ghost use Rattle.jc_machine.specs.Idle.{idle};
 ghost use Rattle.jc_machine.specs.Typed.{IsOperand};
 ghost use Rattle.jc_words.specs.Values.{Null, Ref, TaggedValue, Unset, Word};
@@ -37,47 +37,43 @@ use jc_step::api_classes_have_objects;
 /// An applet is installed: its object is made, and registers itself. It does nothing.
 pub fn install_runs()
     ensures { run (applet ∷ []) 10 (start_of exceptions (owner 1 1) (Loaded 1 1) (Null ∷ Word 0 ∷ Word 0 ∷ []))
-        ≡ record { touches = record { active = 1; access = InvokeVirtual; object = 11; verdict = Allowed } ∷ []; end = a_value None } }
+        ≡ shown (touch 1 InvokeVirtual 11 Allowed ∷ []) (a_value None) }
 {}
 
 /// Calls. They do nothing.
 pub fn calls_run()
-    ensures an_override_answers { run (server ∷ client ∷ []) 10 (start_of (with_served 30) (owner 1 1) (Loaded 1 80) (Ref 11 ∷ []))
-        ≡ record { touches = record { active = 1; access = InvokeVirtual; object = 11; verdict = Allowed } ∷ []; end = a_value (Some (Word 2)) } }
-    ensures an_inherited_method_answers { run (server ∷ client ∷ []) 10 (start_of (with_served 10) (owner 1 1) (Loaded 1 80) (Ref 11 ∷ []))
-        ≡ record { touches = record { active = 1; access = InvokeVirtual; object = 11; verdict = Allowed } ∷ []; end = a_value (Some (Word 1)) } }
-    ensures an_interface_is_called_across_contexts { run (server ∷ client ∷ []) 10 (start_of (with_served 30) (owner 2 1) (Loaded 2 1) (Ref 11 ∷ []))
-        ≡ record { touches = record { active = 2; access = InvokeInterface; object = 11; verdict = AllowedSwitch (owner 1 1) } ∷ []; end = a_value (Some (Word 2)) } }
-    ensures a_field_is_read { run (server ∷ client ∷ []) 10 (start_of (with_served 30) (owner 1 1) (Loaded 1 100) (Ref 11 ∷ []))
-        ≡ record { touches = record { active = 1; access = GetField; object = 11; verdict = Allowed } ∷ []; end = a_value (Some (Word 7)) } }
-    ensures a_field_is_denied_across_contexts { run (server ∷ client ∷ []) 10 (start_of (with_served 30) (owner 2 1) (Loaded 2 40) (Ref 11 ∷ []))
-        ≡ record { touches = record { active = 2; access = GetField; object = 11; verdict = Denied Fields } ∷ []; end = an_object 7 } }
-    ensures an_exception_passes_two_frames_and_a_switch { run (server ∷ client ∷ []) 20 (start_of (with_served 50) (owner 2 1) (Loaded 2 20) (Ref 11 ∷ []))
-        ≡ record { touches = record { active = 2; access = InvokeInterface; object = 11; verdict = AllowedSwitch (owner 1 1) } ∷ []; end = a_value (Some (Word 5)) } }
-    ensures a_service_is_run_by_its_owner { run (server ∷ client ∷ []) 10 (start_of (with_served 90) (owner 2 1) (Loaded 2 1) (Ref 11 ∷ []))
-        ≡ record {
-          touches = record { active = 2; access = InvokeInterface; object = 11; verdict = AllowedSwitch (owner 1 1) } ∷ record { active = 1; access = GetField; object = 11; verdict = Allowed } ∷ [];
-          end = a_value (Some (Word 7));
-        } }
-    ensures what_catches_is_run_by_its_owner { run (server ∷ client ∷ []) 20 (start_of (with_served 50) (owner 2 1) (Loaded 2 60) (Ref 11 ∷ []))
-        ≡ record {
-          touches = record { active = 2; access = InvokeInterface; object = 11; verdict = AllowedSwitch (owner 1 1) } ∷ record { active = 2; access = GetField; object = 11; verdict = Denied Fields } ∷ [];
-          end = an_object 7;
-        } }
-    ensures an_uncaught_exception_ends_a_call { run (server ∷ client ∷ []) 20 (start_of (with_served 50) (owner 2 1) (Loaded 2 1) (Ref 11 ∷ []))
-        ≡ record { touches = record { active = 2; access = InvokeInterface; object = 11; verdict = AllowedSwitch (owner 1 1) } ∷ []; end = an_object 1 } }
-    ensures null_has_no_method { run (server ∷ client ∷ []) 10 (start_of (with_served 30) (owner 1 1) (Loaded 1 80) (Null ∷ []))
-        ≡ record { touches = []; end = an_object 6 } }
-    ensures steps_are_used_up_inside_a_call { run (server ∷ client ∷ []) 3 (start_of (with_served 30) (owner 1 1) (Loaded 1 80) (Ref 11 ∷ []))
-        ≡ record { touches = record { active = 1; access = InvokeVirtual; object = 11; verdict = Allowed } ∷ []; end = used_up } }
+    ensures an_override_answers { served_run 10 30 (owner 1 1) (Loaded 1 80)
+        ≡ shown (touch 1 InvokeVirtual 11 Allowed ∷ []) (a_value (Some (Word 2))) }
+    ensures an_inherited_method_answers { served_run 10 10 (owner 1 1) (Loaded 1 80)
+        ≡ shown (touch 1 InvokeVirtual 11 Allowed ∷ []) (a_value (Some (Word 1))) }
+    ensures an_interface_is_called_across_contexts { served_run 10 30 (owner 2 1) (Loaded 2 1)
+        ≡ shown (touch 2 InvokeInterface 11 (AllowedSwitch (owner 1 1)) ∷ []) (a_value (Some (Word 2))) }
+    ensures a_field_is_read { served_run 10 30 (owner 1 1) (Loaded 1 100)
+        ≡ shown (touch 1 GetField 11 Allowed ∷ []) (a_value (Some (Word 7))) }
+    ensures a_field_is_denied_across_contexts { served_run 10 30 (owner 2 1) (Loaded 2 40)
+        ≡ shown (touch 2 GetField 11 (Denied Fields) ∷ []) (an_object 7) }
+    ensures an_exception_passes_two_frames_and_a_switch { served_run 20 50 (owner 2 1) (Loaded 2 20)
+        ≡ shown (touch 2 InvokeInterface 11 (AllowedSwitch (owner 1 1)) ∷ []) (a_value (Some (Word 5))) }
+    ensures a_service_is_run_by_its_owner { served_run 10 90 (owner 2 1) (Loaded 2 1)
+        ≡ shown (touch 2 InvokeInterface 11 (AllowedSwitch (owner 1 1)) ∷ touch 1 GetField 11 Allowed ∷ [])
+        (a_value (Some (Word 7))) }
+    ensures what_catches_is_run_by_its_owner { served_run 20 50 (owner 2 1) (Loaded 2 60)
+        ≡ shown (touch 2 InvokeInterface 11 (AllowedSwitch (owner 1 1)) ∷ touch 2 GetField 11 (Denied Fields) ∷ [])
+        (an_object 7) }
+    ensures an_uncaught_exception_ends_a_call { served_run 20 50 (owner 2 1) (Loaded 2 1)
+        ≡ shown (touch 2 InvokeInterface 11 (AllowedSwitch (owner 1 1)) ∷ []) (an_object 1) }
+    ensures null_has_no_method { run (server ∷ client ∷ []) 10
+        (start_of (with_served 30) (owner 1 1) (Loaded 1 80) (Null ∷ [])) ≡ untouched (an_object 6) }
+    ensures steps_are_used_up_inside_a_call { served_run 3 30 (owner 1 1) (Loaded 1 80)
+        ≡ shown (touch 1 InvokeVirtual 11 Allowed ∷ []) used_up }
     ensures frames_are_used_up { run (server ∷ client ∷ []) 90 (start_of (with_served 30) (owner 1 1) (Loaded 1 120) [])
-        ≡ record { touches = []; end = used_up } }
+        ≡ untouched used_up }
 {}
 
 /// A native member has a method called, with the owner of the object active. It does nothing.
 pub fn callback_runs()
     ensures { run_with asking (applet ∷ server ∷ asker ∷ []) 20 (start_of (with_served 0) (owner 3 1) (Loaded 3 1) [])
-        ≡ record { touches = record { active = 1; access = InvokeVirtual; object = 11; verdict = Allowed } ∷ []; end = a_value (Some (Word 1)) } }
+        ≡ shown (touch 1 InvokeVirtual 11 Allowed ∷ []) (a_value (Some (Word 1))) }
 {}
 
 /// A call of the runtime's may begin with a native member. They do nothing.
@@ -127,25 +123,21 @@ pub fn stuck_runs()
     ensures a_catch_type_is_missing { probed 160 ≡ untouched stuck }
     ensures a_native_argument_of_another_type { run_with idle (probe ∷ []) 20
         (start_of (with_served 60) (owner 1 1) (Loaded 1 260) (Ref 11 ∷ []))
-        ≡ record {
-          touches = record { active = 1; access = InvokeInterface; object = 11; verdict = Allowed } ∷ [];
-          end = stuck;
-        } }
-    ensures an_abstract_method { probed_on 30 240 ≡ record { touches = record { active = 1; access = InvokeVirtual; object = 11; verdict = Allowed } ∷ []; end = stuck } }
+        ≡ shown (touch 1 InvokeInterface 11 Allowed ∷ []) stuck }
+    ensures an_abstract_method { probed_on 30 240 ≡ shown (touch 1 InvokeVirtual 11 Allowed ∷ []) stuck }
 {}
 
 /// Throws. They do nothing.
 pub fn throws_run()
     ensures a_negative_length { probed 60 ≡ untouched (an_object 5) }
-    ensures an_index_past_the_end { probed 70 ≡ record { touches = record { active = 1; access = LoadComponent; object = 11; verdict = Allowed } ∷ []; end = an_object 4 } }
-    ensures no_room { probed 80 ≡ record { touches = record { active = 0; access = PutField; object = 9; verdict = Allowed } ∷ []; end = an_object 9 } }
-    ensures a_byte_with_its_sign { probed 100 ≡ record {
-      touches = record { active = 1; access = StoreComponent; object = 11; verdict = Allowed } ∷ record { active = 1; access = LoadComponent; object = 11; verdict = Allowed } ∷ [];
-      end = a_value (Some (Word 0xFFFF));
-    } }
+    ensures an_index_past_the_end { probed 70 ≡ shown (touch 1 LoadComponent 11 Allowed ∷ []) (an_object 4) }
+    ensures no_room { probed 80 ≡ shown (touch 0 PutField 9 Allowed ∷ []) (an_object 9) }
+    ensures a_byte_with_its_sign { probed 100
+        ≡ shown (touch 1 StoreComponent 11 Allowed ∷ touch 1 LoadComponent 11 Allowed ∷ [])
+        (a_value (Some (Word 0xFFFF))) }
     ensures a_shift_of_sixteen_bits { probed 120 ≡ untouched (a_value (Some (Word 0xFFFF))) }
-    ensures a_cast_passes { probed_on 0 250 ≡ record { touches = record { active = 1; access = CheckCast; object = 11; verdict = Allowed } ∷ []; end = a_value (Some (Word 1)) } }
-    ensures a_cast_fails { probed_on 30 250 ≡ record { touches = record { active = 1; access = CheckCast; object = 11; verdict = Allowed } ∷ []; end = an_object 3 } }
+    ensures a_cast_passes { probed_on 0 250 ≡ shown (touch 1 CheckCast 11 Allowed ∷ []) (a_value (Some (Word 1))) }
+    ensures a_cast_fails { probed_on 30 250 ≡ shown (touch 1 CheckCast 11 Allowed ∷ []) (an_object 3) }
 {}
 
 /// A machine that was just made, with the runtime's own objects alone: these are there, and are typed in each world

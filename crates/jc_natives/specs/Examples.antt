@@ -27,7 +27,8 @@ object type context cells =
 -- 1: an array of four bytes; 2: an array of another context; 3: an object that is its own
 abbrev pub three : Heap ℕ
 three =
-    object ByteArray 1 (1 ∷ 2 ∷ 3 ∷ 4 ∷ []) ∷ object ByteArray 2 (9 ∷ 9 ∷ []) ∷ object (Instance (Api ObjectClass)) 1 [] ∷ []
+    object ByteArray 1 (1 ∷ 2 ∷ 3 ∷ 4 ∷ []) ∷ object ByteArray 2 (9 ∷ 9 ∷ []) ∷ object (Instance (Api ObjectClass)) 1 []
+    ∷ []
 
 -- seen from context 1, while an applet of another one is selected
 abbrev pub seen : Seen

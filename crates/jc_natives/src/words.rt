@@ -8,9 +8,7 @@ use crate::kept::MOST_SENT;
 use arrayvec::ArrayVec;
 
 // How many words are compared at once, first and then.
-const LARGE: usize = 128;
-
-const MIDDLE: usize = 32;
+const LARGE: usize = 32;
 
 const SMALL: usize = 8;
 
@@ -76,6 +74,9 @@ fn same_from(one: &[u16], other: &[u16], known: usize, size: usize) -> usize
     ensures within { result ≤ length one.now }
     ensures same { take result one.now ≡ take result other.now }
 {
+    if one.len() < size {
+        return known;
+    }
     let mut start = known;
     while size <= one.len() - start {
         if !are_same(&one[start..start + size], &other[start..start + size]) {
@@ -84,7 +85,7 @@ fn same_from(one: &[u16], other: &[u16], known: usize, size: usize) -> usize
         start += size;
     }
     let end = one.len();
-    if start < end && size <= end && are_same(&one[end - size..], &other[end - size..]) {
+    if start < end && are_same(&one[end - size..], &other[end - size..]) {
         end
     } else {
         start
@@ -99,8 +100,10 @@ fn same_start(one: &[u16], other: &[u16]) -> usize
     ensures same { take result one.now ≡ take result other.now }
 {
     let large = same_from(one, other, 0, LARGE);
-    let middle = same_from(one, other, large, MIDDLE);
-    same_from(one, other, middle, SMALL)
+    if large == one.len() {
+        return large;
+    }
+    same_from(one, other, large, SMALL)
 }
 
 /// How the low bytes of words compare: -1, 0 or 1.

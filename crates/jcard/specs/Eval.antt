@@ -76,5 +76,7 @@ pub record IsAnswer (answer : EvalAnswer) (code bytes : List ℕ) (steps : ℕ) 
   -- and when each comes, unless memory is out: bytes that spell none, a certificate that doesn't carry the code,
   -- and one that does
   pub unspelled : SpellsNone bytes → answer ≢ Memory → answer ≡ BadCertificate
-  pub uncarried : (rows : List Row) → SpellsCert bytes rows → (CertCarriesCode code rows → ⊥) → answer ≢ Memory → tells_fault answer ≡ true
-  pub carried : (rows : List Row) → SpellsCert bytes rows → CertCarriesCode code rows → answer ≢ Memory → tells_end answer ≡ true
+  pub uncarried : (rows : List Row) → SpellsCert bytes rows → (CertCarriesCode code rows → ⊥) → answer ≢ Memory
+      → tells_fault answer ≡ true
+  pub carried : (rows : List Row) → SpellsCert bytes rows → CertCarriesCode code rows → answer ≢ Memory
+      → tells_end answer ≡ true

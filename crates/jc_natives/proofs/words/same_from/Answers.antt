@@ -13,7 +13,7 @@ loop-start-preserved c = record {
 pub returns-then-are_same-clause-same : goal.returns-then-are_same-clause-same
 returns-then-are_same-clause-same c =
     let left = c.loop-start-test.false in
-    let some = c.if-len-size.false in
+    let some = c.if-one-size.false in
     same_last c.loop-start.start c.args.size c.args.one.now c.args.other.now (sym c.requires.sized) some
     (omega (arith, left, some)) c.loop-start.invariant.same
-    (c.are_same-then-size-end.ensures.yes c.if-are_same.true)
+    (c.are_same-then-start-end.ensures.yes c.if-are_same.true)

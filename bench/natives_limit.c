@@ -1,5 +1,6 @@
 /* Measures what bench/natives builds, beside C: memmove, memset and memcmp of as many words, and accesses to components
- * of an object whose place is looked up, as the store does. Nothing is tested here. */
+ * of an object whose place is looked up, as the store does. Nothing is tested there. A whole call is measured beside one
+ * in C with the tests that an own array needs: it is there, it is the caller's, and it has the components. */
 #include <stdint.h>
 #include <stdio.h>
 #include <stdlib.h>
@@ -113,6 +114,120 @@ static uint32_t limit(const struct wanted *w) {
     }
 }
 
+/* ---- whole calls */
+
+enum { OWNER = 1, BOUNDS = 4, NULL_POINTER = 6, SECURITY = 7 };
+
+struct outcome {
+    uint16_t word, thrown;
+};
+
+static struct outcome value(uint16_t word) {
+    return (struct outcome){word, 0};
+}
+
+static uint16_t refused_array(uint16_t number) {
+    if (number == 0 || number > 2) {
+        return NULL_POINTER;
+    }
+    return heads[number].fast == OWNER ? 0 : SECURITY;
+}
+
+static uint16_t refused_range(uint16_t number, int16_t index, int16_t count) {
+    return index >= 0 && count >= 0 && index + count <= heads[number].len ? 0 : BOUNDS;
+}
+
+static uint16_t refused_part(uint16_t number, uint16_t index, uint16_t count) {
+    uint16_t thrown = refused_array(number);
+    return thrown ? thrown : refused_range(number, (int16_t)index, (int16_t)count);
+}
+
+static uint16_t refused_parts(const uint16_t *a) {
+    uint16_t thrown = refused_array(a[0]);
+    thrown = thrown ? thrown : refused_array(a[2]);
+    thrown = thrown ? thrown : refused_range(a[0], (int16_t)a[1], (int16_t)a[4]);
+    return thrown ? thrown : refused_range(a[2], (int16_t)a[3], (int16_t)a[4]);
+}
+
+static struct outcome called_copy(const uint16_t *a) {
+    uint16_t thrown = refused_parts(a);
+    if (thrown) {
+        return (struct outcome){0, thrown};
+    }
+    memmove(place(a[2], a[3]), place(a[0], a[1]), 2 * (size_t)a[4]);
+    return value((uint16_t)(a[3] + a[4]));
+}
+
+static struct outcome called_fill(const uint16_t *a) {
+    uint16_t thrown = refused_part(a[0], a[1], a[2]);
+    if (thrown) {
+        return (struct outcome){0, thrown};
+    }
+    memset(place(a[0], a[1]), a[3], 2 * (size_t)a[2]);
+    return value((uint16_t)(a[1] + a[2]));
+}
+
+static struct outcome called_compare(const uint16_t *a) {
+    uint16_t thrown = refused_parts(a);
+    if (thrown) {
+        return (struct outcome){0, thrown};
+    }
+    int order = memcmp(place(a[0], a[1]), place(a[2], a[3]), 2 * (size_t)a[4]);
+    return value((uint16_t)((order > 0) - (order < 0)));
+}
+
+static struct outcome called_get(const uint16_t *a) {
+    uint16_t thrown = refused_part(a[0], a[1], 2);
+    if (thrown) {
+        return (struct outcome){0, thrown};
+    }
+    const uint16_t *at = place(a[0], a[1]);
+    return value((uint16_t)((at[0] & 255) << 8 | (at[1] & 255)));
+}
+
+static struct outcome called_set(const uint16_t *a) {
+    uint16_t thrown = refused_part(a[0], a[1], 2);
+    if (thrown) {
+        return (struct outcome){0, thrown};
+    }
+    uint16_t *at = place(a[0], a[1]);
+    at[0] = a[2] >> 8 & 255;
+    at[1] = a[2] & 255;
+    return value((uint16_t)(a[1] + 2));
+}
+
+__attribute__((noinline)) static struct outcome call(uint16_t member, const uint16_t *arguments) {
+    switch (member) {
+    case COPY:
+        return called_copy(arguments);
+    case FILL:
+        return called_fill(arguments);
+    case COMPARE:
+        return called_compare(arguments);
+    case GET:
+        return called_get(arguments);
+    default:
+        return called_set(arguments);
+    }
+}
+
+static uint32_t call_often(const struct wanted *w) {
+    uint16_t arguments[5] = {w->source, w->from, w->target, w->to, w->count};
+    if (w->member == FILL || w->member == SET) {
+        arguments[0] = w->target;
+        arguments[1] = w->to;
+        arguments[2] = w->member == FILL ? w->count : w->word;
+        arguments[3] = w->word;
+    }
+    uint32_t sum = 0;
+    for (uint32_t turn = 0; turn < w->turns; turn += 1) {
+        struct outcome outcome = call(w->member, arguments);
+        sum += outcome.thrown ? 40000 + outcome.thrown : outcome.word;
+        FORGET;
+    }
+    return sum;
+}
+
 static uint32_t sum_of(uint16_t number) {
     uint32_t sum = 0;
     for (int at = 0; at < LENGTH; at += 1) {
@@ -126,8 +241,8 @@ static void check(const struct wanted *w) {
     struct ended ended = {0, 0};
     natives_run(w, &ended);
     reset();
-    uint32_t given = limit(w), left = sum_of(1) + sum_of(2);
-    if ((!w->is_call && ended.given != given) || ended.left != left) {
+    uint32_t given = w->is_call ? call_often(w) : limit(w), left = sum_of(1) + sum_of(2);
+    if (ended.given != given || ended.left != left) {
         printf("member %d of %d components: %u and %u, and not %u and %u\n", w->member, w->count, ended.given,
                ended.left, given, left);
         exit(1);
@@ -135,7 +250,7 @@ static void check(const struct wanted *w) {
 }
 
 struct times {
-    double work, call, limit;
+    double work, call, limit, limit_call;
 };
 
 static double once(const struct wanted *w, uint32_t turns) {
@@ -153,7 +268,7 @@ static void take_least(double *least, double time) {
 
 /* Nanoseconds a turn. */
 static struct times measure(struct wanted w) {
-    double least[5] = {1e18, 1e18, 1e18, 1e18, 1e18};
+    double least[6] = {1e18, 1e18, 1e18, 1e18, 1e18, 1e18};
     struct wanted called = w;
     called.is_call = 1;
     for (int round = 0; round < ROUNDS; round += 1) {
@@ -164,8 +279,12 @@ static struct times measure(struct wanted w) {
         double start = now();
         limit(&w);
         take_least(&least[4], now() - start);
+        start = now();
+        call_often(&w);
+        take_least(&least[5], now() - start);
     }
-    return (struct times){(least[1] - least[0]) / w.turns, (least[3] - least[2]) / w.turns, least[4] / w.turns};
+    return (struct times){(least[1] - least[0]) / w.turns, (least[3] - least[2]) / w.turns, least[4] / w.turns,
+                          least[5] / w.turns};
 }
 
 static void show(const char *name, struct wanted w, double aim) {
@@ -174,12 +293,11 @@ static void show(const char *name, struct wanted w, double aim) {
     if (w.member != FILL || w.word == 0) {
         check(&few);
         few.is_call = 1;
-        few.turns = w.member == SET ? 0 : 3;
         check(&few);
     }
     struct times t = measure(w);
-    printf("%-28s %5d %8.2f ns %8.2f ns in C %6.2f times, the aim is at most %.1f; the whole call %7.2f ns\n", name,
-           w.count, t.work, t.limit, t.work / t.limit, aim, t.call);
+    printf("%-28s %5d %8.2f ns %8.2f ns in C %6.2f times, the aim is at most %.1f; the whole call %7.2f ns, %7.2f in C\n",
+           name, w.count, t.work, t.limit, t.work / t.limit, aim, t.call, t.limit_call);
 }
 
 int main(void) {

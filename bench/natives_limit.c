@@ -1,6 +1,7 @@
 /* Measures what bench/natives builds, beside C: memmove, memset and memcmp of as many words, and accesses to components
- * of an object whose place is looked up, as the store does. Nothing is tested there. A whole call is measured beside one
- * in C with the tests that an own array needs: it is there, it is the caller's, and it has the components. */
+ * of an object whose place is looked up, as the store does. Nothing is tested there. With WHOLE_CALLS it measures whole
+ * calls, beside such in C with the tests that an own array needs: it is there, it is the caller's, and it has the
+ * components. */
 #include <stdint.h>
 #include <stdio.h>
 #include <stdlib.h>
@@ -12,7 +13,7 @@ enum { ROUNDS = 40, LENGTH = 2000 };
 enum { COPY = 49, FILL = 51, COMPARE = 52, GET = 53, SET = 54 };
 
 struct wanted {
-    uint16_t member, source, from, target, to, count, word, is_call;
+    uint16_t member, source, from, target, to, count, word;
     uint32_t turns;
 };
 
@@ -99,7 +100,7 @@ __attribute__((noinline)) static uint32_t set(const struct wanted *w) {
     return 0;
 }
 
-static uint32_t limit(const struct wanted *w) {
+__attribute__((unused)) static uint32_t work_often(const struct wanted *w) {
     switch (w->member) {
     case COPY:
         return copy(w);
@@ -211,7 +212,7 @@ __attribute__((noinline)) static struct outcome call(uint16_t member, const uint
     }
 }
 
-static uint32_t call_often(const struct wanted *w) {
+__attribute__((unused)) static uint32_t call_often(const struct wanted *w) {
     uint16_t arguments[5] = {w->source, w->from, w->target, w->to, w->count};
     if (w->member == FILL || w->member == SET) {
         arguments[0] = w->target;
@@ -228,6 +229,14 @@ static uint32_t call_often(const struct wanted *w) {
     return sum;
 }
 
+/* ---- both */
+
+#ifdef WHOLE_CALLS
+#define limit call_often
+#else
+#define limit work_often
+#endif
+
 static uint32_t sum_of(uint16_t number) {
     uint32_t sum = 0;
     for (int at = 0; at < LENGTH; at += 1) {
@@ -241,7 +250,7 @@ static void check(const struct wanted *w) {
     struct ended ended = {0, 0};
     natives_run(w, &ended);
     reset();
-    uint32_t given = w->is_call ? call_often(w) : limit(w), left = sum_of(1) + sum_of(2);
+    uint32_t given = limit(w), left = sum_of(1) + sum_of(2);
     if (ended.given != given || ended.left != left) {
         printf("member %d of %d components: %u and %u, and not %u and %u\n", w->member, w->count, ended.given,
                ended.left, given, left);
@@ -250,7 +259,7 @@ static void check(const struct wanted *w) {
 }
 
 struct times {
-    double work, call, limit, limit_call;
+    double ours, limit;
 };
 
 static double once(const struct wanted *w, uint32_t turns) {
@@ -268,36 +277,26 @@ static void take_least(double *least, double time) {
 
 /* Nanoseconds a turn. */
 static struct times measure(struct wanted w) {
-    double least[6] = {1e18, 1e18, 1e18, 1e18, 1e18, 1e18};
-    struct wanted called = w;
-    called.is_call = 1;
+    double none = 1e18, ours = 1e18, in_c = 1e18;
     for (int round = 0; round < ROUNDS; round += 1) {
-        take_least(&least[0], once(&w, 0));
-        take_least(&least[1], once(&w, w.turns));
-        take_least(&least[2], once(&called, 0));
-        take_least(&least[3], once(&called, w.turns));
+        take_least(&none, once(&w, 0));
+        take_least(&ours, once(&w, w.turns));
         double start = now();
         limit(&w);
-        take_least(&least[4], now() - start);
-        start = now();
-        call_often(&w);
-        take_least(&least[5], now() - start);
+        take_least(&in_c, now() - start);
     }
-    return (struct times){(least[1] - least[0]) / w.turns, (least[3] - least[2]) / w.turns, least[4] / w.turns,
-                          least[5] / w.turns};
+    return (struct times){(ours - none) / w.turns, in_c / w.turns};
 }
 
-static void show(const char *name, struct wanted w, double aim) {
+static void show(const char *name, struct wanted w) {
     struct wanted few = w;
     few.turns = 3;
+    /* memset fills with bytes, and so with the same words for 0 alone */
     if (w.member != FILL || w.word == 0) {
-        check(&few);
-        few.is_call = 1;
         check(&few);
     }
     struct times t = measure(w);
-    printf("%-28s %5d %8.2f ns %8.2f ns in C %6.2f times, the aim is at most %.1f; the whole call %7.2f ns, %7.2f in C\n",
-           name, w.count, t.work, t.limit, t.work / t.limit, aim, t.call, t.limit_call);
+    printf("%-28s %5d %8.2f ns %8.2f ns in C %6.2f times\n", name, w.count, t.ours, t.limit, t.ours / t.limit);
 }
 
 int main(void) {
@@ -306,16 +305,16 @@ int main(void) {
     for (int at = 0; at < 5; at += 1) {
         uint16_t count = counts[at];
         uint32_t turns = 20000;
-        show("arrayCopy", (struct wanted){COPY, 1, 3, 2, 5, count, 0, 0, turns}, 2.0);
-        show(".. one component down", (struct wanted){COPY, 1, 3, 1, 2, count, 0, 0, turns}, 2.0);
-        show(".. one component up", (struct wanted){COPY, 1, 3, 1, 4, count, 0, 0, turns}, 2.0);
-        show("arrayFill with 7", (struct wanted){FILL, 1, 0, 1, 3, count, 7, 0, turns}, 2.0);
-        show(".. with 0", (struct wanted){FILL, 1, 0, 1, 3, count, 0, 0, turns}, 2.0);
-        show("arrayCompare, all equal", (struct wanted){COMPARE, 1, 3, 2, 3, count, 0, 0, turns}, 2.0);
+        show("arrayCopy", (struct wanted){COPY, 1, 3, 2, 5, count, 0, turns});
+        show(".. one component down", (struct wanted){COPY, 1, 3, 1, 2, count, 0, turns});
+        show(".. one component up", (struct wanted){COPY, 1, 3, 1, 4, count, 0, turns});
+        show("arrayFill with 7", (struct wanted){FILL, 1, 0, 1, 3, count, 7, turns});
+        show(".. with 0", (struct wanted){FILL, 1, 0, 1, 3, count, 0, turns});
+        show("arrayCompare, all equal", (struct wanted){COMPARE, 1, 3, 2, 3, count, 0, turns});
         /* these words repeat after 251 */
-        show(".. that begin elsewhere", (struct wanted){COMPARE, 1, 3, 2, 254, count, 0, 0, turns}, 2.0);
+        show(".. that begin elsewhere", (struct wanted){COMPARE, 1, 3, 2, 254, count, 0, turns});
     }
-    show("getShort", (struct wanted){GET, 1, 3, 1, 3, 2, 0, 0, 200000}, 1.5);
-    show("setShort", (struct wanted){SET, 1, 3, 1, 3, 2, 4660, 0, 200000}, 1.5);
+    show("getShort", (struct wanted){GET, 1, 3, 1, 3, 2, 0, 200000});
+    show("setShort", (struct wanted){SET, 1, 3, 1, 3, 2, 4660, 200000});
     return 0;
 }

@@ -1,5 +1,6 @@
 -- Objects stay typed where words are written that fit, and where an array is made.
-use Rattle.std.proofs.Common.{◌≡◌, ℕ, zero, suc, ◌+◌, ◌<◌, ◌&&◌, Bool, true, false, List, [], ◌∷◌, ◌++◌, map, replicate, set, slice_get, Option, Some, None, refl, sym, ap, subst, ◌∙◌, arith}
+use Rattle.std.proofs.Common.{◌≡◌, ℕ, zero, suc, ◌+◌, ◌<◌, ◌&&◌, Bool, true, false, List, [], ◌∷◌, ◌++◌, map, replicate}
+use Rattle.std.proofs.Common.{set, slice_get, Option, Some, None, refl, sym, ap, subst, ◌∙◌, arith}
 use Rattle.std.specs.Prelude.{⊤}
 use Rattle.std.proofs.lemmas.Bool.{lt-ltb}
 use Rattle.std.proofs.lemmas.List.{length-replicate, length-set}
@@ -12,7 +13,8 @@ use Rattle.jc_base.specs.declared.declared_type.DeclaredType.TheVariants as type
 use Rattle.jc_cap_desc.specs.Shape.{Shape}
 use Rattle.jc_link.specs.Linked.{World}
 use Rattle.jc_machine.specs.Reading.{Pointwise}
-use Rattle.jc_machine.specs.Lookup.{fields_of, is_boolean_array, is_byte, is_byte_array, is_instance, is_kept_as, is_of_class, is_of_type, is_short_array, is_word, leads_to}
+use Rattle.jc_machine.specs.Lookup.{fields_of, is_boolean_array, is_byte, is_byte_array, is_instance, is_kept_as}
+use Rattle.jc_machine.specs.Lookup.{is_of_class, is_of_type, is_short_array, is_word, leads_to}
 use Rattle.jc_machine.specs.Natives.{KeepsObjects}
 use Rattle.jc_machine.specs.Typed.{CellsTyped, HeapTyped, ObjectTyped, is_cell, may_be_made}
 use Rattle.jc_names.specs.declared.name.ClassName.{ClassName}
@@ -25,7 +27,8 @@ use Rattle.jc_natives.proofs.Putting.{put_none, put_some}
 use Rattle.jc_natives.proofs.Simulation.{passed_some}
 use Rattle.jc_natives.specs.Cells.{Write, put, put_all, written}
 use Rattle.jc_natives.specs.Kept.{Kept, is_aid, is_instance_number, is_same_owner}
-use Rattle.jc_natives.specs.Meaning.{blank_of, fits_command, fits_installing, fits_instance, fits_kept, has_applet, new_array}
+use Rattle.jc_natives.specs.Meaning.{blank_of, fits_command, fits_installing, fits_instance, fits_kept, has_applet}
+use Rattle.jc_natives.specs.Meaning.{new_array}
 use Rattle.jc_natives.specs.Work.{NewArray, array_type}
 use Rattle.jc_natives.specs.declared.kept.Instance.{Instance}
 use Rattle.jc_natives.specs.declared.native.Elements.{Elements}
@@ -33,7 +36,8 @@ use Rattle.jc_natives.specs.declared.native.Elements.TheVariants.{Booleans, Byte
 use Rattle.jc_store.specs.Heap.{Heap, Object, object_at, with_cell, with_new, with_object}
 use Rattle.jc_store.specs.declared.kind.Kind.{Kind}
 use Rattle.jc_store.specs.declared.kind.ObjectType.{ObjectType}
-use Rattle.jc_store.specs.declared.kind.ObjectType.TheVariants.{BooleanArray, ByteArray, Instance as OfClass, ReferenceArray, ShortArray}
+use Rattle.jc_store.specs.declared.kind.ObjectType.TheVariants.{BooleanArray, ByteArray, Instance as OfClass}
+use Rattle.jc_store.specs.declared.kind.ObjectType.TheVariants.{ReferenceArray, ShortArray}
 use Rattle.jc_words.specs.Values.{Null, Ref, TaggedValue, Unset, Word}
 
 -- ---- where objects stay values are of the types that they were of

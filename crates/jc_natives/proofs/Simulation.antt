@@ -1,5 +1,6 @@
 -- What is done on words is what members mean on tagged values.
-use Rattle.std.proofs.Common.{◌≡◌, ℕ, zero, suc, ◌==◌, Bool, true, false, cond, List, [], ◌∷◌, ◌++◌, length, map, replicate, slice_get, Option, Some, None, refl, sym, ap, subst, ◌∙◌, arith}
+use Rattle.std.proofs.Common.{◌≡◌, ℕ, zero, suc, ◌==◌, Bool, true, false, cond, List, [], ◌∷◌, ◌++◌, length, map}
+use Rattle.std.proofs.Common.{replicate, slice_get, Option, Some, None, refl, sym, ap, subst, ◌∙◌, arith}
 use Rattle.std.proofs.lemmas.Bool.{eqb-true}
 use Rattle.std.proofs.lemmas.Option.{none-some}
 use Rattle.std.specs.Option.{option_and_then, option_map, option_map_or}
@@ -25,15 +26,19 @@ use Rattle.jc_names.specs.Names.{api_home}
 use Rattle.jc_names.specs.declared.name.ClassName.{ClassName}
 use Rattle.jc_names.specs.declared.name.MethodName.TheVariants.{Api}
 use Rattle.jc_names.specs.declared.owner.Owner.{Owner}
-use Rattle.jc_natives.proofs.Bare.{argument_bits, bare_laid, bare_length, bare_new, bare_room, both, heap_bits, reads_heap, receiver_bits}
+use Rattle.jc_natives.proofs.Bare.{argument_bits, bare_laid, bare_length, bare_new, bare_room, both, heap_bits}
+use Rattle.jc_natives.proofs.Bare.{reads_heap, receiver_bits}
 use Rattle.jc_natives.specs.Cells.{bare, bared, bits, has_room, written}
 use Rattle.jc_natives.specs.Kept.{Kept}
-use Rattle.jc_natives.specs.Meaning.{answer_of, array_or_refusal, begun, blank_of, done, end_of, ended, meaning, new_array, reference, unchanged, with_room, work_of}
-use Rattle.jc_natives.specs.PrivateWords.{Done, TellsEnd, did_on_words, done_of, ended_of, kind_of, laid, native_work, seen_in, tested_work, word_work}
+use Rattle.jc_natives.specs.Meaning.{answer_of, array_or_refusal, begun, blank_of, done, end_of, ended, meaning}
+use Rattle.jc_natives.specs.Meaning.{new_array, reference, unchanged, with_room, work_of}
+use Rattle.jc_natives.specs.PrivateWords.{Done, TellsEnd, did_on_words, done_of, ended_of, kind_of, laid, native_work}
+use Rattle.jc_natives.specs.PrivateWords.{seen_in, tested_work, word_work}
 use Rattle.jc_natives.specs.Rows.{natives, row_of}
 use Rattle.jc_natives.specs.Seen.{arguments_of, seen_of}
 use Rattle.jc_natives.specs.Tests.{tested}
-use Rattle.jc_natives.specs.Work.{Asks, Does, Ending, GivesReference, GivesWord, Makes, NewArray, NoResult, Throws, Work}
+use Rattle.jc_natives.specs.Work.{Asks, Does, Ending, GivesReference, GivesWord, Makes, NewArray, NoResult, Throws}
+use Rattle.jc_natives.specs.Work.{Work}
 use Rattle.jc_natives.specs.declared.ended.Ended.TheVariants as ends
 use Rattle.jc_natives.specs.declared.ended.Question.{Question}
 use Rattle.jc_natives.specs.declared.native.Elements.{Elements}

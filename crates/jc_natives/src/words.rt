@@ -7,7 +7,7 @@ ghost use Rattle.jc_natives.specs.Cells.{byte_order, low, order_of};
 use crate::kept::MOST_SENT;
 use arrayvec::ArrayVec;
 
-// How many words are compared at once, first and then.
+// How many words are compared at once, where there are so many.
 const LARGE: usize = 32;
 
 const SMALL: usize = 8;
@@ -92,13 +92,17 @@ fn same_from(one: &[u16], other: &[u16], known: usize, size: usize) -> usize
     }
 }
 
-// How many words in front are the same, but for some behind the last block.
-#[inline]
+// How many words in front are the same, but for some behind the last block. It is inlined, since few words are compared
+// mostly.
+#[inline(always)]
 fn same_start(one: &[u16], other: &[u16]) -> usize
     requires sized { length one.now ≡ length other.now }
     ensures within { result ≤ length one.now }
     ensures same { take result one.now ≡ take result other.now }
 {
+    if one.len() < LARGE {
+        return same_from(one, other, 0, SMALL);
+    }
     let large = same_from(one, other, 0, LARGE);
     if large == one.len() {
         return large;

@@ -7,7 +7,8 @@ use Rattle.jc_check.specs.Typing.{Typing, IsTyping, IsWellTyped}
 use Rattle.jc_check.specs.Carried.{CertCarriesCode}
 use Rattle.jc_cert.specs.Cert.{Row}
 use Rattle.jcard.specs.declared.answer.EvalAnswer.{EvalAnswer}
-use Rattle.jcard.specs.declared.answer.EvalAnswer.TheVariants.{Value, Throws, Refused, BadCertificate, StepsUsedUp, Memory}
+use Rattle.jcard.specs.declared.answer.EvalAnswer.TheVariants.{Value, Throws, Refused, BadCertificate, StepsUsedUp}
+use Rattle.jcard.specs.declared.answer.EvalAnswer.TheVariants.{Memory}
 use Rattle.jc_alone.specs.Alone.{EndsAs, GivesWord, ThrowsArithmetic, UsesUp, alone_call}
 use Rattle.jc_alone.specs.declared.run.CodeEnd.{CodeEnd}
 use Rattle.jc_alone.specs.declared.run.CodeEnd.TheVariants as ends

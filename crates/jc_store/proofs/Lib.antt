@@ -1,5 +1,6 @@
 mod Laid
 mod Making
+mod Moving
 mod Held
 mod Blanking
 mod Rows

@@ -3,6 +3,7 @@ use Rattle.std.proofs.Common.{◌≡◌, ℕ, zero, suc, ◌+◌, ◌-◌, ◌�
 use Rattle.std.proofs.Common.{Some, slice_get, slice_range, refl, ap, ◌∙◌, arith}
 use Rattle.std.proofs.lemmas.List.{length-drop, length-take-le, take-replicate}
 use Rattle.std.proofs.lemmas.Option.{none-some, same_Some}
+use Rattle.jc_store.specs.Blocks.{components_in}
 use Rattle.jc_store.specs.Heap.{cells_in}
 use Rattle.jc_store.specs.PrivateLaid.{AreLaid, Header, object_in, objects_in}
 
@@ -48,6 +49,18 @@ cells_counted cells start end [] laid within = omega (arith, laid)
 cells_counted cells start end (h ∷ headers) laid within =
     let rest = cells_counted cells (start + h.len) end headers laid.1 within in
     let own = has_length cells start end (h ∷ headers) zero h laid within refl in
+    omega (arith, rest, own.0)
+
+-- where the components of an object begin
+pub begins_behind : (cells : List ℕ) (start end : ℕ) (headers : List Header) (number : ℕ) (h : Header)
+    → AreLaid start headers end → end ≤ length cells → slice_get headers number ≡ Some h
+    → h.start ≡ start + components_in (take number (objects_in cells headers))
+begins_behind cells start end [] number h laid within at = absurd (none-some h at)
+begins_behind cells start end (g ∷ headers) zero h laid within at =
+    let same : g.start ≡ h.start = ap (λ (x : Header). x.start) (same_Some g h at) in omega (arith, laid.0, same)
+begins_behind cells start end (g ∷ headers) (suc n) h laid within at =
+    let rest = begins_behind cells (start + g.len) end headers n h laid.1 within at in
+    let own = has_length cells start end (g ∷ headers) zero g laid within refl in
     omega (arith, rest, own.0)
 
 -- one object more, laid behind the others

@@ -1,9 +1,10 @@
 -- The two rows that are kept of each object, and what calls read and write by them.
 use Rattle.std.proofs.Common.{◌≡◌, ◌⊎◌, inl, inr, ℕ, zero, suc, ◌+◌, ◌-◌, ◌<◌, ◌≤◌, List, [], ◌∷◌, ◌++◌, length, map}
-use Rattle.std.proofs.Common.{set, Option, None, Some, slice_get, refl, sym, ap, subst, ◌∙◌, arith}
+use Rattle.std.proofs.Common.{set, take, Option, None, Some, slice_get, refl, sym, ap, subst, ◌∙◌, arith}
 use Rattle.std.proofs.lemmas.List.{length-map, map-append}
 use Rattle.std.proofs.lemmas.Option.{none-some, same_Some}
 use Rattle.jc_names.specs.declared.owner.Owner.{Owner}
+use Rattle.jc_store.specs.Blocks.{components_in}
 use Rattle.jc_store.specs.Heap.{Heap, Object, cells_in, object_at, with_cell, with_object}
 use Rattle.jc_store.specs.PrivateLaid.{AreRows, AreWithin, HasRoom, Header, IsStored, Sizes, classes_in, fast_in}
 use Rattle.jc_store.specs.PrivateLaid.{head_of, header_in, headers_of, joined, null_head, object_in, objects_in}
@@ -16,6 +17,7 @@ use Rattle.jc_store.specs.declared.kind.ClearingEvent.TheVariants.{Reset, Desele
 use Rattle.jc_store.proofs.Blanking.{next_within}
 use Rattle.jc_store.proofs.Held.{cell_of, cells_used, found, kept_laid, left_for, no_room, object_put, objects_more}
 use Rattle.jc_store.proofs.Held.{one_more, put_in, room_there, sized, viewed, within_cells}
+use Rattle.jc_store.proofs.Making.{begins_behind}
 
 -- ---- rows and headers
 
@@ -194,6 +196,18 @@ module _ {heads : List Head} {rests : List Rest} {cells : List ℕ} {s : Sizes}
       ap (λ (x : Head). x.len) (sym f.head_is)
       ∙ sym (sized (headers_of heads rests) cells s stored.laid (number - 1) f.header f.at).0
       ∙ ap (λ (o : Object ℕ). length o.cells) f.is
+
+  pub its_start : (number : ℕ) → IsThere now number → (lent : List Head) (head : Head) → lent ≡ heads
+      → slice_get lent number ≡ Some head → head.start ≡ components_in (take (number - 1) now.objects)
+  its_start number there lent head same at =
+      let f = its_head number there.object lent head there.is same at in
+      let z = stored.laid.sized in let w = stored.laid.within in
+      let begins = begins_behind cells 0 s.used (headers_of heads rests) (number - 1) f.header stored.laid.laid
+      (omega (arith, z, w)) f.at in
+      let is : f.header.start ≡ components_in (take (number - 1) (objects_in cells (headers_of heads rests))) =
+      omega (arith, begins) in
+      ap (λ (x : Head). x.start) (sym f.head_is) ∙ is
+      ∙ ap (λ (objects : Heap ℕ). components_in (take (number - 1) objects)) objects_are
 
   pub its_class : (number : ℕ) → IsThere now number → (lent : List Head) (head : Head) → lent ≡ heads
       → slice_get lent number ≡ Some head → class_number_at now.classes number ≡ Some head.class

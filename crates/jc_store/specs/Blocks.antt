@@ -1,5 +1,5 @@
 -- Many components of an object at once.
-use Rattle.std.specs.Prelude.{◌≡◌, ℕ, ◌+◌, ◌≤◌, List, [], ◌++◌, length, take, drop, slice_range, Some}
+use Rattle.std.specs.Prelude.{◌≡◌, ℕ, ◌+◌, ◌≤◌, List, [], ◌∷◌, ◌++◌, length, take, drop, slice_range, Some}
 use Rattle.std.specs.Option.{option_map_or}
 use Rattle.jc_store.specs.Heap.{Heap, Object, object_at}
 use Rattle.jc_store.specs.Store.{Store}
@@ -7,6 +7,11 @@ use Rattle.jc_store.specs.Store.{Store}
 -- the components of the object with a number; none where there is no object
 abbrev pub components_of : Heap ℕ → ℕ → List ℕ
 components_of heap number = option_map_or (λ object. object.cells) (object_at heap number) []
+
+-- how many components objects have in all
+abbrev pub components_in : Heap ℕ → ℕ
+components_in [] = 0
+components_in (object ∷ heap) = length object.cells + components_in heap
 
 -- an object with a number is there, and has so many components from an index on
 pub record HasCells (s : Store) (number index count : ℕ) : Type 0 where

@@ -8,6 +8,11 @@ use crate::header::Head;
 // How many words are written at once.
 const BLOCK: usize = 16;
 
+// How many cells are moved at once, where there are so many, and behind them.
+const LARGE: usize = 64;
+
+const SMALL: usize = 8;
+
 // How many words are written before what is written is copied. What was written just now is slow to read in larger
 // pieces, so that it doesn't pay for fewer.
 const FIRST: usize = 256;
@@ -20,6 +25,16 @@ pub(crate) fn part_of(cells: &[u16], head: Head) -> &[u16]
 {
     let start = usize::from(head.start);
     &cells[start..start + usize::from(head.len)]
+}
+
+/// So many components of an object, from an index on.
+#[inline]
+pub(crate) fn some_of(cells: &[u16], head: Head, index: usize, count: usize) -> &[u16]
+    requires within { head.start + index + count ≤ length cells.now }
+    ensures { result.now ≡ slice_range cells.now (head.start + index) (head.start + index + count) }
+{
+    let start = usize::from(head.start) + index;
+    &cells[start..start + count]
 }
 
 // Puts a word into a block of cells.
@@ -131,6 +146,85 @@ fn copy_before(cells: &mut [u16], from: usize, to: usize, count: usize)
     front[to..to + count].copy_from_slice(&back[..count]);
 }
 
+// Moves a block of cells, as through a copy of it.
+#[inline]
+fn move_block<const N: usize>(cells: &mut [u16], from: usize, to: usize)
+    requires from_within { from + N ≤ length cells.old }
+    requires to_within { to + N ≤ length cells.old }
+    ensures { cells.new ≡ put_over cells.old to (slice_range cells.old from (from + N)) }
+{
+    let mut block = [0; N];
+    block.copy_from_slice(&cells[from..from + N]);
+    cells[to..to + N].copy_from_slice(&block);
+}
+
+// Moves blocks of cells upwards, the last one first. It tells how many in front of them are left.
+#[inline]
+fn move_blocks_up<const N: usize>(cells: &mut [u16], from: usize, to: usize, count: usize) -> usize
+    requires some { 0 < N }
+    requires upwards { from ≤ to }
+    requires within { to + count ≤ length cells.old }
+    ensures few { result < N }
+    ensures within { result ≤ count }
+    ensures moved { cells.new ≡ put_over cells.old (to + result)
+        (slice_range cells.old (from + result) (from + count)) }
+{
+    let mut left = count;
+    while N <= left {
+        left -= N;
+        move_block::<N>(cells, from + left, to + left);
+    }
+    left
+}
+
+// Moves blocks of cells downwards, the first one first. It tells how many cells are moved.
+#[inline]
+fn move_blocks_down<const N: usize>(
+    cells: &mut [u16],
+    from: usize,
+    to: usize,
+    count: usize,
+) -> usize
+    requires some { 0 < N }
+    requires downwards { to ≤ from }
+    requires within { from + count ≤ length cells.old }
+    ensures most { count < result + N }
+    ensures within { result ≤ count }
+    ensures moved { cells.new ≡ put_over cells.old to (slice_range cells.old from (from + result)) }
+{
+    let mut moved = 0;
+    while N <= count - moved {
+        move_block::<N>(cells, from + moved, to + moved);
+        moved += N;
+    }
+    moved
+}
+
+// Copies so many cells to others behind the first of them.
+#[inline]
+fn move_up(cells: &mut [u16], from: usize, to: usize, count: usize)
+    requires upwards { from ≤ to }
+    requires within { to + count ≤ length cells.old }
+    ensures { cells.new ≡ put_over cells.old to (slice_range cells.old from (from + count)) }
+{
+    let large = move_blocks_up::<LARGE>(cells, from, to, count);
+    let small = move_blocks_up::<SMALL>(cells, from, to, large);
+    cells.copy_within(from..from + small, to);
+}
+
+// Copies so many cells to others in front of the last of them.
+#[inline]
+fn move_down(cells: &mut [u16], from: usize, to: usize, count: usize)
+    requires downwards { to ≤ from }
+    requires within { from + count ≤ length cells.old }
+    ensures { cells.new ≡ put_over cells.old to (slice_range cells.old from (from + count)) }
+{
+    let large = move_blocks_down::<LARGE>(cells, from, to, count);
+    let small = move_blocks_down::<SMALL>(cells, from + large, to + large, count - large);
+    let moved = large + small;
+    cells.copy_within(from + moved..from + count, to + moved);
+}
+
 /// Copies so many components of an object to those of an object, from indexes on, as through a copy of them.
 #[inline]
 pub(crate) fn copy_part(
@@ -152,7 +246,9 @@ pub(crate) fn copy_part(
         copy_behind(cells, from, to, count);
     } else if to + count <= from {
         copy_before(cells, from, to, count);
+    } else if from <= to {
+        move_up(cells, from, to, count);
     } else {
-        cells.copy_within(from..from + count, to);
+        move_down(cells, from, to, count);
     }
 }

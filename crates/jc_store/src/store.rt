@@ -1,14 +1,14 @@
 //! The store: the objects on a card.
 
-ghost use Rattle.std.specs.Prelude.{◌≡◌, ◌<◌, ℕ, true, false, [], Some, length, replicate, slice_get};
+ghost use Rattle.std.specs.Prelude.{◌≡◌, ◌-◌, ◌<◌, ℕ, true, false, [], Some, length, replicate, slice_get, take};
 ghost use Rattle.std.specs.Prelude.{IfOk, IfSome, IfNone};
-ghost use Rattle.jc_store.specs.Blocks.{HasCells, components_of, part_in, with_cells};
+ghost use Rattle.jc_store.specs.Blocks.{HasCells, components_in, components_of, part_in, with_cells};
 ghost use Rattle.jc_store.specs.Heap.{Object, cells_in, cleared, next_number, object_at, with_cell, with_object};
 ghost use Rattle.jc_store.specs.Store.{HasCell, IsFull, IsOwn, IsReference, IsThere, class_number_at, fresh};
 ghost use Rattle.jc_store.specs.Store.{with_made, with_objects};
 ghost use Rattle.jc_store.specs.PrivateLaid.{HasRoom};
 
-use crate::block::{copy_part, fill_part, part_of, put_part};
+use crate::block::{copy_part, fill_part, part_of, put_part, some_of};
 use crate::clearing::clear_objects;
 use crate::header::{Head, Rest, cell_at, fast_of, head_at, head_or_null, rest_at};
 use crate::kind::{ClearingEvent, Kind};
@@ -169,6 +169,16 @@ impl Store {
         head_at(&self.heads, number).len
     }
 
+    /// How many components the objects before an object have. The components of all lie one behind the other in their
+    /// order, so this is where its own begin: a reader of many at a time may begin where its words are aligned.
+    #[inline]
+    pub fn components_before(&self, number: u16) -> u16
+        requires there { IsThere self.now number }
+        ensures { result ≡ components_in (take (number - 1) self.now.objects) }
+    {
+        head_at(&self.heads, number).start
+    }
+
     /// What the component of an object at an index holds.
     #[inline]
     pub fn get(&self, number: u16, index: u16) -> u16
@@ -198,6 +208,17 @@ impl Store {
     {
         let head = head_or_null(&self.heads, number);
         part_of(&self.cells, head)
+    }
+
+    /// So many components of an object, from an index on.
+    #[inline]
+    pub fn part(&self, number: u16, index: usize, count: usize) -> &[u16]
+        requires there { HasCells self.now number index count }
+        ensures { (object : Object ℕ) → object_at self.now.objects number ≡ Some object
+            → result.now ≡ part_in object index count }
+    {
+        let head = head_at(&self.heads, number);
+        some_of(&self.cells, head, index, count)
     }
 
     /// Puts a word into so many components of an object, from an index on.

@@ -23,3 +23,4 @@ mod Reaching
 mod Spared
 mod Apart
 mod Owning
+mod Passing

@@ -1,10 +1,10 @@
 -- Bytes of objects one by one, and what is written one by one.
 use Rattle.std.proofs.Common.{◌≡◌, ◌≢◌, ℕ, zero, suc, ◌+◌, ◌-◌, ◌<◌, ◌≤◌, ◌&&◌, Bool, true, false, List, [], ◌∷◌, ◌++◌}
-use Rattle.std.proofs.Common.{bytes_eq, length, map, nat_eq, replicate, Option, unwrap_or, refl, sym, ap, ◌∙◌, arith}
+use Rattle.std.proofs.Common.{bytes_eq, length, map, nat_eq, refl, sym, ap, ◌∙◌, arith}
 use Rattle.std.proofs.Common.{append_assoc}
 use Rattle.std.proofs.lemmas.Bool.{eq-eqb}
 use Rattle.jc_natives.proofs.Putting.{cell_before, put_before, words_stay}
-use Rattle.jc_natives.specs.Cells.{byte_of, byte_order, bytes_of, cell_of, low, order_of, put, put_all, words_of}
+use Rattle.jc_natives.specs.Cells.{byte_of, bytes_of, cell_of, low, put, put_all, words_of}
 use Rattle.jc_store.specs.Heap.{Heap}
 use Rattle.jc_store.specs.Store.{Store, with_objects}
 
@@ -89,20 +89,6 @@ same_so_far objects one one_from other other_from at count all h same e =
     ∙ ap (λ bytes. bytes_eq (x ∷ xs) bytes) (next_bytes objects other other_from at count h)
     ∙ ap (λ b. b && bytes_eq xs ys) (eq-eqb x y same)
 
-pub order_so_far : (objects : Heap ℕ) (one one_from other other_from at count : ℕ) (all : ℕ) → at < count
-    → all ≡ order_of (bytes_of objects one (one_from + at) (count - at))
-    (bytes_of objects other (other_from + at) (count - at))
-    → all ≡ unwrap_or (byte_order (byte_of objects one (one_from + at)) (byte_of objects other (other_from + at)))
-    (order_of (bytes_of objects one (one_from + (at + 1)) (count - (at + 1)))
-    (bytes_of objects other (other_from + (at + 1)) (count - (at + 1))))
-order_so_far objects one one_from other other_from at count all h e =
-    let x = byte_of objects one (one_from + at) in
-    let xs = bytes_of objects one (one_from + (at + 1)) (count - (at + 1)) in
-    e
-    ∙ ap (λ bytes. order_of bytes (bytes_of objects other (other_from + at) (count - at)))
-    (next_bytes objects one one_from at count h)
-    ∙ ap (λ bytes. order_of (x ∷ xs) bytes) (next_bytes objects other other_from at count h)
-
 -- ---- written
 
 abbrev holds : Store → Heap ℕ → Store
@@ -115,15 +101,6 @@ put_first : (s : Store) (number from at word : ℕ) (words : List ℕ)
 put_first s number from at word words =
     let on : from + (at + 1) ≡ from + at + 1 = omega arith in
     ap (λ f. holds s (put_all (put s.objects number (from + at) word) number f words)) on
-
-pub filled : (s : Store) (number from at count byte : ℕ) → at < count
-    → holds s (put_all (put s.objects number (from + at) byte) number (from + (at + 1))
-    (replicate (count - (at + 1)) byte))
-    ≡ holds s (put_all s.objects number (from + at) (replicate (count - at) byte))
-filled s number from at count byte h =
-    let more : suc (count - (at + 1)) ≡ count - at = omega (arith, h) in
-    put_first s number from at byte (replicate (count - (at + 1)) byte)
-    ∙ ap (λ n. holds s (put_all s.objects number (from + at) (replicate n byte))) more
 
 -- copied from the front: what is read is behind what was written
 pub copied_on : (f : ℕ → ℕ) (s : Store) (source source_from target target_from at count word : ℕ) → at < count
@@ -180,18 +157,3 @@ copied_back f s l source source_from target target_from at count done word behin
     ∙ put_in_front f s source source_from target target_from at done behind
     ∙ ap (λ n. copied f s source source_from target target_from n (suc done)) last
     ∙ ap (copied f s source source_from target target_from (count - (done + 1))) more
-
-pub order_met : (objects : Heap ℕ) (one one_from other other_from at count all first second : ℕ) → at < count
-    → all ≡ order_of (bytes_of objects one (one_from + at) (count - at))
-    (bytes_of objects other (other_from + at) (count - at))
-    → first ≡ byte_of objects one (one_from + at) → second ≡ byte_of objects other (other_from + at)
-    → (o : Option ℕ) → o ≡ byte_order first second
-    → all ≡ unwrap_or o (order_of (bytes_of objects one (one_from + (at + 1)) (count - (at + 1)))
-    (bytes_of objects other (other_from + (at + 1)) (count - (at + 1))))
-order_met objects one one_from other other_from at count all first second h e f g o is =
-    let rest = order_of (bytes_of objects one (one_from + (at + 1)) (count - (at + 1)))
-    (bytes_of objects other (other_from + (at + 1)) (count - (at + 1))) in
-    order_so_far objects one one_from other other_from at count all h e
-    ∙ ap (λ b. unwrap_or (byte_order b (byte_of objects other (other_from + at))) rest) (sym f)
-    ∙ ap (λ b. unwrap_or (byte_order first b) rest) (sym g)
-    ∙ ap (λ x. unwrap_or x rest) (sym is)

@@ -14,5 +14,4 @@ pub mod Meaning
 pub mod MemberTypes
 pub mod Examples
 pub mod PrivateWords
-pub mod PrivateTaken
 pub mod Apart

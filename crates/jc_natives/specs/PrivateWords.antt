@@ -69,6 +69,10 @@ abbrev pub done_of : Owner → Store → Kept → Work → Done
 done_of owner store k work =
     did_on_words owner store k (with_room store.most_objects store.most_cells store.objects k work)
 
+-- the arguments of a member pass its tests
+abbrev pub Passes : Seen → List ℕ → Native → Type 0
+Passes s arguments native = (tested s arguments (row_of native)).thrown ≡ None
+
 -- the work of a member whose arguments are tested: to throw, where a test fails
 abbrev pub tested_work : Kept → Option ℕ → Work → Work
 tested_work k (Some object) work = throws k object

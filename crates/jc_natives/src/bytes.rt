@@ -2,23 +2,18 @@
 
 ghost use Rattle.std.specs.Prelude.{◌≡◌, ◌+◌, ◌++◌, ◌≤◌, [], ◌∷◌, bytes_eq, length, replicate};
 ghost use Rattle.arrayvec.specs.ArrayVec.{array_vec_len};
-ghost use Rattle.jc_natives.specs.Cells.{byte_of, bytes_of, cell_of, high, low, order_of, put_all, word_of_bytes};
+ghost use Rattle.jc_natives.specs.Cells.{byte_of, bytes_of, high, low, order_of, put_all, word_of_bytes};
 ghost use Rattle.jc_natives.specs.Cells.{words_of};
-ghost use Rattle.jc_natives.specs.PrivateTaken.{of_word, taken_of};
+ghost use Rattle.jc_store.specs.Blocks.{HasCells};
 ghost use Rattle.jc_store.specs.Store.{with_objects};
 
-use crate::cells::{byte, cell, has_part, high, part, put, word_of};
+use crate::cells::{byte, has_part, high, known_part, part, put, word_of};
 use crate::kept::MOST_SENT;
-use crate::words::{append_words, are_same_words, are_words, low, order_of_bytes, order_of_words};
+use crate::words::{
+    append_words, are_same_words, are_words, low, order_of_words, words_to_alignment,
+};
 use arrayvec::ArrayVec;
 use jc_store::Store;
-
-// What is taken of each component that is copied.
-#[derive(Clone, Copy)]
-enum Taken {
-    Word,
-    LowByte,
-}
 
 /// Whether so many bytes of an object, from an index on, are these.
 pub(crate) fn are_bytes(store: &Store, number: u16, from: usize, count: u16, bytes: &[u8]) -> bool
@@ -88,28 +83,6 @@ pub(crate) fn same_bytes(
     }
 }
 
-// How so many bytes of two objects compare, from an index on: -1, 0 or 1, one by one.
-fn compare_bytes_one_by_one(
-    store: &Store,
-    one: u16,
-    one_from: u16,
-    other: u16,
-    other_from: u16,
-    count: u16,
-) -> u16
-    ensures { result ≡ order_of (bytes_of store.now.objects one one_from count)
-        (bytes_of store.now.objects other other_from count) }
-{
-    for at in 0..usize::from(count) {
-        let first = byte(store, one, usize::from(one_from) + at);
-        let second = byte(store, other, usize::from(other_from) + at);
-        if let Some(order) = order_of_bytes(first, second) {
-            return order;
-        }
-    }
-    0
-}
-
 /// How so many bytes of two objects compare, from an index on: -1, 0 or 1.
 pub(crate) fn compare_bytes(
     store: &Store,
@@ -119,15 +92,15 @@ pub(crate) fn compare_bytes(
     other_from: u16,
     count: u16,
 ) -> u16
+    requires one_there { HasCells store.now one one_from count }
+    requires other_there { HasCells store.now other other_from count }
     ensures { result ≡ order_of (bytes_of store.now.objects one one_from count)
         (bytes_of store.now.objects other other_from count) }
 {
-    let one_part = part(store, one, usize::from(one_from), count);
-    let other_part = part(store, other, usize::from(other_from), count);
-    match (one_part, other_part) {
-        (Some(one_words), Some(other_words)) => order_of_words(one_words, other_words),
-        _ => compare_bytes_one_by_one(store, one, one_from, other, other_from, count),
-    }
+    let one_words = known_part(store, one, one_from, count);
+    let other_words = known_part(store, other, other_from, count);
+    let unaligned = words_to_alignment(store.components_before(one), one_from);
+    order_of_words(one_words, other_words, unaligned)
 }
 
 // Puts so many bytes of an object behind others, one by one.
@@ -185,36 +158,12 @@ pub(crate) fn put_bytes(store: &mut Store, number: u16, from: usize, bytes: &[u8
     }
 }
 
-// Writes a byte to so many components of an object, from an index on, one by one.
-fn fill_bytes_one_by_one(store: &mut Store, number: u16, from: u16, count: u16, byte: u16)
-    ensures { store.new ≡ with_objects store.old (put_all store.old.objects number from (replicate count byte)) }
-{
-    for at in 0..usize::from(count) {
-        put(store, number, usize::from(from) + at, byte);
-    }
-}
-
 /// Writes a byte to so many components of an object, from an index on.
 pub(crate) fn fill_bytes(store: &mut Store, number: u16, from: u16, count: u16, byte: u16)
+    requires there { HasCells store.old number from count }
     ensures { store.new ≡ with_objects store.old (put_all store.old.objects number from (replicate count byte)) }
 {
-    if has_part(store, number, usize::from(from), usize::from(count)) {
-        store.fill(number, usize::from(from), usize::from(count), byte);
-    } else {
-        fill_bytes_one_by_one(store, number, from, count, byte);
-    }
-}
-
-// What is taken of a component; 0 where there is none.
-#[inline(always)]
-fn taken_at(store: &Store, number: u16, index: usize, taken: Taken) -> u16
-    ensures { result ≡ of_word taken (cell_of store.now.objects number index) }
-{
-    let word = cell(store, number, index);
-    match taken {
-        Taken::Word => word,
-        Taken::LowByte => word % 256,
-    }
+    store.fill(number, usize::from(from), usize::from(count), byte);
 }
 
 // Copies from the front.
@@ -225,17 +174,16 @@ fn copy_forward(
     target: u16,
     target_from: usize,
     count: u16,
-    taken: Taken,
 )
     requires source_low { source_from ≤ 65536 }
     requires target_low { target_from ≤ 65536 }
     requires before { target_from ≤ source_from }
     ensures { store.new ≡ with_objects store.old (put_all store.old.objects target target_from
-        (taken_of taken store.old.objects source source_from count)) }
+        (bytes_of store.old.objects source source_from count)) }
 {
     for at in 0..usize::from(count) {
-        let word = taken_at(store, source, source_from + at, taken);
-        put(store, target, target_from + at, word);
+        let copied = byte(store, source, source_from + at);
+        put(store, target, target_from + at, u16::from(copied));
     }
 }
 
@@ -247,57 +195,17 @@ fn copy_backward(
     target: u16,
     target_from: usize,
     count: u16,
-    taken: Taken,
 )
     requires source_low { source_from ≤ 65536 }
     requires target_low { target_from ≤ 65536 }
     requires behind { source_from ≤ target_from }
     ensures { store.new ≡ with_objects store.old (put_all store.old.objects target target_from
-        (taken_of taken store.old.objects source source_from count)) }
+        (bytes_of store.old.objects source source_from count)) }
 {
     for done in 0..usize::from(count) {
         let at = usize::from(count) - done - 1;
-        let word = taken_at(store, source, source_from + at, taken);
-        put(store, target, target_from + at, word);
-    }
-}
-
-// Copies what is taken of so many components, one by one, as through a copy of the source.
-#[inline(never)]
-fn copy_one_by_one(
-    store: &mut Store,
-    source: u16,
-    source_from: usize,
-    target: u16,
-    target_from: usize,
-    count: u16,
-    taken: Taken,
-)
-    requires source_low { source_from ≤ 65536 }
-    requires target_low { target_from ≤ 65536 }
-    ensures { store.new ≡ with_objects store.old (put_all store.old.objects target target_from
-        (taken_of taken store.old.objects source source_from count)) }
-{
-    if target_from <= source_from {
-        copy_forward(
-            store,
-            source,
-            source_from,
-            target,
-            target_from,
-            count,
-            taken,
-        );
-    } else {
-        copy_backward(
-            store,
-            source,
-            source_from,
-            target,
-            target_from,
-            count,
-            taken,
-        );
+        let copied = byte(store, source, source_from + at);
+        put(store, target, target_from + at, u16::from(copied));
     }
 }
 
@@ -315,68 +223,53 @@ pub(crate) fn copy_bytes(
     ensures { store.new ≡ with_objects store.old (put_all store.old.objects target target_from
         (bytes_of store.old.objects source source_from count)) }
 {
-    copy_one_by_one(
-        store,
-        source,
-        source_from,
-        target,
-        target_from,
-        count,
-        Taken::LowByte,
-    );
+    if target_from <= source_from {
+        copy_forward(store, source, source_from, target, target_from, count);
+    } else {
+        copy_backward(store, source, source_from, target, target_from, count);
+    }
 }
 
 /// Copies so many components of an object to an object, as they are, from indexes on, as through a copy of the source.
 pub(crate) fn copy_words(
     store: &mut Store,
     source: u16,
-    source_from: usize,
+    source_from: u16,
     target: u16,
-    target_from: usize,
+    target_from: u16,
     count: u16,
 )
-    requires source_low { source_from ≤ 65536 }
-    requires target_low { target_from ≤ 65536 }
+    requires source_there { HasCells store.old source source_from count }
+    requires target_there { HasCells store.old target target_from count }
     ensures { store.new ≡ with_objects store.old (put_all store.old.objects target target_from
         (words_of store.old.objects source source_from count)) }
 {
-    let words = usize::from(count);
-    if has_part(store, source, source_from, words) && has_part(store, target, target_from, words) {
-        store.copy(source, source_from, target, target_from, words);
-    } else {
-        copy_one_by_one(
-            store,
-            source,
-            source_from,
-            target,
-            target_from,
-            count,
-            Taken::Word,
-        );
-    }
+    store.copy(
+        source,
+        usize::from(source_from),
+        target,
+        usize::from(target_from),
+        usize::from(count),
+    );
 }
 
 /// Two bytes of an object, from an index on, as a word: the high one first.
+#[inline(always)]
 pub(crate) fn short_at(store: &Store, number: u16, from: u16) -> u16
+    requires there { HasCells store.now number from 2 }
     ensures { result ≡ word_of_bytes (byte_of store.now.objects number from)
         (byte_of store.now.objects number (from + 1)) }
 {
-    let at = usize::from(from);
-    match part(store, number, at, 2) {
-        Some(words) => word_of(low(words[0]), low(words[1])),
-        None => word_of(byte(store, number, at), byte(store, number, at + 1)),
-    }
+    let words = known_part(store, number, from, 2);
+    word_of(low(words[0]), low(words[1]))
 }
 
 /// Writes a word to an object as two bytes, from an index on: the high one first.
+#[inline(always)]
 pub(crate) fn put_short(store: &mut Store, number: u16, from: u16, word: u16)
+    requires there { HasCells store.old number from 2 }
     ensures { store.new ≡ with_objects store.old
         (put_all store.old.objects number from (high word ∷ low word ∷ [])) }
 {
-    put_bytes(
-        store,
-        number,
-        usize::from(from),
-        &[high(word) as u8, low(word)],
-    );
+    store.put_bytes(number, usize::from(from), &[high(word) as u8, low(word)]);
 }

@@ -54,6 +54,16 @@ pub(crate) fn part(store: &Store, number: u16, from: usize, count: u16) -> Optio
         .get(from..from + usize::from(count))
 }
 
+/// So many components of an object from an index on, which it is known to have.
+#[inline(always)]
+pub(crate) fn known_part(store: &Store, number: u16, from: u16, count: u16) -> &[u16]
+    requires there { HasCells store.now number from count }
+    ensures bytes { bytes_of store.now.objects number from count ≡ map low result.now }
+    ensures len { length result.now ≡ count }
+{
+    store.part(number, usize::from(from), usize::from(count))
+}
+
 /// Whether an object is there and has so many components from an index on.
 #[inline]
 pub(crate) fn has_part(store: &Store, number: u16, from: usize, count: usize) -> bool

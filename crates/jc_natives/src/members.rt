@@ -10,10 +10,10 @@ use crate::apdu::apdu_native;
 use crate::applet::applet_native;
 use crate::ended::{Ended, Question};
 use crate::kept::Runtime;
-use crate::native::{Native, native_of};
+use crate::native::{Native, UtilityNative, native_of};
 use crate::object::object_native;
 use crate::system::system_native;
-use crate::utility::utility_native;
+use crate::utility::{tested, utility_called, utility_native};
 use arrayvec::ArrayVec;
 use jc_classes::growing_keeps_lookups;
 use jc_link::{World, built_worlds_are_sound, built_worlds_have_the_api, growing_keeps_linking};
@@ -46,7 +46,8 @@ fn call_native(
     }
 }
 
-// Calls the member with a number, if there is one.
+// Calls the member with a number, if there is one. Those of Util are named by their numbers. The smallest are compiled in
+// place, for calls with as many words as they take: so their arguments are known to be there.
 #[inline(always)]
 fn call_member(
     world: &World,
@@ -59,9 +60,24 @@ fn call_member(
         (word_work (seen_in world.now store.old call.now) runtime.old call.now.arguments.now
         (numbered natives call.now.member)) }
 {
-    match native_of(call.member) {
-        Some(native) => call_native(world, store, call, runtime, native),
-        None => Ended::Returned(None),
+    match call.member {
+        49 => utility_called(world, store, call, runtime, UtilityNative::ArrayCopy),
+        50 => utility_called(world, store, call, runtime, UtilityNative::ArrayCopy),
+        51 => utility_called(world, store, call, runtime, UtilityNative::ArrayFill),
+        52 => utility_called(world, store, call, runtime, UtilityNative::ArrayCompare),
+        53 if call.arguments.len() == 2 => {
+            tested(world, store, call, runtime, UtilityNative::GetShort)
+        }
+        54 if call.arguments.len() == 3 => {
+            tested(world, store, call, runtime, UtilityNative::SetShort)
+        }
+        55 if call.arguments.len() == 2 => {
+            tested(world, store, call, runtime, UtilityNative::MakeShort)
+        }
+        member => match native_of(member) {
+            Some(native) => call_native(world, store, call, runtime, native),
+            None => Ended::Returned(None),
+        },
     }
 }
 

@@ -1,7 +1,7 @@
 //! Members of Util (Java Card API Specification, Util).
 
 ghost use Rattle.std.specs.Prelude.{◌≡◌};
-ghost use Rattle.jc_natives.specs.PrivateWords.{done_of, native_work, seen_in};
+ghost use Rattle.jc_natives.specs.PrivateWords.{Passes, done_of, native_work, seen_in};
 ghost use Rattle.jc_natives.specs.Utilities.{utility_work};
 ghost use Rattle.jc_natives.specs.declared.native.UtilityNative.TheVariants as natives;
 ghost use Rattle.jc_natives.specs.declared.native.Native.TheVariants.{OfUtility};
@@ -19,6 +19,7 @@ use jc_machine::WordCall;
 use jc_store::Store;
 
 fn array_copy(world: &World, store: &mut Store, call: &WordCall<'_>, runtime: &Runtime) -> Ended
+    requires passed { Passes (seen_in world.now store.old call.now) call.now.arguments.now (OfUtility natives.ArrayCopy) }
     ensures { record { store = store.new; kept = runtime.now; ended = result }
         ≡ done_of call.now.active store.old runtime.now
         (utility_work (seen_in world.now store.old call.now) runtime.now call.now.arguments.now natives.ArrayCopy) }
@@ -28,18 +29,12 @@ fn array_copy(world: &World, store: &mut Store, call: &WordCall<'_>, runtime: &R
     let target = argument(call.arguments, 2);
     let to = argument(call.arguments, 3);
     let count = argument(call.arguments, 4);
-    copy_words(
-        store,
-        source,
-        usize::from(from),
-        target,
-        usize::from(to),
-        count,
-    );
+    copy_words(store, source, from, target, to, count);
     Ended::Returned(Some(sum(to, count)))
 }
 
 fn array_fill(world: &World, store: &mut Store, call: &WordCall<'_>, runtime: &Runtime) -> Ended
+    requires passed { Passes (seen_in world.now store.old call.now) call.now.arguments.now (OfUtility natives.ArrayFill) }
     ensures { record { store = store.new; kept = runtime.now; ended = result }
         ≡ done_of call.now.active store.old runtime.now
         (utility_work (seen_in world.now store.old call.now) runtime.now call.now.arguments.now natives.ArrayFill) }
@@ -53,6 +48,7 @@ fn array_fill(world: &World, store: &mut Store, call: &WordCall<'_>, runtime: &R
 }
 
 fn array_compare(world: &World, store: &mut Store, call: &WordCall<'_>, runtime: &Runtime) -> Ended
+    requires passed { Passes (seen_in world.now store.old call.now) call.now.arguments.now (OfUtility natives.ArrayCompare) }
     ensures { record { store = store.new; kept = runtime.now; ended = result }
         ≡ done_of call.now.active store.old runtime.now
         (utility_work (seen_in world.now store.old call.now) runtime.now call.now.arguments.now natives.ArrayCompare) }
@@ -65,7 +61,9 @@ fn array_compare(world: &World, store: &mut Store, call: &WordCall<'_>, runtime:
     Ended::Returned(Some(compare_bytes(store, one, one_from, other, other_from, count)))
 }
 
+#[inline(always)]
 fn get_short(world: &World, store: &mut Store, call: &WordCall<'_>, runtime: &Runtime) -> Ended
+    requires passed { Passes (seen_in world.now store.old call.now) call.now.arguments.now (OfUtility natives.GetShort) }
     ensures { record { store = store.new; kept = runtime.now; ended = result }
         ≡ done_of call.now.active store.old runtime.now
         (utility_work (seen_in world.now store.old call.now) runtime.now call.now.arguments.now natives.GetShort) }
@@ -75,7 +73,9 @@ fn get_short(world: &World, store: &mut Store, call: &WordCall<'_>, runtime: &Ru
     Ended::Returned(Some(short_at(store, array, from)))
 }
 
+#[inline(always)]
 fn set_short(world: &World, store: &mut Store, call: &WordCall<'_>, runtime: &Runtime) -> Ended
+    requires passed { Passes (seen_in world.now store.old call.now) call.now.arguments.now (OfUtility natives.SetShort) }
     ensures { record { store = store.new; kept = runtime.now; ended = result }
         ≡ done_of call.now.active store.old runtime.now
         (utility_work (seen_in world.now store.old call.now) runtime.now call.now.arguments.now natives.SetShort) }
@@ -106,6 +106,7 @@ fn utility_work(
     runtime: &Runtime,
     native: UtilityNative,
 ) -> Ended
+    requires passed { Passes (seen_in world.now store.old call.now) call.now.arguments.now (OfUtility native) }
     ensures { record { store = store.new; kept = runtime.now; ended = result }
         ≡ done_of call.now.active store.old runtime.now
         (utility_work (seen_in world.now store.old call.now) runtime.now call.now.arguments.now native) }
@@ -120,9 +121,9 @@ fn utility_work(
     }
 }
 
-// Tests the arguments of a member of Util, and does its work.
+/// Tests the arguments of a member of Util, and does its work.
 #[inline(always)]
-fn tested(
+pub(crate) fn tested(
     world: &World,
     store: &mut Store,
     call: &WordCall<'_>,
@@ -139,7 +140,79 @@ fn tested(
     }
 }
 
-/// Calls a member of Util. Each arm names its member, so that its row is known when it is compiled.
+// `arrayCopy` with its tests.
+#[inline(never)]
+fn array_copy_tested(
+    world: &World,
+    store: &mut Store,
+    call: &WordCall<'_>,
+    runtime: &Runtime,
+) -> Ended
+    ensures { record { store = store.new; kept = runtime.now; ended = result }
+        ≡ done_of call.now.active store.old runtime.now
+        (native_work (seen_in world.now store.old call.now) runtime.now call.now.arguments.now
+        (OfUtility natives.ArrayCopy)) }
+{
+    tested(world, store, call, runtime, UtilityNative::ArrayCopy)
+}
+
+// `arrayFill` with its tests.
+#[inline(never)]
+fn array_fill_tested(
+    world: &World,
+    store: &mut Store,
+    call: &WordCall<'_>,
+    runtime: &Runtime,
+) -> Ended
+    ensures { record { store = store.new; kept = runtime.now; ended = result }
+        ≡ done_of call.now.active store.old runtime.now
+        (native_work (seen_in world.now store.old call.now) runtime.now call.now.arguments.now
+        (OfUtility natives.ArrayFill)) }
+{
+    tested(world, store, call, runtime, UtilityNative::ArrayFill)
+}
+
+// `arrayCompare` with its tests.
+#[inline(never)]
+fn array_compare_tested(
+    world: &World,
+    store: &mut Store,
+    call: &WordCall<'_>,
+    runtime: &Runtime,
+) -> Ended
+    ensures { record { store = store.new; kept = runtime.now; ended = result }
+        ≡ done_of call.now.active store.old runtime.now
+        (native_work (seen_in world.now store.old call.now) runtime.now call.now.arguments.now
+        (OfUtility natives.ArrayCompare)) }
+{
+    tested(world, store, call, runtime, UtilityNative::ArrayCompare)
+}
+
+/// Calls a member of Util. Each arm names its member, so that its row is known when it is compiled. Where a call names
+/// its member no more is left than that.
+#[inline(always)]
+pub(crate) fn utility_called(
+    world: &World,
+    store: &mut Store,
+    call: &WordCall<'_>,
+    runtime: &Runtime,
+    native: UtilityNative,
+) -> Ended
+    ensures { record { store = store.new; kept = runtime.now; ended = result }
+        ≡ done_of call.now.active store.old runtime.now
+        (native_work (seen_in world.now store.old call.now) runtime.now call.now.arguments.now (OfUtility native)) }
+{
+    match native {
+        UtilityNative::ArrayCopy => array_copy_tested(world, store, call, runtime),
+        UtilityNative::ArrayFill => array_fill_tested(world, store, call, runtime),
+        UtilityNative::ArrayCompare => array_compare_tested(world, store, call, runtime),
+        UtilityNative::GetShort => tested(world, store, call, runtime, UtilityNative::GetShort),
+        UtilityNative::SetShort => tested(world, store, call, runtime, UtilityNative::SetShort),
+        UtilityNative::MakeShort => tested(world, store, call, runtime, UtilityNative::MakeShort),
+    }
+}
+
+/// Calls any member of Util.
 #[inline(never)]
 pub(crate) fn utility_native(
     world: &World,
@@ -152,14 +225,5 @@ pub(crate) fn utility_native(
         ≡ done_of call.now.active store.old runtime.now
         (native_work (seen_in world.now store.old call.now) runtime.now call.now.arguments.now (OfUtility native)) }
 {
-    match native {
-        UtilityNative::ArrayCopy => tested(world, store, call, runtime, UtilityNative::ArrayCopy),
-        UtilityNative::ArrayFill => tested(world, store, call, runtime, UtilityNative::ArrayFill),
-        UtilityNative::ArrayCompare => {
-            tested(world, store, call, runtime, UtilityNative::ArrayCompare)
-        }
-        UtilityNative::GetShort => tested(world, store, call, runtime, UtilityNative::GetShort),
-        UtilityNative::SetShort => tested(world, store, call, runtime, UtilityNative::SetShort),
-        UtilityNative::MakeShort => tested(world, store, call, runtime, UtilityNative::MakeShort),
-    }
+    utility_called(world, store, call, runtime, native)
 }

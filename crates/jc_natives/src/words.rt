@@ -8,6 +8,8 @@ use crate::kept::MOST_SENT;
 use arrayvec::ArrayVec;
 
 // How many words are compared at once, where there are so many.
+const HUGE: usize = 128;
+
 const LARGE: usize = 32;
 
 const SMALL: usize = 8;
@@ -92,31 +94,59 @@ fn same_from(one: &[u16], other: &[u16], known: usize, size: usize) -> usize
     }
 }
 
+// How many of many words in front are the same, in large blocks that begin behind so many words. None, where there are
+// few words, or some of the first aren't the same.
+#[inline]
+fn same_among_many(one: &[u16], other: &[u16], unaligned: usize) -> usize
+    requires sized { length one.now ≡ length other.now }
+    requires few { unaligned < 8 }
+    ensures within { result ≤ length one.now }
+    ensures same { take result one.now ≡ take result other.now }
+{
+    if one.len() < HUGE || !are_same(&one[..SMALL], &other[..SMALL]) {
+        return 0;
+    }
+    same_from(one, other, unaligned, HUGE)
+}
+
 // How many words in front are the same, but for some behind the last block. It is inlined, since few words are compared
 // mostly.
 #[inline(always)]
-fn same_start(one: &[u16], other: &[u16]) -> usize
+fn same_start(one: &[u16], other: &[u16], unaligned: usize) -> usize
     requires sized { length one.now ≡ length other.now }
+    requires few { unaligned < 8 }
     ensures within { result ≤ length one.now }
     ensures same { take result one.now ≡ take result other.now }
 {
     if one.len() < LARGE {
         return same_from(one, other, 0, SMALL);
     }
-    let large = same_from(one, other, 0, LARGE);
+    let many = same_among_many(one, other, unaligned);
+    let large = same_from(one, other, many, LARGE);
     if large == one.len() {
         return large;
     }
     same_from(one, other, large, SMALL)
 }
 
-/// How the low bytes of words compare: -1, 0 or 1.
+/// How many components stand in front of the first that is aligned to a block, from an index of an object on in front
+/// of which so many components of other objects stand.
 #[inline]
-pub(crate) fn order_of_words(one: &[u16], other: &[u16]) -> u16
+pub(crate) fn words_to_alignment(before: u16, from: u16) -> usize
+    ensures { result < 8 }
+{
+    let start = usize::from(before) + usize::from(from);
+    (SMALL - start % SMALL) % SMALL
+}
+
+/// How the low bytes of words compare: -1, 0 or 1. Many are compared in blocks that begin behind so many words.
+#[inline]
+pub(crate) fn order_of_words(one: &[u16], other: &[u16], unaligned: usize) -> u16
     requires sized { length one.now ≡ length other.now }
+    requires few { unaligned < 8 }
     ensures { result ≡ order_of (map low one.now) (map low other.now) }
 {
-    for at in same_start(one, other)..one.len() {
+    for at in same_start(one, other, unaligned)..one.len() {
         if let Some(order) = order_of_bytes(low(one[at]), low(other[at])) {
             return order;
         }
@@ -130,7 +160,7 @@ pub(crate) fn are_same_words(one: &[u16], other: &[u16]) -> bool
     requires sized { length one.now ≡ length other.now }
     ensures { result ≡ bytes_eq (map low one.now) (map low other.now) }
 {
-    for at in same_start(one, other)..one.len() {
+    for at in same_start(one, other, 0)..one.len() {
         if low(one[at]) != low(other[at]) {
             return false;
         }

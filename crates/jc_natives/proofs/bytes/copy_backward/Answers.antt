@@ -1,5 +1,5 @@
 use Rattle.std.proofs.Common.{◌-◌, ◌∙◌, arith}
-use Rattle.jc_natives.specs.PrivateTaken.{of_word}
+use Rattle.jc_natives.specs.Cells.{low}
 use Rattle.jc_natives.proofs.Ranges.{copied_back}
 use Rattle.jc_natives.proofs.bytes.copy_backward.Goals as goal
 
@@ -9,7 +9,7 @@ loop-done-preserved c =
     let count = c.from.ensures in
     let end = c.from-done-end.ensures in
     c.put.ensures
-    ∙ copied_back (of_word c.args.taken) c.args.store.now c.loop-done.store c.args.source c.args.source_from
+    ∙ copied_back low c.args.store.now c.loop-done.store c.args.source c.args.source_from
     c.args.target c.args.target_from (c.from.result - c.loop-done.done - 1) c.args.count c.loop-done.done
-    c.taken_at-word.result c.requires.behind (omega (arith, high, end)) (omega (arith, count)) c.loop-done.invariant
-    c.taken_at-word.ensures
+    c.from-in-loop-done.result c.requires.behind (omega (arith, high, end)) (omega (arith, count)) c.loop-done.invariant
+    (c.from-in-loop-done.ensures ∙ c.byte-copied.ensures)

@@ -1,4 +1,5 @@
--- Application identifiers (Java Card Virtual Machine Specification, CAP file format: package_info and Applet component).
+-- Application identifiers (Java Card Virtual Machine Specification, CAP file format: package_info and Applet
+-- component).
 use Rattle.std.specs.Prelude.{ℕ, List, length, Option, Some, None, Bool, ◌&&◌, nat_le, Result, Err, if◌then◌else◌}
 use Rattle.jc_base.specs.Cursor.{Read, next_u1, next_bytes, field}
 use Rattle.jc_base.specs.Results.{◌>>=◌}

@@ -1,7 +1,8 @@
 -- Reading from the front of a list of bytes: a value and the bytes behind it, or nothing.
 -- Numbers are big-endian (Java Card Virtual Machine Specification, CAP file format: u1, u2 and u4; and s1 and s2 with
 -- a sign).
-use Rattle.std.specs.Prelude.{◌≡◌, ℕ, ℤ, ◌+◌, ◌*◌, ◌==◌, List, [], ◌∷◌, length, take, drop, Option, Some, None, Result, Ok, Err, nat_lt, if◌then◌else◌}
+use Rattle.std.specs.Prelude.{◌≡◌, ℕ, ℤ, ◌+◌, ◌*◌, ◌==◌, List, [], ◌∷◌, length, take, drop, Option, Some, None, Result}
+use Rattle.std.specs.Prelude.{Ok, Err, nat_lt, if◌then◌else◌}
 use Rattle.std.specs.Int.{w8, w16, cast_signed}
 use Rattle.std.specs.Option.{ok_or}
 use Rattle.jc_base.specs.declared.fault.LoadFault.{LoadFault}
@@ -39,7 +40,8 @@ next_s2 _ = None
 
 -- the next n bytes
 abbrev pub next_bytes : ℕ → List ℕ → Option (Read (List ℕ))
-next_bytes n bytes = if nat_lt (length bytes) n then None else Some (record { value = take n bytes; rest = drop n bytes })
+next_bytes n bytes =
+    if nat_lt (length bytes) n then None else Some (record { value = take n bytes; rest = drop n bytes })
 
 -- a field of the component with a tag, which is malformed where the field isn't there
 abbrev pub field : {A : Type 0} → ℕ → Option A → Result A LoadFault

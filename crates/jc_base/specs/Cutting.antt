@@ -1,12 +1,15 @@
 -- An image: components one behind the other, each a tag, a size and an info, in any order
 -- (Java Card Virtual Machine Specification, CAP file format: Component model).
-use Rattle.std.specs.Prelude.{◌≡◌, ℕ, ◌+◌, ◌*◌, ◌<◌, ◌==◌, if◌then◌else◌, List, [], ◌∷◌, ◌++◌, length, Option, Some, None, nat_lt, Result, Ok, Err}
+use Rattle.std.specs.Prelude.{◌≡◌, ℕ, ◌+◌, ◌*◌, ◌<◌, ◌==◌, if◌then◌else◌, List, [], ◌∷◌, ◌++◌, length, Option, Some}
+use Rattle.std.specs.Prelude.{None, nat_lt, Result, Ok, Err}
 use Rattle.std.specs.List.{flat_map, find, AllByRecursion, range_with_len}
 use Rattle.jc_base.specs.Parts.{Infos}
 use Rattle.jc_base.specs.Results.{◌>>=◌}
 use Rattle.jc_base.specs.declared.fault.LoadFault.{LoadFault}
-use Rattle.jc_base.specs.declared.fault.LoadFault.TheVariants.{ShortComponent, ExtraBytes, MissingComponent, RepeatedComponent}
-use Rattle.jc_base.specs.Tag.{header_tag, applet_tag, import_tag, constant_pool_tag, class_tag, method_tag, static_field_tag, export_tag, descriptor_tag}
+use Rattle.jc_base.specs.declared.fault.LoadFault.TheVariants.{ShortComponent, ExtraBytes, MissingComponent}
+use Rattle.jc_base.specs.declared.fault.LoadFault.TheVariants.{RepeatedComponent}
+use Rattle.jc_base.specs.Tag.{header_tag, applet_tag, import_tag, constant_pool_tag, class_tag, method_tag}
+use Rattle.jc_base.specs.Tag.{static_field_tag, export_tag, descriptor_tag}
 
 -- a component as it stands: its tag, the two bytes of its size, and its info
 pub record Piece : Type 0 where

@@ -3,7 +3,11 @@ use Rattle.std.specs.Prelude.{ℕ, List, ◌++◌, codes, Bool, ◌&&◌, ◌||�
 use Rattle.std.specs.Fmt.{decimal}
 use Rattle.jc_base.specs.Reason.{name_of}
 use Rattle.jc_base.specs.declared.fault.LoadFault.{LoadFault}
-use Rattle.jc_base.specs.declared.fault.LoadFault.TheVariants.{ShortComponent, ExtraBytes, MissingComponent, RepeatedComponent, BadMagic, FormatVersion, IntPackage, BadAid, Malformed, MissingImport, Unresolved, TypeMismatch, BadClass, BadStatic, DuplicatePackage, BadCertificate, MethodRefused, Full, Memory}
+use Rattle.jc_base.specs.declared.fault.LoadFault.TheVariants.{ShortComponent, ExtraBytes, MissingComponent}
+use Rattle.jc_base.specs.declared.fault.LoadFault.TheVariants.{RepeatedComponent, BadMagic, FormatVersion, IntPackage}
+use Rattle.jc_base.specs.declared.fault.LoadFault.TheVariants.{BadAid, Malformed, MissingImport, Unresolved}
+use Rattle.jc_base.specs.declared.fault.LoadFault.TheVariants.{TypeMismatch, BadClass, BadStatic, DuplicatePackage}
+use Rattle.jc_base.specs.declared.fault.LoadFault.TheVariants.{BadCertificate, MethodRefused, Full, Memory}
 
 -- the words of a refusal's line behind the word `refused`: number, name and places, with one space between them;
 -- tags, tokens, indices, offsets and pcs in decimal
@@ -24,7 +28,8 @@ words_of (BadClass offset) = codes "13 BadClass " ++ decimal offset
 words_of (BadStatic offset) = codes "14 BadStatic " ++ decimal offset
 words_of DuplicatePackage = codes "15 DuplicatePackage"
 words_of BadCertificate = codes "16 BadCertificate"
-words_of (MethodRefused method pc reason) = ((((codes "17 MethodRefused " ++ decimal method) ++ codes " ") ++ decimal pc) ++ codes " ") ++ name_of reason
+words_of (MethodRefused method pc reason) =
+    ((((codes "17 MethodRefused " ++ decimal method) ++ codes " ") ++ decimal pc) ++ codes " ") ++ name_of reason
 words_of Full = codes "18 Full"
 words_of Memory = codes "19 Memory"
 
@@ -74,7 +79,8 @@ place_of Memory = 0
 
 -- of several refusals the one with the smaller number is told, and of one number the one with the smaller place
 abbrev pub is_told_before : LoadFault → LoadFault → Bool
-is_told_before a b = nat_lt (number_of a) (number_of b) || (number_of a == number_of b && nat_lt (place_of a) (place_of b))
+is_told_before a b =
+    nat_lt (number_of a) (number_of b) || (number_of a == number_of b && nat_lt (place_of a) (place_of b))
 
 -- the one of two that is told; the first where neither is told before the other
 abbrev pub least_of : LoadFault → LoadFault → LoadFault

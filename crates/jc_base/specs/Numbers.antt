@@ -1,4 +1,5 @@
--- Bytes as numbers (Java Card Virtual Machine Specification, CAP file format: u2; Data types: byte and short), and flags.
+-- Bytes as numbers (Java Card Virtual Machine Specification, CAP file format: u2; Data types: byte and short), and
+-- flags.
 use Rattle.std.specs.Prelude.{ℕ, ◌+◌, ◌*◌, ◌==◌, ℤ, Bool, List, [], ◌∷◌, map, bit_and}
 use Rattle.std.specs.Int.{w8, w16, cast_signed}
 

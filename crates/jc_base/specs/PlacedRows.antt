@@ -1,5 +1,6 @@
 -- Rows one behind the other until nothing is left, each at an offset.
-use Rattle.std.specs.Prelude.{◌≡◌, ℕ, zero, suc, ◌+◌, ◌-◌, ◌<◌, ◌==◌, List, [], ◌∷◌, length, drop, Option, Some, None, Result, Ok, if◌then◌else◌}
+use Rattle.std.specs.Prelude.{◌≡◌, ℕ, zero, suc, ◌+◌, ◌-◌, ◌<◌, ◌==◌, List, [], ◌∷◌, length, drop, Option, Some, None}
+use Rattle.std.specs.Prelude.{Result, Ok, if◌then◌else◌}
 use Rattle.jc_base.specs.Cursor.{Read}
 use Rattle.jc_base.specs.Results.{◌>>=◌}
 use Rattle.jc_base.specs.declared.placed_rows.Placed.{Placed}
@@ -10,7 +11,8 @@ Shrinks {A = A} next_row = (bytes : List ℕ) (x : Read A) → next_row bytes �
 
 -- and is read from the front: the end of the bytes is left
 abbrev pub IsInFront : {A E : Type 0} → (List ℕ → Result (Read A) E) → Type 0
-IsInFront {A = A} next_row = (bytes : List ℕ) (x : Read A) → next_row bytes ≡ Ok x → x.rest ≡ drop (length bytes - length x.rest) bytes
+IsInFront {A = A} next_row =
+    (bytes : List ℕ) (x : Read A) → next_row bytes ≡ Ok x → x.rest ≡ drop (length bytes - length x.rest) bytes
 
 -- the rows that bytes are, the last of so many that offsets count, in at most so many steps
 abbrev pub placed_in : {A E : Type 0} → (List ℕ → Result (Read A) E) → ℕ → ℕ → List ℕ → Result (List (Placed A)) E
@@ -25,11 +27,13 @@ placed_in next_row total (suc steps) (b ∷ bytes) = do
 unfoldable pub placed_rows : {A E : Type 0} → (List ℕ → Result (Read A) E) → ℕ → List ℕ → Result (List (Placed A)) E
 placed_rows next_row first bytes = placed_in next_row (length bytes) (length bytes) (drop first bytes)
 
--- bytes, the last of so many that offsets count, are these rows and nothing else: each begins where the one before it ends
+-- bytes, the last of so many that offsets count, are these rows and nothing else: each begins where the one before it
+-- ends
 abbrev pub ArePlaced : {A E : Type 0} → (List ℕ → Result (Read A) E) → ℕ → List ℕ → List (Placed A) → Type 0
 ArePlaced next_row total bytes [] = bytes ≡ []
 ArePlaced next_row total bytes (p ∷ rows) =
-    (rest : List ℕ) × (p.offset + length bytes ≡ total) × (next_row bytes ≡ Ok (record { value = p.row; rest = rest })) × ArePlaced next_row total rest rows
+    (rest : List ℕ) × (p.offset + length bytes ≡ total) × (next_row bytes ≡ Ok (record { value = p.row; rest = rest }))
+    × ArePlaced next_row total rest rows
 
 -- the row that begins at an offset
 abbrev pub row_at : {A : Type 0} → ℕ → List (Placed A) → Option A

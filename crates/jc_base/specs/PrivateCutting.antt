@@ -1,5 +1,6 @@
 -- Private. The component in front of a list of bytes, and what is kept of components while they are read.
-use Rattle.std.specs.Prelude.{◌≡◌, ℕ, ◌+◌, ◌*◌, ◌^◌, ◌<◌, false, List, [], ◌∷◌, length, take, drop, Some, None, Result, Ok, Err, Option, nat_lt, slice_index_or, IfSome, if◌then◌else◌}
+use Rattle.std.specs.Prelude.{◌≡◌, ℕ, ◌+◌, ◌*◌, ◌^◌, ◌<◌, false, List, [], ◌∷◌, length, take, drop, Some, None, Result}
+use Rattle.std.specs.Prelude.{Ok, Err, Option, nat_lt, slice_index_or, IfSome, if◌then◌else◌}
 use Rattle.std.specs.Option.{option_copied}
 use Rattle.std.specs.List.{find}
 use Rattle.jc_base.specs.Cutting.{Piece, info_of, count_of, known}

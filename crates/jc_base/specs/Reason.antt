@@ -1,7 +1,8 @@
 -- The names of reasons, as they are printed.
 use Rattle.std.specs.Prelude.{ℕ, List, codes}
 use Rattle.jc_base.specs.declared.reason.Reason.{Reason}
-use Rattle.jc_base.specs.declared.reason.Reason.TheVariants.{BadOpcode, BadOperand, CutShort, BadLocal, StackUnder, WrongType, StackOver, NoTarget, CertMismatch, FallsOff}
+use Rattle.jc_base.specs.declared.reason.Reason.TheVariants.{BadOpcode, BadOperand, CutShort, BadLocal, StackUnder}
+use Rattle.jc_base.specs.declared.reason.Reason.TheVariants.{WrongType, StackOver, NoTarget, CertMismatch, FallsOff}
 
 abbrev pub name_of : Reason → List ℕ
 name_of BadOpcode = codes "BadOpcode"

@@ -1,5 +1,6 @@
 -- So many rows, one behind the other.
-use Rattle.std.specs.Prelude.{◌≡◌, ℕ, zero, suc, ◌+◌, ◌≤◌, List, [], ◌∷◌, length, take, drop, Option, Some, None, nat_lt, Result, Ok, if◌then◌else◌}
+use Rattle.std.specs.Prelude.{◌≡◌, ℕ, zero, suc, ◌+◌, ◌≤◌, List, [], ◌∷◌, length, take, drop, Option, Some, None}
+use Rattle.std.specs.Prelude.{nat_lt, Result, Ok, if◌then◌else◌}
 use Rattle.jc_base.specs.Cursor.{Read}
 use Rattle.jc_base.specs.Results.{◌>>=◌}
 
@@ -17,4 +18,5 @@ part first count rows = if nat_lt (length rows) (first + count) then None else S
 
 -- each row takes so many bytes
 abbrev pub HasSize : {A E : Type 0} → ℕ → (List ℕ → Result (Read A) E) → Type 0
-HasSize {A = A} size next_row = (bytes : List ℕ) (x : Read A) → next_row bytes ≡ Ok x → (x.rest ≡ drop size bytes) × (size ≤ length bytes)
+HasSize {A = A} size next_row =
+    (bytes : List ℕ) (x : Read A) → next_row bytes ≡ Ok x → (x.rest ≡ drop size bytes) × (size ≤ length bytes)

@@ -1,7 +1,8 @@
 -- What a method takes and gives (Java Card Virtual Machine Specification, Descriptor component: type_descriptor_info).
 use Rattle.std.specs.Prelude.{List, map}
 use Rattle.jc_base.specs.declared.declared_type.DeclaredType.{DeclaredType}
-use Rattle.jc_base.specs.declared.declared_type.DeclaredType.TheVariants.{Boolean, Byte, Short, Reference, BooleanArray, ByteArray, ShortArray, ReferenceArray}
+use Rattle.jc_base.specs.declared.declared_type.DeclaredType.TheVariants.{Boolean, Byte, Short, Reference, BooleanArray}
+use Rattle.jc_base.specs.declared.declared_type.DeclaredType.TheVariants.{ByteArray, ShortArray, ReferenceArray}
 use Rattle.jc_base.specs.declared.declared_type.ReturnType.{ReturnType}
 use Rattle.jc_base.specs.declared.declared_type.ReturnType.TheVariants.{Void, Value}
 

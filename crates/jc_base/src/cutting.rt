@@ -1,6 +1,7 @@
 //! Cutting an image into its components.
 
-ghost use Rattle.std.specs.Prelude.{◌≡◌, ◌<◌, ◌^◌, ◌∷◌, [], ◌++◌, List, ℕ, Option, IfOk, IfErr, IfSome, Err, false, length, slice_index_or};
+ghost use Rattle.std.specs.Prelude.{◌≡◌, ◌<◌, ◌^◌, ◌∷◌, [], ◌++◌, List, ℕ, Option, IfOk, IfErr, IfSome, Err, false};
+ghost use Rattle.std.specs.Prelude.{length, slice_index_or};
 ghost use Rattle.std.specs.List.{find};
 ghost use Rattle.std.specs.Option.{option_copied};
 ghost use Rattle.jc_base.specs.Cutting.{Piece, Splits, answer, infos_by, known};
@@ -56,7 +57,8 @@ impl<'a> Slots<'a> {
 
     /// Keeps one more component. A tag from 13 on is passed over.
     fn put(&mut self, component: Component<'a>)
-        ensures holds { (pieces : List Piece) (p : Piece) → component.entry.tag ≡ p.tag → component.entry.info.now ≡ p.info → Holds self.old pieces → Holds self.new (pieces ++ p ∷ []) }
+        ensures holds { (pieces : List Piece) (p : Piece) → component.entry.tag ≡ p.tag
+            → component.entry.info.now ≡ p.info → Holds self.old pieces → Holds self.new (pieces ++ p ∷ []) }
         ensures short { length component.entry.info.now < 2 ^ 16 → AreShort self.old → AreShort self.new }
     {
         let place = usize::from(component.tag);
@@ -90,7 +92,8 @@ impl<'a> Slots<'a> {
 /// The components of an image.
 fn components<'a>(image: &'a [u8]) -> Result<Slots<'a>, LoadFault>
     ensures ok { IfOk result (λ slots. (pieces : List Piece) × Splits image.now pieces [] × Holds slots pieces) }
-    ensures err { IfErr result (λ fault. (pieces : List Piece) × (rest : List ℕ) × Splits image.now pieces rest × (answer pieces rest ≡ Err fault)) }
+    ensures err { IfErr result (λ fault. (pieces : List Piece) × (rest : List ℕ) × Splits image.now pieces rest
+        × (answer pieces rest ≡ Err fault)) }
     ensures short { IfOk result AreShort }
 {
     let mut slots = Slots::new();
@@ -152,7 +155,8 @@ fn parts_of<'a>(image: &'a [u8]) -> Result<Parts<'a>, LoadFault>
 /// came twice (Java Card Virtual Machine Specification, CAP file format: Component model).
 pub fn cut<'a>(image: &'a [u8]) -> Result<Parts<'a>, LoadFault>
     // The image has components and a rest, and they decide.
-    ensures found { (pieces : List Piece) × (rest : List ℕ) × Splits image.now pieces rest × (result ≡ answer pieces rest) }
+    ensures found { (pieces : List Piece) × (rest : List ℕ) × Splits image.now pieces rest
+        × (result ≡ answer pieces rest) }
     // It has no others.
     ensures only { (pieces : List Piece) (rest : List ℕ) → Splits image.now pieces rest → result ≡ answer pieces rest }
 {

@@ -45,7 +45,8 @@ impl<S: Source, R: PlacedRow<S>> Model for PlacedRows<S, R> {
 
     ghost view = { λ r. listed (placed_in R.next_row r.total r.total (S.left r.left)) };
 
-    ghost invariant = { λ r. (length (S.left r.left) ≤ r.total) × (done (placed_in R.next_row r.total r.total (S.left r.left)) ≡ Ok tt) };
+    ghost invariant = { λ r. (length (S.left r.left) ≤ r.total)
+        × (done (placed_in R.next_row r.total r.total (S.left r.left)) ≡ Ok tt) };
 }
 
 /// Whether what is left is rows to its end.
@@ -145,5 +146,6 @@ impl<S: Source, R: FrontRow<S>> PlacedRows<S, R> {
 /// Bytes are read as placed rows exactly where these rows stand in them one behind the other, with nothing between them
 /// and nothing behind, each at its offset.
 pub fn placed_rows_are_placed<S: Source, R: PlacedRow<S>>()
-    ensures { (first : ℕ) (bytes : List ℕ) (rows : List (Placed R)) → (placed_rows R.next_row first bytes ≡ Ok rows) ↔ ArePlaced R.next_row (length bytes) (drop first bytes) rows }
+    ensures { (first : ℕ) (bytes : List ℕ) (rows : List (Placed R))
+        → (placed_rows R.next_row first bytes ≡ Ok rows) ↔ ArePlaced R.next_row (length bytes) (drop first bytes) rows }
 {}

@@ -1,6 +1,7 @@
 //! Rows one behind the other.
 
-ghost use Rattle.std.specs.Prelude.{◌≡◌, ◌↔◌, ◌∷◌, [], drop, length, slice_get, IsTrue, List, ℕ, Result, IfSome, IfNone};
+ghost use Rattle.std.specs.Prelude.{◌≡◌, ◌↔◌, ◌∷◌, [], drop, length, slice_get, IsTrue, List, ℕ, Result, IfSome};
+ghost use Rattle.std.specs.Prelude.{IfNone};
 ghost use Rattle.jc_base.specs.Cursor.{Read, Gives, whole};
 ghost use Rattle.jc_base.specs.PrivateRows.{rest_of, left_by};
 ghost use Rattle.jc_base.specs.Rows.{repeat, part, HasSize};

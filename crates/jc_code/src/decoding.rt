@@ -2,7 +2,9 @@
 
 ghost use Rattle.std.specs.Prelude.{◌≡◌, ◌<◌, ◌≤◌};
 ghost use Rattle.jc_base.specs.Cursor.{Gives};
-ghost use Rattle.jc_code.specs.Decoding.{next_stable_switch, next_lookup_switch, next_wide_increment, when_of, next_wide_branch, next_control, next_branch, operator_of, next_arithmetic, is_duplicate, is_swap, next_shuffle, next_local, next_constant};
+ghost use Rattle.jc_code.specs.Decoding.{next_stable_switch, next_lookup_switch, next_wide_increment, when_of};
+ghost use Rattle.jc_code.specs.Decoding.{next_wide_branch, next_control, next_branch, operator_of, next_arithmetic};
+ghost use Rattle.jc_code.specs.Decoding.{is_duplicate, is_swap, next_shuffle, next_local, next_constant};
 
 use crate::fault::CodeFault;
 use crate::instr::{BinaryOperator, Condition, Shuffle, UnaryOperator, When, WordOperation};

@@ -1,7 +1,8 @@
 //! Where an instruction may go on.
 
 ghost use Rattle.std.specs.Prelude.{◌≡◌, length, slice_get};
-ghost use Rattle.jc_code.specs.Targets.{falls_of, object_falls, object_offsets, offsets_of, target_of, targets_of, word_falls, word_offsets};
+ghost use Rattle.jc_code.specs.Targets.{falls_of, object_falls, object_offsets, offsets_of, target_of, targets_of};
+ghost use Rattle.jc_code.specs.Targets.{word_falls, word_offsets};
 
 use crate::instr::{Instr, Operation, When, WordOperation};
 use crate::object::ObjectOperation;

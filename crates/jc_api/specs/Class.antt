@@ -5,7 +5,13 @@ use Rattle.jc_api.specs.Numbered.{numbered}
 use Rattle.jc_api.specs.declared.class.ApiPackage.{ApiPackage}
 use Rattle.jc_api.specs.declared.class.ApiPackage.TheVariants.{Lang, Framework}
 use Rattle.jc_api.specs.declared.class.ApiClass.{ApiClass}
-use Rattle.jc_api.specs.declared.class.ApiClass.TheVariants.{Object, Throwable, Exception, RuntimeException, ArithmeticException, ArrayStoreException, ClassCastException, IndexOutOfBoundsException, ArrayIndexOutOfBoundsException, NegativeArraySizeException, NullPointerException, SecurityException, Shareable, CardRuntimeException, IsoException, SystemException, ApduException, Aid, Apdu, Applet, JcSystem, Util}
+use Rattle.jc_api.specs.declared.class.ApiClass.TheVariants.{Object, Throwable, Exception, RuntimeException}
+use Rattle.jc_api.specs.declared.class.ApiClass.TheVariants.{ArithmeticException, ArrayStoreException}
+use Rattle.jc_api.specs.declared.class.ApiClass.TheVariants.{ClassCastException, IndexOutOfBoundsException}
+use Rattle.jc_api.specs.declared.class.ApiClass.TheVariants.{ArrayIndexOutOfBoundsException, NegativeArraySizeException}
+use Rattle.jc_api.specs.declared.class.ApiClass.TheVariants.{NullPointerException, SecurityException, Shareable}
+use Rattle.jc_api.specs.declared.class.ApiClass.TheVariants.{CardRuntimeException, IsoException, SystemException}
+use Rattle.jc_api.specs.declared.class.ApiClass.TheVariants.{ApduException, Aid, Apdu, Applet, JcSystem, Util}
 
 -- the package with a number
 abbrev pub package_with : ℕ → Option ApiPackage

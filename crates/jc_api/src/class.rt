@@ -1,7 +1,8 @@
 //! The classes of the API.
 
 ghost use Rattle.std.specs.Prelude.{◌≡◌, ◌≤◌};
-ghost use Rattle.jc_api.specs.Class.{class_of, is_abstract, is_interface, number_of, other_package, package_of, package_with, size_of, superclass_of};
+ghost use Rattle.jc_api.specs.Class.{class_of, is_abstract, is_interface, number_of, other_package, package_of};
+ghost use Rattle.jc_api.specs.Class.{package_with, size_of, superclass_of};
 
 use crate::numbered::numbered;
 

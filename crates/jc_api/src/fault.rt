@@ -3,8 +3,8 @@
 use std::error::Error;
 use std::fmt;
 
-/// Why a text isn't a binding: the first fault in the order of the lines, which are numbered from 1 on. Its `Display` is the words that
-/// are printed.
+/// Why a text isn't a binding: the first fault in the order of the lines, which are numbered from 1 on. Its `Display`
+/// is the words that are printed.
 #[derive(Clone, Copy, Debug, PartialEq, Eq, Drop)]
 pub enum BindingFault {
     /// The line with this number says nothing that a line may say.

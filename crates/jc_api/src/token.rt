@@ -2,7 +2,8 @@
 
 ghost use Rattle.std.specs.Prelude.{◌≡◌};
 ghost use Rattle.jc_api.specs.Member.{shown};
-ghost use Rattle.jc_api.specs.Token.{classes_meet, is_at_or_above, is_same_class, is_virtual, member_token_limit, members_meet};
+ghost use Rattle.jc_api.specs.Token.{classes_meet, is_at_or_above, is_same_class, is_virtual, member_token_limit};
+ghost use Rattle.jc_api.specs.Token.{members_meet};
 
 use crate::class::ApiClass;
 use crate::member::{Member, MemberKind};

@@ -1,4 +1,5 @@
--- The Class component (Java Card Virtual Machine Specification, CAP file format: Class component) of formats 2.1 and 2.2.
+-- The Class component (Java Card Virtual Machine Specification, CAP file format: Class component) of formats 2.1 and
+-- 2.2.
 use Rattle.std.specs.Prelude.{ℕ, ◌+◌, Bool, true, false, List, [], ◌∷◌, Result, Ok, Err, if◌then◌else◌}
 use Rattle.jc_base.specs.Cursor.{next_u2, next_bytes, field}
 use Rattle.jc_base.specs.PlacedRows.{placed_rows}
@@ -51,4 +52,5 @@ layout_of format info = do
 
 -- the records, none of them remote
 abbrev pub classes_of : Format → List ℕ → Result (List (Placed Record)) LoadFault
-classes_of format info = layout_of format info >>= λ records. if none_remote records then Ok records else Err (Malformed class_tag)
+classes_of format info =
+    layout_of format info >>= λ records. if none_remote records then Ok records else Err (Malformed class_tag)

@@ -9,5 +9,6 @@ use Rattle.jc_cap_class.specs.Interfaces.{next_superinterface}
 
 pub superinterface_has_size : HasSize 2 next_superinterface
 unfolding next_superinterface
-superinterface_has_size (a ∷ b ∷ bytes) x e = (ap (λ (r : Read Superinterface). r.rest) (sym (the_ok _ x e)), omega arith)
+superinterface_has_size (a ∷ b ∷ bytes) x e =
+    (ap (λ (r : Read Superinterface). r.rest) (sym (the_ok _ x e)), omega arith)
 superinterface_has_size _ x e = absurd cc

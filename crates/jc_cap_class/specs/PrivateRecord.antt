@@ -1,5 +1,6 @@
 -- Private. A record takes a byte at least. The lemma stands here, since the row's law takes it from specs alone.
-use Rattle.std.specs.Prelude.{◌≡◌, ℕ, zero, suc, ◌*◌, ◌%◌, ◌≤◌, Bool, true, false, cond, List, [], ◌∷◌, length, drop, take, None, Some, Result, Ok, nat_lt}
+use Rattle.std.specs.Prelude.{◌≡◌, ℕ, zero, suc, ◌*◌, ◌%◌, ◌≤◌, Bool, true, false, cond, List, [], ◌∷◌, length, drop}
+use Rattle.std.specs.Prelude.{take, None, Some, Result, Ok, nat_lt}
 use Rattle.std.proofs.Common.{ap, arith, length-drop}
 use Rattle.jc_base.specs.Cursor.{Read, next_u1, next_u2, next_bytes, field}
 use Rattle.jc_base.specs.PlacedRows.{Shrinks}
@@ -8,26 +9,32 @@ use Rattle.jc_base.specs.Results.{◌>>=◌}
 use Rattle.jc_base.specs.declared.fault.LoadFault.{LoadFault}
 use Rattle.jc_base.proofs.Binding.{the_ok, bind_ok}
 use Rattle.jc_cap_class.specs.Interfaces.{next_superinterface, next_implemented}
-use Rattle.jc_cap_class.specs.Record.{next_table_size, next_methods, next_interface, next_class_record, next_body, next_record}
+use Rattle.jc_cap_class.specs.Record.{next_table_size, next_methods, next_interface, next_class_record, next_body}
+use Rattle.jc_cap_class.specs.Record.{next_record}
 
 -- what is read from bytes leaves no more than these
 abbrev pub Leaves : {A : Type 0} → List ℕ → Result (Read A) LoadFault → Type 0
 Leaves {A = A} bytes read = (x : Read A) → read ≡ Ok x → length x.rest ≤ length bytes
 
-leaves_value : {A : Type 0} (bytes : List ℕ) (value : A) (rest : List ℕ) → length rest ≤ length bytes → Leaves bytes (Ok (record { value = value; rest = rest }))
+leaves_value : {A : Type 0} (bytes : List ℕ) (value : A) (rest : List ℕ) → length rest ≤ length bytes
+    → Leaves bytes (Ok (record { value = value; rest = rest }))
 leaves_value {A = A} bytes value rest h x e =
     let k : length rest ≡ length x.rest = ap (λ (r : Read A). length r.rest) (the_ok _ x e) in
     omega arith
 
-leaves_bind : {A B : Type 0} (bytes : List ℕ) (read : Result (Read A) LoadFault) (next : Read A → Result (Read B) LoadFault) → Leaves bytes read → ((x : Read A) → length x.rest ≤ length bytes → Leaves bytes (next x)) → Leaves bytes (read >>= next)
+leaves_bind : {A B : Type 0} (bytes : List ℕ) (read : Result (Read A) LoadFault)
+    (next : Read A → Result (Read B) LoadFault) → Leaves bytes read
+    → ((x : Read A) → length x.rest ≤ length bytes → Leaves bytes (next x)) → Leaves bytes (read >>= next)
 leaves_bind bytes read next h k y e =
     let a = bind_ok read next y e in
     k a.0 (h a.0 a.1) y a.2
 
-leaves_more : {A : Type 0} (bytes rest : List ℕ) (read : Result (Read A) LoadFault) → length rest ≤ length bytes → Leaves rest read → Leaves bytes read
+leaves_more : {A : Type 0} (bytes rest : List ℕ) (read : Result (Read A) LoadFault) → length rest ≤ length bytes
+    → Leaves rest read → Leaves bytes read
 leaves_more bytes rest read h k x e = let m = k x e in omega arith
 
-leaves_choice : {A : Type 0} (bytes : List ℕ) (b : Bool) (r s : Result (Read A) LoadFault) → Leaves bytes r → Leaves bytes s → Leaves bytes (cond b r s)
+leaves_choice : {A : Type 0} (bytes : List ℕ) (b : Bool) (r s : Result (Read A) LoadFault) → Leaves bytes r
+    → Leaves bytes s → Leaves bytes (cond b r s)
 leaves_choice bytes true r s h k = h
 leaves_choice bytes false r s h k = k
 
@@ -42,11 +49,14 @@ leaves_u2 tag _ x e = absurd cc
 leaves_bytes : (tag n : ℕ) (bytes : List ℕ) → Leaves bytes (field tag (next_bytes n bytes))
 leaves_bytes tag n bytes = part (nat_lt (length bytes) n)
   where
-    part : (b : Bool) → Leaves bytes (field tag (cond b None (Some (record { value = take n bytes; rest = drop n bytes }))))
+    part : (b : Bool)
+        → Leaves bytes (field tag (cond b None (Some (record { value = take n bytes; rest = drop n bytes }))))
     part true x e = absurd cc
     part false x e = leaves_value bytes _ (drop n bytes) (omega (arith, length-drop n bytes)) x e
 
-leaves_repeat : {A : Type 0} (next_row : List ℕ → Result (Read A) LoadFault) → ((bytes : List ℕ) → Leaves bytes (next_row bytes)) → (n : ℕ) (bytes : List ℕ) → Leaves bytes (repeat next_row n bytes)
+leaves_repeat : {A : Type 0} (next_row : List ℕ → Result (Read A) LoadFault)
+    → ((bytes : List ℕ) → Leaves bytes (next_row bytes)) → (n : ℕ) (bytes : List ℕ)
+    → Leaves bytes (repeat next_row n bytes)
 unfolding repeat
 leaves_repeat next_row h zero bytes = leaves_value bytes [] bytes (omega arith)
 leaves_repeat next_row h (suc n) bytes =
@@ -94,10 +104,16 @@ leaves_class count bytes =
     leaves_bind bytes _ _ (leaves_more bytes superclass.rest _ k (leaves_u1 6 superclass.rest)) (λ size k.
     leaves_bind bytes _ _ (leaves_more bytes size.rest _ k (leaves_bytes 6 2 size.rest)) (λ references k.
     leaves_bind bytes _ _ (leaves_more bytes references.rest _ k (leaves_table_size references.rest)) (λ public_size k.
-    leaves_bind bytes _ _ (leaves_more bytes public_size.rest _ k (leaves_table_size public_size.rest)) (λ package_size k.
-    leaves_bind bytes _ _ (leaves_more bytes package_size.rest _ k (leaves_methods public_size.value.count package_size.rest)) (λ public_offsets k.
-    leaves_bind bytes _ _ (leaves_more bytes public_offsets.rest _ k (leaves_methods package_size.value.count public_offsets.rest)) (λ package_offsets k.
-    leaves_bind bytes _ _ (leaves_more bytes package_offsets.rest _ k (leaves_repeat next_implemented leaves_implemented count package_offsets.rest)) (λ interfaces k.
+    leaves_bind bytes _ _ (leaves_more bytes public_size.rest _ k (leaves_table_size public_size.rest))
+    (λ package_size k.
+    leaves_bind bytes _ _
+    (leaves_more bytes package_size.rest _ k (leaves_methods public_size.value.count package_size.rest))
+    (λ public_offsets k.
+    leaves_bind bytes _ _
+    (leaves_more bytes public_offsets.rest _ k (leaves_methods package_size.value.count public_offsets.rest))
+    (λ package_offsets k.
+    leaves_bind bytes _ _ (leaves_more bytes package_offsets.rest _ k
+    (leaves_repeat next_implemented leaves_implemented count package_offsets.rest)) (λ interfaces k.
     leaves_value bytes _ interfaces.rest k))))))))
 
 leaves_body : (front : ℕ) (bytes : List ℕ) → Leaves bytes (next_body front bytes)

@@ -47,8 +47,8 @@ next_interface count bytes = do
   interfaces ← repeat next_superinterface count bytes
   Ok (record { value = record { superinterfaces = interfaces.value }; rest = interfaces.rest })
 
--- a class's record behind its first byte: the superclass, the declared size, two numbers that nobody looks at, the sizes
--- of both tables, the tables, and the interfaces
+-- a class's record behind its first byte: the superclass, the declared size, two numbers that nobody looks at, the
+-- sizes of both tables, the tables, and the interfaces
 unfoldable pub next_class_record : ℕ → List ℕ → Result (Read ClassRecord) LoadFault
 next_class_record count bytes = do
   superclass ← field class_tag (next_u2 bytes)
@@ -82,4 +82,7 @@ unfoldable pub next_record : List ℕ → Result (Read Record) LoadFault
 next_record bytes = do
   front ← field class_tag (next_u1 bytes)
   body ← next_body front.value front.rest
-  Ok (record { value = record { is_remote = has_flag (front.value / 16) acc_remote; body = body.value }; rest = body.rest })
+  Ok (record {
+    value = record { is_remote = has_flag (front.value / 16) acc_remote; body = body.value };
+    rest = body.rest;
+  })

@@ -1,7 +1,8 @@
 //! The component as a whole.
 
 ghost use Rattle.std.specs.Prelude.{◌≡◌};
-ghost use Rattle.jc_cap_class.specs.Component.{first_record, is_class, interfaces_first, none_remote, layout_of, classes_of};
+ghost use Rattle.jc_cap_class.specs.Component.{first_record, is_class, interfaces_first, none_remote, layout_of};
+ghost use Rattle.jc_cap_class.specs.Component.{classes_of};
 
 use crate::record::{Record, RecordBody};
 use jc_base::tag::CLASS;
@@ -81,8 +82,8 @@ pub fn class_layout<'a>(parts: &Parts<'a>, format: Format) -> Result<Records<'a>
     Ok(records)
 }
 
-/// Reads the Class component (Java Card Virtual Machine Specification, CAP file format: Class component) of a file of this
-/// format. Remote records are refused. `Malformed(6)`.
+/// Reads the Class component (Java Card Virtual Machine Specification, CAP file format: Class component) of a file of
+/// this format. Remote records are refused. `Malformed(6)`.
 pub fn read_class<'a>(parts: &Parts<'a>, format: Format) -> Result<Records<'a>, LoadFault>
     ensures { result ≡ classes_of format parts.now.class }
 {

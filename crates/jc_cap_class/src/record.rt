@@ -2,7 +2,8 @@
 
 ghost use Rattle.std.specs.Prelude.{◌≡◌};
 ghost use Rattle.jc_base.specs.Cursor.{Gives};
-ghost use Rattle.jc_cap_class.specs.Record.{superclass_of, next_table_size, next_methods, next_interface, next_class_record, next_body, next_record};
+ghost use Rattle.jc_cap_class.specs.Record.{superclass_of, next_table_size, next_methods, next_interface};
+ghost use Rattle.jc_cap_class.specs.Record.{next_class_record, next_body, next_record};
 ghost use Rattle.jc_cap_class.specs.PrivateRecord.{record_shrinks};
 
 use crate::interfaces::{ImplementedInterfaces, Superinterfaces};

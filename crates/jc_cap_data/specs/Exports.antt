@@ -17,7 +17,10 @@ next_exported_class bytes = do
   methods_count ← field export_tag (next_u1 fields_count.rest)
   fields ← field export_tag (next_bytes (2 * fields_count.value) methods_count.rest)
   methods ← field export_tag (next_bytes (2 * methods_count.value) fields.rest)
-  Ok (record { value = record { class = offset.value; fields = u2s fields.value; methods = u2s methods.value }; rest = methods.rest })
+  Ok (record {
+    value = record { class = offset.value; fields = u2s fields.value; methods = u2s methods.value };
+    rest = methods.rest;
+  })
 
 -- what an info gives: a count, so many classes and nothing behind them
 unfoldable pub exports_in : List ℕ → Result (List ExportedClass) LoadFault

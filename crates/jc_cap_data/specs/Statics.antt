@@ -20,7 +20,9 @@ pub record StaticImage : Type 0 where
 
 -- the parts make up the size, and no array is without a reference
 abbrev pub fits : StaticImage → Bool
-fits image = image.size == 2 * image.references + image.defaults + length image.values && nat_le (length image.arrays) image.references
+fits image =
+    image.size == 2 * image.references + image.defaults + length image.values
+    && nat_le (length image.arrays) image.references
 
 -- the numbers and rows of the component in their order
 unfoldable pub next_static_image : List ℕ → Result (Read StaticImage) LoadFault
@@ -33,7 +35,13 @@ next_static_image info = do
   given ← field static_field_tag (next_u2 defaults.rest)
   values ← field static_field_tag (next_bytes given.value given.rest)
   Ok (record {
-    value = record { size = size.value; references = references.value; arrays = arrays.value; defaults = defaults.value; values = values.value };
+    value = record {
+      size = size.value;
+      references = references.value;
+      arrays = arrays.value;
+      defaults = defaults.value;
+      values = values.value;
+    };
     rest = values.rest;
   })
 

@@ -1,6 +1,7 @@
 -- The tests across components (Java Card Virtual Machine Specification, CAP file format: what the components say of one
 -- another). Each is a test on what the layouts of its components give, whatever else is wrong with them.
-use Rattle.std.specs.Prelude.{ℕ, ◌+◌, ◌==◌, Bool, true, false, not, ◌&&◌, ◌||◌, List, [], ◌∷◌, map, length, Option, None, nat_lt, nat_le, is_some, if◌then◌else◌}
+use Rattle.std.specs.Prelude.{ℕ, ◌+◌, ◌==◌, Bool, true, false, not, ◌&&◌, ◌||◌, List, [], ◌∷◌, map, length, Option}
+use Rattle.std.specs.Prelude.{None, nat_lt, nat_le, is_some, if◌then◌else◌}
 use Rattle.std.specs.List.{flat_map, list_all, list_any}
 use Rattle.std.specs.Option.{option_map_or}
 use Rattle.jc_base.specs.PlacedRows.{row_at}
@@ -78,23 +79,27 @@ has_code m = nat_lt 0 m.bytecode_count
 -- a handler covers bytes of the code, or none at one of its bytes or behind the last, and begins at a byte of it
 abbrev pub stays_inside : ℕ → ℕ → Handler → Bool
 stays_inside first behind h =
-    nat_le first h.start && nat_le (h.start + h.active_length) behind && nat_le first h.handler && nat_lt h.handler behind
+    nat_le first h.start && nat_le (h.start + h.active_length) behind && nat_le first h.handler
+    && nat_lt h.handler behind
 
 -- the handlers that a method names, where the table has them, stay inside its code
 abbrev pub handlers_stay_inside : Methods → MethodRow → Method → Bool
 handlers_stay_inside methods m found =
-    option_map_or (list_all (stays_inside found.code_offset (found.code_offset + m.bytecode_count))) (part m.handler_index m.handler_count methods.handlers) true
+    option_map_or (list_all (stays_inside found.code_offset (found.code_offset + m.bytecode_count)))
+    (part m.handler_index m.handler_count methods.handlers) true
 
 -- header, code and handlers of a method of a class stand where they may; the fault is one of the Method component
 abbrev pub stands_inside : Methods → MethodRow → Bool
 stands_inside methods m =
-    option_map_or (λ found. nat_le m.bytecode_count (length found.code) && handlers_stay_inside methods m found) (method_at m.offset methods) false
+    option_map_or (λ found. nat_le m.bytecode_count (length found.code) && handlers_stay_inside methods m found)
+    (method_at m.offset methods) false
 
--- an abstract method has no code, and another has; and the table has the handlers that it names. The fault is one of the
--- Descriptor component
+-- an abstract method has no code, and another has; and the table has the handlers that it names. The fault is one of
+-- the Descriptor component
 abbrev pub is_described : Methods → MethodRow → Bool
 is_described methods m =
-    option_map_or (λ found. if found.header.is_abstract then not (has_code m) else has_code m) (method_at m.offset methods) true
+    option_map_or (λ found. if found.header.is_abstract then not (has_code m) else has_code m)
+    (method_at m.offset methods) true
     && is_some (part m.handler_index m.handler_count methods.handlers)
 
 -- what an install method takes and gives: an array of bytes, an offset and a length
@@ -114,6 +119,7 @@ abbrev pub installs : List (Placed (Signature ClassRef)) → MethodRow → Bool
 installs types m = m.is_static && has_code m && option_map_or is_install_signature (row_at m.type_offset types) false
 
 -- each applet's install method is one of a class
-abbrev pub applets_install : List (Placed Record) → List ClassRow → List (Placed (Signature ClassRef)) → List Applet → Bool
+abbrev pub applets_install : List (Placed Record) → List ClassRow → List (Placed (Signature ClassRef))
+    → List Applet → Bool
 applets_install records rows types applets =
     list_all (λ a. list_any (λ m. m.offset == a.install && installs types m) (class_methods records rows)) applets

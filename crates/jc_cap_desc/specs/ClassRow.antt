@@ -90,6 +90,11 @@ next_class_row bytes = do
   fields ← repeat next_field_row field_count.value interfaces.rest
   methods ← repeat next_method_row method_count.value fields.rest
   Ok (record {
-    value = record { is_abstract = has_flag flags.value acc_abstract; this = class_ref_of this.value; fields = fields.value; methods = methods.value };
+    value = record {
+      is_abstract = has_flag flags.value acc_abstract;
+      this = class_ref_of this.value;
+      fields = fields.value;
+      methods = methods.value;
+    };
     rest = methods.rest;
   })

@@ -1,4 +1,5 @@
--- The layout of the Descriptor component (Java Card Virtual Machine Specification, CAP file format: Descriptor component).
+-- The layout of the Descriptor component (Java Card Virtual Machine Specification, CAP file format: Descriptor
+-- component).
 use Rattle.std.specs.Prelude.{ℕ, ◌+◌, ◌*◌, List, Result, Ok}
 use Rattle.jc_base.specs.Cursor.{next_u1, next_u2, next_bytes, field}
 use Rattle.jc_base.specs.Numbers.{u2s}

@@ -22,7 +22,8 @@ use Rattle.jc_cap_pool.specs.Pool.{pool_of}
 use Rattle.jc_cap_pool.specs.declared.entry.PoolEntry.{PoolEntry}
 use Rattle.jc_cap_desc.specs.Component as Descriptor
 use Rattle.jc_cap_desc.specs.Types.{descriptor_of}
-use Rattle.jc_cap_desc.specs.Across.{class_methods, rows_match, methods_differ, stands_inside, is_described, applets_install}
+use Rattle.jc_cap_desc.specs.Across.{class_methods, rows_match, methods_differ, stands_inside, is_described}
+use Rattle.jc_cap_desc.specs.Across.{applets_install}
 use Rattle.jc_cap_desc.specs.Shape.{Package, shape_of, body_of}
 use Rattle.jc_cap_desc.specs.declared.component.DescriptorInfo.{DescriptorInfo}
 
@@ -52,10 +53,12 @@ methods_fault records info (Some methods) =
 abbrev pub applets_fault : List (Placed Record) → DescriptorInfo → Option (Option (List Applet)) → Option LoadFault
 applets_fault records info None = None
 applets_fault records info (Some None) = None
-applets_fault records info (Some (Some applets)) = unless (applets_install records info.classes info.types applets) applet_tag
+applets_fault records info (Some (Some applets)) =
+    unless (applets_install records info.classes info.types applets) applet_tag
 
 -- the tests with classes, where the layout of the Class component is used up
-abbrev pub classes_fault : Option (List (Placed Record)) → DescriptorInfo → Option (Option (List Applet)) → Option Methods → Option LoadFault
+abbrev pub classes_fault : Option (List (Placed Record)) → DescriptorInfo → Option (Option (List Applet))
+    → Option Methods → Option LoadFault
 classes_fault None info applets methods = None
 classes_fault (Some records) info applets methods =
     told (applets_fault records info applets)
@@ -68,9 +71,11 @@ pool_fault None info = None
 pool_fault (Some pool) info = unless (length pool == length info.pool_types) descriptor_tag
 
 -- all tests across components, where the layout of the Descriptor component is used up
-abbrev pub across_fault : Option DescriptorInfo → Option (List (Placed Record)) → Option (List PoolEntry) → Option (Option (List Applet)) → Option Methods → Option LoadFault
+abbrev pub across_fault : Option DescriptorInfo → Option (List (Placed Record)) → Option (List PoolEntry)
+    → Option (Option (List Applet)) → Option Methods → Option LoadFault
 across_fault None records pool applets methods = None
-across_fault (Some info) records pool applets methods = told (pool_fault pool info) (classes_fault records info applets methods)
+across_fault (Some info) records pool applets methods =
+    told (pool_fault pool info) (classes_fault records info applets methods)
 
 -- the records of the Class component, whose layout is that of the Header's format
 abbrev pub layout_in : Result Heading LoadFault → List ℕ → Option (List (Placed Record))
@@ -99,7 +104,8 @@ component_fault infos =
 abbrev pub package_fault : Infos → Option LoadFault
 package_fault infos =
     told (component_fault infos)
-    (across_fault (result_ok (Descriptor.layout_of infos.descriptor)) (layout_in (header_of infos.header) infos.class) (result_ok (pool_of infos.constant_pool))
+    (across_fault (result_ok (Descriptor.layout_of infos.descriptor)) (layout_in (header_of infos.header) infos.class)
+    (result_ok (pool_of infos.constant_pool))
     (result_ok (applets_of infos.applet)) (result_ok (methods_of infos.method)))
 
 -- all components, each as it is read alone

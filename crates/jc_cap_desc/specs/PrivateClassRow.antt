@@ -1,5 +1,5 @@
--- Private. A field's row takes seven bytes, a method's twelve. The lemmas stand here, since the rows' laws take them from
--- specs alone.
+-- Private. A field's row takes seven bytes, a method's twelve. The lemmas stand here, since the rows' laws take them
+-- from specs alone.
 use Rattle.std.specs.Prelude.{ℕ, Bool, true, false, List, ◌∷◌, Result, Ok}
 use Rattle.std.proofs.Common.{ap, sym, arith}
 use Rattle.jc_base.specs.Cursor.{Read, next_u2, field}
@@ -22,17 +22,21 @@ behind_flags is_static bytes = do
 
 behind_has_size : (is_static : Bool) → HasSize 5 (behind_flags is_static)
 unfolding next_place
-behind_has_size true (a ∷ b ∷ c ∷ d ∷ f ∷ bytes) x e = (ap (λ (r : Read FieldRow). r.rest) (sym (the_ok _ x e)), omega arith)
+behind_has_size true (a ∷ b ∷ c ∷ d ∷ f ∷ bytes) x e =
+    (ap (λ (r : Read FieldRow). r.rest) (sym (the_ok _ x e)), omega arith)
 behind_has_size true _ x e = absurd cc
-behind_has_size false (a ∷ b ∷ c ∷ d ∷ f ∷ bytes) x e = (ap (λ (r : Read FieldRow). r.rest) (sym (the_ok _ x e)), omega arith)
+behind_has_size false (a ∷ b ∷ c ∷ d ∷ f ∷ bytes) x e =
+    (ap (λ (r : Read FieldRow). r.rest) (sym (the_ok _ x e)), omega arith)
 behind_has_size false _ x e = absurd cc
 
 pub field_row_has_size : HasSize 7 next_field_row
 unfolding next_field_row
-field_row_has_size (a ∷ flags ∷ bytes) x e = let h = behind_has_size (has_flag flags acc_static) bytes x e in (h.0, omega arith)
+field_row_has_size (a ∷ flags ∷ bytes) x e =
+    let h = behind_has_size (has_flag flags acc_static) bytes x e in (h.0, omega arith)
 field_row_has_size _ x e = absurd cc
 
 pub method_row_has_size : HasSize 12 next_method_row
 unfolding next_method_row
-method_row_has_size (a ∷ b ∷ c ∷ d ∷ e ∷ f ∷ g ∷ h ∷ i ∷ j ∷ k ∷ l ∷ bytes) x is = (ap (λ (r : Read MethodRow). r.rest) (sym (the_ok _ x is)), omega arith)
+method_row_has_size (a ∷ b ∷ c ∷ d ∷ e ∷ f ∷ g ∷ h ∷ i ∷ j ∷ k ∷ l ∷ bytes) x is =
+    (ap (λ (r : Read MethodRow). r.rest) (sym (the_ok _ x is)), omega arith)
 method_row_has_size _ x is = absurd cc

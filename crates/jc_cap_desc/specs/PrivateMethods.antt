@@ -11,7 +11,8 @@ use Rattle.jc_cap_desc.specs.declared.class_row.MethodRow.{MethodRow}
 -- an abstract method has no code, and another has
 abbrev pub code_is_described : Methods → MethodRow → Bool
 code_is_described methods m =
-    option_map_or (λ found. if found.header.is_abstract then not (has_code m) else has_code m) (method_at m.offset methods) true
+    option_map_or (λ found. if found.header.is_abstract then not (has_code m) else has_code m)
+    (method_at m.offset methods) true
 
 -- the offsets of a class's methods; an interface's don't count
 abbrev pub class_offsets : List (Placed Record) → ClassRow → List ℕ

@@ -12,7 +12,8 @@ passes_at test rows n = option_map_or test (row_at n rows) false
 -- what is in the set, or begins among the rows that are left at an offset not seen yet, is what passes of all
 abbrev pub PassedSoFar : {A : Type 0} → (A → Bool) → List (Placed A) → List ℕ → List ℕ → List (Placed A) → Type 0
 PassedSoFar test rows seen passed left =
-    (n : ℕ) → n < 65536 → (has_number passed n || (not (has_number seen n) && passes_at test left n)) ≡ passes_at test rows n
+    (n : ℕ) → n < 65536
+    → (has_number passed n || (not (has_number seen n) && passes_at test left n)) ≡ passes_at test rows n
 
 -- a number was put in
 abbrev pub HasPut : ℕ → List ℕ → List ℕ → Type 0

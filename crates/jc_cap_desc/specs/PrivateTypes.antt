@@ -22,8 +22,10 @@ HasStarts starts types = (n : ℕ) → n < 65536 → has_number starts n ≡ is_
 -- sets that say of each offset whether a descriptor begins there, a field's, and an install method's
 pub record IndexesTypes (index : TypeIndex) (types : PlacedTypes) : Type 0 where
   pub starts : HasStarts index.starts types
-  pub fields : (n : ℕ) → n < 65536 → has_number index.fields n ≡ is_some (option_and_then field_type_of (row_at n types))
-  pub installs : (n : ℕ) → n < 65536 → has_number index.installs n ≡ option_map_or is_install_signature (row_at n types) false
+  pub fields : (n : ℕ) → n < 65536
+      → has_number index.fields n ≡ is_some (option_and_then field_type_of (row_at n types))
+  pub installs : (n : ℕ) → n < 65536
+      → has_number index.installs n ≡ option_map_or is_install_signature (row_at n types) false
 
 abbrev pub is_any : Signature ClassRef → Bool
 is_any s = true

@@ -1,6 +1,7 @@
 -- The record of a package, in two halves: its shape, which look-ups, subtypes and types of members are about, and its
 -- body, which is what its methods are made of.
-use Rattle.std.specs.Prelude.{◌≡◌, ℕ, suc, ◌^◌, ◌<◌, ◌==◌, Bool, true, false, List, map, take, Option, Some, None, is_some, slice_get, if◌then◌else◌}
+use Rattle.std.specs.Prelude.{◌≡◌, ℕ, suc, ◌^◌, ◌<◌, ◌==◌, Bool, true, false, List, map, take, Option, Some, None}
+use Rattle.std.specs.Prelude.{is_some, slice_get, if◌then◌else◌}
 use Rattle.std.specs.List.{filter_map, find}
 use Rattle.std.specs.Option.{option_map, option_and_then}
 use Rattle.jc_base.specs.PlacedRows.{row_at}
@@ -33,8 +34,8 @@ pub record FieldShape : Type 0 where
   pub place : FieldPlace
   pub type : DeclaredType ClassRef
 
--- a method: its token, which counts in an interface; its offset and its header, which count in a class; what it takes and
--- gives
+-- a method: its token, which counts in an interface; its offset and its header, which count in a class; what it takes
+-- and gives
 pub record MethodShape : Type 0 where
   pub token : ℕ
   pub is_static : Bool
@@ -60,7 +61,8 @@ pub record Shape : Type 0 where
 
 -- each method of a class has its header
 abbrev pub HaveHeaders : Shape → Type 0
-HaveHeaders shape = (n i : ℕ) (k : ClassShape) (m : MethodShape) → slice_get shape.classes n ≡ Some k → is_class k.body ≡ true
+HaveHeaders shape =
+    (n i : ℕ) (k : ClassShape) (m : MethodShape) → slice_get shape.classes n ≡ Some k → is_class k.body ≡ true
     → slice_get k.methods i ≡ Some m → is_some m.header ≡ true
 
 -- a method with code: the method's offset, the offset of its first byte of code, its code, and its handlers
@@ -70,9 +72,11 @@ pub record MethodBody : Type 0 where
   pub code : List ℕ
   pub handlers : List Handler
 
--- of the methods with code no two stand at one offset, and each stands within the 65,535 bytes that a component may have
+-- of the methods with code no two stand at one offset, and each stands within the 65,535 bytes that a component may
+-- have
 pub record StandApart (methods : List MethodBody) : Type 0 where
-  pub differ : (n k : ℕ) (b c : MethodBody) → slice_get methods n ≡ Some b → slice_get methods k ≡ Some c → b.offset ≡ c.offset → n ≡ k
+  pub differ : (n k : ℕ) (b c : MethodBody) → slice_get methods n ≡ Some b → slice_get methods k ≡ Some c
+      → b.offset ≡ c.offset → n ≡ k
   pub within : (n : ℕ) (b : MethodBody) → slice_get methods n ≡ Some b → suc b.offset < 2 ^ 16
 
 -- the body of a package: its name, its applets, or none where it is a library; its constant pool, with the types that
@@ -145,9 +149,16 @@ abbrev pub field_shape : List (Placed (Signature ClassRef)) → FieldRow → Opt
 field_shape types f = option_map (λ type. record { place = f.place; type = type }) (type_of_field types f.stated)
 
 -- a method's row, whose type is there
-abbrev pub method_shape : List (Placed (Signature ClassRef)) → (ℕ → Option MethodHeader) → MethodRow → Option MethodShape
+abbrev pub method_shape : List (Placed (Signature ClassRef)) → (ℕ → Option MethodHeader) → MethodRow
+    → Option MethodShape
 method_shape types header m =
-    option_map (λ signature. record { token = m.token; is_static = m.is_static; offset = m.offset; header = header m.offset; signature = signature })
+    option_map (λ signature. record {
+      token = m.token;
+      is_static = m.is_static;
+      offset = m.offset;
+      header = header m.offset;
+      signature = signature;
+    })
     (row_at m.type_offset types)
 
 -- the headers of a class's methods; an interface's have none
@@ -169,7 +180,8 @@ abbrev pub class_shape : DescriptorInfo → Methods → Placed Record → Option
 class_shape info methods p = option_map (joined info.types methods p) (find (is_row_of p.offset) info.classes)
 
 -- the shape. In a package that is read each record has its row and each row its type, so nothing is left out
-abbrev pub shape_of : PackageInfo → List PackageInfo → List ExportedClass → List (Placed Record) → DescriptorInfo → Methods → Shape
+abbrev pub shape_of : PackageInfo → List PackageInfo → List ExportedClass → List (Placed Record) → DescriptorInfo
+    → Methods → Shape
 shape_of named imports exports records info methods = record {
   «package» = named;
   imports = imports;
@@ -181,7 +193,12 @@ shape_of named imports exports records info methods = record {
 abbrev pub body_of_method : Methods → MethodRow → Option MethodBody
 body_of_method methods m =
     if has_code m
-    then option_and_then (λ found. option_map (λ handlers. record { offset = m.offset; code_offset = found.code_offset; code = take m.bytecode_count found.code; handlers = handlers })
+    then option_and_then (λ found. option_map (λ handlers. record {
+      offset = m.offset;
+      code_offset = found.code_offset;
+      code = take m.bytecode_count found.code;
+      handlers = handlers;
+    })
     (part m.handler_index m.handler_count methods.handlers)) (method_at m.offset methods)
     else None
 
@@ -190,7 +207,8 @@ abbrev pub pool_type : List (Placed (Signature ClassRef)) → ℕ → Option (Si
 pool_type types offset = if offset == no_type then None else row_at offset types
 
 -- the body
-abbrev pub body_of : List ℕ → Option (List Applet) → List PoolEntry → StaticImage → List (Placed Record) → DescriptorInfo → Methods → Body
+abbrev pub body_of : List ℕ → Option (List Applet) → List PoolEntry → StaticImage → List (Placed Record)
+    → DescriptorInfo → Methods → Body
 body_of name applets pool statics records info methods = record {
   name = name;
   applets = applets;

@@ -1,5 +1,6 @@
 -- The types that rows and pool entries name (Java Card Virtual Machine Specification, Descriptor component).
-use Rattle.std.specs.Prelude.{ℕ, ◌==◌, Bool, true, false, ◌&&◌, ◌||◌, List, [], ◌∷◌, Option, Some, None, Result, Ok, Err, if◌then◌else◌}
+use Rattle.std.specs.Prelude.{ℕ, ◌==◌, Bool, true, false, ◌&&◌, ◌||◌, List, [], ◌∷◌, Option, Some, None, Result, Ok}
+use Rattle.std.specs.Prelude.{Err, if◌then◌else◌}
 use Rattle.std.specs.Option.{option_and_then, is_some}
 use Rattle.jc_base.specs.PlacedRows.{row_at}
 use Rattle.jc_base.specs.Results.{◌>>=◌}
@@ -47,18 +48,22 @@ is_own_field this (Instance class token) = is_same_class class this
 abbrev pub fields_are_typed : List (Placed (Signature ClassRef)) → ClassRef → List FieldRow → Bool
 fields_are_typed types this [] = true
 fields_are_typed types this (f ∷ fields) =
-    if is_own_field this f.place && is_some (type_of_field types f.stated) then fields_are_typed types this fields else false
+    if is_own_field this f.place && is_some (type_of_field types f.stated) then fields_are_typed types this fields
+    else false
 
 -- each method has a type
 abbrev pub methods_are_typed : List (Placed (Signature ClassRef)) → List MethodRow → Bool
 methods_are_typed types [] = true
-methods_are_typed types (m ∷ methods) = if is_some (row_at m.type_offset types) then methods_are_typed types methods else false
+methods_are_typed types (m ∷ methods) =
+    if is_some (row_at m.type_offset types) then methods_are_typed types methods else false
 
 -- each class's fields and methods
 abbrev pub classes_are_typed : List (Placed (Signature ClassRef)) → List ClassRow → Bool
 classes_are_typed types [] = true
 classes_are_typed types (row ∷ rows) =
-    if fields_are_typed types row.this row.fields && methods_are_typed types row.methods then classes_are_typed types rows else false
+    if fields_are_typed types row.this row.fields && methods_are_typed types row.methods
+    then classes_are_typed types rows
+    else false
 
 -- the type offset of a pool entry that has no type
 abbrev pub no_type : ℕ
@@ -76,4 +81,5 @@ types_are_there info = pool_is_typed info.types info.pool_types && classes_are_t
 
 -- what the component gives
 abbrev pub descriptor_of : List ℕ → Result DescriptorInfo LoadFault
-descriptor_of info = layout_of info >>= λ found. if types_are_there found then Ok found else Err (Malformed descriptor_tag)
+descriptor_of info =
+    layout_of info >>= λ found. if types_are_there found then Ok found else Err (Malformed descriptor_tag)

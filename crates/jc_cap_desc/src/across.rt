@@ -4,7 +4,8 @@ ghost use Rattle.std.specs.Prelude.{◌≡◌, ◌==◌, ◌||◌, ◌∷◌, �
 ghost use Rattle.std.specs.List.{list_all};
 ghost use Rattle.jc_base.specs.declared.placed_rows.Placed.{Placed};
 ghost use Rattle.jc_cap_class.specs.declared.record.Record.{Record};
-ghost use Rattle.jc_cap_desc.specs.Across.{record_of, is_row_of, count_rows, rows_match, class_methods, is_interface_row, is_among, are_distinct, methods_differ};
+ghost use Rattle.jc_cap_desc.specs.Across.{record_of, is_row_of, count_rows, rows_match, class_methods};
+ghost use Rattle.jc_cap_desc.specs.Across.{is_interface_row, is_among, are_distinct, methods_differ};
 ghost use Rattle.jc_cap_desc.specs.PrivateFreshNumbers.{are_fresh, put_in, Holds};
 ghost use Rattle.jc_cap_desc.specs.PrivateInterfaceRows.{HoldsInterfaces};
 ghost use Rattle.jc_cap_desc.specs.PrivateMethods.{class_offsets};
@@ -98,8 +99,10 @@ fn is_fresh(seen: &mut NumberSet, number: u16) -> bool
 
 /// Puts the offsets of methods into a set, and answers whether each was new.
 fn offsets_are_fresh(seen: &mut NumberSet, methods: &MethodRows) -> bool
-    ensures fresh { (before : List ℕ) → Holds seen.old before → result ≡ are_fresh before (map (λ m. m.offset) methods.now) }
-    ensures put { (before : List ℕ) → Holds seen.old before → result ≡ true → Holds seen.new (put_in before (map (λ m. m.offset) methods.now)) }
+    ensures fresh { (before : List ℕ) → Holds seen.old before
+        → result ≡ are_fresh before (map (λ m. m.offset) methods.now) }
+    ensures put { (before : List ℕ) → Holds seen.old before → result ≡ true
+        → Holds seen.new (put_in before (map (λ m. m.offset) methods.now)) }
 {
     let mut left = methods.again();
     while let Some(method) = left.next() {
@@ -112,15 +115,18 @@ fn offsets_are_fresh(seen: &mut NumberSet, methods: &MethodRows) -> bool
 
 /// Puts the offsets of a class's methods into a set, and answers whether each was new. An interface's don't count.
 fn row_is_fresh(interfaces: &NumberSet, seen: &mut NumberSet, row: &ClassRow) -> bool
-    ensures fresh { (records : List (Placed Record)) (before : List ℕ) → HoldsInterfaces interfaces.now records → Holds seen.old before → result ≡ are_fresh before (class_offsets records row.now) }
-    ensures put { (records : List (Placed Record)) (before : List ℕ) → HoldsInterfaces interfaces.now records → Holds seen.old before → result ≡ true → Holds seen.new (put_in before (class_offsets records row.now)) }
+    ensures fresh { (records : List (Placed Record)) (before : List ℕ) → HoldsInterfaces interfaces.now records
+        → Holds seen.old before → result ≡ are_fresh before (class_offsets records row.now) }
+    ensures put { (records : List (Placed Record)) (before : List ℕ) → HoldsInterfaces interfaces.now records
+        → Holds seen.old before → result ≡ true → Holds seen.new (put_in before (class_offsets records row.now)) }
 {
     is_interface_row(interfaces, row) || offsets_are_fresh(seen, &row.methods)
 }
 
 /// Whether no two methods of classes have one offset.
 fn offsets_differ(interfaces: &NumberSet, rows: &ClassRows) -> bool
-    ensures { (records : List (Placed Record)) → HoldsInterfaces interfaces.now records → result ≡ are_distinct (map (λ m. m.offset) (class_methods records rows.now)) }
+    ensures { (records : List (Placed Record)) → HoldsInterfaces interfaces.now records
+        → result ≡ are_distinct (map (λ m. m.offset) (class_methods records rows.now)) }
 {
     let mut left = rows.again();
     let mut seen = NumberSet::empty();
@@ -148,7 +154,8 @@ fn tokens_differ(methods: &MethodRows) -> bool
 
 /// Whether no two methods of an interface have one token.
 fn interfaces_differ(interfaces: &NumberSet, rows: &ClassRows) -> bool
-    ensures { (records : List (Placed Record)) → HoldsInterfaces interfaces.now records → result ≡ list_all (λ row. not (is_interface_row records row) || are_distinct (map (λ m. m.token) row.methods)) rows.now }
+    ensures { (records : List (Placed Record)) → HoldsInterfaces interfaces.now records → result ≡ list_all
+        (λ row. not (is_interface_row records row) || are_distinct (map (λ m. m.token) row.methods)) rows.now }
 {
     let mut left = rows.again();
     while let Some(row) = left.next() {
@@ -161,7 +168,8 @@ fn interfaces_differ(interfaces: &NumberSet, rows: &ClassRows) -> bool
 
 /// Whether no two methods of classes have one offset, and no two of an interface one token.
 pub(crate) fn methods_differ(interfaces: &NumberSet, rows: &ClassRows) -> bool
-    ensures { (records : List (Placed Record)) → HoldsInterfaces interfaces.now records → result ≡ methods_differ records rows.now }
+    ensures { (records : List (Placed Record)) → HoldsInterfaces interfaces.now records
+        → result ≡ methods_differ records rows.now }
 {
     offsets_differ(interfaces, rows) && interfaces_differ(interfaces, rows)
 }

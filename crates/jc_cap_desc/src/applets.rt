@@ -27,7 +27,8 @@ fn installs(index: &TypeIndex, method: &MethodRow) -> bool
 
 /// Puts the offsets of the methods that install into a set.
 fn put_installs(index: &TypeIndex, methods: &MethodRows, set: &mut NumberSet)
-    ensures { (types : PlacedTypes) → IndexesTypes index.now types → (n : ℕ) → has_number set.new n ≡ (has_number set.old n || installs_at types methods.now n) }
+    ensures { (types : PlacedTypes) → IndexesTypes index.now types → (n : ℕ)
+        → has_number set.new n ≡ (has_number set.old n || installs_at types methods.now n) }
 {
     let mut left = methods.again();
     while let Some(method) = left.next() {
@@ -39,7 +40,8 @@ fn put_installs(index: &TypeIndex, methods: &MethodRows, set: &mut NumberSet)
 
 /// The offsets of the methods of classes that install.
 fn install_offsets(interfaces: &NumberSet, index: &TypeIndex, rows: &ClassRows) -> NumberSet
-    ensures { (records : List (Placed Record)) (types : PlacedTypes) → HoldsInterfaces interfaces.now records → IndexesTypes index.now types → HoldsInstalls result types (class_methods records rows.now) }
+    ensures { (records : List (Placed Record)) (types : PlacedTypes) → HoldsInterfaces interfaces.now records
+        → IndexesTypes index.now types → HoldsInstalls result types (class_methods records rows.now) }
 {
     let mut set = NumberSet::empty();
     let mut left = rows.again();

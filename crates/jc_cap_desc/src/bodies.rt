@@ -29,7 +29,12 @@ impl<'a> Model for MethodBody<'a> {
 
     ghost Value = { Body };
 
-    ghost view = { λ b. record { offset = b.offset; code_offset = b.code_offset; code = b.code.now; handlers = b.handlers } };
+    ghost view = { λ b. record {
+      offset = b.offset;
+      code_offset = b.code_offset;
+      code = b.code.now;
+      handlers = b.handlers;
+    } };
 
     ghost invariant = { λ b. length b.code.now < 2 ^ 16 };
 }

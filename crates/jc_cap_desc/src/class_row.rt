@@ -2,7 +2,8 @@
 
 ghost use Rattle.std.specs.Prelude.{◌≡◌};
 ghost use Rattle.jc_base.specs.Cursor.{Gives};
-ghost use Rattle.jc_cap_desc.specs.ClassRow.{stated_type_of, next_place, next_field_row, next_method_row, next_class_row};
+ghost use Rattle.jc_cap_desc.specs.ClassRow.{stated_type_of, next_place, next_field_row, next_method_row};
+ghost use Rattle.jc_cap_desc.specs.ClassRow.{next_class_row};
 ghost use Rattle.jc_cap_desc.specs.PrivateClassRow.{field_row_has_size, method_row_has_size};
 
 use jc_base::tag::DESCRIPTOR;

@@ -60,9 +60,9 @@ pub fn descriptor_layout<'a>(parts: &Parts<'a>) -> Result<DescriptorInfo<'a>, Lo
     layout_of(parts.descriptor())
 }
 
-/// Reads the Descriptor component (Java Card Virtual Machine Specification, CAP file format: Descriptor component). Each
-/// type that a row or a pool entry names is there, a field's is a field's, and the fields of a class's row are its own.
-/// `Malformed(11)`.
+/// Reads the Descriptor component (Java Card Virtual Machine Specification, CAP file format: Descriptor component).
+/// Each type that a row or a pool entry names is there, a field's is a field's, and the fields of a class's row are its
+/// own. `Malformed(11)`.
 #[tactic(auto, using(crate::proofs::Typing::classes_typed))]
 pub fn read_descriptor<'a>(parts: &Parts<'a>) -> Result<DescriptorInfo<'a>, LoadFault>
     ensures read { result ≡ descriptor_of parts.now.descriptor }

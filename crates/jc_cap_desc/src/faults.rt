@@ -4,7 +4,8 @@ ghost use Rattle.std.specs.Prelude.{◌≡◌, ◌&&◌, List};
 ghost use Rattle.std.specs.Result.{result_ok};
 ghost use Rattle.jc_base.specs.declared.placed_rows.Placed.{Placed};
 ghost use Rattle.jc_cap_class.specs.declared.record.Record.{Record};
-ghost use Rattle.jc_cap_desc.specs.Package.{fault_of, unless, told, methods_fault, applets_fault, classes_fault, pool_fault, across_fault};
+ghost use Rattle.jc_cap_desc.specs.Package.{fault_of, unless, told, methods_fault, applets_fault, classes_fault};
+ghost use Rattle.jc_cap_desc.specs.Package.{pool_fault, across_fault};
 ghost use Rattle.jc_cap_desc.specs.PrivateInterfaceRows.{HoldsInterfaces};
 
 use crate::across::{methods_differ, rows_match};
@@ -59,7 +60,8 @@ fn methods_fault(
     info: &DescriptorInfo,
     methods: &Result<MethodInfo, LoadFault>,
 ) -> Option<LoadFault>
-    ensures { (records : List (Placed Record)) → HoldsInterfaces interfaces.now records → result ≡ methods_fault records info.now (result_ok methods.now) }
+    ensures { (records : List (Placed Record)) → HoldsInterfaces interfaces.now records
+        → result ≡ methods_fault records info.now (result_ok methods.now) }
 {
     let Ok(methods) = methods else {
         return None;
@@ -125,7 +127,8 @@ pub(crate) fn across_fault(
     applets: &Result<Option<Applets>, LoadFault>,
     methods: &Result<MethodInfo, LoadFault>,
 ) -> Option<LoadFault>
-    ensures { result ≡ across_fault (result_ok layout.now) records.now (result_ok pool.now) (result_ok applets.now) (result_ok methods.now) }
+    ensures { result ≡ across_fault (result_ok layout.now) records.now (result_ok pool.now) (result_ok applets.now)
+        (result_ok methods.now) }
 {
     match layout {
         Ok(info) => told(

@@ -44,7 +44,8 @@ pub(crate) fn interface_offsets(records: &Records) -> NumberSet
 
 /// Whether a row is an interface's: its record is one.
 pub(crate) fn is_interface_row(interfaces: &NumberSet, row: &ClassRow) -> bool
-    ensures { (records : List (Placed Record)) → HoldsInterfaces interfaces.now records → result ≡ is_interface_row records row.now }
+    ensures { (records : List (Placed Record)) → HoldsInterfaces interfaces.now records
+        → result ≡ is_interface_row records row.now }
 {
     match row.this {
         ClassRef::Internal { offset } => interfaces.contains(offset),

@@ -5,7 +5,8 @@ ghost use Rattle.std.specs.Option.{option_and_then};
 ghost use Rattle.jc_cap_desc.specs.Package.{layout_in, package_fault, package_of};
 ghost use Rattle.jc_cap_desc.specs.Shape.{StandApart, HaveBodies, HaveHeaders, InstallMethods};
 ghost use Rattle.jc_cap_desc.specs.Whole.{HasWholeOf};
-ghost use Rattle.jc_cap_desc.specs.PrivatePackage.{records_in, components_in, class_fault_in, component_fault_in, HasFewRows, HasFewRecords, HasFewImports, HasTypes, joined};
+ghost use Rattle.jc_cap_desc.specs.PrivatePackage.{records_in, components_in, class_fault_in, component_fault_in};
+ghost use Rattle.jc_cap_desc.specs.PrivatePackage.{HasFewRows, HasFewRecords, HasFewImports, HasTypes, joined};
 
 use crate::bodies::MethodBodies;
 use crate::classes::Classes;

@@ -4,7 +4,8 @@ ghost use Rattle.std.specs.Prelude.{◌≡◌, ◌+◌, List};
 ghost use Rattle.std.specs.List.{list_all};
 ghost use Rattle.jc_base.specs.declared.placed_rows.Placed.{Placed};
 ghost use Rattle.jc_cap_class.specs.declared.record.Record.{Record};
-ghost use Rattle.jc_cap_desc.specs.Across.{class_methods, has_code, stays_inside, handlers_stay_inside, stands_inside, is_described};
+ghost use Rattle.jc_cap_desc.specs.Across.{class_methods, has_code, stays_inside, handlers_stay_inside, stands_inside};
+ghost use Rattle.jc_cap_desc.specs.Across.{is_described};
 ghost use Rattle.jc_cap_desc.specs.PrivateInterfaceRows.{HoldsInterfaces};
 ghost use Rattle.jc_cap_desc.specs.PrivateMethods.{code_is_described};
 
@@ -91,7 +92,8 @@ pub(crate) fn methods_stand_inside(
     rows: &ClassRows,
     methods: &MethodInfo,
 ) -> bool
-    ensures { (records : List (Placed Record)) → HoldsInterfaces interfaces.now records → result ≡ list_all (stands_inside methods.now) (class_methods records rows.now) }
+    ensures { (records : List (Placed Record)) → HoldsInterfaces interfaces.now records
+        → result ≡ list_all (stands_inside methods.now) (class_methods records rows.now) }
 {
     let mut left = rows.again();
     while let Some(row) = left.next() {
@@ -142,7 +144,8 @@ pub(crate) fn methods_are_described(
     rows: &ClassRows,
     methods: &MethodInfo,
 ) -> bool
-    ensures { (records : List (Placed Record)) → HoldsInterfaces interfaces.now records → result ≡ list_all (is_described methods.now) (class_methods records rows.now) }
+    ensures { (records : List (Placed Record)) → HoldsInterfaces interfaces.now records
+        → result ≡ list_all (is_described methods.now) (class_methods records rows.now) }
 {
     let mut left = rows.again();
     while let Some(row) = left.next() {

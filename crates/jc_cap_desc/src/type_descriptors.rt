@@ -31,7 +31,8 @@ impl<'a> Model for TypeDescriptors<'a> {
 /// Puts in where a descriptor begins.
 #[tactic(auto, using(crate::proofs::Passing::passed_more, crate::proofs::Passing::put_marks))]
 fn add_start(starts: &mut NumberSet, placed: &Placed<Descriptor>)
-    ensures { (types left : PlacedTypes) → PassedSoFar is_any types starts.old starts.old (placed.now ∷ left) → PassedSoFar is_any types starts.new starts.new left }
+    ensures { (types left : PlacedTypes) → PassedSoFar is_any types starts.old starts.old (placed.now ∷ left)
+        → PassedSoFar is_any types starts.new starts.new left }
 {
     put(starts, placed.offset);
 }

@@ -62,7 +62,8 @@ impl TypeIndex {
 
     /// Puts in where a descriptor begins.
     fn add(&mut self, placed: &Placed<Descriptor>)
-        ensures { (types left : PlacedTypes) → IndexedSoFar types self.old (placed.now ∷ left) → IndexedSoFar types self.new left }
+        ensures { (types left : PlacedTypes) → IndexedSoFar types self.old (placed.now ∷ left)
+            → IndexedSoFar types self.new left }
     {
         let is_field = placed.row.field_type().is_some();
         mark(&self.starts, &mut self.fields, placed.offset, is_field);

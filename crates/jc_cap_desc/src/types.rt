@@ -3,7 +3,9 @@
 ghost use Rattle.std.specs.Prelude.{◌≡◌, ◌==◌, ◌||◌};
 ghost use Rattle.jc_base.specs.PlacedRows.{row_at};
 ghost use Rattle.std.specs.Option.{is_some};
-ghost use Rattle.jc_cap_desc.specs.Types.{type_of_field, is_same_class, is_own_field, fields_are_typed, methods_are_typed, classes_are_typed, no_type, pool_is_typed, types_are_there};
+ghost use Rattle.jc_cap_desc.specs.Types.{type_of_field, is_same_class, is_own_field, fields_are_typed};
+ghost use Rattle.jc_cap_desc.specs.Types.{methods_are_typed, classes_are_typed, no_type, pool_is_typed};
+ghost use Rattle.jc_cap_desc.specs.Types.{types_are_there};
 ghost use Rattle.jc_cap_desc.specs.PrivateTypes.{IndexesTypes, PlacedTypes};
 
 use crate::class_row::{ClassRows, FieldPlace, FieldRows, MethodRows, StatedType};
@@ -78,7 +80,8 @@ fn classes_are_typed(index: &TypeIndex, rows: &ClassRows) -> bool
 
 /// Whether a pool entry's type is there, if it has one.
 fn is_entry_typed(index: &TypeIndex, offset: u16) -> bool
-    ensures { (types : PlacedTypes) → IndexesTypes index.now types → result ≡ (offset == no_type || is_some (row_at offset types)) }
+    ensures { (types : PlacedTypes) → IndexesTypes index.now types
+        → result ≡ (offset == no_type || is_some (row_at offset types)) }
 {
     offset == NO_TYPE || index.starts.contains(offset)
 }

@@ -65,4 +65,5 @@ header_of info = do
   versions ← behind_magic (next_u4 info)
   format ← next_format versions
   flags ← field header_tag (next_u1 format.rest)
-  whole (Malformed header_tag) (if has_flag flags.value acc_int then Err IntPackage else next_heading format.value flags.rest)
+  whole (Malformed header_tag) (if has_flag flags.value acc_int then Err IntPackage
+      else next_heading format.value flags.rest)

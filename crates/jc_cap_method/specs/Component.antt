@@ -33,7 +33,11 @@ pub record Method : Type 0 where
 -- the method whose header stands at an offset
 abbrev pub method_at : ℕ → Methods → Option Method
 method_at offset methods =
-    option_map (λ header. record { header = header.value; code_offset = length methods.info - length header.rest; code = header.rest })
+    option_map (λ header. record {
+      header = header.value;
+      code_offset = length methods.info - length header.rest;
+      code = header.rest;
+    })
     (result_ok (next_header (drop offset methods.info)))
 
 abbrev pub header_at : ℕ → Methods → Option MethodHeader

@@ -18,6 +18,11 @@ next_handler bytes = do
   target ← field method_tag (next_u2 length.rest)
   caught ← field method_tag (next_u2 target.rest)
   Ok (record {
-    value = record { start = start.value; active_length = length.value % stop_bit; handler = target.value; catch_type = caught.value };
+    value = record {
+      start = start.value;
+      active_length = length.value % stop_bit;
+      handler = target.value;
+      catch_type = caught.value;
+    };
     rest = caught.rest;
   })

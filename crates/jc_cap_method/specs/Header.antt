@@ -20,7 +20,12 @@ unfoldable pub next_short_header : ℕ → List ℕ → Result (Read MethodHeade
 next_short_header front bytes = do
   counts ← field method_tag (next_u1 bytes)
   Ok (record {
-    value = record { is_abstract = has_flag (front / 16) abstract_flag; max_stack = front % 16; nargs = counts.value / 16; max_locals = counts.value % 16 };
+    value = record {
+      is_abstract = has_flag (front / 16) abstract_flag;
+      max_stack = front % 16;
+      nargs = counts.value / 16;
+      max_locals = counts.value % 16;
+    };
     rest = counts.rest;
   })
 
@@ -31,7 +36,12 @@ next_extended_header front bytes = do
   arguments ← field method_tag (next_u1 stack.rest)
   locals ← field method_tag (next_u1 arguments.rest)
   Ok (record {
-    value = record { is_abstract = has_flag (front / 16) abstract_flag; max_stack = stack.value; nargs = arguments.value; max_locals = locals.value };
+    value = record {
+      is_abstract = has_flag (front / 16) abstract_flag;
+      max_stack = stack.value;
+      nargs = arguments.value;
+      max_locals = locals.value;
+    };
     rest = locals.rest;
   })
 
@@ -39,4 +49,5 @@ next_extended_header front bytes = do
 unfoldable pub next_header : List ℕ → Result (Read MethodHeader) LoadFault
 next_header bytes = do
   front ← field method_tag (next_u1 bytes)
-  if has_flag (front.value / 16) extended_flag then next_extended_header front.value front.rest else next_short_header front.value front.rest
+  if has_flag (front.value / 16) extended_flag then next_extended_header front.value front.rest
+      else next_short_header front.value front.rest

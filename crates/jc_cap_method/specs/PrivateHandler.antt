@@ -9,5 +9,6 @@ use Rattle.jc_cap_method.specs.declared.handler.Handler.{Handler}
 
 pub handler_has_size : HasSize 8 next_handler
 unfolding next_handler
-handler_has_size (a ∷ b ∷ c ∷ d ∷ e ∷ f ∷ g ∷ h ∷ bytes) x is = (ap (λ (r : Read Handler). r.rest) (sym (the_ok _ x is)), omega arith)
+handler_has_size (a ∷ b ∷ c ∷ d ∷ e ∷ f ∷ g ∷ h ∷ bytes) x is =
+    (ap (λ (r : Read Handler). r.rest) (sym (the_ok _ x is)), omega arith)
 handler_has_size _ x is = absurd cc

@@ -9,7 +9,8 @@ use Rattle.jc_base.specs.ClassRef.{class_ref_of}
 use Rattle.jc_base.specs.declared.class_ref.ClassRef.{ClassRef}
 use Rattle.jc_cap_pool.specs.Nibbles.{next_nibble}
 use Rattle.jc_base.specs.declared.declared_type.DeclaredType.{DeclaredType}
-use Rattle.jc_base.specs.declared.declared_type.DeclaredType.TheVariants.{Boolean, Byte, Short, Reference, BooleanArray, ByteArray, ShortArray, ReferenceArray}
+use Rattle.jc_base.specs.declared.declared_type.DeclaredType.TheVariants.{Boolean, Byte, Short, Reference, BooleanArray}
+use Rattle.jc_base.specs.declared.declared_type.DeclaredType.TheVariants.{ByteArray, ShortArray, ReferenceArray}
 use Rattle.jc_base.specs.declared.declared_type.ReturnType.{ReturnType}
 use Rattle.jc_base.specs.declared.declared_type.ReturnType.TheVariants.{Void, Value}
 

@@ -1,5 +1,6 @@
 -- Type descriptors (Java Card Virtual Machine Specification, Descriptor component: type_descriptor_info).
-use Rattle.std.specs.Prelude.{◌≡◌, ℕ, zero, suc, List, [], ◌∷◌, length, Option, None, Result, Ok, Err, nat_eq, if◌then◌else◌}
+use Rattle.std.specs.Prelude.{◌≡◌, ℕ, zero, suc, List, [], ◌∷◌, length, Option, None, Result, Ok, Err, nat_eq}
+use Rattle.std.specs.Prelude.{if◌then◌else◌}
 use Rattle.std.specs.Option.{option_and_then}
 use Rattle.std.specs.Result.{result_ok}
 use Rattle.jc_base.specs.Cursor.{Read, next_u1, field}
@@ -19,10 +20,12 @@ use Rattle.jc_base.specs.declared.declared_type.ReturnType.TheVariants.{Void, Va
 -- the nibbles are these parameters, one after the other, and then this result, and nothing more
 abbrev pub IsSpelled : List (DeclaredType ClassRef) → ReturnType ClassRef → List ℕ → Type 0
 IsSpelled [] result nibbles = next_return nibbles ≡ Ok (record { value = result; rest = [] })
-IsSpelled (type ∷ types) result nibbles = (rest : List ℕ) × (next_type nibbles ≡ Ok (record { value = type; rest = rest })) × IsSpelled types result rest
+IsSpelled (type ∷ types) result nibbles =
+    (rest : List ℕ) × (next_type nibbles ≡ Ok (record { value = type; rest = rest })) × IsSpelled types result rest
 
 -- a signature with one more parameter in front; void is none
-abbrev pub with_parameter : ReturnType ClassRef → Result (Signature ClassRef) LoadFault → Result (Signature ClassRef) LoadFault
+abbrev pub with_parameter : ReturnType ClassRef → Result (Signature ClassRef) LoadFault
+    → Result (Signature ClassRef) LoadFault
 with_parameter Void others = Err (Malformed descriptor_tag)
 with_parameter (Value type) others = others >>= λ s. Ok (record { parameters = type ∷ s.parameters; result = s.result })
 

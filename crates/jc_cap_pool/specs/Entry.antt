@@ -10,7 +10,8 @@ use Rattle.jc_cap_pool.specs.declared.entry.MemberRef.{MemberRef}
 use Rattle.jc_cap_pool.specs.declared.entry.StaticRef.{StaticRef}
 use Rattle.jc_cap_pool.specs.declared.entry.StaticRef.TheVariants.{Internal, External}
 use Rattle.jc_cap_pool.specs.declared.entry.PoolEntry.{PoolEntry}
-use Rattle.jc_cap_pool.specs.declared.entry.PoolEntry.TheVariants.{Classref, InstanceFieldref, VirtualMethodref, SuperMethodref, StaticFieldref, StaticMethodref}
+use Rattle.jc_cap_pool.specs.declared.entry.PoolEntry.TheVariants.{Classref, InstanceFieldref, VirtualMethodref}
+use Rattle.jc_cap_pool.specs.declared.entry.PoolEntry.TheVariants.{SuperMethodref, StaticFieldref, StaticMethodref}
 
 -- the tags
 abbrev pub classref_tag : ℕ

@@ -8,14 +8,18 @@ use Rattle.jc_base.proofs.Binding.{the_ok, bind_ok}
 use Rattle.jc_cap_pool.specs.declared.entry.MemberRef.{MemberRef}
 use Rattle.jc_cap_pool.specs.declared.entry.StaticRef.{StaticRef}
 use Rattle.jc_cap_pool.specs.declared.entry.PoolEntry.{PoolEntry}
-use Rattle.jc_cap_pool.specs.declared.entry.PoolEntry.TheVariants.{Classref, InstanceFieldref, VirtualMethodref, SuperMethodref, StaticFieldref, StaticMethodref}
-use Rattle.jc_cap_pool.specs.Entry.{next_member_ref, next_static_ref, next_internal, next_external, as_entry, next_tagged_entry, next_entry}
+use Rattle.jc_cap_pool.specs.declared.entry.PoolEntry.TheVariants.{Classref, InstanceFieldref, VirtualMethodref}
+use Rattle.jc_cap_pool.specs.declared.entry.PoolEntry.TheVariants.{SuperMethodref, StaticFieldref, StaticMethodref}
+use Rattle.jc_cap_pool.specs.Entry.{next_member_ref, next_static_ref, next_internal, next_external, as_entry}
+use Rattle.jc_cap_pool.specs.Entry.{next_tagged_entry, next_entry}
 
-size_if : {A : Type 0} (n : ℕ) (b : Bool) (f g : List ℕ → Result (Read A) LoadFault) → HasSize n f → HasSize n g → HasSize n (λ bytes. cond b (f bytes) (g bytes))
+size_if : {A : Type 0} (n : ℕ) (b : Bool) (f g : List ℕ → Result (Read A) LoadFault) → HasSize n f → HasSize n g
+    → HasSize n (λ bytes. cond b (f bytes) (g bytes))
 size_if n true f g t u = t
 size_if n false f g t u = u
 
-size_as : {A : Type 0} (n : ℕ) (entry : A → PoolEntry) (f : List ℕ → Result (Read A) LoadFault) → HasSize n f → HasSize n (λ bytes. as_entry entry (f bytes))
+size_as : {A : Type 0} (n : ℕ) (entry : A → PoolEntry) (f : List ℕ → Result (Read A) LoadFault) → HasSize n f
+    → HasSize n (λ bytes. as_entry entry (f bytes))
 size_as n entry f t bytes x e =
     let a = bind_ok (f bytes) _ x e in
     let h = t bytes a.0 a.1 in
@@ -41,7 +45,8 @@ static_size : HasSize 3 next_static_ref
 unfolding next_static_ref
 static_size [] x e = absurd cc
 static_size (front ∷ bytes) x e =
-    let h = size_if 2 (nat_lt front 0x80) next_internal (next_external (front - 0x80)) internal_size (external_size (front - 0x80)) bytes x e in
+    let h = size_if 2 (nat_lt front 0x80) next_internal (next_external (front - 0x80)) internal_size
+    (external_size (front - 0x80)) bytes x e in
     (h.0, omega arith)
 
 tagged_size : (tag : ℕ) → HasSize 3 (next_tagged_entry tag)

@@ -4,7 +4,8 @@ ghost use Rattle.std.specs.Prelude.{◌≡◌, ◌<◌, IfOk};
 ghost use Rattle.jc_base.specs.Cursor.{Gives, field};
 ghost use Rattle.jc_base.specs.Tag.{descriptor_tag};
 ghost use Rattle.jc_cap_pool.specs.Nibbles.{next_nibble};
-ghost use Rattle.jc_cap_pool.specs.DeclaredType.{next_class, next_coded_type, next_type, next_coded_return, next_return};
+ghost use Rattle.jc_cap_pool.specs.DeclaredType.{next_class, next_coded_type, next_type, next_coded_return};
+ghost use Rattle.jc_cap_pool.specs.DeclaredType.{next_return};
 
 use crate::nibbles::Nibbles;
 use jc_base::tag::DESCRIPTOR;

@@ -125,5 +125,6 @@ pub fn descriptor_at<'a>(bytes: &'a [u8], first: usize, offset: usize) -> Option
 
 /// Nibbles are read as a signature exactly where they are the spelling of one, and as that one.
 pub fn signatures_are_spelled()
-    ensures { (nibbles : List ℕ) (s : Signature ClassRef) → (signature_of nibbles ≡ Ok s) ↔ IsSpelled s.parameters s.result nibbles }
+    ensures { (nibbles : List ℕ) (s : Signature ClassRef)
+        → (signature_of nibbles ≡ Ok s) ↔ IsSpelled s.parameters s.result nibbles }
 {}

@@ -1,5 +1,5 @@
--- Names of classes and methods, which each has once in a world of packages, and where they stand there (Java Card Virtual Machine
--- Specification, CAP file format: class_ref; Linking).
+-- Names of classes and methods, which each has once in a world of packages, and where they stand there (Java Card
+-- Virtual Machine Specification, CAP file format: class_ref; Linking).
 use Rattle.std.specs.Prelude.{ℕ, zero, suc, ◌-◌, ◌==◌, Bool, false, ◌&&◌, Option, Some, None, nat_lt, if◌then◌else◌}
 use Rattle.std.specs.Option.{option_and_then, option_map}
 use Rattle.jc_api.specs.Class.{class_of, number_of, package_of}

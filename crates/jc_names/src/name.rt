@@ -11,7 +11,8 @@ use jc_api::{ApiClass, Member};
 pub enum ClassName {
     /// A class of the API.
     Api(ApiClass),
-    /// The class of the loaded package with a number, from 1 on, whose record stands at an offset of its Class component.
+    /// The class of the loaded package with a number, from 1 on, whose record stands at an offset of its Class
+    /// component.
     Loaded { package: u8, offset: u16 },
 }
 
@@ -106,7 +107,8 @@ fn api_name(home: PackagePlace, number: u16) -> Option<ClassName>
     }
 }
 
-/// The name of the class at an offset of the package that stands there; an offset of the API's packages is the number of a class.
+/// The name of the class at an offset of the package that stands there; an offset of the API's packages is the number
+/// of a class.
 pub fn name_in(home: PackagePlace, offset: u16) -> Option<ClassName>
     ensures { result ≡ name_in home offset }
 {

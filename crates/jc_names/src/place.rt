@@ -6,7 +6,8 @@ ghost use Rattle.jc_names.specs.Names.{api_home, home_at, number_at};
 use jc_api::ApiPackage;
 use std::marker::Model;
 
-/// Where a package stands in a world, from 0 to 256: the API's two at 0 and 1, and a loaded one right behind its number.
+/// Where a package stands in a world, from 0 to 256: the API's two at 0 and 1, and a loaded one right behind its
+/// number.
 #[derive(Clone, Copy, Debug)]
 pub struct PackagePlace {
     index: u16,

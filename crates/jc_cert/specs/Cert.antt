@@ -5,7 +5,8 @@ use Rattle.jc_base.specs.Aid.{shortest_aid, longest_aid}
 use Rattle.jc_cert.specs.declared.stated_type.SpelledClass.{SpelledClass}
 use Rattle.jc_cert.specs.declared.stated_type.SpelledClass.TheVariants.{Own, Api, Other}
 use Rattle.jc_cert.specs.declared.stated_type.StatedType.{StatedType}
-use Rattle.jc_cert.specs.declared.stated_type.StatedType.TheVariants.{Top, Word, Null, Class, BooleanArray, ByteArray, ShortArray, ReferenceArray}
+use Rattle.jc_cert.specs.declared.stated_type.StatedType.TheVariants.{Top, Word, Null, Class, BooleanArray, ByteArray}
+use Rattle.jc_cert.specs.declared.stated_type.StatedType.TheVariants.{ShortArray, ReferenceArray}
 use Rattle.jc_cert.specs.declared.cert.StateRow.{StateRow}
 use Rattle.jc_cert.specs.declared.cert.MethodRow.{MethodRow}
 

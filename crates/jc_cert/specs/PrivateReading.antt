@@ -1,6 +1,7 @@
--- Private. Reading a certificate from left to right, each part in the state that the one before leaves. It says what the
--- code reads, and is proved to be the inverse of the spelling.
-use Rattle.std.specs.Prelude.{◌≡◌, ℕ, zero, suc, ◌+◌, List, [], ◌∷◌, length, Option, Result, Ok, Err, nat_lt, ◌==◌, ◌&&◌, if◌then◌else◌}
+-- Private. Reading a certificate from left to right, each part in the state that the one before leaves. It says what
+-- the code reads, and is proved to be the inverse of the spelling.
+use Rattle.std.specs.Prelude.{◌≡◌, ℕ, zero, suc, ◌+◌, List, [], ◌∷◌, length, Option, Result, Ok, Err, nat_lt, ◌==◌}
+use Rattle.std.specs.Prelude.{◌&&◌, if◌then◌else◌}
 use Rattle.std.specs.Option.{ok_or}
 use Rattle.jc_base.specs.Cursor.{Read, next_u1, next_u2, next_bytes}
 use Rattle.jc_base.specs.Results.{◌>>=◌}
@@ -12,7 +13,8 @@ use Rattle.jc_api.specs.declared.class.ApiClass.{ApiClass}
 use Rattle.jc_cert.specs.declared.stated_type.SpelledClass.{SpelledClass}
 use Rattle.jc_cert.specs.declared.stated_type.SpelledClass.TheVariants.{Own, Api, Other}
 use Rattle.jc_cert.specs.declared.stated_type.StatedType.{StatedType}
-use Rattle.jc_cert.specs.declared.stated_type.StatedType.TheVariants.{Top, Word, Null, Class, BooleanArray, ByteArray, ShortArray, ReferenceArray}
+use Rattle.jc_cert.specs.declared.stated_type.StatedType.TheVariants.{Top, Word, Null, Class, BooleanArray, ByteArray}
+use Rattle.jc_cert.specs.declared.stated_type.StatedType.TheVariants.{ShortArray, ReferenceArray}
 use Rattle.jc_cert.specs.declared.refusal.NoSpelling.{NoSpelling}
 use Rattle.jc_cert.specs.declared.refusal.Refusal.{Refusal}
 use Rattle.jc_cert.specs.declared.refusal.Refusal.TheVariants.{Unspelled, Memory}
@@ -75,7 +77,8 @@ next_type bytes = do
       else (if tag.value == 7 then read_with ReferenceArray (next_class tag.rest) else Err no_spelling)))))))
 
 -- so many, one after the other, each read in the state that the one before leaves
-unfoldable pub repeat_at : {S A : Type 0} → (S → List ℕ → Result (Read A) NoSpelling) → (A → S) → ℕ → S → List ℕ → Result (Read (List A)) NoSpelling
+unfoldable pub repeat_at : {S A : Type 0} → (S → List ℕ → Result (Read A) NoSpelling) → (A → S) → ℕ → S → List ℕ
+    → Result (Read (List A)) NoSpelling
 repeat_at read next zero s bytes = Ok (record { value = []; rest = bytes })
 repeat_at read next (suc n) s bytes = do
   first ← read s bytes
@@ -93,7 +96,10 @@ next_stated least bytes = do
   locals ← next_types count.value count.rest
   depth ← spelled (next_u1 locals.rest)
   operands ← next_types depth.value depth.rest
-  Ok (record { value = record { pc = pc.value; locals = locals.value; operands = operands.value }; rest = operands.rest })
+  Ok (record {
+    value = record { pc = pc.value; locals = locals.value; operands = operands.value };
+    rest = operands.rest;
+  })
 
 abbrev pub next_states : ℕ → ℕ → List ℕ → Result (Read (List Stated)) NoSpelling
 next_states n least bytes = repeat_at next_stated (λ s. s.pc + 1) n least bytes
@@ -122,7 +128,8 @@ Fails Unspelled read = read ≡ Err no_spelling
 Fails Memory read = Unit {0}
 
 -- what a reader gave, seen by view, is what reading gives, unless memory ran out
-abbrev pub GivesUnlessMemory : {X Y : Type 0} → (X → Y) → Result X Refusal → List ℕ → Result (Read Y) NoSpelling → Type 0
+abbrev pub GivesUnlessMemory : {X Y : Type 0} → (X → Y) → Result X Refusal → List ℕ
+    → Result (Read Y) NoSpelling → Type 0
 GivesUnlessMemory view (Ok x) new read = read ≡ Ok (record { value = view x; rest = new })
 GivesUnlessMemory view (Err refusal) new read = Fails refusal read
 

@@ -6,10 +6,12 @@ use Rattle.jc_api.specs.Class.{number_of}
 use Rattle.jc_cert.specs.declared.stated_type.SpelledClass.{SpelledClass}
 use Rattle.jc_cert.specs.declared.stated_type.SpelledClass.TheVariants.{Own, Api, Other}
 use Rattle.jc_cert.specs.declared.stated_type.StatedType.{StatedType}
-use Rattle.jc_cert.specs.declared.stated_type.StatedType.TheVariants.{Top, Word, Null, Class, BooleanArray, ByteArray, ShortArray, ReferenceArray}
+use Rattle.jc_cert.specs.declared.stated_type.StatedType.TheVariants.{Top, Word, Null, Class, BooleanArray, ByteArray}
+use Rattle.jc_cert.specs.declared.stated_type.StatedType.TheVariants.{ShortArray, ReferenceArray}
 use Rattle.jc_cert.specs.Cert.{Stated, Row}
 
--- a class's name: an offset in its own package; an API class's number behind a byte 00; another package's AID and an offset in it
+-- a class's name: an offset in its own package; an API class's number behind a byte 00; another package's AID and an
+-- offset in it
 abbrev pub class_bytes : SpelledClass → List ℕ
 class_bytes (Own offset) = 0 ∷ to_be_bytes w16 offset
 class_bytes (Api class) = 1 ∷ 0 ∷ to_be_bytes w16 (number_of class)
@@ -29,7 +31,8 @@ type_bytes (ReferenceArray class) = 7 ∷ class_bytes class
 -- the pc, the locals behind their count in two bytes, the operands behind their count in one, bottom first
 abbrev pub stated_bytes : Stated → List ℕ
 stated_bytes s =
-    to_be_bytes w16 s.pc ++ (to_be_bytes w16 (length s.locals) ++ (flat_map type_bytes s.locals ++ length s.operands ∷ flat_map type_bytes s.operands))
+    to_be_bytes w16 s.pc ++ (to_be_bytes w16 (length s.locals)
+    ++ (flat_map type_bytes s.locals ++ length s.operands ∷ flat_map type_bytes s.operands))
 
 -- the offset, and the states behind their count
 abbrev pub row_bytes : Row → List ℕ

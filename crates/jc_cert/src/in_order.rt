@@ -2,7 +2,8 @@
 
 ghost use Rattle.std.specs.Prelude.{◌↔◌, ◌≤◌, IsTrue, map};
 ghost use Rattle.std.specs.List.{AllByRecursion};
-ghost use Rattle.jc_cert.specs.Cert.{IsSpelledClass, IsStatedType, IsStated, IsRow, IsCert, PcsAscend, OffsetsAscend, stated, row, rows};
+ghost use Rattle.jc_cert.specs.Cert.{IsSpelledClass, IsStatedType, IsStated, IsRow, IsCert, PcsAscend, OffsetsAscend};
+ghost use Rattle.jc_cert.specs.Cert.{stated, row, rows};
 
 use crate::cert::{MethodRow, StateRow};
 use crate::stated_type::{SpelledClass, StatedType};

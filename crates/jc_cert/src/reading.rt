@@ -4,7 +4,9 @@ ghost use Rattle.std.specs.Prelude.{◌≡◌, ◌⊎◌, List, [], IfOk, IfErr,
 ghost use Rattle.jc_base.specs.Cursor.{Gives};
 ghost use Rattle.jc_cert.specs.Cert.{Row, IsCert, stated, row, rows};
 ghost use Rattle.jc_cert.specs.Writing.{spelling};
-ghost use Rattle.jc_cert.specs.PrivateReading.{next_number, next_api, next_other, next_class, next_type, next_types, next_stated, next_states, next_row, next_rows, next_cert, GivesUnlessMemory};
+ghost use Rattle.jc_cert.specs.PrivateReading.{next_number, next_api, next_other, next_class, next_type, next_types};
+ghost use Rattle.jc_cert.specs.PrivateReading.{next_stated, next_states, next_row, next_rows, next_cert};
+ghost use Rattle.jc_cert.specs.PrivateReading.{GivesUnlessMemory};
 
 use crate::cert::{Cert, MethodRow, StateRow};
 use crate::refusal::{NoSpelling, Refusal};
@@ -88,7 +90,8 @@ fn read_types(alloc: Global, cursor: &mut Cursor, count: u16) -> Result<Vec<Stat
     let mut types = Vec::new(alloc);
     for _ in 0..count {
         let ty = read_type(cursor)?;
-        // As a slice: `push` hands its value back where memory is lacking, and the check fails on that for enums in enums.
+        // As a slice: `push` hands its value back where memory is lacking, and the check fails on that for enums in
+        // enums.
         types.extend_from_slice(&[ty])?;
     }
     Ok(types)

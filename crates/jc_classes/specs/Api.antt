@@ -1,7 +1,8 @@
 -- The packages of the API as shapes like all others, under a binding (Java Card API Specification; Java Card Virtual
 -- Machine Specification, Binary Compatibility: Token-based linking). A class stands at its number, a method at its
 -- member's number.
-use Rattle.std.specs.Prelude.{ℕ, ◌+◌, ◌==◌, ◌&&◌, Bool, true, false, not, List, [], ◌∷◌, length, Option, Some, None, unwrap_or, if◌then◌else◌, map, max}
+use Rattle.std.specs.Prelude.{ℕ, ◌+◌, ◌==◌, ◌&&◌, Bool, true, false, not, List, [], ◌∷◌, length, Option, Some, None}
+use Rattle.std.specs.Prelude.{unwrap_or, if◌then◌else◌, map, max}
 use Rattle.std.specs.List.{filter_map, find, range_with_len}
 use Rattle.std.specs.Option.{option_map, option_and_then}
 use Rattle.jc_base.specs.Signature.{signature_map}
@@ -61,16 +62,21 @@ number_to last tokens token = find (λ number. is_token token (tokens number)) (
 
 -- the token of the member with a number, if the member counts
 abbrev pub member_token : (ApiMember → Bool) → Bound → ℕ → Option ℕ
-member_token counts bound number = option_and_then (λ m. if counts m then numbered bound.members number else None) (member_of number)
+member_token counts bound number =
+    option_and_then (λ m. if counts m then numbered bound.members number else None) (member_of number)
 
--- the tokens by numbers: of the classes of a package; of the virtual methods of a class and of those above it, and of its
--- own; and of its constructors and static methods
+-- the tokens by numbers: of the classes of a package; of the virtual methods of a class and of those above it, and of
+-- its own; and of its constructors and static methods
 abbrev pub token_in : Bound → Tokens → ℕ → Option ℕ
 token_in bound (Of.Classes which) number =
-    option_and_then (λ c. if is_same_package (package_of c) which then numbered bound.classes number else None) (class_of number)
-token_in bound (Of.Inherited class) number = member_token (λ m. is_virtual m.kind && is_at_or_above m.class class) bound number
-token_in bound (Of.Declared class) number = member_token (λ m. is_virtual m.kind && is_same_class m.class class) bound number
-token_in bound (Of.Called class) number = member_token (λ m. not (is_virtual m.kind) && is_same_class m.class class) bound number
+    option_and_then (λ c. if is_same_package (package_of c) which then numbered bound.classes number else None)
+    (class_of number)
+token_in bound (Of.Inherited class) number =
+    member_token (λ m. is_virtual m.kind && is_at_or_above m.class class) bound number
+token_in bound (Of.Declared class) number =
+    member_token (λ m. is_virtual m.kind && is_same_class m.class class) bound number
+token_in bound (Of.Called class) number =
+    member_token (λ m. not (is_virtual m.kind) && is_same_class m.class class) bound number
 
 -- one more than the greatest of these tokens, and the number that has a token; no class has a number above the members'
 abbrev pub room_of : Bound → Tokens → ℕ
@@ -98,7 +104,8 @@ no_table = record { base = 0; methods = [] }
 
 -- the public methods that a class declares, from token 0 to the greatest that it has or inherits
 abbrev pub public_table : Bound → ApiClass → VirtualTable
-public_table bound class = record { base = 0; methods = entries_of bound (Of.Declared class) (room_of bound (Of.Inherited class)) }
+public_table bound class =
+    record { base = 0; methods = entries_of bound (Of.Declared class) (room_of bound (Of.Inherited class)) }
 
 -- a class's record
 abbrev pub record_in : Bound → ApiClass → RecordBody
@@ -134,7 +141,8 @@ method_in bound number m = record {
 
 -- the member with a number, if a class declares it, and its method
 abbrev pub declared_by : ApiClass → ℕ → Option ApiMember
-declared_by class number = option_and_then (λ m. if is_same_class m.class class then Some m else None) (member_of number)
+declared_by class number =
+    option_and_then (λ m. if is_same_class m.class class then Some m else None) (member_of number)
 
 abbrev pub method_of : Bound → ApiClass → ℕ → Option MethodShape
 method_of bound class number = option_map (method_in bound number) (declared_by class number)
@@ -151,7 +159,8 @@ class_in_api bound class = record {
 
 -- the class with a number, if a package has it, and its shape
 abbrev pub class_with : ApiPackage → ℕ → Option ApiClass
-class_with which number = option_and_then (λ class. if is_same_package (package_of class) which then Some class else None) (class_of number)
+class_with which number =
+    option_and_then (λ class. if is_same_package (package_of class) which then Some class else None) (class_of number)
 
 abbrev pub class_shape_of : Bound → ApiPackage → ℕ → Option ClassShape
 class_shape_of bound which number = option_map (class_in_api bound) (class_with which number)
@@ -159,7 +168,12 @@ class_shape_of bound which number = option_map (class_in_api bound) (class_with 
 -- what a package exports under a token; no class stands at 0
 abbrev pub export_row : Bound → Option ApiClass → ExportedClass
 export_row bound None = record { class = 0; fields = []; methods = [] }
-export_row bound (Some class) = record { class = number_of class; fields = []; methods = entries_of bound (Of.Called class) (room_of bound (Of.Called class)) }
+export_row bound (Some class) =
+    record {
+      class = number_of class;
+      fields = [];
+      methods = entries_of bound (Of.Called class) (room_of bound (Of.Called class));
+    }
 
 abbrev pub export_of : Bound → ApiPackage → ℕ → ExportedClass
 export_of bound which token = export_row bound (option_and_then class_of (number_with bound (Of.Classes which) token))

@@ -22,14 +22,18 @@ IsWithin world c = home_of c < length world
 -- what is looked up from packages that are in the world is found as before, and what wasn't found isn't found
 pub record KeepsLookups (world : List Shape) (more : Shape) : Type 0 where
   pub classes : (c : ClassName) → IsWithin world c → class_at (grown world more) c ≡ class_at world c
-  pub references : (home : ℕ) (ref : ClassRef) → home < length world → class_named (grown world more) home ref ≡ class_named world home ref
+  pub references : (home : ℕ) (ref : ClassRef) → home < length world
+      → class_named (grown world more) home ref ≡ class_named world home ref
   pub superclasses : (c : ClassName) → IsWithin world c → superclass_of (grown world more) c ≡ superclass_of world c
   pub interfaces : (c : ClassName) → IsWithin world c → interfaces_of (grown world more) c ≡ interfaces_of world c
-  pub virtual_methods : (c : ClassName) (token asker : ℕ) → IsWithin world c → virtual_method_of (grown world more) c token asker ≡ virtual_method_of world c token asker
-  pub interface_methods : (c interface : ClassName) (token : ℕ) → IsWithin world c → interface_method_of (grown world more) c interface token ≡ interface_method_of world c interface token
+  pub virtual_methods : (c : ClassName) (token asker : ℕ) → IsWithin world c
+      → virtual_method_of (grown world more) c token asker ≡ virtual_method_of world c token asker
+  pub interface_methods : (c interface : ClassName) (token : ℕ) → IsWithin world c
+      → interface_method_of (grown world more) c interface token ≡ interface_method_of world c interface token
   pub subtypes : (c d : ClassName) → IsWithin world c → IsSubtype (grown world more) c d ↔ IsSubtype world c d
   pub implementations : (c i : ClassName) → IsWithin world c → Implements (grown world more) c i ↔ Implements world c i
-  pub methods : (m : MethodName) (home : ℕ) → method_home m ≡ Some home → home < length world → method_at (grown world more) m ≡ method_at world m
+  pub methods : (m : MethodName) (home : ℕ) → method_home m ≡ Some home → home < length world
+      → method_at (grown world more) m ≡ method_at world m
 
 -- ---- many packages at once
 

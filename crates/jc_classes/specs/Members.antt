@@ -1,4 +1,5 @@
--- Methods where they are declared (Java Card Virtual Machine Specification, Descriptor component: method_descriptor_info).
+-- Methods where they are declared (Java Card Virtual Machine Specification, Descriptor component:
+-- method_descriptor_info).
 use Rattle.std.specs.Prelude.{ℕ, List, Option, None, slice_get, is_some, nat_lt, if◌then◌else◌}
 use Rattle.std.specs.List.{find}
 use Rattle.std.specs.Option.{option_and_then, option_map}
@@ -20,10 +21,12 @@ pub record DeclaredMethod : Type 0 where
 -- the method at an offset of the package that stands there: that of the first class that has one
 abbrev pub declared_in : ℕ → ℕ → Shape → Option DeclaredMethod
 declared_in home offset shape =
-    option_and_then (λ k. option_and_then (λ class. option_map (λ m. record { class = class; method = m }) (method_of_class offset k)) (name_of home k))
+    option_and_then (λ k. option_and_then
+    (λ class. option_map (λ m. record { class = class; method = m }) (method_of_class offset k)) (name_of home k))
     (find (λ k. is_some (method_of_class offset k)) shape.classes)
 
 -- the method that has a name
 abbrev pub method_at : List Shape → MethodName → Option DeclaredMethod
 method_at world m =
-    option_and_then (λ home. option_and_then (declared_in home (method_offset m)) (slice_get world home)) (method_home m)
+    option_and_then (λ home. option_and_then (declared_in home (method_offset m)) (slice_get world home))
+    (method_home m)

@@ -1,5 +1,6 @@
 -- Look-ups of methods (Java Card Virtual Machine Specification, Linking; invokevirtual, invokeinterface).
-use Rattle.std.specs.Prelude.{ℕ, ◌-◌, ◌==◌, Bool, false, ◌||◌, List, length, Option, Some, None, slice_get, nat_lt, is_some, if◌then◌else◌}
+use Rattle.std.specs.Prelude.{ℕ, ◌-◌, ◌==◌, Bool, false, ◌||◌, List, length, Option, Some, None, slice_get, nat_lt}
+use Rattle.std.specs.Prelude.{is_some, if◌then◌else◌}
 use Rattle.std.specs.List.{find, list_any}
 use Rattle.std.specs.Option.{option_and_then, option_map_or}
 use Rattle.jc_cap_class.specs.Component.{is_class}
@@ -44,18 +45,19 @@ abbrev pub entry_visit : List Shape → ℕ → Option ℕ → Visit MethodName
 entry_visit world home None = Nothing
 entry_visit world home (Some offset) = if offset == declared_above then Above else method_there world home offset
 
--- a table at a token: the superclass is asked below the base, in a table without methods, and where another package's class
--- declares the method; there is nothing behind the last
+-- a table at a token: the superclass is asked below the base, in a table without methods, and where another package's
+-- class declares the method; there is nothing behind the last
 abbrev pub table_visit : List Shape → ℕ → VirtualTable → ℕ → Visit MethodName
 table_visit world home table token =
-    if nat_lt token table.base || length table.methods == 0 then Above else entry_visit world home (slice_get table.methods (token - table.base))
+    if nat_lt token table.base || length table.methods == 0 then Above
+    else entry_visit world home (slice_get table.methods (token - table.base))
 
 -- tokens from here on are package-visible
 abbrev pub package_visible : ℕ
 package_visible = 128
 
--- the class with a record at a virtual token, asked for the package that stands there: a package-visible one passes over
--- the classes of other packages
+-- the class with a record at a virtual token, asked for the package that stands there: a package-visible one passes
+-- over the classes of other packages
 abbrev pub record_visit : List Shape → ℕ → ℕ → ℕ → RecordBody → Visit MethodName
 record_visit world asker token home (Interface r) = Nothing
 record_visit world asker token home (Class r) =
@@ -95,8 +97,9 @@ interface_visit world interface c k = listing_visit world interface (home_of c) 
 abbrev pub public_method_of : List Shape → ClassName → ℕ → Option MethodName
 public_method_of world c token = if nat_lt token package_visible then virtual_method_of world c token 0 else None
 
--- the method of an object's class that an interface's token leads to: the nearest class that lists the interface says under
--- which virtual token, and that is looked up from the object's class
+-- the method of an object's class that an interface's token leads to: the nearest class that lists the interface says
+-- under which virtual token, and that is looked up from the object's class
 abbrev pub interface_method_of : List Shape → ClassName → ClassName → ℕ → Option MethodName
 interface_method_of world c interface token =
-    option_and_then (λ indexes. option_and_then (public_method_of world c) (slice_get indexes token)) (found (interface_visit world interface) world c)
+    option_and_then (λ indexes. option_and_then (public_method_of world c) (slice_get indexes token))
+    (found (interface_visit world interface) world c)

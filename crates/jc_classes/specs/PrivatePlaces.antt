@@ -26,18 +26,22 @@ placed k m = record { class = k; method = m }
 -- the first method at an offset
 abbrev pub first_method : ℕ → List ClassShape → Option PlacedMethod
 first_method offset [] = None
-first_method offset (k ∷ classes) = option_or (option_map (placed k) (method_of_class offset k)) (first_method offset classes)
+first_method offset (k ∷ classes) =
+    option_or (option_map (placed k) (method_of_class offset k)) (first_method offset classes)
 
 -- what a place leads to
 abbrev pub led_to : List ClassShape → MethodPlace → Option PlacedMethod
-led_to classes place = option_and_then (λ k. option_map (placed k) (slice_get k.methods place.method)) (slice_get classes place.class)
+led_to classes place =
+    option_and_then (λ k. option_map (placed k) (slice_get k.methods place.method)) (slice_get classes place.class)
 
 -- a table leads to the first method at each offset
 abbrev pub AreMethodPlaces : List (Option MethodPlace) → List ClassShape → Type 0
-AreMethodPlaces places classes = (offset : ℕ) → option_and_then (led_to classes) (place_at places offset) ≡ first_method offset classes
+AreMethodPlaces places classes =
+    (offset : ℕ) → option_and_then (led_to classes) (place_at places offset) ≡ first_method offset classes
 
 -- both tables of a package
-pub record ArePlaces (class_places : List (Option ℕ)) (method_places : List (Option MethodPlace)) (classes : List ClassShape) : Type 0 where
+pub record ArePlaces (class_places : List (Option ℕ)) (method_places : List (Option MethodPlace))
+    (classes : List ClassShape) : Type 0 where
   pub first_class : AreClassPlaces class_places classes
   pub first_with : AreMethodPlaces method_places classes
 

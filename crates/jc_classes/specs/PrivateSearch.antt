@@ -1,5 +1,6 @@
 -- Private. What is above a class, as a search marks it.
-use Rattle.std.specs.Prelude.{◌≡◌, ℕ, zero, suc, ◌+◌, ◌*◌, ◌<◌, ◌≤◌, ◌==◌, Bool, true, false, List, [], ◌∷◌, Option, Some, slice_get, if◌then◌else◌}
+use Rattle.std.specs.Prelude.{◌≡◌, ℕ, zero, suc, ◌+◌, ◌*◌, ◌<◌, ◌≤◌, ◌==◌, Bool, true, false, List, [], ◌∷◌, Option}
+use Rattle.std.specs.Prelude.{Some, slice_get, if◌then◌else◌}
 use Rattle.std.specs.List.{filter_map, cons_option, list_any, position}
 use Rattle.std.specs.Option.{option_map, option_and_then}
 use Rattle.jc_base.specs.NumberSet.{has_number}
@@ -19,7 +20,8 @@ above world c = cons_option (superclass_of world c) (interfaces_of world c)
 -- the same, of a record of the package that stands there
 abbrev pub above_in : List Shape → ℕ → RecordBody → List ClassName
 above_in world home body =
-    cons_option (option_and_then (class_named world home) (superclass_ref body)) (filter_map (class_named world home) (listed_refs body))
+    cons_option (option_and_then (class_named world home) (superclass_ref body))
+    (filter_map (class_named world home) (listed_refs body))
 
 -- a class is reached from another by going up
 pub data IsReached (world : List Shape) (from : ClassName) : ClassName → Type 0 where
@@ -49,7 +51,9 @@ IsMarked world marks c = (n : ℕ) → place world c ≡ Some n → has_number m
 
 -- what is marked was reached
 abbrev pub IsSound : List Shape → ClassName → List ℕ → Type 0
-IsSound world from marks = (n : ℕ) → n < 65_536 → has_number marks n ≡ true → (c : ClassName) × (place world c ≡ Some n) × IsReached world from c
+IsSound world from marks =
+    (n : ℕ) → n < 65_536 → has_number marks n ≡ true
+    → (c : ClassName) × (place world c ≡ Some n) × IsReached world from c
 
 -- how many numbers below this one aren't marked
 abbrev pub unmarked : List ℕ → ℕ → ℕ
@@ -66,34 +70,41 @@ pub record AreMarked (world : List Shape) (classes : List ClassName) (old new : 
   pub same : changed ≡ false → (n : ℕ) → has_number new n ≡ has_number old n
   pub fewer : changed ≡ true → unmarked new all_places < unmarked old all_places
   pub marked : (c : ClassName) → IsAmong c classes → IsMarked world new c
-  pub sound : (from : ClassName) → ((c : ClassName) → IsAmong c classes → IsReached world from c) → IsSound world from old → IsSound world from new
+  pub sound : (from : ClassName) → ((c : ClassName) → IsAmong c classes → IsReached world from c)
+      → IsSound world from old → IsSound world from new
 
 -- the classes with these places were gone through: where nothing was marked anew, all above a marked one are marked
 pub record ArePassed (world : List Shape) (first behind : ℕ) (old new : List ℕ) (changed : Bool) : Type 0 where
   pub keeps : (n : ℕ) → has_number old n ≡ true → has_number new n ≡ true
   pub same : changed ≡ false → (n : ℕ) → has_number new n ≡ has_number old n
   pub fewer : changed ≡ true → unmarked new all_places < unmarked old all_places
-  pub closed : changed ≡ false → (c : ClassName) (n : ℕ) → place world c ≡ Some n → first ≤ n → n < behind → has_number new n ≡ true → (d : ClassName) → IsAmong d (above world c) → IsMarked world new d
+  pub closed : changed ≡ false → (c : ClassName) (n : ℕ) → place world c ≡ Some n → first ≤ n → n < behind
+      → has_number new n ≡ true → (d : ClassName) → IsAmong d (above world c) → IsMarked world new d
   pub sound : (from : ClassName) → IsSound world from old → IsSound world from new
 
 -- all that is reached from a class is marked, and nothing else
 pub record IsClosure (world : List Shape) (from : ClassName) (marks : List ℕ) : Type 0 where
   pub start : IsMarked world marks from
-  pub closed : (c : ClassName) (n : ℕ) → place world c ≡ Some n → has_number marks n ≡ true → (d : ClassName) → IsAmong d (above world c) → IsMarked world marks d
+  pub closed : (c : ClassName) (n : ℕ) → place world c ≡ Some n → has_number marks n ≡ true → (d : ClassName)
+      → IsAmong d (above world c) → IsMarked world marks d
   pub sound : IsSound world from marks
 
 -- a class on the way up from one of two, towards one that is above both, with so many classes to go
 pub record IsOnWay (world : List Shape) (one other at : ClassName) (n : ℕ) : Type 0 where
   pub below : (e : ClassName) → IsSubtype world at e → IsSubtype world one e
-  pub least : IsOrderly world → (e : ClassName) → is_class_at world e ≡ true → IsSubtype world one e → IsSubtype world other e → IsSubtype world at e
+  pub least : IsOrderly world → (e : ClassName) → is_class_at world e ≡ true → IsSubtype world one e
+      → IsSubtype world other e → IsSubtype world at e
   pub ends : IsOrderly world → comes_to_end world n at ≡ true
 
 -- a record lists this interface
 abbrev pub lists_this : List Shape → ℕ → ClassName → RecordBody → Bool
-lists_this world home interface (Interface r) = list_any (λ i. is_this interface (class_named world home i.interface)) r.superinterfaces
-lists_this world home interface (Class r) = list_any (λ i. is_this interface (class_named world home i.interface)) r.interfaces
+lists_this world home interface (Interface r) =
+    list_any (λ i. is_this interface (class_named world home i.interface)) r.superinterfaces
+lists_this world home interface (Class r) =
+    list_any (λ i. is_this interface (class_named world home i.interface)) r.interfaces
 
 -- the class with an index is marked, and lists this interface
 abbrev pub IsListing : List Shape → List ℕ → ClassName → ℕ → ℕ → Type 0
 IsListing world marks interface home index =
-    (k : ClassShape) × (class_placed world home index ≡ Some k) × (has_number marks (256 * home + index) ≡ true) × IsAmong interface (filter_map (class_named world home) (listed_refs k.body))
+    (k : ClassShape) × (class_placed world home index ≡ Some k) × (has_number marks (256 * home + index) ≡ true)
+    × IsAmong interface (filter_map (class_named world home) (listed_refs k.body))

@@ -1,12 +1,14 @@
 -- Private. Tables of the methods of classes, made from those of the classes above.
-use Rattle.std.specs.Prelude.{◌≡◌, ℕ, suc, ◌-◌, ◌<◌, ◌≤◌, ◌==◌, Bool, true, false, List, [], ◌∷◌, Option, Some, None, length, nat_lt, slice_get, unwrap_or, if◌then◌else◌}
+use Rattle.std.specs.Prelude.{◌≡◌, ℕ, suc, ◌-◌, ◌<◌, ◌≤◌, ◌==◌, Bool, true, false, List, [], ◌∷◌, Option, Some, None}
+use Rattle.std.specs.Prelude.{length, nat_lt, slice_get, unwrap_or, if◌then◌else◌}
 use Rattle.std.specs.List.{find, position}
 use Rattle.std.specs.Option.{option_map, option_and_then}
 use Rattle.jc_cap_class.specs.Interfaces.{Implemented}
 use Rattle.jc_cap_class.specs.declared.record.RecordBody.{RecordBody}
 use Rattle.jc_cap_desc.specs.Shape.{Shape}
 use Rattle.jc_classes.specs.Limits.{IsSmall}
-use Rattle.jc_classes.specs.Methods.{record_visit, package_visible, virtual_method_of, interface_visit, indexes_visit, row_for}
+use Rattle.jc_classes.specs.Methods.{record_visit, package_visible, virtual_method_of, interface_visit, indexes_visit}
+use Rattle.jc_classes.specs.Methods.{row_for}
 use Rattle.jc_names.specs.Names.{is_same_name}
 use Rattle.jc_classes.specs.PrivatePlaces.{place_at}
 use Rattle.jc_classes.specs.PrivateSearch.{class_placed}
@@ -23,7 +25,8 @@ pub record Listed : Type 0 where
   pub indexes : List ℕ
 
 -- a table of a class: within how many classes its superclasses come to an end, its public methods by their tokens, the
--- package-visible ones for each package that may ask, by their tokens from 128 on, and the interfaces, the nearest class's first
+-- package-visible ones for each package that may ask, by their tokens from 128 on, and the interfaces, the nearest
+-- class's first
 pub record Tabled : Type 0 where
   pub depth : ℕ
   pub public : List (Option MethodName)
@@ -41,7 +44,8 @@ row_at rows asker = unwrap_or (slice_get rows asker) []
 -- what a table has at a token, asked for the package that stands there
 abbrev pub entry_in : Tabled → ℕ → ℕ → Option MethodName
 entry_in table token asker =
-    if nat_lt token package_visible then place_at table.public token else place_at (row_at table.visible asker) (token - package_visible)
+    if nat_lt token package_visible then place_at table.public token
+    else place_at (row_at table.visible asker) (token - package_visible)
 
 -- under which virtual tokens an interface's methods stand
 abbrev pub indexes_in : List Listed → ClassName → Option (List ℕ)
@@ -70,26 +74,32 @@ pub record IsTabled (world : List Shape) (c : ClassName) (table : Tabled) : Type
   pub least : (n : ℕ) → comes_to_end world n c ≡ true → table.depth ≤ n
   pub depth : table.depth ≤ most_classes
   pub methods : (token asker : ℕ) → token < 256 → entry_in table token asker ≡ virtual_method_of world c token asker
-  pub interfaces : (interface : ClassName) → indexes_in table.listed interface ≡ found (interface_visit world interface) world c
+  pub interfaces : (interface : ClassName)
+      → indexes_in table.listed interface ≡ found (interface_visit world interface) world c
 
 -- a table has what the look-ups from the class above find
 pub record IsTabledAbove (world : List Shape) (c : ClassName) (above : Option Tabled) : Type 0 where
   pub ends : comes_to_end world (suc (depth_above above)) c ≡ true
   pub least : (n : ℕ) → comes_to_end world n c ≡ true → suc (depth_above above) ≤ n
-  pub methods : (token asker : ℕ) → token < 256 → entry_above above token asker ≡ option_and_then (λ d. virtual_method_of world d token asker) (superclass_of world c)
-  pub interfaces : (interface : ClassName) → indexes_in (listed_above above) interface ≡ option_and_then (found (interface_visit world interface) world) (superclass_of world c)
+  pub methods : (token asker : ℕ) → token < 256 → entry_above above token asker
+      ≡ option_and_then (λ d. virtual_method_of world d token asker) (superclass_of world c)
+  pub interfaces : (interface : ClassName) → indexes_in (listed_above above) interface
+      ≡ option_and_then (found (interface_visit world interface) world) (superclass_of world c)
 
 -- what a table is to have at a token: what the record says, or what the table above has
 abbrev pub entry_made : List Shape → Option Tabled → ℕ → RecordBody → ℕ → ℕ → Option MethodName
-entry_made world above home body token asker = found_from (record_visit world asker token home body) (entry_above above token asker)
+entry_made world above home body token asker =
+    found_from (record_visit world asker token home body) (entry_above above token asker)
 
 -- and for an interface
 abbrev pub indexes_made : List Shape → Option Tabled → ℕ → List Implemented → ClassName → Option (List ℕ)
-indexes_made world above home rows interface = found_from (indexes_visit (row_for world interface home rows)) (indexes_in (listed_above above) interface)
+indexes_made world above home rows interface =
+    found_from (indexes_visit (row_for world interface home rows)) (indexes_in (listed_above above) interface)
 
 -- a row of a class's record, by the interface that it names
 abbrev pub listed_row : List Shape → ℕ → Implemented → Option Listed
-listed_row world home row = option_map (λ c. record { interface = c; indexes = row.indexes }) (class_named world home row.interface)
+listed_row world home row =
+    option_map (λ c. record { interface = c; indexes = row.indexes }) (class_named world home row.interface)
 
 -- which of its package's classes a class is
 abbrev pub index_at : List Shape → ClassName → Option ℕ
@@ -97,7 +107,8 @@ index_at world c = option_and_then (λ shape. position (λ k. k.offset == offset
 
 -- the table of the class with an index of the package that stands there
 abbrev pub table_in : List (List (Option Tabled)) → ℕ → ℕ → Option Tabled
-table_in tables home index = option_and_then (λ (row : List (Option Tabled)). place_at row index) (slice_get tables home)
+table_in tables home index =
+    option_and_then (λ (row : List (Option Tabled)). place_at row index) (slice_get tables home)
 
 -- the table of a class, if there is one
 abbrev pub table_of : List Shape → List (List (Option Tabled)) → ClassName → Option Tabled
@@ -126,7 +137,8 @@ table_so_far world tables made c =
     option_and_then (place_at (rows_so_far tables made (home_of c))) (index_at world c)
 
 -- the last package's tables are being made: each is right, those of the other packages are all there, and there is room
-pub record AreInMaking (world : List Shape) (tables : List (List (Option Tabled))) (made : List (Option Tabled)) : Type 0 where
+pub record AreInMaking (world : List Shape) (tables : List (List (Option Tabled)))
+    (made : List (Option Tabled)) : Type 0 where
   pub small : IsSmall world
   pub count : length world ≡ suc (length tables)
   pub right : (c : ClassName) (table : Tabled) → table_so_far world tables made c ≡ Some table → IsTabled world c table
@@ -154,7 +166,8 @@ empty_places (None ∷ made) = suc (empty_places made)
 empty_places (Some table ∷ made) = empty_places made
 
 -- tables were made, or nothing changed
-pub record IsFurther (world : List Shape) (tables : List (List (Option Tabled))) (old new : List (Option Tabled)) (changed : Bool) : Type 0 where
+pub record IsFurther (world : List Shape) (tables : List (List (Option Tabled))) (old new : List (Option Tabled))
+    (changed : Bool) : Type 0 where
   pub making : AreInMaking world tables new
   pub same : changed ≡ false → new ≡ old
   pub fewer : changed ≡ true → empty_places new < empty_places old

@@ -1,6 +1,7 @@
 -- Which class is below which (Java Card Virtual Machine Specification, Verification types; Java Language Specification,
 -- Subtyping).
-use Rattle.std.specs.Prelude.{◌≡◌, ◌≢◌, ◌⊎◌, ℕ, zero, suc, ◌<◌, ◌≤◌, Bool, true, false, not, ◌&&◌, ◌||◌, Some, is_some, List, [], ◌∷◌, if◌then◌else◌}
+use Rattle.std.specs.Prelude.{◌≡◌, ◌≢◌, ◌⊎◌, ℕ, zero, suc, ◌<◌, ◌≤◌, Bool, true, false, not, ◌&&◌, ◌||◌, Some, is_some}
+use Rattle.std.specs.Prelude.{List, [], ◌∷◌, if◌then◌else◌}
 use Rattle.std.specs.List.{list_any}
 use Rattle.std.specs.Option.{option_map_or}
 use Rattle.jc_cap_class.specs.Component.{is_class}
@@ -60,12 +61,14 @@ pub record IsOrderly (world : List Shape) : Type 0 where
 pub record IsLeastAbove (world : List Shape) (one other above : ClassName) : Type 0 where
   pub first : IsSubtype world one above
   pub second : IsSubtype world other above
-  pub least : (e : ClassName) → is_class_at world e ≡ true → IsSubtype world one e → IsSubtype world other e → IsSubtype world above e
+  pub least : (e : ClassName) → is_class_at world e ≡ true → IsSubtype world one e → IsSubtype world other e
+      → IsSubtype world above e
 
 -- whether a class is another one or a superclass of it, within so many classes
 abbrev pub is_at_or_above : List Shape → ℕ → ClassName → ClassName → Bool
 is_at_or_above world zero d c = false
-is_at_or_above world (suc n) d c = is_same_name c d || option_map_or (is_at_or_above world n d) (superclass_of world c) false
+is_at_or_above world (suc n) d c =
+    is_same_name c d || option_map_or (is_at_or_above world n d) (superclass_of world c) false
 
 -- whether a class is another one, or a superclass of it leads there; Object is above all
 abbrev pub is_class_below : List Shape → ClassName → ClassName → Bool
@@ -84,18 +87,20 @@ is_subtype_within world (suc n) c d =
 abbrev pub is_subtype : List Shape → ClassName → ClassName → Bool
 is_subtype world c d = is_same_name (Api Object) d || is_subtype_within world most_classes c d
 
--- an order of classes: each is below itself, two that are below one another are one, and what is below a class is below all
--- that this class is below
+-- an order of classes: each is below itself, two that are below one another are one, and what is below a class is below
+-- all that this class is below
 pub record IsOrder (below : ClassName → ClassName → Bool) : Type 0 where
   pub reflexive : (c : ClassName) → below c c ≡ true
   pub antisymmetric : (c d : ClassName) → below c d ≡ true → below d c ≡ true → c ≡ d
   pub transitive : (c d e : ClassName) → below c d ≡ true → below d e ≡ true → below c e ≡ true
 
--- the first of a class and its superclasses, within so many, that another class is below too; Object where there is none
+-- the first of a class and its superclasses, within so many, that another class is below too; Object where there is
+-- none
 abbrev pub common_within : List Shape → ℕ → ClassName → ClassName → ClassName
 common_within world zero c d = Api Object
 common_within world (suc n) c d =
-    if is_class_below world d c then c else option_map_or (λ e. common_within world n e d) (superclass_of world c) (Api Object)
+    if is_class_below world d c then c
+    else option_map_or (λ e. common_within world n e d) (superclass_of world c) (Api Object)
 
 -- the nearest class above both of two
 abbrev pub common_class : List Shape → ClassName → ClassName → ClassName
@@ -105,15 +110,17 @@ common_class world c d = common_within world most_classes c d
 abbrev pub above_within : List Shape → ℕ → ClassName → ℕ
 above_within world zero c = 0
 above_within world (suc n) c =
-    if is_same_name (Api Object) c then 0 else option_map_or (λ e. suc (above_within world n e)) (superclass_of world c) 1
+    if is_same_name (Api Object) c then 0
+    else option_map_or (λ e. suc (above_within world n e)) (superclass_of world c) 1
 
 -- how many classes are above a class
 abbrev pub classes_above : List Shape → ClassName → ℕ
 classes_above world c = above_within world most_classes c
 
--- an order of classes with Object above all, in which each two have a least class above both, and in which a number falls with
--- each step upward, which is at most this one
-pub record IsClassLattice (below : ClassName → ClassName → Bool) (common : ClassName → ClassName → ClassName) (above : ClassName → ℕ) (most : ℕ) : Type 0 where
+-- an order of classes with Object above all, in which each two have a least class above both, and in which a number
+-- falls with each step upward, which is at most this one
+pub record IsClassLattice (below : ClassName → ClassName → Bool) (common : ClassName → ClassName → ClassName)
+    (above : ClassName → ℕ) (most : ℕ) : Type 0 where
   pub order : IsOrder below
   pub object : (c : ClassName) → below c (Api Object) ≡ true
   pub first : (c d : ClassName) → below c (common c d) ≡ true

@@ -1,6 +1,6 @@
--- Look-ups along superclasses (Java Card Virtual Machine Specification, Linking). A walk begins at a class, and goes from
--- superclass to superclass. Each look-up says what a class is for it: the class has what is looked for, or says that there
--- is nothing, or its superclass is asked.
+-- Look-ups along superclasses (Java Card Virtual Machine Specification, Linking). A walk begins at a class, and goes
+-- from superclass to superclass. Each look-up says what a class is for it: the class has what is looked for, or says
+-- that there is nothing, or its superclass is asked.
 use Rattle.std.specs.Prelude.{ℕ, zero, suc, ◌*◌, Option, Some, None, List}
 use Rattle.std.specs.Option.{option_and_then}
 use Rattle.jc_cap_desc.specs.Shape.{ClassShape, Shape}
@@ -24,7 +24,8 @@ found_from Above above = above
 abbrev pub walk : {A : Type 0} → (ClassName → ClassShape → Visit A) → List Shape → ℕ → ClassName → Option A
 walk visit world zero c = None
 walk visit world (suc steps) c =
-    option_and_then (λ k. found_from (visit c k) (option_and_then (walk visit world steps) (superclass_of world c))) (class_at world c)
+    option_and_then (λ k. found_from (visit c k) (option_and_then (walk visit world steps) (superclass_of world c)))
+    (class_at world c)
 
 -- a whole walk
 abbrev pub found : {A : Type 0} → (ClassName → ClassShape → Visit A) → List Shape → ClassName → Option A

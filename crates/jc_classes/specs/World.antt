@@ -1,7 +1,8 @@
--- A world: the shapes of the API's two packages, and of the loaded packages in the order in which they were loaded. Where
--- classes stand in it, and what references to classes lead to (Java Card Virtual Machine Specification, CAP file format:
--- class_ref; Linking).
-use Rattle.std.specs.Prelude.{ℕ, zero, suc, ◌+◌, ◌==◌, Bool, ◌&&◌, List, [], map, take, drop, Option, Some, None, is_some, slice_get, nat_le, bytes_eq, if◌then◌else◌}
+-- A world: the shapes of the API's two packages, and of the loaded packages in the order in which they were loaded.
+-- Where classes stand in it, and what references to classes lead to (Java Card Virtual Machine Specification, CAP file
+-- format: class_ref; Linking).
+use Rattle.std.specs.Prelude.{ℕ, zero, suc, ◌+◌, ◌==◌, Bool, ◌&&◌, List, [], map, take, drop, Option, Some, None}
+use Rattle.std.specs.Prelude.{is_some, slice_get, nat_le, bytes_eq, if◌then◌else◌}
 use Rattle.std.specs.List.{find, filter_map, position}
 use Rattle.std.specs.Option.{option_and_then, option_map, option_map_or}
 use Rattle.jc_base.specs.declared.class_ref.ClassRef.{ClassRef}
@@ -32,7 +33,8 @@ class_at world c = option_and_then (class_in (offset_of c)) (package_at world c)
 -- whether a package meets an import: its AID and its major version are those, and its minor version isn't smaller
 abbrev pub meets : PackageInfo → Shape → Bool
 meets wanted shape =
-    bytes_eq wanted.aid shape.«package».aid && wanted.major == shape.«package».major && nat_le wanted.minor shape.«package».minor
+    bytes_eq wanted.aid shape.«package».aid && wanted.major == shape.«package».major
+    && nat_le wanted.minor shape.«package».minor
 
 -- where the package stands that meets the import with a token: among those before, the first
 abbrev pub import_of : List Shape → ℕ → ℕ → Option ℕ
@@ -42,7 +44,8 @@ import_of world home token =
 
 -- where the loaded package with an AID stands, of those before a place; the API's two aren't loaded
 abbrev pub loaded_with : List Shape → ℕ → List ℕ → Option ℕ
-loaded_with world home aid = option_map (λ n. 2 + n) (position (λ shape. bytes_eq aid shape.«package».aid) (drop 2 (take home world)))
+loaded_with world home aid =
+    option_map (λ n. 2 + n) (position (λ shape. bytes_eq aid shape.«package».aid) (drop 2 (take home world)))
 
 -- the class that a package exports under a token
 abbrev pub exported_class : List Shape → ℕ → ℕ → Option ClassName
@@ -53,7 +56,8 @@ exported_class world home token =
 -- what a reference spells in the package that stands there
 abbrev pub class_spelled : List Shape → ℕ → ClassRef → Option ClassName
 class_spelled world home (Internal offset) = name_in home offset
-class_spelled world home (External import class) = option_and_then (λ there. exported_class world there class) (import_of world home import)
+class_spelled world home (External import class) =
+    option_and_then (λ there. exported_class world there class) (import_of world home import)
 
 -- a name that a class has
 abbrev pub if_there : List Shape → ClassName → Option ClassName
@@ -80,4 +84,5 @@ superclass_of world c =
 
 -- the interfaces that a class or an interface lists, found anew
 abbrev pub interfaces_of : List Shape → ClassName → List ClassName
-interfaces_of world c = option_map_or (λ k. filter_map (class_named world (home_of c)) (listed_refs k.body)) (class_at world c) []
+interfaces_of world c =
+    option_map_or (λ k. filter_map (class_named world (home_of c)) (listed_refs k.body)) (class_at world c) []

@@ -22,7 +22,8 @@ impl ClassTable {
         self.put_package(alloc, shape)
     }
 
-    /// Puts a shape behind the others, and makes the tables of its classes. Where no memory is left the table is as it was.
+    /// Puts a shape behind the others, and makes the tables of its classes. Where no memory is left the table is as it
+    /// was.
     pub(crate) fn put_package(
         &mut self,
         alloc: Global,

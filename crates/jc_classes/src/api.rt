@@ -5,7 +5,10 @@ ghost use Rattle.std.specs.Option.{option_map, option_and_then, option_to_list};
 ghost use Rattle.jc_api.specs.Class.{class_of, package_of, superclass_of};
 ghost use Rattle.jc_api.specs.Member.{shown};
 ghost use Rattle.jc_base.specs.Signature.{type_map, return_map};
-ghost use Rattle.jc_classes.specs.Api.{those_to, each_below, member_token, room_of, number_with, token_in, entry_of, entries_of, spelled_in, public_table, record_in, is_static, nargs_of, method_in, declared_by, method_of, class_in_api, class_with, class_shape_of, export_row, export_of, imports_of, api_shape, api_world, last_class, last_member};
+ghost use Rattle.jc_classes.specs.Api.{those_to, each_below, member_token, room_of, number_with, token_in, entry_of};
+ghost use Rattle.jc_classes.specs.Api.{entries_of, spelled_in, public_table, record_in, is_static, nargs_of, method_in};
+ghost use Rattle.jc_classes.specs.Api.{declared_by, method_of, class_in_api, class_with, class_shape_of, export_row};
+ghost use Rattle.jc_classes.specs.Api.{export_of, imports_of, api_shape, api_world, last_class, last_member};
 ghost use Rattle.jc_classes.specs.PrivateApi.{counts, if_token, with_room};
 ghost use Rattle.jc_classes.specs.PrivateShape.{record_of};
 ghost use Rattle.jc_classes.specs.declared.api.Tokens.TheVariants as Of;
@@ -291,7 +294,8 @@ fn put_method(
     class: ApiClass,
     number: u8,
 ) -> Result<(), AllocError>
-    ensures { OnOk result (methods.new.items ≡ methods.old.items ++ option_to_list (method_of binding.now class number)) }
+    ensures { OnOk result
+        (methods.new.items ≡ methods.old.items ++ option_to_list (method_of binding.now class number)) }
 {
     let Some(member) = declared_by(class, number) else {
         return Ok(());
@@ -383,7 +387,8 @@ fn put_class(
     which: ApiPackage,
     number: u8,
 ) -> Result<(), AllocError>
-    ensures { OnOk result (classes.new.items ≡ classes.old.items ++ option_to_list (class_shape_of binding.now which number)) }
+    ensures { OnOk result
+        (classes.new.items ≡ classes.old.items ++ option_to_list (class_shape_of binding.now which number)) }
 {
     let Some(class) = class_with(which, number) else {
         return Ok(());
@@ -444,7 +449,8 @@ fn exports_in(
     binding: &Binding,
     which: ApiPackage,
 ) -> Result<Vec<Export>, AllocError>
-    ensures { IfOk result (λ rows. rows.items ≡ each_below (room_of binding.now (Of.Classes which)) (export_of binding.now which)) }
+    ensures { IfOk result (λ rows.
+        rows.items ≡ each_below (room_of binding.now (Of.Classes which)) (export_of binding.now which)) }
 {
     let mut rows = Vec::new(alloc);
     let room = Tokens::Classes(which).room(binding);

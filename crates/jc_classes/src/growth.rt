@@ -5,8 +5,8 @@ ghost use Rattle.jc_cap_desc.specs.Shape.{Shape};
 ghost use Rattle.jc_classes.specs.Growth.{KeepsAllLookups, KeepsLookups, LiesWithin, StandWithin};
 ghost use Rattle.jc_classes.specs.Limits.{IsSmall};
 
-/// A package that is put behind the others of a world changes no look-up, no subtype and no reference of those before it:
-/// what was found is found as before, and what wasn't isn't.
+/// A package that is put behind the others of a world changes no look-up, no subtype and no reference of those before
+/// it: what was found is found as before, and what wasn't isn't.
 pub fn adding_keeps_lookups()
     ensures { (world : List Shape) (more : Shape) → KeepsLookups world more }
 {}

@@ -2,7 +2,8 @@
 
 ghost use Rattle.std.specs.Prelude.{◌≡◌, ◌+◌, ◌≤◌};
 ghost use Rattle.std.specs.Option.{option_map};
-ghost use Rattle.jc_classes.specs.Methods.{is_this, row_for, listing_visit, interface_visit, virtual_method_of, interface_method_of};
+ghost use Rattle.jc_classes.specs.Methods.{is_this, row_for, listing_visit, interface_visit, virtual_method_of};
+ghost use Rattle.jc_classes.specs.Methods.{interface_method_of};
 ghost use Rattle.jc_classes.specs.PrivateShape.{record_of};
 ghost use Rattle.jc_classes.specs.PrivateWalk.{step_map, visit_map, step_of};
 ghost use Rattle.jc_classes.specs.Walk.{found};
@@ -46,7 +47,8 @@ impl ClassTable {
         home: PackagePlace,
         body: &'a Body,
     ) -> Visit<&'a ImplementedInterface>
-        ensures { visit_map (λ row. row.now.indexes) result ≡ listing_visit self.now interface home (record_of body.now) }
+        ensures { visit_map (λ row. row.now.indexes) result
+            ≡ listing_visit self.now interface home (record_of body.now) }
     {
         match body {
             Body::Interface(_) => Visit::Nothing,
@@ -74,10 +76,11 @@ impl ClassTable {
         }
     }
 
-    /// The virtual tokens of an interface's methods, as the nearest class that lists it has them: what the class's table has, or
-    /// what a walk finds where it has none.
+    /// The virtual tokens of an interface's methods, as the nearest class that lists it has them: what the class's
+    /// table has, or what a walk finds where it has none.
     fn listing(&self, class: ClassName, interface: ClassName) -> Option<&[u8]>
-        ensures { option_map (λ indexes. indexes.now) result ≡ found (interface_visit self.now interface) self.now class }
+        ensures { option_map (λ indexes. indexes.now) result
+            ≡ found (interface_visit self.now interface) self.now class }
     {
         match self.table_of(class) {
             Some(table) => table.indexes(interface),
@@ -88,10 +91,11 @@ impl ClassTable {
         }
     }
 
-    /// The row for an interface of the nearest class that lists it, by a walk along the superclasses. Where it comes again
-    /// to a class that it remembers, there is none.
+    /// The row for an interface of the nearest class that lists it, by a walk along the superclasses. Where it comes
+    /// again to a class that it remembers, there is none.
     fn walked_row(&self, class: ClassName, interface: ClassName) -> Option<&ImplementedInterface>
-        ensures { option_map (λ row. row.now.indexes) result ≡ found (interface_visit self.now interface) self.now class }
+        ensures { option_map (λ row. row.now.indexes) result
+            ≡ found (interface_visit self.now interface) self.now class }
     {
         let mut at = class;
         let mut anchor = class;
@@ -109,8 +113,8 @@ impl ClassTable {
         None
     }
 
-    /// The virtual method of a class at a token (Java Card Virtual Machine Specification, Linking). A token from 128 on is
-    /// package-visible, and is looked up for the loaded package with the number `asker`, from 1 on: classes of other
+    /// The virtual method of a class at a token (Java Card Virtual Machine Specification, Linking). A token from 128 on
+    /// is package-visible, and is looked up for the loaded package with the number `asker`, from 1 on: classes of other
     /// packages are passed over. `None` where there is none, or where the superclass chain has a cycle.
     pub fn virtual_method(&self, class: ClassName, token: u8, asker: u8) -> Option<MethodName>
         ensures { result ≡ virtual_method_of self.now class token (asker + 1) }
@@ -119,9 +123,9 @@ impl ClassTable {
     }
 
     /// The method of an object's class that the token of an interface's method leads to (Java Card Virtual Machine
-    /// Specification, Linking and `invokeinterface`): the nearest class of its chain that lists the interface says under
-    /// which virtual token, and that is looked up from the object's class. `None` where no class lists it, or where the
-    /// token leads to no method.
+    /// Specification, Linking and `invokeinterface`): the nearest class of its chain that lists the interface says
+    /// under which virtual token, and that is looked up from the object's class. `None` where no class lists it, or
+    /// where the token leads to no method.
     pub fn interface_method(
         &self,
         class: ClassName,

@@ -3,7 +3,8 @@
 ghost use Rattle.std.specs.Prelude.{◌≡◌, slice_get};
 ghost use Rattle.jc_cap_class.specs.Component.{is_class};
 ghost use Rattle.jc_classes.specs.PrivateShape.{record_of};
-ghost use Rattle.jc_classes.specs.Record.{declared_size, public_entries, package_entries, superinterfaces, interface_rows};
+ghost use Rattle.jc_classes.specs.Record.{declared_size, public_entries, package_entries, superinterfaces};
+ghost use Rattle.jc_classes.specs.Record.{interface_rows};
 ghost use Rattle.jc_classes.specs.World.{superclass_ref, listed_refs};
 
 use crate::shape::{Body, Class, Export, Field, ImplementedInterface, Method, PackageShape, Table};

@@ -95,8 +95,8 @@ impl ClassTable {
         false
     }
 
-    /// Whether a class or interface implements an interface (Java Card Virtual Machine Specification, Class component): it
-    /// lists it, or its superclass or an interface that it lists implements it. There may be cycles of both.
+    /// Whether a class or interface implements an interface (Java Card Virtual Machine Specification, Class component):
+    /// it lists it, or its superclass or an interface that it lists implements it. There may be cycles of both.
     pub fn implements(&self, class: ClassName, interface: ClassName) -> bool
         ensures { IsTrue result ↔ Implements self.now class interface }
     {

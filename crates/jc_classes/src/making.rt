@@ -4,7 +4,8 @@ ghost use Rattle.std.specs.Prelude.{◌≡◌, ◌+◌, ◌≤◌, ◌++◌, ◌
 ghost use Rattle.std.specs.Option.{option_map};
 ghost use Rattle.jc_classes.specs.PrivateTables.{depth_above, index_at, name_placed, table_of, table_so_far};
 ghost use Rattle.jc_classes.specs.PrivateTables.{AreBefore, AreInMaking, AreSettled, AreTables};
-ghost use Rattle.jc_classes.specs.PrivateTables.{IsFurther, IsSettled, IsTabled, IsTabledAbove, IsWaiting, LacksTableAbove};
+ghost use Rattle.jc_classes.specs.PrivateTables.{IsFurther, IsSettled, IsTabled, IsTabledAbove, IsWaiting};
+ghost use Rattle.jc_classes.specs.PrivateTables.{LacksTableAbove};
 ghost use Rattle.jc_classes.specs.Subtype.{has_whole_chain};
 ghost use Rattle.jc_names.specs.Names.{home_of};
 
@@ -16,8 +17,8 @@ use jc_names::{ClassName, PackagePlace, name_in};
 use std::alloc::{AllocError, Global};
 
 impl ClassTable {
-    /// The table of a class or an interface. There is none only where neither stands there, or where the superclass chain
-    /// doesn't come to its end.
+    /// The table of a class or an interface. There is none only where neither stands there, or where the superclass
+    /// chain doesn't come to its end.
     pub(crate) fn table_of(&self, class: ClassName) -> Option<&MethodTable>
         ensures right { IfSome result (λ table. IsTabled self.now class table.now) }
         ensures none { IfNone result (has_whole_chain self.now class ≡ false) }
@@ -79,8 +80,8 @@ impl Shapes {
         }
     }
 
-    /// The table of a class or an interface. `None` where neither stands there, or where the class above has no table yet. A
-    /// chain of as many classes as there can be has a cycle.
+    /// The table of a class or an interface. `None` where neither stands there, or where the class above has no table
+    /// yet. A chain of as many classes as there can be has a cycle.
     fn table_made(
         &self,
         alloc: Global,

@@ -1,7 +1,8 @@
 //! Look-ups of methods.
 
 ghost use Rattle.std.specs.Prelude.{◌≡◌, ◌≤◌};
-ghost use Rattle.jc_classes.specs.Methods.{has_method, method_name, method_there, entry_visit, table_visit, record_visit, virtual_visit, virtual_method_of};
+ghost use Rattle.jc_classes.specs.Methods.{has_method, method_name, method_there, entry_visit, table_visit};
+ghost use Rattle.jc_classes.specs.Methods.{record_visit, virtual_visit, virtual_method_of};
 ghost use Rattle.jc_classes.specs.PrivateShape.{record_of};
 ghost use Rattle.jc_classes.specs.PrivateWalk.{step_of};
 
@@ -115,8 +116,8 @@ impl ClassTable {
         }
     }
 
-    /// The virtual method of a class at a token, asked for the package that stands there: what its table has. Where it has
-    /// none, no class stands there or its superclass chain has a cycle: then it is what a walk finds.
+    /// The virtual method of a class at a token, asked for the package that stands there: what its table has. Where it
+    /// has none, no class stands there or its superclass chain has a cycle: then it is what a walk finds.
     pub fn virtual_method_for(
         &self,
         class: ClassName,

@@ -3,7 +3,8 @@
 ghost use Rattle.std.specs.Prelude.{◌≡◌, ℕ, ◌==◌, ◌<◌, ◌≤◌, ◌^◌, Some, if◌then◌else◌, length, IfOk};
 ghost use Rattle.std.specs.List.{position};
 ghost use Rattle.jc_classes.specs.Limits.{most_classes_of_one};
-ghost use Rattle.jc_classes.specs.PrivatePlaces.{place_at, place_or, position_in, first_method, AreClassPlaces, AreMethodPlaces};
+ghost use Rattle.jc_classes.specs.PrivatePlaces.{place_at, place_or, position_in, first_method, AreClassPlaces};
+ghost use Rattle.jc_classes.specs.PrivatePlaces.{AreMethodPlaces};
 
 use crate::shape::{Body, Class, Export, Method, MethodPlace, PackageShape};
 use jc_base::PackageInfo;
@@ -33,7 +34,8 @@ pub(crate) fn make_room<T: Drop>(
 
 /// Puts a place at an offset.
 fn put<T: Copy>(places: &mut Vec<Option<T>>, offset: usize, place: T) -> Result<(), AllocError>
-    ensures { IfOk result (λ u. (i : ℕ) → place_at places.new.items i ≡ (if offset == i then Some place else place_at places.old.items i)) }
+    ensures { IfOk result (λ u. (i : ℕ)
+        → place_at places.new.items i ≡ (if offset == i then Some place else place_at places.old.items i)) }
 {
     make_room(places, offset)?;
     places[offset] = Some(place);
@@ -62,7 +64,8 @@ fn put_methods(
     methods: &[Method],
 ) -> Result<(), AllocError>
     requires { length methods.now < 2 ^ 16 }
-    ensures { IfOk result (λ u. (i : ℕ) → place_at places.new.items i ≡ place_or class (position (λ m. m.offset == i) methods.now) (place_at places.old.items i)) }
+    ensures { IfOk result (λ u. (i : ℕ) → place_at places.new.items i ≡ place_or class
+        (position (λ m. m.offset == i) methods.now) (place_at places.old.items i)) }
 {
     let mut left = methods.len();
     while left > 0 {
@@ -83,7 +86,8 @@ fn put_class(
     class: u8,
     found: &Class,
 ) -> Result<(), AllocError>
-    ensures { IfOk result (λ u. (i : ℕ) → place_at places.new.items i ≡ place_or class (position_in i found.now) (place_at places.old.items i)) }
+    ensures { IfOk result (λ u. (i : ℕ)
+        → place_at places.new.items i ≡ place_or class (position_in i found.now) (place_at places.old.items i)) }
 {
     match &found.body {
         Body::Interface(_) => Ok(()),
@@ -130,7 +134,12 @@ impl PackageShape {
         classes: Vec<Class>,
     ) -> Result<PackageShape, AllocError>
         requires { length classes.items ≤ most_classes_of_one }
-        ensures { IfOk result (λ made. made ≡ record { «package» = «package»; imports = imports.items; exports = exports.items; classes = classes.items }) }
+        ensures { IfOk result (λ made. made ≡ record {
+          «package» = «package»;
+          imports = imports.items;
+          exports = exports.items;
+          classes = classes.items;
+        }) }
     {
         let class_places = class_places(alloc, &classes)?;
         let method_places = method_places(alloc, &classes)?;

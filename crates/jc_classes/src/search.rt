@@ -4,7 +4,8 @@ ghost use Rattle.std.specs.Prelude.{◌≡◌, ◌<◌, ◌≤◌, [], ◌∷◌
 ghost use Rattle.std.specs.List.{cons_option, filter_map, position};
 ghost use Rattle.std.specs.Option.{option_and_then, option_map, option_map_or};
 ghost use Rattle.jc_classes.specs.Limits.{IsSmall, most_packages, most_classes_of_one};
-ghost use Rattle.jc_classes.specs.PrivateSearch.{above_in, place_in, place, class_placed, AreMarked, ArePassed, IsClosure};
+ghost use Rattle.jc_classes.specs.PrivateSearch.{above_in, place_in, place, class_placed, AreMarked, ArePassed};
+ghost use Rattle.jc_classes.specs.PrivateSearch.{IsClosure};
 ghost use Rattle.jc_classes.specs.PrivateShape.{record_of};
 ghost use Rattle.jc_classes.specs.World.{class_named};
 
@@ -96,7 +97,8 @@ impl ClassTable {
         list: &[Superinterface],
         marks: &mut NumberSet,
     ) -> bool
-        ensures { AreMarked self.now (filter_map (class_named self.now home) (map (λ i. i.interface) list.now)) marks.old marks.new result }
+        ensures { AreMarked self.now
+            (filter_map (class_named self.now home) (map (λ i. i.interface) list.now)) marks.old marks.new result }
     {
         let mut changed = false;
         for listed in list {
@@ -112,7 +114,8 @@ impl ClassTable {
         list: &[ImplementedInterface],
         marks: &mut NumberSet,
     ) -> bool
-        ensures { AreMarked self.now (filter_map (class_named self.now home) (map (λ i. i.interface) list.now)) marks.old marks.new result }
+        ensures { AreMarked self.now
+            (filter_map (class_named self.now home) (map (λ i. i.interface) list.now)) marks.old marks.new result }
     {
         let mut changed = false;
         for listed in list {
@@ -128,7 +131,8 @@ impl ClassTable {
         superclass: Option<ClassRef>,
         marks: &mut NumberSet,
     ) -> bool
-        ensures { AreMarked self.now (cons_option (option_and_then (class_named self.now home) superclass) []) marks.old marks.new result }
+        ensures { AreMarked self.now
+            (cons_option (option_and_then (class_named self.now home) superclass) []) marks.old marks.new result }
     {
         match superclass {
             Some(reference) => self.mark_named(home, reference, marks),

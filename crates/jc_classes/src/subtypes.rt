@@ -3,7 +3,8 @@
 ghost use Rattle.std.specs.Prelude.{◌≡◌, ◌⊎◌, ◌↔◌, true, IsTrue, None, List};
 ghost use Rattle.jc_cap_desc.specs.Shape.{Shape};
 ghost use Rattle.jc_classes.specs.Limits.{IsSmall};
-ghost use Rattle.jc_classes.specs.Subtype.{IsSubtype, IsOrderly, IsLeastAbove, IsOrder, IsClassLattice, is_at_or_above, is_class_at, is_class_below, is_subtype, common_class, classes_above};
+ghost use Rattle.jc_classes.specs.Subtype.{IsSubtype, IsOrderly, IsLeastAbove, IsOrder, IsClassLattice, is_at_or_above};
+ghost use Rattle.jc_classes.specs.Subtype.{is_class_at, is_class_below, is_subtype, common_class, classes_above};
 ghost use Rattle.jc_classes.specs.Walk.{most_classes};
 ghost use Rattle.jc_classes.specs.World.{superclass_of};
 
@@ -16,8 +17,8 @@ use jc_names::ClassName;
 const OBJECT: ClassName = ClassName::Api(ApiClass::Object);
 
 impl ClassTable {
-    /// Whether a class is another one or a superclass of it. The superclass chain may have a cycle: where the walk comes
-    /// again to a class that it remembers, the other one isn't above.
+    /// Whether a class is another one or a superclass of it. The superclass chain may have a cycle: where the walk
+    /// comes again to a class that it remembers, the other one isn't above.
     pub fn is_at_or_above(&self, above: ClassName, class: ClassName) -> bool
         ensures { result ≡ is_at_or_above self.now most_classes above class }
     {
@@ -39,8 +40,8 @@ impl ClassTable {
         false
     }
 
-    /// Whether a class is another one or below it, along superclasses; Object is above all. Where classes are in order and
-    /// the other one is a class, `is_subclass` says the same.
+    /// Whether a class is another one or below it, along superclasses; Object is above all. Where classes are in order
+    /// and the other one is a class, `is_subclass` says the same.
     pub fn is_class_below(&self, class: ClassName, above: ClassName) -> bool
         ensures { result ≡ is_class_below self.now class above }
     {
@@ -83,8 +84,8 @@ impl ClassTable {
         self.is_class(above) && self.is_subclass(class, above)
     }
 
-    /// A class that is above both of two: the nearest one above the first, or Object. Where no class's superclasses lead
-    /// round and what is listed as an interface is one, it is the least that is above both.
+    /// A class that is above both of two: the nearest one above the first, or Object. Where no class's superclasses
+    /// lead round and what is listed as an interface is one, it is the least that is above both.
     pub fn common_super(&self, one: ClassName, other: ClassName) -> ClassName
         ensures first { IsSubtype self.now one result }
         ensures second { IsSubtype self.now other result }
@@ -144,9 +145,14 @@ impl ClassTable {
 /// one by it exactly where that one is its subtype; each two classes have a least one above both, and the number of
 /// classes above falls with each step upward.
 pub fn superclass_laws()
-    ensures subtypes { (world : List Shape) → IsOrderly world → superclass_of world (ClassName.Api ApiClass.Object) ≡ None → (c d : ClassName) → is_class_at world d ≡ true → (is_class_below world c d ≡ true ↔ IsSubtype world c d) }
-    ensures order { (world : List Shape) → IsOrderly world → superclass_of world (ClassName.Api ApiClass.Object) ≡ None → IsOrder (is_class_below world) }
-    ensures lattice { (world : List Shape) → IsOrderly world → superclass_of world (ClassName.Api ApiClass.Object) ≡ None → IsClassLattice (is_class_below world) (common_class world) (classes_above world) most_classes }
+    ensures subtypes { (world : List Shape) → IsOrderly world
+        → superclass_of world (ClassName.Api ApiClass.Object) ≡ None → (c d : ClassName) → is_class_at world d ≡ true
+        → (is_class_below world c d ≡ true ↔ IsSubtype world c d) }
+    ensures order { (world : List Shape) → IsOrderly world → superclass_of world (ClassName.Api ApiClass.Object) ≡ None
+        → IsOrder (is_class_below world) }
+    ensures lattice { (world : List Shape) → IsOrderly world
+        → superclass_of world (ClassName.Api ApiClass.Object) ≡ None
+        → IsClassLattice (is_class_below world) (common_class world) (classes_above world) most_classes }
 {}
 
 /// What the steps of `is_subtype` find is a subtype, and in a world of no more classes than there may be they find all.

@@ -14,7 +14,8 @@ use jc_base::{Aid, ClassRef};
 use jc_names::{ClassName, PackagePlace};
 use std::marker::Model;
 
-/// The classes of a world: of the API's two packages, and of the loaded packages in the order in which they were put in.
+/// The classes of a world: of the API's two packages, and of the loaded packages in the order in which they were put
+/// in.
 #[derive(Drop)]
 pub struct ClassTable {
     pub(crate) shapes: Shapes,

@@ -5,7 +5,8 @@ ghost use Rattle.std.specs.List.{filter_map};
 ghost use Rattle.std.specs.Option.{option_map, option_to_list};
 ghost use Rattle.jc_classes.specs.PrivatePlaces.{place_at};
 ghost use Rattle.jc_cap_class.specs.Component.{is_class};
-ghost use Rattle.jc_classes.specs.PrivateTables.{no_methods, row_at, entry_in, indexes_in, depth_above, visible_above, listed_above, entry_made, listed_row, IsTabled, IsTabledAbove};
+ghost use Rattle.jc_classes.specs.PrivateTables.{no_methods, row_at, entry_in, indexes_in, depth_above, visible_above};
+ghost use Rattle.jc_classes.specs.PrivateTables.{listed_above, entry_made, listed_row, IsTabled, IsTabledAbove};
 ghost use Rattle.jc_classes.specs.Walk.{most_classes};
 ghost use Rattle.jc_classes.specs.World.{class_at};
 
@@ -70,7 +71,12 @@ impl Model for MethodTable {
 
     ghost Value = { Tabled };
 
-    ghost view = { λ t. record { depth = t.depth; public = t.public; visible = t.visible.items; listed = t.listed.items } };
+    ghost view = { λ t. record {
+      depth = t.depth;
+      public = t.public;
+      visible = t.visible.items;
+      listed = t.listed.items;
+    } };
 }
 
 /// The tables of the classes of a package, as far as they are made.
@@ -269,7 +275,8 @@ impl Shapes {
         asker: usize,
     ) -> Result<Vec<Option<MethodName>>, AllocError>
         requires first { first ≤ 128 }
-        ensures { IfOk result (λ made. (i : ℕ) → i < 128 → place_at made.items i ≡ entry_made self.now (option_map (λ t. t.now) above.entry) home found.now.body (first + i) asker) }
+        ensures { IfOk result (λ made. (i : ℕ) → i < 128 → place_at made.items i ≡ entry_made self.now
+            (option_map (λ t. t.now) above.entry) home found.now.body (first + i) asker) }
     {
         let mut methods = Vec::new(alloc);
         for i in 0..TOKENS {
@@ -289,7 +296,8 @@ impl Shapes {
         asker: usize,
     ) -> Result<MethodRow, AllocError>
         requires first { first ≤ 128 }
-        ensures { IfOk result (λ made. (i : ℕ) → i < 128 → place_at made i ≡ entry_made self.now (option_map (λ t. t.now) above.entry) home found.now.body (first + i) asker) }
+        ensures { IfOk result (λ made. (i : ℕ) → i < 128 → place_at made i ≡ entry_made self.now
+            (option_map (λ t. t.now) above.entry) home found.now.body (first + i) asker) }
     {
         let mut methods = self.methods_made(alloc, above, home, found, first, asker)?;
         trim(&mut methods);
@@ -305,7 +313,8 @@ impl Shapes {
         home: PackagePlace,
         found: &Class,
     ) -> Result<Vec<MethodRow>, AllocError>
-        ensures { IfOk result (λ made. (asker i : ℕ) → i < 128 → place_at (row_at made.items asker) i ≡ entry_made self.now (option_map (λ t. t.now) above.entry) home found.now.body (128 + i) asker) }
+        ensures { IfOk result (λ made. (asker i : ℕ) → i < 128 → place_at (row_at made.items asker) i
+            ≡ entry_made self.now (option_map (λ t. t.now) above.entry) home found.now.body (128 + i) asker) }
     {
         let mut rows = Vec::new(alloc);
         for asker in 0..askers(above, home) {
@@ -322,7 +331,8 @@ impl Shapes {
         row: &ImplementedInterface,
         listed: &mut Vec<ListedInterface>,
     ) -> Result<(), AllocError>
-        ensures { IfOk result (λ u. listed.new.items ≡ listed.old.items ++ option_to_list (listed_row self.now home row.now)) }
+        ensures { IfOk result (λ u.
+            listed.new.items ≡ listed.old.items ++ option_to_list (listed_row self.now home row.now)) }
     {
         if let Some(interface) = self.class_named(home, row.interface) {
             let indexes = Vec::from_slice(alloc, &row.indexes)?;
@@ -356,7 +366,8 @@ impl Shapes {
         home: PackagePlace,
         rows: &[ImplementedInterface],
     ) -> Result<Vec<ListedInterface>, AllocError>
-        ensures { IfOk result (λ made. made.items ≡ filter_map (listed_row self.now home) rows.now ++ listed_above (option_map (λ t. t.now) above.entry)) }
+        ensures { IfOk result (λ made. made.items
+            ≡ filter_map (listed_row self.now home) rows.now ++ listed_above (option_map (λ t. t.now) above.entry)) }
     {
         let mut listed = self.own_listed(alloc, home, rows)?;
         if let Some(table) = above {

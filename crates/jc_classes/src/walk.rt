@@ -7,8 +7,8 @@ use jc_names::ClassName;
 /// How many classes and interfaces there are at most.
 pub(crate) const MOST_CLASSES: u16 = 17_085;
 
-/// The class that a walk remembers behind so many steps: where it stands at each power of two, and else the one before. A
-/// walk that goes round meets it again.
+/// The class that a walk remembers behind so many steps: where it stands at each power of two, and else the one before.
+/// A walk that goes round meets it again.
 pub fn anchor_behind(steps: u16, at: ClassName, anchor: ClassName) -> ClassName
     ensures { (result ≡ at) ⊎ (result ≡ anchor) }
 {

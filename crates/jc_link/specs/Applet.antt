@@ -1,5 +1,5 @@
--- A package with an applet, as an example: its class extends Applet, overrides process, and has an install method; its pool names
--- the class, and register of it.
+-- A package with an applet, as an example: its class extends Applet, overrides process, and has an install method; its
+-- pool names the class, and register of it.
 use Rattle.std.specs.Prelude.{true, false, [], ◌∷◌, Some, None}
 use Rattle.jc_base.specs.declared.class_ref.ClassRef.TheVariants.{Internal, External}
 use Rattle.jc_base.specs.declared.declared_type.DeclaredType.TheVariants.{Byte, Short, Reference, ByteArray}
@@ -27,8 +27,20 @@ applet = record {
       is_abstract = false;
       fields = [];
       methods =
-          record { token = 0xFF; is_static = true; offset = 1; header = Some (record { is_abstract = false; max_stack = 1; nargs = 3; max_locals = 0 }); signature = record { parameters = ByteArray ∷ Short ∷ Byte ∷ []; result = Void } }
-          ∷ record { token = 5; is_static = false; offset = 10; header = Some (record { is_abstract = false; max_stack = 0; nargs = 2; max_locals = 0 }); signature = record { parameters = Reference (External 0 6) ∷ []; result = Void } }
+          record {
+            token = 0xFF;
+            is_static = true;
+            offset = 1;
+            header = Some (record { is_abstract = false; max_stack = 1; nargs = 3; max_locals = 0 });
+            signature = record { parameters = ByteArray ∷ Short ∷ Byte ∷ []; result = Void };
+          }
+          ∷ record {
+            token = 5;
+            is_static = false;
+            offset = 10;
+            header = Some (record { is_abstract = false; max_stack = 0; nargs = 2; max_locals = 0 });
+            signature = record { parameters = Reference (External 0 6) ∷ []; result = Void };
+          }
           ∷ [];
     } ∷ [];
   };

@@ -1,6 +1,8 @@
--- What makes a class or an interface unfit for its world, whatever it inherits (Java Card Virtual Machine Specification, Class
--- component; Descriptor component). Each is looked at with the place of its package and with its name.
-use Rattle.std.specs.Prelude.{ℕ, ◌+◌, ◌==◌, Bool, false, not, ◌&&◌, ◌||◌, nat_le, List, length, Option, Some, None, is_some, if◌then◌else◌}
+-- What makes a class or an interface unfit for its world, whatever it inherits (Java Card Virtual Machine
+-- Specification, Class component; Descriptor component). Each is looked at with the place of its package and with its
+-- name.
+use Rattle.std.specs.Prelude.{ℕ, ◌+◌, ◌==◌, Bool, false, not, ◌&&◌, ◌||◌, nat_le, List, length, Option, Some, None}
+use Rattle.std.specs.Prelude.{is_some, if◌then◌else◌}
 use Rattle.std.specs.List.{filter_map, list_any}
 use Rattle.std.specs.Option.{option_map_or}
 use Rattle.jc_cap_class.specs.Component.{is_class}
@@ -27,12 +29,15 @@ leads_round world c = option_map_or (is_at_or_above world most_classes c) (super
 
 -- a class or an interface that lists what is missing, or a class in place of an interface
 abbrev pub lists_no_interface : List Shape → ℕ → ClassShape → Bool
-lists_no_interface world home k = list_any (λ ref. not (option_map_or (is_interface_at world) (class_named world home ref) false)) (listed_refs k.body)
+lists_no_interface world home k =
+    list_any (λ ref. not (option_map_or (is_interface_at world) (class_named world home ref) false))
+    (listed_refs k.body)
 
 -- a type of its fields or methods that names neither a class nor an interface
 abbrev pub has_unknown_type : List Shape → ℕ → ClassShape → Bool
 has_unknown_type world home k =
-    list_any (λ f. not (is_some (field_type_of world home f))) k.fields || list_any (λ m. not (is_some (member_type_of world home m.signature))) k.methods
+    list_any (λ f. not (is_some (field_type_of world home f))) k.fields
+    || list_any (λ m. not (is_some (member_type_of world home m.signature))) k.methods
 
 -- the token of a field of objects
 abbrev pub instance_token : FieldShape → Option ℕ
@@ -57,10 +62,13 @@ is_inherited world c d = not d.method.is_static && is_at_or_above world most_cla
 -- an entry of a table that is no such method's offset
 abbrev pub is_bad_entry : List Shape → ℕ → ClassName → ℕ → Bool
 is_bad_entry world home c entry =
-    not (entry == declared_above) && not (option_map_or (is_inherited world c) (method_at world (method_name home entry)) false)
+    not (entry == declared_above)
+    && not (option_map_or (is_inherited world c) (method_at world (method_name home entry)) false)
 
 abbrev pub has_bad_entry : List Shape → ℕ → ClassName → ClassShape → Bool
-has_bad_entry world home c k = list_any (is_bad_entry world home c) (public_entries k.body) || list_any (is_bad_entry world home c) (package_entries k.body)
+has_bad_entry world home c k =
+    list_any (is_bad_entry world home c) (public_entries k.body)
+    || list_any (is_bad_entry world home c) (package_entries k.body)
 
 -- how many words of arguments a method takes by its type, `this` among them
 abbrev pub words_of : MethodShape → ℕ

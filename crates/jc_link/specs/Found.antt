@@ -1,9 +1,11 @@
--- Types whose classes are looked for: there is such a type where each of its classes is found. And when two types are one.
+-- Types whose classes are looked for: there is such a type where each of its classes is found. And when two types are
+-- one.
 use Rattle.std.specs.Prelude.{ℕ, ◌==◌, Bool, true, false, ◌&&◌, List, [], ◌∷◌, Option, Some, None}
 use Rattle.std.specs.Option.{option_and_then, option_map}
 use Rattle.jc_base.specs.Signature.{Signature}
 use Rattle.jc_base.specs.declared.declared_type.DeclaredType.{DeclaredType}
-use Rattle.jc_base.specs.declared.declared_type.DeclaredType.TheVariants.{Boolean, Byte, Short, Reference, BooleanArray, ByteArray, ShortArray, ReferenceArray}
+use Rattle.jc_base.specs.declared.declared_type.DeclaredType.TheVariants.{Boolean, Byte, Short, Reference, BooleanArray}
+use Rattle.jc_base.specs.declared.declared_type.DeclaredType.TheVariants.{ByteArray, ShortArray, ReferenceArray}
 use Rattle.jc_base.specs.declared.declared_type.ReturnType.{ReturnType}
 use Rattle.jc_base.specs.declared.declared_type.ReturnType.TheVariants.{Void, Value}
 use Rattle.jc_names.specs.Names.{is_same_name}
@@ -27,11 +29,13 @@ return_found find (Value type) = option_map Value (type_found find type)
 -- types with their classes found, if all are
 abbrev pub types_found : {C D : Type 0} → (C → Option D) → List (DeclaredType C) → Option (List (DeclaredType D))
 types_found find [] = Some []
-types_found find (type ∷ types) = option_and_then (λ t. option_map (λ ts. t ∷ ts) (types_found find types)) (type_found find type)
+types_found find (type ∷ types) =
+    option_and_then (λ t. option_map (λ ts. t ∷ ts) (types_found find types)) (type_found find type)
 
 abbrev pub signature_found : {C D : Type 0} → (C → Option D) → Signature C → Option (Signature D)
 signature_found find s =
-    option_and_then (λ parameters. option_map (λ result. record { parameters = parameters; result = result }) (return_found find s.result))
+    option_and_then (λ parameters. option_map (λ result. record { parameters = parameters; result = result })
+    (return_found find s.result))
     (types_found find s.parameters)
 
 -- what a type is, whatever its class; and its class

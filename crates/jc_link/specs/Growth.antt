@@ -20,10 +20,14 @@ HasApi world = 2 ≤ length world
 
 -- what is said of packages that are in the world is as before
 pub record KeepsLinking (world : List Shape) (more : Shape) : Type 0 where
-  pub types : (home : ℕ) (s : Signature ClassRef) → home < length world → member_type_of (grown world more) home s ≡ member_type_of world home s
-  pub names : (home : ℕ) (entry : PoolEntry) → HasApi world → home < length world → named_by (grown world more) home entry ≡ named_by world home entry
-  pub targets : (home : ℕ) (entry : PoolEntry) → HasApi world → home < length world → pool_target_of (grown world more) home entry ≡ pool_target_of world home entry
-  pub faults : (home : ℕ) (p : Package) → HasApi world → home < length world → linking_fault (grown world more) home p ≡ linking_fault world home p
+  pub types : (home : ℕ) (s : Signature ClassRef) → home < length world
+      → member_type_of (grown world more) home s ≡ member_type_of world home s
+  pub names : (home : ℕ) (entry : PoolEntry) → HasApi world → home < length world
+      → named_by (grown world more) home entry ≡ named_by world home entry
+  pub targets : (home : ℕ) (entry : PoolEntry) → HasApi world → home < length world
+      → pool_target_of (grown world more) home entry ≡ pool_target_of world home entry
+  pub faults : (home : ℕ) (p : Package) → HasApi world → home < length world
+      → linking_fault (grown world more) home p ≡ linking_fault world home p
 
 -- what is said of packages of the earlier world, and of their classes, methods and fields, is the same in the later one
 pub record KeepsAllLinking (before after : List Shape) : Type 0 where

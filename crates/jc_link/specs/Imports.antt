@@ -1,5 +1,5 @@
--- Imports that no package meets, and packages that are there twice (Java Card Virtual Machine Specification, Linking; Import
--- component).
+-- Imports that no package meets, and packages that are there twice (Java Card Virtual Machine Specification, Linking;
+-- Import component).
 use Rattle.std.specs.Prelude.{ℕ, Bool, not, List, length, Option, is_some, bytes_eq}
 use Rattle.std.specs.List.{find, list_any, range_with_len}
 use Rattle.jc_cap_desc.specs.Shape.{Shape}

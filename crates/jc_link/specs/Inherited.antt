@@ -1,7 +1,8 @@
--- What makes a class unfit for its world by what it inherits: methods that are lost, overridden with another type, or left
--- abstract, and interfaces that aren't implemented (Java Card Virtual Machine Specification, Class component:
+-- What makes a class unfit for its world by what it inherits: methods that are lost, overridden with another type, or
+-- left abstract, and interfaces that aren't implemented (Java Card Virtual Machine Specification, Class component:
 -- public_virtual_method_table, package_virtual_method_table, implemented_interface_info).
-use Rattle.std.specs.Prelude.{ℕ, zero, suc, ◌==◌, Bool, false, not, ◌&&◌, ◌||◌, List, [], ◌++◌, map, length, Option, is_some, slice_get}
+use Rattle.std.specs.Prelude.{ℕ, zero, suc, ◌==◌, Bool, false, not, ◌&&◌, ◌||◌, List, [], ◌++◌, map, length, Option}
+use Rattle.std.specs.Prelude.{is_some, slice_get}
 use Rattle.std.specs.List.{list_any, range_with_len}
 use Rattle.std.specs.Option.{option_and_then, option_map_or}
 use Rattle.jc_cap_class.specs.Component.{is_class}
@@ -29,9 +30,11 @@ package_tokens = range_with_len 128 128
 unfoldable pub virtual_tokens : List ℕ
 virtual_tokens = range_with_len 0 256
 
--- a token at which the superclass finds a method, and the class none; package-visible ones are looked up for the class's package
+-- a token at which the superclass finds a method, and the class none; package-visible ones are looked up for the
+-- class's package
 abbrev pub loses_at : List Shape → ℕ → ClassName → ℕ → Bool
-loses_at world home c token = is_some (method_above world home token c) && not (is_some (virtual_method_of world c token home))
+loses_at world home c token =
+    is_some (method_above world home token c) && not (is_some (virtual_method_of world c token home))
 
 abbrev pub loses_method : List Shape → ℕ → ClassName → Bool
 loses_method world home c = list_any (loses_at world home c) virtual_tokens
@@ -45,12 +48,14 @@ is_same_method (Loaded p m) (Api b) = false
 
 -- a method in place of another one, of another type
 abbrev pub is_other_type : List Shape → MethodName → MethodName → Bool
-is_other_type world m above = not (is_same_method m above) && not (have_same_type (method_type_of world m) (method_type_of world above))
+is_other_type world m above =
+    not (is_same_method m above) && not (have_same_type (method_type_of world m) (method_type_of world above))
 
 -- a token at which the class and its superclass find methods of different types
 abbrev pub retypes_at : List Shape → ℕ → ClassName → ℕ → Bool
 retypes_at world home c token =
-    option_map_or (λ m. option_map_or (is_other_type world m) (method_above world home token c) false) (virtual_method_of world c token home) false
+    option_map_or (λ m. option_map_or (is_other_type world m) (method_above world home token c) false)
+    (virtual_method_of world c token home) false
 
 abbrev pub overrides_with_another_type : List Shape → ℕ → ClassName → Bool
 overrides_with_another_type world home c = list_any (retypes_at world home c) virtual_tokens
@@ -68,7 +73,9 @@ abbrev pub leaves_package_abstract : List Shape → ClassName → ℕ → Bool
 leaves_package_abstract world c asker = list_any (leaves_at world c asker) package_tokens
 
 abbrev pub leaves_abstract : List Shape → ClassName → Bool
-leaves_abstract world c = list_any (leaves_at world c 0) public_tokens || list_any (leaves_package_abstract world c) (range_with_len 0 (length world))
+leaves_abstract world c =
+    list_any (leaves_at world c 0) public_tokens
+    || list_any (leaves_package_abstract world c) (range_with_len 0 (length world))
 
 -- a row of an interface, and where the package of its class stands
 pub record ListedRow : Type 0 where
@@ -77,7 +84,9 @@ pub record ListedRow : Type 0 where
 
 -- the rows of a class and of its superclasses, within so many classes
 abbrev pub rows_of : List Shape → ClassName → List ListedRow
-rows_of world c = option_map_or (λ k. map (λ row. record { home = home_of c; row = row }) (interface_rows k.body)) (class_at world c) []
+rows_of world c =
+    option_map_or (λ k. map (λ row. record { home = home_of c; row = row }) (interface_rows k.body))
+    (class_at world c) []
 
 abbrev pub rows_along : List Shape → ℕ → ClassName → List ListedRow
 rows_along world zero c = []
@@ -95,11 +104,14 @@ method_for world c indexes token = option_and_then (public_method_of world c) (s
 abbrev pub is_unimplemented : List Shape → ClassName → List ℕ → ℕ → MethodShape → Bool
 is_unimplemented world c indexes home m =
     is_some (member_type_of world home m.signature)
-    && not (have_same_type (member_type_of world home m.signature) (option_and_then (method_type_of world) (method_for world c indexes m.token)))
+    && not (have_same_type (member_type_of world home m.signature)
+    (option_and_then (method_type_of world) (method_for world c indexes m.token)))
 
 -- an interface with such a method
 abbrev pub lacks_methods_of : List Shape → ClassName → List ℕ → ClassName → Bool
-lacks_methods_of world c indexes interface = option_map_or (λ k. list_any (is_unimplemented world c indexes (home_of interface)) k.methods) (class_at world interface) false
+lacks_methods_of world c indexes interface =
+    option_map_or (λ k. list_any (is_unimplemented world c indexes (home_of interface)) k.methods)
+    (class_at world interface) false
 
 -- a row that the class doesn't keep
 abbrev pub breaks_row : List Shape → ClassName → ListedRow → Bool

@@ -1,5 +1,5 @@
--- Types whose classes are known, and what a world says of the types in it: they name classes that are there, as an interface counts
--- as Object (Java Card Virtual Machine Specification, Linking; Verification types).
+-- Types whose classes are known, and what a world says of the types in it: they name classes that are there, as an
+-- interface counts as Object (Java Card Virtual Machine Specification, Linking; Verification types).
 use Rattle.std.specs.Prelude.{◌≡◌, ℕ, Bool, true, ◌&&◌, List, Some}
 use Rattle.std.specs.List.{list_all}
 use Rattle.std.specs.Option.{option_map_or}
@@ -44,13 +44,16 @@ is_known_target world (To.VirtualMethod c token signature) = is_known_signature 
 is_known_target world (To.SuperMethod c m signature) = is_known_signature (is_class_at world) signature
 is_known_target world (To.StaticMethod c m is_static signature) = is_known_signature (is_class_at world) signature
 
--- what types name in a world are classes that are there: Object and Throwable, what has a superclass, the nearest class above two
--- of which the first is one, those in the types of members, those that declare methods, and those that entries of pools lead to
+-- what types name in a world are classes that are there: Object and Throwable, what has a superclass, the nearest class
+-- above two of which the first is one, those in the types of members, those that declare methods, and those that
+-- entries of pools lead to
 pub record NameClasses (world : List Shape) : Type 0 where
   pub object : is_class_at world (Api Object) ≡ true
   pub throwable : is_class_at world (Api Throwable) ≡ true
   pub heirs : (c d : ClassName) → superclass_of world c ≡ Some d → is_class_at world c ≡ true
   pub common : (c d : ClassName) → is_class_at world c ≡ true → is_class_at world (common_class world c d) ≡ true
-  pub members : (home : ℕ) (s : Signature ClassRef) (t : Signature ClassName) → member_type_of world home s ≡ Some t → is_known_signature (is_class_at world) t ≡ true
+  pub members : (home : ℕ) (s : Signature ClassRef) (t : Signature ClassName) → member_type_of world home s ≡ Some t
+      → is_known_signature (is_class_at world) t ≡ true
   pub declared : (m : MethodName) (d : DeclaredMethod) → method_at world m ≡ Some d → is_class_at world d.class ≡ true
-  pub targets : (home : ℕ) (entry : PoolEntry) (target : PoolTarget) → pool_target_of world home entry ≡ Some target → is_known_target world target ≡ true
+  pub targets : (home : ℕ) (entry : PoolEntry) (target : PoolTarget) → pool_target_of world home entry ≡ Some target
+      → is_known_target world target ≡ true

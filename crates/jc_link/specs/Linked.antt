@@ -1,5 +1,7 @@
--- Packages that are bound to those before them, and the world of those (Java Card Virtual Machine Specification, Linking).
-use Rattle.std.specs.Prelude.{◌≡◌, ◌⊎◌, ℕ, ◌+◌, ◌<◌, ◌-◌, List, [], ◌∷◌, ◌++◌, map, length, take, true, Option, Some, Result, Ok, Err, is_some, slice_get}
+-- Packages that are bound to those before them, and the world of those (Java Card Virtual Machine Specification,
+-- Linking).
+use Rattle.std.specs.Prelude.{◌≡◌, ◌⊎◌, ℕ, ◌+◌, ◌<◌, ◌-◌, List, [], ◌∷◌, ◌++◌, map, length, take, true, Option, Some}
+use Rattle.std.specs.Prelude.{Result, Ok, Err, is_some, slice_get}
 use Rattle.jc_base.specs.declared.fault.LoadFault.{LoadFault}
 use Rattle.jc_base.specs.declared.fault.LoadFault.TheVariants.{Memory}
 use Rattle.jc_base.specs.Parts.{Infos}
@@ -18,7 +20,8 @@ use Rattle.jc_link.specs.Target.{pool_targets}
 use Rattle.jc_link.specs.WellFormed.{IsWellFormed, fault_behind}
 use Rattle.jc_link.specs.declared.target.PoolTarget.{PoolTarget}
 
--- what a linked package has beside the shapes: what is kept of its body, and for each entry of its pool what it leads to
+-- what a linked package has beside the shapes: what is kept of its body, and for each entry of its pool what it leads
+-- to
 pub record LinkedBody : Type 0 where
   pub kept : Kept
   pub targets : List PoolTarget
@@ -43,7 +46,9 @@ IsResolved world home body = map Some body.targets ≡ pool_targets world home b
 
 -- each method of a class of the package that stands there has its header
 abbrev pub AreHeaded : List Shape → ℕ → Type 0
-AreHeaded world home = (offset : ℕ) (d : DeclaredMethod) → method_at world (method_name home offset) ≡ Some d → is_some d.method.header ≡ true
+AreHeaded world home =
+    (offset : ℕ) (d : DeclaredMethod) → method_at world (method_name home offset) ≡ Some d
+    → is_some d.method.header ≡ true
 
 -- each method of a class of the package that stands there, unless it is abstract, has code
 abbrev pub AreCoded : List Shape → ℕ → List MethodBody → Type 0
@@ -75,8 +80,8 @@ abbrev pub AreInstallable : List Shape → ℕ → Kept → Type 0
 AreInstallable world home kept = (applets : List Applet) (n : ℕ) (a : Applet) → kept.applets ≡ Some applets
     → slice_get applets n ≡ Some a → HasInstall world home kept.methods a.install
 
--- a loaded package where it stands, with what is kept of it: it was read of an image, and it is well-formed in the world of those
--- before it. So each fact of linking holds of it: its pool's types, its static image, its classes
+-- a loaded package where it stands, with what is kept of it: it was read of an image, and it is well-formed in the
+-- world of those before it. So each fact of linking holds of it: its pool's types, its static image, its classes
 pub record IsLoadedAt (world : List Shape) (home : ℕ) (kept : Kept) : Type 0 where
   pub «package» : Package
   pub there : slice_get world home ≡ Some «package».shape
@@ -108,7 +113,8 @@ pub record IsWorld (w : World) : Type 0 where
   pub count : length w.shapes ≡ 2 + length w.bodies
   pub known : (n : ℕ) (body : LinkedBody) → slice_get w.bodies n ≡ Some body → IsKnown w.shapes (2 + n) body
 
--- this package, bound to the packages of a world: it is well-formed there, and each entry of its pool leads to its target
+-- this package, bound to the packages of a world: it is well-formed there, and each entry of its pool leads to its
+-- target
 pub record IsLinked (before : List Shape) (p : Package) (l : Linked) : Type 0 where
   pub fine : IsWellFormed before p
   pub world : l.world ≡ grown before p.shape

@@ -1,5 +1,5 @@
--- The types of members (Java Card Virtual Machine Specification, Descriptor component): those of their rows, with the classes
--- found that are spelled there. An interface counts as Object.
+-- The types of members (Java Card Virtual Machine Specification, Descriptor component): those of their rows, with the
+-- classes found that are spelled there. An interface counts as Object.
 use Rattle.std.specs.Prelude.{ℕ, Bool, List, [], Option, if◌then◌else◌}
 use Rattle.std.specs.Option.{option_and_then, option_map}
 use Rattle.jc_base.specs.Signature.{Signature}

@@ -1,6 +1,7 @@
--- What entries of the constant pool name (Java Card Virtual Machine Specification, Constant Pool component: cp_info; Linking),
--- found anew at each use.
-use Rattle.std.specs.Prelude.{ℕ, zero, suc, ◌+◌, ◌==◌, Bool, false, not, List, Option, Some, None, slice_get, if◌then◌else◌}
+-- What entries of the constant pool name (Java Card Virtual Machine Specification, Constant Pool component: cp_info;
+-- Linking), found anew at each use.
+use Rattle.std.specs.Prelude.{ℕ, zero, suc, ◌+◌, ◌==◌, Bool, false, not, List, Option, Some, None, slice_get}
+use Rattle.std.specs.Prelude.{if◌then◌else◌}
 use Rattle.std.specs.List.{find, flat_map}
 use Rattle.std.specs.Option.{option_and_then, option_map, option_map_or}
 use Rattle.jc_cap_data.specs.declared.exports.ExportedClass.{ExportedClass}
@@ -8,7 +9,8 @@ use Rattle.jc_cap_desc.specs.Shape.{ClassShape, FieldShape, MethodShape, Shape}
 use Rattle.jc_cap_desc.specs.declared.class_row.FieldPlace.{FieldPlace}
 use Rattle.jc_cap_desc.specs.declared.class_row.FieldPlace.TheVariants.{Static, Instance}
 use Rattle.jc_cap_pool.specs.declared.entry.PoolEntry.{PoolEntry}
-use Rattle.jc_cap_pool.specs.declared.entry.PoolEntry.TheVariants.{Classref, InstanceFieldref, VirtualMethodref, SuperMethodref, StaticFieldref, StaticMethodref}
+use Rattle.jc_cap_pool.specs.declared.entry.PoolEntry.TheVariants.{Classref, InstanceFieldref, VirtualMethodref}
+use Rattle.jc_cap_pool.specs.declared.entry.PoolEntry.TheVariants.{SuperMethodref, StaticFieldref, StaticMethodref}
 use Rattle.jc_cap_pool.specs.declared.entry.StaticRef.{StaticRef}
 use Rattle.jc_cap_pool.specs.declared.entry.StaticRef.TheVariants.{Internal, External}
 use Rattle.jc_classes.specs.Members.{method_at}
@@ -58,11 +60,13 @@ cells_above world (suc n) c = option_map_or (λ d. size_of world d + cells_above
 abbrev pub exported_place : (ExportedClass → List ℕ) → List Shape → ℕ → ℕ → ℕ → Option StaticPlace
 exported_place tokens world there class token =
     option_map (λ offset. record { home = there; offset = offset })
-    (option_and_then (λ row. slice_get (tokens row) token) (option_and_then (λ shape. slice_get shape.exports class) (slice_get world there)))
+    (option_and_then (λ row. slice_get (tokens row) token)
+    (option_and_then (λ shape. slice_get shape.exports class) (slice_get world there)))
 
 abbrev pub static_place : (ExportedClass → List ℕ) → List Shape → ℕ → StaticRef → Option StaticPlace
 static_place tokens world home (Internal offset) = Some (record { home = home; offset = offset })
-static_place tokens world home (External import class token) = option_and_then (λ there. exported_place tokens world there class token) (import_of world home import)
+static_place tokens world home (External import class token) =
+    option_and_then (λ there. exported_place tokens world there class token) (import_of world home import)
 
 -- whether a method is there that isn't abstract
 abbrev pub is_abstract_method : MethodShape → Bool
@@ -81,7 +85,9 @@ named_field world token c = option_map (λ f. Names.InstanceField c token) (inst
 
 -- a virtual method of a class, which is no interface, looked up for the package that stands there
 abbrev pub named_virtual : List Shape → ℕ → ℕ → ClassName → Option Named
-named_virtual world home token c = if is_class_at world c then option_map (Names.VirtualMethod c token) (virtual_method_of world c token home) else None
+named_virtual world home token c =
+    if is_class_at world c then option_map (Names.VirtualMethod c token) (virtual_method_of world c token home)
+    else None
 
 -- a virtual method, not abstract, of the superclass of a class, looked up for the package that stands there
 abbrev pub method_above : List Shape → ℕ → ℕ → ClassName → Option MethodName
@@ -89,7 +95,9 @@ method_above world home token c = option_and_then (λ d. virtual_method_of world
 
 abbrev pub named_above : List Shape → ℕ → ℕ → ClassName → Option Named
 named_above world home token c =
-    if is_class_at world c then option_map (Names.SuperMethod c) (option_and_then (if_passes (is_concrete world)) (method_above world home token c)) else None
+    if is_class_at world c then option_map (Names.SuperMethod c)
+    (option_and_then (if_passes (is_concrete world)) (method_above world home token c))
+    else None
 
 -- a static field
 abbrev pub named_static_field : List Shape → StaticPlace → Option Named
@@ -97,13 +105,18 @@ named_static_field world place = option_map (λ f. Names.StaticField place) (sta
 
 -- a static method or a constructor, not abstract
 abbrev pub named_static_method : List Shape → StaticPlace → Option Named
-named_static_method world place = option_map Names.StaticMethod (if_passes (is_concrete world) (method_name place.home place.offset))
+named_static_method world place =
+    option_map Names.StaticMethod (if_passes (is_concrete world) (method_name place.home place.offset))
 
 -- what an entry of the package that stands there names
 abbrev pub named_by : List Shape → ℕ → PoolEntry → Option Named
 named_by world home (Classref ref) = option_map Names.Class (class_named world home ref)
 named_by world home (InstanceFieldref m) = option_and_then (named_field world m.token) (class_named world home m.class)
-named_by world home (VirtualMethodref m) = option_and_then (named_virtual world home m.token) (class_named world home m.class)
-named_by world home (SuperMethodref m) = option_and_then (named_above world home m.token) (class_named world home m.class)
-named_by world home (StaticFieldref s) = option_and_then (named_static_field world) (static_place (λ row. row.fields) world home s)
-named_by world home (StaticMethodref s) = option_and_then (named_static_method world) (static_place (λ row. row.methods) world home s)
+named_by world home (VirtualMethodref m) =
+    option_and_then (named_virtual world home m.token) (class_named world home m.class)
+named_by world home (SuperMethodref m) =
+    option_and_then (named_above world home m.token) (class_named world home m.class)
+named_by world home (StaticFieldref s) =
+    option_and_then (named_static_field world) (static_place (λ row. row.fields) world home s)
+named_by world home (StaticMethodref s) =
+    option_and_then (named_static_method world) (static_place (λ row. row.methods) world home s)

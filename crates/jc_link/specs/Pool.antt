@@ -1,5 +1,6 @@
--- Entries of the constant pool that name nothing, or not what their tag asks, and entries whose stated type isn't that of the
--- member (Java Card Virtual Machine Specification, Constant Pool component; Descriptor component: constant_pool_types).
+-- Entries of the constant pool that name nothing, or not what their tag asks, and entries whose stated type isn't that
+-- of the member (Java Card Virtual Machine Specification, Constant Pool component; Descriptor component:
+-- constant_pool_types).
 use Rattle.std.specs.Prelude.{ℕ, Bool, true, false, not, ◌&&◌, List, length, Option, Some, None, is_some, slice_get}
 use Rattle.std.specs.List.{find, position, range_with_len}
 use Rattle.std.specs.Option.{option_and_then, option_map_or}
@@ -7,7 +8,8 @@ use Rattle.jc_base.specs.Signature.{Signature}
 use Rattle.jc_base.specs.declared.class_ref.ClassRef.{ClassRef}
 use Rattle.jc_cap_desc.specs.Shape.{Body, Shape}
 use Rattle.jc_cap_pool.specs.declared.entry.PoolEntry.{PoolEntry}
-use Rattle.jc_cap_pool.specs.declared.entry.PoolEntry.TheVariants.{Classref, InstanceFieldref, VirtualMethodref, SuperMethodref, StaticFieldref, StaticMethodref}
+use Rattle.jc_cap_pool.specs.declared.entry.PoolEntry.TheVariants.{Classref, InstanceFieldref, VirtualMethodref}
+use Rattle.jc_cap_pool.specs.declared.entry.PoolEntry.TheVariants.{SuperMethodref, StaticFieldref, StaticMethodref}
 use Rattle.jc_link.specs.MemberType.{have_same_type, member_type_of}
 use Rattle.jc_link.specs.Named.{named_by}
 use Rattle.jc_link.specs.Target.{named_type_of}
@@ -33,12 +35,15 @@ is_member (StaticMethodref s) = true
 abbrev pub is_mistyped : List Shape → ℕ → PoolEntry → Option (Signature ClassRef) → Bool
 is_mistyped world home entry None = false
 is_mistyped world home entry (Some stated) =
-    is_member entry && not (have_same_type (member_type_of world home stated) (option_and_then (named_type_of world) (named_by world home entry)))
+    is_member entry && not (have_same_type (member_type_of world home stated)
+    (option_and_then (named_type_of world) (named_by world home entry)))
 
 -- the index of the first
 abbrev pub is_mistyped_at : List Shape → ℕ → Body → ℕ → Bool
 is_mistyped_at world home body index =
-    option_map_or (λ entry. is_mistyped world home entry (option_and_then (λ type. type) (slice_get body.pool_types index))) (slice_get body.pool index) false
+    option_map_or
+    (λ entry. is_mistyped world home entry (option_and_then (λ type. type) (slice_get body.pool_types index)))
+    (slice_get body.pool index) false
 
 abbrev pub first_mistyped : List Shape → ℕ → Body → Option ℕ
 first_mistyped world home body = find (is_mistyped_at world home body) (range_with_len 0 (length body.pool))

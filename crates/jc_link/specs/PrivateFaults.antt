@@ -11,9 +11,11 @@ use Rattle.jc_link.specs.WellFormed.{duplicate, first_bad_class}
 
 abbrev pub pool_fault : List Shape → ℕ → Body → Option LoadFault
 pool_fault world home body =
-    option_or (option_map Unresolved (first_unresolved world home body.pool)) (option_map TypeMismatch (first_mistyped world home body))
+    option_or (option_map Unresolved (first_unresolved world home body.pool))
+    (option_map TypeMismatch (first_mistyped world home body))
 
 abbrev pub class_fault : List Shape → ℕ → Shape → Body → Option LoadFault
 class_fault world home shape body =
     option_or (option_map BadClass (first_bad_class world home shape))
-    (option_or (option_map BadStatic (first_bad_static body.statics shape)) (duplicate (is_there_already (take home world) shape)))
+    (option_or (option_map BadStatic (first_bad_static body.statics shape))
+    (duplicate (is_there_already (take home world) shape)))

@@ -1,4 +1,5 @@
--- Private. A class that is fit for its world: none of what makes a class unfit holds of it, but that Object has no superclass.
+-- Private. A class that is fit for its world: none of what makes a class unfit holds of it, but that Object has no
+-- superclass.
 use Rattle.std.specs.Prelude.{◌≡◌, ◌⊎◌, ℕ, false, List, Some, None, slice_get}
 use Rattle.jc_cap_desc.specs.Shape.{ClassShape, Shape}
 use Rattle.jc_api.specs.declared.class.ApiClass.TheVariants.{Object}
@@ -7,7 +8,8 @@ use Rattle.jc_names.specs.Names.{home_of}
 use Rattle.jc_classes.specs.World.{class_at, superclass_of}
 use Rattle.jc_names.specs.declared.name.ClassName.{ClassName}
 use Rattle.jc_names.specs.declared.name.ClassName.TheVariants.{Api}
-use Rattle.jc_link.specs.Classes.{lacks_superclass, leads_round, lists_no_interface, has_unknown_type, has_field_past_size, has_bad_entry, has_other_nargs}
+use Rattle.jc_link.specs.Classes.{lacks_superclass, leads_round, lists_no_interface, has_unknown_type}
+use Rattle.jc_link.specs.Classes.{has_field_past_size, has_bad_entry, has_other_nargs}
 use Rattle.jc_link.specs.Inherited.{loses_method, overrides_with_another_type, is_unfinished}
 
 -- Object, which has nothing above it
@@ -38,4 +40,6 @@ pub record IsFitThere (world : List Shape) (home : ℕ) (k : ClassShape) : Type 
   pub fit : IsFit world class k
 
 abbrev pub AreAllFit : List Shape → Type 0
-AreAllFit world = (home n : ℕ) (shape : Shape) (k : ClassShape) → slice_get world home ≡ Some shape → slice_get shape.classes n ≡ Some k → IsFitThere world home k
+AreAllFit world =
+    (home n : ℕ) (shape : Shape) (k : ClassShape) → slice_get world home ≡ Some shape
+    → slice_get shape.classes n ≡ Some k → IsFitThere world home k

@@ -21,4 +21,5 @@ bad_offset image all f = option_and_then (offset_if_bad image all) (static_of f)
 
 -- the least offset of a bad static field among some fields
 abbrev pub first_bad_among : StaticImage → List StaticField → List FieldShape → Option ℕ
-first_bad_among image all fields = least (map (λ f. f.offset) (filter (is_bad_static image all) (filter_map static_of fields)))
+first_bad_among image all fields =
+    least (map (λ f. f.offset) (filter (is_bad_static image all) (filter_map static_of fields)))

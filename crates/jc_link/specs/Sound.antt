@@ -1,5 +1,5 @@
--- What a machine relies on in the world of a card (Java Card Virtual Machine Specification, Binary Compatibility; getfield,
--- invokevirtual, invokespecial, invokestatic, invokeinterface).
+-- What a machine relies on in the world of a card (Java Card Virtual Machine Specification, Binary Compatibility;
+-- getfield, invokevirtual, invokespecial, invokestatic, invokeinterface).
 use Rattle.std.specs.Prelude.{◌≡◌, ℕ, ◌+◌, ◌<◌, Bool, true, false, List, length, Some, None, IsSome, is_some, slice_get}
 use Rattle.std.specs.List.{list_all}
 use Rattle.jc_cap_class.specs.Component.{is_class}
@@ -34,18 +34,23 @@ pub record HaveSuperclasses (world : List Shape) : Type 0 where
   pub object : (c : ClassName) → is_class_at world c ≡ true → IsHeir world c (Api Object)
   pub top : superclass_of world (Api Object) ≡ None
 
--- a field of objects has a type, and a cell among those of its class, which stand behind those of the superclass; a static field
--- has a type
+-- a field of objects has a type, and a cell among those of its class, which stand behind those of the superclass; a
+-- static field has a type
 pub record HaveFields (world : List Shape) : Type 0 where
-  pub types : (c : ClassName) (token : ℕ) (f : FieldShape) → instance_field_at world c token ≡ Some f → IsSome (instance_type_of world c token)
-  pub cells : (c : ClassName) (token : ℕ) (f : FieldShape) → instance_field_at world c token ≡ Some f → token < size_of world c
-  pub above : (c d : ClassName) → superclass_of world c ≡ Some d → cells_above world most_classes c ≡ size_of world d + cells_above world most_classes d
-  pub statics : (place : StaticPlace) (f : FieldShape) → static_field_at world place ≡ Some f → IsSome (static_type_of world place)
+  pub types : (c : ClassName) (token : ℕ) (f : FieldShape) → instance_field_at world c token ≡ Some f
+      → IsSome (instance_type_of world c token)
+  pub cells : (c : ClassName) (token : ℕ) (f : FieldShape) → instance_field_at world c token ≡ Some f
+      → token < size_of world c
+  pub above : (c d : ClassName) → superclass_of world c ≡ Some d
+      → cells_above world most_classes c ≡ size_of world d + cells_above world most_classes d
+  pub statics : (place : StaticPlace) (f : FieldShape) → static_field_at world place ≡ Some f
+      → IsSome (static_type_of world place)
 
 -- a method has a type, and its header counts the words of its arguments
 pub record HaveMethods (world : List Shape) : Type 0 where
   pub types : (m : MethodName) (d : DeclaredMethod) → method_at world m ≡ Some d → IsSome (declared_type_of world d)
-  pub words : (m : MethodName) (d : DeclaredMethod) (h : MethodHeader) → method_at world m ≡ Some d → d.method.header ≡ Some h → h.nargs ≡ words_of d.method
+  pub words : (m : MethodName) (d : DeclaredMethod) (h : MethodHeader) → method_at world m ≡ Some d
+      → d.method.header ≡ Some h → h.nargs ≡ words_of d.method
 
 -- a method that a class finds is there, isn't static, and is declared by the class or above it
 pub record IsInstanceMethod (world : List Shape) (c : ClassName) (m : MethodName) : Type 0 where
@@ -60,10 +65,13 @@ pub record HasInPlace (world : List Shape) (c : ClassName) (token asker : ℕ) (
   pub found : virtual_method_of world c token asker ≡ Some method
   pub type : method_type_of world method ≡ method_type_of world above
 
--- what a class finds at a virtual token is a method of objects, and what is found there above it it finds too, or overrides it
+-- what a class finds at a virtual token is a method of objects, and what is found there above it it finds too, or
+-- overrides it
 pub record HaveVirtualMethods (world : List Shape) : Type 0 where
-  pub found : (c : ClassName) (token asker : ℕ) (m : MethodName) → virtual_method_of world c token asker ≡ Some m → IsInstanceMethod world c m
-  pub kept : (c d : ClassName) (token asker : ℕ) (above : MethodName) → IsHeir world c d → token < 256 → virtual_method_of world d token asker ≡ Some above
+  pub found : (c : ClassName) (token asker : ℕ) (m : MethodName) → virtual_method_of world c token asker ≡ Some m
+      → IsInstanceMethod world c m
+  pub kept : (c d : ClassName) (token asker : ℕ) (above : MethodName) → IsHeir world c d → token < 256
+      → virtual_method_of world d token asker ≡ Some above
       → HasInPlace world c token asker above
 
 -- an object's class has the method of an interface: it isn't abstract, and has the type that the interface says
@@ -73,11 +81,13 @@ pub record HasMethodOf (world : List Shape) (c interface : ClassName) (row : Met
   pub concrete : is_concrete world method ≡ true
   pub type : method_type_of world method ≡ member_type_of world (home_of interface) row.signature
 
--- a class of which objects are made leaves no method abstract, and has each method of each interface that its chain lists
+-- a class of which objects are made leaves no method abstract, and has each method of each interface that its chain
+-- lists
 pub record IsFinished (world : List Shape) (c : ClassName) : Type 0 where
-  pub concrete : (token asker : ℕ) (m : MethodName) → token < 256 → asker < length world → virtual_method_of world c token asker ≡ Some m
-      → is_concrete world m ≡ true
-  pub interfaces : (interface : ClassName) (k : ClassShape) (n : ℕ) (row : MethodShape) → IsSome (found (interface_visit world interface) world c)
+  pub concrete : (token asker : ℕ) (m : MethodName) → token < 256 → asker < length world
+      → virtual_method_of world c token asker ≡ Some m → is_concrete world m ≡ true
+  pub interfaces : (interface : ClassName) (k : ClassShape) (n : ℕ) (row : MethodShape)
+      → IsSome (found (interface_visit world interface) world c)
       → class_at world interface ≡ Some k → slice_get k.methods n ≡ Some row → HasMethodOf world c interface row
 
 -- all of that
@@ -86,7 +96,8 @@ pub record IsSound (world : List Shape) : Type 0 where
   pub fields : HaveFields world
   pub methods : HaveMethods world
   pub virtual_methods : HaveVirtualMethods world
-  pub finished : (c : ClassName) (k : ClassShape) → class_at world c ≡ Some k → is_class k.body ≡ true → k.is_abstract ≡ false → IsFinished world c
+  pub finished : (c : ClassName) (k : ClassShape) → class_at world c ≡ Some k → is_class k.body ≡ true
+      → k.is_abstract ≡ false → IsFinished world c
 
 -- each entry of the pool of the package that stands there leads somewhere
 abbrev pub leads_somewhere : List Shape → ℕ → PoolEntry → Bool

@@ -1,6 +1,7 @@
--- Static fields in their image (Java Card Virtual Machine Specification, StaticField component): references first, those of
--- initialised arrays before the others, and then the fields of primitive types.
-use Rattle.std.specs.Prelude.{ℕ, ◌+◌, ◌*◌, ◌/◌, ◌%◌, ◌==◌, Bool, true, false, not, ◌&&◌, ◌||◌, nat_lt, List, [], ◌∷◌, map, Option, Some, None, min, slice_get, if◌then◌else◌}
+-- Static fields in their image (Java Card Virtual Machine Specification, StaticField component): references first,
+-- those of initialised arrays before the others, and then the fields of primitive types.
+use Rattle.std.specs.Prelude.{ℕ, ◌+◌, ◌*◌, ◌/◌, ◌%◌, ◌==◌, Bool, true, false, not, ◌&&◌, ◌||◌, nat_lt, List, [], ◌∷◌}
+use Rattle.std.specs.Prelude.{map, Option, Some, None, min, slice_get, if◌then◌else◌}
 use Rattle.std.specs.List.{count_by, filter, filter_map, flat_map}
 use Rattle.std.specs.Option.{option_map_or}
 use Rattle.jc_base.specs.declared.class_ref.ClassRef.{ClassRef}
@@ -62,7 +63,8 @@ leaves_image image f = nat_lt image.size (behind f)
 -- a reference that isn't one of the references in front, or a primitive that isn't behind them
 abbrev pub is_misplaced : StaticImage → StaticField → Bool
 is_misplaced image f =
-    if is_reference f.type then not (f.offset % 2 == 0 && nat_lt f.offset (2 * image.references)) else nat_lt f.offset (2 * image.references)
+    if is_reference f.type then not (f.offset % 2 == 0 && nat_lt f.offset (2 * image.references))
+    else nat_lt f.offset (2 * image.references)
 
 -- whether two fields share a byte; each shares its own with itself
 abbrev pub share_a_byte : StaticField → StaticField → Bool
@@ -85,10 +87,12 @@ is_of_type array type = kind_of (array_type array) == kind_of type
 -- the field of an initialised array, which isn't of that array's type
 abbrev pub is_of_another_array : StaticImage → StaticField → Bool
 is_of_another_array image f =
-    f.offset % 2 == 0 && option_map_or (λ array. not (is_of_type array f.type)) (slice_get image.arrays (f.offset / 2)) false
+    f.offset % 2 == 0 && option_map_or (λ array. not (is_of_type array f.type))
+    (slice_get image.arrays (f.offset / 2)) false
 
 abbrev pub is_bad_static : StaticImage → List StaticField → StaticField → Bool
-is_bad_static image fields f = leaves_image image f || is_misplaced image f || overlaps_another fields f || is_of_another_array image f
+is_bad_static image fields f =
+    leaves_image image f || is_misplaced image f || overlaps_another fields f || is_of_another_array image f
 
 -- the least of numbers
 abbrev pub least : List ℕ → Option ℕ
@@ -97,4 +101,5 @@ least (n ∷ numbers) = Some (option_map_or (min n) (least numbers) n)
 
 -- the least offset of a bad static field
 abbrev pub first_bad_static : StaticImage → Shape → Option ℕ
-first_bad_static image shape = least (map (λ f. f.offset) (filter (is_bad_static image (static_fields shape)) (static_fields shape)))
+first_bad_static image shape =
+    least (map (λ f. f.offset) (filter (is_bad_static image (static_fields shape)) (static_fields shape)))

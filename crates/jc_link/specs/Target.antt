@@ -45,7 +45,8 @@ target_of_declared world m d = option_map (To.StaticMethod d.class m d.method.is
 -- what is named, with its type, if that is there
 abbrev pub target_of : List Shape → Named → Option PoolTarget
 target_of world (Names.Class c) = Some (To.Class c)
-target_of world (Names.InstanceField c token) = option_map (To.InstanceField c (cell_of world c token)) (instance_type_of world c token)
+target_of world (Names.InstanceField c token) =
+    option_map (To.InstanceField c (cell_of world c token)) (instance_type_of world c token)
 target_of world (Names.StaticField place) = option_map (To.StaticField place) (static_type_of world place)
 target_of world (Names.VirtualMethod c token m) = option_map (To.VirtualMethod c token) (method_type_of world m)
 target_of world (Names.SuperMethod c m) = option_map (To.SuperMethod c m) (method_type_of world m)

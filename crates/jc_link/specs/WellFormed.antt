@@ -1,15 +1,17 @@
--- Whether a package is well-formed in its world, which it stands in with the others, and else which refusal is told (Java Card
--- Virtual Machine Specification, Linking; Binary Compatibility).
+-- Whether a package is well-formed in its world, which it stands in with the others, and else which refusal is told
+-- (Java Card Virtual Machine Specification, Linking; Binary Compatibility).
 use Rattle.std.specs.Prelude.{take, ◌≡◌, ℕ, true, ◌||◌, Bool, List, length, Option, Some, None, if◌then◌else◌}
 use Rattle.std.specs.List.{find}
 use Rattle.std.specs.Option.{option_map, option_map_or, option_or}
 use Rattle.jc_base.specs.declared.fault.LoadFault.{LoadFault}
-use Rattle.jc_base.specs.declared.fault.LoadFault.TheVariants.{MissingImport, Unresolved, TypeMismatch, BadClass, BadStatic, DuplicatePackage}
+use Rattle.jc_base.specs.declared.fault.LoadFault.TheVariants.{MissingImport, Unresolved, TypeMismatch, BadClass}
+use Rattle.jc_base.specs.declared.fault.LoadFault.TheVariants.{BadStatic, DuplicatePackage}
 use Rattle.jc_cap_desc.specs.Shape.{ClassShape, Package, Shape}
 use Rattle.jc_classes.specs.Growth.{grown}
 use Rattle.jc_classes.specs.Members.{name_of}
 use Rattle.jc_names.specs.declared.name.ClassName.{ClassName}
-use Rattle.jc_link.specs.Classes.{has_bad_entry, has_field_past_size, has_field_twice, has_other_nargs, has_unknown_type, lacks_superclass, leads_round, lists_no_interface}
+use Rattle.jc_link.specs.Classes.{has_bad_entry, has_field_past_size, has_field_twice, has_other_nargs}
+use Rattle.jc_link.specs.Classes.{has_unknown_type, lacks_superclass, leads_round, lists_no_interface}
 use Rattle.jc_link.specs.Imports.{first_unmet, is_there_already}
 use Rattle.jc_link.specs.Inherited.{is_unfinished, loses_method, overrides_with_another_type}
 use Rattle.jc_link.specs.Pool.{first_mistyped, first_unresolved}
@@ -18,11 +20,13 @@ use Rattle.jc_link.specs.Statics.{first_bad_static}
 -- what is wrong with a class by itself, and by what it inherits
 abbrev pub is_bad_alone : List Shape → ℕ → ClassName → ClassShape → Bool
 is_bad_alone world home c k =
-    lacks_superclass world c k || leads_round world c || lists_no_interface world home k || has_unknown_type world home k
+    lacks_superclass world c k || leads_round world c || lists_no_interface world home k
+    || has_unknown_type world home k
     || has_field_twice k || has_field_past_size k || has_bad_entry world home c k || has_other_nargs k
 
 abbrev pub is_bad_heir : List Shape → ℕ → ClassName → ClassShape → Bool
-is_bad_heir world home c k = loses_method world home c || overrides_with_another_type world home c || is_unfinished world c k
+is_bad_heir world home c k =
+    loses_method world home c || overrides_with_another_type world home c || is_unfinished world c k
 
 abbrev pub is_bad : List Shape → ℕ → ClassShape → ClassName → Bool
 is_bad world home k c = is_bad_alone world home c k || is_bad_heir world home c k

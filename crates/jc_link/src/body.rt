@@ -85,7 +85,12 @@ impl Model for MethodCode {
 
     ghost Value = { MethodBody };
 
-    ghost view = { λ m. record { offset = m.offset; code_offset = m.code_offset; code = m.code.items; handlers = m.handlers.items } };
+    ghost view = { λ m. record {
+      offset = m.offset;
+      code_offset = m.code_offset;
+      code = m.code.items;
+      handlers = m.handlers.items;
+    } };
 
     ghost invariant = { λ m. length m.code.items < 2 ^ 16 };
 }

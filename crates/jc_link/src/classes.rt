@@ -7,7 +7,9 @@ ghost use Rattle.jc_classes.specs.Record.{superinterfaces, interface_rows};
 ghost use Rattle.jc_classes.specs.World.{class_named};
 ghost use Rattle.jc_classes.specs.Subtype.{is_class_at, is_interface_at};
 ghost use Rattle.jc_link.specs.MemberType.{field_type_of, member_type_of};
-ghost use Rattle.jc_link.specs.Classes.{lacks_superclass, leads_round, lists_no_interface, has_unknown_type, instance_token, has_field_twice, has_field_past_size, is_inherited, is_bad_entry, has_bad_entry, words_of, has_other_nargs};
+ghost use Rattle.jc_link.specs.Classes.{lacks_superclass, leads_round, lists_no_interface, has_unknown_type};
+ghost use Rattle.jc_link.specs.Classes.{instance_token, has_field_twice, has_field_past_size, is_inherited};
+ghost use Rattle.jc_link.specs.Classes.{is_bad_entry, has_bad_entry, words_of, has_other_nargs};
 
 use crate::types::{is_known_field, is_known_method};
 use jc_base::ClassRef;
@@ -75,7 +77,9 @@ fn finds_no_interface(table: &ClassTable, home: PackagePlace, reference: ClassRe
 
 /// Whether one of the interfaces that an interface extends is none.
 fn extends_no_interface(table: &ClassTable, home: PackagePlace, found: &Class) -> bool
-    ensures { result ≡ list_any (λ i. not (option_map_or (is_interface_at table.now) (class_named table.now home i.interface) false)) (superinterfaces found.now.body) }
+    ensures { result
+        ≡ list_any (λ i. not (option_map_or (is_interface_at table.now) (class_named table.now home i.interface) false))
+        (superinterfaces found.now.body) }
 {
     found
         .superinterfaces()
@@ -85,7 +89,9 @@ fn extends_no_interface(table: &ClassTable, home: PackagePlace, found: &Class) -
 
 /// Whether one of the interfaces that a class implements is none.
 fn implements_no_interface(table: &ClassTable, home: PackagePlace, found: &Class) -> bool
-    ensures { result ≡ list_any (λ i. not (option_map_or (is_interface_at table.now) (class_named table.now home i.interface) false)) (interface_rows found.now.body) }
+    ensures { result
+        ≡ list_any (λ i. not (option_map_or (is_interface_at table.now) (class_named table.now home i.interface) false))
+        (interface_rows found.now.body) }
 {
     found
         .interface_rows()
@@ -192,7 +198,9 @@ fn has_token(fields: &[Field], token: u8) -> bool
 
 /// Whether a field of objects among these has the token of a field of objects.
 fn is_held_again(field: &Field, others: &[Field]) -> bool
-    ensures { result ≡ option_map_or (λ token. list_any (λ other. token == other) (filter_map instance_token others.now)) (instance_token field.now) false }
+    ensures { result
+        ≡ option_map_or (λ token. list_any (λ other. token == other) (filter_map instance_token others.now))
+        (instance_token field.now) false }
 {
     match instance_token(field) {
         Some(token) => has_token(others, token),

@@ -6,7 +6,8 @@ ghost use Rattle.std.specs.Option.{option_map, option_map_or};
 ghost use Rattle.jc_classes.specs.Record.{declared_size};
 ghost use Rattle.jc_classes.specs.Walk.{most_classes};
 ghost use Rattle.jc_classes.specs.World.{class_at};
-ghost use Rattle.jc_link.specs.Named.{is_instance_field, is_static_field, instance_field_in, instance_field_at, static_field_in, static_field_at, cells_above};
+ghost use Rattle.jc_link.specs.Named.{is_instance_field, is_static_field, instance_field_in, instance_field_at};
+ghost use Rattle.jc_link.specs.Named.{static_field_in, static_field_at, cells_above};
 
 use crate::classes::MOST_CLASSES;
 use jc_cap_desc::FieldPlace;

@@ -17,8 +17,8 @@ ghost use Rattle.jc_link.specs.WellFormed.{IsWellFormed};
 
 use jc_classes::adding_keeps_lookups;
 
-/// A package that is put behind the others of a world changes nothing of whether those before it are well-formed, nor of what
-/// entries of their pools lead to.
+/// A package that is put behind the others of a world changes nothing of whether those before it are well-formed, nor
+/// of what entries of their pools lead to.
 #[tactic(auto, using(crate::proofs::GrownHeirs::linking_stays))]
 pub fn adding_keeps_linking()
     ensures { (world : List Shape) (more : Shape) → KeepsLinking world more }
@@ -43,7 +43,8 @@ pub fn built_worlds_are_sound()
     adding_keeps_lookups();
 }
 
-/// In such a world what types name are classes that are there, whatever is looked up, and an interface counts as Object.
+/// In such a world what types name are classes that are there, whatever is looked up, and an interface counts as
+/// Object.
 pub fn built_worlds_name_classes()
     ensures { (world : List Shape) → IsSmall world → IsBuilt world → NameClasses world }
 {

@@ -15,7 +15,8 @@ fn is_unmet(table: &ClassTable, home: PackagePlace, token: u8) -> bool
     table.import_of(home, token).is_none()
 }
 
-/// The first import of the package that stands there that no package before it meets. A byte counts a package's imports.
+/// The first import of the package that stands there that no package before it meets. A byte counts a package's
+/// imports.
 pub(crate) fn first_unmet(
     table: &ClassTable,
     home: PackagePlace,

@@ -3,7 +3,11 @@
 ghost use Rattle.std.specs.Prelude.{◌≡◌, ◌≤◌};
 ghost use Rattle.std.specs.List.{list_any, range_with_len};
 ghost use Rattle.jc_classes.specs.Methods.{public_method_of};
-ghost use Rattle.jc_link.specs.Inherited.{loses_at, loses_method, is_same_method, is_other_type, retypes_at, overrides_with_another_type, is_abstract_at, leaves_at, leaves_package_abstract, leaves_abstract, public_tokens, rows_of, misses, method_for, is_unimplemented, lacks_methods_of, breaks_row, breaks_interface, is_unfinished};
+ghost use Rattle.jc_link.specs.Inherited.{loses_at, loses_method, is_same_method, is_other_type, retypes_at};
+ghost use Rattle.jc_link.specs.Inherited.{overrides_with_another_type, is_abstract_at, leaves_at};
+ghost use Rattle.jc_link.specs.Inherited.{leaves_package_abstract, leaves_abstract, public_tokens, rows_of, misses};
+ghost use Rattle.jc_link.specs.Inherited.{method_for, is_unimplemented, lacks_methods_of, breaks_row, breaks_interface};
+ghost use Rattle.jc_link.specs.Inherited.{is_unfinished};
 
 use crate::classes::MOST_CLASSES;
 use crate::pool::{is_abstract_method, is_concrete, method_above};

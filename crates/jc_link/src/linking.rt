@@ -113,8 +113,8 @@ fn linked_body(
     Ok(LinkedBody { kept, targets })
 }
 
-/// With a package that is well-formed in it, a world is built of such packages, and each entry of the package's pool leads
-/// somewhere there.
+/// With a package that is well-formed in it, a world is built of such packages, and each entry of the package's pool
+/// leads somewhere there.
 #[tactic(auto, using(crate::proofs::Leading::built_behind, crate::proofs::Leading::pool_leads))]
 fn leads(world: &World, table: &ClassTable, linked: &Package)
     requires table { table.now ≡ grown world.now.shapes linked.now.shape }
@@ -149,8 +149,8 @@ fn bound(
     Ok(Linked { table, body })
 }
 
-/// Binds a package that was read to the packages of a world: it is well-formed there, or the refusal with the least number is
-/// told, at its first place. Memory may be told in place of an answer.
+/// Binds a package that was read to the packages of a world: it is well-formed there, or the refusal with the least
+/// number is told, at its first place. Memory may be told in place of an answer.
 pub fn link_package(alloc: Global, read: &Package, world: &World) -> Result<Linked, LoadFault>
     requires apart { StandApart read.now.body.methods }
     requires headers { HaveHeaders read.now.shape }
@@ -173,9 +173,9 @@ pub fn link_package(alloc: Global, read: &Package, world: &World) -> Result<Link
     }
 }
 
-/// Reads the package in the parts of an image, and binds it to the packages of a world (Java Card Virtual Machine Specification,
-/// Linking). Reading takes no memory, so parts that are no package get their refusal; of a package memory may be told in place
-/// of an answer.
+/// Reads the package in the parts of an image, and binds it to the packages of a world (Java Card Virtual Machine
+/// Specification, Linking). Reading takes no memory, so parts that are no package get their refusal; of a package
+/// memory may be told in place of an answer.
 pub fn link(alloc: Global, parts: &Parts, world: &World) -> Result<Linked, LoadFault>
     ensures bound { IfOk result (IsBoundTo world.now) }
     ensures linked { IfOk result (IsLinkedFrom world.now.shapes parts.now) }

@@ -11,7 +11,8 @@ pub struct StaticPlace {
     pub offset: u16,
 }
 
-/// What an entry of the constant pool names (Java Card Virtual Machine Specification, Constant Pool component: `cp_info`).
+/// What an entry of the constant pool names (Java Card Virtual Machine Specification, Constant Pool component:
+/// `cp_info`).
 #[derive(Clone, Copy)]
 pub enum Named {
     /// A class or an interface.

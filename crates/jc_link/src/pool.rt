@@ -2,7 +2,8 @@
 
 ghost use Rattle.std.specs.Prelude.{◌≡◌, ◌≤◌, false, length, IfSome, slice_get};
 ghost use Rattle.std.specs.Option.{option_and_then, option_map, option_map_or};
-ghost use Rattle.jc_link.specs.Named.{static_place, is_abstract_method, is_concrete, named_field, named_virtual, method_above, named_above, named_static_field, named_static_method, named_by};
+ghost use Rattle.jc_link.specs.Named.{static_place, is_abstract_method, is_concrete, named_field, named_virtual};
+ghost use Rattle.jc_link.specs.Named.{method_above, named_above, named_static_field, named_static_method, named_by};
 ghost use Rattle.jc_link.specs.Pool.{is_unresolved, first_unresolved};
 
 use crate::classes::is_class_at;
@@ -15,7 +16,8 @@ use jc_names::{ClassName, MethodName, PackagePlace};
 
 /// What a package exports under a class token.
 fn export_at(table: &ClassTable, there: PackagePlace, class: u8) -> Option<&Export>
-    ensures { option_map (λ e. e.now) result ≡ option_and_then (λ shape. slice_get shape.exports class) (slice_get table.now there) }
+    ensures { option_map (λ e. e.now) result
+        ≡ option_and_then (λ shape. slice_get shape.exports class) (slice_get table.now there) }
 {
     let shape = table.shape(there)?;
     shape.exports().get(usize::from(class))

@@ -50,7 +50,8 @@ fn stated_agrees(
     parameters: &[DeclaredType<ClassRef>],
     given: ReturnType<ClassRef>,
 ) -> bool
-    ensures { result ≡ signature_agrees (type_class table.now home) (type_class table.now there) stated.now (record { parameters = parameters.now; result = given }) }
+    ensures { result ≡ signature_agrees (type_class table.now home) (type_class table.now there) stated.now
+        (record { parameters = parameters.now; result = given }) }
 {
     parameters_agree(table, home, &stated.parameters(), there, parameters)
         && return_agrees(table, home, stated.result(), there, given)
@@ -65,7 +66,8 @@ fn is_field_type(
     there: PackagePlace,
     declared: DeclaredType<ClassRef>,
 ) -> bool
-    ensures { result ≡ have_same_type (member_type_of table.now home stated.now) (option_map as_member (type_found (type_class table.now there) declared)) }
+    ensures { result ≡ have_same_type (member_type_of table.now home stated.now)
+        (option_map as_member (type_found (type_class table.now there) declared)) }
 {
     stated_agrees(table, home, stated, there, &[], ReturnType::Value(declared))
 }
@@ -79,7 +81,8 @@ fn is_instance_type(
     class: ClassName,
     token: u8,
 ) -> bool
-    ensures { result ≡ have_same_type (member_type_of table.now home stated.now) (option_map as_member (instance_type_of table.now class token)) }
+    ensures { result ≡ have_same_type (member_type_of table.now home stated.now)
+        (option_map as_member (instance_type_of table.now class token)) }
 {
     match instance_field_at(table, class, token) {
         Some(field) => is_field_type(table, home, stated, class.home(), field.declared_type()),
@@ -95,7 +98,8 @@ fn is_static_type(
     stated: &Descriptor,
     place: StaticPlace,
 ) -> bool
-    ensures { result ≡ have_same_type (member_type_of table.now home stated.now) (option_map as_member (static_type_of table.now place)) }
+    ensures { result ≡ have_same_type (member_type_of table.now home stated.now)
+        (option_map as_member (static_type_of table.now place)) }
 {
     let StaticPlace {
         home: there,
@@ -169,7 +173,8 @@ fn has_stated_type(
     entry: PoolEntry,
     stated: &Descriptor,
 ) -> bool
-    ensures { result ≡ have_same_type (member_type_of table.now home stated.now) (option_and_then (named_type_of table.now) (named_by table.now home entry)) }
+    ensures { result ≡ have_same_type (member_type_of table.now home stated.now)
+        (option_and_then (named_type_of table.now) (named_by table.now home entry)) }
 {
     match named_by(table, home, entry) {
         Some(named) => is_type_of(table, home, stated, named),
@@ -202,8 +207,8 @@ fn is_mistyped_at(table: &ClassTable, home: PackagePlace, linked: &Package, inde
     is_mistyped(table, home, entry, &stated)
 }
 
-/// The index of the first entry among so many of the package that stands there that states another type than that of the
-/// member that it names.
+/// The index of the first entry among so many of the package that stands there that states another type than that of
+/// the member that it names.
 fn first_mistyped_of(
     table: &ClassTable,
     home: PackagePlace,
@@ -220,8 +225,8 @@ fn first_mistyped_of(
     None
 }
 
-/// The index of the first entry of the package that stands there that states another type than that of the member that it
-/// names.
+/// The index of the first entry of the package that stands there that states another type than that of the member that
+/// it names.
 pub(crate) fn first_mistyped(
     table: &ClassTable,
     home: PackagePlace,

@@ -3,7 +3,9 @@
 ghost use Rattle.std.specs.Prelude.{◌≡◌, ◌≤◌};
 ghost use Rattle.std.specs.List.{count_by, filter_map};
 ghost use Rattle.jc_link.specs.PrivateStatics.{earlier, bad_offset, first_bad_among};
-ghost use Rattle.jc_link.specs.Statics.{static_of, static_fields, is_reference, width_of, behind, leaves_image, is_misplaced, share_a_byte, overlaps_another, is_of_type, is_of_another_array, is_bad_static, first_bad_static};
+ghost use Rattle.jc_link.specs.Statics.{static_of, static_fields, is_reference, width_of, behind, leaves_image};
+ghost use Rattle.jc_link.specs.Statics.{is_misplaced, share_a_byte, overlaps_another, is_of_type, is_of_another_array};
+ghost use Rattle.jc_link.specs.Statics.{is_bad_static, first_bad_static};
 
 use jc_base::{ClassRef, DeclaredType};
 use jc_cap_data::{StaticArray, StaticFields};
@@ -201,7 +203,8 @@ fn first_bad_among(statics: &StaticFields, shape: &PackageShape, fields: &[Field
     first
 }
 
-/// The least offset of a bad static field of a package (Java Card Virtual Machine Specification, StaticField component).
+/// The least offset of a bad static field of a package (Java Card Virtual Machine Specification, StaticField
+/// component).
 pub(crate) fn first_bad_static(statics: &StaticFields, shape: &PackageShape) -> Option<u16>
     ensures { result ≡ first_bad_static statics.now shape.now }
 {

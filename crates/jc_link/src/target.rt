@@ -5,7 +5,8 @@ ghost use Rattle.std.specs.Option.{option_and_then, option_map};
 ghost use Rattle.jc_link.specs.Found.{types_found};
 ghost use Rattle.jc_link.specs.MemberType.{type_class, member_type_of, method_type_of};
 ghost use Rattle.jc_link.specs.Sound.{LeadSomewhere};
-ghost use Rattle.jc_link.specs.Target.{instance_type_of, static_type_of, cell_of, target_of, pool_target_of, pool_targets};
+ghost use Rattle.jc_link.specs.Target.{instance_type_of, static_type_of, cell_of, target_of, pool_target_of};
+ghost use Rattle.jc_link.specs.Target.{pool_targets};
 ghost use Rattle.jc_link.specs.declared.named.Named.TheVariants as Names;
 
 use crate::fields::{cells_above, instance_field_at, static_field_at};
@@ -81,7 +82,8 @@ fn types_found(
     home: PackagePlace,
     types: &[DeclaredType<ClassRef>],
 ) -> Result<Option<Vec<DeclaredType<ClassName>>>, AllocError>
-    ensures { IfOk result (λ found. option_map (λ types. types.items) found ≡ types_found (type_class table.now home) types.now) }
+    ensures { IfOk result (λ found. option_map (λ types. types.items) found
+        ≡ types_found (type_class table.now home) types.now) }
 {
     let mut found = Vec::new(alloc);
     for declared in types {

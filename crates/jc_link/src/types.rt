@@ -4,7 +4,8 @@ ghost use Rattle.std.specs.Prelude.{◌≡◌, ◌≤◌, is_some, length};
 ghost use Rattle.std.specs.List.{list_all};
 ghost use Rattle.std.specs.Option.{option_and_then};
 ghost use Rattle.jc_link.specs.Found.{type_found, return_found, is_same_type, is_same_return};
-ghost use Rattle.jc_link.specs.MemberType.{counted, type_class, field_type_of, member_type_of, declared_type_of, method_type_of, have_same_type};
+ghost use Rattle.jc_link.specs.MemberType.{counted, type_class, field_type_of, member_type_of, declared_type_of};
+ghost use Rattle.jc_link.specs.MemberType.{method_type_of, have_same_type};
 ghost use Rattle.jc_link.specs.PrivateAgree.{type_agrees, types_agree, return_agrees};
 
 use jc_api::ApiClass;
@@ -170,7 +171,8 @@ fn same_spelled_type(
     there: PackagePlace,
     other: &Method,
 ) -> bool
-    ensures { result ≡ have_same_type (member_type_of table.now home one.now.signature) (member_type_of table.now there other.now.signature) }
+    ensures { result ≡ have_same_type (member_type_of table.now home one.now.signature)
+        (member_type_of table.now there other.now.signature) }
 {
     types_agree(table, home, one.parameters(), there, other.parameters())
         && return_agrees(table, home, one.result(), there, other.result())
@@ -237,7 +239,8 @@ pub(crate) fn implements_type(
     spelled: &Method,
     method: Option<MethodName>,
 ) -> bool
-    ensures { result ≡ have_same_type (member_type_of table.now home spelled.now.signature) (option_and_then (method_type_of table.now) method) }
+    ensures { result ≡ have_same_type (member_type_of table.now home spelled.now.signature)
+        (option_and_then (method_type_of table.now) method) }
 {
     let Some(name) = method else {
         return false;

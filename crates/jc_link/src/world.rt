@@ -51,8 +51,8 @@ impl LinkedBody {
     }
 }
 
-/// A package that is well-formed in the world that it was bound to. It has a copy of that world's classes, with its own behind
-/// them.
+/// A package that is well-formed in the world that it was bound to. It has a copy of that world's classes, with its own
+/// behind them.
 #[derive(Drop)]
 pub struct Linked {
     pub(crate) table: ClassTable,
@@ -104,7 +104,8 @@ impl Model for World {
 
     ghost view = { λ w. record { shapes = w.table; bodies = w.bodies.items } };
 
-    ghost invariant = { λ w. (2 ≤ length w.table) × (length w.table < most_packages) × IsWorld (record { shapes = w.table; bodies = w.bodies.items }) };
+    ghost invariant = { λ w. (2 ≤ length w.table) × (length w.table < most_packages)
+        × IsWorld (record { shapes = w.table; bodies = w.bodies.items }) };
 }
 
 impl World {
@@ -153,8 +154,9 @@ impl World {
         self.len() >= MOST_IN_WORLD
     }
 
-    /// Puts a package behind the others that was bound to this world as it stands, which isn't full. It gives the classes as
-    /// they were before, by which the package can be taken back. Where no memory is left the world is as it was.
+    /// Puts a package behind the others that was bound to this world as it stands, which isn't full. It gives the
+    /// classes as they were before, by which the package can be taken back. Where no memory is left the world is as it
+    /// was.
     pub fn add_for_now(&mut self, linked: Linked) -> Result<ClassTable, AllocError>
         requires bound { IsBoundTo self.now linked }
         requires room { length self.now.shapes < most_in_world }

@@ -37,9 +37,16 @@ demands_of (Wants.Two a b) = a ∷ b ∷ []
 demands_of (Wants.Three a b c) = a ∷ b ∷ c ∷ []
 demands_of (Wants.Arguments types) = map argument types.now
 demands_of (Wants.ObjectAndArguments object types) = object ∷ map argument types.now
-demands_of (Wants.Spelled table interface types) = Reference ∷ map (argument_spelled table.now (home_of interface)) types.now
+demands_of (Wants.Spelled table interface types) =
+    Reference ∷ map (argument_spelled table.now (home_of interface)) types.now
 
 -- a row
 abbrev pub row_said : code.Row → Row
 row_said row =
-    record { local = row.local; operands = demands_of row.operands; fits = row.fits; written = row.written; pushed = row.pushed }
+    record {
+      local = row.local;
+      operands = demands_of row.operands;
+      fits = row.fits;
+      written = row.written;
+      pushed = row.pushed;
+    }

@@ -26,4 +26,5 @@ KeepsShape most step = (s t : Types) → step s ≡ Ok t → StaysWithin most s 
 -- types name classes in the world of a setting, and so do those that its package's pool leads to
 pub record NamesKnown (set : Setting) : Type 0 where
   pub world : NameClasses set.world
-  pub targets : (n : ℕ) (target : PoolTarget) → slice_get set.targets n ≡ Some target → is_known_target set.world target ≡ true
+  pub targets : (n : ℕ) (target : PoolTarget) → slice_get set.targets n ≡ Some target
+      → is_known_target set.world target ≡ true

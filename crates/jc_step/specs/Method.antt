@@ -29,7 +29,11 @@ result_of world d = option_and_then (λ signature. returned_type signature.resul
 -- what the code of the method at an offset is read against
 abbrev pub setting_of : Linked → ℕ → Setting
 setting_of l offset =
-    record { world = l.world; targets = l.body.targets; returned = option_and_then (result_of l.world) (own_method l offset) }
+    record {
+      world = l.world;
+      targets = l.body.targets;
+      returned = option_and_then (result_of l.world) (own_method l offset);
+    }
 
 -- how many operands the method at an offset may have, if there is one with a header
 abbrev pub stack_of : Linked → ℕ → Option ℕ

@@ -1,6 +1,7 @@
--- What the instructions on references do to types, by what the constant pool of their package leads to (Java Card Virtual
--- Machine Specification, instruction set).
-use Rattle.std.specs.Prelude.{ℕ, ◌+◌, ◌==◌, Bool, true, false, ◌&&◌, not, List, [], ◌∷◌, ◌++◌, length, map, Option, Some, None, is_some, slice_get, if◌then◌else◌}
+-- What the instructions on references do to types, by what the constant pool of their package leads to (Java Card
+-- Virtual Machine Specification, instruction set).
+use Rattle.std.specs.Prelude.{ℕ, ◌+◌, ◌==◌, Bool, true, false, ◌&&◌, not, List, [], ◌∷◌, ◌++◌, length, map, Option}
+use Rattle.std.specs.Prelude.{Some, None, is_some, slice_get, if◌then◌else◌}
 use Rattle.std.specs.List.{find}
 use Rattle.std.specs.Option.{option_and_then, option_map, option_map_or}
 use Rattle.jc_base.specs.Signature.{Signature}
@@ -23,7 +24,10 @@ use Rattle.jc_code.specs.declared.object.Holder.TheVariants as Holders
 use Rattle.jc_code.specs.declared.object.Invocation.{Invocation}
 use Rattle.jc_code.specs.declared.object.Invocation.TheVariants.{Virtual, Special, Static, Interface}
 use Rattle.jc_code.specs.declared.object.ObjectOperation.{ObjectOperation}
-use Rattle.jc_code.specs.declared.object.ObjectOperation.TheVariants.{PushNull, Load, Store, LoadComponent, StoreComponent, ArrayLength, Branch, Field, Invoke, Create, CheckCast, InstanceOf, Throw, ReturnReference, ReturnVoid}
+use Rattle.jc_code.specs.declared.object.ObjectOperation.TheVariants.{PushNull, Load, Store, LoadComponent}
+use Rattle.jc_code.specs.declared.object.ObjectOperation.TheVariants.{StoreComponent, ArrayLength, Branch, Field}
+use Rattle.jc_code.specs.declared.object.ObjectOperation.TheVariants.{Invoke, Create, CheckCast, InstanceOf, Throw}
+use Rattle.jc_code.specs.declared.object.ObjectOperation.TheVariants.{ReturnReference, ReturnVoid}
 use Rattle.jc_code.specs.declared.object.ReferenceCondition.{ReferenceCondition}
 use Rattle.jc_code.specs.declared.object.ReferenceCondition.TheVariants as Conditions
 use Rattle.jc_code.specs.declared.object.TestedType.{TestedType}
@@ -38,7 +42,8 @@ use Rattle.jc_link.specs.MemberType.{counted, member_type_of}
 use Rattle.jc_link.specs.declared.target.PoolTarget.{PoolTarget}
 use Rattle.jc_link.specs.declared.target.PoolTarget.TheVariants as To
 use Rattle.jc_types.specs.declared.ty.Ty.{Ty}
-use Rattle.jc_types.specs.declared.ty.Ty.TheVariants.{Top, Word, Null, Class, BooleanArray, ByteArray, ShortArray, ReferenceArray}
+use Rattle.jc_types.specs.declared.ty.Ty.TheVariants.{Top, Word, Null, Class, BooleanArray, ByteArray, ShortArray}
+use Rattle.jc_types.specs.declared.ty.Ty.TheVariants.{ReferenceArray}
 use Rattle.jc_types.specs.Ty.{type_of_declared}
 use Rattle.jc_step.specs.declared.row.Demand.{Demand}
 use Rattle.jc_step.specs.declared.row.Demand.TheVariants.{Below, Reference, Bytes, Array}
@@ -47,8 +52,8 @@ use Rattle.jc_step.specs.declared.row.Given.TheVariants.{Nothing, Exactly, OfLoc
 use Rattle.jc_step.specs.Row.{Row, is_reference}
 use Rattle.jc_step.specs.Words.{takes, reads, writes, word}
 
--- what the code of a method is read against: the world, what the entries of its package's constant pool lead to, and the type of
--- its result, if it gives one
+-- what the code of a method is read against: the world, what the entries of its package's constant pool lead to, and
+-- the type of its result, if it gives one
 pub record Setting : Type 0 where
   pub world : List Shape
   pub targets : List PoolTarget
@@ -68,8 +73,8 @@ component_loaded Forms.Reference = ComponentOf 0
 component_loaded Forms.Byte = Exactly Word
 component_loaded Forms.Short = Exactly Word
 
--- what may be stored in it. Any reference may be stored by its type: the class of the array's components is tested when it is
--- stored
+-- what may be stored in it. Any reference may be stored by its type: the class of the array's components is tested when
+-- it is stored
 abbrev pub component_stored : Form → Demand
 component_stored Forms.Reference = Reference
 component_stored Forms.Byte = word
@@ -147,7 +152,8 @@ object_holder_row Holders.This action class t = Some (this_row action class t)
 -- an instruction on a field of a class, that is declared so
 abbrev pub row_of_static : FieldAccess → DeclaredType ClassName → Option Row
 row_of_static access declared =
-    option_map (if_form (is_form_of access.form declared)) (static_holder_row access.holder access.action (type_of_declared declared))
+    option_map (if_form (is_form_of access.form declared))
+    (static_holder_row access.holder access.action (type_of_declared declared))
 
 -- an instruction on a field of objects of a class, that is declared so
 abbrev pub row_of_instance : FieldAccess → ClassName → DeclaredType ClassName → Option Row
@@ -174,7 +180,8 @@ result_given (Value declared) = Exactly (type_of_declared declared)
 -- a call: the object, if there is one, and the arguments lie below what is declared
 abbrev pub call : List Demand → Signature ClassName → Row
 call object signature =
-    takes (object ++ map (λ declared. Below (type_of_declared declared)) signature.parameters) (result_given signature.result)
+    takes (object ++ map (λ declared. Below (type_of_declared declared)) signature.parameters)
+    (result_given signature.result)
 
 -- the type of an interface's method: that of its token in the interface's own rows
 abbrev pub interface_method_type : List Shape → ClassName → ℕ → Option (Signature ClassName)
@@ -184,7 +191,8 @@ interface_method_type world c token =
     else option_and_then (λ m. member_type_of world (home_of c) m.signature) (find (λ m. m.token == token) k.methods))
     (class_at world c)
 
--- a call of an interface's method, on any reference; the instruction says how many words it takes, the object among them
+-- a call of an interface's method, on any reference; the instruction says how many words it takes, the object among
+-- them
 abbrev pub interface_row : ℕ → Signature ClassName → Option Row
 interface_row arguments signature =
     if arguments == 1 + length signature.parameters then Some (call (Reference ∷ []) signature) else None

@@ -1,15 +1,18 @@
--- What an instruction does to the types of locals and operands, as data, and the one rule that applies it (Java Card Virtual
--- Machine Specification, instruction set: the format, the operand stack and the description of each instruction). The order of
--- reasons stands here and nowhere else: of several reasons against an instruction the first of BadOperand, BadLocal, StackUnder,
--- WrongType and StackOver is told.
-use Rattle.std.specs.Prelude.{ℕ, ◌+◌, ◌-◌, List, [], ◌∷◌, length, take, drop, reverse, Bool, true, false, ◌&&◌, ◌||◌, not, Option, Some, None, is_some, Result, Ok, Err, nat_lt, if◌then◌else◌, slice_get, slice_set, unwrap_or}
+-- What an instruction does to the types of locals and operands, as data, and the one rule that applies it (Java Card
+-- Virtual Machine Specification, instruction set: the format, the operand stack and the description of each
+-- instruction). The order of reasons stands here and nowhere else: of several reasons against an instruction the first
+-- of BadOperand, BadLocal, StackUnder, WrongType and StackOver is told.
+use Rattle.std.specs.Prelude.{ℕ, ◌+◌, ◌-◌, List, [], ◌∷◌, length, take, drop, reverse, Bool, true, false, ◌&&◌, ◌||◌}
+use Rattle.std.specs.Prelude.{not, Option, Some, None, is_some, Result, Ok, Err, nat_lt, if◌then◌else◌, slice_get}
+use Rattle.std.specs.Prelude.{slice_set, unwrap_or}
 use Rattle.std.specs.Option.{option_map_or}
 use Rattle.jc_base.specs.declared.reason.Reason.{Reason}
 use Rattle.jc_base.specs.declared.reason.Reason.TheVariants.{BadOperand, BadLocal, StackUnder, WrongType, StackOver}
 use Rattle.jc_names.specs.declared.name.ClassName.{ClassName}
 use Rattle.jc_types.specs.declared.ty.Ty.{Ty}
 use Rattle.jc_types.specs.declared.ty.Ty.TheVariants.{Top, Null, Class}
-use Rattle.jc_types.specs.Ty.{class_of_components, class_of_objects, is_below, is_boolean_array, is_byte_array, is_null, is_short_array}
+use Rattle.jc_types.specs.Ty.{class_of_components, class_of_objects, is_below, is_boolean_array, is_byte_array, is_null}
+use Rattle.jc_types.specs.Ty.{is_short_array}
 use Rattle.jc_types.specs.State.{Types}
 use Rattle.jc_step.specs.declared.row.Demand.{Demand}
 use Rattle.jc_step.specs.declared.row.Demand.TheVariants.{Below, Reference, Bytes, Array}
@@ -78,7 +81,8 @@ taken_by row s = reverse (take (length row.operands) s.operands)
 -- all is what it has to be
 abbrev pub is_met : (ClassName → ClassName → Bool) → Row → Types → Bool
 is_met below row s =
-    row.fits && local_meets below row.local (local_of row.local s.locals) && all_meet below row.operands (taken_by row s)
+    row.fits && local_meets below row.local (local_of row.local s.locals)
+    && all_meet below row.operands (taken_by row s)
 
 -- ---- what is given
 
@@ -117,11 +121,12 @@ after row s =
     let local = local_of row.local s.locals in
     record {
       locals = put_in row.local row.written (given_type row.written local (taken_by row s)) s.locals;
-      operands = put_on row.pushed (given_type row.pushed local (taken_by row s)) (drop (length row.operands) s.operands);
+      operands = put_on row.pushed (given_type row.pushed local (taken_by row s))
+          (drop (length row.operands) s.operands);
     }
 
--- ---- the rule: a row applied to a state, in a method of so many operands at most. An instruction without a row names what it
--- may not name
+-- ---- the rule: a row applied to a state, in a method of so many operands at most. An instruction without a row names
+-- what it may not name
 
 unfoldable pub applied : (ClassName → ClassName → Bool) → ℕ → Option Row → Types → Result Types Reason
 applied below most None s = Err BadOperand

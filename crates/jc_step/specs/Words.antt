@@ -3,7 +3,9 @@ use Rattle.std.specs.Prelude.{ℕ, List, [], ◌∷◌, Bool, true, false, Optio
 use Rattle.std.specs.Option.{option_map_or}
 use Rattle.jc_base.specs.declared.reason.Reason.{Reason}
 use Rattle.jc_code.specs.declared.instr.WordOperation.{WordOperation}
-use Rattle.jc_code.specs.declared.instr.WordOperation.TheVariants.{Nop, Push, Load, Store, Increment, Shuffle, Binary, Unary, Branch, StableSwitch, LookupSwitch, ReturnWord}
+use Rattle.jc_code.specs.declared.instr.WordOperation.TheVariants.{Nop, Push, Load, Store, Increment, Shuffle, Binary}
+use Rattle.jc_code.specs.declared.instr.WordOperation.TheVariants.{Unary, Branch, StableSwitch, LookupSwitch}
+use Rattle.jc_code.specs.declared.instr.WordOperation.TheVariants.{ReturnWord}
 use Rattle.jc_code.specs.declared.instr.Shuffle as shuffles
 use Rattle.jc_code.specs.declared.instr.Shuffle.TheVariants.{Pop, Duplicate, Swap}
 use Rattle.jc_code.specs.declared.instr.When.{When}
@@ -33,7 +35,13 @@ reads index demand operands pushed =
 -- one that takes an operand into a local, whatever that held
 abbrev pub writes : ℕ → Demand → Row
 writes index demand =
-    record { local = At index (Below Top); operands = demand ∷ []; fits = true; written = OfOperand 0; pushed = Nothing }
+    record {
+      local = At index (Below Top);
+      operands = demand ∷ [];
+      fits = true;
+      written = OfOperand 0;
+      pushed = Nothing;
+    }
 
 abbrev pub word : Demand
 word = Below Word
@@ -51,17 +59,20 @@ shuffle_effect most (Duplicate count below) s = duplicate_types most count below
 shuffle_effect most (Swap upper lower) s = swap_types upper lower s
 
 -- an operation on words, in a method of so many operands at most that gives a value of this type, or none
-unfoldable pub word_effect : (ClassName → ClassName → Bool) → ℕ → Option Ty → WordOperation → Types → Result Types Reason
+unfoldable pub word_effect : (ClassName → ClassName → Bool) → ℕ → Option Ty → WordOperation → Types
+    → Result Types Reason
 word_effect below most returned Nop s = applied below most (Some (takes [] Nothing)) s
 word_effect below most returned (Push value) s = applied below most (Some (takes [] (Exactly Word))) s
 word_effect below most returned (Load local) s = applied below most (Some (reads local word [] (Exactly Word))) s
 word_effect below most returned (Store local) s = applied below most (Some (writes local word)) s
 word_effect below most returned (Increment local by) s = applied below most (Some (reads local word [] Nothing)) s
 word_effect below most returned (Shuffle shuffle) s = shuffle_effect most shuffle s
-word_effect below most returned (Binary operator) s = applied below most (Some (takes (word ∷ word ∷ []) (Exactly Word))) s
+word_effect below most returned (Binary operator) s =
+    applied below most (Some (takes (word ∷ word ∷ []) (Exactly Word))) s
 word_effect below most returned (Unary operator) s = applied below most (Some (takes (word ∷ []) (Exactly Word))) s
 word_effect below most returned (Branch when offset) s = applied below most (Some (takes (compared when) Nothing)) s
-word_effect below most returned (StableSwitch default low offsets) s = applied below most (Some (takes (word ∷ []) Nothing)) s
+word_effect below most returned (StableSwitch default low offsets) s =
+    applied below most (Some (takes (word ∷ []) Nothing)) s
 word_effect below most returned (LookupSwitch default cases) s = applied below most (Some (takes (word ∷ []) Nothing)) s
 word_effect below most returned ReturnWord s =
     applied below most (Some (record (takes (word ∷ []) Nothing) { fits = option_map_or is_word returned false })) s

@@ -28,7 +28,8 @@ pub struct Row<'a> {
 /// The type of the local that a row is about, if there is such a local; where it is about none, Top.
 #[inline(always)]
 fn local_of(place: Place, state: &State) -> Option<Ty>
-    ensures { result ≡ (if rows.has_local place state.now.types.locals then Some (rows.local_of place state.now.types.locals) else None) }
+    ensures { result ≡ (if rows.has_local place state.now.types.locals
+        then Some (rows.local_of place state.now.types.locals) else None) }
 {
     match place {
         Place::Nowhere => Some(Ty::Top),
@@ -81,8 +82,8 @@ fn overflows(operands: usize, given: Given, max_stack: u8) -> bool
     }
 }
 
-/// Puts the types behind a row in place of those before it, in a method of at most `max_stack` operands, or tells the first
-/// reason against it, in the order of `applied`. The state isn't to be used after a reason.
+/// Puts the types behind a row in place of those before it, in a method of at most `max_stack` operands, or tells the
+/// first reason against it, in the order of `applied`. The state isn't to be used after a reason.
 #[tactic(auto, unfolding(crate::specs::Row::applied, crate::specs::Row::after))]
 #[inline(always)]
 pub fn apply<C: Classes>(
@@ -92,7 +93,8 @@ pub fn apply<C: Classes>(
     classes: &C,
 ) -> Result<(), Reason>
     requires { max_stack ≤ state.old.room }
-    ensures became { Became result state.new.types (rows.applied (C.lies_below classes.now) max_stack (Some (row_said row.entry)) state.old.types) }
+    ensures became { Became result state.new.types
+        (rows.applied (C.lies_below classes.now) max_stack (Some (row_said row.entry)) state.old.types) }
     ensures room { state.new.room ≡ state.old.room }
     ensures locals { length state.new.types.locals ≡ length state.old.types.locals }
 {

@@ -113,7 +113,8 @@ fn method_with(found: &Class, token: u8) -> Option<&Method>
 
 /// The method of an interface with a token, by the interface's own rows.
 fn interface_method(table: &ClassTable, interface: ClassName, token: u8) -> Option<&Method>
-    ensures { option_map (λ m. m.now) result ≡ option_and_then (λ k. if is_class k.body then None else find (λ m. m.token == token) k.methods) (class_at table.now interface) }
+    ensures { option_map (λ m. m.now) result ≡ option_and_then
+        (λ k. if is_class k.body then None else find (λ m. m.token == token) k.methods) (class_at table.now interface) }
 {
     let found = table.class_at(interface)?;
     if found.is_class() {
@@ -122,8 +123,8 @@ fn interface_method(table: &ClassTable, interface: ClassName, token: u8) -> Opti
     method_with(found, token)
 }
 
-/// The row of a call of a method of an interface, as it is spelled in the interface's package. The instruction says how many words it
-/// takes, the object among them.
+/// The row of a call of a method of an interface, as it is spelled in the interface's package. The instruction says how
+/// many words it takes, the object among them.
 #[tactic(auto, using(crate::proofs::Spelled::counted_row, crate::proofs::Spelled::other_row, crate::proofs::Spelled::unknown_row, crate::proofs::Spelled::ungiven_row))]
 fn spelled_row<'a>(
     table: &'a ClassTable,
@@ -131,7 +132,8 @@ fn spelled_row<'a>(
     arguments: u8,
     method: &'a Method,
 ) -> Option<Row<'a>>
-    ensures { option_map row_said result ≡ option_and_then (objects.interface_row arguments) (member_type_of table.now (home_of interface) method.now.signature) }
+    ensures { option_map row_said result ≡ option_and_then (objects.interface_row arguments)
+        (member_type_of table.now (home_of interface) method.now.signature) }
 {
     let home = interface.home();
     if !is_known_method(table, home, method) {
@@ -158,7 +160,8 @@ fn interface_row<'a>(
     arguments: u8,
     token: u8,
 ) -> Option<Row<'a>>
-    ensures { option_map row_said result ≡ option_and_then (objects.interface_row arguments) (objects.interface_method_type table.now interface token) }
+    ensures { option_map row_said result
+        ≡ option_and_then (objects.interface_row arguments) (objects.interface_method_type table.now interface token) }
 {
     let method = interface_method(table, interface, token)?;
     spelled_row(table, interface, arguments, method)

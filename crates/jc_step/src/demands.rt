@@ -26,8 +26,8 @@ pub enum Wanted<'a> {
     Arguments(&'a [DeclaredType<ClassName>]),
     /// An object, and then arguments.
     ObjectAndArguments(Demand, &'a [DeclaredType<ClassName>]),
-    /// Any reference, and then arguments of a method of an interface, whose types are found anew as they are spelled in the
-    /// interface's package.
+    /// Any reference, and then arguments of a method of an interface, whose types are found anew as they are spelled in
+    /// the interface's package.
     Spelled {
         table: &'a ClassTable,
         interface: ClassName,
@@ -133,7 +133,8 @@ fn all_spelled_meet<C: Classes>(
     classes: &C,
 ) -> bool
     requires count { length parameters.now ≡ length types.now }
-    ensures { result ≡ rows.all_meet (C.lies_below classes.now) (map (argument_spelled table.now home) parameters.now) types.now }
+    ensures { result ≡ rows.all_meet (C.lies_below classes.now)
+        (map (argument_spelled table.now home) parameters.now) types.now }
 {
     for index in 0..parameters.len() {
         if !spelled_meets(table, home, parameters[index], types[index], classes) {

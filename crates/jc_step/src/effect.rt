@@ -16,9 +16,9 @@ use jc_names::ClassName;
 use jc_types::{State, Ty};
 use std::marker::Model;
 
-/// Puts the types behind an operation in place of those before it, in a method of at most `max_stack` operands, read against its
-/// setting. Of several reasons against it the first is told, in the order of `applied`. The
-/// state isn't to be used after a reason.
+/// Puts the types behind an operation in place of those before it, in a method of at most `max_stack` operands, read
+/// against its setting. Of several reasons against it the first is told, in the order of `applied`. The state isn't to
+/// be used after a reason.
 #[tactic(auto, unfolding(crate::specs::Effect::effect_of))]
 pub fn transfer_in(
     operation: &Operation,
@@ -75,9 +75,9 @@ pub fn own_method(linked: &Linked, offset: u16) -> Option<DeclaredMethod<'_>>
     table.method_at(method_name(table.last(), offset))
 }
 
-/// Puts the types behind an instruction of a method of a linked package in place of those before it. The method is given by
-/// the offset of its header. Of several reasons against the instruction the first is told, in the order of `applied`. The state
-/// isn't to be used after a reason.
+/// Puts the types behind an instruction of a method of a linked package in place of those before it. The method is
+/// given by the offset of its header. Of several reasons against the instruction the first is told, in the order of
+/// `applied`. The state isn't to be used after a reason.
 pub fn transfer(
     instr: &Instr,
     state: &mut State,
@@ -86,7 +86,8 @@ pub fn transfer(
 ) -> Result<(), Reason>
     requires there { has_own_method linked.now method ≡ true }
     requires room { max_stack_of linked.now method ≤ state.old.room }
-    ensures became { Became result state.new.types (effect_of (setting_of linked.now method) (max_stack_of linked.now method) instr.now.operation state.old.types) }
+    ensures became { Became result state.new.types (effect_of (setting_of linked.now method)
+        (max_stack_of linked.now method) instr.now.operation state.old.types) }
     ensures room { state.new.room ≡ state.old.room }
     ensures locals { length state.new.types.locals ≡ length state.old.types.locals }
 {

@@ -31,21 +31,27 @@ use jc_classes::growing_keeps_lookups;
 use jc_link::{built_worlds_have_the_api, growing_keeps_linking};
 use jc_types::order_laws;
 
-/// Beside an order of classes, what a state allows each state below it allows, and what comes out lies below: of rows, of
-/// operations on words, and of all operations read against a setting. It does nothing.
+/// Beside an order of classes, what a state allows each state below it allows, and what comes out lies below: of rows,
+/// of operations on words, and of all operations read against a setting. It does nothing.
 pub fn effects_are_monotone()
-    ensures rows { (below : ClassName → ClassName → Bool) → IsOrder below → (most : ℕ) (row : Option Row) → IsMonotone below (applied below most row) }
-    ensures words { (below : ClassName → ClassName → Bool) → IsOrder below → (most : ℕ) (returned : Option Ty) (operation : WordOperation) → IsMonotone below (word_effect below most returned operation) }
-    ensures effects { (set : Setting) → IsOrder (is_class_below set.world) → (most : ℕ) (operation : Operation) → IsMonotone (is_class_below set.world) (effect_of set most operation) }
+    ensures rows { (below : ClassName → ClassName → Bool) → IsOrder below → (most : ℕ) (row : Option Row)
+        → IsMonotone below (applied below most row) }
+    ensures words { (below : ClassName → ClassName → Bool) → IsOrder below → (most : ℕ) (returned : Option Ty)
+        (operation : WordOperation) → IsMonotone below (word_effect below most returned operation) }
+    ensures effects { (set : Setting) → IsOrder (is_class_below set.world) → (most : ℕ) (operation : Operation)
+        → IsMonotone (is_class_below set.world) (effect_of set most operation) }
 {
     order_laws();
 }
 
-/// In a world in which types name classes of it, and read against a pool that leads to such types, what an effect leaves names
-/// classes of the world where what was before does. It does nothing.
+/// In a world in which types name classes of it, and read against a pool that leads to such types, what an effect
+/// leaves names classes of the world where what was before does. It does nothing.
 pub fn effects_name_classes()
-    ensures effects { (set : Setting) → NamesKnown set → (most : ℕ) (operation : Operation) (s t : Types) → effect_of set most operation s ≡ Ok t → AreKnown (is_class_at set.world) s → AreKnown (is_class_at set.world) t }
-    ensures types { (known : ClassName → Bool) (t : DeclaredType ClassName) → is_known_type known t ≡ true → is_known known (type_of_declared t) ≡ true }
+    ensures effects { (set : Setting) → NamesKnown set → (most : ℕ) (operation : Operation) (s t : Types)
+        → effect_of set most operation s ≡ Ok t → AreKnown (is_class_at set.world) s
+        → AreKnown (is_class_at set.world) t }
+    ensures types { (known : ClassName → Bool) (t : DeclaredType ClassName) → is_known_type known t ≡ true
+        → is_known known (type_of_declared t) ≡ true }
 {}
 
 /// Packages that are put behind the others of a world change nothing of what instructions do in methods of those before

@@ -1,5 +1,5 @@
-//! The effect of the instructions on references. Where what an instruction names of the constant pool isn't what it needs it
-//! has no row.
+//! The effect of the instructions on references. Where what an instruction names of the constant pool isn't what it
+//! needs it has no row.
 
 ghost use Rattle.std.specs.Prelude.{◌≡◌, ◌≤◌, ◌∷◌, [], not, is_some, length, slice_get, if◌then◌else◌};
 ghost use Rattle.std.specs.Option.{option_and_then, option_map};
@@ -123,7 +123,8 @@ fn component_load_row<'a>(form: Form) -> Row<'a>
 /// The row of one that stores a component.
 #[inline(always)]
 fn component_store_row<'a>(form: Form) -> Row<'a>
-    ensures { row_said result ≡ words.takes (objects.array_of form ∷ words.word ∷ objects.component_stored form ∷ []) Given.Nothing }
+    ensures { row_said result
+        ≡ words.takes (objects.array_of form ∷ words.word ∷ objects.component_stored form ∷ []) Given.Nothing }
 {
     takes(
         Wanted::Three(array_of(form), WORD, component_stored(form)),
@@ -253,7 +254,9 @@ fn return_void_row<'a>(returned: Option<Ty>) -> Row<'a>
 
 /// The row of a cast, or of a test of an object's type, that puts this of the type.
 fn tested_row<'l>(setting: &Setting<'l>, tested: TestedType, is_cast: bool) -> Option<Row<'l>>
-    ensures { option_map row_said result ≡ option_map (λ t. words.takes (Demand.Reference ∷ []) (if is_cast then Given.Exactly t else Given.Exactly Ty.Word)) (objects.tested_type setting.now tested) }
+    ensures { option_map row_said result ≡ option_map
+        (λ t. words.takes (Demand.Reference ∷ []) (if is_cast then Given.Exactly t else Given.Exactly Ty.Word))
+        (objects.tested_type setting.now tested) }
 {
     let ty = tested_type(setting, tested)?;
     Some(test_row(Given::Exactly(if is_cast { ty } else { Ty::Word })))
@@ -261,12 +264,14 @@ fn tested_row<'l>(setting: &Setting<'l>, tested: TestedType, is_cast: bool) -> O
 
 /// The row of an operation on the field that the entry with an index is.
 fn field_row_at<'l>(setting: &Setting<'l>, access: FieldAccess, index: u16) -> Option<Row<'l>>
-    ensures { option_map row_said result ≡ option_and_then (objects.field_row access) (slice_get setting.now.targets index) }
+    ensures { option_map row_said result
+        ≡ option_and_then (objects.field_row access) (slice_get setting.now.targets index) }
 {
     field_row(access, setting.target(index)?)
 }
 
-/// A row applied to a state, if there is one. It stands once: what names an entry of the constant pool is no quick operation.
+/// A row applied to a state, if there is one. It stands once: what names an entry of the constant pool is no quick
+/// operation.
 #[inline(never)]
 #[tactic(auto, unfolding(crate::specs::Row::applied))]
 fn apply_found(
@@ -276,7 +281,8 @@ fn apply_found(
     table: &ClassTable,
 ) -> Result<(), Reason>
     requires { max_stack ≤ state.old.room }
-    ensures became { Became result state.new.types (applied (is_class_below table.now) max_stack (option_map row_said row.entry) state.old.types) }
+    ensures became { Became result state.new.types
+        (applied (is_class_below table.now) max_stack (option_map row_said row.entry) state.old.types) }
     ensures room { state.new.room ≡ state.old.room }
     ensures locals { length state.new.types.locals ≡ length state.old.types.locals }
 {
@@ -286,9 +292,9 @@ fn apply_found(
     }
 }
 
-/// Puts the types after an operation on references in place of those before it, in a method of at most `max_stack` operands, read
-/// against its setting. Of several reasons against it the first is told, in the order of `applied`. The state isn't to be used
-/// after a reason.
+/// Puts the types after an operation on references in place of those before it, in a method of at most `max_stack`
+/// operands, read against its setting. Of several reasons against it the first is told, in the order of `applied`. The
+/// state isn't to be used after a reason.
 #[tactic(auto, unfolding(crate::specs::Objects::object_row))]
 pub(crate) fn transfer_object(
     operation: &ObjectOperation,
@@ -297,7 +303,8 @@ pub(crate) fn transfer_object(
     setting: &Setting,
 ) -> Result<(), Reason>
     requires { max_stack ≤ state.old.room }
-    ensures became { Became result state.new.types (applied (is_class_below setting.now.world) max_stack (objects.object_row setting.now operation.now) state.old.types) }
+    ensures became { Became result state.new.types (applied (is_class_below setting.now.world) max_stack
+        (objects.object_row setting.now operation.now) state.old.types) }
     ensures room { state.new.room ≡ state.old.room }
     ensures locals { length state.new.types.locals ≡ length state.old.types.locals }
 {

@@ -21,7 +21,11 @@ impl<'l> Model for Setting<'l> {
 
     ghost Value = { Read };
 
-    ghost view = { λ s. record { world = s.linked.now.world; targets = s.linked.now.body.targets; returned = s.returned } };
+    ghost view = { λ s. record {
+      world = s.linked.now.world;
+      targets = s.linked.now.body.targets;
+      returned = s.returned;
+    } };
 }
 
 impl<'l> Setting<'l> {

@@ -89,7 +89,8 @@ fn returns_word(returned: Option<&Ty>) -> bool
 /// The row of sreturn in a method with this result.
 #[inline(always)]
 fn return_word<'a>(returned: Option<&Ty>) -> Row<'a>
-    ensures { row_said result ≡ record (words.takes (words.word ∷ []) Given.Nothing) { fits = option_map_or is_word (option_copied returned.entry) false } }
+    ensures { row_said result ≡ record (words.takes (words.word ∷ []) Given.Nothing)
+        { fits = option_map_or is_word (option_copied returned.entry) false } }
 {
     Row {
         fits: returns_word(returned),
@@ -111,9 +112,9 @@ fn transfer_shuffle(shuffle: Shuffle, state: &mut State, max_stack: u8) -> Resul
     }
 }
 
-/// Puts the types after an operation on words in place of those before it, in a method of at most `max_stack` operands that
-/// returns a value of the type `returned`, or none. Of several reasons against it the first is told, in the order of `applied`.
-/// The state isn't to be used after a reason.
+/// Puts the types after an operation on words in place of those before it, in a method of at most `max_stack` operands
+/// that returns a value of the type `returned`, or none. Of several reasons against it the first is told, in the order
+/// of `applied`. The state isn't to be used after a reason.
 #[tactic(auto, unfolding(crate::specs::Words::word_effect))]
 pub fn transfer_word<C: Classes>(
     operation: &WordOperation,
@@ -123,7 +124,8 @@ pub fn transfer_word<C: Classes>(
     classes: &C,
 ) -> Result<(), Reason>
     requires { max_stack ≤ state.old.room }
-    ensures became { Became result state.new.types (words.word_effect (C.lies_below classes.now) max_stack (option_copied returned.entry) operation.now state.old.types) }
+    ensures became { Became result state.new.types (words.word_effect (C.lies_below classes.now) max_stack
+        (option_copied returned.entry) operation.now state.old.types) }
     ensures room { state.new.room ≡ state.old.room }
     ensures locals { length state.new.types.locals ≡ length state.old.types.locals }
 {

@@ -1,5 +1,6 @@
 -- What code may do to a state, or the reason why it may not.
-use Rattle.std.specs.Prelude.{⊤, ◌≡◌, ℕ, ◌+◌, max, Bool, List, ◌∷◌, length, take, drop, reverse, Option, Some, None, Result, Ok, Err, nat_lt, if◌then◌else◌, slice_get, slice_set}
+use Rattle.std.specs.Prelude.{⊤, ◌≡◌, ℕ, ◌+◌, max, Bool, List, ◌∷◌, length, take, drop, reverse, Option, Some, None}
+use Rattle.std.specs.Prelude.{Result, Ok, Err, nat_lt, if◌then◌else◌, slice_get, slice_set}
 use Rattle.jc_base.specs.declared.reason.Reason.{Reason}
 use Rattle.jc_base.specs.declared.reason.Reason.TheVariants.{BadLocal, StackUnder, WrongType, StackOver}
 use Rattle.jc_base.specs.Stack.{duplicated, swapped}
@@ -35,24 +36,31 @@ set_local_type i t s = if nat_lt i (length s.locals) then Ok (with_local s i t) 
 
 -- an operand more, of so many at max_stack
 unfoldable pub push_type : ℕ → Ty → Types → Result Types Reason
-push_type max_stack t s = if nat_lt (length s.operands) max_stack then Ok (with_operands s (t ∷ s.operands)) else Err StackOver
+push_type max_stack t s =
+    if nat_lt (length s.operands) max_stack then Ok (with_operands s (t ∷ s.operands)) else Err StackOver
 
 -- operands that lie below these types are taken, the last of them from the top
 unfoldable pub take_types : (ClassName → ClassName → Bool) → List Ty → Types → Result Types Reason
 take_types below wanted s =
     if nat_lt (length s.operands) (length wanted) then Err StackUnder
-    else if all_below below (reverse (take (length wanted) s.operands)) wanted then Ok (with_operands s (drop (length wanted) s.operands)) else Err WrongType
+    else if all_below below (reverse (take (length wanted) s.operands)) wanted
+    then Ok (with_operands s (drop (length wanted) s.operands))
+    else Err WrongType
 
 -- so many operands are dropped
 unfoldable pub drop_types : ℕ → Types → Result Types Reason
-drop_types count s = if nat_lt (length s.operands) count then Err StackUnder else Ok (with_operands s (drop count s.operands))
+drop_types count s =
+    if nat_lt (length s.operands) count then Err StackUnder else Ok (with_operands s (drop count s.operands))
 
 -- the top operands are put again below so many
 unfoldable pub duplicate_types : ℕ → ℕ → ℕ → Types → Result Types Reason
 duplicate_types max_stack count below s =
     if nat_lt (length s.operands) (max count below) then Err StackUnder
-    else if nat_lt max_stack (length s.operands + count) then Err StackOver else Ok (with_operands s (duplicated count below s.operands))
+    else if nat_lt max_stack (length s.operands + count) then Err StackOver
+    else Ok (with_operands s (duplicated count below s.operands))
 
 -- the top operands and those below them change places
 unfoldable pub swap_types : ℕ → ℕ → Types → Result Types Reason
-swap_types upper lower s = if nat_lt (length s.operands) (upper + lower) then Err StackUnder else Ok (with_operands s (swapped upper lower s.operands))
+swap_types upper lower s =
+    if nat_lt (length s.operands) (upper + lower) then Err StackUnder
+    else Ok (with_operands s (swapped upper lower s.operands))

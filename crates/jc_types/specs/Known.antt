@@ -4,7 +4,8 @@ use Rattle.std.specs.List.{list_all}
 use Rattle.jc_names.specs.declared.name.ClassName.{ClassName}
 use Rattle.jc_types.specs.State.{Types}
 use Rattle.jc_types.specs.declared.ty.Ty.{Ty}
-use Rattle.jc_types.specs.declared.ty.Ty.TheVariants.{Top, Word, Null, Class, BooleanArray, ByteArray, ShortArray, ReferenceArray}
+use Rattle.jc_types.specs.declared.ty.Ty.TheVariants.{Top, Word, Null, Class, BooleanArray, ByteArray, ShortArray}
+use Rattle.jc_types.specs.declared.ty.Ty.TheVariants.{ReferenceArray}
 
 -- the class that a type names, if it names one, is known
 abbrev pub is_known : (ClassName → Bool) → Ty → Bool

@@ -1,15 +1,17 @@
--- Private. That the join of two types is above both, beside a lattice of classes. It stands here since the impl of `Lattice` cites
--- nothing else of its crate.
+-- Private. That the join of two types is above both, beside a lattice of classes. It stands here since the impl of
+-- `Lattice` cites nothing else of its crate.
 use Rattle.std.proofs.Common.{◌≡◌, ℕ, Bool, true, refl}
 use Rattle.jc_api.specs.declared.class.ApiClass.TheVariants.{Object}
 use Rattle.jc_classes.specs.Subtype.{IsClassLattice}
 use Rattle.jc_names.specs.declared.name.ClassName.{ClassName}
 use Rattle.jc_names.specs.declared.name.ClassName.TheVariants.{Api}
 use Rattle.jc_types.specs.declared.ty.Ty.{Ty}
-use Rattle.jc_types.specs.declared.ty.Ty.TheVariants.{Top, Word, Null, Class, BooleanArray, ByteArray, ShortArray, ReferenceArray}
+use Rattle.jc_types.specs.declared.ty.Ty.TheVariants.{Top, Word, Null, Class, BooleanArray, ByteArray, ShortArray}
+use Rattle.jc_types.specs.declared.ty.Ty.TheVariants.{ReferenceArray}
 use Rattle.jc_types.specs.Ty.{is_below, join_of}
 
-module _ (below : ClassName → ClassName → Bool) (common : ClassName → ClassName → ClassName) (above : ClassName → ℕ) (most : ℕ) (lattice : IsClassLattice below common above most) where
+module _ (below : ClassName → ClassName → Bool) (common : ClassName → ClassName → ClassName) (above : ClassName → ℕ)
+    (most : ℕ) (lattice : IsClassLattice below common above most) where
   above_word : (b : Ty) → is_below below Word (join_of common Word b) ≡ true
   above_word Top = refl
   above_word Word = refl
@@ -70,7 +72,8 @@ module _ (below : ClassName → ClassName → Bool) (common : ClassName → Clas
   above_short_array ShortArray = refl
   above_short_array (ReferenceArray d) = lattice.object (Api Object)
 
-  above_reference_array : (c : ClassName) (b : Ty) → is_below below (ReferenceArray c) (join_of common (ReferenceArray c) b) ≡ true
+  above_reference_array : (c : ClassName) (b : Ty)
+      → is_below below (ReferenceArray c) (join_of common (ReferenceArray c) b) ≡ true
   above_reference_array c Top = refl
   above_reference_array c Word = refl
   above_reference_array c Null = lattice.order.reflexive c

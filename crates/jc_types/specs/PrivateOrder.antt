@@ -1,12 +1,14 @@
--- Private. That the order of types is a partial order beside an order of classes: the laws that the impl of `Lattice` carries.
--- They stand here since an impl cites nothing else of its crate.
+-- Private. That the order of types is a partial order beside an order of classes: the laws that the impl of `Lattice`
+-- carries. They stand here since an impl cites nothing else of its crate.
 use Rattle.std.proofs.Common.{◌≡◌, ◌⊎◌, inl, inr, Bool, true, false, ◌||◌, Option, Some, None, refl, sym, ap, ◌∙◌}
 use Rattle.std.specs.Option.{option_map_or}
 use Rattle.jc_classes.specs.Subtype.{IsOrder}
 use Rattle.jc_names.specs.declared.name.ClassName.{ClassName}
 use Rattle.jc_types.specs.declared.ty.Ty.{Ty}
-use Rattle.jc_types.specs.declared.ty.Ty.TheVariants.{Top, Word, Null, Class, BooleanArray, ByteArray, ShortArray, ReferenceArray}
-use Rattle.jc_types.specs.Ty.{class_of_objects, class_of_components, is_word, is_null, is_boolean_array, is_byte_array, is_short_array, is_below}
+use Rattle.jc_types.specs.declared.ty.Ty.TheVariants.{Top, Word, Null, Class, BooleanArray, ByteArray, ShortArray}
+use Rattle.jc_types.specs.declared.ty.Ty.TheVariants.{ReferenceArray}
+use Rattle.jc_types.specs.Ty.{class_of_objects, class_of_components, is_word, is_null, is_boolean_array, is_byte_array}
+use Rattle.jc_types.specs.Ty.{is_short_array, is_below}
 
 -- ---- what the small tests say
 
@@ -91,8 +93,8 @@ has_below : (below : ClassName → ClassName → Bool) (o : Option ClassName) (d
 has_below below None d e = absurd cc
 has_below below (Some c) d e = (c, refl, e)
 
-below_given : (below : ClassName → ClassName → Bool) (o : Option ClassName) (d c : ClassName) → o ≡ Some c → below c d ≡ true
-    → option_map_or (λ c. below c d) o false ≡ true
+below_given : (below : ClassName → ClassName → Bool) (o : Option ClassName) (d c : ClassName) → o ≡ Some c
+    → below c d ≡ true → option_map_or (λ c. below c d) o false ≡ true
 below_given below o d c e h = ap (λ p. option_map_or (λ c. below c d) p false) e ∙ h
 
 module _ (below : ClassName → ClassName → Bool) (order : IsOrder below) where
@@ -120,7 +122,8 @@ module _ (below : ClassName → ClassName → Bool) (order : IsOrder below) wher
   above_top ShortArray h = absurd cc
   above_top (ReferenceArray c) h = absurd cc
 
-  below_class : (a : Ty) (d : ClassName) → is_below below a (Class d) ≡ true → is_below below (Class d) a ≡ true → a ≡ Class d
+  below_class : (a : Ty) (d : ClassName) → is_below below a (Class d) ≡ true → is_below below (Class d) a ≡ true
+      → a ≡ Class d
   below_class Top d h k = absurd cc
   below_class Word d h k = absurd cc
   below_class Null d h k = absurd cc
@@ -184,7 +187,8 @@ module _ (below : ClassName → ClassName → Bool) (order : IsOrder below) wher
       by_case (inr i) = inr (c, ap class_of_objects (is a i) ∙ e, order.reflexive c)
 
   -- what is below a type is null, or its objects are of a class below that of the type's objects
-  objects_through : (a b : Ty) (c : ClassName) → is_below below a b ≡ true → class_of_objects b ≡ Some c → IsNullOrBelow a c
+  objects_through : (a b : Ty) (c : ClassName) → is_below below a b ≡ true → class_of_objects b ≡ Some c
+      → IsNullOrBelow a c
   objects_through a Top c h e = absurd cc
   objects_through a Word c h e = absurd cc
   objects_through a Null c h e = absurd cc
@@ -195,7 +199,8 @@ module _ (below : ClassName → ClassName → Bool) (order : IsOrder below) wher
       by_case (inl n) = inl n
       by_case (inr r) =
           let is : b ≡ c = cc in
-          inr (has_below below (class_of_objects a) c (ap (λ d. option_map_or (λ x. below x d) (class_of_objects a) false) (sym is) ∙ r))
+          inr (has_below below (class_of_objects a) c
+          (ap (λ d. option_map_or (λ x. below x d) (class_of_objects a) false) (sym is) ∙ r))
   objects_through a BooleanArray c h e = array_objects a BooleanArray is_boolean_array c boolean_array_is h e
   objects_through a ByteArray c h e = array_objects a ByteArray is_byte_array c byte_array_is h e
   objects_through a ShortArray c h e = array_objects a ShortArray is_short_array c short_array_is h e
@@ -214,7 +219,8 @@ module _ (below : ClassName → ClassName → Bool) (order : IsOrder below) wher
     where
       by_objects : (c : ClassName) → below c d ≡ true → IsNullOrBelow a c → is_below below a (Class d) ≡ true
       by_objects c e (inl n) = left (is_null a) _ n
-      by_objects c e (inr r) = right (is_null a) _ (below_given below (class_of_objects a) d r.0 r.1 (order.transitive r.0 c d r.2 e))
+      by_objects c e (inr r) =
+          right (is_null a) _ (below_given below (class_of_objects a) d r.0 r.1 (order.transitive r.0 c d r.2 e))
 
       by_case : (is_null b ≡ true) ⊎ (option_map_or (λ c. below c d) (class_of_objects b) false ≡ true)
           → is_below below a (Class d) ≡ true
@@ -224,15 +230,18 @@ module _ (below : ClassName → ClassName → Bool) (order : IsOrder below) wher
           by_objects has.0 has.2 (objects_through a b has.0 h has.1)
 
   through_components : (a b : Ty) (d : ClassName)
-      → is_below below a b ≡ true → is_below below b (ReferenceArray d) ≡ true → is_below below a (ReferenceArray d) ≡ true
+      → is_below below a b ≡ true → is_below below b (ReferenceArray d) ≡ true
+      → is_below below a (ReferenceArray d) ≡ true
   through_components a b d h k = by_case (either (is_null b) _ k)
     where
       by_array : (c : ClassName) → below c d ≡ true
-          → (is_null a ≡ true) ⊎ (option_map_or (λ x. below x c) (class_of_components a) false ≡ true) → is_below below a (ReferenceArray d) ≡ true
+          → (is_null a ≡ true) ⊎ (option_map_or (λ x. below x c) (class_of_components a) false ≡ true)
+          → is_below below a (ReferenceArray d) ≡ true
       by_array c e (inl n) = left (is_null a) _ n
       by_array c e (inr r) =
           let has = has_below below (class_of_components a) c r in
-          right (is_null a) _ (below_given below (class_of_components a) d has.0 has.1 (order.transitive has.0 c d has.2 e))
+          right (is_null a) _
+          (below_given below (class_of_components a) d has.0 has.1 (order.transitive has.0 c d has.2 e))
 
       by_case : (is_null b ≡ true) ⊎ (option_map_or (λ c. below c d) (class_of_components b) false ≡ true)
           → is_below below a (ReferenceArray d) ≡ true

@@ -1,6 +1,7 @@
 -- States of a method (Java Card Virtual Machine Specification, verification of CAP files: the types of local variables
 -- and of the operand stack at each instruction).
-use Rattle.std.specs.Prelude.{◌≡◌, ℕ, ◌+◌, ◌==◌, List, [], ◌∷◌, ◌++◌, length, replicate, reverse, Bool, true, false, ◌&&◌}
+use Rattle.std.specs.Prelude.{◌≡◌, ℕ, ◌+◌, ◌==◌, List, [], ◌∷◌, ◌++◌, length, replicate, reverse, Bool, true, false}
+use Rattle.std.specs.Prelude.{◌&&◌}
 use Rattle.std.specs.List.{sum_by}
 use Rattle.jc_names.specs.declared.name.ClassName.{ClassName}
 use Rattle.jc_types.specs.declared.ty.Ty.{Ty}
@@ -49,13 +50,15 @@ joined_all common (a ∷ ones) [] = []
 
 -- two states joined point by point
 abbrev pub joined_types : (ClassName → ClassName → ClassName) → Types → Types → Types
-joined_types common s t = record { locals = joined_all common s.locals t.locals; operands = joined_all common s.operands t.operands }
+joined_types common s t =
+    record { locals = joined_all common s.locals t.locals; operands = joined_all common s.operands t.operands }
 
 -- a state is above two others, and below each other one that is
 pub record IsJoin (below : ClassName → ClassName → Bool) (one other joined : Types) : Type 0 where
   pub first : types_below below one joined ≡ true
   pub second : types_below below other joined ≡ true
-  pub least : (u : Types) → types_below below one u ≡ true → types_below below other u ≡ true → types_below below joined u ≡ true
+  pub least : (u : Types) → types_below below one u ≡ true → types_below below other u ≡ true
+      → types_below below joined u ≡ true
 
 -- how many steps upward there are from a state at most: those of its locals and operands together
 abbrev pub height_of_types : (ClassName → ℕ) → ℕ → Types → ℕ

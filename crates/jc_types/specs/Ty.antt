@@ -1,5 +1,5 @@
--- Verification types, their order, their joins and their heights (Java Card Virtual Machine Specification, verification types: the types of local variables
--- and of the operand stack).
+-- Verification types, their order, their joins and their heights (Java Card Virtual Machine Specification, verification
+-- types: the types of local variables and of the operand stack).
 use Rattle.std.specs.Prelude.{ℕ, ◌+◌, Bool, true, false, ◌||◌, if◌then◌else◌, Option, Some, None}
 use Rattle.std.specs.Option.{option_map_or}
 use Rattle.jc_base.specs.declared.declared_type.DeclaredType.{DeclaredType}
@@ -8,7 +8,8 @@ use Rattle.jc_api.specs.declared.class.ApiClass.TheVariants.{Object}
 use Rattle.jc_names.specs.declared.name.ClassName.{ClassName}
 use Rattle.jc_names.specs.declared.name.ClassName.TheVariants.{Api}
 use Rattle.jc_types.specs.declared.ty.Ty.{Ty}
-use Rattle.jc_types.specs.declared.ty.Ty.TheVariants.{Top, Word, Null, Class, BooleanArray, ByteArray, ShortArray, ReferenceArray}
+use Rattle.jc_types.specs.declared.ty.Ty.TheVariants.{Top, Word, Null, Class, BooleanArray, ByteArray, ShortArray}
+use Rattle.jc_types.specs.declared.ty.Ty.TheVariants.{ReferenceArray}
 
 -- the type of what is declared so: boolean, byte and short are words
 abbrev pub type_of_declared : DeclaredType ClassName → Ty
@@ -98,9 +99,9 @@ is_short_array ByteArray = false
 is_short_array ShortArray = true
 is_short_array (ReferenceArray c) = false
 
--- whatever is of the first type is also of the second, beside an order of classes. Top is above all, Word is below Top alone, Null
--- is below each type of references; an array is below what Object is below, and arrays of references are ordered as their
--- components
+-- whatever is of the first type is also of the second, beside an order of classes. Top is above all, Word is below Top
+-- alone, Null is below each type of references; an array is below what Object is below, and arrays of references are
+-- ordered as their components
 abbrev pub is_below : (ClassName → ClassName → Bool) → Ty → Ty → Bool
 is_below below t Top = true
 is_below below t Word = is_word t
@@ -196,7 +197,8 @@ join_of common ByteArray u = join_of_byte_array u
 join_of common ShortArray u = join_of_short_array u
 join_of common (ReferenceArray c) u = join_of_reference_array common c u
 
--- how many steps upward there are from a type at most, beside the number of classes above each one, and the most that any has
+-- how many steps upward there are from a type at most, beside the number of classes above each one, and the most that
+-- any has
 abbrev pub height_of : (ClassName → ℕ) → ℕ → Ty → ℕ
 height_of above most Top = 0
 height_of above most Word = 1

@@ -1,9 +1,11 @@
 //! What code may do to a state.
 
-ghost use Rattle.std.specs.Prelude.{◌≡◌, ◌<◌, ◌≤◌, ◌&&◌, ◌==◌, ◌+◌, [], ◌∷◌, length, take, drop, reverse, slice_get, true, IfErr};
+ghost use Rattle.std.specs.Prelude.{◌≡◌, ◌<◌, ◌≤◌, ◌&&◌, ◌==◌, ◌+◌, [], ◌∷◌, length, take, drop, reverse, slice_get};
+ghost use Rattle.std.specs.Prelude.{true, IfErr};
 ghost use Rattle.jc_classes.specs.Subtype.{common_class};
 ghost use Rattle.jc_types.specs.State.{Types, all_below, stated_types, types_below, has_shape_of, joined_types};
-ghost use Rattle.jc_types.specs.Changes.{Became, with_operands, with_local, local_type, set_local_type, push_type, take_types, drop_types, duplicate_types, swap_types};
+ghost use Rattle.jc_types.specs.Changes.{Became, with_operands, with_local, local_type, set_local_type, push_type};
+ghost use Rattle.jc_types.specs.Changes.{take_types, drop_types, duplicate_types, swap_types};
 
 use crate::classes::Classes;
 use crate::join::join_front;
@@ -89,7 +91,8 @@ impl State {
     /// state is unchanged then.
     #[tactic(auto, unfolding(crate::specs::Changes::take_types))]
     pub fn take<C: Classes>(&mut self, wanted: &[Ty], classes: &C) -> Result<(), Reason>
-        ensures became { Became result self.new.types (take_types (C.lies_below classes.now) wanted.now self.old.types) }
+        ensures became { Became result self.new.types
+            (take_types (C.lies_below classes.now) wanted.now self.old.types) }
         ensures kept { IfErr result (λ _. self.new.types ≡ self.old.types) }
         ensures room { self.new.room ≡ self.old.room }
         ensures locals { length self.new.types.locals ≡ length self.old.types.locals }
@@ -270,7 +273,8 @@ impl State {
     /// Whether it lies below the types that a certificate states, the bottom operand first.
     #[tactic(auto, using(crate::proofs::Turned::reversed))]
     pub fn is_below<C: Classes>(&self, locals: &[Ty], operands: &[Ty], classes: &C) -> bool
-        ensures { result ≡ types_below (C.lies_below classes.now) self.now.types (stated_types locals.now operands.now) }
+        ensures { result ≡ types_below (C.lies_below classes.now) self.now.types
+            (stated_types locals.now operands.now) }
     {
         are_below(&self.locals, locals, classes)
             && are_below(&self.slots[..self.depth], operands, classes)
@@ -285,7 +289,8 @@ impl State {
         operands: &[Ty],
         classes: &C,
     ) -> bool
-        ensures { result ≡ types_below (C.lies_below classes.now) (with_operands self.now.types (operand ∷ [])) (stated_types locals.now operands.now) }
+        ensures { result ≡ types_below (C.lies_below classes.now) (with_operands self.now.types (operand ∷ []))
+            (stated_types locals.now operands.now) }
     {
         are_below(&self.locals[..], locals, classes) && are_below(&[operand], operands, classes)
     }

@@ -2,7 +2,8 @@
 
 ghost use Rattle.std.specs.Prelude.{◌≡◌, ◌≤◌, length, take};
 ghost use Rattle.jc_classes.specs.Subtype.{common_class};
-ghost use Rattle.jc_types.specs.Ty.{join_of_word, join_of_null, join_of_class, join_of_boolean_array, join_of_byte_array, join_of_short_array, join_of_reference_array, join_of};
+ghost use Rattle.jc_types.specs.Ty.{join_of_word, join_of_null, join_of_class, join_of_boolean_array};
+ghost use Rattle.jc_types.specs.Ty.{join_of_byte_array, join_of_short_array, join_of_reference_array, join_of};
 ghost use Rattle.jc_types.specs.State.{joined_all};
 
 use crate::ty::Ty;

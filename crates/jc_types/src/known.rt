@@ -9,10 +9,12 @@ ghost use Rattle.jc_types.specs.Known.{AreKnown, is_known};
 ghost use Rattle.jc_types.specs.State.{Types, entry_types, joined_types};
 ghost use Rattle.jc_types.specs.declared.ty.Ty.{Ty};
 
-/// Where Object is known, and the class above two of which the first is known, a join of states names known classes if both do;
-/// and what a method begins with does if its arguments do. It does nothing.
+/// Where Object is known, and the class above two of which the first is known, a join of states names known classes if
+/// both do; and what a method begins with does if its arguments do. It does nothing.
 pub fn known_laws()
-    ensures joins { (known : ClassName → Bool) (common : ClassName → ClassName → ClassName) → known (Api Object) ≡ true → ((c d : ClassName) → known c ≡ true → known (common c d) ≡ true)
+    ensures joins { (known : ClassName → Bool) (common : ClassName → ClassName → ClassName) → known (Api Object) ≡ true
+        → ((c d : ClassName) → known c ≡ true → known (common c d) ≡ true)
         → (s t : Types) → AreKnown known s → AreKnown known t → AreKnown known (joined_types common s t) }
-    ensures entries { (known : ClassName → Bool) (arguments : List Ty) (max_locals : ℕ) → list_all (is_known known) arguments ≡ true → AreKnown known (entry_types arguments max_locals) }
+    ensures entries { (known : ClassName → Bool) (arguments : List Ty) (max_locals : ℕ)
+        → list_all (is_known known) arguments ≡ true → AreKnown known (entry_types arguments max_locals) }
 {}

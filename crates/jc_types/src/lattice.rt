@@ -3,7 +3,8 @@
 ghost use Rattle.std.specs.Prelude.{◌≡◌, ◌+◌, ◌*◌, ◌<◌, ◌≤◌, ℕ, Bool, true, false, refl, None, List, length, IfOk};
 ghost use Rattle.jc_cap_desc.specs.Shape.{Shape};
 ghost use Rattle.jc_api.specs.declared.class.ApiClass.TheVariants.{Object};
-ghost use Rattle.jc_classes.specs.Subtype.{IsOrder, IsOrderly, IsClassLattice, is_class_below, common_class, classes_above};
+ghost use Rattle.jc_classes.specs.Subtype.{IsOrder, IsOrderly, IsClassLattice, is_class_below, common_class};
+ghost use Rattle.jc_classes.specs.Subtype.{classes_above};
 ghost use Rattle.jc_classes.specs.Walk.{most_classes};
 ghost use Rattle.jc_classes.specs.World.{superclass_of};
 ghost use Rattle.jc_names.specs.declared.name.ClassName.{ClassName};
@@ -24,9 +25,9 @@ use crate::ty::Ty;
 use jc_classes::{ClassTable, superclass_laws};
 use std::alloc::{AllocError, Global};
 
-/// Values in an order, read beside a table, as types are beside one of classes. Each two of one shape have a least value above
-/// both, and their heights fall with each step upward. The laws hold beside a sound table: one whose classes have both, too.
-/// `order_laws` says which are.
+/// Values in an order, read beside a table, as types are beside one of classes. Each two of one shape have a least
+/// value above both, and their heights fall with each step upward. The laws hold beside a sound table: one whose
+/// classes have both, too. `order_laws` says which are.
 pub trait Lattice: Sized {
     type Table;
 
@@ -48,8 +49,8 @@ pub trait Lattice: Sized {
     fn below(&self, other: &Self, table: &Self::Table) -> bool
         ensures { result ≡ lies_below table.now self.now other.now };
 
-    /// Puts the least value above both in place of this one. Where the two aren't of one shape it answers false and nothing
-    /// changes.
+    /// Puts the least value above both in place of this one. Where the two aren't of one shape it answers false and
+    /// nothing changes.
     fn join(&mut self, other: &Self, table: &Self::Table) -> bool
         ensures fits { result ≡ fits self.old other.now }
         ensures joined { fits self.old other.now ≡ true → self.new ≡ join_of table.now self.old other.now }
@@ -65,19 +66,26 @@ pub trait Lattice: Sized {
 
     ghost reflexive: { (t : Self.Table) → is_sound t → (x : Self) → lies_below t x x ≡ true };
 
-    ghost antisymmetric: { (t : Self.Table) → is_sound t → (x y : Self) → lies_below t x y ≡ true → lies_below t y x ≡ true → is_alike x y };
+    ghost antisymmetric: { (t : Self.Table) → is_sound t → (x y : Self) → lies_below t x y ≡ true
+        → lies_below t y x ≡ true → is_alike x y };
 
-    ghost transitive: { (t : Self.Table) → is_sound t → (x y z : Self) → lies_below t x y ≡ true → lies_below t y z ≡ true → lies_below t x z ≡ true };
+    ghost transitive: { (t : Self.Table) → is_sound t → (x y z : Self) → lies_below t x y ≡ true
+        → lies_below t y z ≡ true → lies_below t x z ≡ true };
 
-    ghost above_one: { (t : Self.Table) → is_sound t → (x y : Self) → fits x y ≡ true → lies_below t x (join_of t x y) ≡ true };
+    ghost above_one: { (t : Self.Table) → is_sound t → (x y : Self) → fits x y ≡ true
+        → lies_below t x (join_of t x y) ≡ true };
 
-    ghost above_other: { (t : Self.Table) → is_sound t → (x y : Self) → fits x y ≡ true → lies_below t y (join_of t x y) ≡ true };
+    ghost above_other: { (t : Self.Table) → is_sound t → (x y : Self) → fits x y ≡ true
+        → lies_below t y (join_of t x y) ≡ true };
 
-    ghost least: { (t : Self.Table) → is_sound t → (x y z : Self) → fits x y ≡ true → lies_below t x z ≡ true → lies_below t y z ≡ true → lies_below t (join_of t x y) z ≡ true };
+    ghost least: { (t : Self.Table) → is_sound t → (x y z : Self) → fits x y ≡ true → lies_below t x z ≡ true
+        → lies_below t y z ≡ true → lies_below t (join_of t x y) z ≡ true };
 
-    ghost fits_below: { (t : Self.Table) → is_sound t → (x y z : Self) → lies_below t x z ≡ true → lies_below t y z ≡ true → fits x y ≡ true };
+    ghost fits_below: { (t : Self.Table) → is_sound t → (x y z : Self) → lies_below t x z ≡ true
+        → lies_below t y z ≡ true → fits x y ≡ true };
 
-    ghost height_falls: { (t : Self.Table) → is_sound t → (x y : Self) → lies_below t x y ≡ true → lies_below t y x ≡ false → height_of t y < height_of t x };
+    ghost height_falls: { (t : Self.Table) → is_sound t → (x y : Self) → lies_below t x y ≡ true
+        → lies_below t y x ≡ false → height_of t y < height_of t x };
 }
 
 impl Lattice for Ty {
@@ -85,7 +93,8 @@ impl Lattice for Ty {
 
     ghost lies_below = { λ table a b. is_below (is_class_below table) a b };
 
-    ghost is_sound = { λ table. IsClassLattice (is_class_below table) (common_class table) (classes_above table) most_classes };
+    ghost is_sound = { λ table. IsClassLattice (is_class_below table) (common_class table)
+        (classes_above table) most_classes };
 
     ghost fits = { λ a b. true };
 
@@ -118,15 +127,19 @@ impl Lattice for Ty {
 
     ghost transitive = { λ table sound x y z. below_through (is_class_below table) sound.order x y z };
 
-    ghost above_one = { λ table sound x y f. Joins.above_one (is_class_below table) (common_class table) (classes_above table) most_classes sound x y };
+    ghost above_one = { λ table sound x y f. Joins.above_one (is_class_below table) (common_class table)
+        (classes_above table) most_classes sound x y };
 
-    ghost above_other = { λ table sound x y f. Joins.above_other (is_class_below table) (common_class table) (classes_above table) most_classes sound x y };
+    ghost above_other = { λ table sound x y f. Joins.above_other (is_class_below table) (common_class table)
+        (classes_above table) most_classes sound x y };
 
-    ghost least = { λ table sound x y z f. Least.least (is_class_below table) (common_class table) (classes_above table) most_classes sound x y z };
+    ghost least = { λ table sound x y z f. Least.least (is_class_below table) (common_class table)
+        (classes_above table) most_classes sound x y z };
 
     ghost fits_below = { λ table sound x y z h k. refl };
 
-    ghost height_falls = { λ table sound x y. Heights.height_falls (is_class_below table) (common_class table) (classes_above table) most_classes sound x y };
+    ghost height_falls = { λ table sound x y. Heights.height_falls (is_class_below table) (common_class table)
+        (classes_above table) most_classes sound x y };
 }
 
 impl Lattice for State {
@@ -134,11 +147,13 @@ impl Lattice for State {
 
     ghost lies_below = { λ table s t. types_below (is_class_below table) s.types t.types };
 
-    ghost is_sound = { λ table. IsClassLattice (is_class_below table) (common_class table) (classes_above table) most_classes };
+    ghost is_sound = { λ table. IsClassLattice (is_class_below table) (common_class table)
+        (classes_above table) most_classes };
 
     ghost fits = { λ s t. has_shape_of s.types t.types };
 
-    ghost join_of = { λ table s t. record { types = joined_types (common_class table) s.types t.types; room = s.room } };
+    ghost join_of = { λ table s t.
+        record { types = joined_types (common_class table) s.types t.types; room = s.room } };
 
     ghost height_of = { λ table s. height_of_types (classes_above table) most_classes s.types };
 
@@ -166,36 +181,51 @@ impl Lattice for State {
 
     ghost reflexive = { λ table sound s. States.types_below_self (is_class_below table) sound.order s.types };
 
-    ghost antisymmetric = { λ table sound s t. States.types_below_both (is_class_below table) sound.order s.types t.types };
+    ghost antisymmetric = { λ table sound s t.
+        States.types_below_both (is_class_below table) sound.order s.types t.types };
 
-    ghost transitive = { λ table sound s t u. States.types_below_through (is_class_below table) sound.order s.types t.types u.types };
+    ghost transitive = { λ table sound s t u.
+        States.types_below_through (is_class_below table) sound.order s.types t.types u.types };
 
-    ghost above_one = { λ table sound s t. States.types_above_one (is_class_below table) (common_class table) (classes_above table) most_classes sound s.types t.types };
+    ghost above_one = { λ table sound s t. States.types_above_one (is_class_below table) (common_class table)
+        (classes_above table) most_classes sound s.types t.types };
 
-    ghost above_other = { λ table sound s t. States.types_above_other (is_class_below table) (common_class table) (classes_above table) most_classes sound s.types t.types };
+    ghost above_other = { λ table sound s t. States.types_above_other (is_class_below table) (common_class table)
+        (classes_above table) most_classes sound s.types t.types };
 
-    ghost least = { λ table sound s t u f. States.types_least (is_class_below table) (common_class table) (classes_above table) most_classes sound s.types t.types u.types };
+    ghost least = { λ table sound s t u f. States.types_least (is_class_below table) (common_class table)
+        (classes_above table) most_classes sound s.types t.types u.types };
 
     ghost fits_below = { λ table sound s t u. States.one_shape (is_class_below table) s.types t.types u.types };
 
-    ghost height_falls = { λ table sound s t. States.types_fall (is_class_below table) (common_class table) (classes_above table) most_classes sound s.types t.types };
+    ghost height_falls = { λ table sound s t. States.types_fall (is_class_below table) (common_class table)
+        (classes_above table) most_classes sound s.types t.types };
 }
 
-/// The order of states, point by point, is a partial order beside an order of classes; beside a lattice of classes each two
-/// states of one shape have a least one above both, and the heights of states fall upward and are bounded. The classes of a table
-/// are such a lattice where no superclass chain has a cycle, every listed interface is an interface, and Object has no
-/// superclass. It does nothing.
+/// The order of states, point by point, is a partial order beside an order of classes; beside a lattice of classes each
+/// two states of one shape have a least one above both, and the heights of states fall upward and are bounded. The
+/// classes of a table are such a lattice where no superclass chain has a cycle, every listed interface is an interface,
+/// and Object has no superclass. It does nothing.
 pub fn order_laws()
-    ensures tables { (world : List Shape) → IsOrderly world → superclass_of world (Api Object) ≡ None → IsOrder (is_class_below world) }
-    ensures reflexive { (below : ClassName → ClassName → Bool) → IsOrder below → (s : Types) → types_below below s s ≡ true }
-    ensures antisymmetric { (below : ClassName → ClassName → Bool) → IsOrder below → (s t : Types) → types_below below s t ≡ true → types_below below t s ≡ true → s ≡ t }
-    ensures transitive { (below : ClassName → ClassName → Bool) → IsOrder below → (s t u : Types) → types_below below s t ≡ true → types_below below t u ≡ true → types_below below s u ≡ true }
-    ensures lattices { (world : List Shape) → IsOrderly world → superclass_of world (Api Object) ≡ None → IsClassLattice (is_class_below world) (common_class world) (classes_above world) most_classes }
-    ensures joins { (below : ClassName → ClassName → Bool) (common : ClassName → ClassName → ClassName) (above : ClassName → ℕ) (most : ℕ) → IsClassLattice below common above most
+    ensures tables { (world : List Shape) → IsOrderly world → superclass_of world (Api Object) ≡ None
+        → IsOrder (is_class_below world) }
+    ensures reflexive { (below : ClassName → ClassName → Bool) → IsOrder below → (s : Types)
+        → types_below below s s ≡ true }
+    ensures antisymmetric { (below : ClassName → ClassName → Bool) → IsOrder below → (s t : Types)
+        → types_below below s t ≡ true → types_below below t s ≡ true → s ≡ t }
+    ensures transitive { (below : ClassName → ClassName → Bool) → IsOrder below → (s t u : Types)
+        → types_below below s t ≡ true → types_below below t u ≡ true → types_below below s u ≡ true }
+    ensures lattices { (world : List Shape) → IsOrderly world → superclass_of world (Api Object) ≡ None
+        → IsClassLattice (is_class_below world) (common_class world) (classes_above world) most_classes }
+    ensures joins { (below : ClassName → ClassName → Bool) (common : ClassName → ClassName → ClassName)
+        (above : ClassName → ℕ) (most : ℕ) → IsClassLattice below common above most
         → (s t : Types) → has_shape_of s t ≡ true → IsJoin below s t (joined_types common s t) }
-    ensures heights { (below : ClassName → ClassName → Bool) (common : ClassName → ClassName → ClassName) (above : ClassName → ℕ) (most : ℕ) → IsClassLattice below common above most
-        → (s t : Types) → types_below below s t ≡ true → types_below below t s ≡ false → height_of_types above most t < height_of_types above most s }
-    ensures bound { (below : ClassName → ClassName → Bool) (common : ClassName → ClassName → ClassName) (above : ClassName → ℕ) (most : ℕ) → IsClassLattice below common above most
+    ensures heights { (below : ClassName → ClassName → Bool) (common : ClassName → ClassName → ClassName)
+        (above : ClassName → ℕ) (most : ℕ) → IsClassLattice below common above most
+        → (s t : Types) → types_below below s t ≡ true → types_below below t s ≡ false
+        → height_of_types above most t < height_of_types above most s }
+    ensures bound { (below : ClassName → ClassName → Bool) (common : ClassName → ClassName → ClassName)
+        (above : ClassName → ℕ) (most : ℕ) → IsClassLattice below common above most
         → (s : Types) → height_of_types above most s ≤ (length s.locals + length s.operands) * (3 + most) }
 {
     superclass_laws();

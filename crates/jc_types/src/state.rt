@@ -21,7 +21,11 @@ impl Model for State {
 
     ghost Value = { StateWithRoom };
 
-    ghost view = { λ s. record { types = record { locals = s.locals.items; operands = reverse (take s.depth s.slots.items) }; room = length s.slots.items } };
+    ghost view = { λ s.
+        record {
+          types = record { locals = s.locals.items; operands = reverse (take s.depth s.slots.items) };
+          room = length s.slots.items;
+        } };
 
     ghost invariant = { λ s. s.depth ≤ length s.slots.items };
 }

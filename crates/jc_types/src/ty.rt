@@ -1,7 +1,8 @@
 //! Verification types.
 
 ghost use Rattle.std.specs.Prelude.{◌≡◌};
-ghost use Rattle.jc_types.specs.Ty.{type_of_declared, class_of_objects, class_of_components, is_word, is_null, is_reference, is_boolean_array, is_byte_array, is_short_array};
+ghost use Rattle.jc_types.specs.Ty.{type_of_declared, class_of_objects, class_of_components, is_word, is_null};
+ghost use Rattle.jc_types.specs.Ty.{is_reference, is_boolean_array, is_byte_array, is_short_array};
 
 use jc_api::ApiClass;
 use jc_base::DeclaredType;

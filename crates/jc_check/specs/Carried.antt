@@ -1,6 +1,7 @@
 -- What it means that a certificate carries a method: with the certificate's states there is one typing that goes
 -- from instruction to instruction, and it is well typed.
-use Rattle.std.specs.Prelude.{⊤, ◌≡◌, ℕ, ℤ, pos, ◌+◌, ◌^◌, ◌<◌, ◌==◌, ◌&&◌, List, [], ◌∷◌, length, map, Option, Some, None, Ok, Bool, true, false, nat_le, if◌then◌else◌}
+use Rattle.std.specs.Prelude.{⊤, ◌≡◌, ℕ, ℤ, pos, ◌+◌, ◌^◌, ◌<◌, ◌==◌, ◌&&◌, List, [], ◌∷◌, length, map, Option, Some}
+use Rattle.std.specs.Prelude.{None, Ok, Bool, true, false, nat_le, if◌then◌else◌}
 use Rattle.std.specs.List.{AllByRecursion}
 use Rattle.jc_names.specs.declared.name.ClassName.{ClassName}
 use Rattle.jc_code.specs.Listing.{PlacedInstr, IsListing, placed_at, begins}
@@ -37,7 +38,8 @@ pub record HandlerStands (listing : List PlacedInstr) (h : Handler) : Type 0 whe
   pub catches : h.caught ≡ Some class
 
 -- a branch leads to an instruction where the certificate has a state above these types
-pub record Arrives (rules : Rules) (listing : List PlacedInstr) (claims : List Claim) (t : Types) (place : ℤ) : Type 0 where
+pub record Arrives (rules : Rules) (listing : List PlacedInstr) (claims : List Claim) (t : Types)
+    (place : ℤ) : Type 0 where
   pub pc : ℕ
   pub is : place ≡ pos pc
   pub begin : begins listing pc ≡ true
@@ -60,7 +62,8 @@ abbrev pub GoesOnIf : Rules → Method → List Claim → Typing → Bool → Ty
 GoesOnIf rules m claims typing true t pc = (pc < length m.code) × GoesOn rules (state_at claims pc) (typing pc) t
 GoesOnIf rules m claims typing false t pc = NothingGoesOn (state_at claims pc) (typing pc)
 
--- a handler catches a class, and the certificate has a state where it goes on, which is above these types with that class caught
+-- a handler catches a class, and the certificate has a state where it goes on, which is above these types with that
+-- class caught
 pub record IsCaught (rules : Rules) (claims : List Claim) (t : Types) (h : Handler) : Type 0 where
   pub class : ClassName
   pub catches : h.caught ≡ Some class
@@ -72,8 +75,10 @@ pub record IsCaught (rules : Rules) (claims : List Claim) (t : Types) (h : Handl
 abbrev pub IsHandled : Rules → List Claim → ℕ → Types → Handler → Type 0
 IsHandled rules claims pc t h = covers h pc ≡ true → IsCaught rules claims t h
 
--- the handlers that cover an instruction catch in the state before it; it has an effect on that state, and the state after goes where the certificate says
-pub record IsCarriedAt (rules : Rules) (m : Method) (listing : List PlacedInstr) (claims : List Claim) (typing : Typing) (x : PlacedInstr) (s : Types) : Type 0 where
+-- the handlers that cover an instruction catch in the state before it; it has an effect on that state, and the state
+-- after goes where the certificate says
+pub record IsCarriedAt (rules : Rules) (m : Method) (listing : List PlacedInstr) (claims : List Claim) (typing : Typing)
+    (x : PlacedInstr) (s : Types) : Type 0 where
   pub handled : AllByRecursion (IsHandled rules claims x.pc s) m.handlers
   pub after : Types
   pub effect : rules.effect m.max_stack m.returned x.instr.operation s ≡ Ok after
@@ -100,8 +105,10 @@ pub record Carries (rules : Rules) (m : Method) (states : List Stated) : Type 0 
   -- the entry state goes to pc 0
   pub entry : GoesOnIf rules m claims typing true (entry_of m) 0
   -- each instruction with a state is carried, and behind one without a state nothing goes on
-  pub live : (pc : ℕ) (x : PlacedInstr) (s : Types) → placed_at listing pc ≡ Some x → typing pc ≡ Some s → IsCarriedAt rules m listing claims typing x s
-  pub dead : (pc : ℕ) (x : PlacedInstr) → placed_at listing pc ≡ Some x → typing pc ≡ None → NothingGoesOn (state_at claims x.instr.next_pc) (typing x.instr.next_pc)
+  pub live : (pc : ℕ) (x : PlacedInstr) (s : Types) → placed_at listing pc ≡ Some x → typing pc ≡ Some s
+      → IsCarriedAt rules m listing claims typing x s
+  pub dead : (pc : ℕ) (x : PlacedInstr) → placed_at listing pc ≡ Some x → typing pc ≡ None
+      → NothingGoesOn (state_at claims x.instr.next_pc) (typing x.instr.next_pc)
 
 -- rows are a certificate, which carries code alone
 pub record CertCarriesCode (code : List ℕ) (rows : List Row) : Type 0 where

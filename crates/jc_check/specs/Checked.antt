@@ -40,13 +40,16 @@ pub record IsFirstUncarried (l : Linked) (rows : List Row) (b : MethodBody) (fau
   pub place : ℕ
   pub is : slice_get l.body.kept.methods place ≡ Some b
   pub first : IsFirstFault (package_rules l) (method_of l b) (stated_for rows b.offset) fault
-  pub before : (n : ℕ) (c : MethodBody) → slice_get l.body.kept.methods n ≡ Some c → c.offset < b.offset → IsMethodCarried l rows c
+  pub before : (n : ℕ) (c : MethodBody) → slice_get l.body.kept.methods n ≡ Some c → c.offset < b.offset
+      → IsMethodCarried l rows c
 
--- the first refusal: of the first row for an offset without code; or else of the method with the least offset that isn't carried
+-- the first refusal: of the first row for an offset without code; or else of the method with the least offset that
+-- isn't carried
 pub data IsFirstRefusal (l : Linked) (rows : List Row) : LoadFault → Type 0 where
-  stray : (offset : ℕ) → stray_offset l.body.kept.methods rows ≡ Some offset → IsFirstRefusal l rows (MethodRefused offset 0 CertMismatch)
-  method : (b : MethodBody) (fault : Fault) → stray_offset l.body.kept.methods rows ≡ None → IsFirstUncarried l rows b fault
-      → IsFirstRefusal l rows (MethodRefused b.offset fault.pc fault.reason)
+  stray : (offset : ℕ) → stray_offset l.body.kept.methods rows ≡ Some offset
+      → IsFirstRefusal l rows (MethodRefused offset 0 CertMismatch)
+  method : (b : MethodBody) (fault : Fault) → stray_offset l.body.kept.methods rows ≡ None
+      → IsFirstUncarried l rows b fault → IsFirstRefusal l rows (MethodRefused b.offset fault.pc fault.reason)
 
 -- the first refusal, or want of memory
 abbrev pub IsRefusal : Linked → List Row → LoadFault → Type 0

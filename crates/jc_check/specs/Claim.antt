@@ -6,7 +6,8 @@ use Rattle.jc_cert.specs.declared.stated_type.StatedType.{StatedType}
 use Rattle.jc_cert.specs.declared.stated_type.StatedType.TheVariants as types
 use Rattle.jc_names.specs.declared.name.ClassName.{ClassName}
 use Rattle.jc_types.specs.declared.ty.Ty.{Ty}
-use Rattle.jc_types.specs.declared.ty.Ty.TheVariants.{Top, Word, Null, Class, BooleanArray, ByteArray, ShortArray, ReferenceArray}
+use Rattle.jc_types.specs.declared.ty.Ty.TheVariants.{Top, Word, Null, Class, BooleanArray, ByteArray, ShortArray}
+use Rattle.jc_types.specs.declared.ty.Ty.TheVariants.{ReferenceArray}
 use Rattle.jc_check.specs.Rules.{Rules}
 
 -- a state of a certificate with its classes found, the operands bottom first
@@ -29,10 +30,12 @@ type_claimed class_of (types.ReferenceArray name) = option_map ReferenceArray (c
 -- the types that are stated, if the classes of all of them are found
 abbrev pub types_claimed : (SpelledClass → Option ClassName) → List StatedType → Option (List Ty)
 types_claimed class_of [] = Some []
-types_claimed class_of (t ∷ ts) = option_and_then (λ one. option_map (λ more. one ∷ more) (types_claimed class_of ts)) (type_claimed class_of t)
+types_claimed class_of (t ∷ ts) =
+    option_and_then (λ one. option_map (λ more. one ∷ more) (types_claimed class_of ts)) (type_claimed class_of t)
 
 -- the state that is stated, if its classes are found
 unfoldable pub claim_of : Rules → Stated → Option Claim
 claim_of rules c =
-    option_and_then (λ locals. option_map (λ operands. record { pc = c.pc; locals = locals; operands = operands }) (types_claimed rules.class_of c.operands))
+    option_and_then (λ locals. option_map (λ operands. record { pc = c.pc; locals = locals; operands = operands })
+    (types_claimed rules.class_of c.operands))
     (types_claimed rules.class_of c.locals)

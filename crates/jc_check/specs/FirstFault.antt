@@ -1,6 +1,7 @@
 -- The first fault of a method that its certificate doesn't carry, in the order of the tests: rows for no method,
 -- empty code, decoding, the handlers, the certificate's states, and then the instructions by ascending pc.
-use Rattle.std.specs.Prelude.{⊤, ◌≡◌, ◌≢◌, ℕ, ℤ, pos, negsuc, List, [], ◌∷◌, length, Option, Some, None, Result, Ok, Err, Bool, ◌&&◌, nat_lt, if◌then◌else◌}
+use Rattle.std.specs.Prelude.{⊤, ◌≡◌, ◌≢◌, ℕ, ℤ, pos, negsuc, List, [], ◌∷◌, length, Option, Some, None, Result, Ok}
+use Rattle.std.specs.Prelude.{Err, Bool, ◌&&◌, nat_lt, if◌then◌else◌}
 use Rattle.jc_base.specs.declared.reason.Reason.{Reason}
 use Rattle.jc_base.specs.declared.reason.Reason.TheVariants.{NoTarget, CertMismatch, FallsOff, WrongType}
 use Rattle.jc_base.specs.declared.reason.Reason.TheVariants as reasons
@@ -43,12 +44,15 @@ claim_or_fault (Some claim) = Ok claim
 
 -- a state of the certificate: it is where an instruction begins, in the method's shape, and its classes are found
 abbrev pub state_stands : Rules → Method → List PlacedInstr → Stated → Result Claim Reason
-state_stands rules m listing c = if begins listing c.pc && has_shape m c then claim_or_fault (claim_of rules c) else Err CertMismatch
+state_stands rules m listing c =
+    if begins listing c.pc && has_shape m c then claim_or_fault (claim_of rules c) else Err CertMismatch
 
 -- the certificate's states in order, with their classes found
 unfoldable pub states_stand : Rules → Method → List PlacedInstr → List Stated → Result (List Claim) Fault
 states_stand rules m listing [] = Ok []
-states_stand rules m listing (c ∷ cs) = told_at c.pc (state_stands rules m listing c) >>= λ claim. states_stand rules m listing cs >>= λ claims. Ok (claim ∷ claims)
+states_stand rules m listing (c ∷ cs) =
+    told_at c.pc (state_stands rules m listing c) >>= λ claim. states_stand rules m listing cs >>= λ claims.
+    Ok (claim ∷ claims)
 
 -- types where a state is claimed, which is above them
 abbrev pub meets : Rules → Types → Option Types → Result ⊤ Reason
@@ -63,7 +67,8 @@ arrives rules listing claims t (negsuc n) = Err NoTarget
 -- each branch in turn
 abbrev pub all_arrive : Rules → List PlacedInstr → List Claim → Types → List ℤ → Result ⊤ Reason
 all_arrive rules listing claims t [] = Ok tt
-all_arrive rules listing claims t (place ∷ places) = arrives rules listing claims t place >>= λ _. all_arrive rules listing claims t places
+all_arrive rules listing claims t (place ∷ places) =
+    arrives rules listing claims t place >>= λ _. all_arrive rules listing claims t places
 
 -- these types, or nothing where a state is claimed that is above them
 abbrev pub flows : Rules → Types → Option Types → Result (Option Types) Reason
@@ -77,8 +82,8 @@ falls_to rules m claims t pc = if nat_lt pc (length m.code) then flows rules t (
 abbrev pub falls_if : Rules → Method → List Claim → Bool → Types → ℕ → Result (Option Types) Reason
 falls_if rules m claims falls t pc = if falls then falls_to rules m claims t pc else Ok None
 
--- a handler that covers an instruction: it catches a class, and the types before the instruction with that class caught meet the
--- claimed state where it goes on
+-- a handler that covers an instruction: it catches a class, and the types before the instruction with that class caught
+-- meet the claimed state where it goes on
 abbrev pub catches_at : Rules → List Claim → Types → ℕ → Option ClassName → Result ⊤ Reason
 catches_at rules claims t goes_on None = Err CertMismatch
 catches_at rules claims t goes_on (Some class) = meets rules (caught_types class t) (state_at claims goes_on)
@@ -93,7 +98,8 @@ all_handle rules claims pc t [] = Ok tt
 all_handle rules claims pc t (h ∷ hs) = handles rules claims pc t h >>= λ _. all_handle rules claims pc t hs
 
 -- an instruction on a state: the handlers that cover it, its effect, its branches, and then what goes on behind it
-unfoldable pub visit_live : Rules → Method → List PlacedInstr → List Claim → PlacedInstr → Types → Result (Option Types) Reason
+unfoldable pub visit_live : Rules → Method → List PlacedInstr → List Claim → PlacedInstr → Types
+    → Result (Option Types) Reason
 visit_live rules m listing claims x s = do
   _ ← all_handle rules claims x.pc s m.handlers
   after ← rules.effect m.max_stack m.returned x.instr.operation s
@@ -101,27 +107,33 @@ visit_live rules m listing claims x s = do
   falls_if rules m claims (falls_of x.instr.operation) after x.instr.next_pc
 
 -- the state at an instruction is the certificate's, if it has one, else what flows in; with neither it is dead
-abbrev pub visit_on : Rules → Method → List PlacedInstr → List Claim → PlacedInstr → Option Types → Option Types → Result (Option Types) Reason
+abbrev pub visit_on : Rules → Method → List PlacedInstr → List Claim → PlacedInstr → Option Types → Option Types
+    → Result (Option Types) Reason
 visit_on rules m listing claims x (Some c) flow = visit_live rules m listing claims x c
 visit_on rules m listing claims x None (Some s) = visit_live rules m listing claims x s
 visit_on rules m listing claims x None None = Ok None
 
-unfoldable pub visit : Rules → Method → List PlacedInstr → List Claim → PlacedInstr → Option Types → Result (Option Types) Reason
+unfoldable pub visit : Rules → Method → List PlacedInstr → List Claim → PlacedInstr → Option Types
+    → Result (Option Types) Reason
 visit rules m listing claims x flow = visit_on rules m listing claims x (state_at claims x.pc) flow
 
 -- the instructions in order, with what flows into the first
 unfoldable pub walk : Rules → Method → List PlacedInstr → List Claim → Option Types → List PlacedInstr → Result ⊤ Fault
 walk rules m listing claims flow [] = Ok tt
-walk rules m listing claims flow (x ∷ xs) = told_at x.pc (visit rules m listing claims x flow) >>= λ next. walk rules m listing claims next xs
+walk rules m listing claims flow (x ∷ xs) =
+    told_at x.pc (visit rules m listing claims x flow) >>= λ next. walk rules m listing claims next xs
 
 -- the entry state goes to pc 0, and the instructions follow
 abbrev pub flow_findings_of : Rules → Method → List PlacedInstr → List Claim → Result ⊤ Fault
-flow_findings_of rules m listing claims = told_at 0 (falls_to rules m claims (entry_of m) 0) >>= λ flow. walk rules m listing claims flow listing
+flow_findings_of rules m listing claims =
+    told_at 0 (falls_to rules m claims (entry_of m) 0) >>= λ flow. walk rules m listing claims flow listing
 
--- what is found in code that decodes: a handler that doesn't stand, a state of the certificate that doesn't, or else what the pass
--- finds
+-- what is found in code that decodes: a handler that doesn't stand, a state of the certificate that doesn't, or else
+-- what the pass finds
 unfoldable pub findings_of : Rules → Method → List PlacedInstr → List Stated → Result ⊤ Fault
-findings_of rules m listing states = handlers_stand listing m.handlers >>= λ _. states_stand rules m listing states >>= λ claims. flow_findings_of rules m listing claims
+findings_of rules m listing states =
+    handlers_stand listing m.handlers >>= λ _. states_stand rules m listing states >>= λ claims.
+    flow_findings_of rules m listing claims
 
 -- the reason that is told of a fault in decoding
 abbrev pub reason_of : CodeFault → Reason
@@ -134,8 +146,10 @@ fault_at pc reason = record { pc = pc; reason = reason }
 
 pub data IsFirstFault (rules : Rules) (m : Method) (states : List Stated) : Fault → Type 0 where
   empty : m.code ≡ [] → IsFirstFault rules m states (fault_at 0 FallsOff)
-  undecoded : (pc : ℕ) (fault : CodeFault) → StopsAt rules.decoder m.code pc fault → IsFirstFault rules m states (fault_at pc (reason_of fault))
-  found : (listing : List PlacedInstr) (fault : Fault) → IsListing rules.decoder m.code listing → m.code ≢ [] → findings_of rules m listing states ≡ Err fault → IsFirstFault rules m states fault
+  undecoded : (pc : ℕ) (fault : CodeFault) → StopsAt rules.decoder m.code pc fault
+      → IsFirstFault rules m states (fault_at pc (reason_of fault))
+  found : (listing : List PlacedInstr) (fault : Fault) → IsListing rules.decoder m.code listing → m.code ≢ []
+      → findings_of rules m listing states ≡ Err fault → IsFirstFault rules m states fault
 
 -- the first fault of code alone with a certificate
 abbrev pub IsFirstFaultOf : List ℕ → Option (List Stated) → Fault → Type 0

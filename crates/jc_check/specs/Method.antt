@@ -1,13 +1,14 @@
 -- A method as its check sees it.
-use Rattle.std.specs.Prelude.{ℕ, ◌+◌, ◌==◌, ◌&&◌, nat_le, nat_lt, Bool, List, [], ◌∷◌, Option, Some, None, if◌then◌else◌}
+use Rattle.std.specs.Prelude.{ℕ, ◌+◌, ◌==◌, ◌&&◌, nat_le, nat_lt, Bool, List, [], ◌∷◌, Option, Some, None}
+use Rattle.std.specs.Prelude.{if◌then◌else◌}
 use Rattle.jc_names.specs.declared.name.ClassName.{ClassName}
 use Rattle.jc_types.specs.declared.ty.Ty.{Ty}
 use Rattle.jc_types.specs.declared.ty.Ty.TheVariants.{Word, Class}
 use Rattle.jc_types.specs.State.{Types, entry_types}
 use Rattle.jc_cert.specs.Cert.{Stated, Row}
 
--- a handler: the first pc that it covers and how many it covers, the pc at which it goes on, and the class that it catches, if its
--- entry of the constant pool names one that may be thrown
+-- a handler: the first pc that it covers and how many it covers, the pc at which it goes on, and the class that it
+-- catches, if its entry of the constant pool names one that may be thrown
 pub record Handler : Type 0 where
   pub start : ℕ
   pub length : ℕ
@@ -22,8 +23,8 @@ covers h pc = nat_le h.start pc && nat_lt pc (h.start + h.length)
 abbrev pub caught_types : ClassName → Types → Types
 caught_types class s = record { locals = s.locals; operands = Class class ∷ [] }
 
--- its code, the types of its arguments, how many locals it has beside them, how many operands it may have, the type of its
--- result, if it isn't void, and its handlers
+-- its code, the types of its arguments, how many locals it has beside them, how many operands it may have, the type of
+-- its result, if it isn't void, and its handlers
 pub record Method : Type 0 where
   pub code : List ℕ
   pub arguments : List Ty
@@ -45,7 +46,15 @@ word_max_stack = 8
 
 -- code alone: a static method without arguments and handlers that returns a short
 abbrev pub word_method : List ℕ → Method
-word_method code = record { code = code; arguments = []; max_locals = word_locals; max_stack = word_max_stack; returned = Some Word; handlers = [] }
+word_method code =
+    record {
+      code = code;
+      arguments = [];
+      max_locals = word_locals;
+      max_stack = word_max_stack;
+      returned = Some Word;
+      handlers = [];
+    }
 
 -- the certificate's states for the one method there is, at offset 0; a row for another offset is for no method
 abbrev pub states_of : List Row → Option (List Stated)

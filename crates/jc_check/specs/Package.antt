@@ -1,6 +1,7 @@
--- What a linked package is checked by, and its methods as the check sees them (Java Card Virtual Machine Specification, Method
--- component: method_header_info, exception_handler_info).
-use Rattle.std.specs.Prelude.{ℕ, ◌-◌, ◌==◌, List, [], ◌∷◌, ◌++◌, length, map, Option, Some, None, slice_get, if◌then◌else◌}
+-- What a linked package is checked by, and its methods as the check sees them (Java Card Virtual Machine Specification,
+-- Method component: method_header_info, exception_handler_info).
+use Rattle.std.specs.Prelude.{ℕ, ◌-◌, ◌==◌, List, [], ◌∷◌, ◌++◌, length, map, Option, Some, None, slice_get}
+use Rattle.std.specs.Prelude.{if◌then◌else◌}
 use Rattle.std.specs.Option.{option_and_then, option_map_or}
 use Rattle.jc_base.specs.declared.class_ref.ClassRef.TheVariants.{Internal}
 use Rattle.jc_api.specs.declared.class.ApiClass.TheVariants.{Throwable}
@@ -77,7 +78,9 @@ catches_all = 0
 
 -- the class that a handler catches, by its index into the constant pool
 abbrev pub caught_class : Linked → ℕ → Option ClassName
-caught_class l index = if index == catches_all then Some throwable else option_and_then (thrown_class l.world) (slice_get l.body.targets index)
+caught_class l index =
+    if index == catches_all then Some throwable
+    else option_and_then (thrown_class l.world) (slice_get l.body.targets index)
 
 -- a handler of code that begins at an offset of the Method component
 abbrev pub handler_of : Linked → ℕ → rows.Handler → Handler
@@ -94,7 +97,9 @@ receiver_of d = if d.method.is_static then [] else Class d.class ∷ []
 
 -- the types of a method's arguments, the object first
 abbrev pub arguments_of : List Shape → DeclaredMethod → List Ty
-arguments_of world d = receiver_of d ++ option_map_or (λ signature. map type_of_declared signature.parameters) (declared_type_of world d) []
+arguments_of world d =
+    receiver_of d ++ option_map_or (λ signature. map type_of_declared signature.parameters)
+    (declared_type_of world d) []
 
 -- how many locals it has beside its arguments
 abbrev pub max_locals_of : DeclaredMethod → ℕ

@@ -19,9 +19,11 @@ pub record IsLeast (l : Linked) (rows : List Row) (n : ℕ) (f : MethodFault) : 
   pub b : MethodBody
   pub is : slice_get l.body.kept.methods place ≡ Some b
   pub fault : IsUncarried l rows b f
-  pub before : (k : ℕ) (c : MethodBody) → k < n → slice_get l.body.kept.methods k ≡ Some c → c.offset < f.method → IsMethodCarried l rows c
+  pub before : (k : ℕ) (c : MethodBody) → k < n → slice_get l.body.kept.methods k ≡ Some c → c.offset < f.method
+      → IsMethodCarried l rows c
 
 -- the first methods are carried, but for the one that is told, if one is
 abbrev pub LeastOf : Linked → List Row → ℕ → Option MethodFault → Type 0
-LeastOf l rows n None = (k : ℕ) (c : MethodBody) → k < n → slice_get l.body.kept.methods k ≡ Some c → IsMethodCarried l rows c
+LeastOf l rows n None =
+    (k : ℕ) (c : MethodBody) → k < n → slice_get l.body.kept.methods k ≡ Some c → IsMethodCarried l rows c
 LeastOf l rows n (Some f) = IsLeast l rows n f

@@ -1,5 +1,6 @@
 -- Private. The table of marks that the check keeps beside the code, and what its steps leave.
-use Rattle.std.specs.Prelude.{⊤, ◌≡◌, ℕ, ◌+◌, ◌==◌, ◌&&◌, nat_le, List, length, Option, Some, None, Result, Ok, Err, Bool, true, false, slice_get, slice_index_or, if◌then◌else◌}
+use Rattle.std.specs.Prelude.{⊤, ◌≡◌, ℕ, ◌+◌, ◌==◌, ◌&&◌, nat_le, List, length, Option, Some, None, Result, Ok, Err}
+use Rattle.std.specs.Prelude.{Bool, true, false, slice_get, slice_index_or, if◌then◌else◌}
 use Rattle.jc_base.specs.declared.reason.Reason.{Reason}
 use Rattle.jc_code.specs.Listing.{PlacedInstr, IsListing, begins}
 use Rattle.jc_types.specs.State.{Types, StateWithRoom}
@@ -39,7 +40,8 @@ IsMark m listing claims pc Inside = (begins listing pc ≡ false) × (state_at c
 IsMark m listing claims pc Start = (begins listing pc ≡ true) × (state_at claims pc ≡ None)
 IsMark m listing claims pc (Holds k) = IsHeld m listing claims pc k
 
-pub record IsTable (rules : Rules) (m : Method) (listing : List PlacedInstr) (claims : List Claim) (marks : List Mark) : Type 0 where
+pub record IsTable (rules : Rules) (m : Method) (listing : List PlacedInstr) (claims : List Claim)
+    (marks : List Mark) : Type 0 where
   pub whole : IsListing rules.decoder m.code listing
   pub len : length marks ≡ length m.code
   pub each : (pc : ℕ) → IsMark m listing claims pc (slice_index_or marks pc Inside)

@@ -1,5 +1,5 @@
--- What code is checked by: how it decodes, what its instructions do to types, how its classes are ordered, and which classes the
--- names in a certificate stand for. Code alone is checked by one of them.
+-- What code is checked by: how it decodes, what its instructions do to types, how its classes are ordered, and which
+-- classes the names in a certificate stand for. Code alone is checked by one of them.
 use Rattle.std.specs.Prelude.{ℕ, [], Bool, Option, None, Result, Err}
 use Rattle.jc_base.specs.declared.reason.Reason.{Reason}
 use Rattle.jc_base.specs.declared.reason.Reason.TheVariants.{BadOpcode}
@@ -32,4 +32,5 @@ words_alone most returned (Object operation) s = Err BadOpcode
 
 -- code alone: it has the instructions on words, and names no class
 abbrev pub word_rules : Rules
-word_rules = record { decoder = word_instr_at; effect = words_alone; below = is_class_below []; class_of = λ name. None }
+word_rules =
+    record { decoder = word_instr_at; effect = words_alone; below = is_class_below []; class_of = λ name. None }

@@ -26,7 +26,8 @@ pub record BranchLeads (rules : Rules) (typing : Typing) (t : Types) (place : �
   pub is : place ≡ pos pc
   pub leads : Leads rules typing t pc
 
--- a handler catches a class, and the typing has a state where it goes on, which is above these types with that class caught
+-- a handler catches a class, and the typing has a state where it goes on, which is above these types with that class
+-- caught
 pub record CatchLeads (rules : Rules) (typing : Typing) (t : Types) (h : Handler) : Type 0 where
   pub class : ClassName
   pub catches : h.caught ≡ Some class
@@ -36,7 +37,8 @@ pub record CatchLeads (rules : Rules) (typing : Typing) (t : Types) (h : Handler
 abbrev pub HandlerLeads : Rules → Typing → ℕ → Types → Handler → Type 0
 HandlerLeads rules typing pc t h = covers h pc ≡ true → CatchLeads rules typing t h
 
--- the handlers that cover an instruction catch in the state before it; it has an effect on that state, and leads only to places whose states are above the state after
+-- the handlers that cover an instruction catch in the state before it; it has an effect on that state, and leads only
+-- to places whose states are above the state after
 pub record IsFine (rules : Rules) (m : Method) (typing : Typing) (x : PlacedInstr) (s : Types) : Type 0 where
   pub handled : AllByRecursion (HandlerLeads rules typing x.pc s) m.handlers
   pub after : Types
@@ -45,7 +47,8 @@ pub record IsFine (rules : Rules) (m : Method) (typing : Typing) (x : PlacedInst
   pub falls : falls_of x.instr.operation ≡ true → Leads rules typing after x.instr.next_pc
 
 -- an instruction begins at a pc, and it is fine on the state there
-pub record IsFineAt (rules : Rules) (m : Method) (typing : Typing) (listing : List PlacedInstr) (pc : ℕ) (s : Types) : Type 0 where
+pub record IsFineAt (rules : Rules) (m : Method) (typing : Typing) (listing : List PlacedInstr) (pc : ℕ)
+    (s : Types) : Type 0 where
   pub instr : PlacedInstr
   pub stands : placed_at listing pc ≡ Some instr
   pub fine : IsFine rules m typing instr s

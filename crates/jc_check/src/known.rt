@@ -42,8 +42,8 @@ fn header_is_small(declared: &DeclaredMethod)
     let _operands = max_stack_of(declared);
 }
 
-/// What holds of the world of a linked package: types name classes of it, and methods have the headers that they have to. It does
-/// nothing.
+/// What holds of the world of a linked package: types name classes of it, and methods have the headers that they have
+/// to. It does nothing.
 fn world_laws(linked: &Linked)
     ensures names { NameClasses linked.now.world }
     ensures methods { HaveMethods linked.now.world }
@@ -72,13 +72,14 @@ fn frame_is_small(linked: &Linked, body: &MethodCode)
 /// The frames of the methods before one are small, and this one's is. It does nothing but look at it.
 #[tactic(auto, using(crate::proofs::Knowing::small_step))]
 fn one_frame_more(linked: &Linked, body: &MethodCode)
-    ensures { (n : ℕ) → slice_get linked.now.body.kept.methods n ≡ Some body.now → AreSmallFrames linked.now n → AreSmallFrames linked.now (n + 1) }
+    ensures { (n : ℕ) → slice_get linked.now.body.kept.methods n ≡ Some body.now → AreSmallFrames linked.now n
+        → AreSmallFrames linked.now (n + 1) }
 {
     frame_is_small(linked, body);
 }
 
-/// The frames of all methods with code are small. It does nothing but look at their headers: that these count with bytes is
-/// what their types say, and no list of methods says it of each.
+/// The frames of all methods with code are small. It does nothing but look at their headers: that these count with
+/// bytes is what their types say, and no list of methods says it of each.
 #[tactic(auto, using(crate::proofs::Knowing::none_small))]
 fn frames_are_small(linked: &Linked)
     ensures { AreSmallFrames linked.now (length linked.now.body.kept.methods) }
@@ -89,17 +90,26 @@ fn frames_are_small(linked: &Linked)
     }
 }
 
-/// The types that a linked package's methods begin with, catch and come to name classes of its world, and their counts are small. It
-/// does nothing but look at the methods' headers.
+/// The types that a linked package's methods begin with, catch and come to name classes of its world, and their counts
+/// are small. It does nothing but look at the methods' headers.
 pub fn types_name_classes(linked: &Linked)
-    ensures entry { (n : ℕ) (b : MethodBody) → slice_get linked.now.body.kept.methods n ≡ Some b → AreKnown (is_class_at linked.now.world) (entry_of (method_of linked.now b)) }
-    ensures caught { (n : ℕ) (b : MethodBody) (h : Handler) (c : ClassName) → slice_get linked.now.body.kept.methods n ≡ Some b → Contains (method_of linked.now b).handlers h → h.caught ≡ Some c → is_class_at linked.now.world c ≡ true }
-    ensures effects { (n : ℕ) (b : MethodBody) → slice_get linked.now.body.kept.methods n ≡ Some b → (operation : Operation) (s t : Types)
-        → (package_rules linked.now).effect (method_of linked.now b).max_stack (method_of linked.now b).returned operation s ≡ Ok t
+    ensures entry { (n : ℕ) (b : MethodBody) → slice_get linked.now.body.kept.methods n ≡ Some b
+        → AreKnown (is_class_at linked.now.world) (entry_of (method_of linked.now b)) }
+    ensures caught { (n : ℕ) (b : MethodBody) (h : Handler) (c : ClassName)
+        → slice_get linked.now.body.kept.methods n ≡ Some b → Contains (method_of linked.now b).handlers h
+        → h.caught ≡ Some c → is_class_at linked.now.world c ≡ true }
+    ensures effects { (n : ℕ) (b : MethodBody) → slice_get linked.now.body.kept.methods n ≡ Some b
+        → (operation : Operation) (s t : Types)
+        → (package_rules linked.now).effect (method_of linked.now b).max_stack
+        (method_of linked.now b).returned operation s ≡ Ok t
         → AreKnown (is_class_at linked.now.world) s → AreKnown (is_class_at linked.now.world) t }
-    ensures joins { (s t u : Types) → joined_types (common_class linked.now.world) s t ≡ u → AreKnown (is_class_at linked.now.world) s → AreKnown (is_class_at linked.now.world) t → AreKnown (is_class_at linked.now.world) u }
-    ensures locals { (n : ℕ) (b : MethodBody) → slice_get linked.now.body.kept.methods n ≡ Some b → length (method_of linked.now b).arguments + (method_of linked.now b).max_locals < 2 ^ 16 }
-    ensures stack { (n : ℕ) (b : MethodBody) → slice_get linked.now.body.kept.methods n ≡ Some b → (method_of linked.now b).max_stack < 2 ^ 8 }
+    ensures joins { (s t u : Types) → joined_types (common_class linked.now.world) s t ≡ u
+        → AreKnown (is_class_at linked.now.world) s → AreKnown (is_class_at linked.now.world) t
+        → AreKnown (is_class_at linked.now.world) u }
+    ensures locals { (n : ℕ) (b : MethodBody) → slice_get linked.now.body.kept.methods n ≡ Some b
+        → length (method_of linked.now b).arguments + (method_of linked.now b).max_locals < 2 ^ 16 }
+    ensures stack { (n : ℕ) (b : MethodBody) → slice_get linked.now.body.kept.methods n ≡ Some b
+        → (method_of linked.now b).max_stack < 2 ^ 8 }
 {
     world_laws(linked);
     effects_name_classes();

@@ -31,7 +31,14 @@ impl<'a> Model for Method<'a> {
 
     ghost Value = { Method };
 
-    ghost view = { λ m. record { code = m.code.now; arguments = m.arguments.items; max_locals = m.max_locals; max_stack = m.max_stack; returned = m.returned; handlers = m.handlers.items } };
+    ghost view = { λ m. record {
+      code = m.code.now;
+      arguments = m.arguments.items;
+      max_locals = m.max_locals;
+      max_stack = m.max_stack;
+      returned = m.returned;
+      handlers = m.handlers.items;
+    } };
 }
 
 impl<'a> Method<'a> {

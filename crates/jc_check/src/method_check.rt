@@ -23,12 +23,14 @@ use std::alloc::Global;
 
 // What goes on from the entry, and the pass from there.
 fn check_flow<R: CheckRules>(input: &PassInput<R>, state: &mut State) -> Result<(), Fault>
-    requires listed { (listing : List PlacedInstr) × IsTable (R.rules input.now.rules.now) input.now.method.now listing input.now.claims.now input.now.marks.now }
+    requires listed { (listing : List PlacedInstr)
+        × IsTable (R.rules input.now.rules.now) input.now.method.now listing input.now.claims.now input.now.marks.now }
     requires table { AreSafe input.now.method.now input.now.claims.now input.now.marks.now }
     requires short { length input.now.method.now.code < 2 ^ 16 }
     requires entry { state.old.types ≡ entry_of input.now.method.now }
     requires room { HasRoom input.now.method.now state.old }
-    ensures { (listing : List PlacedInstr) → IsTable (R.rules input.now.rules.now) input.now.method.now listing input.now.claims.now input.now.marks.now
+    ensures { (listing : List PlacedInstr)
+        → IsTable (R.rules input.now.rules.now) input.now.method.now listing input.now.claims.now input.now.marks.now
         → result ≡ flow_findings_of (R.rules input.now.rules.now) input.now.method.now listing input.now.claims.now }
 {
     match fall_to(input, state, 0) {
@@ -53,7 +55,8 @@ fn check_code<R: CheckRules>(
     requires entry { state.old.types ≡ entry_of method.now }
     requires room { HasRoom method.now state.old }
     ensures accepted { OnOk result (Carries (R.rules rules.now) method.now (map stated states.now)) }
-    ensures refused { IfErr result (λ fault. IfRefused fault (IsFirstFault (R.rules rules.now) method.now (map stated states.now))) }
+    ensures refused { IfErr result (λ fault.
+        IfRefused fault (IsFirstFault (R.rules rules.now) method.now (map stated states.now))) }
 {
     rules.listing_laws();
     mark_starts(rules, method, marks)?;
@@ -69,8 +72,8 @@ fn check_code<R: CheckRules>(
     Ok(())
 }
 
-/// Checks a method with the certificate's states for it. All that is allocated for the check is allocated here, and where
-/// the certificate's states are looked at.
+/// Checks a method with the certificate's states for it. All that is allocated for the check is allocated here, and
+/// where the certificate's states are looked at.
 pub(crate) fn check_method<R: CheckRules>(
     alloc: Global,
     rules: &R,
@@ -80,7 +83,8 @@ pub(crate) fn check_method<R: CheckRules>(
     requires short { length method.now.code < 2 ^ 16 }
     requires count { length states.now < 2 ^ 16 }
     ensures accepted { OnOk result (Carries (R.rules rules.now) method.now (map stated states.now)) }
-    ensures refused { IfErr result (λ fault. IfRefused fault (IsFirstFault (R.rules rules.now) method.now (map stated states.now))) }
+    ensures refused { IfErr result (λ fault.
+        IfRefused fault (IsFirstFault (R.rules rules.now) method.now (map stated states.now))) }
 {
     if method.code().is_empty() {
         return Err(WordFault::Refused {

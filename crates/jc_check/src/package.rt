@@ -1,6 +1,7 @@
 //! The check of a package with its certificate.
 
-ghost use Rattle.std.specs.Prelude.{⊤, ◌≡◌, ◌+◌, ℕ, Some, slice_get, true, nat_lt, length, List, IfOk, IfErr, IfSome, IfNone, OnOk, MatchResult};
+ghost use Rattle.std.specs.Prelude.{⊤, ◌≡◌, ◌+◌, ℕ, Some, slice_get, true, nat_lt, length, List, IfOk, IfErr, IfSome};
+ghost use Rattle.std.specs.Prelude.{IfNone, OnOk, MatchResult};
 ghost use Rattle.std.specs.Option.{option_map_or};
 ghost use Rattle.jc_cert.specs.Cert.{IsCert, Row, rows};
 ghost use Rattle.jc_check.specs.Checked.{CarriesPackage, IsMethodCarried, IsPackageCarried, IsPackageTyped, IsRefusal};
@@ -104,7 +105,8 @@ fn told_with(
     told: Option<MethodFault>,
 ) -> Result<Option<MethodFault>, LoadFault>
     requires { IsCert (rows of.now) }
-    ensures least { IfOk result (λ now. (n : ℕ) → slice_get linked.now.body.kept.methods n ≡ Some body.now → LeastOf linked.now (rows of.now) n told → LeastOf linked.now (rows of.now) (n + 1) now) }
+    ensures least { IfOk result (λ now. (n : ℕ) → slice_get linked.now.body.kept.methods n ≡ Some body.now
+        → LeastOf linked.now (rows of.now) n told → LeastOf linked.now (rows of.now) (n + 1) now) }
     ensures memory { IfErr result (λ fault. fault ≡ LoadFault.Memory) }
 {
     if !stands_before(body, told) {
@@ -163,7 +165,8 @@ fn first_refusal(alloc: Global, linked: &Linked, cert: &Cert) -> Result<(), Load
     ensures cert { IsCert cert.now }
     ensures accepted { OnOk result (CarriesPackage linked.now cert.now) }
     ensures refused { IfErr result (IsRefusal linked.now cert.now) }
-    ensures carried { CarriesPackage linked.now cert.now → MatchResult result (λ u. ⊤) (λ fault. fault ≡ LoadFault.Memory) }
+    ensures carried { CarriesPackage linked.now cert.now
+        → MatchResult result (λ u. ⊤) (λ fault. fault ≡ LoadFault.Memory) }
 {
     first_fault_laws();
     listing_laws();
@@ -182,13 +185,14 @@ fn carried_is_typed(linked: &Linked)
     effects_keep_shapes();
 }
 
-/// Checks that a certificate carries a linked package. The first refusal is told: of rows of the certificate for offsets at
-/// which no method with code stands the first, at pc 0; else of the methods that aren't carried the one with the least offset,
-/// with its first fault, in the order of the tests. Want of memory may be told in place of an answer.
+/// Checks that a certificate carries a linked package. The first refusal is told: of rows of the certificate for
+/// offsets at which no method with code stands the first, at pc 0; else of the methods that aren't carried the one with
+/// the least offset, with its first fault, in the order of the tests. Want of memory may be told in place of an answer.
 pub fn check(alloc: Global, linked: Linked, cert: &Cert) -> Result<Checked, LoadFault>
     ensures accepted { IfOk result (λ checked. (checked ≡ linked) × CarriesPackage linked cert.now) }
     ensures typed { IfOk result IsPackageTyped }
-    ensures carried { CarriesPackage linked cert.now → MatchResult result (λ checked. ⊤) (λ fault. fault ≡ LoadFault.Memory) }
+    ensures carried { CarriesPackage linked cert.now
+        → MatchResult result (λ checked. ⊤) (λ fault. fault ≡ LoadFault.Memory) }
     ensures refused { IfErr result (IsRefusal linked cert.now) }
 {
     carried_is_typed(&linked);

@@ -8,7 +8,8 @@ ghost use Rattle.jc_types.specs.Ty.{type_of_declared};
 ghost use Rattle.jc_check.specs.Carried.{Carries};
 ghost use Rattle.jc_check.specs.Fault.{IfRefused};
 ghost use Rattle.jc_check.specs.FirstFault.{IsFirstFault};
-ghost use Rattle.jc_check.specs.Package.{arguments_of, caught_class, handler_of, max_locals_of, method_of, package_rules, receiver_of, thrown_class};
+ghost use Rattle.jc_check.specs.Package.{arguments_of, caught_class, handler_of, max_locals_of, method_of};
+ghost use Rattle.jc_check.specs.Package.{package_rules, receiver_of, thrown_class};
 
 use crate::fault::WordFault;
 use crate::handler::Handler;
@@ -158,10 +159,13 @@ struct FrameTypes {
 
 /// That of the method at an offset of a linked package.
 fn frame_types_of(alloc: Global, linked: &Linked, offset: u16) -> Result<FrameTypes, AllocError>
-    ensures arguments { IfOk result (λ types. types.arguments.items ≡ option_map_or (arguments_of linked.now.world) (own_method linked.now offset) []) }
-    ensures locals { IfOk result (λ types. types.max_locals ≡ option_map_or max_locals_of (own_method linked.now offset) 0) }
+    ensures arguments { IfOk result (λ types. types.arguments.items
+        ≡ option_map_or (arguments_of linked.now.world) (own_method linked.now offset) []) }
+    ensures locals { IfOk result (λ types.
+        types.max_locals ≡ option_map_or max_locals_of (own_method linked.now offset) 0) }
     ensures stack { IfOk result (λ types. types.max_stack ≡ max_stack_of linked.now offset) }
-    ensures returned { IfOk result (λ types. types.returned ≡ option_and_then (result_of linked.now.world) (own_method linked.now offset)) }
+    ensures returned { IfOk result (λ types.
+        types.returned ≡ option_and_then (result_of linked.now.world) (own_method linked.now offset)) }
 {
     let Some(declared) = own_method(linked, offset) else {
         return Ok(FrameTypes {
@@ -209,8 +213,10 @@ pub(crate) fn check_body(
     states: &[StateRow],
 ) -> Result<(), WordFault>
     requires count { length states.now < 2 ^ 16 }
-    ensures accepted { OnOk result (Carries (package_rules linked.now) (method_of linked.now body.now) (map stated states.now)) }
-    ensures refused { IfErr result (λ fault. IfRefused fault (IsFirstFault (package_rules linked.now) (method_of linked.now body.now) (map stated states.now))) }
+    ensures accepted { OnOk result
+        (Carries (package_rules linked.now) (method_of linked.now body.now) (map stated states.now)) }
+    ensures refused { IfErr result (λ fault. IfRefused fault
+        (IsFirstFault (package_rules linked.now) (method_of linked.now body.now) (map stated states.now))) }
 {
     let method = method_of(alloc, linked, body)?;
     check_method(alloc, &PackageRules { linked }, &method, states)

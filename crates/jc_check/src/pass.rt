@@ -6,7 +6,8 @@ ghost use Rattle.jc_code.specs.Targets.{targets_of};
 ghost use Rattle.jc_types.specs.State.{types_below};
 ghost use Rattle.jc_check.specs.Method.{caught_types};
 ghost use Rattle.jc_check.specs.Carried.{types_of};
-ghost use Rattle.jc_check.specs.FirstFault.{arrives, all_arrive, catches_at, handles, all_handle, falls_to, visit_live, visit, walk};
+ghost use Rattle.jc_check.specs.FirstFault.{arrives, all_arrive, catches_at, handles, all_handle, falls_to, visit_live};
+ghost use Rattle.jc_check.specs.FirstFault.{visit, walk};
 ghost use Rattle.jc_check.specs.PrivateMarks.{IsTable, AreSafe, Flowed, flowing, HasRoom, placed};
 
 use crate::claim::Claim;
@@ -55,7 +56,8 @@ fn catch_at<R: CheckRules>(
     class: ClassName,
 ) -> Result<(), Reason>
     requires { AreSafe input.now.method.now input.now.claims.now input.now.marks.now }
-    ensures { (listing : List PlacedInstr) → IsTable (R.rules input.now.rules.now) input.now.method.now listing input.now.claims.now input.now.marks.now
+    ensures { (listing : List PlacedInstr)
+        → IsTable (R.rules input.now.rules.now) input.now.method.now listing input.now.claims.now input.now.marks.now
         → result ≡ catches_at (R.rules input.now.rules.now) input.now.claims.now state.now.types pc (Some class) }
 {
     match mark_at(input.marks, usize::from(pc)) {
@@ -84,7 +86,8 @@ fn handle<R: CheckRules>(
     handler: &Handler,
 ) -> Result<(), Reason>
     requires { AreSafe input.now.method.now input.now.claims.now input.now.marks.now }
-    ensures { (listing : List PlacedInstr) → IsTable (R.rules input.now.rules.now) input.now.method.now listing input.now.claims.now input.now.marks.now
+    ensures { (listing : List PlacedInstr)
+        → IsTable (R.rules input.now.rules.now) input.now.method.now listing input.now.claims.now input.now.marks.now
         → result ≡ handles (R.rules input.now.rules.now) input.now.claims.now pc state.now.types handler.now }
 {
     if !handler.covers(pc) {
@@ -104,7 +107,8 @@ fn handle_all<R: CheckRules>(
     handlers: &[Handler],
 ) -> Result<(), Reason>
     requires { AreSafe input.now.method.now input.now.claims.now input.now.marks.now }
-    ensures { (listing : List PlacedInstr) → IsTable (R.rules input.now.rules.now) input.now.method.now listing input.now.claims.now input.now.marks.now
+    ensures { (listing : List PlacedInstr)
+        → IsTable (R.rules input.now.rules.now) input.now.method.now listing input.now.claims.now input.now.marks.now
         → result ≡ all_handle (R.rules input.now.rules.now) input.now.claims.now pc state.now.types handlers.now }
 {
     for index in 0..handlers.len() {
@@ -117,7 +121,8 @@ fn handle_all<R: CheckRules>(
 #[tactic(auto, unfolding(crate::specs::FirstFault::arrives))]
 fn arrive_at<R: CheckRules>(input: &PassInput<R>, state: &State, pc: usize) -> Result<(), Reason>
     requires { AreSafe input.now.method.now input.now.claims.now input.now.marks.now }
-    ensures { (listing : List PlacedInstr) → IsTable (R.rules input.now.rules.now) input.now.method.now listing input.now.claims.now input.now.marks.now
+    ensures { (listing : List PlacedInstr)
+        → IsTable (R.rules input.now.rules.now) input.now.method.now listing input.now.claims.now input.now.marks.now
         → result ≡ arrives (R.rules input.now.rules.now) listing input.now.claims.now state.now.types (pos pc) }
 {
     match mark_at(input.marks, pc) {
@@ -143,8 +148,10 @@ fn arrive<R: CheckRules>(
 ) -> Result<(), Reason>
     requires table { AreSafe input.now.method.now input.now.claims.now input.now.marks.now }
     requires index { index < length targets.now }
-    ensures { (listing : List PlacedInstr) → IsTable (R.rules input.now.rules.now) input.now.method.now listing input.now.claims.now input.now.marks.now
-        → (place : ℤ) → slice_get targets.now index ≡ Some place → result ≡ arrives (R.rules input.now.rules.now) listing input.now.claims.now state.now.types place }
+    ensures { (listing : List PlacedInstr)
+        → IsTable (R.rules input.now.rules.now) input.now.method.now listing input.now.claims.now input.now.marks.now
+        → (place : ℤ) → slice_get targets.now index ≡ Some place
+        → result ≡ arrives (R.rules input.now.rules.now) listing input.now.claims.now state.now.types place }
 {
     let target = targets.get(index).unwrap();
     if target < 0 {
@@ -162,8 +169,10 @@ fn arrive_all<R: CheckRules>(
     instr: &Instr,
 ) -> Result<(), Reason>
     requires { AreSafe input.now.method.now input.now.claims.now input.now.marks.now }
-    ensures { (listing : List PlacedInstr) → IsTable (R.rules input.now.rules.now) input.now.method.now listing input.now.claims.now input.now.marks.now
-        → result ≡ all_arrive (R.rules input.now.rules.now) listing input.now.claims.now state.now.types (targets_of pc instr.now.operation) }
+    ensures { (listing : List PlacedInstr)
+        → IsTable (R.rules input.now.rules.now) input.now.method.now listing input.now.claims.now input.now.marks.now
+        → result ≡ all_arrive (R.rules input.now.rules.now) listing input.now.claims.now state.now.types
+        (targets_of pc instr.now.operation) }
 {
     let targets = instr.targets(pc);
     for index in 0..targets.len() {
@@ -180,8 +189,10 @@ pub(crate) fn fall_to<R: CheckRules>(
     pc: usize,
 ) -> Result<bool, Reason>
     requires { AreSafe input.now.method.now input.now.claims.now input.now.marks.now }
-    ensures { (listing : List PlacedInstr) → IsTable (R.rules input.now.rules.now) input.now.method.now listing input.now.claims.now input.now.marks.now
-        → Flowed result state.now.types (falls_to (R.rules input.now.rules.now) input.now.method.now input.now.claims.now state.now.types pc) }
+    ensures { (listing : List PlacedInstr)
+        → IsTable (R.rules input.now.rules.now) input.now.method.now listing input.now.claims.now input.now.marks.now
+        → Flowed result state.now.types
+        (falls_to (R.rules input.now.rules.now) input.now.method.now input.now.claims.now state.now.types pc) }
 {
     if pc >= input.marks.len() {
         return Err(Reason::FallsOff);
@@ -208,8 +219,10 @@ fn visit_live_at<R: CheckRules>(
 ) -> Result<bool, Reason>
     requires table { AreSafe input.now.method.now input.now.claims.now input.now.marks.now }
     requires room { HasRoom input.now.method.now state.old }
-    ensures flow { (listing : List PlacedInstr) → IsTable (R.rules input.now.rules.now) input.now.method.now listing input.now.claims.now input.now.marks.now
-        → Flowed result state.new.types (visit_live (R.rules input.now.rules.now) input.now.method.now listing input.now.claims.now (placed pc instr.now) state.old.types) }
+    ensures flow { (listing : List PlacedInstr)
+        → IsTable (R.rules input.now.rules.now) input.now.method.now listing input.now.claims.now input.now.marks.now
+        → Flowed result state.new.types (visit_live (R.rules input.now.rules.now) input.now.method.now listing
+        input.now.claims.now (placed pc instr.now) state.old.types) }
     ensures room { HasRoom input.now.method.now state.new }
 {
     let method = input.method;
@@ -241,8 +254,10 @@ fn visit_at<R: CheckRules>(
     requires table { AreSafe input.now.method.now input.now.claims.now input.now.marks.now }
     requires room { HasRoom input.now.method.now state.old }
     requires within { pc < length input.now.method.now.code }
-    ensures flow { (listing : List PlacedInstr) → IsTable (R.rules input.now.rules.now) input.now.method.now listing input.now.claims.now input.now.marks.now
-        → Flowed result state.new.types (visit (R.rules input.now.rules.now) input.now.method.now listing input.now.claims.now (placed pc instr.now) (flowing live state.old.types)) }
+    ensures flow { (listing : List PlacedInstr)
+        → IsTable (R.rules input.now.rules.now) input.now.method.now listing input.now.claims.now input.now.marks.now
+        → Flowed result state.new.types (visit (R.rules input.now.rules.now) input.now.method.now listing
+        input.now.claims.now (placed pc instr.now) (flowing live state.old.types)) }
     ensures room { HasRoom input.now.method.now state.new }
 {
     match mark_at(input.marks, usize::from(pc)) {
@@ -268,12 +283,15 @@ pub(crate) fn walk_code<R: CheckRules>(
     state: &mut State,
     live: bool,
 ) -> Result<(), Fault>
-    requires listed { (listing : List PlacedInstr) × IsTable (R.rules input.now.rules.now) input.now.method.now listing input.now.claims.now input.now.marks.now }
+    requires listed { (listing : List PlacedInstr)
+        × IsTable (R.rules input.now.rules.now) input.now.method.now listing input.now.claims.now input.now.marks.now }
     requires table { AreSafe input.now.method.now input.now.claims.now input.now.marks.now }
     requires room { HasRoom input.now.method.now state.old }
     requires short { length input.now.method.now.code < 2 ^ 16 }
-    ensures { (listing : List PlacedInstr) → IsTable (R.rules input.now.rules.now) input.now.method.now listing input.now.claims.now input.now.marks.now
-        → result ≡ walk (R.rules input.now.rules.now) input.now.method.now listing input.now.claims.now (flowing live state.old.types) listing }
+    ensures { (listing : List PlacedInstr)
+        → IsTable (R.rules input.now.rules.now) input.now.method.now listing input.now.claims.now input.now.marks.now
+        → result ≡ walk (R.rules input.now.rules.now) input.now.method.now listing input.now.claims.now
+        (flowing live state.old.types) listing }
 {
     input.rules.listing_laws();
     let code = input.method.code();

@@ -35,7 +35,8 @@ pub(crate) trait CheckRules {
         returned: Option<&Ty>,
     ) -> Result<(), Reason>
         requires { max_stack ≤ state.old.room }
-        ensures became { Became result state.new.types ((rules self.now).effect max_stack (option_copied returned.entry) operation.now state.old.types) }
+        ensures became { Became result state.new.types
+            ((rules self.now).effect max_stack (option_copied returned.entry) operation.now state.old.types) }
         ensures room { state.new.room ≡ state.old.room }
         ensures locals { length state.new.types.locals ≡ length state.old.types.locals };
 

@@ -1,6 +1,7 @@
 //! The table of marks: where instructions begin, and where the certificate claims a state.
 
-ghost use Rattle.std.specs.Prelude.{◌≡◌, ◌<◌, ◌^◌, ◌++◌, [], ◌∷◌, List, Ok, Err, map, true, length, replicate, slice_index_or, vec_capacity, IfOk, IfErr, OnOk};
+ghost use Rattle.std.specs.Prelude.{◌≡◌, ◌<◌, ◌^◌, ◌++◌, [], ◌∷◌, List, Ok, Err, map, true, length, replicate};
+ghost use Rattle.std.specs.Prelude.{slice_index_or, vec_capacity, IfOk, IfErr, OnOk};
 ghost use Rattle.jc_code.specs.declared.fault.CodeFault.{CodeFault};
 ghost use Rattle.jc_code.specs.Listing.{PlacedInstr, StopsAt, begins};
 ghost use Rattle.jc_cert.specs.Cert.{stated};
@@ -10,7 +11,8 @@ ghost use Rattle.jc_check.specs.Method as methods;
 ghost use Rattle.jc_check.specs.Claim as claimed;
 ghost use Rattle.jc_check.specs.Claim.{claim_of};
 ghost use Rattle.jc_check.specs.Carried.{has_shape};
-ghost use Rattle.jc_check.specs.FirstFault.{reason_of, told_at, handler_stands, handlers_stand, state_stands, states_stand};
+ghost use Rattle.jc_check.specs.FirstFault.{reason_of, told_at, handler_stands, handlers_stand, state_stands};
+ghost use Rattle.jc_check.specs.FirstFault.{states_stand};
 ghost use Rattle.jc_check.specs.PrivateMarks.{IsTable, claim_fits};
 ghost use Rattle.jc_check.specs.declared.mark.Mark.TheVariants.{Inside};
 
@@ -47,7 +49,8 @@ pub(crate) fn no_marks(alloc: Global, count: usize) -> Result<Vec<Mark>, AllocEr
     Ok(marks)
 }
 
-/// Decodes the code from its first byte on, and marks where instructions begin. After a fault the marks aren't to be used.
+/// Decodes the code from its first byte on, and marks where instructions begin. After a fault the marks aren't to be
+/// used.
 pub(crate) fn mark_starts<R: CheckRules>(
     rules: &R,
     method: &Method,
@@ -55,8 +58,10 @@ pub(crate) fn mark_starts<R: CheckRules>(
 ) -> Result<(), Fault>
     requires none { marks.old ≡ replicate (length method.now.code) Inside }
     requires short { length method.now.code < 2 ^ 16 }
-    ensures ok { OnOk result ((listing : List PlacedInstr) × IsTable (R.rules rules.now) method.now listing [] marks.new) }
-    ensures err { IfErr result (λ fault. (why : CodeFault) × StopsAt (R.rules rules.now).decoder method.now.code fault.pc why × (fault.reason ≡ reason_of why)) }
+    ensures ok { OnOk result
+        ((listing : List PlacedInstr) × IsTable (R.rules rules.now) method.now listing [] marks.new) }
+    ensures err { IfErr result (λ fault. (why : CodeFault)
+        × StopsAt (R.rules rules.now).decoder method.now.code fault.pc why × (fault.reason ≡ reason_of why)) }
 {
     rules.listing_laws();
     let code = method.code();
@@ -93,7 +98,8 @@ pub(crate) fn mark_at(marks: &[Mark], pc: usize) -> Mark
 /// Whether an instruction begins at a pc.
 fn begins_at(marks: &[Mark], pc: usize) -> bool
     ensures within { result ≡ true → pc < length marks.now }
-    ensures begins { (rules : Rules) (m : methods.Method) (listing : List PlacedInstr) (claims : List claimed.Claim) → IsTable rules m listing claims marks.now → result ≡ begins listing pc }
+    ensures begins { (rules : Rules) (m : methods.Method) (listing : List PlacedInstr) (claims : List claimed.Claim)
+        → IsTable rules m listing claims marks.now → result ≡ begins listing pc }
 {
     match mark_at(marks, pc) {
         Mark::Inside => false,
@@ -102,7 +108,8 @@ fn begins_at(marks: &[Mark], pc: usize) -> bool
 }
 
 fn stand_handler(marks: &[Mark], handler: &Handler) -> Result<(), Reason>
-    ensures { (rules : Rules) (m : methods.Method) (listing : List PlacedInstr) (claims : List claimed.Claim) → IsTable rules m listing claims marks.now → result ≡ handler_stands listing handler.now }
+    ensures { (rules : Rules) (m : methods.Method) (listing : List PlacedInstr) (claims : List claimed.Claim)
+        → IsTable rules m listing claims marks.now → result ≡ handler_stands listing handler.now }
 {
     if !begins_at(marks, usize::from(handler.goes_on)) {
         return Err(Reason::NoTarget);
@@ -115,7 +122,8 @@ fn stand_handler(marks: &[Mark], handler: &Handler) -> Result<(), Reason>
 
 /// The handlers in order: each goes on where an instruction begins, and catches a class.
 pub(crate) fn stand_handlers(marks: &[Mark], handlers: &[Handler]) -> Result<(), Fault>
-    ensures { (rules : Rules) (m : methods.Method) (listing : List PlacedInstr) (claims : List claimed.Claim) → IsTable rules m listing claims marks.now → result ≡ handlers_stand listing handlers.now }
+    ensures { (rules : Rules) (m : methods.Method) (listing : List PlacedInstr) (claims : List claimed.Claim)
+        → IsTable rules m listing claims marks.now → result ≡ handlers_stand listing handlers.now }
 {
     for index in 0..handlers.len() {
         let handler = &handlers[index];
@@ -167,9 +175,11 @@ fn stand_state<R: CheckRules>(
     row: &StateRow,
 ) -> Result<Claim, WordFault>
     ensures within { IfOk result (λ claim. row.now.pc < length marks.now) }
-    ensures ok { IfOk result (λ claim. (listing : List PlacedInstr) (claims : List claimed.Claim) → IsTable (R.rules rules.now) method.now listing claims marks.now
+    ensures ok { IfOk result (λ claim. (listing : List PlacedInstr) (claims : List claimed.Claim)
+        → IsTable (R.rules rules.now) method.now listing claims marks.now
         → state_stands (R.rules rules.now) method.now listing (stated row.now) ≡ Ok claim) }
-    ensures err { IfErr result (λ fault. IfRefused fault (λ f. (listing : List PlacedInstr) (claims : List claimed.Claim) → IsTable (R.rules rules.now) method.now listing claims marks.now
+    ensures err { IfErr result (λ fault. IfRefused fault (λ f. (listing : List PlacedInstr)
+        (claims : List claimed.Claim) → IsTable (R.rules rules.now) method.now listing claims marks.now
         → told_at row.now.pc (state_stands (R.rules rules.now) method.now listing (stated row.now)) ≡ Err f)) }
 {
     if !begins_at(marks, usize::from(row.pc)) {
@@ -197,8 +207,10 @@ fn mismatch(pc: u16) -> WordFault
 fn hold(marks: &mut [Mark], pc: usize, number: u16)
     requires within { pc < length marks.old }
     ensures len { length marks.new ≡ length marks.old }
-    ensures table { (rules : Rules) (m : methods.Method) (listing : List PlacedInstr) (claims : List claimed.Claim) (claim : claimed.Claim) → IsTable rules m listing claims marks.old → length claims ≡ number
-        → claim.pc ≡ pc → begins listing pc ≡ true → claim_fits m claim ≡ true → IsTable rules m listing (claims ++ claim ∷ []) marks.new }
+    ensures table { (rules : Rules) (m : methods.Method) (listing : List PlacedInstr) (claims : List claimed.Claim)
+        (claim : claimed.Claim) → IsTable rules m listing claims marks.old → length claims ≡ number
+        → claim.pc ≡ pc → begins listing pc ≡ true → claim_fits m claim ≡ true
+        → IsTable rules m listing (claims ++ claim ∷ []) marks.new }
 {
     match marks[pc] {
         Mark::Start => marks[pc] = Mark::Holds(number),
@@ -216,9 +228,12 @@ pub(crate) fn mark_states<R: CheckRules>(
     states: &[StateRow],
 ) -> Result<Vec<Claim>, WordFault>
     requires { length states.now < 2 ^ 16 }
-    ensures ok { IfOk result (λ claims. (listing : List PlacedInstr) → IsTable (R.rules rules.now) method.now listing [] marks.old
-        → (states_stand (R.rules rules.now) method.now listing (map stated states.now) ≡ Ok claims.items) × IsTable (R.rules rules.now) method.now listing claims.items marks.new) }
-    ensures err { IfErr result (λ fault. IfRefused fault (λ f. (listing : List PlacedInstr) → IsTable (R.rules rules.now) method.now listing [] marks.old
+    ensures ok { IfOk result (λ claims. (listing : List PlacedInstr)
+        → IsTable (R.rules rules.now) method.now listing [] marks.old
+        → (states_stand (R.rules rules.now) method.now listing (map stated states.now) ≡ Ok claims.items)
+        × IsTable (R.rules rules.now) method.now listing claims.items marks.new) }
+    ensures err { IfErr result (λ fault. IfRefused fault (λ f. (listing : List PlacedInstr)
+        → IsTable (R.rules rules.now) method.now listing [] marks.old
         → states_stand (R.rules rules.now) method.now listing (map stated states.now) ≡ Err f)) }
     ensures room { IfOk result (λ claims. vec_capacity claims ≡ length states.now) }
 {

@@ -67,8 +67,8 @@ fn states_for(cert: &Cert) -> Option<&[StateRow]>
 }
 
 /// Checks that a certificate carries code, which is a static method without arguments, with a short result,
-/// `WORD_LOCALS` locals and at most `WORD_MAX_STACK` operands. The first fault is told, in the order of the tests: a row
-/// of the certificate for another method, empty code, decoding, the certificate's states, and the instructions by
+/// `WORD_LOCALS` locals and at most `WORD_MAX_STACK` operands. The first fault is told, in the order of the tests: a
+/// row of the certificate for another method, empty code, decoding, the certificate's states, and the instructions by
 /// ascending pc.
 pub fn check_words<'a>(
     alloc: Global,
@@ -78,7 +78,8 @@ pub fn check_words<'a>(
     requires { length code.now < 2 ^ 16 }
     ensures accepted { IfOk result (λ checked. (checked ≡ code.now) × CertCarriesCode code.now cert.now) }
     ensures typed { IfOk result IsWellTyped }
-    ensures carried { CertCarriesCode code.now cert.now → MatchResult result (λ checked. ⊤) (λ fault. fault ≡ WordFault.Memory) }
+    ensures carried { CertCarriesCode code.now cert.now
+        → MatchResult result (λ checked. ⊤) (λ fault. fault ≡ WordFault.Memory) }
     ensures refused { IfErr result (λ fault. IfRefused fault (IsFirstFaultOf code.now (states_of cert.now))) }
 {
     first_fault_laws();

@@ -154,7 +154,8 @@ served offset = object (Instance (classes.Loaded 1 offset)) Plain (owner 1 1) (W
 abbrev pub with_served : ℕ → Heap TaggedValue
 with_served offset = exceptions ++ served offset ∷ []
 
--- a call of a method of the server or of the client with so many steps, on the server's object of the class at an offset
+-- a call of a method of the server or of the client with so many steps, on the server's object of the class at an
+-- offset
 abbrev pub served_run : ℕ → ℕ → Owner → MethodName → Shown
 served_run steps class of method =
     run (server ∷ client ∷ []) steps (start_of (with_served class) of method (Ref 11 ∷ []))

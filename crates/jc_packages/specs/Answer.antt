@@ -3,9 +3,11 @@ use Rattle.std.specs.Prelude.{ℕ, List, ◌++◌, length, codes}
 use Rattle.std.specs.Fmt.{decimal}
 use Rattle.jc_base.specs.Fault.{words_of}
 use Rattle.jc_packages.specs.declared.verify_answer.VerifyAnswer.{VerifyAnswer}
-use Rattle.jc_packages.specs.declared.verify_answer.VerifyAnswer.TheVariants.{Certificate, NoCertificate, Refused, Memory}
+use Rattle.jc_packages.specs.declared.verify_answer.VerifyAnswer.TheVariants.{Certificate, NoCertificate, Refused}
+use Rattle.jc_packages.specs.declared.verify_answer.VerifyAnswer.TheVariants.{Memory}
 
--- what is printed of `verify`: how many bytes a certificate has, or at which offset of the Method component no method gets one
+-- what is printed of `verify`: how many bytes a certificate has, or at which offset of the Method component no method
+-- gets one
 abbrev pub verify_line_of : VerifyAnswer → List ℕ
 verify_line_of (Certificate bytes) = (codes "certificate " ++ decimal (length bytes.items)) ++ codes " bytes"
 verify_line_of (NoCertificate method fault) = codes "no certificate " ++ decimal method

@@ -5,11 +5,13 @@ use Rattle.jc_base.specs.declared.fault.LoadFault.TheVariants as faults
 use Rattle.jc_cap_desc.specs.Shape.{Package, Shape}
 use Rattle.jc_classes.specs.Growth.{grown}
 use Rattle.jc_link.specs.Linked.{Linked, most_in_world}
-use Rattle.jc_packages.specs.Verify.{AreLoaded, IsCarriedByNone, IsFine, IsFirstRefusal, IsPackage, IsRefused, MayBeShort, SpellCarrying}
+use Rattle.jc_packages.specs.Verify.{AreLoaded, IsCarriedByNone, IsFine, IsFirstRefusal, IsPackage, IsRefused}
+use Rattle.jc_packages.specs.Verify.{MayBeShort, SpellCarrying}
 use Rattle.jc_packages.specs.declared.unlinked.Unlinked.{Unlinked}
 use Rattle.jc_packages.specs.declared.unlinked.Unlinked.TheVariants as unlinked
 use Rattle.jc_packages.specs.declared.verify_answer.VerifyAnswer.{VerifyAnswer}
-use Rattle.jc_packages.specs.declared.verify_answer.VerifyAnswer.TheVariants.{Certificate, NoCertificate, Refused, Memory}
+use Rattle.jc_packages.specs.declared.verify_answer.VerifyAnswer.TheVariants.{Certificate, NoCertificate, Refused}
+use Rattle.jc_packages.specs.declared.verify_answer.VerifyAnswer.TheVariants.{Memory}
 
 -- a package is put behind others
 pub record IsPut (before : List Shape) (image : List ℕ) (after : List Shape) : Type 0 where
@@ -50,9 +52,11 @@ abbrev pub AreUnloaded : List Shape → List (List ℕ) → Unlinked → Type 0
 AreUnloaded before images why = (image : List ℕ) → IsStopped before (images ++ image ∷ []) why
 
 -- what images lead to from a first world is what those of them that are left lead to from a world
-pub record Leads (first : List Shape) (images : List (List ℕ)) (world : List Shape) (left : List (List ℕ)) : Type 0 where
+pub record Leads (first : List Shape) (images : List (List ℕ)) (world : List Shape)
+    (left : List (List ℕ)) : Type 0 where
   pub loaded : (last : List Shape) → AreLoaded world left last → AreLoaded first images last
-  pub stopped : (image : List ℕ) (why : Unlinked) → IsStopped world (left ++ image ∷ []) why → IsStopped first (images ++ image ∷ []) why
+  pub stopped : (image : List ℕ) (why : Unlinked) → IsStopped world (left ++ image ∷ []) why
+      → IsStopped first (images ++ image ∷ []) why
 
 -- what is answered to a linked package
 abbrev pub IsInferred : Linked → VerifyAnswer → Type 0

@@ -1,4 +1,5 @@
--- What `verify` answers to a package behind others, under a binding: a certificate that carries it, or that none does, or the first refusal.
+-- What `verify` answers to a package behind others, under a binding: a certificate that carries it, or that none does,
+-- or the first refusal.
 use Rattle.std.specs.Prelude.{◌≡◌, ℕ, ◌<◌, ◌≤◌, List, [], ◌∷◌, ◌++◌, length, Some, Result, Ok}
 use Rattle.jc_api.specs.Bound.{Bound}
 use Rattle.jc_base.specs.Cutting.{Piece, Splits, answer}
@@ -17,7 +18,8 @@ use Rattle.jc_link.specs.WellFormed.{IsWellFormed}
 use Rattle.jc_check.specs.declared.fault.Fault.{Fault}
 use Rattle.jc_verify.specs.Refusal.{IsUncarried}
 use Rattle.jc_packages.specs.declared.verify_answer.VerifyAnswer.{VerifyAnswer}
-use Rattle.jc_packages.specs.declared.verify_answer.VerifyAnswer.TheVariants.{Certificate, NoCertificate, Refused, Memory}
+use Rattle.jc_packages.specs.declared.verify_answer.VerifyAnswer.TheVariants.{Certificate, NoCertificate, Refused}
+use Rattle.jc_packages.specs.declared.verify_answer.VerifyAnswer.TheVariants.{Memory}
 
 -- what is read of an image: it is cut into components, which are a package, or it is refused
 pub record IsReadAs (image : List ℕ) (read : Result Package LoadFault) : Type 0 where
@@ -37,20 +39,25 @@ pub record IsRefused (before : List Shape) (image : List ℕ) (fault : LoadFault
   pub is : IsReadAs image read
   pub refused : refusal_of before read ≡ Some fault
 
--- the images are packages, each well-formed in the world of those before it and put behind them, from a first world to a last one
+-- the images are packages, each well-formed in the world of those before it and put behind them, from a first world to
+-- a last one
 pub data AreLoaded : List Shape → List (List ℕ) → List Shape → Type 0 where
   none : (world : List Shape) → AreLoaded world [] world
-  next : (before after : List Shape) (image : List ℕ) (images : List (List ℕ)) (p : Package) → IsFine before image p → length before < most_in_world
+  next : (before after : List Shape) (image : List ℕ) (images : List (List ℕ)) (p : Package) → IsFine before image p
+      → length before < most_in_world
       → AreLoaded (grown before p.shape) images after → AreLoaded before (image ∷ images) after
 
--- the first refusal of images that are linked one behind the other; a world that others are linked in needs room for each before them
+-- the first refusal of images that are linked one behind the other; a world that others are linked in needs room for
+-- each before them
 pub data IsFirstRefusal : List Shape → List (List ℕ) → LoadFault → Type 0 where
-  here : (before : List Shape) (image : List ℕ) (images : List (List ℕ)) (fault : LoadFault) → IsRefused before image fault
+  here : (before : List Shape) (image : List ℕ) (images : List (List ℕ)) (fault : LoadFault)
+      → IsRefused before image fault → IsFirstRefusal before (image ∷ images) fault
+  full : (before : List Shape) (image next : List ℕ) (images : List (List ℕ)) (p : Package) → IsFine before image p
+      → most_in_world ≤ length before → IsFirstRefusal before (image ∷ next ∷ images) faults.Full
+  later : (before : List Shape) (image : List ℕ) (images : List (List ℕ)) (p : Package) (fault : LoadFault)
+      → IsFine before image p
+      → length before < most_in_world → IsFirstRefusal (grown before p.shape) images fault
       → IsFirstRefusal before (image ∷ images) fault
-  full : (before : List Shape) (image next : List ℕ) (images : List (List ℕ)) (p : Package) → IsFine before image p → most_in_world ≤ length before
-      → IsFirstRefusal before (image ∷ next ∷ images) faults.Full
-  later : (before : List Shape) (image : List ℕ) (images : List (List ℕ)) (p : Package) (fault : LoadFault) → IsFine before image p
-      → length before < most_in_world → IsFirstRefusal (grown before p.shape) images fault → IsFirstRefusal before (image ∷ images) fault
 
 -- the image is a package
 pub record IsPackage (image : List ℕ) : Type 0 where
@@ -96,7 +103,8 @@ pub record IsCarriedByNone (l : Linked) (offset : ℕ) (fault : Fault) : Type 0 
   pub none : IsPackageCarried l → ⊥
 
 -- the package is linked behind the earlier ones, and no certificate carries it
-pub record IsUncertified (binding : Bound) (earlier : List (List ℕ)) (image : List ℕ) (offset : ℕ) (fault : Fault) : Type 0 where
+pub record IsUncertified (binding : Bound) (earlier : List (List ℕ)) (image : List ℕ) (offset : ℕ)
+    (fault : Fault) : Type 0 where
   pub linked : Linked
   pub after : IsLinkedAfter binding earlier image linked
   pub uncarried : IsCarriedByNone linked offset fault

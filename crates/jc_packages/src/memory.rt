@@ -38,7 +38,11 @@ impl Model for MemorySource {
 
     ghost Value = { Store };
 
-    ghost view = { λ s. record { images = s.images.items; certificates = s.certificates.items; failures = s.failures } };
+    ghost view = { λ s. record {
+      images = s.images.items;
+      certificates = s.certificates.items;
+      failures = s.failures;
+    } };
 }
 
 // Puts bytes under a name behind others.
@@ -96,7 +100,8 @@ impl MemorySource {
 
     /// Puts the image of a package under a name.
     pub fn put_image(&mut self, name: &str, image: &[u8]) -> Result<(), AllocError>
-        ensures put { IfOk result (λ u. self.new ≡ record self.old { images = with_stored self.old.images name.now image.now }) }
+        ensures put { IfOk result (λ u.
+            self.new ≡ record self.old { images = with_stored self.old.images name.now image.now }) }
         ensures kept { IfErr result (λ e. self.new ≡ self.old) }
     {
         put(self.alloc, &mut self.images, name, image)
@@ -104,7 +109,8 @@ impl MemorySource {
 
     /// Puts the bytes of a certificate under a name.
     pub fn put_certificate(&mut self, name: &str, certificate: &[u8]) -> Result<(), AllocError>
-        ensures put { IfOk result (λ u. self.new ≡ record self.old { certificates = with_stored self.old.certificates name.now certificate.now }) }
+        ensures put { IfOk result (λ u.
+            self.new ≡ record self.old { certificates = with_stored self.old.certificates name.now certificate.now }) }
         ensures kept { IfErr result (λ e. self.new ≡ self.old) }
     {
         put(self.alloc, &mut self.certificates, name, certificate)

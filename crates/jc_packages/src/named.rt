@@ -21,7 +21,8 @@ fn read_behind<S: PackageSource>(
 ) -> Result<(), SourceFault>
     requires { S.failed source.old < 2 ^ 31 }
     ensures counted { S.failed source.new ≡ S.failed source.old + failures_in result }
-    ensures read { IfOk result (λ u. IsReadBehind (S.holds_image source.old) name.now (map (λ image. image.items) images.old.items) (map (λ image. image.items) images.new.items)) }
+    ensures read { IfOk result (λ u. IsReadBehind (S.holds_image source.old) name.now
+        (map (λ image. image.items) images.old.items) (map (λ image. image.items) images.new.items)) }
     ensures same_images { HoldSame (S.holds_image source.old) (S.holds_image source.new) }
     ensures same_certificates { HoldSame (S.holds_certificate source.old) (S.holds_certificate source.new) }
 {
@@ -40,7 +41,8 @@ fn images_of<S: PackageSource>(
 ) -> Result<Vec<Vec<u8>>, SourceFault>
     requires { S.failed source.old < 2 ^ 31 }
     ensures counted { S.failed source.new ≡ S.failed source.old + failures_in result }
-    ensures held { IfOk result (λ images. AllZip (S.holds_image source.old) (map (λ name. name.now) names.now) (map (λ image. image.items) images.items)) }
+    ensures held { IfOk result (λ images. AllZip (S.holds_image source.old) (map (λ name. name.now) names.now)
+        (map (λ image. image.items) images.items)) }
     ensures same_images { HoldSame (S.holds_image source.old) (S.holds_image source.new) }
     ensures same_certificates { HoldSame (S.holds_certificate source.old) (S.holds_certificate source.new) }
 {
@@ -51,8 +53,8 @@ fn images_of<S: PackageSource>(
     Ok(images)
 }
 
-/// Links the packages with the earlier names one behind the other and the one with a name last, and works out its certificate,
-/// under a binding. All images are read before any is linked, in that order.
+/// Links the packages with the earlier names one behind the other and the one with a name last, and works out its
+/// certificate, under a binding. All images are read before any is linked, in that order.
 pub fn verify_named<S: PackageSource>(
     alloc: Global,
     source: &mut S,
@@ -61,7 +63,8 @@ pub fn verify_named<S: PackageSource>(
     binding: &Binding,
 ) -> Result<VerifyAnswer, SourceFault>
     requires { S.failed source.old < 2 ^ 31 }
-    ensures answered { IfOk result (AnswersNamed (S.holds_image source.old) binding.now (map (λ name. name.now) earlier.now) name.now) }
+    ensures answered { IfOk result
+        (AnswersNamed (S.holds_image source.old) binding.now (map (λ name. name.now) earlier.now) name.now) }
     ensures counted { S.failed source.new ≡ S.failed source.old + failures_in result }
     ensures same_images { HoldSame (S.holds_image source.old) (S.holds_image source.new) }
     ensures same_certificates { HoldSame (S.holds_certificate source.old) (S.holds_certificate source.new) }

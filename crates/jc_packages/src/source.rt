@@ -14,8 +14,8 @@ pub enum SourceFault {
     Memory,
 }
 
-/// Where packages and certificates are read by their names. It counts the readings that failed, fewer than 2^31 of them. What is
-/// read is what it holds, and no reading changes that.
+/// Where packages and certificates are read by their names. It counts the readings that failed, fewer than 2^31 of
+/// them. What is read is what it holds, and no reading changes that.
 pub trait PackageSource {
     ghost failed: { Self → ℕ };
 

@@ -9,8 +9,8 @@ use std::fmt;
 pub enum VerifyAnswer {
     /// The bytes of a certificate that carries the package.
     Certificate(Vec<u8>),
-    /// No certificate carries the package. The method whose header stands at an offset of the Method component is the first that no states
-    /// carry, and the fault says where its inference ends.
+    /// No certificate carries the package. The method whose header stands at an offset of the Method component is the
+    /// first that no states carry, and the fault says where its inference ends.
     NoCertificate { method: u16, fault: Fault },
     /// The package, or the first of those before it, isn't linked.
     Refused(LoadFault),

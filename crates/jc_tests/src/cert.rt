@@ -17,7 +17,8 @@ const SPELLINGS: [&[u8]; 6] = [
     ],
     // Operands, the bottom one first.
     &[0, 1, 1, 5, 0, 1, 2, 7, 0, 0, 3, 0, 1, 2],
-    // Every type and every kind of name: an offset, the API's first, last and only interface, the shortest and the longest AID.
+    // Every type and every kind of name: an offset, the API's first, last and only interface, the shortest and the
+    // longest AID.
     &[
         0, 1, 0, 0, 0, 1, 0, 4, 0, 9, // nine locals
         0, 1, 2, 3, 0, 255, 254, 4, 5, 6, 7, 1, 0, 0, 13, // Shareable
@@ -30,8 +31,8 @@ const SPELLINGS: [&[u8]; 6] = [
     ],
 ];
 
-// What is no type: a name of 2, 4 and 17 bytes; the API's class 0, 23 and 257, and another byte in front of its number; a
-// name that is cut; a byte from 08 on.
+// What is no type: a name of 2, 4 and 17 bytes; the API's class 0, 23 and 257, and another byte in front of its number;
+// a name that is cut; a byte from 08 on.
 const REFUSED_TYPES: [&[u8]; 9] = [
     &[3, 2, 1, 2, 0, 1],
     &[3, 4, 1, 2, 3, 4, 0, 1],

@@ -26,7 +26,8 @@ const LIBRARY: [u8; 161] = [
     0, 0, 1, 0x10, 5, 0x60, 0, 0x10, // no pool types, and two descriptors: void, and class 1
 ];
 
-/// What stands before and behind the Class component of a package of format 2.2, whose one row names the record at 32,767.
+/// What stands before and behind the Class component of a package of format 2.2, whose one row names the record at
+/// 32,767.
 const BEFORE_CLASSES: [u8; 25] = [
     1, 0, 16, 0xDE, 0xCA, 0xFF, 0xED, 2, 2, 0, 0, 1, 5, 1, 2, 3, 4, 5, 0, // Header
     5, 0, 2, 0, 0, // no pool entries

@@ -2,7 +2,8 @@ use jc_base::{Aid, PackageInfo, cut};
 use jc_cap_head::*;
 use std::test::*;
 
-/// An image of format 2.1 whose Header names the package 1.0 with the AID 0102030405; the other components have no bytes.
+/// An image of format 2.1 whose Header names the package 1.0 with the AID 0102030405; the other components have no
+/// bytes.
 const IMAGE: [u8; 33] = [
     5, 0, 0, 6, 0, 0, 7, 0, 0, 8, 0, 0, 11, 0, 0, 1, 0, 15, // no bytes, and the size of the info
     0xDE, 0xCA, 0xFF, 0xED, 1, 2, 4, 0, 1, 5, 1, 2, 3, 4, 5,

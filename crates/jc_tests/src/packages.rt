@@ -36,7 +36,8 @@ const COUNTER_CERTIFICATE: [u8; 79] = [
     0, 13, 0, 5, 3, 0, 0, 0, 3, 1, 0, 0, 19, 5, 1, 1, 0, // pc 13
     0, 33, 0, 5, 3, 0, 0, 0, 3, 1, 0, 0, 19, 5, 1, 1, 0, // pc 33
     0, 38, 0, 5, 3, 0, 0, 0, 3, 1, 0, 0, 19, 5, 1, 1, 0, // pc 38
-    0, 39, 0, 5, 3, 0, 0, 0, 3, 1, 0, 0, 19, 5, 0, 0, 1, 3, 1, 0, 0, 17, // pc 39, with an APDUException among the operands
+    // pc 39, with an APDUException among the operands
+    0, 39, 0, 5, 3, 0, 0, 0, 3, 1, 0, 0, 19, 5, 0, 0, 1, 3, 1, 0, 0, 17,
 ];
 
 /// A library that exports its one class, which stands at 0.
@@ -53,8 +54,8 @@ const LIBRARY: [u8; 96] = [
     0x0B, 0x00, 0x0C, 0x01, 0xFF, 0x00, 0x00, 0x00, 0x00, 0x00, 0x00, 0x00, 0x00, 0x00, 0x00, // Descriptor
 ];
 
-/// A package that imports the library behind the API's two. Its one method, at 1, takes an object of the library's class, and goes
-/// on where it began.
+/// A package that imports the library behind the API's two. Its one method, at 1, takes an object of the library's
+/// class, and goes on where it began.
 const CLIENT: [u8; 116] = [
     0x01, 0x00, 0x0F, 0xDE, 0xCA, 0xFF, 0xED, 0x01, 0x02, 0x00, 0x00, 0x01, 0x05, 0xF0, 0x01, 0x02,
     0x03, 0x05, // Header

@@ -1,5 +1,5 @@
--- Where a certificate that was worked out has states, and that they are the least (Java Card Virtual Machine Specification,
--- verification of CAP files: data-flow analysis).
+-- Where a certificate that was worked out has states, and that they are the least (Java Card Virtual Machine
+-- Specification, verification of CAP files: data-flow analysis).
 use Rattle.std.specs.Prelude.{◌≡◌, ℕ, List, Some, Contains, slice_get}
 use Rattle.std.specs.List.{AllByRecursion}
 use Rattle.jc_cap_desc.specs.Shape.{MethodBody}
@@ -17,11 +17,14 @@ use Rattle.jc_verify.specs.Live.{IsEntered}
 
 -- each state stands where control flow enters the method by a branch or a handler of an instruction that it reaches
 abbrev pub AreWhereEntered : Method → List Stated → Type 0
-AreWhereEntered m states = (listing : List PlacedInstr) → IsListing instr_at m.code listing → AllByRecursion (λ c. IsEntered m listing c.pc) states
+AreWhereEntered m states =
+    (listing : List PlacedInstr) → IsListing instr_at m.code listing
+    → AllByRecursion (λ c. IsEntered m listing c.pc) states
 
 -- so it is for each method with code of a package
 pub record HasStatesWhereEntered (l : Linked) (rows : List Row) : Type 0 where
-  pub each : (n : ℕ) (b : MethodBody) → slice_get l.body.kept.methods n ≡ Some b → AreWhereEntered (method_of l b) (stated_for rows b.offset)
+  pub each : (n : ℕ) (b : MethodBody) → slice_get l.body.kept.methods n ≡ Some b
+      → AreWhereEntered (method_of l b) (stated_for rows b.offset)
 
 -- a state's classes are found, and it lies below the state that a typing has there
 pub record LiesBelow (l : Linked) (typing : Typing) (c : Stated) : Type 0 where
@@ -29,13 +32,16 @@ pub record LiesBelow (l : Linked) (typing : Typing) (c : Stated) : Type 0 where
   pub found : claim_of (package_rules l) c ≡ Some claim
   pub leads : Leads (package_rules l) typing (types_of claim) c.pc
 
--- each state lies below what any typing of the method has there; so it lies below what any certificate that carries the method has
+-- each state lies below what any typing of the method has there; so it lies below what any certificate that carries the
+-- method has
 abbrev pub AreLeast : Linked → Method → List Stated → Type 0
-AreLeast l m states = (typing : Typing) → IsTyping (package_rules l) m typing → AllByRecursion (LiesBelow l typing) states
+AreLeast l m states =
+    (typing : Typing) → IsTyping (package_rules l) m typing → AllByRecursion (LiesBelow l typing) states
 
 -- so it is for each method with code of a package
 pub record HasLeastStates (l : Linked) (rows : List Row) : Type 0 where
-  pub each : (n : ℕ) (b : MethodBody) → slice_get l.body.kept.methods n ≡ Some b → AreLeast l (method_of l b) (stated_for rows b.offset)
+  pub each : (n : ℕ) (b : MethodBody) → slice_get l.body.kept.methods n ≡ Some b
+      → AreLeast l (method_of l b) (stated_for rows b.offset)
 
 -- a state stands at a pc
 pub record HasStateAt (states : List Stated) (pc : ℕ) : Type 0 where
@@ -45,8 +51,11 @@ pub record HasStateAt (states : List Stated) (pc : ℕ) : Type 0 where
 
 -- each pc where control flow enters the method by a branch or a handler of an instruction that it reaches has a state
 abbrev pub HasStateAtEach : Method → List Stated → Type 0
-HasStateAtEach m states = (listing : List PlacedInstr) → IsListing instr_at m.code listing → (pc : ℕ) → IsEntered m listing pc → HasStateAt states pc
+HasStateAtEach m states =
+    (listing : List PlacedInstr) → IsListing instr_at m.code listing → (pc : ℕ) → IsEntered m listing pc
+    → HasStateAt states pc
 
 -- so it is for each method with code of a package
 pub record HasAllStates (l : Linked) (rows : List Row) : Type 0 where
-  pub each : (n : ℕ) (b : MethodBody) → slice_get l.body.kept.methods n ≡ Some b → HasStateAtEach (method_of l b) (stated_for rows b.offset)
+  pub each : (n : ℕ) (b : MethodBody) → slice_get l.body.kept.methods n ≡ Some b
+      → HasStateAtEach (method_of l b) (stated_for rows b.offset)

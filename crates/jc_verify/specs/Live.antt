@@ -1,18 +1,24 @@
--- Where control flow goes in a method, whatever the values are (Java Card Virtual Machine Specification, verification of CAP files:
--- data-flow analysis).
+-- Where control flow goes in a method, whatever the values are (Java Card Virtual Machine Specification, verification
+-- of CAP files: data-flow analysis).
 use Rattle.std.specs.Prelude.{◌≡◌, ℕ, pos, true, List, Some, Contains}
 use Rattle.jc_code.specs.Listing.{PlacedInstr, placed_at}
 use Rattle.jc_code.specs.Targets.{targets_of, falls_of}
 use Rattle.jc_check.specs.Method.{Handler, Method, covers}
 
--- the pcs that control flow reaches from pc 0, whatever the values: by falling through, by branches, and by the handlers that cover what it reaches
+-- the pcs that control flow reaches from pc 0, whatever the values: by falling through, by branches, and by the
+-- handlers that cover what it reaches
 pub data IsLive (m : Method) (listing : List PlacedInstr) : ℕ → Type 0 where
   first : IsLive m listing 0
-  behind : (x : PlacedInstr) → placed_at listing x.pc ≡ Some x → IsLive m listing x.pc → falls_of x.instr.operation ≡ true → IsLive m listing x.instr.next_pc
-  by_branch : (x : PlacedInstr) (pc : ℕ) → placed_at listing x.pc ≡ Some x → IsLive m listing x.pc → Contains (targets_of x.pc x.instr.operation) (pos pc) → IsLive m listing pc
-  by_handler : (x : PlacedInstr) (h : Handler) → placed_at listing x.pc ≡ Some x → IsLive m listing x.pc → Contains m.handlers h → covers h x.pc ≡ true → IsLive m listing h.goes_on
+  behind : (x : PlacedInstr) → placed_at listing x.pc ≡ Some x → IsLive m listing x.pc
+      → falls_of x.instr.operation ≡ true → IsLive m listing x.instr.next_pc
+  by_branch : (x : PlacedInstr) (pc : ℕ) → placed_at listing x.pc ≡ Some x → IsLive m listing x.pc
+      → Contains (targets_of x.pc x.instr.operation) (pos pc) → IsLive m listing pc
+  by_handler : (x : PlacedInstr) (h : Handler) → placed_at listing x.pc ≡ Some x → IsLive m listing x.pc
+      → Contains m.handlers h → covers h x.pc ≡ true → IsLive m listing h.goes_on
 
 -- the pcs that it enters by a branch, or by a handler
 pub data IsEntered (m : Method) (listing : List PlacedInstr) : ℕ → Type 0 where
-  branched : (x : PlacedInstr) (pc : ℕ) → placed_at listing x.pc ≡ Some x → IsLive m listing x.pc → Contains (targets_of x.pc x.instr.operation) (pos pc) → IsEntered m listing pc
-  caught : (x : PlacedInstr) (h : Handler) → placed_at listing x.pc ≡ Some x → IsLive m listing x.pc → Contains m.handlers h → covers h x.pc ≡ true → IsEntered m listing h.goes_on
+  branched : (x : PlacedInstr) (pc : ℕ) → placed_at listing x.pc ≡ Some x → IsLive m listing x.pc
+      → Contains (targets_of x.pc x.instr.operation) (pos pc) → IsEntered m listing pc
+  caught : (x : PlacedInstr) (h : Handler) → placed_at listing x.pc ≡ Some x → IsLive m listing x.pc
+      → Contains m.handlers h → covers h x.pc ≡ true → IsEntered m listing h.goes_on

@@ -1,5 +1,5 @@
--- Private. What is known of a typing that carries a method, beside the places that are numbered for it. So nothing that such a typing
--- lies above is refused.
+-- Private. What is known of a typing that carries a method, beside the places that are numbered for it. So nothing that
+-- such a typing lies above is refused.
 use Rattle.std.specs.Prelude.{◌≡◌, ℕ, ℤ, pos, ◌<◌, ◌≤◌, true, List, length, Option, Some, Ok}
 use Rattle.std.specs.List.{AllByRecursion}
 use Rattle.jc_code.specs.Targets.{targets_of, falls_of}
@@ -24,7 +24,8 @@ BranchHasPlace numbers place = (pc : ℕ) → place ≡ pos pc → HasPlace numb
 abbrev pub HandlerHasPlace : List (Option ℕ) → ℕ → Handler → Type 0
 HandlerHasPlace numbers pc h = covers h pc ≡ true → HasPlace numbers h.goes_on
 
--- there are places where an instruction at a pc leads by handlers and by branches, and what falls through stays in the code
+-- there are places where an instruction at a pc leads by handlers and by branches, and what falls through stays in the
+-- code
 pub record HasWays (m : Method) (numbers : List (Option ℕ)) (pc : ℕ) (instr : Instr) : Type 0 where
   pub handlers : AllByRecursion (HandlerHasPlace numbers pc) m.handlers
   pub branches : AllByRecursion (BranchHasPlace numbers) (targets_of pc instr.operation)
@@ -35,10 +36,12 @@ pub record IsDecodedAt (l : Linked) (m : Method) (pc : ℕ) : Type 0 where
   pub instr : Instr
   pub is : (package_rules l).decoder m.code pc ≡ Ok instr
 
--- a typing of a method that has states only where instructions begin, each of which has its ways; at places there is room for its operands
+-- a typing of a method that has states only where instructions begin, each of which has its ways; at places there is
+-- room for its operands
 pub record IsCarrier (l : Linked) (m : Method) (numbers : List (Option ℕ)) (typing : Typing) : Type 0 where
   pub upper : IsUpper l m typing
   pub some : 0 < length m.code
   pub decoded : (pc : ℕ) (t : Types) → typing pc ≡ Some t → IsDecodedAt l m pc
-  pub ways : (pc : ℕ) (t : Types) (instr : Instr) → typing pc ≡ Some t → (package_rules l).decoder m.code pc ≡ Ok instr → HasWays m numbers pc instr
+  pub ways : (pc : ℕ) (t : Types) (instr : Instr) → typing pc ≡ Some t → (package_rules l).decoder m.code pc ≡ Ok instr
+      → HasWays m numbers pc instr
   pub room : (pc : ℕ) (t : Types) → HasPlace numbers pc → typing pc ≡ Some t → length t.operands ≤ m.max_stack

@@ -1,6 +1,7 @@
--- Private. What the verifier knows while it follows control flow through a method: what is held at places, and what is closed, so
--- that all that flows from there is held where it comes to.
-use Rattle.std.specs.Prelude.{◌≡◌, ℕ, ◌+◌, ◌*◌, ◌<◌, ◌≤◌, Bool, true, false, List, length, drop, Option, Some, None, Ok, ⊤, slice_get, slice_index_or}
+-- Private. What the verifier knows while it follows control flow through a method: what is held at places, and what is
+-- closed, so that all that flows from there is held where it comes to.
+use Rattle.std.specs.Prelude.{◌≡◌, ℕ, ◌+◌, ◌*◌, ◌<◌, ◌≤◌, Bool, true, false, List, length, drop, Option, Some, None, Ok}
+use Rattle.std.specs.Prelude.{⊤, slice_get, slice_index_or}
 use Rattle.std.specs.List.{AllByRecursion}
 use Rattle.std.specs.Option.{option_and_then, option_map}
 use Rattle.jc_cap_desc.specs.Shape.{Shape}
@@ -39,11 +40,14 @@ held_at numbers places pc = option_and_then types_held (option_and_then (slice_g
 pub record IsNumbered (numbers : List (Option ℕ)) (places : Places) : Type 0 where
   pub within : (pc n : ℕ) → number_at numbers pc ≡ Some n → n < length places
   pub known : (n : ℕ) (p : Place StateWithRoom) → slice_get places n ≡ Some p → number_at numbers p.pc ≡ Some n
-  pub found : (pc n : ℕ) (p : Place StateWithRoom) → number_at numbers pc ≡ Some n → slice_get places n ≡ Some p → p.pc ≡ pc
+  pub found : (pc n : ℕ) (p : Place StateWithRoom) → number_at numbers pc ≡ Some n
+      → slice_get places n ≡ Some p → p.pc ≡ pc
 
 -- what is held is in the shape of a method
 abbrev pub AreShaped : Method → Places → Type 0
-AreShaped m places = (n : ℕ) (p : Place StateWithRoom) (s : StateWithRoom) → slice_get places n ≡ Some p → p.held ≡ Some s → HasShape m s.types
+AreShaped m places =
+    (n : ℕ) (p : Place StateWithRoom) (s : StateWithRoom) → slice_get places n ≡ Some p → p.held ≡ Some s
+    → HasShape m s.types
 
 -- a state to work on has the method's number of locals, and room for the operands that the method may have
 pub record HasRoom (m : Method) (s : StateWithRoom) : Type 0 where
@@ -53,15 +57,19 @@ pub record HasRoom (m : Method) (s : StateWithRoom) : Type 0 where
 -- what holds of types and of code beside a linked package
 pub record HasLaws (l : Linked) : Type 0 where
   pub itself : (s : Types) → types_below (is_class_below l.world) s s ≡ true
-  pub through : (s t u : Types) → types_below (is_class_below l.world) s t ≡ true → types_below (is_class_below l.world) t u ≡ true → types_below (is_class_below l.world) s u ≡ true
+  pub through : (s t u : Types) → types_below (is_class_below l.world) s t ≡ true
+      → types_below (is_class_below l.world) t u ≡ true → types_below (is_class_below l.world) s u ≡ true
   pub listing : ListingLaws (package_rules l).decoder
   pub classes : IsClassLattice (is_class_below l.world) (common_class l.world) (classes_above l.world) most_classes
-  pub monotone : (m : Method) (operation : Operation) → IsMonotone (is_class_below l.world) ((package_rules l).effect m.max_stack m.returned operation)
-  pub bound : (s : Types) → height_of_types (classes_above l.world) most_classes s ≤ (length s.locals + length s.operands) * (3 + most_classes)
+  pub monotone : (m : Method) (operation : Operation)
+      → IsMonotone (is_class_below l.world) ((package_rules l).effect m.max_stack m.returned operation)
+  pub bound : (s : Types) → height_of_types (classes_above l.world) most_classes s
+      ≤ (length s.locals + length s.operands) * (3 + most_classes)
 
 -- places changed: what was held lies below what is held
 pub record Risen (l : Linked) (m : Method) (numbers : List (Option ℕ)) (before after : Places) : Type 0 where
-  pub rises : (pc : ℕ) (s : Types) → held_at numbers before pc ≡ Some s → Leads (package_rules l) (held_at numbers after) s pc
+  pub rises : (pc : ℕ) (s : Types) → held_at numbers before pc ≡ Some s
+      → Leads (package_rules l) (held_at numbers after) s pc
   pub numbered : IsNumbered numbers before → IsNumbered numbers after
   pub shaped : AreShaped m before → AreShaped m after
 
@@ -95,20 +103,25 @@ placed pc instr = record { pc = pc; instr = instr }
 
 -- what places hold lies below the states of a typing
 abbrev pub IsUnder : Linked → List (Option ℕ) → Places → Typing → Type 0
-IsUnder l numbers places typing = (pc : ℕ) (s : Types) → held_at numbers places pc ≡ Some s → Leads (package_rules l) typing s pc
+IsUnder l numbers places typing =
+    (pc : ℕ) (s : Types) → held_at numbers places pc ≡ Some s → Leads (package_rules l) typing s pc
 
--- a typing of a method by what its code decodes to: the entry state lies below its state at pc 0, and where it has a state an instruction is
--- fine on it
+-- a typing of a method by what its code decodes to: the entry state lies below its state at pc 0, and where it has a
+-- state an instruction is fine on it
 pub record IsUpper (l : Linked) (m : Method) (typing : Typing) : Type 0 where
   pub entry : Leads (package_rules l) typing (entry_of m) 0
-  pub each : (pc : ℕ) (t : Types) (instr : Instr) → typing pc ≡ Some t → (package_rules l).decoder m.code pc ≡ Ok instr → IsFine (package_rules l) m typing (placed pc instr) t
+  pub each : (pc : ℕ) (t : Types) (instr : Instr) → typing pc ≡ Some t → (package_rules l).decoder m.code pc ≡ Ok instr
+      → IsFine (package_rules l) m typing (placed pc instr) t
 
 -- the first of these were passed: whatever is held in the end, they hold if those behind them do
-pub record ArePassed (l : Linked) (m : Method) (numbers : List (Option ℕ)) {A : Type 0} (holds : Typing → A → Type 0) (xs : List A) (k : ℕ) (start now : Places) : Type 0 where
+pub record ArePassed (l : Linked) (m : Method) (numbers : List (Option ℕ)) {A : Type 0} (holds : Typing → A → Type 0)
+    (xs : List A) (k : ℕ) (start now : Places) : Type 0 where
   pub grown : Grown l m numbers start now
   pub numbered : IsNumbered numbers now
-  pub rest : (final : Places) → Risen l m numbers now final → AllByRecursion (holds (held_at numbers final)) (drop k xs) → AllByRecursion (holds (held_at numbers final)) xs
-  pub under : (typing : Typing) → IsUnder l numbers start typing → AllByRecursion (holds typing) xs → IsUnder l numbers now typing
+  pub rest : (final : Places) → Risen l m numbers now final → AllByRecursion (holds (held_at numbers final)) (drop k xs)
+      → AllByRecursion (holds (held_at numbers final)) xs
+  pub under : (typing : Typing) → IsUnder l numbers start typing → AllByRecursion (holds typing) xs
+      → IsUnder l numbers now typing
 
 -- the handlers that cover an instruction catch, it has an effect, and its branches lead on
 pub record IsVisited (rules : Rules) (m : Method) (typing : Typing) (x : PlacedInstr) (s after : Types) : Type 0 where
@@ -118,12 +131,16 @@ pub record IsVisited (rules : Rules) (m : Method) (typing : Typing) (x : PlacedI
 
 -- from a pc with these types control flow was followed up to places, which hold what comes there
 pub data IsClosed (rules : Rules) (m : Method) (numbers : List (Option ℕ)) (typing : Typing) : ℕ → Types → Type 0 where
-  ends : (x : PlacedInstr) (s after : Types) → rules.decoder m.code x.pc ≡ Ok x.instr → IsVisited rules m typing x s after → falls_of x.instr.operation ≡ false
+  ends : (x : PlacedInstr) (s after : Types) → rules.decoder m.code x.pc ≡ Ok x.instr
+      → IsVisited rules m typing x s after → falls_of x.instr.operation ≡ false
       → IsClosed rules m numbers typing x.pc s
-  meets : (x : PlacedInstr) (s after : Types) → rules.decoder m.code x.pc ≡ Ok x.instr → IsVisited rules m typing x s after → Leads rules typing after x.instr.next_pc
+  meets : (x : PlacedInstr) (s after : Types) → rules.decoder m.code x.pc ≡ Ok x.instr
+      → IsVisited rules m typing x s after → Leads rules typing after x.instr.next_pc
       → IsClosed rules m numbers typing x.pc s
-  goes_on : (x : PlacedInstr) (s after : Types) → rules.decoder m.code x.pc ≡ Ok x.instr → IsVisited rules m typing x s after → x.instr.next_pc < length m.code
-      → number_at numbers x.instr.next_pc ≡ None → IsClosed rules m numbers typing x.instr.next_pc after → IsClosed rules m numbers typing x.pc s
+  goes_on : (x : PlacedInstr) (s after : Types) → rules.decoder m.code x.pc ≡ Ok x.instr
+      → IsVisited rules m typing x s after → x.instr.next_pc < length m.code
+      → number_at numbers x.instr.next_pc ≡ None → IsClosed rules m numbers typing x.instr.next_pc after
+      → IsClosed rules m numbers typing x.pc s
 
 -- what is owed of the next pc where control flow goes on to it
 abbrev pub ClosedIf : Bool → Rules → Method → List (Option ℕ) → Typing → ℕ → Types → Type 0

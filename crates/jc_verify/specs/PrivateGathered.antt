@@ -20,7 +20,8 @@ pub record Stands (l : Linked) (n k : ℕ) (b : MethodBody) : Type 0 where
   pub first : k < n
   pub is : slice_get l.body.kept.methods k ≡ Some b
 
--- a state at a pc that goes into two bytes, in the shape of a method, with as many operands as go into one byte, and names that fit
+-- a state at a pc that goes into two bytes, in the shape of a method, with as many operands as go into one byte, and
+-- names that fit
 pub record IsInShape (m : Method) (c : Stated) : Type 0 where
   pub pc : c.pc < 2 ^ 16
   pub locals : length c.locals ≡ length m.arguments + m.max_locals
@@ -78,13 +79,16 @@ pub record IsTold (l : Linked) (offset : ℕ) (fault : Fault) : Type 0 where
   pub without : CanBeCarried l (method_of l method) → ⊥
   pub told : IsToldOf (package_rules l) (method_of l method) fault
 
--- so it is where nothing is told. Where a method is told of no states carry it, and those that stand before it can be carried
+-- so it is where nothing is told. Where a method is told of no states carry it, and those that stand before it can be
+-- carried
 pub record IsSoFar (l : Linked) (n : ℕ) (g : Gathered) : Type 0 where
   pub gathered : g.told ≡ None → AreGathered l n (rows g.rows.items)
   pub told : (t : Told) → g.told ≡ Some t → IsTold l t.method t.fault
-  pub carried : (k : ℕ) (b : MethodBody) → Stands l n k b → ((t : Told) → g.told ≡ Some t → b.offset < t.method) → CanBeCarried l (method_of l b)
+  pub carried : (k : ℕ) (b : MethodBody) → Stands l n k b → ((t : Told) → g.told ≡ Some t → b.offset < t.method)
+      → CanBeCarried l (method_of l b)
 
 -- a row was put behind others, if it has states
 abbrev pub IsPut : ℕ → List Stated → List Row → List Row → Type 0
 IsPut offset states before after =
-    ((states ≡ []) × (after ≡ before)) ⊎ ((1 ≤ length states) × (after ≡ before ++ record { offset = offset; states = states } ∷ []))
+    ((states ≡ []) × (after ≡ before))
+    ⊎ ((1 ≤ length states) × (after ≡ before ++ record { offset = offset; states = states } ∷ []))

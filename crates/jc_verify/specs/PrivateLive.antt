@@ -1,5 +1,6 @@
 -- Private. What is known while control flow is followed through a method, to find where it enters.
-use Rattle.std.specs.Prelude.{◌≡◌, ◌⊎◌, ⊤, ℕ, ℤ, zero, suc, ◌+◌, ◌<◌, ◌^◌, true, pos, List, length, Option, Some, Contains, if◌then◌else◌}
+use Rattle.std.specs.Prelude.{◌≡◌, ◌⊎◌, ⊤, ℕ, ℤ, zero, suc, ◌+◌, ◌<◌, ◌^◌, true, pos, List, length, Option, Some}
+use Rattle.std.specs.Prelude.{Contains, if◌then◌else◌}
 use Rattle.std.specs.List.{AllByRecursion}
 use Rattle.jc_base.specs.NumberSet.{has_number}
 use Rattle.jc_base.specs.declared.reason.Reason.{Reason}
@@ -80,13 +81,15 @@ pub record IsFound (m : Method) (listing : List PlacedInstr) (pc : ℕ) : Type 0
   pub entered : IsEntered m listing pc
   pub begin : begins listing pc ≡ true
 
--- control flow was followed from pc 0: what is in the sets is reached and entered, and from each pc that is reached it was followed, or has to be yet
+-- control flow was followed from pc 0: what is in the sets is reached and entered, and from each pc that is reached it
+-- was followed, or has to be yet
 pub record IsFollowed (m : Method) (listing : List PlacedInstr) (now : Option ℕ) (f : Followed) : Type 0 where
   pub first : has_number f.live 0 ≡ true
   pub live : (pc : ℕ) → has_number f.live pc ≡ true → IsReached m listing pc
   pub entered : (pc : ℕ) → has_number f.entered pc ≡ true → IsFound m listing pc
   pub awaited : (pc : ℕ) → IsAwaited now f pc → has_number f.live pc ≡ true
-  pub done : (x : PlacedInstr) → placed_at listing x.pc ≡ Some x → has_number f.live x.pc ≡ true → IsAwaited now f x.pc ⊎ IsDone m f x
+  pub done : (x : PlacedInstr) → placed_at listing x.pc ≡ Some x → has_number f.live x.pc ≡ true
+      → IsAwaited now f x.pc ⊎ IsDone m f x
 
 -- these are the pcs that control flow enters, and instructions begin there
 pub record AreEntries (m : Method) (listing : List PlacedInstr) (entries : List ℕ) : Type 0 where

@@ -1,4 +1,5 @@
--- Private. Which classes a certificate has names for, and that what control flow does to types leaves names to their classes.
+-- Private. Which classes a certificate has names for, and that what control flow does to types leaves names to their
+-- classes.
 use Rattle.std.specs.Prelude.{◌≡◌, ⊤, ℕ, true, List, reverse, Some, Ok, Contains, slice_get}
 use Rattle.std.specs.List.{AllByRecursion}
 use Rattle.jc_cap_desc.specs.Shape.{Shape}
@@ -9,7 +10,8 @@ use Rattle.jc_link.specs.Linked.{Linked}
 use Rattle.jc_types.specs.State.{IsJoin, StateWithRoom, Types}
 use Rattle.jc_check.specs.Method.{Handler, Method, caught_types, entry_of}
 use Rattle.jc_types.specs.declared.ty.Ty.{Ty}
-use Rattle.jc_types.specs.declared.ty.Ty.TheVariants.{Top, Word, Null, Class, BooleanArray, ByteArray, ShortArray, ReferenceArray}
+use Rattle.jc_types.specs.declared.ty.Ty.TheVariants.{Top, Word, Null, Class, BooleanArray, ByteArray, ShortArray}
+use Rattle.jc_types.specs.declared.ty.Ty.TheVariants.{ReferenceArray}
 use Rattle.jc_check.specs.Package.{package_rules}
 use Rattle.jc_verify.specs.declared.place.Place.{Place}
 
@@ -35,14 +37,19 @@ pub record HasNames (world : List Shape) (t : Types) : Type 0 where
 
 -- so it is of what places hold
 abbrev pub AreNamed : List Shape → List (Place StateWithRoom) → Type 0
-AreNamed world places = (n : ℕ) (p : Place StateWithRoom) (s : StateWithRoom) → slice_get places n ≡ Some p → p.held ≡ Some s → HasNames world s.types
+AreNamed world places =
+    (n : ℕ) (p : Place StateWithRoom) (s : StateWithRoom) → slice_get places n ≡ Some p → p.held ≡ Some s
+    → HasNames world s.types
 
 -- whatever control flow does to types of a method leaves names to their classes
 pub record KeepsNames (l : Linked) (m : Method) : Type 0 where
   pub entry : HasNames l.world (entry_of m)
-  pub effect : (operation : Operation) (s t : Types) → HasNames l.world s → (package_rules l).effect m.max_stack m.returned operation s ≡ Ok t → HasNames l.world t
-  pub caught : (h : Handler) (class : ClassName) (s : Types) → Contains m.handlers h → h.caught ≡ Some class → HasNames l.world s → HasNames l.world (caught_types class s)
-  pub join : (s t u : Types) → HasNames l.world s → HasNames l.world t → IsJoin (is_class_below l.world) s t u → HasNames l.world u
+  pub effect : (operation : Operation) (s t : Types) → HasNames l.world s
+      → (package_rules l).effect m.max_stack m.returned operation s ≡ Ok t → HasNames l.world t
+  pub caught : (h : Handler) (class : ClassName) (s : Types) → Contains m.handlers h → h.caught ≡ Some class
+      → HasNames l.world s → HasNames l.world (caught_types class s)
+  pub join : (s t u : Types) → HasNames l.world s → HasNames l.world t → IsJoin (is_class_below l.world) s t u
+      → HasNames l.world u
 
 -- a place holds types, of which not all classes have names
 pub record IsUnnamedPlace (world : List Shape) (p : Place StateWithRoom) : Type 0 where

@@ -1,6 +1,7 @@
--- Private. The places of a method that control flow enters by a branch or a handler, and what they hold while a certificate is
--- worked out.
-use Rattle.std.specs.Prelude.{◌≡◌, ◌⊎◌, ◌<◌, ℕ, suc, ◌+◌, Bool, true, false, List, [], ◌∷◌, length, None, Some, slice_get}
+-- Private. The places of a method that control flow enters by a branch or a handler, and what they hold while a
+-- certificate is worked out.
+use Rattle.std.specs.Prelude.{◌≡◌, ◌⊎◌, ◌<◌, ℕ, suc, ◌+◌, Bool, true, false, List, [], ◌∷◌, length, None, Some}
+use Rattle.std.specs.Prelude.{slice_get}
 use Rattle.std.specs.Option.{option_map_or}
 use Rattle.jc_verify.specs.declared.place.Place.{Place}
 
@@ -21,7 +22,8 @@ IsHeldBelow {L} below p z = (x : L) → p.held ≡ Some x → below x z ≡ true
 -- a place that held nothing holds a value now, or the least above that value and the one that it held
 pub data IsTakenIn {L : Type 0} (below : L → L → Bool) (before after : Place L) (x : L) : Type 0 where
   put : before.held ≡ None → after.held ≡ Some x → IsTakenIn below before after x
-  joined : (y z : L) → before.held ≡ Some y → after.held ≡ Some z → below y z ≡ true → below x z ≡ true → ((u : L) → below y u ≡ true → below x u ≡ true → below z u ≡ true) → IsTakenIn below before after x
+  joined : (y z : L) → before.held ≡ Some y → after.held ≡ Some z → below y z ≡ true → below x z ≡ true
+      → ((u : L) → below y u ≡ true → below x u ≡ true → below z u ≡ true) → IsTakenIn below before after x
 
 -- a place holds a value that isn't of one shape with another
 pub record IsUnlike {L : Type 0} (fits : L → L → Bool) (p : Place L) (x : L) : Type 0 where
@@ -30,7 +32,8 @@ pub record IsUnlike {L : Type 0} (fits : L → L → Bool) (p : Place L) (x : L)
   pub unlike : fits value x ≡ false
 
 -- a place was raised: it has changed, what it held lies below what it holds, and it may rise less far
-pub record IsRaised {L : Type 0} (below : L → L → Bool) (height : L → ℕ) (most : ℕ) (before after : Place L) : Type 0 where
+pub record IsRaised {L : Type 0} (below : L → L → Bool) (height : L → ℕ) (most : ℕ)
+    (before after : Place L) : Type 0 where
   pub same : after.pc ≡ before.pc
   pub changed : after.changed ≡ true
   pub above : (x : L) → before.held ≡ Some x → HoldsAbove below after x
@@ -41,9 +44,11 @@ abbrev pub IsStep : {L : Type 0} → (L → L → Bool) → (L → ℕ) → ℕ 
 IsStep below height most before after = (after ≡ before) ⊎ IsRaised below height most before after
 
 -- each place is as it was, or was raised
-pub record AreSteps {L : Type 0} (below : L → L → Bool) (height : L → ℕ) (most : ℕ) (before after : List (Place L)) : Type 0 where
+pub record AreSteps {L : Type 0} (below : L → L → Bool) (height : L → ℕ) (most : ℕ)
+    (before after : List (Place L)) : Type 0 where
   pub len : length after ≡ length before
-  pub each : (n : ℕ) (p q : Place L) → slice_get before n ≡ Some p → slice_get after n ≡ Some q → IsStep below height most p q
+  pub each : (n : ℕ) (p q : Place L) → slice_get before n ≡ Some p → slice_get after n ≡ Some q
+      → IsStep below height most p q
 
 -- how far all places may still rise
 abbrev pub all_left : {L : Type 0} → (L → ℕ) → ℕ → List (Place L) → ℕ

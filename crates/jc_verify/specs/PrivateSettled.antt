@@ -1,26 +1,29 @@
 -- Private. What is known of the places of a method while control flow is followed from those that have changed.
 use Rattle.jc_base.specs.NumberSet.{has_number}
-use Rattle.std.specs.Prelude.{◌≡◌, ◌≢◌, ◌⊎◌, ℕ, ◌<◌, ◌≤◌, Bool, true, false, List, length, Option, Some, None, slice_get}
+use Rattle.std.specs.Prelude.{◌≡◌, ◌≢◌, ◌⊎◌, ℕ, ◌<◌, ◌≤◌, Bool, true, false, List, length, Option, Some, None}
+use Rattle.std.specs.Prelude.{slice_get}
 use Rattle.jc_link.specs.Linked.{Linked}
 use Rattle.jc_types.specs.State.{StateWithRoom, Types}
 use Rattle.jc_check.specs.Method.{Method, entry_of}
 use Rattle.jc_check.specs.Package.{package_rules}
 use Rattle.jc_check.specs.Typing.{Typing}
 use Rattle.jc_verify.specs.PrivateCarrier.{HasPlace}
-use Rattle.jc_verify.specs.PrivateFlow.{AreShaped, ClosedIf, FallsIf, IsClosed, IsNumbered, IsUnder, IsUpper, Places, Risen, held_at, left_in, number_at, types_held}
+use Rattle.jc_verify.specs.PrivateFlow.{AreShaped, ClosedIf, FallsIf, IsClosed, IsNumbered, IsUnder, IsUpper, Places}
+use Rattle.jc_verify.specs.PrivateFlow.{Risen, held_at, left_in, number_at, types_held}
 use Rattle.jc_verify.specs.PrivateTold.{AreReached}
 use Rattle.jc_verify.specs.declared.place.Place.{Place}
 
 -- from each place that hasn't changed since, control flow was followed
 abbrev pub IsSettled : Linked → Method → List (Option ℕ) → Places → Type 0
 IsSettled l m numbers places =
-    (n : ℕ) (p : Place StateWithRoom) (t : Types) → slice_get places n ≡ Some p → p.changed ≡ false → types_held p ≡ Some t
-    → IsClosed (package_rules l) m numbers (held_at numbers places) p.pc t
+    (n : ℕ) (p : Place StateWithRoom) (t : Types) → slice_get places n ≡ Some p → p.changed ≡ false
+    → types_held p ≡ Some t → IsClosed (package_rules l) m numbers (held_at numbers places) p.pc t
 
 -- from each place that holds types control flow was followed
 abbrev pub AreAllClosed : Linked → Method → List (Option ℕ) → Places → Type 0
 AreAllClosed l m numbers places =
-    (n : ℕ) (p : Place StateWithRoom) (t : Types) → slice_get places n ≡ Some p → types_held p ≡ Some t → IsClosed (package_rules l) m numbers (held_at numbers places) p.pc t
+    (n : ℕ) (p : Place StateWithRoom) (t : Types) → slice_get places n ≡ Some p → types_held p ≡ Some t
+    → IsClosed (package_rules l) m numbers (held_at numbers places) p.pc t
 
 -- the entry state met the place at pc 0, or control flow was followed from there
 pub record IsEntryMet (l : Linked) (m : Method) (numbers : List (Option ℕ)) (places : Places) : Type 0 where
@@ -32,24 +35,30 @@ pub record IsEntryMet (l : Linked) (m : Method) (numbers : List (Option ℕ)) (p
 abbrev pub settled_place : Place StateWithRoom → Place StateWithRoom
 settled_place p = record { pc = p.pc; held = p.held; changed = false }
 
--- control flow was followed from the place of a number: what has changed is another place that had before, or it lets what is left fall
-pub record IsFollowed (l : Linked) (m : Method) (numbers : List (Option ℕ)) (number : ℕ) (before after : Places) : Type 0 where
+-- control flow was followed from the place of a number: what has changed is another place that had before, or it lets
+-- what is left fall
+pub record IsFollowed (l : Linked) (m : Method) (numbers : List (Option ℕ)) (number : ℕ)
+    (before after : Places) : Type 0 where
   pub risen : Risen l m numbers before after
   pub under : (typing : Typing) → IsUpper l m typing → IsUnder l numbers before typing → IsUnder l numbers after typing
   pub reached : AreReached l m before → AreReached l m after
   pub settled : IsSettled l m numbers before → IsSettled l m numbers after
   pub left : left_in l m after ≤ left_in l m before
   pub flags : (n : ℕ) (p : Place StateWithRoom) → slice_get after n ≡ Some p → p.changed ≡ true
-      → (left_in l m after < left_in l m before) ⊎ ((n ≢ number) × (q : Place StateWithRoom) × (slice_get before n ≡ Some q) × (q.changed ≡ true))
+      → (left_in l m after < left_in l m before)
+      ⊎ ((n ≢ number) × (q : Place StateWithRoom) × (slice_get before n ≡ Some q) × (q.changed ≡ true))
 
--- control flow was followed from those that had changed of the places with these numbers, from the first one up to the end
-pub record IsSwept (l : Linked) (m : Method) (numbers : List (Option ℕ)) (first end : ℕ) (before after : Places) : Type 0 where
+-- control flow was followed from those that had changed of the places with these numbers, from the first one up to the
+-- end
+pub record IsSwept (l : Linked) (m : Method) (numbers : List (Option ℕ)) (first end : ℕ)
+    (before after : Places) : Type 0 where
   pub risen : Risen l m numbers before after
   pub under : (typing : Typing) → IsUpper l m typing → IsUnder l numbers before typing → IsUnder l numbers after typing
   pub reached : AreReached l m before → AreReached l m after
   pub settled : IsSettled l m numbers before → IsSettled l m numbers after
   pub left : left_in l m after ≤ left_in l m before
-  pub flags : (n : ℕ) (p : Place StateWithRoom) → first ≤ n → n < end → slice_get after n ≡ Some p → p.changed ≡ true → left_in l m after < left_in l m before
+  pub flags : (n : ℕ) (p : Place StateWithRoom) → first ≤ n → n < end → slice_get after n ≡ Some p → p.changed ≡ true
+      → left_in l m after < left_in l m before
 
 -- numbers ascend with the pcs
 abbrev pub AreAscending : List (Option ℕ) → Type 0

@@ -19,7 +19,8 @@ pub record IsStateRow (class_of : SpelledClass → Option ClassName) (pc : ℕ) 
   pub each_operand : AllByRecursion IsStatedType c.operands
 
 -- the first of these rows states the types at a pc, and the others are these
-pub record IsFirstRow (class_of : SpelledClass → Option ClassName) (pc : ℕ) (t : Types) (others : List Stated → Type 0) (cs : List Stated) : Type 0 where
+pub record IsFirstRow (class_of : SpelledClass → Option ClassName) (pc : ℕ) (t : Types) (others : List Stated → Type 0)
+    (cs : List Stated) : Type 0 where
   pub row : Stated
   pub rest : List Stated
   pub are : cs ≡ row ∷ rest
@@ -27,7 +28,8 @@ pub record IsFirstRow (class_of : SpelledClass → Option ClassName) (pc : ℕ) 
   pub behind : others rest
 
 -- what a place holds has a row in front of others, if it holds something
-abbrev pub RowIf : (SpelledClass → Option ClassName) → ℕ → Option StateWithRoom → (List Stated → Type 0) → List Stated → Type 0
+abbrev pub RowIf : (SpelledClass → Option ClassName) → ℕ → Option StateWithRoom → (List Stated → Type 0)
+    → List Stated → Type 0
 RowIf class_of pc None others cs = others cs
 RowIf class_of pc (Some s) others cs = IsFirstRow class_of pc s.types others cs
 

@@ -23,7 +23,8 @@ pub record IsFirstWithout (l : Linked) (offset : ℕ) : Type 0 where
   pub is : slice_get l.body.kept.methods place ≡ Some method
   pub at : method.offset ≡ offset
   pub without : CanBeCarried l (method_of l method) → ⊥
-  pub before : (n : ℕ) (b : MethodBody) → slice_get l.body.kept.methods n ≡ Some b → b.offset < offset → CanBeCarried l (method_of l b)
+  pub before : (n : ℕ) (b : MethodBody) → slice_get l.body.kept.methods n ≡ Some b → b.offset < offset
+      → CanBeCarried l (method_of l b)
 
 -- the method at this offset is the first that no states carry, and the fault is told of it
 pub record IsUncarried (l : Linked) (offset : ℕ) (fault : Fault) : Type 0 where

@@ -1,6 +1,7 @@
 //! Where control flow enters a method, by branches and by handlers.
 
-ghost use Rattle.std.specs.Prelude.{◌≡◌, ◌≢◌, ◌<◌, ◌≤◌, ◌^◌, [], ℕ, ℤ, pos, List, Ok, Err, Some, None, true, false, Contains, length, slice_get, IfOk, IfErr};
+ghost use Rattle.std.specs.Prelude.{◌≡◌, ◌≢◌, ◌<◌, ◌≤◌, ◌^◌, [], ℕ, ℤ, pos, List, Ok, Err, Some, None, true, false};
+ghost use Rattle.std.specs.Prelude.{Contains, length, slice_get, IfOk, IfErr};
 ghost use Rattle.std.specs.List.{AllByRecursion};
 ghost use Rattle.jc_base.specs.NumberSet.{has_number};
 ghost use Rattle.jc_base.specs.declared.reason.Reason.{Reason};
@@ -18,7 +19,9 @@ ghost use Rattle.jc_check.specs.Method as methods;
 ghost use Rattle.jc_check.specs.declared.fault.WordFault.TheVariants.{Memory, Refused};
 ghost use Rattle.jc_verify.specs.Live.{IsEntered};
 ghost use Rattle.jc_verify.specs.PrivateFlow.{placed};
-ghost use Rattle.jc_verify.specs.PrivateLive.{AreEntries, AreLive, Grown, IfRefusal, IsAstray, IsBranchIn, IsCaughtIn, IsDecoded, IsFollowed, IsFound, IsGround, IsHeld, IsReached, ToldAt, left_of};
+ghost use Rattle.jc_verify.specs.PrivateLive.{AreEntries, AreLive, Grown, IfRefusal, IsAstray, IsBranchIn, IsCaughtIn};
+ghost use Rattle.jc_verify.specs.PrivateLive.{IsDecoded, IsFollowed, IsFound, IsGround, IsHeld, IsReached, ToldAt};
+ghost use Rattle.jc_verify.specs.PrivateLive.{left_of};
 ghost use Rattle.jc_check.specs.Package.{package_rules};
 ghost use Rattle.jc_link.specs.Linked.{Linked};
 ghost use Rattle.jc_verify.specs.PrivateTold.{Tells};
@@ -43,7 +46,8 @@ fn reason_for(fault: CodeFault) -> Reason
 fn starts_of(code: &[u8]) -> Result<NumberSet, Fault>
     requires short { length code.now < 2 ^ 16 }
     ensures ok { IfOk result (λ starts. (listing : List PlacedInstr) × IsDecoded code.now listing starts) }
-    ensures err { IfErr result (λ fault. (why : CodeFault) × StopsAt instr_at code.now fault.pc why × (fault.reason ≡ reason_of why)) }
+    ensures err { IfErr result (λ fault. (why : CodeFault) × StopsAt instr_at code.now fault.pc why
+        × (fault.reason ≡ reason_of why)) }
 {
     listing_laws();
     let mut starts = NumberSet::empty();
@@ -67,8 +71,10 @@ fn starts_of(code: &[u8]) -> Result<NumberSet, Fault>
 
 /// A handler goes on where an instruction begins, and catches a class.
 fn stand_handler(starts: &NumberSet, handler: &Handler) -> Result<(), Fault>
-    ensures ok { IfOk result (λ u. (code : List ℕ) (listing : List PlacedInstr) → IsDecoded code listing starts.now → HandlerStands listing handler.now) }
-    ensures err { IfErr result (λ fault. (code : List ℕ) (listing : List PlacedInstr) → IsDecoded code listing starts.now → HandlerStands listing handler.now → ⊥) }
+    ensures ok { IfOk result (λ u. (code : List ℕ) (listing : List PlacedInstr) → IsDecoded code listing starts.now
+        → HandlerStands listing handler.now) }
+    ensures err { IfErr result (λ fault. (code : List ℕ) (listing : List PlacedInstr)
+        → IsDecoded code listing starts.now → HandlerStands listing handler.now → ⊥) }
     ensures told { IfErr result (λ fault. (code : List ℕ) (listing : List PlacedInstr)
         → IsDecoded code listing starts.now
         → told_at handler.now.goes_on (handler_stands listing handler.now) ≡ Err fault) }
@@ -90,8 +96,10 @@ fn stand_handler(starts: &NumberSet, handler: &Handler) -> Result<(), Fault>
 
 /// Each handler in turn.
 fn stand_handlers(starts: &NumberSet, handlers: &[Handler]) -> Result<(), Fault>
-    ensures ok { IfOk result (λ u. (code : List ℕ) (listing : List PlacedInstr) → IsDecoded code listing starts.now → AllByRecursion (HandlerStands listing) handlers.now) }
-    ensures err { IfErr result (λ fault. (code : List ℕ) (listing : List PlacedInstr) → IsDecoded code listing starts.now → AllByRecursion (HandlerStands listing) handlers.now → ⊥) }
+    ensures ok { IfOk result (λ u. (code : List ℕ) (listing : List PlacedInstr) → IsDecoded code listing starts.now
+        → AllByRecursion (HandlerStands listing) handlers.now) }
+    ensures err { IfErr result (λ fault. (code : List ℕ) (listing : List PlacedInstr)
+        → IsDecoded code listing starts.now → AllByRecursion (HandlerStands listing) handlers.now → ⊥) }
     ensures told { IfErr result (λ fault. (code : List ℕ) (listing : List PlacedInstr)
         → IsDecoded code listing starts.now → handlers_stand listing handlers.now ≡ Err fault) }
 {
@@ -101,8 +109,8 @@ fn stand_handlers(starts: &NumberSet, handlers: &[Handler]) -> Result<(), Fault>
     Ok(())
 }
 
-/// What is known while control flow is followed: the pcs that it reaches, those that it enters, and those that it has still to be
-/// followed from.
+/// What is known while control flow is followed: the pcs that it reaches, those that it enters, and those that it has
+/// still to be followed from.
 #[derive(Drop)]
 pub(crate) struct Followed {
     pub(crate) live: NumberSet,
@@ -115,7 +123,8 @@ fn reach(followed: &mut Followed, pc: u16) -> Result<(), WordFault>
     ensures live { IfOk result (λ u. has_number followed.new.live pc ≡ true) }
     ensures same { IfOk result (λ u. followed.new.entered ≡ followed.old.entered) }
     ensures grown { IfOk result (λ u. Grown followed.old followed.new) }
-    ensures followed { IfOk result (λ u. (m : methods.Method) (listing : List PlacedInstr) (now : ℕ) → IsReached m listing pc
+    ensures followed { IfOk result (λ u. (m : methods.Method) (listing : List PlacedInstr) (now : ℕ)
+        → IsReached m listing pc
         → IsFollowed m listing (Some now) followed.old → IsFollowed m listing (Some now) followed.new) }
     ensures memory { IfErr result (λ fault. fault ≡ Memory) }
 {
@@ -131,7 +140,8 @@ fn reach(followed: &mut Followed, pc: u16) -> Result<(), WordFault>
 fn enter(followed: &mut Followed, pc: u16) -> Result<(), WordFault>
     ensures held { IfOk result (λ u. IsHeld followed.new pc) }
     ensures grown { IfOk result (λ u. Grown followed.old followed.new) }
-    ensures followed { IfOk result (λ u. (m : methods.Method) (listing : List PlacedInstr) (now : ℕ) → IsFound m listing pc
+    ensures followed { IfOk result (λ u. (m : methods.Method) (listing : List PlacedInstr) (now : ℕ)
+        → IsFound m listing pc
         → IsFollowed m listing (Some now) followed.old → IsFollowed m listing (Some now) followed.new) }
     ensures memory { IfErr result (λ fault. fault ≡ Memory) }
 {
@@ -144,7 +154,8 @@ fn enter(followed: &mut Followed, pc: u16) -> Result<(), WordFault>
 fn handle(followed: &mut Followed, pc: u16, handler: &Handler) -> Result<(), WordFault>
     ensures met { IfOk result (λ u. IsCaughtIn followed.new pc handler.now) }
     ensures grown { IfOk result (λ u. Grown followed.old followed.new) }
-    ensures followed { IfOk result (λ u. (m : methods.Method) (listing : List PlacedInstr) (now : ℕ) → (covers handler.now pc ≡ true → IsFound m listing handler.now.goes_on)
+    ensures followed { IfOk result (λ u. (m : methods.Method) (listing : List PlacedInstr) (now : ℕ)
+        → (covers handler.now pc ≡ true → IsFound m listing handler.now.goes_on)
         → IsFollowed m listing (Some now) followed.old → IsFollowed m listing (Some now) followed.new) }
     ensures memory { IfErr result (λ fault. fault ≡ Memory) }
 {
@@ -158,7 +169,8 @@ fn handle(followed: &mut Followed, pc: u16, handler: &Handler) -> Result<(), Wor
 fn handle_all(followed: &mut Followed, handlers: &[Handler], pc: u16) -> Result<(), WordFault>
     ensures met { IfOk result (λ u. (h : methods.Handler) → Contains handlers.now h → IsCaughtIn followed.new pc h) }
     ensures grown { IfOk result (λ u. Grown followed.old followed.new) }
-    ensures followed { IfOk result (λ u. (m : methods.Method) (listing : List PlacedInstr) (now : ℕ) → ((h : methods.Handler) → Contains handlers.now h → covers h pc ≡ true → IsFound m listing h.goes_on)
+    ensures followed { IfOk result (λ u. (m : methods.Method) (listing : List PlacedInstr) (now : ℕ)
+        → ((h : methods.Handler) → Contains handlers.now h → covers h pc ≡ true → IsFound m listing h.goes_on)
         → IsFollowed m listing (Some now) followed.old → IsFollowed m listing (Some now) followed.new) }
     ensures memory { IfErr result (λ fault. fault ≡ Memory) }
 {
@@ -171,7 +183,8 @@ fn handle_all(followed: &mut Followed, handlers: &[Handler], pc: u16) -> Result<
 /// Whether an instruction begins at a pc.
 fn begins_at(starts: &NumberSet, pc: usize) -> bool
     ensures within { result ≡ true → pc < 2 ^ 16 }
-    ensures begins { (m : methods.Method) (listing : List PlacedInstr) → IsGround m listing starts.now → result ≡ begins listing pc }
+    ensures begins { (m : methods.Method) (listing : List PlacedInstr) → IsGround m listing starts.now
+        → result ≡ begins listing pc }
 {
     pc <= usize::from(u16::MAX) && starts.contains(pc as u16)
 }
@@ -185,10 +198,13 @@ fn branch_to(
     index: usize,
 ) -> Result<(), WordFault>
     requires index { index < length targets.now }
-    ensures met { IfOk result (λ u. (place : ℤ) → slice_get targets.now index ≡ Some place → IsBranchIn followed.new place) }
+    ensures met { IfOk result (λ u. (place : ℤ) → slice_get targets.now index ≡ Some place
+        → IsBranchIn followed.new place) }
     ensures grown { IfOk result (λ u. Grown followed.old followed.new) }
-    ensures followed { IfOk result (λ u. (m : methods.Method) (listing : List PlacedInstr) (now : ℕ) → IsGround m listing starts.now
-        → ((p : ℕ) → slice_get targets.now index ≡ Some (pos p) → IsEntered m listing p) → IsFollowed m listing (Some now) followed.old → IsFollowed m listing (Some now) followed.new) }
+    ensures followed { IfOk result (λ u. (m : methods.Method) (listing : List PlacedInstr) (now : ℕ)
+        → IsGround m listing starts.now
+        → ((p : ℕ) → slice_get targets.now index ≡ Some (pos p) → IsEntered m listing p)
+        → IsFollowed m listing (Some now) followed.old → IsFollowed m listing (Some now) followed.new) }
     ensures refused { IfErr result (λ fault. IfRefusal fault (ToldAt pc NoTarget
         ((m : methods.Method) (listing : List PlacedInstr) → IsGround m listing starts.now
         → (p : ℕ) → slice_get targets.now index ≡ Some (pos p) → begins listing p ≡ false))) }
@@ -218,10 +234,13 @@ fn branch_all(
     pc: u16,
     instr: &Instr,
 ) -> Result<(), WordFault>
-    ensures met { IfOk result (λ u. (place : ℤ) → Contains (targets_of pc instr.now.operation) place → IsBranchIn followed.new place) }
+    ensures met { IfOk result (λ u. (place : ℤ) → Contains (targets_of pc instr.now.operation) place
+        → IsBranchIn followed.new place) }
     ensures grown { IfOk result (λ u. Grown followed.old followed.new) }
-    ensures followed { IfOk result (λ u. (m : methods.Method) (listing : List PlacedInstr) (now : ℕ) → IsGround m listing starts.now
-        → ((p : ℕ) → Contains (targets_of pc instr.now.operation) (pos p) → IsEntered m listing p) → IsFollowed m listing (Some now) followed.old → IsFollowed m listing (Some now) followed.new) }
+    ensures followed { IfOk result (λ u. (m : methods.Method) (listing : List PlacedInstr) (now : ℕ)
+        → IsGround m listing starts.now
+        → ((p : ℕ) → Contains (targets_of pc instr.now.operation) (pos p) → IsEntered m listing p)
+        → IsFollowed m listing (Some now) followed.old → IsFollowed m listing (Some now) followed.new) }
     ensures refused { IfErr result (λ fault. IfRefusal fault (ToldAt pc NoTarget
         ((m : methods.Method) (listing : List PlacedInstr) → IsGround m listing starts.now
         → (place : ℤ) × Contains (targets_of pc instr.now.operation) place
@@ -238,10 +257,14 @@ fn branch_all(
 #[tactic(auto, using(crate::proofs::Following::grown_self))]
 fn fall(followed: &mut Followed, method: &Method, pc: u16, instr: &Instr) -> Result<(), WordFault>
     requires short { length method.now.code < 2 ^ 16 }
-    ensures met { IfOk result (λ u. falls_of instr.now.operation ≡ true → has_number followed.new.live instr.now.next_pc ≡ true) }
+    ensures met { IfOk result (λ u. falls_of instr.now.operation ≡ true
+        → has_number followed.new.live instr.now.next_pc ≡ true) }
     ensures grown { IfOk result (λ u. Grown followed.old followed.new) }
-    ensures followed { IfOk result (λ u. (listing : List PlacedInstr) (now : ℕ) → (falls_of instr.now.operation ≡ true → instr.now.next_pc < length method.now.code → IsReached method.now listing instr.now.next_pc)
-        → IsFollowed method.now listing (Some now) followed.old → IsFollowed method.now listing (Some now) followed.new) }
+    ensures followed { IfOk result (λ u. (listing : List PlacedInstr) (now : ℕ)
+        → (falls_of instr.now.operation ≡ true → instr.now.next_pc < length method.now.code
+        → IsReached method.now listing instr.now.next_pc)
+        → IsFollowed method.now listing (Some now) followed.old
+        → IsFollowed method.now listing (Some now) followed.new) }
     ensures refused { IfErr result (λ fault. IfRefusal fault (ToldAt pc FallsOff
         ((falls_of instr.now.operation ≡ true) × (length method.now.code ≤ instr.now.next_pc)))) }
 {
@@ -264,7 +287,8 @@ fn visit(
 ) -> Result<(), WordFault>
     requires short { length method.now.code < 2 ^ 16 }
     ensures left { IfOk result (λ u. left_of followed.new ≡ left_of followed.old) }
-    ensures followed { IfOk result (λ u. (listing : List PlacedInstr) → IsGround method.now listing starts.now → placed_at listing pc ≡ Some (placed pc instr.now)
+    ensures followed { IfOk result (λ u. (listing : List PlacedInstr) → IsGround method.now listing starts.now
+        → placed_at listing pc ≡ Some (placed pc instr.now)
         → IsFollowed method.now listing (Some pc) followed.old → IsFollowed method.now listing None followed.new) }
     ensures refused { IfErr result (λ fault. IfRefusal fault (λ at reason. (listing : List PlacedInstr)
         → IsGround method.now listing starts.now → placed_at listing pc ≡ Some (placed pc instr.now)
@@ -298,7 +322,8 @@ fn visit_at(
 
 /// Pc 0 is reached, and control flow hasn't been followed from there.
 fn at_first(alloc: Global) -> Result<Followed, WordFault>
-    ensures followed { IfOk result (λ f. (m : methods.Method) (listing : List PlacedInstr) → begins listing 0 ≡ true → IsFollowed m listing None f) }
+    ensures followed { IfOk result (λ f. (m : methods.Method) (listing : List PlacedInstr) → begins listing 0 ≡ true
+        → IsFollowed m listing None f) }
     ensures memory { IfErr result (λ fault. fault ≡ Memory) }
 {
     let mut followed = Followed {
@@ -315,8 +340,10 @@ fn at_first(alloc: Global) -> Result<Followed, WordFault>
 fn follow_all(alloc: Global, method: &Method, starts: &NumberSet) -> Result<NumberSet, WordFault>
     requires short { length method.now.code < 2 ^ 16 }
     requires some { method.now.code ≢ [] }
-    ensures found { IfOk result (λ entries. (listing : List PlacedInstr) → IsGround method.now listing starts.now → AreEntries method.now listing entries) }
-    ensures live { IfOk result (λ entries. (live : List ℕ) × ((listing : List PlacedInstr) → IsGround method.now listing starts.now → AreLive method.now listing live)) }
+    ensures found { IfOk result (λ entries. (listing : List PlacedInstr) → IsGround method.now listing starts.now
+        → AreEntries method.now listing entries) }
+    ensures live { IfOk result (λ entries. (live : List ℕ)
+        × ((listing : List PlacedInstr) → IsGround method.now listing starts.now → AreLive method.now listing live)) }
     ensures straight { IfOk result (λ entries. (listing : List PlacedInstr) → IsGround method.now listing starts.now
         → GoesStraight method.now listing) }
     ensures refused { IfErr result (λ fault. IfRefusal fault (λ at reason. (listing : List PlacedInstr)
@@ -329,19 +356,27 @@ fn follow_all(alloc: Global, method: &Method, starts: &NumberSet) -> Result<Numb
     Ok(followed.entered)
 }
 
-/// The pcs that control flow enters by a branch or by a handler, of a method whose code decodes and whose handlers stand.
+/// The pcs that control flow enters by a branch or by a handler, of a method whose code decodes and whose handlers
+/// stand.
 pub(crate) fn entries_of(alloc: Global, method: &Method) -> Result<NumberSet, WordFault>
     requires short { length method.now.code < 2 ^ 16 }
-    ensures listed { IfOk result (λ entries. (listing : List PlacedInstr) × IsListing instr_at method.now.code listing) }
-    ensures starts { IfOk result (λ entries. (listing : List PlacedInstr) → IsListing instr_at method.now.code listing → (pc : ℕ) → has_number entries pc ≡ true → begins listing pc ≡ true) }
-    ensures entered { IfOk result (λ entries. (listing : List PlacedInstr) → IsListing instr_at method.now.code listing → (pc : ℕ) → has_number entries pc ≡ true → IsEntered method.now listing pc) }
-    ensures all { IfOk result (λ entries. (listing : List PlacedInstr) → IsListing instr_at method.now.code listing → (pc : ℕ) → IsEntered method.now listing pc → has_number entries pc ≡ true) }
-    ensures live { IfOk result (λ entries. (live : List ℕ) × ((listing : List PlacedInstr) → IsListing instr_at method.now.code listing → AreLive method.now listing live)) }
-    ensures handlers { IfOk result (λ entries. (listing : List PlacedInstr) → IsListing instr_at method.now.code listing → AllByRecursion (HandlerStands listing) method.now.handlers) }
+    ensures listed { IfOk result (λ entries. (listing : List PlacedInstr)
+        × IsListing instr_at method.now.code listing) }
+    ensures starts { IfOk result (λ entries. (listing : List PlacedInstr) → IsListing instr_at method.now.code listing
+        → (pc : ℕ) → has_number entries pc ≡ true → begins listing pc ≡ true) }
+    ensures entered { IfOk result (λ entries. (listing : List PlacedInstr) → IsListing instr_at method.now.code listing
+        → (pc : ℕ) → has_number entries pc ≡ true → IsEntered method.now listing pc) }
+    ensures all { IfOk result (λ entries. (listing : List PlacedInstr) → IsListing instr_at method.now.code listing
+        → (pc : ℕ) → IsEntered method.now listing pc → has_number entries pc ≡ true) }
+    ensures live { IfOk result (λ entries. (live : List ℕ) × ((listing : List PlacedInstr)
+        → IsListing instr_at method.now.code listing → AreLive method.now listing live)) }
+    ensures handlers { IfOk result (λ entries. (listing : List PlacedInstr) → IsListing instr_at method.now.code listing
+        → AllByRecursion (HandlerStands listing) method.now.handlers) }
     ensures straight { IfOk result (λ entries. (listing : List PlacedInstr) → IsListing instr_at method.now.code listing
         → GoesStraight method.now listing) }
     ensures some { IfOk result (λ entries. method.now.code ≢ []) }
-    ensures refused { IfErr result (λ fault. (pc : ℕ) (reason : Reason) → fault ≡ Refused pc reason → (rules : Rules) → rules.decoder ≡ instr_at → (states : List Stated) → Carries rules method.now states → ⊥) }
+    ensures refused { IfErr result (λ fault. (pc : ℕ) (reason : Reason) → fault ≡ Refused pc reason → (rules : Rules)
+        → rules.decoder ≡ instr_at → (states : List Stated) → Carries rules method.now states → ⊥) }
     ensures told { IfErr result (λ fault. (l : Linked) → Tells (package_rules l) method.now fault) }
 {
     listing_laws();

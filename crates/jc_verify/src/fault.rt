@@ -10,8 +10,8 @@ use thiserror::Error;
 /// Why a package gets no certificate.
 #[derive(Clone, Copy, Debug, PartialEq, Eq, Drop, Error)]
 pub enum VerifyFault {
-    /// The method whose header stands at an offset of the Method component has none; of several the one with the least offset.
-    /// Its inference ends with a fault.
+    /// The method whose header stands at an offset of the Method component has none; of several the one with the least
+    /// offset. Its inference ends with a fault.
     #[error("no certificate")]
     NoCertificate { method: u16, fault: Fault },
     /// No memory was left.

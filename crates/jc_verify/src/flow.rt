@@ -1,6 +1,7 @@
 //! Following control flow through a method.
 
-ghost use Rattle.std.specs.Prelude.{◌≡◌, ◌<◌, ◌≤◌, ◌^◌, ℤ, true, false, Some, None, Ok, Option, List, ℕ, length, pos, Contains, slice_get, IfOk, IfErr, IfNone, IfSome};
+ghost use Rattle.std.specs.Prelude.{◌≡◌, ◌<◌, ◌≤◌, ◌^◌, ℤ, true, false, Some, None, Ok, Option, List, ℕ, length, pos};
+ghost use Rattle.std.specs.Prelude.{Contains, slice_get, IfOk, IfErr, IfNone, IfSome};
 ghost use Rattle.std.specs.List.{AllByRecursion};
 ghost use Rattle.jc_code.specs.Targets.{targets_of};
 ghost use Rattle.jc_types.specs.Changes.{Became};
@@ -9,7 +10,9 @@ ghost use Rattle.jc_check.specs.Package.{package_rules};
 ghost use Rattle.jc_check.specs.Typing.{BranchLeads, HandlerLeads, Leads, Typing};
 ghost use Rattle.jc_verify.specs.PrivateStop.{fault_at};
 ghost use Rattle.jc_names.specs.declared.name.ClassName.{ClassName as ClassNameOf};
-ghost use Rattle.jc_verify.specs.PrivateTold.{AreCaught, AreReached, IfRefused, IsFallen, IsGroundOf, IsHandlersWay, IsHeldAt, IsUncaught, IsUncaughtAt, IsUnled, MeetsUnlike, Reaches, Tells, TellsAt};
+ghost use Rattle.jc_verify.specs.PrivateTold.{AreCaught, AreReached, IfRefused, IsFallen, IsGroundOf, IsHandlersWay};
+ghost use Rattle.jc_verify.specs.PrivateTold.{IsHeldAt, IsUncaught, IsUncaughtAt, IsUnled, MeetsUnlike, Reaches, Tells};
+ghost use Rattle.jc_verify.specs.PrivateTold.{TellsAt};
 ghost use Rattle.jc_verify.specs.PrivateCarrier.{BranchHasPlace, HandlerHasPlace, HasPlace, IsCarrier, IsDecodedAt};
 ghost use Rattle.jc_types.specs.State.{StateWithRoom};
 ghost use Rattle.jc_verify.specs.declared.place.NotTaken.TheVariants.{Unlike};
@@ -18,7 +21,8 @@ ghost use Rattle.jc_verify.specs.declared.stop.Stop.TheVariants.{Refused};
 ghost use Rattle.jc_check.specs.declared.fault.WordFault.TheVariants as faults;
 ghost use Rattle.jc_base.specs.declared.reason.Reason.{Reason};
 ghost use Rattle.jc_base.specs.declared.reason.Reason.TheVariants.{CertMismatch};
-ghost use Rattle.jc_verify.specs.PrivateFlow.{ClosedIf, FallsIf, Grown, HasLaws, HasRoom, IsClosed, IsNumbered, IsUnder, IsUpper, Places, Risen, held_at, number_at, placed};
+ghost use Rattle.jc_verify.specs.PrivateFlow.{ClosedIf, FallsIf, Grown, HasLaws, HasRoom, IsClosed, IsNumbered};
+ghost use Rattle.jc_verify.specs.PrivateFlow.{IsUnder, IsUpper, Places, Risen, held_at, number_at, placed};
 
 use crate::place::{NotTaken, Place, take_in};
 use crate::stop::Stop;
@@ -75,12 +79,19 @@ fn arrive(
         → Reaches flow.now.linked.now flow.now.method.now p.pc state.now.types }
     requires there { number < length places.old }
     requires room { HasRoom flow.now.method.now state.now }
-    ensures grown { IfOk result (λ u. Grown flow.now.linked.now flow.now.method.now flow.now.numbers.now places.old places.new) }
-    ensures met { IfOk result (λ u. (final : Places) → Risen flow.now.linked.now flow.now.method.now flow.now.numbers.now places.new final
-        → (pc : ℕ) → number_at flow.now.numbers.now pc ≡ Some number → Leads (package_rules flow.now.linked.now) (held_at flow.now.numbers.now final) state.now.types pc) }
-    ensures least { IfOk result (λ u. (typing : Typing) (pc : ℕ) → number_at flow.now.numbers.now pc ≡ Some number → IsUnder flow.now.linked.now flow.now.numbers.now places.old typing
-        → Leads (package_rules flow.now.linked.now) typing state.now.types pc → IsUnder flow.now.linked.now flow.now.numbers.now places.new typing) }
-    ensures unlike { IfErr result (λ why. why ≡ Unlike → (typing : Typing) (pc : ℕ) → number_at flow.now.numbers.now pc ≡ Some number → IsUnder flow.now.linked.now flow.now.numbers.now places.old typing
+    ensures grown { IfOk result (λ u.
+        Grown flow.now.linked.now flow.now.method.now flow.now.numbers.now places.old places.new) }
+    ensures met { IfOk result (λ u. (final : Places)
+        → Risen flow.now.linked.now flow.now.method.now flow.now.numbers.now places.new final
+        → (pc : ℕ) → number_at flow.now.numbers.now pc ≡ Some number
+        → Leads (package_rules flow.now.linked.now) (held_at flow.now.numbers.now final) state.now.types pc) }
+    ensures least { IfOk result (λ u. (typing : Typing) (pc : ℕ) → number_at flow.now.numbers.now pc ≡ Some number
+        → IsUnder flow.now.linked.now flow.now.numbers.now places.old typing
+        → Leads (package_rules flow.now.linked.now) typing state.now.types pc
+        → IsUnder flow.now.linked.now flow.now.numbers.now places.new typing) }
+    ensures unlike { IfErr result (λ why. why ≡ Unlike → (typing : Typing) (pc : ℕ)
+        → number_at flow.now.numbers.now pc ≡ Some number
+        → IsUnder flow.now.linked.now flow.now.numbers.now places.old typing
         → Leads (package_rules flow.now.linked.now) typing state.now.types pc → ⊥) }
     ensures told { IfErr result (λ why. why ≡ Unlike → (pc : ℕ) → number_at flow.now.numbers.now pc ≡ Some number
         → MeetsUnlike (IsHeldAt flow.now.numbers.now places.old) pc state.now.types CertMismatch) }
@@ -105,16 +116,21 @@ fn arrive_at(
     requires reached { AreReached flow.now.linked.now flow.now.method.now places.old }
     requires here { Reaches flow.now.linked.now flow.now.method.now pc state.now.types }
     requires room { HasRoom flow.now.method.now state.now }
-    ensures grown { IfOk result (λ is. Grown flow.now.linked.now flow.now.method.now flow.now.numbers.now places.old places.new) }
-    ensures met { IfOk result (λ is. is ≡ true → (final : Places) → Risen flow.now.linked.now flow.now.method.now flow.now.numbers.now places.new final
+    ensures grown { IfOk result (λ is.
+        Grown flow.now.linked.now flow.now.method.now flow.now.numbers.now places.old places.new) }
+    ensures met { IfOk result (λ is. is ≡ true → (final : Places)
+        → Risen flow.now.linked.now flow.now.method.now flow.now.numbers.now places.new final
         → Leads (package_rules flow.now.linked.now) (held_at flow.now.numbers.now final) state.now.types pc) }
     ensures none { IfOk result (λ is. is ≡ false → number_at flow.now.numbers.now pc ≡ None) }
-    ensures least { IfOk result (λ is. (typing : Typing) → IsUnder flow.now.linked.now flow.now.numbers.now places.old typing
-        → Leads (package_rules flow.now.linked.now) typing state.now.types pc → IsUnder flow.now.linked.now flow.now.numbers.now places.new typing) }
+    ensures least { IfOk result (λ is. (typing : Typing)
+        → IsUnder flow.now.linked.now flow.now.numbers.now places.old typing
+        → Leads (package_rules flow.now.linked.now) typing state.now.types pc
+        → IsUnder flow.now.linked.now flow.now.numbers.now places.new typing) }
     ensures told { IfErr result (IfRefused
         (MeetsUnlike (IsHeldAt flow.now.numbers.now places.old) pc state.now.types)) }
     ensures reached { IfOk result (λ is. AreReached flow.now.linked.now flow.now.method.now places.new) }
-    ensures refused { IfErr result (λ stop. (reason : Reason) → stop ≡ Refused reason → (typing : Typing) → IsUnder flow.now.linked.now flow.now.numbers.now places.old typing
+    ensures refused { IfErr result (λ stop. (reason : Reason) → stop ≡ Refused reason → (typing : Typing)
+        → IsUnder flow.now.linked.now flow.now.numbers.now places.old typing
         → Leads (package_rules flow.now.linked.now) typing state.now.types pc → ⊥) }
 {
     match number_at(flow.numbers, pc) {
@@ -142,17 +158,25 @@ fn catch_at(
     requires place { HasPlace flow.now.numbers.now goes_on }
     requires caught { HasRoom flow.now.method.now caught.old }
     requires room { HasRoom flow.now.method.now state.now }
-    ensures grown { IfOk result (λ u. Grown flow.now.linked.now flow.now.method.now flow.now.numbers.now places.old places.new) }
-    ensures met { IfOk result (λ u. (final : Places) → Risen flow.now.linked.now flow.now.method.now flow.now.numbers.now places.new final
-        → Leads (package_rules flow.now.linked.now) (held_at flow.now.numbers.now final) (caught_types class state.now.types) goes_on) }
+    ensures grown { IfOk result (λ u.
+        Grown flow.now.linked.now flow.now.method.now flow.now.numbers.now places.old places.new) }
+    ensures met { IfOk result (λ u. (final : Places)
+        → Risen flow.now.linked.now flow.now.method.now flow.now.numbers.now places.new final
+        → Leads (package_rules flow.now.linked.now) (held_at flow.now.numbers.now final)
+        (caught_types class state.now.types) goes_on) }
     ensures caught { HasRoom flow.now.method.now caught.new }
-    ensures least { IfOk result (λ u. (typing : Typing) → IsUnder flow.now.linked.now flow.now.numbers.now places.old typing
-        → Leads (package_rules flow.now.linked.now) typing (caught_types class state.now.types) goes_on → IsUnder flow.now.linked.now flow.now.numbers.now places.new typing) }
+    ensures least { IfOk result (λ u. (typing : Typing)
+        → IsUnder flow.now.linked.now flow.now.numbers.now places.old typing
+        → Leads (package_rules flow.now.linked.now) typing (caught_types class state.now.types) goes_on
+        → IsUnder flow.now.linked.now flow.now.numbers.now places.new typing) }
     ensures told { IfErr result (IfRefused
         (IsUncaughtAt flow.now.linked.now flow.now.method.now goes_on (caught_types class state.now.types))) }
     ensures reached { IfOk result (λ u. AreReached flow.now.linked.now flow.now.method.now places.new) }
-    ensures refused { IfErr result (λ stop. (reason : Reason) → stop ≡ Refused reason → (typing : Typing) → IsCarrier flow.now.linked.now flow.now.method.now flow.now.numbers.now typing → IsUnder flow.now.linked.now flow.now.numbers.now places.old typing
-        → Leads (package_rules flow.now.linked.now) typing (caught_types class state.now.types) goes_on → HasPlace flow.now.numbers.now goes_on → ⊥) }
+    ensures refused { IfErr result (λ stop. (reason : Reason) → stop ≡ Refused reason → (typing : Typing)
+        → IsCarrier flow.now.linked.now flow.now.method.now flow.now.numbers.now typing
+        → IsUnder flow.now.linked.now flow.now.numbers.now places.old typing
+        → Leads (package_rules flow.now.linked.now) typing (caught_types class state.now.types) goes_on
+        → HasPlace flow.now.numbers.now goes_on → ⊥) }
 {
     let method = flow.method;
     if method.max_stack == 0 {
@@ -166,8 +190,8 @@ fn catch_at(
     }
 }
 
-/// A handler at an instruction: where it covers it, the state before it flows in where the handler goes on, with the class that it
-/// catches.
+/// A handler at an instruction: where it covers it, the state before it flows in where the handler goes on, with the
+/// class that it catches.
 #[tactic(auto, using(crate::proofs::Growing::grown_self))]
 fn handle(
     flow: &Flow,
@@ -185,17 +209,25 @@ fn handle(
     requires way { IsHandlersWay flow.now.numbers.now pc handler.now }
     requires caught { HasRoom flow.now.method.now caught.old }
     requires room { HasRoom flow.now.method.now state.now }
-    ensures grown { IfOk result (λ u. Grown flow.now.linked.now flow.now.method.now flow.now.numbers.now places.old places.new) }
-    ensures met { IfOk result (λ u. (final : Places) → Risen flow.now.linked.now flow.now.method.now flow.now.numbers.now places.new final
-        → HandlerLeads (package_rules flow.now.linked.now) (held_at flow.now.numbers.now final) pc state.now.types handler.now) }
+    ensures grown { IfOk result (λ u.
+        Grown flow.now.linked.now flow.now.method.now flow.now.numbers.now places.old places.new) }
+    ensures met { IfOk result (λ u. (final : Places)
+        → Risen flow.now.linked.now flow.now.method.now flow.now.numbers.now places.new final
+        → HandlerLeads (package_rules flow.now.linked.now)
+        (held_at flow.now.numbers.now final) pc state.now.types handler.now) }
     ensures caught { HasRoom flow.now.method.now caught.new }
-    ensures least { IfOk result (λ u. (typing : Typing) → IsUnder flow.now.linked.now flow.now.numbers.now places.old typing
-        → HandlerLeads (package_rules flow.now.linked.now) typing pc state.now.types handler.now → IsUnder flow.now.linked.now flow.now.numbers.now places.new typing) }
+    ensures least { IfOk result (λ u. (typing : Typing)
+        → IsUnder flow.now.linked.now flow.now.numbers.now places.old typing
+        → HandlerLeads (package_rules flow.now.linked.now) typing pc state.now.types handler.now
+        → IsUnder flow.now.linked.now flow.now.numbers.now places.new typing) }
     ensures told { IfErr result (IfRefused
         (IsUncaught flow.now.linked.now flow.now.method.now (λ h. h ≡ handler.now) pc state.now.types)) }
     ensures reached { IfOk result (λ u. AreReached flow.now.linked.now flow.now.method.now places.new) }
-    ensures refused { IfErr result (λ stop. (reason : Reason) → stop ≡ Refused reason → (typing : Typing) → IsCarrier flow.now.linked.now flow.now.method.now flow.now.numbers.now typing → IsUnder flow.now.linked.now flow.now.numbers.now places.old typing
-        → HandlerLeads (package_rules flow.now.linked.now) typing pc state.now.types handler.now → HandlerHasPlace flow.now.numbers.now pc handler.now → ⊥) }
+    ensures refused { IfErr result (λ stop. (reason : Reason) → stop ≡ Refused reason → (typing : Typing)
+        → IsCarrier flow.now.linked.now flow.now.method.now flow.now.numbers.now typing
+        → IsUnder flow.now.linked.now flow.now.numbers.now places.old typing
+        → HandlerLeads (package_rules flow.now.linked.now) typing pc state.now.types handler.now
+        → HandlerHasPlace flow.now.numbers.now pc handler.now → ⊥) }
 {
     if !handler.covers(pc) {
         return Ok(());
@@ -221,18 +253,28 @@ fn handle_all(
     requires ways { AllByRecursion (IsHandlersWay flow.now.numbers.now pc) flow.now.method.now.handlers }
     requires caught { HasRoom flow.now.method.now caught.old }
     requires room { HasRoom flow.now.method.now state.now }
-    ensures grown { IfOk result (λ u. Grown flow.now.linked.now flow.now.method.now flow.now.numbers.now places.old places.new) }
-    ensures met { IfOk result (λ u. (final : Places) → Risen flow.now.linked.now flow.now.method.now flow.now.numbers.now places.new final
-        → AllByRecursion (HandlerLeads (package_rules flow.now.linked.now) (held_at flow.now.numbers.now final) pc state.now.types) flow.now.method.now.handlers) }
+    ensures grown { IfOk result (λ u.
+        Grown flow.now.linked.now flow.now.method.now flow.now.numbers.now places.old places.new) }
+    ensures met { IfOk result (λ u. (final : Places)
+        → Risen flow.now.linked.now flow.now.method.now flow.now.numbers.now places.new final
+        → AllByRecursion (HandlerLeads (package_rules flow.now.linked.now)
+        (held_at flow.now.numbers.now final) pc state.now.types) flow.now.method.now.handlers) }
     ensures caught { HasRoom flow.now.method.now caught.new }
-    ensures least { IfOk result (λ u. (typing : Typing) → IsUnder flow.now.linked.now flow.now.numbers.now places.old typing
-        → AllByRecursion (HandlerLeads (package_rules flow.now.linked.now) typing pc state.now.types) flow.now.method.now.handlers → IsUnder flow.now.linked.now flow.now.numbers.now places.new typing) }
+    ensures least { IfOk result (λ u. (typing : Typing)
+        → IsUnder flow.now.linked.now flow.now.numbers.now places.old typing
+        → AllByRecursion (HandlerLeads (package_rules flow.now.linked.now) typing pc state.now.types)
+        flow.now.method.now.handlers
+        → IsUnder flow.now.linked.now flow.now.numbers.now places.new typing) }
     ensures told { IfErr result (IfRefused
         (IsUncaught flow.now.linked.now flow.now.method.now (Contains flow.now.method.now.handlers) pc
         state.now.types)) }
     ensures reached { IfOk result (λ u. AreReached flow.now.linked.now flow.now.method.now places.new) }
-    ensures refused { IfErr result (λ stop. (reason : Reason) → stop ≡ Refused reason → (typing : Typing) → IsCarrier flow.now.linked.now flow.now.method.now flow.now.numbers.now typing → IsUnder flow.now.linked.now flow.now.numbers.now places.old typing
-        → AllByRecursion (HandlerLeads (package_rules flow.now.linked.now) typing pc state.now.types) flow.now.method.now.handlers → AllByRecursion (HandlerHasPlace flow.now.numbers.now pc) flow.now.method.now.handlers → ⊥) }
+    ensures refused { IfErr result (λ stop. (reason : Reason) → stop ≡ Refused reason → (typing : Typing)
+        → IsCarrier flow.now.linked.now flow.now.method.now flow.now.numbers.now typing
+        → IsUnder flow.now.linked.now flow.now.numbers.now places.old typing
+        → AllByRecursion
+        (HandlerLeads (package_rules flow.now.linked.now) typing pc state.now.types) flow.now.method.now.handlers
+        → AllByRecursion (HandlerHasPlace flow.now.numbers.now pc) flow.now.method.now.handlers → ⊥) }
 {
     let handlers = flow.method.handlers();
     for index in 0..handlers.len() {
@@ -258,17 +300,26 @@ fn branch_to(
         → BranchHasPlace flow.now.numbers.now place }
     requires room { HasRoom flow.now.method.now state.now }
     requires index { index < length targets.now }
-    ensures grown { IfOk result (λ u. Grown flow.now.linked.now flow.now.method.now flow.now.numbers.now places.old places.new) }
-    ensures met { IfOk result (λ u. (final : Places) → Risen flow.now.linked.now flow.now.method.now flow.now.numbers.now places.new final
-        → (place : ℤ) → slice_get targets.now index ≡ Some place → BranchLeads (package_rules flow.now.linked.now) (held_at flow.now.numbers.now final) state.now.types place) }
-    ensures least { IfOk result (λ u. (typing : Typing) → IsUnder flow.now.linked.now flow.now.numbers.now places.old typing
-        → ((place : ℤ) → slice_get targets.now index ≡ Some place → BranchLeads (package_rules flow.now.linked.now) typing state.now.types place) → IsUnder flow.now.linked.now flow.now.numbers.now places.new typing) }
+    ensures grown { IfOk result (λ u.
+        Grown flow.now.linked.now flow.now.method.now flow.now.numbers.now places.old places.new) }
+    ensures met { IfOk result (λ u. (final : Places)
+        → Risen flow.now.linked.now flow.now.method.now flow.now.numbers.now places.new final
+        → (place : ℤ) → slice_get targets.now index ≡ Some place
+        → BranchLeads (package_rules flow.now.linked.now) (held_at flow.now.numbers.now final) state.now.types place) }
+    ensures least { IfOk result (λ u. (typing : Typing)
+        → IsUnder flow.now.linked.now flow.now.numbers.now places.old typing
+        → ((place : ℤ) → slice_get targets.now index ≡ Some place
+        → BranchLeads (package_rules flow.now.linked.now) typing state.now.types place)
+        → IsUnder flow.now.linked.now flow.now.numbers.now places.new typing) }
     ensures told { IfErr result (IfRefused
         (IsUnled flow.now.linked.now flow.now.method.now (λ place. slice_get targets.now index ≡ Some place)
         state.now.types)) }
     ensures reached { IfOk result (λ u. AreReached flow.now.linked.now flow.now.method.now places.new) }
-    ensures refused { IfErr result (λ stop. (reason : Reason) → stop ≡ Refused reason → (typing : Typing) → IsUnder flow.now.linked.now flow.now.numbers.now places.old typing
-        → ((place : ℤ) → slice_get targets.now index ≡ Some place → BranchLeads (package_rules flow.now.linked.now) typing state.now.types place) → ((place : ℤ) → slice_get targets.now index ≡ Some place → BranchHasPlace flow.now.numbers.now place) → ⊥) }
+    ensures refused { IfErr result (λ stop. (reason : Reason) → stop ≡ Refused reason → (typing : Typing)
+        → IsUnder flow.now.linked.now flow.now.numbers.now places.old typing
+        → ((place : ℤ) → slice_get targets.now index ≡ Some place
+        → BranchLeads (package_rules flow.now.linked.now) typing state.now.types place)
+        → ((place : ℤ) → slice_get targets.now index ≡ Some place → BranchHasPlace flow.now.numbers.now place) → ⊥) }
 {
     let target = targets.get(index).unwrap();
     if target < 0 {
@@ -296,17 +347,27 @@ fn branch_all(
         → Reaches flow.now.linked.now flow.now.method.now to state.now.types }
     requires places { AllByRecursion (BranchHasPlace flow.now.numbers.now) (targets_of pc instr.now.operation) }
     requires room { HasRoom flow.now.method.now state.now }
-    ensures grown { IfOk result (λ u. Grown flow.now.linked.now flow.now.method.now flow.now.numbers.now places.old places.new) }
-    ensures met { IfOk result (λ u. (final : Places) → Risen flow.now.linked.now flow.now.method.now flow.now.numbers.now places.new final
-        → AllByRecursion (BranchLeads (package_rules flow.now.linked.now) (held_at flow.now.numbers.now final) state.now.types) (targets_of pc instr.now.operation)) }
-    ensures least { IfOk result (λ u. (typing : Typing) → IsUnder flow.now.linked.now flow.now.numbers.now places.old typing
-        → AllByRecursion (BranchLeads (package_rules flow.now.linked.now) typing state.now.types) (targets_of pc instr.now.operation) → IsUnder flow.now.linked.now flow.now.numbers.now places.new typing) }
+    ensures grown { IfOk result (λ u.
+        Grown flow.now.linked.now flow.now.method.now flow.now.numbers.now places.old places.new) }
+    ensures met { IfOk result (λ u. (final : Places)
+        → Risen flow.now.linked.now flow.now.method.now flow.now.numbers.now places.new final
+        → AllByRecursion
+        (BranchLeads (package_rules flow.now.linked.now) (held_at flow.now.numbers.now final) state.now.types)
+        (targets_of pc instr.now.operation)) }
+    ensures least { IfOk result (λ u. (typing : Typing)
+        → IsUnder flow.now.linked.now flow.now.numbers.now places.old typing
+        → AllByRecursion (BranchLeads (package_rules flow.now.linked.now) typing state.now.types)
+        (targets_of pc instr.now.operation)
+        → IsUnder flow.now.linked.now flow.now.numbers.now places.new typing) }
     ensures told { IfErr result (IfRefused
         (IsUnled flow.now.linked.now flow.now.method.now (Contains (targets_of pc instr.now.operation))
         state.now.types)) }
     ensures reached { IfOk result (λ u. AreReached flow.now.linked.now flow.now.method.now places.new) }
-    ensures refused { IfErr result (λ stop. (reason : Reason) → stop ≡ Refused reason → (typing : Typing) → IsUnder flow.now.linked.now flow.now.numbers.now places.old typing
-        → AllByRecursion (BranchLeads (package_rules flow.now.linked.now) typing state.now.types) (targets_of pc instr.now.operation) → AllByRecursion (BranchHasPlace flow.now.numbers.now) (targets_of pc instr.now.operation) → ⊥) }
+    ensures refused { IfErr result (λ stop. (reason : Reason) → stop ≡ Refused reason → (typing : Typing)
+        → IsUnder flow.now.linked.now flow.now.numbers.now places.old typing
+        → AllByRecursion (BranchLeads (package_rules flow.now.linked.now) typing state.now.types)
+        (targets_of pc instr.now.operation)
+        → AllByRecursion (BranchHasPlace flow.now.numbers.now) (targets_of pc instr.now.operation) → ⊥) }
 {
     let targets = instr.targets(pc);
     for index in 0..targets.len() {
@@ -329,17 +390,24 @@ pub(crate) fn fall_to(
     requires here { pc < length flow.now.method.now.code
         → Reaches flow.now.linked.now flow.now.method.now pc state.now.types }
     requires room { HasRoom flow.now.method.now state.now }
-    ensures grown { IfOk result (λ on. Grown flow.now.linked.now flow.now.method.now flow.now.numbers.now places.old places.new) }
-    ensures met { IfOk result (λ on. (final : Places) → Risen flow.now.linked.now flow.now.method.now flow.now.numbers.now places.new final
-        → FallsIf on (package_rules flow.now.linked.now) flow.now.method.now flow.now.numbers.now (held_at flow.now.numbers.now final) pc state.now.types) }
+    ensures grown { IfOk result (λ on.
+        Grown flow.now.linked.now flow.now.method.now flow.now.numbers.now places.old places.new) }
+    ensures met { IfOk result (λ on. (final : Places)
+        → Risen flow.now.linked.now flow.now.method.now flow.now.numbers.now places.new final
+        → FallsIf on (package_rules flow.now.linked.now) flow.now.method.now flow.now.numbers.now
+        (held_at flow.now.numbers.now final) pc state.now.types) }
     ensures within { IfOk result (λ on. pc < length flow.now.method.now.code) }
-    ensures least { IfOk result (λ on. (typing : Typing) → IsUnder flow.now.linked.now flow.now.numbers.now places.old typing
-        → Leads (package_rules flow.now.linked.now) typing state.now.types pc → IsUnder flow.now.linked.now flow.now.numbers.now places.new typing) }
+    ensures least { IfOk result (λ on. (typing : Typing)
+        → IsUnder flow.now.linked.now flow.now.numbers.now places.old typing
+        → Leads (package_rules flow.now.linked.now) typing state.now.types pc
+        → IsUnder flow.now.linked.now flow.now.numbers.now places.new typing) }
     ensures told { IfErr result (IfRefused
         (IsFallen flow.now.method.now (IsHeldAt flow.now.numbers.now places.old) pc state.now.types)) }
     ensures reached { IfOk result (λ on. AreReached flow.now.linked.now flow.now.method.now places.new) }
-    ensures refused { IfErr result (λ stop. (reason : Reason) → stop ≡ Refused reason → (typing : Typing) → IsUnder flow.now.linked.now flow.now.numbers.now places.old typing
-        → Leads (package_rules flow.now.linked.now) typing state.now.types pc → pc < length flow.now.method.now.code → ⊥) }
+    ensures refused { IfErr result (λ stop. (reason : Reason) → stop ≡ Refused reason → (typing : Typing)
+        → IsUnder flow.now.linked.now flow.now.numbers.now places.old typing
+        → Leads (package_rules flow.now.linked.now) typing state.now.types pc
+        → pc < length flow.now.method.now.code → ⊥) }
 {
     if pc >= flow.method.code().len() {
         return Err(Stop::Refused(Reason::FallsOff));
@@ -354,7 +422,8 @@ pub(crate) fn fall_to(
 /// Puts the types behind an instruction in place of those before it.
 fn take_effect(flow: &Flow, state: &mut State, instr: &Instr) -> Result<(), Reason>
     requires room { HasRoom flow.now.method.now state.old }
-    ensures became { Became result state.new.types ((package_rules flow.now.linked.now).effect flow.now.method.now.max_stack flow.now.method.now.returned instr.now.operation state.old.types) }
+    ensures became { Became result state.new.types ((package_rules flow.now.linked.now).effect
+        flow.now.method.now.max_stack flow.now.method.now.returned instr.now.operation state.old.types) }
     ensures room { HasRoom flow.now.method.now state.new }
 {
     let method = flow.method;
@@ -362,8 +431,8 @@ fn take_effect(flow: &Flow, state: &mut State, instr: &Instr) -> Result<(), Reas
     transfer_in(&instr.operation, state, method.max_stack, &setting)
 }
 
-/// An instruction on a state: the handlers that cover it, its effect, its branches, and then what goes on behind it. The answer is
-/// whether control flow has to be followed there.
+/// An instruction on a state: the handlers that cover it, its effect, its branches, and then what goes on behind it.
+/// The answer is whether control flow has to be followed there.
 fn visit(
     flow: &Flow,
     places: &mut [Place<State>],
@@ -380,20 +449,29 @@ fn visit(
     requires caught { HasRoom flow.now.method.now caught.old }
     requires room { HasRoom flow.now.method.now state.old }
     requires decoded { (package_rules flow.now.linked.now).decoder flow.now.method.now.code pc ≡ Ok instr.now }
-    ensures grown { IfOk result (λ on. Grown flow.now.linked.now flow.now.method.now flow.now.numbers.now places.old places.new) }
-    ensures closed { IfOk result (λ on. (final : Places) → Risen flow.now.linked.now flow.now.method.now flow.now.numbers.now places.new final
-        → ClosedIf on (package_rules flow.now.linked.now) flow.now.method.now flow.now.numbers.now (held_at flow.now.numbers.now final) instr.now.next_pc state.new.types
-        → IsClosed (package_rules flow.now.linked.now) flow.now.method.now flow.now.numbers.now (held_at flow.now.numbers.now final) pc state.old.types) }
+    ensures grown { IfOk result (λ on.
+        Grown flow.now.linked.now flow.now.method.now flow.now.numbers.now places.old places.new) }
+    ensures closed { IfOk result (λ on. (final : Places)
+        → Risen flow.now.linked.now flow.now.method.now flow.now.numbers.now places.new final
+        → ClosedIf on (package_rules flow.now.linked.now) flow.now.method.now flow.now.numbers.now
+        (held_at flow.now.numbers.now final) instr.now.next_pc state.new.types
+        → IsClosed (package_rules flow.now.linked.now) flow.now.method.now flow.now.numbers.now
+        (held_at flow.now.numbers.now final) pc state.old.types) }
     ensures within { IfOk result (λ on. on ≡ true → instr.now.next_pc < length flow.now.method.now.code) }
     ensures caught { IfOk result (λ on. HasRoom flow.now.method.now caught.new) }
     ensures room { IfOk result (λ on. HasRoom flow.now.method.now state.new) }
-    ensures least { IfOk result (λ on. (typing : Typing) → IsUpper flow.now.linked.now flow.now.method.now typing → IsUnder flow.now.linked.now flow.now.numbers.now places.old typing
-        → Leads (package_rules flow.now.linked.now) typing state.old.types pc → IsUnder flow.now.linked.now flow.now.numbers.now places.new typing × (on ≡ true → Leads (package_rules flow.now.linked.now) typing state.new.types instr.now.next_pc)) }
+    ensures least { IfOk result (λ on. (typing : Typing) → IsUpper flow.now.linked.now flow.now.method.now typing
+        → IsUnder flow.now.linked.now flow.now.numbers.now places.old typing
+        → Leads (package_rules flow.now.linked.now) typing state.old.types pc
+        → IsUnder flow.now.linked.now flow.now.numbers.now places.new typing
+        × (on ≡ true → Leads (package_rules flow.now.linked.now) typing state.new.types instr.now.next_pc)) }
     ensures told { IfErr result (TellsAt (package_rules flow.now.linked.now) flow.now.method.now pc) }
     ensures next { IfOk result (λ on. on ≡ true
         → Reaches flow.now.linked.now flow.now.method.now instr.now.next_pc state.new.types) }
     ensures reached { IfOk result (λ on. AreReached flow.now.linked.now flow.now.method.now places.new) }
-    ensures refused { IfErr result (λ stop. (reason : Reason) → stop ≡ Refused reason → (typing : Typing) → IsCarrier flow.now.linked.now flow.now.method.now flow.now.numbers.now typing → IsUnder flow.now.linked.now flow.now.numbers.now places.old typing
+    ensures refused { IfErr result (λ stop. (reason : Reason) → stop ≡ Refused reason → (typing : Typing)
+        → IsCarrier flow.now.linked.now flow.now.method.now flow.now.numbers.now typing
+        → IsUnder flow.now.linked.now flow.now.numbers.now places.old typing
         → Leads (package_rules flow.now.linked.now) typing state.old.types pc → ⊥) }
 {
     handle_all(flow, places, caught, state, pc)?;
@@ -408,7 +486,8 @@ fn visit(
 
 /// The instruction at a pc, where one begins.
 fn instr_at<'m>(flow: &Flow<'_, 'm>, pc: usize) -> Option<Instr<'m>>
-    ensures some { IfSome result (λ instr. (package_rules flow.now.linked.now).decoder flow.now.method.now.code pc ≡ Ok instr) }
+    ensures some { IfSome result (λ instr. (package_rules flow.now.linked.now).decoder flow.now.method.now.code pc
+        ≡ Ok instr) }
     ensures none { IfNone result (IsDecodedAt flow.now.linked.now flow.now.method.now pc → ⊥) }
 {
     let method = flow.method;
@@ -435,16 +514,23 @@ pub(crate) fn follow(
     requires room { HasRoom flow.now.method.now state.old }
     requires short { length flow.now.method.now.code < 2 ^ 16 }
     requires within { start < length flow.now.method.now.code }
-    ensures grown { IfOk result (λ u. Grown flow.now.linked.now flow.now.method.now flow.now.numbers.now places.old places.new) }
-    ensures closed { IfOk result (λ u. (final : Places) → Risen flow.now.linked.now flow.now.method.now flow.now.numbers.now places.new final
-        → IsClosed (package_rules flow.now.linked.now) flow.now.method.now flow.now.numbers.now (held_at flow.now.numbers.now final) start state.old.types) }
+    ensures grown { IfOk result (λ u.
+        Grown flow.now.linked.now flow.now.method.now flow.now.numbers.now places.old places.new) }
+    ensures closed { IfOk result (λ u. (final : Places)
+        → Risen flow.now.linked.now flow.now.method.now flow.now.numbers.now places.new final
+        → IsClosed (package_rules flow.now.linked.now) flow.now.method.now flow.now.numbers.now
+        (held_at flow.now.numbers.now final) start state.old.types) }
     ensures caught { IfOk result (λ u. HasRoom flow.now.method.now caught.new) }
     ensures room { IfOk result (λ u. HasRoom flow.now.method.now state.new) }
-    ensures least { IfOk result (λ u. (typing : Typing) → IsUpper flow.now.linked.now flow.now.method.now typing → IsUnder flow.now.linked.now flow.now.numbers.now places.old typing
-        → Leads (package_rules flow.now.linked.now) typing state.old.types start → IsUnder flow.now.linked.now flow.now.numbers.now places.new typing) }
+    ensures least { IfOk result (λ u. (typing : Typing) → IsUpper flow.now.linked.now flow.now.method.now typing
+        → IsUnder flow.now.linked.now flow.now.numbers.now places.old typing
+        → Leads (package_rules flow.now.linked.now) typing state.old.types start
+        → IsUnder flow.now.linked.now flow.now.numbers.now places.new typing) }
     ensures told { IfErr result (Tells (package_rules flow.now.linked.now) flow.now.method.now) }
     ensures reached { IfOk result (λ u. AreReached flow.now.linked.now flow.now.method.now places.new) }
-    ensures refused { IfErr result (λ fault. (pc : ℕ) (reason : Reason) → fault ≡ faults.Refused pc reason → (typing : Typing) → IsCarrier flow.now.linked.now flow.now.method.now flow.now.numbers.now typing → IsUnder flow.now.linked.now flow.now.numbers.now places.old typing
+    ensures refused { IfErr result (λ fault. (pc : ℕ) (reason : Reason) → fault ≡ faults.Refused pc reason
+        → (typing : Typing) → IsCarrier flow.now.linked.now flow.now.method.now flow.now.numbers.now typing
+        → IsUnder flow.now.linked.now flow.now.numbers.now places.old typing
         → Leads (package_rules flow.now.linked.now) typing state.old.types start → ⊥) }
 {
     listing_laws();

@@ -28,8 +28,8 @@ pub(crate) struct Told {
     pub(crate) fault: Fault,
 }
 
-/// What is known of the first methods of a package: the rows of those that have states, and of those without a certificate the one with
-/// the least offset.
+/// What is known of the first methods of a package: the rows of those that have states, and of those without a
+/// certificate the one with the least offset.
 #[derive(Drop)]
 pub(crate) struct Gathered {
     pub(crate) rows: Vec<MethodRow>,
@@ -39,8 +39,10 @@ pub(crate) struct Gathered {
 /// The states that carry a method with code.
 fn states_for(alloc: Global, linked: &Linked, body: &MethodCode) -> Result<Vec<StateRow>, WordFault>
     requires { HasLaws linked.now }
-    ensures inferred { IfOk result (λ states. IsInferred linked.now (method_of linked.now body.now) (map stated states.items)) }
-    ensures refused { IfErr result (λ fault. (pc : ℕ) (reason : Reason) → fault ≡ Refused pc reason → IsDenied linked.now (method_of linked.now body.now)) }
+    ensures inferred { IfOk result (λ states. IsInferred linked.now (method_of linked.now body.now)
+        (map stated states.items)) }
+    ensures refused { IfErr result (λ fault. (pc : ℕ) (reason : Reason) → fault ≡ Refused pc reason
+        → IsDenied linked.now (method_of linked.now body.now)) }
     ensures told { IfErr result (λ fault. KeepsNames linked.now (method_of linked.now body.now)
         → Tells (package_rules linked.now) (method_of linked.now body.now) fault) }
 {
@@ -64,7 +66,8 @@ fn put_states(
     offset: u16,
     states: Vec<StateRow>,
 ) -> Result<(), VerifyFault>
-    ensures put { IfOk result (λ u. IsPut offset (map stated states.items) (rows gathered.old.rows.items) (rows gathered.new.rows.items)) }
+    ensures put { IfOk result (λ u. IsPut offset (map stated states.items) (rows gathered.old.rows.items)
+        (rows gathered.new.rows.items)) }
     ensures told { gathered.new.told ≡ gathered.old.told }
     ensures memory { IfErr result (λ fault. fault ≡ VerifyFault.Memory) }
 {
@@ -84,7 +87,8 @@ pub(crate) fn gather(
 ) -> Result<(), VerifyFault>
     requires laws { HasLaws linked.now }
     requires fit { HasFitMethods linked.now }
-    ensures gathered { IfOk result (λ u. (n : ℕ) → slice_get linked.now.body.kept.methods n ≡ Some body.now → IsSoFar linked.now n gathered.old → IsSoFar linked.now (n + 1) gathered.new) }
+    ensures gathered { IfOk result (λ u. (n : ℕ) → slice_get linked.now.body.kept.methods n ≡ Some body.now
+        → IsSoFar linked.now n gathered.old → IsSoFar linked.now (n + 1) gathered.new) }
     ensures memory { IfErr result (λ fault. fault ≡ VerifyFault.Memory) }
 {
     let offset = body.offset;

@@ -36,10 +36,12 @@ fn rows_in(flow: &Flow, places: &mut [Place<State>]) -> Result<Vec<StateRow>, Wo
     requires ground { IsGroundOf flow.now.linked.now flow.now.method.now flow.now.numbers.now }
     requires empty { (n : ℕ) (p : PlaceOf StateWithRoom) → slice_get places.old n ≡ Some p → p.held ≡ None }
     requires short { length flow.now.method.now.code < 2 ^ 16 }
-    ensures rows { IfOk result (λ rows. (final : Places) × IsFilled flow.now.linked.now flow.now.method.now flow.now.numbers.now places.old final
+    ensures rows { IfOk result (λ rows. (final : Places)
+        × IsFilled flow.now.linked.now flow.now.method.now flow.now.numbers.now places.old final
         × AreStateRows (class_of_name flow.now.linked.now.world) final (map stated rows.items)) }
     ensures refused { IfErr result (λ fault. (pc : ℕ) (reason : Reason) → fault ≡ Refused pc reason
-        → ((typing : Typing) → IsCarrier flow.now.linked.now flow.now.method.now flow.now.numbers.now typing → ⊥) ⊎ (KeepsNames flow.now.linked.now flow.now.method.now → ⊥)) }
+        → ((typing : Typing) → IsCarrier flow.now.linked.now flow.now.method.now flow.now.numbers.now typing → ⊥)
+        ⊎ (KeepsNames flow.now.linked.now flow.now.method.now → ⊥)) }
     ensures told { IfErr result (λ fault. KeepsNames flow.now.linked.now flow.now.method.now
         → Tells (package_rules flow.now.linked.now) flow.now.method.now fault) }
 {
@@ -57,7 +59,8 @@ pub(crate) fn states_of(
     requires laws { HasLaws linked.now }
     requires short { length method.now.code < 2 ^ 16 }
     ensures inferred { IfOk result (λ rows. IsInferred linked.now method.now (map stated rows.items)) }
-    ensures refused { IfErr result (λ fault. (pc : ℕ) (reason : Reason) → fault ≡ Refused pc reason → IsDenied linked.now method.now) }
+    ensures refused { IfErr result (λ fault. (pc : ℕ) (reason : Reason) → fault ≡ Refused pc reason
+        → IsDenied linked.now method.now) }
     ensures told { IfErr result (λ fault. KeepsNames linked.now method.now
         → Tells (package_rules linked.now) method.now fault) }
 {

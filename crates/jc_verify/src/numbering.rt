@@ -1,6 +1,7 @@
 //! The places of a method, by ascending pc, and their numbers.
 
-ghost use Rattle.std.specs.Prelude.{◌≡◌, ◌<◌, ◌≤◌, ◌+◌, ◌^◌, ℕ, List, true, false, None, Some, length, slice_get, vec_len, vec_capacity, IfOk};
+ghost use Rattle.std.specs.Prelude.{◌≡◌, ◌<◌, ◌≤◌, ◌+◌, ◌^◌, ℕ, List, true, false, None, Some, length, slice_get};
+ghost use Rattle.std.specs.Prelude.{vec_len, vec_capacity, IfOk};
 ghost use Rattle.jc_base.specs.NumberSet.{has_number};
 ghost use Rattle.jc_types.specs.State.{StateWithRoom};
 ghost use Rattle.jc_verify.specs.PrivateCarrier.{HasPlace};
@@ -29,7 +30,9 @@ fn put_place(
 ) -> Result<(), AllocError>
     requires few { length places.old.items < 2 ^ 16 }
     requires room { vec_len numbers.old < vec_capacity numbers.old }
-    ensures put { IfOk result (λ u. (entries : List ℕ) → has_number entries pc ≡ true → AreNumbered entries pc numbers.old.items places.old.items → AreNumbered entries (pc + 1) numbers.new.items places.new.items) }
+    ensures put { IfOk result (λ u. (entries : List ℕ) → has_number entries pc ≡ true
+        → AreNumbered entries pc numbers.old.items places.old.items
+        → AreNumbered entries (pc + 1) numbers.new.items places.new.items) }
     ensures len { vec_len numbers.new ≡ vec_len numbers.old + 1 }
     ensures capacity { vec_capacity numbers.new ≡ vec_capacity numbers.old }
 {
@@ -45,7 +48,8 @@ fn put_place(
 /// Says in the table that there is no place at a pc.
 fn put_none(numbers: &mut Vec<Option<u16>>)
     requires room { vec_len numbers.old < vec_capacity numbers.old }
-    ensures put { (entries : List ℕ) (pc : ℕ) (places : Places) → has_number entries pc ≡ false → AreNumbered entries pc numbers.old.items places → AreNumbered entries (pc + 1) numbers.new.items places }
+    ensures put { (entries : List ℕ) (pc : ℕ) (places : Places) → has_number entries pc ≡ false
+        → AreNumbered entries pc numbers.old.items places → AreNumbered entries (pc + 1) numbers.new.items places }
     ensures len { vec_len numbers.new ≡ vec_len numbers.old + 1 }
     ensures capacity { vec_capacity numbers.new ≡ vec_capacity numbers.old }
 {
@@ -61,7 +65,9 @@ fn put_if(
 ) -> Result<(), AllocError>
     requires few { length places.old.items < 2 ^ 16 }
     requires room { vec_len numbers.old < vec_capacity numbers.old }
-    ensures put { IfOk result (λ u. (entries : List ℕ) → has_number entries pc ≡ is_place → AreNumbered entries pc numbers.old.items places.old.items → AreNumbered entries (pc + 1) numbers.new.items places.new.items) }
+    ensures put { IfOk result (λ u. (entries : List ℕ) → has_number entries pc ≡ is_place
+        → AreNumbered entries pc numbers.old.items places.old.items
+        → AreNumbered entries (pc + 1) numbers.new.items places.new.items) }
     ensures len { vec_len numbers.new ≡ vec_len numbers.old + 1 }
     ensures capacity { vec_capacity numbers.new ≡ vec_capacity numbers.old }
 {
@@ -83,9 +89,12 @@ pub(crate) fn number_places(
     requires { count < 2 ^ 16 }
     ensures sized { IfOk result (λ n. length n.numbers.items ≡ count) }
     ensures numbered { IfOk result (λ n. IsNumbered n.numbers.items n.places.items) }
-    ensures empty { IfOk result (λ n. (k : ℕ) (p : PlaceOf StateWithRoom) → slice_get n.places.items k ≡ Some p → p.held ≡ None) }
-    ensures entered { IfOk result (λ n. (k : ℕ) (p : PlaceOf StateWithRoom) → slice_get n.places.items k ≡ Some p → has_number entries.now p.pc ≡ true) }
-    ensures all { IfOk result (λ n. (pc : ℕ) → pc < count → has_number entries.now pc ≡ true → HasPlace n.numbers.items pc) }
+    ensures empty { IfOk result (λ n. (k : ℕ) (p : PlaceOf StateWithRoom) → slice_get n.places.items k ≡ Some p
+        → p.held ≡ None) }
+    ensures entered { IfOk result (λ n. (k : ℕ) (p : PlaceOf StateWithRoom) → slice_get n.places.items k ≡ Some p
+        → has_number entries.now p.pc ≡ true) }
+    ensures all { IfOk result (λ n. (pc : ℕ) → pc < count → has_number entries.now pc ≡ true
+        → HasPlace n.numbers.items pc) }
     ensures few { IfOk result (λ n. length n.places.items ≤ count) }
     ensures ascend { IfOk result (λ n. AreAscending n.numbers.items) }
     ensures room { IfOk result (λ n. vec_capacity n.numbers ≡ count) }

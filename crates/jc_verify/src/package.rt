@@ -19,7 +19,8 @@ use jc_step::effects_are_monotone;
 use jc_types::order_laws;
 use std::alloc::Global;
 
-/// What holds of types and of code beside a linked package, and of its methods. It does nothing but look at the methods' headers.
+/// What holds of types and of code beside a linked package, and of its methods. It does nothing but look at the
+/// methods' headers.
 fn flow_laws(linked: &Linked)
     ensures laws { HasLaws linked.now }
     ensures fit { HasFitMethods linked.now }
@@ -92,9 +93,9 @@ fn certificate_or_fault(linked: &Linked, gathered: Gathered) -> Result<Cert, Ver
     Ok(certificate_of(linked, gathered.rows))
 }
 
-/// Works out a certificate that carries a linked package, with states only where control flow enters a method by a branch or a
-/// handler of an instruction that it reaches, each the least that is possible there. Where a method can't be carried the one with the least
-/// offset is told.
+/// Works out a certificate that carries a linked package, with states only where control flow enters a method by a
+/// branch or a handler of an instruction that it reaches, each the least that is possible there. Where a method can't
+/// be carried the one with the least offset is told.
 pub fn infer(alloc: Global, linked: &Linked) -> Result<Cert, VerifyFault>
     ensures carried { IfOk result (λ cert. CarriesPackage linked.now cert) }
     ensures entered { IfOk result (λ cert. HasStatesWhereEntered linked.now cert) }

@@ -38,8 +38,10 @@ fn raise<L: Lattice>(held: &mut L, value: &L, table: &L::Table) -> Result<bool, 
     ensures above { IfOk result (λ raised. L.lies_below table.now value.now held.new ≡ true) }
     ensures kept { IfOk result (λ raised. raised ≡ false → held.new ≡ held.old) }
     ensures rises { IfOk result (λ raised. L.lies_below table.now held.old held.new ≡ true) }
-    ensures falls { IfOk result (λ raised. raised ≡ true → L.height_of table.now held.new < L.height_of table.now held.old) }
-    ensures least { IfOk result (λ raised. (z : L) → L.lies_below table.now held.old z ≡ true → L.lies_below table.now value.now z ≡ true → L.lies_below table.now held.new z ≡ true) }
+    ensures falls { IfOk result (λ raised. raised ≡ true
+        → L.height_of table.now held.new < L.height_of table.now held.old) }
+    ensures least { IfOk result (λ raised. (z : L) → L.lies_below table.now held.old z ≡ true
+        → L.lies_below table.now value.now z ≡ true → L.lies_below table.now held.new z ≡ true) }
     ensures unlike { IfErr result (λ why. (why ≡ Unlike) × (L.fits held.old value.now ≡ false)) }
 {
     if value.below(held, table) {
@@ -60,9 +62,11 @@ pub(crate) fn take_in<L: Lattice + Drop>(
     table: &L::Table,
 ) -> Result<(), NotTaken>
     requires sound { L.is_sound table.now }
-    ensures step { IfOk result (λ u. (most : ℕ) → L.height_of table.now value.now ≤ most → IsStep (L.lies_below table.now) (L.height_of table.now) most place.old place.new) }
+    ensures step { IfOk result (λ u. (most : ℕ) → L.height_of table.now value.now ≤ most
+        → IsStep (L.lies_below table.now) (L.height_of table.now) most place.old place.new) }
     ensures holds { IfOk result (λ u. HoldsAbove (L.lies_below table.now) place.new value.now) }
-    ensures least { IfOk result (λ u. (z : L) → IsHeldBelow (L.lies_below table.now) place.old z → L.lies_below table.now value.now z ≡ true → IsHeldBelow (L.lies_below table.now) place.new z) }
+    ensures least { IfOk result (λ u. (z : L) → IsHeldBelow (L.lies_below table.now) place.old z
+        → L.lies_below table.now value.now z ≡ true → IsHeldBelow (L.lies_below table.now) place.new z) }
     ensures taken { IfOk result (λ u. IsTakenIn (L.lies_below table.now) place.old place.new value.now) }
     ensures same { IfOk result (λ u. place.new.pc ≡ place.old.pc) }
     ensures unlike { IfErr result (λ why. why ≡ Unlike → IsUnlike L.fits place.old value.now) }

@@ -1,6 +1,7 @@
 //! The states of a certificate, with the names of their classes.
 
-ghost use Rattle.std.specs.Prelude.{◌≡◌, ◌<◌, ◌≤◌, ◌+◌, ◌++◌, [], ◌∷◌, ℕ, Some, length, map, vec_len, vec_capacity, IfErr, IfNone, IfOk, IfSome};
+ghost use Rattle.std.specs.Prelude.{◌≡◌, ◌<◌, ◌≤◌, ◌+◌, ◌++◌, [], ◌∷◌, ℕ, Some, length, map, vec_len, vec_capacity};
+ghost use Rattle.std.specs.Prelude.{IfErr, IfNone, IfOk, IfSome};
 ghost use Rattle.std.specs.List.{AllByRecursion};
 ghost use Rattle.jc_base.specs.declared.reason.Reason.{Reason};
 ghost use Rattle.jc_cert.specs.Cert.{IsSpelledClass, IsStatedType, stated};
@@ -75,7 +76,8 @@ fn stated_types(
     types: &[Ty],
 ) -> Result<Option<Vec<StatedType>>, AllocError>
     requires built { IsBuilt table.now }
-    ensures claimed { IfOk result (λ o. IfSome o (λ stated. types_claimed (class_of_name table.now) stated.items ≡ Some types.now)) }
+    ensures claimed { IfOk result (λ o. IfSome o (λ stated. types_claimed (class_of_name table.now) stated.items
+        ≡ Some types.now)) }
     ensures fit { IfOk result (λ o. IfSome o (λ stated. AllByRecursion IsStatedType stated.items)) }
     ensures len { IfOk result (λ o. IfSome o (λ stated. length stated.items ≡ length types.now)) }
     ensures none { IfOk result (λ o. IfNone o (AllByRecursion (TypeHasName table.now) types.now → ⊥)) }
@@ -99,7 +101,8 @@ fn stated_row(
     held: &State,
 ) -> Result<Option<StateRow>, AllocError>
     requires built { IsBuilt table.now }
-    ensures row { IfOk result (λ o. IfSome o (λ row. IsStateRow (class_of_name table.now) pc held.now.types (stated row))) }
+    ensures row { IfOk result (λ o. IfSome o (λ row.
+        IsStateRow (class_of_name table.now) pc held.now.types (stated row))) }
     ensures none { IfOk result (λ o. IfNone o (HasNames table.now held.now.types → ⊥)) }
 {
     let Some(locals) = stated_types(alloc, table, held.locals())? else {
@@ -123,7 +126,8 @@ pub(crate) fn stated_rows(
 ) -> Result<Vec<StateRow>, WordFault>
     requires built { IsBuilt table.now }
     ensures rows { IfOk result (λ rows. AreStateRows (class_of_name table.now) places.now (map stated rows.items)) }
-    ensures refused { IfErr result (λ fault. (pc : ℕ) (reason : Reason) → fault ≡ Refused pc reason → HasUnnamed table.now places.now) }
+    ensures refused { IfErr result (λ fault. (pc : ℕ) (reason : Reason) → fault ≡ Refused pc reason
+        → HasUnnamed table.now places.now) }
     ensures room { IfOk result (λ rows. vec_capacity rows ≡ length places.now) }
 {
     let mut rows = Vec::with_capacity(alloc, places.len())?;
@@ -142,8 +146,11 @@ fn put_row(
 ) -> Result<(), WordFault>
     requires built { IsBuilt table.now }
     requires room { vec_len rows.old < vec_capacity rows.old }
-    ensures rows { IfOk result (λ u. (places : Places) → AreStateRows (class_of_name table.now) places (map stated rows.old.items) → AreStateRows (class_of_name table.now) (places ++ place.now ∷ []) (map stated rows.new.items)) }
-    ensures refused { IfErr result (λ fault. (pc : ℕ) (reason : Reason) → fault ≡ Refused pc reason → IsUnnamedPlace table.now place.now) }
+    ensures rows { IfOk result (λ u. (places : Places)
+        → AreStateRows (class_of_name table.now) places (map stated rows.old.items)
+        → AreStateRows (class_of_name table.now) (places ++ place.now ∷ []) (map stated rows.new.items)) }
+    ensures refused { IfErr result (λ fault. (pc : ℕ) (reason : Reason) → fault ≡ Refused pc reason
+        → IsUnnamedPlace table.now place.now) }
     ensures len { vec_len rows.new ≤ vec_len rows.old + 1 }
     ensures capacity { vec_capacity rows.new ≡ vec_capacity rows.old }
 {

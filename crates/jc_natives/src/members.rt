@@ -46,8 +46,8 @@ fn call_native(
     }
 }
 
-// Calls the member with a number, if there is one. Those of Util are named by their numbers. The smallest are compiled in
-// place, for calls with as many words as they take: so their arguments are known to be there.
+// Calls the member with a number, if there is one. Those of Util are named by their numbers. The smallest are compiled
+// in place, for calls with as many words as they take: so their arguments are known to be there.
 #[inline(always)]
 fn call_member(
     world: &World,

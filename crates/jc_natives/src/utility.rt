@@ -19,7 +19,8 @@ use jc_machine::WordCall;
 use jc_store::Store;
 
 fn array_copy(world: &World, store: &mut Store, call: &WordCall<'_>, runtime: &Runtime) -> Ended
-    requires passed { Passes (seen_in world.now store.old call.now) call.now.arguments.now (OfUtility natives.ArrayCopy) }
+    requires passed { Passes (seen_in world.now store.old call.now) call.now.arguments.now
+        (OfUtility natives.ArrayCopy) }
     ensures { record { store = store.new; kept = runtime.now; ended = result }
         ≡ done_of call.now.active store.old runtime.now
         (utility_work (seen_in world.now store.old call.now) runtime.now call.now.arguments.now natives.ArrayCopy) }
@@ -34,7 +35,8 @@ fn array_copy(world: &World, store: &mut Store, call: &WordCall<'_>, runtime: &R
 }
 
 fn array_fill(world: &World, store: &mut Store, call: &WordCall<'_>, runtime: &Runtime) -> Ended
-    requires passed { Passes (seen_in world.now store.old call.now) call.now.arguments.now (OfUtility natives.ArrayFill) }
+    requires passed { Passes (seen_in world.now store.old call.now) call.now.arguments.now
+        (OfUtility natives.ArrayFill) }
     ensures { record { store = store.new; kept = runtime.now; ended = result }
         ≡ done_of call.now.active store.old runtime.now
         (utility_work (seen_in world.now store.old call.now) runtime.now call.now.arguments.now natives.ArrayFill) }
@@ -48,7 +50,8 @@ fn array_fill(world: &World, store: &mut Store, call: &WordCall<'_>, runtime: &R
 }
 
 fn array_compare(world: &World, store: &mut Store, call: &WordCall<'_>, runtime: &Runtime) -> Ended
-    requires passed { Passes (seen_in world.now store.old call.now) call.now.arguments.now (OfUtility natives.ArrayCompare) }
+    requires passed { Passes (seen_in world.now store.old call.now) call.now.arguments.now
+        (OfUtility natives.ArrayCompare) }
     ensures { record { store = store.new; kept = runtime.now; ended = result }
         ≡ done_of call.now.active store.old runtime.now
         (utility_work (seen_in world.now store.old call.now) runtime.now call.now.arguments.now natives.ArrayCompare) }
@@ -63,7 +66,8 @@ fn array_compare(world: &World, store: &mut Store, call: &WordCall<'_>, runtime:
 
 #[inline(always)]
 fn get_short(world: &World, store: &mut Store, call: &WordCall<'_>, runtime: &Runtime) -> Ended
-    requires passed { Passes (seen_in world.now store.old call.now) call.now.arguments.now (OfUtility natives.GetShort) }
+    requires passed { Passes (seen_in world.now store.old call.now) call.now.arguments.now
+        (OfUtility natives.GetShort) }
     ensures { record { store = store.new; kept = runtime.now; ended = result }
         ≡ done_of call.now.active store.old runtime.now
         (utility_work (seen_in world.now store.old call.now) runtime.now call.now.arguments.now natives.GetShort) }
@@ -75,7 +79,8 @@ fn get_short(world: &World, store: &mut Store, call: &WordCall<'_>, runtime: &Ru
 
 #[inline(always)]
 fn set_short(world: &World, store: &mut Store, call: &WordCall<'_>, runtime: &Runtime) -> Ended
-    requires passed { Passes (seen_in world.now store.old call.now) call.now.arguments.now (OfUtility natives.SetShort) }
+    requires passed { Passes (seen_in world.now store.old call.now) call.now.arguments.now
+        (OfUtility natives.SetShort) }
     ensures { record { store = store.new; kept = runtime.now; ended = result }
         ≡ done_of call.now.active store.old runtime.now
         (utility_work (seen_in world.now store.old call.now) runtime.now call.now.arguments.now natives.SetShort) }

@@ -98,7 +98,8 @@ up_more old now from to low high count is lower within upwards fits =
     let moved : List ℕ = slice_range old (from + high) (from + count) in
     let part : List ℕ = slice_range old (from + low) (from + high) in
     let all : List ℕ = slice_range old (from + low) (from + count) in
-    let moved_size = part_length old (from + high) (from + count) (omega (arith, within)) (omega (arith, upwards, fits)) in
+    let moved_size = part_length old (from + high) (from + count) (omega (arith, within))
+    (omega (arith, upwards, fits)) in
     let part_size = part_length old (from + low) (from + high) (omega (arith, lower))
     (omega (arith, within, upwards, fits)) in
     let all_size = part_length old (from + low) (from + count) (omega (arith, lower, within))

@@ -205,8 +205,8 @@ class Reader:
         """The package, its code assembled."""
         for m in [m for c in self.package.classes for m in c.methods if not c.interface]:
             code, _, handlers = self.code[m.name].partition(' | ')
-            m.code, labels = assemble(code, self.pool)
-            m.handlers = tuple(self.handlers(handlers, labels))
+            m.code, m.labels = assemble(code, self.pool)
+            m.handlers = tuple(self.handlers(handlers, m.labels))
         return self.package
 
 

@@ -69,6 +69,7 @@ class Method:
     locals: int = 2
     flags: int = 8
     handlers: tuple = ()
+    labels: dict = field(default_factory=dict)  # pcs by names, where the code is assembled
 
 
 @dataclass

@@ -55,19 +55,29 @@ def verify(folder, name, before, binding=()):
 
 @dataclass
 class Script:
-    """Words of the command line behind the script's name; and for each line its answer, and how it is called."""
+    """Words of the command line behind the script's name; and for each line its answer, and how it is called. It is a
+    session's where that is said."""
     words: list = field(default_factory=list)
     rows: list = field(default_factory=list)
+    is_session: bool = False
 
     def row(self, line, answer, called=None):
         self.rows.append((line, answer, called or line))
 
 
+def said_to(script, folder):
+    """What is said to the lines of a script or of a session."""
+    text = ''.join(line + '\n' for line, _, _ in script.rows).encode()
+    if script.is_session:
+        return jcard('session', *script.words, folder=folder, stdin=text)
+    with open(os.path.join(folder, 'script'), 'wb') as file:
+        file.write(text)
+    return jcard('run', 'script', *script.words, folder=folder)
+
+
 def answers(script, folder):
     """What is written where a script is played: a line for each answer, and that of an error at the end."""
-    with open(os.path.join(folder, 'script'), 'w', encoding='utf-8') as file:
-        file.writelines(line + '\n' for line, _, _ in script.rows)
-    said = jcard('run', 'script', *script.words, folder=folder)
+    said = said_to(script, folder)
     written, errors = said.stdout.splitlines(), said.stderr.splitlines()
     if said.status != len(errors) or any(line.startswith('error') for line in written):
         raise Mistake('exit status %d: %s%s' % (said.status, said.stdout, said.stderr))

@@ -1,6 +1,6 @@
 """The API's packages, classes and members, and the tokens that a binding gives them (docs/profile/binding.md)."""
 from converter.classfile import Refusal
-from converter.world import Known, Package
+from converter.world import Known, Package, aid_of, number_of
 
 PACKAGES = ['java/lang', 'javacard/framework']
 DEFAULT_PACKAGES = [('F04A430101', 1, 0), ('F04A430102', 1, 0)]
@@ -75,6 +75,7 @@ class Binding:
         self.packages = dict(enumerate(DEFAULT_PACKAGES, 1))
         self.classes = {at + 1: at if at < IN_LANG else at - IN_LANG for at in range(len(classes))}
         self.members = {number: row[3] for number, row in enumerate(member_rows(full), 1)}
+        self.virtual = {number for number, row in enumerate(member_rows(full), 1) if row[2]}
 
     def read(self, text):
         """Takes the names of a binding's text in place of the default ones."""
@@ -87,13 +88,14 @@ class Binding:
 
     def take(self, kind, number, *words):
         table = {'package': self.packages, 'class': self.classes, 'member': self.members}[kind]
-        table[int(number)]  # KeyError where there is no such number
+        number = number_of(number)
+        table[number]  # KeyError where there is no such number
         if kind == 'package':
             name, major, minor = words
-            table[int(number)] = name, int(major), int(minor)
+            table[number] = aid_of(name).hex(), number_of(major), number_of(minor)
         else:
             token, = words
-            table[int(number)] = int(token)
+            table[number] = number_of(token, 127 if kind == 'member' and number in self.virtual else 254)
 
 
 def api_classes(binding):

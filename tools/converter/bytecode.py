@@ -1,14 +1,14 @@
-"""Decodes the code of class files, and refuses instructions for which the profile has none."""
+"""Decodes the code of class files. Instructions for which the profile has none stand there as refused ones."""
 from dataclasses import dataclass
 
-from converter.classfile import Refusal
+from converter.classfile import Refusal, parameters, result, words_of
 
 # Instructions that stand for one of the card's: the opcode of a class file, and the last of its family where there are
 # several; what is taken, the top at the right; what is given; the opcode of the card. Taken is a reference r, anything
-# x, a number n of which the low 16 bits count, or one e that has to lie within a short. Given is a reference r, a byte
-# b, a short s, a length l, or nothing.
+# x, a number n of which the low 16 bits count, one e that has to lie within a short, or an index i. Given is a
+# reference r, a byte b, a short s, a length l, or nothing.
 SIMPLE = """
-00 - - 0       01 - r 1       32 re r 36     33 re b 37     35 re s 38     53 rer - 55    54 ren - 56    56 ren - 57
+00 - - 0       01 - r 1       32 ri r 36     33 ri b 37     35 ri s 38     53 rir - 55    54 rin - 56    56 rin - 57
 57 x - 59      58 xx - 60     BE r l 146     BF r - 147     99-9E e - 96   9F-A4 ee - 106 A5-A6 rr - 104 C6-C7 r - 102
 A7 - - 112     C8 - - 112
 """
@@ -24,17 +24,31 @@ MOVES = """
 59 11 3D       5A 121 3F12    5B 1321 3F13   5C 2121 3E     5D 21321 3F23  5E 214321 3F24 5F 12 4011
 """
 
-# Opcodes for which there is nothing in the profile, by what they are for.
+# Opcodes for which there is nothing in the profile: what they are for, how many words they take and give, and how many
+# bytes of operands they have. Those for which a number isn't a constant have a minus there.
 REFUSED = """
-09-0A long     0B-0D float    0E-0F double   14 long_or_double             16 long        17 float       18 double
-1E-21 long     22-25 float    26-29 double   2E an_array_of_int            2F long        30 float       31 double
-34 char        37 long        38 float       39 double      3F-42 long     43-46 float    47-4A double
-4F an_array_of_int
-50 long        51 float       52 double      55 char        85 long        86 float       87 double      92 char
-94 long        95-96 float    97-98 double   A8-A9 a_subroutine            AD long        AE float       AF double
-BA a_lambda_or_invokedynamic  C2-C3 synchronized            C5 an_array_of_arrays         C9 a_subroutine
+09-0A long 0 2 0    0B-0D float 0 1 0   0E-0F double 0 2 0  14 constant - - 2   16 long 0 2 1       17 float 0 1 1
+18 double 0 2 1     1E-21 long 0 2 0    22-25 float 0 1 0   26-29 double 0 2 0  2E int 2 1 0        2F long 2 2 0
+30 float 2 1 0      31 double 2 2 0     34 char 2 1 0       37 long 2 0 1       38 float 1 0 1      39 double 2 0 1
+3F-42 long 2 0 0    43-46 float 1 0 0   47-4A double 2 0 0  4F int 3 0 0        50 long 4 0 0       51 float 3 0 0
+52 double 4 0 0     55 char 3 0 0       61 long 4 2 0       62 float 2 1 0      63 double 4 2 0     65 long 4 2 0
+66 float 2 1 0      67 double 4 2 0     69 long 4 2 0       6A float 2 1 0      6B double 4 2 0     6D long 4 2 0
+6E float 2 1 0      6F double 4 2 0     71 long 4 2 0       72 float 2 1 0      73 double 4 2 0     75 long 2 2 0
+76 float 1 1 0      77 double 2 2 0     79 long 3 2 0       7B long 3 2 0       7D long 3 2 0       7F long 4 2 0
+81 long 4 2 0       83 long 4 2 0       85 long 1 2 0       86 float 1 1 0      87 double 1 2 0     88 long 2 1 0
+89 float 2 1 0      8A double 2 2 0     8B float 1 1 0      8C float 1 2 0      8D double 1 2 0     8E double 2 1 0
+8F double 2 2 0     90 double 2 1 0     92 char 1 1 0       94 long 4 1 0       95-96 float 2 1 0   97-98 double 4 1 0
+A8 subroutine 0 0 2 A9 subroutine 0 0 1 AD long 2 0 0       AE float 1 0 0      AF double 2 0 0     BA dynamic - - 4
+C2-C3 lock 1 0 0    C5 arrays - 1 3     C9 subroutine 0 0 4
 """
+WORDS = {
+    'subroutine': 'a subroutine', 'dynamic': 'a lambda or invokedynamic', 'lock': 'synchronized',
+    'arrays': 'an array of arrays',
+}
+ENDING = [0xA8, 0xA9, 0xAD, 0xAE, 0xAF, 0xC9]  # of these
 ELEMENTS = {4: 'Z', 8: 'B', 9: 'S'}  # of newarray
+OTHERS = {5: 'char', 6: 'float', 7: 'double', 10: 'int', 11: 'long'}
+LACKING = '%s isn\'t in the profile'
 
 
 def rows(text, width):
@@ -47,7 +61,7 @@ def rows(text, width):
     return found
 
 
-SIMPLE, OPERATORS, MOVES, REFUSED = rows(SIMPLE, 4), rows(OPERATORS, 4), rows(MOVES, 3), rows(REFUSED, 2)
+SIMPLE, OPERATORS, MOVES, REFUSED = rows(SIMPLE, 4), rows(OPERATORS, 4), rows(MOVES, 3), rows(REFUSED, 5)
 
 
 @dataclass
@@ -75,7 +89,8 @@ class Decoder:
         return Instruction(self.start, operation, operands, targets, ends)
 
     def instructions(self):
-        """All instructions in their order; with a refusal its place in the code."""
+        """All instructions in their order. One for which the profile has none stands there with why: `refused`. With a
+        refusal of the whole comes its place in the code."""
         found = []
         while self.at < len(self.code):
             self.start = self.at
@@ -85,9 +100,26 @@ class Decoder:
                 raise Refusal(refusal.text, self.start) from None
         return found
 
+    def refused(self, what, takes, gives, ends=False):
+        """An instruction that is refused, and how many words it takes and gives."""
+        return self.made('refused', LACKING % what, takes, gives, ends=ends)
+
+    def one_refused(self, opcode, is_wide=False):
+        _, word, takes, gives, size = REFUSED[opcode]
+        operand = self.number(int(size) * (2 if is_wide else 1))
+        what = WORDS.get(word, 'the type ' + word)
+        if word == 'constant':
+            what, takes, gives = self.pool.constant(operand), 0, 2
+        elif word == 'dynamic':
+            kind = self.pool.type_of_dynamic(operand >> 16)
+            takes, gives = sum(map(words_of, parameters(kind))), words_of(result(kind))
+        elif word == 'arrays':
+            takes = operand & 0xFF
+        return self.refused(what, int(takes), int(gives), opcode in ENDING)
+
     def instruction(self, opcode):
         if opcode in REFUSED:
-            raise Refusal('%s isn\'t in the profile' % REFUSED[opcode][1].replace('_', ' '))
+            return self.one_refused(opcode)
         if opcode in SIMPLE:
             return self.simple(opcode, *SIMPLE[opcode])
         if opcode in OPERATORS:
@@ -100,7 +132,7 @@ class Decoder:
             found = read(opcode)
             if found:
                 return found
-        raise Refusal('the opcode %d isn\'t in the profile' % opcode)
+        raise Refusal(LACKING % ('the opcode %d' % opcode))
 
     def simple(self, opcode, at, takes, gives, card):
         targets = ()
@@ -115,7 +147,8 @@ class Decoder:
         if opcode in (0x10, 0x11):
             return self.made('push', self.number(opcode - 0x0F, signed=True))
         if opcode in (0x12, 0x13):
-            return self.made('push', self.pool.constant(self.number(opcode - 0x11)))
+            constant = self.pool.constant(self.number(opcode - 0x11))
+            return self.made('push', constant) if isinstance(constant, int) else self.refused(constant, 0, 1)
         return None
 
     def on_local(self, opcode):
@@ -123,6 +156,8 @@ class Decoder:
         size = 1
         if opcode == 0xC4:
             opcode, size = self.number(1), 2
+        if opcode in REFUSED:
+            return self.one_refused(opcode, is_wide=True)
         if opcode == 0x84:
             return self.made('increment', self.number(size), self.number(size, signed=True))
         for operation, general, short in ('load', 0x15, 0x1A), ('store', 0x36, 0x3B):
@@ -155,9 +190,9 @@ class Decoder:
             return self.made('return', {0xAC: 'sreturn', 0xB0: 'areturn', 0xB1: 'return'}[opcode], ends=True)
         if opcode == 0xBC:
             kind = self.number(1)
-            if kind not in ELEMENTS:
-                raise Refusal('an array of this type isn\'t in the profile')
-            return self.made('new_words', ELEMENTS[kind])
+            if kind in ELEMENTS:
+                return self.made('new_words', ELEMENTS[kind])
+            return self.refused('the type %s' % OTHERS.get(kind, kind), 1, 1)
         return None
 
     def switch(self, is_table):

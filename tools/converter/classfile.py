@@ -1,12 +1,13 @@
 """Reads class files: names, fields, methods with their code, and the pool's entries as far as they can be used."""
+import re
 from dataclasses import dataclass, field
 
 PUBLIC, PRIVATE, PROTECTED, STATIC, FINAL, SYNCHRONIZED = 1, 2, 4, 8, 0x10, 0x20
-NATIVE, INTERFACE, ABSTRACT = 0x100, 0x200, 0x400
+NATIVE, INTERFACE, ABSTRACT, SYNTHETIC = 0x100, 0x200, 0x400, 0x1000
 
-# How many bytes stand behind the tag of an entry that isn't a text, and words for those that the profile can't use.
+# How many bytes stand behind the tag of an entry that isn't a text, and words for constants that the profile can't use.
 SIZES = {3: 4, 4: 4, 5: 8, 6: 8, 7: 2, 8: 2, 9: 4, 10: 4, 11: 4, 12: 4, 15: 3, 16: 2, 17: 4, 18: 4, 19: 2, 20: 2}
-WORDS = {4: 'float', 5: 'long', 6: 'double', 8: 'a constant of type String'}
+WORDS = {4: 'the type float', 5: 'the type long', 6: 'the type double', 8: 'a constant of type String'}
 
 
 class Refusal(Exception):
@@ -18,6 +19,19 @@ class Refusal(Exception):
 
     def __str__(self):
         return '%s: %s' % (self.place, self.text) if self.place else self.text
+
+
+def one_line(text):
+    """A text with what isn't printable escaped, as in names of files."""
+    return ''.join(c if c.isprintable() else c.encode('unicode_escape').decode() for c in str(text))
+
+
+class Refusals(Exception):
+    """All that is wrong with something: `all` has a Refusal for each place."""
+
+    def __init__(self, found):
+        super().__init__(found)
+        self.all = found
 
 
 @dataclass(frozen=True)
@@ -72,6 +86,7 @@ class ClassFile:
     fields: list
     methods: list
     pool: object
+    source: str = None
 
     def has(self, flag):
         return bool(self.flags & flag)
@@ -127,14 +142,19 @@ class Pool:
     def member(self, index):
         of, named = self.pair(index, 9, 10, 11)
         name, kind = self.pair(named, 12)
-        return Reference(self.class_name(of), self.text(name), self.text(kind))
+        return Reference(self.class_name(of), self.text(name), type_of_access(self.text(name), self.text(kind)))
 
     def constant(self, index):
-        """The number of a constant that code pushes."""
+        """The number of a constant that code pushes; of another one a word for it."""
         tag = self.entries[index][0]
         if tag != 3:
-            raise Refusal('%s isn\'t in the profile' % WORDS.get(tag, 'a constant of type Class'))
+            return WORDS.get(tag, 'a constant of type Class')
         return int.from_bytes(self.bytes_of(index, 3), 'big', signed=True)
+
+    def type_of_dynamic(self, index):
+        """The type of what invokedynamic calls."""
+        _, named = self.pair(index, 18)
+        return self.text(self.pair(named, 12)[1])
 
 
 def attributes(source, pool):
@@ -162,6 +182,8 @@ def read_code(content, pool):
 
 def read_member(source, pool):
     member = Member(source.number(2), pool.text(source.number(2)), pool.text(source.number(2)))
+    if member.has(SYNTHETIC) and member.has(STATIC):
+        member.type = type_of_access(member.name, member.type)
     found = attributes(source, pool)
     member.is_constant = 'ConstantValue' in found
     if 'Code' in found:
@@ -180,7 +202,9 @@ def read_class(content):
     interfaces = [pool.class_name(source.number(2)) for _ in range(source.number(2))]
     fields = [read_member(source, pool) for _ in range(source.number(2))]
     methods = [read_member(source, pool) for _ in range(source.number(2))]
-    return ClassFile(name, pool.class_name(above) if above else None, interfaces, flags, fields, methods, pool)
+    named = attributes(source, pool).get('SourceFile')
+    text = pool.text(int.from_bytes(named[0], 'big')) if named else None
+    return ClassFile(name, pool.class_name(above) if above else None, interfaces, flags, fields, methods, pool, text)
 
 
 def with_line(name, line):
@@ -203,3 +227,17 @@ def parameters(kind):
 
 def result(kind):
     return kind.partition(')')[2]
+
+
+def words_of(kind):
+    """How many words a type takes in the class file's machine."""
+    return 0 if kind == 'V' else 2 if kind in 'JD' else 1
+
+
+def type_of_access(name, kind):
+    """The type of a method by which a class reaches a private field of another one (javac --release 8). What it adds to
+    the field, or takes from it, is an int there. It counts as a short, so what is handed over has to lie within one."""
+    if not re.fullmatch(r'access\$\d+', name) or not kind.startswith('('):
+        return kind
+    taken = ['S' if part == 'I' else part for part in parameters(kind)]
+    return '(%s)%s' % (''.join(taken), result(kind))

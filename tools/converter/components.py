@@ -1,10 +1,10 @@
 """Writes the components of a package from its classes (docs/profile/files.md)."""
 from converter.assemble import u1, u2
-from converter.classfile import ABSTRACT, FINAL, PUBLIC, Refusal, STATIC
+from converter.classfile import ABSTRACT, FINAL, PUBLIC, Refusal, Refusals, STATIC
 from converter.layout import ABOVE, PACKAGE_VISIBLE, is_reference, objects_fields, place_of, static_fields, table
 from converter.methods import Methods
 from converter.references import References
-from converter.statics import laid_out
+from converter.statics import initial_values, laid_out
 from converter.translate import translate
 from converter.world import SHAREABLE, dotted
 
@@ -31,40 +31,46 @@ def token_byte(token):
 
 
 def gathered(refusals, place, work, *arguments):
-    """What a work gives; where it is refused that is noted, with a place where it has none."""
+    """What a work gives; what is refused is noted, with a place where it has none."""
     try:
         return work(*arguments)
+    except Refusals as several:
+        refusals += several.all
     except Refusal as refusal:
         refusals.append(Refusal(refusal.text, refusal.place or place))
-    except (IndexError, KeyError, TypeError, ValueError, AttributeError):
+    except (IndexError, KeyError, TypeError, ValueError, AttributeError, OverflowError):
         refusals.append(Refusal('it isn\'t as a compiler writes it', place))
     return None
 
 
 def translated(world, classes, refusals):
     """All methods with code, by their classes, names and types, and the static image. What is refused is gathered."""
-    found = {}
+    found, values = {}, {}
     for k in classes:
         for f in [*objects_fields(k.file), *static_fields(k.file)]:
             gathered(refusals, place_of(k, f), world.check_type, f.type)
         for method in k.file.methods:
             if method.has(ABSTRACT):
                 gathered(refusals, place_of(k, method), world.check_type, method.type)
-            elif method.name != '<clinit>':
+            elif method.code and method.name != '<clinit>':
                 found[k.name, method.key] = gathered(refusals, place_of(k, method), translate, world, k, method)
-    return found, gathered(refusals, None, laid_out, classes)
+        values[k.name] = gathered(refusals, dotted(k.name), initial_values, k)
+    return found, None if refusals else laid_out(classes, values)
 
 
 class Components:
     """The components of a package, by their tags: `infos`. It has none where something is refused: `refusals`."""
 
-    def __init__(self, package, world, classes, applets):
-        self.world, self.classes, self.applets, self.refusals = world, classes, applets, []
+    def __init__(self, package, world, classes, applets, refusals):
+        self.world, self.classes, self.applets, self.refusals = world, classes, applets, refusals
         found, self.statics = translated(world, classes, self.refusals)
         if not self.refusals:
-            self.methods = Methods(classes, found)
-            self.references = References(world, self.class_offsets(), len(self.methods.pool))
-            self.infos = self.written(package)
+            try:
+                self.methods = Methods(classes, found)
+                self.references = References(world, self.class_offsets(), len(self.methods.pool))
+                self.infos = self.written(package)
+            except OverflowError:
+                raise Refusal('the package is too large: a component has at most %d bytes' % LARGEST) from None
 
     # Class
 
@@ -158,8 +164,6 @@ class Components:
 
     def applet(self, applet):
         name, aid = applet
-        if INSTALL not in self.world.find(name).static_methods:
-            raise Refusal('it has no static method install(byte[], short, byte)', dotted(name))
         return u1(len(aid)) + aid + u2(self.methods.offsets[name, INSTALL])
 
     def static_field(self):

@@ -1,12 +1,16 @@
 """Gives the classes of a package their order, and their members tokens and places in tables."""
-from converter.classfile import ABSTRACT, INTERFACE, Member, NATIVE, PROTECTED, PUBLIC, Refusal, STATIC, SYNCHRONIZED
-from converter.classfile import with_line
-from converter.world import Known, MOST, dotted
+from converter.classfile import ABSTRACT, INTERFACE, Member, NATIVE, PROTECTED, PUBLIC, Refusal, Refusals, STATIC
+from converter.classfile import SYNCHRONIZED, with_line
+from converter.world import Known, MOST, OBJECT, dotted
 
 VISIBLE = PUBLIC | PROTECTED
 PACKAGE_VISIBLE = 128  # the least token of a package-visible method
 ABOVE = None  # in a table, where another package has the method
 CLOSED = 'it overrides a method that overrides a package-visible one of another package'
+KINDS = {
+    'java/lang/Enum': 'an enum', 'java/lang/Record': 'a record',
+    'java/lang/annotation/Annotation': 'an annotation type',
+}
 
 
 def in_order(files):
@@ -25,32 +29,44 @@ def in_order(files):
     return sorted(found, key=lambda f: not f.has(INTERFACE))
 
 
-def add_classes(world, files):
-    """The classes of a package in their order; each is put into the world."""
-    found, seen = [], 0
+def add_classes(world, files, refusals):
+    """The classes of a package in their order; each is put into the world. Methods that are refused are gathered. Where
+    a class is refused for itself, nothing else of the package can be told."""
+    found, broken, seen = [], [], 0
     for file in in_order(files):
+        is_interface = file.has(INTERFACE)
+        known = Known(file.name, None if is_interface else file.above, is_interface=is_interface, file=file)
+        if file.has(PUBLIC):
+            known.token, seen = seen, seen + 1
+        world.known[file.name] = known
         try:
-            is_interface = file.has(INTERFACE)
-            known = Known(file.name, None if is_interface else file.above, is_interface=is_interface, file=file)
-            if file.has(PUBLIC):
-                known.token, seen = seen, seen + 1
-            world.known[file.name] = known
-            known.interfaces = world.all_interfaces(file.interfaces)
-            if known.is_interface:
-                add_interface_methods(world, known)
-            else:
-                add_methods(world, known)
-                add_fields(known)
-            add_static_members(known)
+            add_class(world, known, refusals)
         except Refusal as refusal:
-            raise Refusal(refusal.text, refusal.place or dotted(file.name)) from None
+            broken.append(Refusal(refusal.text, refusal.place or dotted(file.name)))
+            known.above = None if is_interface else OBJECT
         found.append(known)
     if len(found) > MOST:
-        raise Refusal('there are more than %d classes' % MOST)
+        broken.append(Refusal('there are more than %d classes' % MOST))
+    if broken:
+        raise Refusals(broken + refusals)
     return found
 
 
-def add_interface_methods(world, known):
+def add_class(world, known, refusals):
+    """Tells what a class has, and what it stands on."""
+    for name in [known.file.above, *known.file.interfaces]:
+        if name in KINDS:
+            raise Refusal('%s isn\'t in the profile' % KINDS[name])
+    known.interfaces = world.all_interfaces(known.file.interfaces)
+    if known.is_interface:
+        add_interface_methods(world, known, refusals)
+    else:
+        add_methods(world, known, refusals)
+        add_fields(known)
+    add_static_members(known)
+
+
+def add_interface_methods(world, known, refusals):
     """The methods that an interface inherits, and then its own."""
     for name in known.interfaces:
         for key in world.find(name).virtual:
@@ -59,12 +75,13 @@ def add_interface_methods(world, known):
         if method.name == '<clinit>':
             continue
         if not method.has(ABSTRACT):
-            raise Refusal('a method of an interface with code isn\'t in the profile', place_of(known, method))
+            text = 'a method of an interface with code isn\'t in the profile'
+            refusals.append(Refusal(text, place_of(known, method)))
         known.virtual.setdefault(method.key, len(known.virtual))
     check_count(known.virtual, PACKAGE_VISIBLE)
 
 
-def add_methods(world, known):
+def add_methods(world, known, refusals):
     """The tokens of virtual methods: those of the class above, and further ones. What an abstract class leaves to be
     done of its interfaces, it declares itself."""
     above = world.find(known.above)
@@ -74,9 +91,9 @@ def add_methods(world, known):
     for method in known.file.methods:
         if method.has(NATIVE | SYNCHRONIZED):
             word = 'native' if method.has(NATIVE) else 'synchronized'
-            raise Refusal('a %s method isn\'t in the profile' % word, place_of(known, method))
+            refusals.append(Refusal('a %s method isn\'t in the profile' % word, place_of(known, method)))
         if method.is_virtual and method.key in known.closed:
-            raise Refusal(CLOSED, place_of(known, method))
+            refusals.append(Refusal(CLOSED, place_of(known, method)))
         if method.is_virtual and method.has(VISIBLE):
             known.virtual.setdefault(method.key, max(known.virtual.values(), default=-1) + 1)
         elif method.is_virtual:

@@ -12,7 +12,7 @@ class Methods:
     """What was translated, as bytes. A method is known by its class, and its name and type.
 
     `pool` has the entries with their indexes, `offsets` where headers stand, `rows` the bytes of code, the handlers and
-    the first handler of each method, `info` the component."""
+    the first handler of each method, `codes` what was assembled, `info` the component."""
 
     def __init__(self, classes, translated):
         entries = [card.entry for m in translated.values() for card in m.cards if card.entry]
@@ -20,7 +20,7 @@ class Methods:
         ordered = sorted(dict.fromkeys(entries), key=lambda entry: ORDER.index(entry.kind))
         self.pool = {entry: number for number, entry in enumerate(ordered)}
         self.offsets, self.rows = {}, {}
-        codes = {where: Assembler(m.cards, self.pool) for where, m in translated.items()}
+        self.codes = codes = {where: Assembler(m.cards, self.pool) for where, m in translated.items()}
         handlers = {where: list(self.handlers(codes[where], m)) for where, m in translated.items()}
         count = sum(map(len, handlers.values()))
         if count > MOST:

@@ -3,9 +3,9 @@ from dataclasses import dataclass, field
 
 from converter.assemble import spelled
 from converter.bytecode import Decoder
-from converter.classfile import Refusal, with_line
+from converter.classfile import Refusal, Refusals, with_line
 from converter.layout import is_reference, static_fields
-from converter.ranges import BYTE, SHORT, lies_in
+from converter.numbers import BYTE, SHORT, lies_in
 from converter.world import dotted
 
 ONLY = 'a static field can be initialised by constants and by arrays of constants only'
@@ -22,21 +22,26 @@ class Array:
 
 
 class Initialiser:
-    """Follows the code that initialises a class's static fields: `values` has what they get, by name and type."""
+    """Follows the code that initialises a class's static fields: `values` has what they get, by name and type. What is
+    refused is passed over up to the next field that gets something: `faults` has places and texts."""
 
     def __init__(self, known, code):
-        self.known, self.operands, self.values = known, [], {}
-        at = 0
-        try:
-            for instruction in Decoder(code.bytes, known.file.pool).instructions():
-                at = instruction.at
-                step = getattr(self, 'on_' + instruction.operation, None)
-                if step is None:
-                    raise Refusal(ONLY)
-                step(*instruction.operands)
-        except Refusal as refusal:
-            line = code.line(refusal.place if isinstance(refusal.place, int) else at)
-            raise Refusal(refusal.text, with_line(dotted(known.name), line)) from None
+        self.known, self.operands, self.values, self.faults, is_followed = known, [], {}, [], True
+        for instruction in Decoder(code.bytes, known.file.pool).instructions():
+            if not is_followed:
+                is_followed = self.is_put(instruction)
+                continue
+            try:
+                getattr(self, 'on_' + instruction.operation, self.on_another)(*instruction.operands)
+            except (Refusal, IndexError) as refusal:
+                self.faults.append((instruction.at, refusal.text if isinstance(refusal, Refusal) else ONLY))
+                self.operands, is_followed = [], self.is_put(instruction)
+
+    def is_put(self, instruction):
+        return instruction.operation == 'field' and instruction.operands[:2] == ('static', 'put')
+
+    def on_another(self, *operands):
+        raise Refusal(ONLY)
 
     def on_push(self, number):
         self.operands.append(number)
@@ -46,7 +51,7 @@ class Initialiser:
         if (takes, gives) == ('', 'r'):
             self.operands.append(None)
             return
-        if takes != 'ren':
+        if takes != 'rin':
             raise Refusal(ONLY)
         array, index, value = self.operands[-3:]
         del self.operands[-3:]
@@ -86,7 +91,13 @@ class Initialiser:
 def initial_values(known):
     """What the static fields of a class hold at first, those that its initialiser says."""
     code = next((m.code for m in known.file.methods if m.name == '<clinit>'), None)
-    return Initialiser(known, code).values if code else {}
+    if code is None:
+        return {}
+    found = Initialiser(known, code)
+    if found.faults:
+        lines = dict.fromkeys((code.line(at), text) for at, text in found.faults)
+        raise Refusals([Refusal(text, with_line(dotted(known.name), line)) for line, text in lines])
+    return found.values
 
 
 @dataclass
@@ -99,12 +110,10 @@ class Statics:
     values: bytes = b''
 
 
-def laid_out(classes):
-    """The static image of a package's classes: initialised arrays, other references, numbers that are 0, the others."""
-    rows = []
-    for k in classes:
-        values = initial_values(k)
-        rows += [((k.name, f.key), f.type, values.get(f.key)) for f in static_fields(k.file)]
+def laid_out(classes, values):
+    """The static image of a package's classes: initialised arrays, other references, numbers that are 0, the others.
+    Values are those of each class."""
+    rows = [((k.name, f.key), f.type, values[k.name].get(f.key)) for k in classes for f in static_fields(k.file)]
     image, at = Statics(), 0
     for where, kind, value in sorted(rows, key=lambda row: rank(*row[1:])):
         image.places[where] = at

@@ -2,9 +2,10 @@
 from dataclasses import dataclass
 
 from converter.bytecode import Decoder
-from converter.classfile import PRIVATE, Refusal, STATIC, parameters, with_line
+from converter.classfile import PRIVATE, Reference, Refusal, Refusals, STATIC, parameters, with_line
 from converter.layout import method_of, place_of
-from converter.ranges import BYTE, INT, Ranges, SHORT, lies_in
+from converter.numbers import BYTE, INT, SHORT, lies_in
+from converter.ranges import Ranges
 from converter.world import MOST, OBJECT, dotted
 
 # Opcodes of the card, of a family the first. The forms for references, bytes and shorts stand one behind the other.
@@ -14,10 +15,12 @@ OPCODES = {
     'sreturn': 120, 'return': 122, 'get_static': 123, 'put_static': 127, 'get_object': 131, 'put_object': 135,
     'virtual': 139, 'special': 140, 'static': 141, 'interface': 142, 'new': 143, 'new_words': 144,
     'new_references': 145, 'cast': 148, 'test': 149, 'sinc_w': 150, 'get_object_w': 169, 'get_this': 173,
-    'put_object_w': 177,
+    'put_object_w': 177, 'aconst_null': 1, 'pop': 59, 'dup': 61, 'ifnonnull': 103, 'throw': 147,
 }
+TESTS_NULL = Reference('java/util/Objects', 'requireNonNull', '(Ljava/lang/Object;)Ljava/lang/Object;')
 KINDS = {'Z': 10, 'B': 11, 'S': 12}  # of arrays, for newarray, checkcast and instanceof
 FORMS = {'Z': 1, 'B': 1, 'S': 2}
+BEFORE = -1  # the place in front of a method's code
 WIDER = 56  # between a branch and the same with an offset of two bytes
 
 
@@ -60,49 +63,67 @@ class Translator:
 
     def __init__(self, world, known, method):
         self.world, self.known, self.method, self.at = world, known, method, 0
+        self.faults, self.cards, self.depth, self.used = [], [], 0, 0
 
     def translated(self):
-        try:
-            self.world.check_type(self.method.type)
-            return self.whole()
-        except Refusal as refusal:
-            line = self.method.code.line(refusal.place if isinstance(refusal.place, int) else self.at)
+        """The method of the card; or all that is refused, each line with each reason once."""
+        self.tried(BEFORE, self.world.check_type, self.method.type)
+        found = self.tried(BEFORE, self.whole)
+        if self.faults:
             name = '%s.%s' % (dotted(self.known.name), self.method.name)
-            raise Refusal(refusal.text, with_line(name, line)) from None
+            lines = [(self.method.code.line(max(at, 0)), text) for at, text in sorted(self.faults)]
+            raise Refusals([Refusal(text, with_line(name, line)) for line, text in dict.fromkeys(lines)])
+        return found
+
+    def tried(self, at, work, *arguments):
+        """What a work gives; where it is refused that is noted for a place of the code."""
+        try:
+            return work(*arguments)
+        except Refusal as refusal:
+            self.faults.append((refusal.place if isinstance(refusal.place, int) else at, refusal.text))
+            return None
 
     def whole(self):
         code = self.method.code
         self.instructions = Decoder(code.bytes, self.known.file.pool).instructions()
         self.check_members()
-        self.states = Ranges(self.method, self.instructions).states
+        ranges = Ranges(self.method, self.instructions)
+        self.faults += [(at, text) for at, text in ranges.faults.items() if at not in self.refused]
+        self.refused.update(ranges.faults)
+        self.states = ranges.states
         self.stops = {place for handler in code.handlers for place in handler[:3]}
         self.stops.update(target for i in self.instructions for target in i.targets)
-        self.cards, self.depth, self.used, number = [], 0, 0, 0
+        number = 0
         while number < len(self.instructions):
-            number += self.translate(self.instructions[number:number + 5])
+            waiting = self.instructions[number:number + 5]
+            number += self.tried(waiting[0].at, self.translate, waiting) or 1
         arguments = len(parameters(self.method.type)) + (not self.method.has(STATIC))
-        handlers = [(*places, self.class_entry(caught) if caught else None) for *places, caught in code.handlers]
+        handlers = [(*places, self.tried(places[2], self.class_entry, caught) if caught else None)
+                    for *places, caught in code.handlers]
         for count, word in (self.depth, 'operands'), (max(self.used, arguments), 'locals'):
             if count > MOST:
                 raise Refusal('the method needs more than %d %s' % (MOST, word))
         return Translated(self.cards, handlers, self.depth, arguments, max(self.used - arguments, 0))
 
     def check_members(self):
-        """Refuses types of members before numbers are looked at, so that the reason is the plainer one."""
+        """Refuses instructions and types of members before numbers are looked at, so that the reason is the plainer
+        one. What is refused so is looked at no more."""
         for instruction in self.instructions:
-            self.at = instruction.at
+            if instruction.operation == 'refused':
+                self.faults.append((instruction.at, instruction.operands[0]))
             for operand in instruction.operands:
                 if hasattr(operand, 'type'):
-                    self.world.check_type(operand.type)
+                    self.tried(instruction.at, self.world.check_type, operand.type)
+        self.refused = {at for at, _ in self.faults}
 
     def translate(self, waiting):
         """Translates the first of the instructions, perhaps with some behind it; gives how many. What is never reached
         is left out."""
         self.at, self.targets = waiting[0].at, waiting[0].targets
-        if self.at not in self.states:
+        if self.at not in self.states or self.at in self.refused:
             return 1
         self.depth = max(self.depth, len(self.states[self.at][1]))
-        for fuse in self.increment_by, self.field_of_this:
+        for fuse in self.increment_by, self.field_of_this, self.test_of_null:
             count = fuse(waiting)
             if count:
                 return count
@@ -117,7 +138,8 @@ class Translator:
     def are_together(self, waiting, *operations):
         """Whether these operations stand first, and control flow comes only to the first of them."""
         some = waiting[:len(operations)]
-        return [i.operation for i in some] == list(operations) and not any(i.at in self.stops for i in some[1:])
+        apart = self.stops | self.refused
+        return [i.operation for i in some] == list(operations) and not any(i.at in apart for i in some[1:])
 
     def increment_by(self, waiting):
         """A short local plus or minus a constant is `sinc`."""
@@ -140,6 +162,21 @@ class Translator:
         self.emit(OPCODES['get_this'] + FORMS.get(field.type, 0), self.field_entry(field))
         self.used = max(self.used, 1)
         return 2
+
+    def test_of_null(self, waiting):
+        """A test for null, as the compiler writes it for an object around a new one (x.new Inner()): null is thrown,
+        and that throws what the class file's machine throws."""
+        if waiting[0].operation != 'call' or waiting[0].operands != ('static', TESTS_NULL):
+            return 0
+        is_dropped = self.are_together(waiting, 'call', 'simple') and waiting[1].operands[-1] == OPCODES['pop']
+        if not is_dropped:
+            self.emit(OPCODES['dup'])
+            self.depth = max(self.depth, len(self.states[self.at][1]) + 1)
+        count = 2 if is_dropped else 1
+        self.emit(OPCODES['ifnonnull'], targets=(waiting[count].at,))
+        self.emit(OPCODES['aconst_null'])
+        self.emit(OPCODES['throw'])
+        return count
 
     # Numbers, locals and the stack
 

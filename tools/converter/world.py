@@ -14,6 +14,7 @@ A line of such a text is one of these. Names and types are those of class files;
     field NAME TYPE TOKEN           of objects
     static_field NAME TYPE TOKEN
 """
+import re
 from dataclasses import dataclass, field
 
 from converter.classfile import PROTECTED, PUBLIC, Refusal, parameters, result
@@ -21,6 +22,7 @@ from converter.classfile import PROTECTED, PUBLIC, Refusal, parameters, result
 OBJECT, SHAREABLE = 'java/lang/Object', 'javacard/framework/Shareable'
 PRIMITIVES = 'ZBS'
 WORDS = {'I': 'int', 'J': 'long', 'F': 'float', 'D': 'double', 'C': 'char'}
+EXPORTS = 'exports.txt'  # the name of such a text
 MOST = 255  # classes, tokens, locals: what a byte counts
 
 
@@ -63,7 +65,11 @@ class World:
 
     def chain(self, name):
         """A class and those above it, the nearest first."""
+        seen = set()
         while name is not None:
+            if name in seen:
+                raise Refusal('the class %s is above itself' % dotted(name))
+            seen.add(name)
             found = self.find(name)
             yield found
             name = found.above
@@ -101,6 +107,27 @@ TABLES = {
 }
 
 
+def number_of(text, most=MOST):
+    """A number in decimal digits, of one byte where nothing else is said."""
+    if not re.fullmatch('[0-9]+', text) or int(text) > most:
+        raise ValueError(text)
+    return int(text)
+
+
+def aid_of(text):
+    """An AID in hexadecimal."""
+    if not re.fullmatch('([0-9A-Fa-f]{2}){5,16}', text):
+        raise ValueError(text)
+    return bytes.fromhex(text)
+
+
+def check_kind(kind):
+    """That a text is a type as class files have it."""
+    parts = [*parameters(kind), result(kind)] if kind.startswith('(') else [kind]
+    if not all(re.fullmatch(r'V|\[*([ZBSIJFDC]|L[^;\[]+;)', part) for part in parts):
+        raise ValueError(kind)
+
+
 def read_exports(text):
     """The classes of a package that was converted before, by their names."""
     known, package, at = {}, None, None
@@ -109,9 +136,10 @@ def read_exports(text):
         try:
             if word == 'package':
                 name, aid, major, minor = rest
-                package = Package(name, bytes.fromhex(aid), (int(major), int(minor)))
-            elif word in ('class', 'interface'):
-                at = Known(rest[0], rest[2] if word == 'class' else None, package, int(rest[1]), word == 'interface')
+                package = Package(name, aid_of(aid), (number_of(major), number_of(minor)))
+            elif word in ('class', 'interface') and package:
+                above = rest[2] if word == 'class' else None
+                at = Known(rest[0], above, package, number_of(rest[1]), word == 'interface')
                 known[at.name] = at
             elif word == 'implements':
                 at.interfaces.append(rest[0])
@@ -119,11 +147,14 @@ def read_exports(text):
                 at.closed.add((rest[0], rest[1]))
             elif word in TABLES:
                 name, kind, token = rest
-                getattr(at, TABLES[word])[name, kind] = int(token)
+                check_kind(kind)
+                getattr(at, TABLES[word])[name, kind] = number_of(token)
             elif not word.startswith('#'):
                 raise ValueError
         except (ValueError, IndexError, AttributeError):
-            raise Refusal('line %d is none of an export file' % number) from None
+            raise Refusal('line %d is none of %s' % (number, EXPORTS)) from None
+    if package is None:
+        raise Refusal('it names no package')
     return known
 
 

@@ -35,6 +35,7 @@ use Rattle.jc_machine.specs.Machine.{Frame, Machine, Next, Outcome, Stepped, Stu
 use Rattle.jc_machine.specs.Returns.{returns_to, returns_value}
 use Rattle.jc_machine.specs.Runtime.{arithmetic_exception}
 use Rattle.jc_machine.specs.Step.{CallEnd, continued}
+use Rattle.jc_machine.specs.declared.stop.Budget.TheVariants.{FrameWords}
 use Rattle.jc_machine.specs.Words.{act_word}
 use Rattle.jc_words.specs.Shorts.{binary_of}
 use Rattle.jc_words.specs.Values.{Word}
@@ -184,9 +185,9 @@ module _ (code : List ℕ) (typing : Typing) (t : IsTyping word_rules (word_meth
     place = here_alone before stands.instr.instr
 
     step_ends : (o : Outcome ⊤) → (alone_step listing before).outcome ≡ o
-        → (continued (alone_steps listing left) o).ends ≡ end
+        → (continued FrameWords None (alone_steps listing left) o).ends ≡ end
     unfolding alone_steps
-    step_ends o is = sym (ap (λ (x : Outcome ⊤). (continued (alone_steps listing left) x).ends) is) ∙ g.rest
+    step_ends o is = sym (ap (λ (x : Outcome ⊤). (continued FrameWords None (alone_steps listing left) x).ends) is) ∙ g.rest
 
     goes_on : (v : WordFrame) (operation : WordOperation) → alone_step listing before ≡ act_word place operation
         → GoesAlong place (act_word place operation) v → GoesWith v left end

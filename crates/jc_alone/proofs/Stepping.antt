@@ -1,5 +1,5 @@
 -- A step of a well-typed machine is safe, whichever instruction it makes; so is a run.
-use Rattle.std.proofs.Common.{◌≡◌, ℕ, zero, suc, ℤ, ◌<◌, List, [], true, Some, Ok, replicate}
+use Rattle.std.proofs.Common.{◌≡◌, ℕ, zero, suc, ℤ, ◌<◌, List, [], true, None, Some, Ok, replicate}
 use Rattle.std.proofs.Common.{refl, sym, ap, subst, arith}
 use Rattle.std.specs.List.{AllByRecursion}
 use Rattle.std.specs.Prelude.{⊤}
@@ -21,6 +21,7 @@ use Rattle.jc_words.specs.Shorts.{word_of}
 use Rattle.jc_words.specs.Values.{Unset}
 use Rattle.jc_machine.specs.Machine.{Ends, Machine, Next, Outcome, Stuck, Throws, UsedUp}
 use Rattle.jc_machine.specs.Step.{Called, continued}
+use Rattle.jc_machine.specs.declared.stop.Budget.TheVariants.{FrameWords}
 use Rattle.jc_alone.specs.Alone.{act_alone, alone_call, alone_step, alone_steps, first_machine, here_alone}
 use Rattle.jc_alone.specs.TypedCode.{EndsTypedAlone, IsTypedAlone, StandsAt, StepsTyped}
 use Rattle.jc_alone.proofs.Constants.{constant_bound}
@@ -106,7 +107,7 @@ module _ (laws : ListingLaws word_instr_at) (code : List ℕ) (typing : Typing)
 
   goes_on_safely : (m : Machine ⊤) → IsTypedAlone typing m → (go : Machine ⊤ → Called ⊤) (outcome : Outcome ⊤)
       → ((after : Machine ⊤) → IsTypedAlone typing after → EndsTypedAlone typing (go after).ends)
-      → StepsTyped typing m outcome → EndsTypedAlone typing (continued go outcome).ends
+      → StepsTyped typing m outcome → EndsTypedAlone typing (continued FrameWords None go outcome).ends
   goes_on_safely m typed go (Next after) each h = each after h.typed
   goes_on_safely m typed go (Throws after object) each h =
       record { typed = subst (λ (x : Machine ⊤). IsTypedAlone typing x) (sym h.same) typed; arithmetic = h.arithmetic }

@@ -20,6 +20,7 @@ use Rattle.jc_machine.specs.Idle.{idle}
 use Rattle.jc_machine.specs.Machine.{Limits, Machine, Stepped, Surroundings}
 use Rattle.jc_machine.specs.Runtime.{arithmetic_exception}
 use Rattle.jc_machine.specs.Step.{CallEnd, Called, Gave, RanOut, Threw, WasStuck, ended_by, no_frame, onward}
+use Rattle.jc_machine.specs.declared.stop.Budget.TheVariants.{FrameWords, Steps}
 use Rattle.jc_machine.specs.Words.{act_word}
 use Rattle.jc_alone.specs.declared.run.CodeEnd.{CodeEnd}
 use Rattle.jc_alone.specs.declared.run.CodeEnd.TheVariants as ends
@@ -81,8 +82,8 @@ alone_step listing m =
 
 -- at most so many steps; where a further one would begin the budget is used up
 unfoldable pub alone_steps : List PlacedInstr → ℕ → Machine ⊤ → Called ⊤
-alone_steps listing zero m = ended_by (RanOut m)
-alone_steps listing (suc n) m = onward (alone_steps listing n) (alone_step listing m)
+alone_steps listing zero m = ended_by (RanOut m Steps None)
+alone_steps listing (suc n) m = onward FrameWords None (alone_steps listing n) (alone_step listing m)
 
 -- the machine at first: at the first byte of the code, with locals that were never written, and no operands
 abbrev pub first_machine : Machine ⊤
@@ -103,22 +104,22 @@ alone_call listing steps = alone_steps listing steps first_machine
 -- with this word
 abbrev pub GivesWord : ℕ → CallEnd ⊤ → Type 0
 GivesWord word (Gave m value) = value ≡ Some (Word word)
-GivesWord word (Threw m object) = ⊥
-GivesWord word (RanOut m) = ⊥
+GivesWord word (Threw m object at) = ⊥
+GivesWord word (RanOut m spent at) = ⊥
 GivesWord word WasStuck = ⊥
 
 -- with the exception of a division by zero
 abbrev pub ThrowsArithmetic : CallEnd ⊤ → Type 0
 ThrowsArithmetic (Gave m value) = ⊥
-ThrowsArithmetic (Threw m object) = object ≡ arithmetic_exception
-ThrowsArithmetic (RanOut m) = ⊥
+ThrowsArithmetic (Threw m object at) = object ≡ arithmetic_exception
+ThrowsArithmetic (RanOut m spent at) = ⊥
 ThrowsArithmetic WasStuck = ⊥
 
 -- with no step left
 abbrev pub UsesUp : CallEnd ⊤ → Type 0
 UsesUp (Gave m value) = ⊥
-UsesUp (Threw m object) = ⊥
-UsesUp (RanOut m) = ⊤
+UsesUp (Threw m object at) = ⊥
+UsesUp (RanOut m spent at) = ⊤
 UsesUp WasStuck = ⊥
 
 -- a run on words ends so

@@ -168,10 +168,10 @@ module _ (laws : CallLaws) (k : CardWords) (c : CardState) (h : Holds k c) (sele
         subst (λ (r : RunEnd). ReadsEnded r (Normally value)) (sym (x.0).is)
             (record { reads = (x.0).reads; written = t.written }),
       )
-      by_end touches (Threw m object) x t =
-          (holds m (x.1).0 (x.1).1, subst (λ (r : RunEnd). ReadsEnded r (Uncaught object)) (sym x.0) refl)
-      by_end touches (RanOut m) x t =
-          (holds m (x.1).0 (x.1).1, subst (λ (r : RunEnd). ReadsEnded r OutOfBudget) (sym x.0) tt)
+      by_end touches (Threw m object at) x t =
+          (holds m (x.1).0 (x.1).1, subst (λ (r : RunEnd). ReadsEnded r (Uncaught object at)) (sym x.0) (refl, refl))
+      by_end touches (RanOut m spent at) x t =
+          (holds m (x.1).0 (x.1).1, subst (λ (r : RunEnd). ReadsEnded r (OutOfBudget spent at)) (sym x.0) (refl, refl))
       by_end touches WasStuck x t = absurd x
 
       pub method_called : IsDone after (ReadsEnded end) (call_method c selected owner method arguments)

@@ -11,6 +11,8 @@ use Rattle.jc_api.specs.declared.class.ApiClass.TheVariants.{IsoException}
 use Rattle.jc_machine.specs.Lookup.{fields_of, is_byte, is_kept_as, is_of_class, is_word, leads_to}
 use Rattle.jc_machine.specs.Reading.{HeapReads, Pointwise, Reads}
 use Rattle.jc_machine.specs.Typed.{CellsTyped, ObjectTyped, is_cell}
+use Rattle.jc_machine.specs.declared.stop.Budget.{Budget}
+use Rattle.jc_machine.specs.declared.stop.CodePoint.{CodePoint}
 use Rattle.jc_names.specs.declared.name.ClassName.{ClassName}
 use Rattle.jc_names.specs.declared.name.ClassName.TheVariants.{Api}
 use Rattle.jc_natives.specs.Cells.{bits}
@@ -24,8 +26,9 @@ use Rattle.jc_words.specs.Values.{Null, Ref, TaggedValue, Unset, Word, is_writte
 use Rattle.jc_card.proofs.Thrown.{across}
 use Rattle.jc_card.specs.Card.{CardState}
 use Rattle.jc_card.specs.Command.{normal, unknown_error}
-use Rattle.jc_card.specs.Commands.{agrees, reason_of, status_of, status_of_thrown}
-use Rattle.jc_card.specs.Install.{failure_of}
+use Rattle.jc_card.specs.Causes.{reason_of}
+use Rattle.jc_card.specs.Commands.{agrees, status_of, status_of_thrown}
+use Rattle.jc_card.specs.Install.{failure_status}
 use Rattle.jc_card.specs.Parts.{Ended, Normally, OutOfBudget, Uncaught}
 use Rattle.jc_card.specs.Reads.{CardWords, Holds, ReadsEnded}
 
@@ -40,63 +43,70 @@ word_agrees word (Normally (Some Unset)) r = absurd (never r.written)
     never : false ≡ true → ⊥
     never e = absurd cc
 word_agrees word (Normally None) r = absurd r.reads
-word_agrees word (Uncaught object) r = absurd r
-word_agrees word OutOfBudget r = absurd r
+word_agrees word (Uncaught object at) r = absurd r
+word_agrees word (OutOfBudget spent at) r = absurd r
 
 pub nothing_refuses : (e : Ended) → ReadsEnded (Gave None) e → false ≡ agrees e
 nothing_refuses (Normally (Some v)) r = absurd r.reads
 nothing_refuses (Normally None) r = refl
-nothing_refuses (Uncaught object) r = absurd r
-nothing_refuses OutOfBudget r = absurd r
+nothing_refuses (Uncaught object at) r = absurd r
+nothing_refuses (OutOfBudget spent at) r = absurd r
 
-pub thrown_refuses : (object : ℕ) (e : Ended) → ReadsEnded (Threw object) e → false ≡ agrees e
-thrown_refuses object (Normally value) r = absurd r
-thrown_refuses object (Uncaught number) r = refl
-thrown_refuses object OutOfBudget r = absurd r
+pub thrown_refuses : (object : ℕ) (point : Option CodePoint) (e : Ended) → ReadsEnded (Threw object point) e
+    → false ≡ agrees e
+thrown_refuses object point (Normally value) r = absurd r
+thrown_refuses object point (Uncaught number at) r = refl
+thrown_refuses object point (OutOfBudget spent at) r = absurd r
 
-pub used_up_refuses : (e : Ended) → ReadsEnded RanOut e → false ≡ agrees e
-used_up_refuses (Normally value) r = absurd r
-used_up_refuses (Uncaught object) r = absurd r
-used_up_refuses OutOfBudget r = refl
+pub used_up_refuses : (budget : Budget) (point : Option CodePoint) (e : Ended) → ReadsEnded (RanOut budget point) e
+    → false ≡ agrees e
+used_up_refuses budget point (Normally value) r = absurd r
+used_up_refuses budget point (Uncaught object at) r = absurd r
+used_up_refuses budget point (OutOfBudget spent at) r = refl
 
 -- ---- the status of how a call ended
 
 module _ (c : CardState) where
   pub gave_status : (word : Option ℕ) (e : Ended) → ReadsEnded (Gave word) e → normal ≡ status_of c e
   gave_status word (Normally value) r = refl
-  gave_status word (Uncaught object) r = absurd r
-  gave_status word OutOfBudget r = absurd r
+  gave_status word (Uncaught object at) r = absurd r
+  gave_status word (OutOfBudget spent at) r = absurd r
 
-  pub thrown_status : (object status : ℕ) (e : Ended) → ReadsEnded (Threw object) e
+  pub thrown_status : (object : ℕ) (point : Option CodePoint) (status : ℕ) (e : Ended)
+      → ReadsEnded (Threw object point) e
       → status ≡ option_map_or (status_of_thrown c) (object_at c.heap object) unknown_error → status ≡ status_of c e
-  thrown_status object status (Normally value) r e = absurd r
-  thrown_status object status (Uncaught number) r e =
-      e ∙ ap (λ n. option_map_or (status_of_thrown c) (object_at c.heap n) unknown_error) r
-  thrown_status object status OutOfBudget r e = absurd r
+  thrown_status object point status (Normally value) r e = absurd r
+  thrown_status object point status (Uncaught number at) r e =
+      e ∙ ap (λ n. option_map_or (status_of_thrown c) (object_at c.heap n) unknown_error) r.0
+  thrown_status object point status (OutOfBudget spent at) r e = absurd r
 
-  pub used_up_status : (e : Ended) → ReadsEnded RanOut e → unknown_error ≡ status_of c e
-  used_up_status (Normally value) r = absurd r
-  used_up_status (Uncaught object) r = absurd r
-  used_up_status OutOfBudget r = refl
+  pub used_up_status : (budget : Budget) (point : Option CodePoint) (e : Ended) → ReadsEnded (RanOut budget point) e
+      → unknown_error ≡ status_of c e
+  used_up_status budget point (Normally value) r = absurd r
+  used_up_status budget point (Uncaught object at) r = absurd r
+  used_up_status budget point (OutOfBudget spent at) r = refl
 
   -- ---- of an install
 
-  pub gave_failure : (word : Option ℕ) (e : Ended) → ReadsEnded (Gave word) e → unknown_error ≡ failure_of c e
+  pub gave_failure : (word : Option ℕ) (e : Ended) → ReadsEnded (Gave word) e → unknown_error ≡ failure_status c e
   gave_failure word (Normally value) r = refl
-  gave_failure word (Uncaught object) r = absurd r
-  gave_failure word OutOfBudget r = absurd r
+  gave_failure word (Uncaught object at) r = absurd r
+  gave_failure word (OutOfBudget spent at) r = absurd r
 
-  pub thrown_failure : (object status : ℕ) (e : Ended) → ReadsEnded (Threw object) e
-      → status ≡ option_map_or (status_of_thrown c) (object_at c.heap object) unknown_error → status ≡ failure_of c e
-  thrown_failure object status (Normally value) r e = absurd r
-  thrown_failure object status (Uncaught number) r e =
-      e ∙ ap (λ n. option_map_or (status_of_thrown c) (object_at c.heap n) unknown_error) r
-  thrown_failure object status OutOfBudget r e = absurd r
+  pub thrown_failure : (object : ℕ) (point : Option CodePoint) (status : ℕ) (e : Ended)
+      → ReadsEnded (Threw object point) e
+      → status ≡ option_map_or (status_of_thrown c) (object_at c.heap object) unknown_error
+      → status ≡ failure_status c e
+  thrown_failure object point status (Normally value) r e = absurd r
+  thrown_failure object point status (Uncaught number at) r e =
+      e ∙ ap (λ n. option_map_or (status_of_thrown c) (object_at c.heap n) unknown_error) r.0
+  thrown_failure object point status (OutOfBudget spent at) r e = absurd r
 
-  pub used_up_failure : (e : Ended) → ReadsEnded RanOut e → unknown_error ≡ failure_of c e
-  used_up_failure (Normally value) r = absurd r
-  used_up_failure (Uncaught object) r = absurd r
-  used_up_failure OutOfBudget r = refl
+  pub used_up_failure : (budget : Budget) (point : Option CodePoint) (e : Ended) → ReadsEnded (RanOut budget point) e
+      → unknown_error ≡ failure_status c e
+  used_up_failure budget point (Normally value) r = absurd r
+  used_up_failure budget point (Uncaught object at) r = absurd r
+  used_up_failure budget point (OutOfBudget spent at) r = refl
 
 -- ---- the reason of an exception
 
@@ -198,7 +208,7 @@ tagged_at (x ∷ os) [] r n o e = absurd r
 tagged_at (x ∷ os) (p ∷ ps) r zero o e = (p, refl)
 tagged_at (x ∷ os) (p ∷ ps) r (suc n) o e = tagged_at os ps r.1 n o e
 
-tagged : (os : Heap ℕ) (ps : Heap TaggedValue) → HeapReads os ps → (number : ℕ) (o : Object ℕ)
+pub tagged : (os : Heap ℕ) (ps : Heap TaggedValue) → HeapReads os ps → (number : ℕ) (o : Object ℕ)
     → object_at os number ≡ Some o → (p : Object TaggedValue) × (object_at ps number ≡ Some p)
 tagged os ps r zero o e = absurd cc
 tagged os ps r (suc n) o e = tagged_at os ps r n o e
@@ -211,7 +221,7 @@ none_at (x ∷ os) [] r n e = absurd r
 none_at (x ∷ os) (p ∷ ps) r zero e = absurd cc
 none_at (x ∷ os) (p ∷ ps) r (suc n) e = none_at os ps r.1 n e
 
-none_there : (os : Heap ℕ) (ps : Heap TaggedValue) → HeapReads os ps → (number : ℕ) → object_at os number ≡ None
+pub none_there : (os : Heap ℕ) (ps : Heap TaggedValue) → HeapReads os ps → (number : ℕ) → object_at os number ≡ None
     → object_at ps number ≡ None
 none_there os ps r zero e = refl
 none_there os ps r (suc n) e = none_at os ps r n e

@@ -37,6 +37,7 @@ use Rattle.jc_card.specs.Install.{HasNumber, Refused, failure_of, installed, suc
 use Rattle.jc_card.specs.Parts.{Ended}
 use Rattle.jc_card.specs.PrivateWords.{IsInstallPlace, install_words}
 use Rattle.jc_card.specs.Reads.{CardWords, Holds, ReadsInstalled}
+use Rattle.jc_card.specs.declared.fault.Failure.{Failure}
 use Rattle.jc_card.specs.declared.fault.InstallFault.TheVariants.{InstallFailed}
 use Rattle.jc_card.specs.declared.places.AppletPlace.{AppletPlace}
 
@@ -234,8 +235,8 @@ settled_well c owner e ok done is =
     (failure_of c e))))) (sym done ∙ is) refl
 
 pub settled_badly : (c : CardState) (owner : Owner) (e : Ended) (ok : Bool) → ok ≡ false → ok ≡ succeeds c e
-    → (status : ℕ) → status ≡ failure_of c e
-    → ReadsInstalled (Err (InstallFailed status)) (installed c owner e)
-settled_badly c owner e ok failed is status status_is =
-    subst (λ (b : Bool). ReadsInstalled (Err (InstallFailed status)) (cond b (HasNumber owner.instance) (Refused
-    (InstallFailed (failure_of c e))))) (sym failed ∙ is) (ap InstallFailed status_is)
+    → (failure : Failure) → failure ≡ failure_of c e
+    → ReadsInstalled (Err (InstallFailed failure)) (installed c owner e)
+settled_badly c owner e ok failed is failure failure_is =
+    subst (λ (b : Bool). ReadsInstalled (Err (InstallFailed failure)) (cond b (HasNumber owner.instance) (Refused
+    (InstallFailed (failure_of c e))))) (sym failed ∙ is) (ap InstallFailed failure_is)

@@ -1,5 +1,6 @@
 -- Where the accesses of a call of the runtime's lead.
-use Rattle.std.proofs.Common.{◌≡◌, ℕ, zero, suc, ◌+◌, List, [], ◌++◌, length, Option, Some, None, Bool, true, false}
+use Rattle.std.proofs.Common.{◌≡◌, ℕ, zero, suc, ◌+◌, List, [], ◌∷◌, ◌++◌, length}
+use Rattle.std.proofs.Common.{Option, Some, None, Bool, true, false}
 use Rattle.std.proofs.Common.{cond, refl, ap, ◌∙◌, ◌&&◌, IfSome}
 use Rattle.jc_cap_desc.specs.Shape.{Shape}
 use Rattle.jc_link.specs.Built.{IsBuilt}
@@ -24,8 +25,11 @@ use Rattle.jc_machine.specs.Machine.{NativeEnd, Next, Outcome, Stuck, Surroundin
 use Rattle.jc_machine.specs.Natives.{AreNativesGuarded, IsGuardedAnswer, KeepsObjects}
 use Rattle.jc_machine.specs.Step.{Called, CallEnd, Gave, RanOut, Start, Threw, WasStuck, after_first_native, begun}
 use Rattle.jc_machine.specs.Step.{begun_by, called_so_far, continued, defensive_step, ended_by, first_answer, may_begin}
-use Rattle.jc_machine.specs.Step.{native_called, native_ended, native_started, no_frame}
+use Rattle.jc_machine.specs.Step.{native_called, native_ended, native_started, no_frame, point_of, room_lacking}
 use Rattle.jc_machine.specs.Step.{runtime_call, standing, started, started_by, steps_of, first_native_call}
+use Rattle.jc_machine.specs.declared.stop.Budget.{Budget}
+use Rattle.jc_machine.specs.declared.stop.Budget.TheVariants as budgets
+use Rattle.jc_machine.specs.declared.stop.CodePoint.{CodePoint}
 use Rattle.jc_names.specs.declared.name.ClassName.{ClassName}
 use Rattle.jc_names.specs.declared.name.MethodName.{MethodName}
 use Rattle.jc_names.specs.declared.name.MethodName.TheVariants.{Api, Loaded}
@@ -82,8 +86,8 @@ module _ (laws : StepsGuarded) (c : CardState) (selected : Option ℕ) where
 
   abbrev led_end : Type 0 → Heap TaggedValue → List Touch → CallEnd Kept → Type 0
   led_end P heap touches (Gave m value) = AreLed P heap touches m
-  led_end P heap touches (Threw m object) = AreLed P heap touches m
-  led_end P heap touches (RanOut m) = AreLed P heap touches m
+  led_end P heap touches (Threw m object at) = AreLed P heap touches m
+  led_end P heap touches (RanOut m spent at) = AreLed P heap touches m
   led_end P heap touches WasStuck = Unit {0}
 
   abbrev leads_to : Type 0 → Heap TaggedValue → Called Kept → Type 0
@@ -108,8 +112,8 @@ module _ (laws : StepsGuarded) (c : CardState) (selected : Option ℕ) where
     end_joined : (more : List Touch) (ends : CallEnd Kept) → led_end (IsFit between) between.heap more ends
         → led_end P heap (touches ++ more) ends
     end_joined more (Gave m value) next = led_on more m next
-    end_joined more (Threw m object) next = led_on more m next
-    end_joined more (RanOut m) next = led_on more m next
+    end_joined more (Threw m object at) next = led_on more m next
+    end_joined more (RanOut m spent at) next = led_on more m next
     end_joined more WasStuck next = tt
 
   -- of what holds before, less may be known
@@ -126,26 +130,26 @@ module _ (laws : StepsGuarded) (c : CardState) (selected : Option ℕ) where
 
       by_end : (touches : List Touch) (ends : CallEnd Kept) → led_end P heap touches ends → led_end Q heap touches ends
       by_end touches (Gave m value) h = led_less touches m h
-      by_end touches (Threw m object) h = led_less touches m h
-      by_end touches (RanOut m) h = led_less touches m h
+      by_end touches (Threw m object at) h = led_less touches m h
+      by_end touches (RanOut m spent at) h = led_less touches m h
       by_end touches WasStuck h = tt
 
   -- ---- steps
 
-  continued_leads : (P : Type 0) (go : Machine Kept → Called Kept) (heap : Heap TaggedValue) (touches : List Touch)
-      (outcome : Outcome Kept)
+  continued_leads : (P : Type 0) (lacking : Budget) (at : Option CodePoint) (go : Machine Kept → Called Kept)
+      (heap : Heap TaggedValue) (touches : List Touch) (outcome : Outcome Kept)
       → ((after : Machine Kept) → machine_of outcome ≡ Some after → AreLed P heap touches after)
       → ((m : Machine Kept) → leads_to (IsFit m) m.heap (go m))
-      → leads_to P heap (called_so_far touches (continued go outcome))
-  continued_leads P go heap touches (Next m) first each =
+      → leads_to P heap (called_so_far touches (continued lacking at go outcome))
+  continued_leads P lacking at go heap touches (Next m) first each =
       end_joined P heap m touches (first m refl) (go m).touches (go m).ends (each m)
-  continued_leads P go heap touches (Throws m object) first each =
-      end_joined P heap m touches (first m refl) [] (Threw m object) (stays (IsFit m) m (λ p. p))
-  continued_leads P go heap touches (Ends m value) first each =
+  continued_leads P lacking at go heap touches (Throws m object) first each =
+      end_joined P heap m touches (first m refl) [] (Threw m object at) (stays (IsFit m) m (λ p. p))
+  continued_leads P lacking at go heap touches (Ends m value) first each =
       end_joined P heap m touches (first m refl) [] (Gave m value) (stays (IsFit m) m (λ p. p))
-  continued_leads P go heap touches (UsedUp m) first each =
-      end_joined P heap m touches (first m refl) [] (RanOut m) (stays (IsFit m) m (λ p. p))
-  continued_leads P go heap touches Stuck first each = tt
+  continued_leads P lacking at go heap touches (UsedUp m) first each =
+      end_joined P heap m touches (first m refl) [] (RanOut m lacking at) (stays (IsFit m) m (λ p. p))
+  continued_leads P lacking at go heap touches Stuck first each = tt
 
   step_leads : (m after : Machine Kept) → machine_of (defensive_step s m).outcome ≡ Some after
       → AreLed (IsFit m) m.heap (defensive_step s m).touches after
@@ -165,8 +169,8 @@ module _ (laws : StepsGuarded) (c : CardState) (selected : Option ℕ) where
   unfolding steps_of
   steps_lead zero m = stays (IsFit m) m (λ p. p)
   steps_lead (suc n) m =
-      continued_leads (IsFit m) (steps_of s n) m.heap (defensive_step s m).touches (defensive_step s m).outcome
-      (step_leads m) (steps_lead n)
+      continued_leads (IsFit m) (room_lacking s (m.top ∷ m.waiting)) (Some (point_of m.top)) (steps_of s n) m.heap
+      (defensive_step s m).touches (defensive_step s m).outcome (step_leads m) (steps_lead n)
 
   -- ---- the first frame
 
@@ -195,7 +199,7 @@ module _ (laws : StepsGuarded) (c : CardState) (selected : Option ℕ) where
       };
     }
 
-    ran_out : from (ended_by (RanOut (standing start (no_frame start.owner))))
+    ran_out : from (ended_by (RanOut (standing start (no_frame start.owner)) budgets.Steps None))
     ran_out =
         stays IsFitStart (standing start (no_frame start.owner)) (standing_fit (no_frame start.owner) refl)
 
@@ -203,7 +207,7 @@ module _ (laws : StepsGuarded) (c : CardState) (selected : Option ℕ) where
     begun_leads steps place header =
         let f = frame_of place header start.arguments start.owner None in
         either (has_room s [] (length f.locals + header.max_stack)) (steps_of s steps (standing start f))
-        (ended_by (RanOut (standing start f)))
+        (ended_by (RanOut (standing start f) (room_lacking s []) None))
         (less_known (IsFit (standing start f)) IsFitStart start.heap (steps_of s steps (standing start f))
         (standing_fit f refl) (steps_lead steps (standing start f)))
         (stays IsFitStart (standing start f) (standing_fit f refl))
@@ -230,7 +234,7 @@ module _ (laws : StepsGuarded) (c : CardState) (selected : Option ℕ) where
 
     threw_leads : (touches : List Touch) (m : Machine Kept) (object : ℕ) (b : Bool)
         → AreLed IsFitStart start.heap touches m
-        → led_end IsFitStart start.heap touches (cond b (Threw m object) WasStuck)
+        → led_end IsFitStart start.heap touches (cond b (Threw m object None) WasStuck)
     threw_leads touches m object true h = h
     threw_leads touches m object false h = tt
 
@@ -334,8 +338,8 @@ module _ (laws : StepsGuarded) (c : CardState) (selected : Option ℕ) where
     ended_part : (touches : List Touch) (ends : CallEnd Kept) → led_end Started c.heap touches ends
         → IfSome (ended_call c touches ends) (IsPart c)
     ended_part touches (Gave m value) h = left_apart touches m (Normally value) h
-    ended_part touches (Threw m object) h = left_apart touches m (Uncaught object) h
-    ended_part touches (RanOut m) h = left_apart touches m OutOfBudget h
+    ended_part touches (Threw m object at) h = left_apart touches m (Uncaught object at) h
+    ended_part touches (RanOut m spent at) h = left_apart touches m (OutOfBudget spent at) h
     ended_part touches WasStuck h = tt
 
     pub call_part : IfSome (ended c (runtime_call s c.steps (start_of owner method arguments))) (IsPart c)

@@ -12,6 +12,7 @@ mod Owners
 mod Counting
 mod Loading
 mod Ends
+mod Causing
 mod Written
 mod Keeping
 mod Finding

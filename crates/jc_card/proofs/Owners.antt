@@ -125,8 +125,8 @@ SameNumbers c done = IfSome done (λ l. l.card.numbers ≡ c.numbers)
 ended_numbers : (c : CardState) (touches : List Touch) (ends : CallEnd Kept)
     → SameNumbers c (ended_call c touches ends)
 ended_numbers c touches (Gave m value) = refl
-ended_numbers c touches (Threw m object) = refl
-ended_numbers c touches (RanOut m) = refl
+ended_numbers c touches (Threw m object at) = refl
+ended_numbers c touches (RanOut m spent at) = refl
 ended_numbers c touches WasStuck = tt
 
 call_numbers : (c : CardState) (called : Called Kept) → SameNumbers c (ended c called)

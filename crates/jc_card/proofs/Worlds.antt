@@ -41,8 +41,8 @@ stays_then c (Some l) next s each = stays_behind c l.card l.touches (next l.card
 
 call_stays : (c : CardState) (touches : List Touch) (e : CallEnd Kept) → StaysIn c (ended_call c touches e)
 call_stays c touches (Gave m value) = record { world = refl; numbers = refl }
-call_stays c touches (Threw m object) = record { world = refl; numbers = refl }
-call_stays c touches (RanOut m) = record { world = refl; numbers = refl }
+call_stays c touches (Threw m object at) = record { world = refl; numbers = refl }
+call_stays c touches (RanOut m spent at) = record { world = refl; numbers = refl }
 call_stays c touches WasStuck = tt
 
 method_stays : (c : CardState) (i : Instance) (call : AppletCall) (o : Option MethodName)

@@ -15,25 +15,24 @@ use Rattle.jc_store.specs.declared.kind.ClearingEvent.TheVariants.{Deselect, Res
 use Rattle.jc_names.specs.declared.owner.Owner.{Owner}
 use Rattle.jc_words.specs.Values.{TaggedValue, Word}
 use Rattle.jc_card.specs.Card.{CardState, selected_instance, with_kept, with_selected}
+use Rattle.jc_card.specs.Causes.{cause_of, reason_of}
+use Rattle.jc_card.specs.declared.cause.Cause.{Cause}
 use Rattle.jc_card.specs.declared.calls.AppletCall.TheVariants.{Select, Deselect, Process}
 use Rattle.jc_card.specs.Command.{Command, buffer_of, command_of, is_select, normal, not_selected, unknown_error}
 use Rattle.jc_card.specs.Command.{wrong_length}
 use Rattle.jc_card.specs.Parts.{Ended, Left, Normally, OutOfBudget, Uncaught, and_then, call_selected, clear, gives}
 use Rattle.jc_card.specs.Parts.{write}
 
--- the data and the status of an answer
+-- the data and the status of an answer, and why its call of an applet, if there was one, didn't end by itself
 pub record Response : Type 0 where
   pub sent : List ℕ
   pub status : ℕ
+  pub cause : Option Cause
 
 abbrev pub status_alone : ℕ → Response
-status_alone status = record { sent = []; status = status }
+status_alone status = record { sent = []; status = status; cause = None }
 
 -- ---- how a call that ended is answered
-
--- the reason of an exception stands in its first component
-abbrev pub reason_of : Object TaggedValue → ℕ
-reason_of object = bits (get_or object.cells 0 (Word 0))
 
 -- an ISOException, or one of a subclass, that nothing caught says the status; of anything else there is no diagnosis
 abbrev pub status_of_thrown : CardState → Object TaggedValue → ℕ
@@ -42,8 +41,8 @@ status_of_thrown c object =
 
 abbrev pub status_of : CardState → Ended → ℕ
 status_of c (Normally value) = normal
-status_of c (Uncaught number) = option_map_or (status_of_thrown c) (object_at c.heap number) unknown_error
-status_of c OutOfBudget = unknown_error
+status_of c (Uncaught number at) = option_map_or (status_of_thrown c) (object_at c.heap number) unknown_error
+status_of c (OutOfBudget spent at) = unknown_error
 
 -- ---- selection
 
@@ -60,8 +59,8 @@ deselect c = and_then (call_selected c Deselect) (λ c ended. unselect c)
 -- an applet agrees to be selected where its select method gives a word that isn't 0
 abbrev pub agrees : Ended → Bool
 agrees (Normally value) = option_map_or (λ v. not (bits v == 0)) value false
-agrees (Uncaught object) = false
-agrees OutOfBudget = false
+agrees (Uncaught object at) = false
+agrees (OutOfBudget spent at) = false
 
 -- ---- the command is before the applet that is selected
 
@@ -69,7 +68,7 @@ agrees OutOfBudget = false
 abbrev pub answered : CardState → Ended → Option (Left Response)
 answered c ended =
     let after = with_kept c (without_command c.kept) in
-    gives after (record { sent = after.kept.sent; status = status_of after ended })
+    gives after (record { sent = after.kept.sent; status = status_of after ended; cause = cause_of after ended })
 
 abbrev pub process : CardState → Command → Bool → Option (Left Response)
 process c k selecting =

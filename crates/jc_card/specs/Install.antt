@@ -17,6 +17,8 @@ use Rattle.jc_card.specs.Command.{unknown_error}
 use Rattle.jc_card.specs.Commands.{deselect, status_of_thrown}
 use Rattle.jc_card.specs.Parts.{Ended, Left, Normally, OutOfBudget, Uncaught, and_then, call_method, clear, gives}
 use Rattle.jc_card.specs.Parts.{write}
+use Rattle.jc_card.specs.Causes.{failure_cause}
+use Rattle.jc_card.specs.declared.fault.Failure.{Failure}
 use Rattle.jc_card.specs.declared.fault.InstallFault.{InstallFault}
 use Rattle.jc_card.specs.declared.fault.InstallFault.TheVariants as faults
 use Rattle.jc_card.specs.declared.places.AppletPlace.{AppletPlace}
@@ -78,14 +80,18 @@ pub data Installed : Type 0 where
 -- the method ended, and the instance registered
 abbrev pub succeeds : CardState → Ended → Bool
 succeeds c (Normally value) = has_registered c.kept
-succeeds c (Uncaught object) = false
-succeeds c OutOfBudget = false
+succeeds c (Uncaught object at) = false
+succeeds c (OutOfBudget spent at) = false
 
 -- the status of one that failed: that of an ISOException which nothing caught, if it was one
-abbrev pub failure_of : CardState → Ended → ℕ
-failure_of c (Normally value) = unknown_error
-failure_of c (Uncaught number) = option_map_or (status_of_thrown c) (object_at c.heap number) unknown_error
-failure_of c OutOfBudget = unknown_error
+abbrev pub failure_status : CardState → Ended → ℕ
+failure_status c (Normally value) = unknown_error
+failure_status c (Uncaught number at) = option_map_or (status_of_thrown c) (object_at c.heap number) unknown_error
+failure_status c (OutOfBudget spent at) = unknown_error
+
+-- and why it failed
+abbrev pub failure_of : CardState → Ended → Failure
+failure_of c ended = record { status = failure_status c ended; cause = failure_cause c ended }
 
 abbrev pub installed : CardState → Owner → Ended → Installed
 installed c owner ended =

@@ -1,5 +1,6 @@
 pub mod Card
 pub mod Parts
+pub mod Causes
 pub mod Command
 pub mod Commands
 pub mod Install

@@ -5,6 +5,8 @@ use Rattle.std.specs.Option.{option_and_then, option_map, option_map_or}
 use Rattle.jc_machine.specs.Machine.{Touch}
 use Rattle.jc_machine.specs.Runtime.{apdu_object}
 use Rattle.jc_machine.specs.Step.{Called, CallEnd, Gave, RanOut, Threw, WasStuck, runtime_call}
+use Rattle.jc_machine.specs.declared.stop.Budget.{Budget}
+use Rattle.jc_machine.specs.declared.stop.CodePoint.{CodePoint}
 use Rattle.jc_names.specs.declared.name.MethodName.{MethodName}
 use Rattle.jc_names.specs.declared.owner.Owner.{Owner}
 use Rattle.jc_natives.specs.Cells.{put_all}
@@ -43,16 +45,19 @@ and_then (Some l) next = option_map (behind l.touches) (next l.card l.value)
 
 -- ---- calls
 
--- how a call of the runtime's ends for it
+-- how a call of the runtime's ends for it: what nothing caught, and where it was thrown; what is spent, and where a
+-- frame stood
 pub data Ended : Type 0 where
   Normally : (value : Option TaggedValue) → Ended
-  Uncaught : (object : ℕ) → Ended
-  OutOfBudget : Ended
+  Uncaught : (object : ℕ) (at : Option CodePoint) → Ended
+  OutOfBudget : (spent : Budget) (at : Option CodePoint) → Ended
 
 abbrev pub ended_call : CardState → List Touch → CallEnd Kept → Option (Left Ended)
 ended_call c touches (Gave m value) = Some (record { touches = touches; card = left_by c m; value = Normally value })
-ended_call c touches (Threw m object) = Some (record { touches = touches; card = left_by c m; value = Uncaught object })
-ended_call c touches (RanOut m) = Some (record { touches = touches; card = left_by c m; value = OutOfBudget })
+ended_call c touches (Threw m object at) =
+    Some (record { touches = touches; card = left_by c m; value = Uncaught object at })
+ended_call c touches (RanOut m spent at) =
+    Some (record { touches = touches; card = left_by c m; value = OutOfBudget spent at })
 ended_call c touches WasStuck = None
 
 abbrev pub ended : CardState → Called Kept → Option (Left Ended)

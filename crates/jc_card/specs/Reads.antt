@@ -84,23 +84,24 @@ pub record GaveSo (word : Option ℕ) (value : Option TaggedValue) : Type 0 wher
 
 abbrev pub ReadsEnded : RunEnd → Ended → Type 0
 ReadsEnded (Gave word) (Normally value) = GaveSo word value
-ReadsEnded (Threw object) (Uncaught number) = object ≡ number
-ReadsEnded RanOut OutOfBudget = ⊤
-ReadsEnded (Gave word) (Uncaught number) = ⊥
-ReadsEnded (Gave word) OutOfBudget = ⊥
-ReadsEnded (Threw object) (Normally value) = ⊥
-ReadsEnded (Threw object) OutOfBudget = ⊥
-ReadsEnded RanOut (Normally value) = ⊥
-ReadsEnded RanOut (Uncaught number) = ⊥
+ReadsEnded (Threw object point) (Uncaught number at) = (object ≡ number) × (point ≡ at)
+ReadsEnded (RanOut budget point) (OutOfBudget spent at) = (budget ≡ spent) × (point ≡ at)
+ReadsEnded (Gave word) (Uncaught number at) = ⊥
+ReadsEnded (Gave word) (OutOfBudget spent at) = ⊥
+ReadsEnded (Threw object point) (Normally value) = ⊥
+ReadsEnded (Threw object point) (OutOfBudget spent at) = ⊥
+ReadsEnded (RanOut budget point) (Normally value) = ⊥
+ReadsEnded (RanOut budget point) (Uncaught number at) = ⊥
 
 -- nothing is
 abbrev pub GivesNothing : Unit {0} → Type 0
 GivesNothing u = ⊤
 
--- an answer's data and status
+-- an answer's data and status, and why its call didn't end by itself
 pub record ReadsResponse (answer : Answer) (response : Response) : Type 0 where
   pub sent : answer.sent.items ≡ response.sent
   pub status : answer.status ≡ response.status
+  pub cause : answer.cause ≡ response.cause
 
 -- ---- loading
 

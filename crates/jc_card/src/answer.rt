@@ -4,6 +4,7 @@ ghost use Rattle.std.specs.Prelude.{◌≡◌};
 ghost use Rattle.jc_card.specs.Commands.{status_alone};
 ghost use Rattle.jc_card.specs.Reads.{ReadsResponse};
 
+use crate::cause::Cause;
 use arrayvec::ArrayVec;
 
 /// The most bytes of data in an answer.
@@ -16,6 +17,8 @@ pub struct Answer {
     pub sent: ArrayVec<u8, MOST_SENT>,
     /// The status word.
     pub status: u16,
+    /// Why the call of the applet didn't end by itself, if there was one and it didn't.
+    pub cause: Option<Cause>,
 }
 
 impl Answer {
@@ -26,6 +29,7 @@ impl Answer {
         Answer {
             sent: ArrayVec::new(),
             status,
+            cause: None,
         }
     }
 }

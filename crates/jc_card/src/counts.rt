@@ -8,6 +8,20 @@ ghost use Rattle.jc_store.specs.Heap.{cells_in};
 use crate::card::Card;
 
 impl Card {
+    /// How many objects there may be.
+    pub fn most_objects(&self) -> u16
+        ensures { (c : CardState) → Holds self.now c → result ≡ c.limits.objects }
+    {
+        self.most_objects
+    }
+
+    /// How many cells they may take.
+    pub fn most_cells(&self) -> u16
+        ensures { (c : CardState) → Holds self.now c → result ≡ c.limits.cells }
+    {
+        self.most_cells
+    }
+
     /// How many objects there are, the runtime's own among them.
     pub fn objects_used(&self) -> u16
         ensures { (c : CardState) → Holds self.now c → result ≡ length c.heap }

@@ -2,6 +2,7 @@
 
 ghost use Rattle.std.specs.Prelude.{◌≡◌, ◌≤◌, length};
 ghost use Rattle.jc_card.specs.Card.{CardState, with_kept};
+ghost use Rattle.jc_card.specs.Causes.{cause_of};
 ghost use Rattle.jc_card.specs.Commands.{Response, status_of};
 ghost use Rattle.jc_card.specs.Parts.{Ended, gives};
 ghost use Rattle.jc_card.specs.Reads.{Does, GivesNothing, Holds, ReadsEnded, ReadsResponse};
@@ -34,16 +35,21 @@ impl Card {
         self.runtime.close();
     }
 
-    // The answer to it: what was sent, and the status of how the process call ended.
+    // The answer to it: what was sent, the status of how the process call ended, and why, if not by itself.
     pub(crate) fn answer(&self, ended: RunEnd) -> Answer
         ensures { (c : CardState) (e : Ended) → Holds self.now c → ReadsEnded ended e
-            → ReadsResponse result (record { sent = c.kept.sent; status = status_of c e }) }
+            → ReadsResponse result (record {
+              sent = c.kept.sent;
+              status = status_of c e;
+              cause = cause_of c e;
+            }) }
     {
         let mut sent = ArrayVec::new();
         let _fits = sent.try_extend_from_slice(self.runtime.sent());
         Answer {
             sent,
             status: self.status_of(ended),
+            cause: self.cause_of(ended),
         }
     }
 }

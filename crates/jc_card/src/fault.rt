@@ -2,7 +2,9 @@
 
 ghost use Rattle.std.specs.Prelude.{◌≡◌};
 
+use crate::cause::Cause;
 use std::alloc::AllocError;
+use std::fmt;
 use thiserror::Error;
 
 /// Why an applet isn't installed. Of several refusals that apply the one with the smallest number is told.
@@ -20,10 +22,24 @@ pub enum InstallFault {
     /// All 32 instance numbers are used.
     #[error("23 NoInstance")]
     NoInstance,
-    /// The install method ended with an exception, used its budget up, or registered no instance. The status says
-    /// which: the reason of an ISOException, or 6F00.
-    #[error("24 InstallFailed {0:04X}")]
-    InstallFailed(u16),
+    /// The install method ended with an exception, used its budget up, or registered no instance.
+    #[error("24 InstallFailed {0}")]
+    InstallFailed(Failure),
+}
+
+/// How an install failed.
+#[derive(Clone, Copy, Debug, PartialEq, Eq)]
+pub struct Failure {
+    /// The status: the reason of an ISOException that nothing caught, or 6F00.
+    pub status: u16,
+    /// Why the install method didn't end as it should.
+    pub cause: Option<Cause>,
+}
+
+impl fmt::Display for Failure {
+    fn fmt<W: fmt::Write>(&self, f: &mut fmt::Formatter<W>) -> fmt::Result {
+        write!(f, "{:04X}", self.status)
+    }
 }
 
 /// Why there is no card.

@@ -4,7 +4,7 @@
 ghost use Rattle.std.specs.Prelude.{◌≡◌, ◌<◌, ◌≤◌, suc, IfNone, IfSome, Some, length};
 ghost use Rattle.jc_card.specs.Accesses.{IsGuardedCommand};
 ghost use Rattle.jc_card.specs.Card.{CardState, with_kept};
-ghost use Rattle.jc_card.specs.Install.{accepted, begin, call_install, failure_of, install_as};
+ghost use Rattle.jc_card.specs.Install.{accepted, begin, call_install, failure_of, failure_status, install_as};
 ghost use Rattle.jc_card.specs.Install.{install_command, install_size, most_data, padded, parameters_of};
 ghost use Rattle.jc_card.specs.Install.{refusal_of, settle, succeeds};
 ghost use Rattle.jc_card.specs.Parts.{Ended, gives};
@@ -17,7 +17,7 @@ ghost use Rattle.jc_natives.specs.Kept.{after_install, with_install};
 
 use crate::accesses::commands_are_guarded;
 use crate::card::Card;
-use crate::fault::InstallFault;
+use crate::fault::{Failure, InstallFault};
 use crate::laws::aids_are_fit;
 use crate::places::{AppletPlace, applet_of};
 use crate::status::UNKNOWN_ERROR;
@@ -149,17 +149,27 @@ impl Card {
     {
         match ended {
             RunEnd::Gave(_) => self.runtime.has_registered(),
-            RunEnd::Threw(_) | RunEnd::RanOut => false,
+            RunEnd::Threw { .. } | RunEnd::RanOut { .. } => false,
         }
     }
 
     // The status of an install that failed.
-    fn failure_of(&self, ended: RunEnd) -> u16
-        ensures { (c : CardState) (e : Ended) → Holds self.now c → ReadsEnded ended e → result ≡ failure_of c e }
+    fn failure_status(&self, ended: RunEnd) -> u16
+        ensures { (c : CardState) (e : Ended) → Holds self.now c → ReadsEnded ended e → result ≡ failure_status c e }
     {
         match ended {
-            RunEnd::Threw(object) => self.status_of_thrown(object),
-            RunEnd::Gave(_) | RunEnd::RanOut => UNKNOWN_ERROR,
+            RunEnd::Threw { object, .. } => self.status_of_thrown(object),
+            RunEnd::Gave(_) | RunEnd::RanOut { .. } => UNKNOWN_ERROR,
+        }
+    }
+
+    // And why it failed.
+    fn failure_of(&self, ended: RunEnd) -> Failure
+        ensures { (c : CardState) (e : Ended) → Holds self.now c → ReadsEnded ended e → result ≡ failure_of c e }
+    {
+        Failure {
+            status: self.failure_status(ended),
+            cause: self.failure_cause(ended),
         }
     }
 

@@ -5,7 +5,8 @@ ghost use Rattle.std.specs.Option.{option_map_or};
 ghost use Rattle.jc_api.specs.declared.class.ApiClass.TheVariants.{IsoException};
 ghost use Rattle.jc_card.specs.Card.{CardState};
 ghost use Rattle.jc_card.specs.Command.{unknown_error};
-ghost use Rattle.jc_card.specs.Commands.{agrees, reason_of, status_of, status_of_thrown};
+ghost use Rattle.jc_card.specs.Causes.{reason_of};
+ghost use Rattle.jc_card.specs.Commands.{agrees, status_of, status_of_thrown};
 ghost use Rattle.jc_card.specs.Parts.{Ended};
 ghost use Rattle.jc_card.specs.Reads.{Holds, ReadsEnded};
 ghost use Rattle.jc_machine.specs.Lookup.{is_of_class};
@@ -42,7 +43,7 @@ pub(crate) fn agrees(ended: RunEnd) -> bool
 {
     match ended {
         RunEnd::Gave(Some(word)) => word != 0,
-        RunEnd::Gave(None) | RunEnd::Threw(_) | RunEnd::RanOut => false,
+        RunEnd::Gave(None) | RunEnd::Threw { .. } | RunEnd::RanOut { .. } => false,
     }
 }
 
@@ -76,7 +77,7 @@ impl Card {
     }
 
     // The reason of an exception, which stands in its first component.
-    fn reason_of(&self, object: u16) -> u16
+    pub(crate) fn reason_of(&self, object: u16) -> u16
         ensures { (c : CardState) (thrown : Object TaggedValue) → Holds self.now c
             → object_at c.heap object ≡ Some thrown → result ≡ reason_of thrown }
     {
@@ -104,8 +105,8 @@ impl Card {
     {
         match ended {
             RunEnd::Gave(_) => NORMAL,
-            RunEnd::Threw(object) => self.status_of_thrown(object),
-            RunEnd::RanOut => UNKNOWN_ERROR,
+            RunEnd::Threw { object, .. } => self.status_of_thrown(object),
+            RunEnd::RanOut { .. } => UNKNOWN_ERROR,
         }
     }
 }

@@ -1,7 +1,7 @@
 //! The frames of the methods that run.
 
 ghost use Rattle.std.specs.Prelude.{◌≡◌, ◌+◌, ◌≤◌, ℕ, List, true, false, [], ◌∷◌, Some, None};
-ghost use Rattle.std.specs.Prelude.{length, take, drop, reverse, slice_get, slice_range, IfOk};
+ghost use Rattle.std.specs.Prelude.{length, nat_le, take, drop, reverse, slice_get, slice_range, IfOk};
 ghost use Rattle.std.specs.Borrow.{sem};
 ghost use Rattle.jc_frames.specs.Frames.{Frame, HasOperands, HasTop, IsFull, IsPushed, with_frames, with_header};
 ghost use Rattle.jc_frames.specs.Frames.{with_locals, with_locals_left, with_operands, with_operands_left};
@@ -78,6 +78,14 @@ impl Frames {
         ensures { result ≡ length self.now.frames }
     {
         self.places.len() as u8
+    }
+
+    /// Whether there are as many as there may be.
+    #[inline]
+    pub fn are_most(&self) -> bool
+        ensures { result ≡ nat_le self.now.most_frames (length self.now.frames) }
+    {
+        usize::from(self.most_frames) <= self.places.len()
     }
 
     /// What is known of the top frame.

@@ -20,6 +20,7 @@ use Rattle.jc_interp.specs.declared.entering.Owners.{Owners}
 use Rattle.jc_interp.specs.declared.machine.WordMachine.{WordMachine}
 use Rattle.jc_machine.specs.declared.natives.WordOutcome.{WordOutcome}
 use Rattle.jc_machine.specs.declared.natives.WordOutcome.TheVariants.{CallsBack, Returned, Thrown}
+use Rattle.jc_machine.specs.declared.stop.Budget.TheVariants.{Steps}
 
 -- the same machine with no frame
 abbrev pub without_frames : WordMachine → WordMachine
@@ -39,8 +40,8 @@ EntersFirst p number call u d = (m : LoadedMethod) → slice_get p.methods numbe
 -- how a native member ends a call. It makes none itself
 abbrev pub first_end : WordOutcome → RunEnd
 first_end (Returned value) = runs.Gave value
-first_end (Thrown object) = runs.Threw object
-first_end (CallsBack callback) = runs.RanOut
+first_end (Thrown object) = runs.Threw object None
+first_end (CallsBack callback) = runs.RanOut Steps None
 
 -- what an object's class has at a token
 abbrev pub called_on : Program → Store → ℕ → ℕ → Option Called

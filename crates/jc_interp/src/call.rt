@@ -14,7 +14,7 @@ use crate::seen::look_at;
 use crate::step::tables_are_known;
 use jc_link::World;
 use jc_loaded::{Called, ClassNumber, MethodNumber, Program};
-use jc_machine::{Natives, WordCall, WordOutcome};
+use jc_machine::{Budget, Natives, WordCall, WordOutcome};
 use jc_names::Owner;
 use jc_safety::accepted_packages_are_type_safe;
 use jc_store::Store;
@@ -30,14 +30,20 @@ pub struct FirstCall<'a> {
     pub arguments: &'a [u16],
 }
 
+/// A call has no step left before its first frame.
+const NO_STEP: RunEnd = RunEnd::RanOut {
+    spent: Budget::Steps,
+    at: None,
+};
+
 /// How a native member ends a call that began with it. It makes no call itself.
 fn native_end(outcome: WordOutcome) -> RunEnd
     ensures { result ≡ first_end outcome }
 {
     match outcome {
         WordOutcome::Returned(value) => RunEnd::Gave(value),
-        WordOutcome::Thrown(object) => RunEnd::Threw(object),
-        WordOutcome::CallsBack(_) => RunEnd::RanOut,
+        WordOutcome::Thrown(object) => RunEnd::Threw { object, at: None },
+        WordOutcome::CallsBack(_) => NO_STEP,
     }
 }
 
@@ -125,7 +131,10 @@ impl WordMachine {
         accepted_packages_are_type_safe(natives);
         match self.enter_first(program, number, call) {
             StepEnd::GoesOn => self.run(natives, world, program, selected, steps),
-            StepEnd::Throws(_) | StepEnd::Gives(_) | StepEnd::UsedUp => RunEnd::RanOut,
+            StepEnd::Throws(_) | StepEnd::Gives(_) | StepEnd::UsedUp => RunEnd::RanOut {
+                spent: self.lacking(),
+                at: None,
+            },
         }
     }
 
@@ -149,7 +158,7 @@ impl WordMachine {
         natives.law();
         accepted_packages_are_type_safe(natives);
         if steps == 0 {
-            return RunEnd::RanOut;
+            return NO_STEP;
         }
         let native_call = WordCall {
             member,
@@ -185,7 +194,7 @@ impl WordMachine {
             Called::NativeMethod { member } => {
                 self.call_api(natives, world, program, selected, steps, call, member)
             }
-            Called::Nothing => RunEnd::RanOut,
+            Called::Nothing => NO_STEP,
         }
     }
 

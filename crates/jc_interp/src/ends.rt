@@ -1,5 +1,7 @@
 //! What a step comes to.
 
+use jc_machine::{Budget, CodePoint};
+
 /// What a step comes to.
 #[derive(Clone, Copy, Debug, PartialEq, Eq)]
 pub enum StepEnd {
@@ -16,12 +18,19 @@ pub enum StepEnd {
 /// How a call ends.
 #[derive(Clone, Copy, Debug, PartialEq, Eq)]
 pub enum RunEnd {
-    /// The object with this number was thrown, and no frame caught it.
-    Threw(u16),
+    /// The object with this number was thrown, and no frame caught it. It was thrown at a point of a loaded package's
+    /// code, or by a native member that the runtime itself called.
+    Threw {
+        object: u16,
+        at: Option<CodePoint>,
+    },
     /// The first frame's method gave a word, or nothing.
     Gave(Option<u16>),
-    /// The call was used up: a frame had no room, or the steps were spent.
-    RanOut,
+    /// The call was used up: what was spent, and where the top frame stood, if there was one.
+    RanOut {
+        spent: Budget,
+        at: Option<CodePoint>,
+    },
 }
 
 /// The runtime's own exceptions, by their objects.

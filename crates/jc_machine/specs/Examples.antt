@@ -117,8 +117,8 @@ pub data End : Type 0 where
 
 abbrev pub end_of : CallEnd (Unit {0}) → End
 end_of (Gave m value) = a_value value
-end_of (Threw m object) = an_object object
-end_of (RanOut m) = used_up
+end_of (Threw m object at) = an_object object
+end_of (RanOut m spent at) = used_up
 end_of WasStuck = stuck
 
 -- what is shown of a call: its accesses, and its end

@@ -6,6 +6,7 @@ mod idle;
 mod laws;
 mod member;
 mod natives;
+mod stop;
 
 pub use examples::{
     callback_runs, calls_run, first_frames_are_typed, install_runs, natives_run,
@@ -18,3 +19,4 @@ pub use laws::{
     steps_stay_apart,
 };
 pub use natives::{MOST_ARGUMENTS, Natives, WordCall, WordCallback, WordOutcome};
+pub use stop::{Budget, CodePoint};

@@ -61,7 +61,8 @@ install_done images certificates c command applet instance incoming answer after
 
 pub says_response : (answer : Answer) (response : Response) → ReadsResponse answer response
     → Responds (shown_response answer) ≡ Responds response
-says_response answer response h = λ i. Responds (record { sent = h.sent i; status = h.status i })
+says_response answer response h =
+    λ i. Responds (record { sent = h.sent i; status = h.status i; cause = h.cause i })
 
 pub apdu_done : (images certificates : List ℕ → List ℕ → Type 0) (c : CardState) (command : ScriptCommand)
     (bytes : List ℕ) (answer : Answered) (after : CardWords) → command ≡ Apdu bytes

@@ -14,7 +14,8 @@ use Rattle.jc_run.specs.Play.EndsAt.{bad, memory, source, unwritten}
 use Rattle.jc_run.specs.Play.Plays.{ended, over, unread}
 use Rattle.jc_run.specs.PrivatePlay.{AppendsPart, IsEnd, IsLineDone, IsLineEnd, IsTaken, IsUnread}
 use Rattle.jc_script.specs.Reading.{BeginsBad}
-use Rattle.jc_script.specs.Script.{Apdu, Asks, Bad, Install, Load, Reset, ScriptCommand, ScriptLine, line_at}
+use Rattle.jc_script.specs.Script.{Apdu, Asks, Bad, Cells, Install, Load, Objects, Reset, ScriptCommand, ScriptLine}
+use Rattle.jc_script.specs.Script.{line_at}
 use Rattle.jc_script.specs.Script.{lines_of, most_in_line, most_lines, said_by}
 
 -- ---- what is known to be written
@@ -57,6 +58,8 @@ module _ (images certificates : List ℕ → List ℕ → Type 0) (c : CardState
   source_end (Install applet instance incoming) before now asks is = elim asks [ ]
   source_end (Apdu bytes) before now asks is = elim asks [ ]
   source_end Reset before now asks is = elim asks [ ]
+  source_end Cells before now asks is = elim asks [ ]
+  source_end Objects before now asks is = elim asks [ ]
 
   pub memory_end : (command : ScriptCommand) (before : List ℕ) (now : Option (List ℕ)) → AsksSource command
       → now ≡ Some before → IsLineEnd images certificates c number (Asks command) before now NoMemory
@@ -65,6 +68,8 @@ module _ (images certificates : List ℕ → List ℕ → Type 0) (c : CardState
   memory_end (Install applet instance incoming) before now asks is = elim asks [ ]
   memory_end (Apdu bytes) before now asks is = elim asks [ ]
   memory_end Reset before now asks is = elim asks [ ]
+  memory_end Cells before now asks is = elim asks [ ]
+  memory_end Objects before now asks is = elim asks [ ]
 
   pub command_done : (command : ScriptCommand) (answer : Answered) (after : CardWords) (old now : Option (List ℕ))
       (before : List ℕ) → Answers images certificates c command answer after → old ≡ Some before

@@ -1,7 +1,8 @@
-pub mod Hexadecimals
 pub mod Commands
 pub mod Written
 pub mod Ending
 pub mod Playing
 pub mod Starting
-mod Running
+pub mod Running
+pub mod Conversing
+pub mod Holding

@@ -14,7 +14,8 @@ use Rattle.jc_run.specs.Play.EndsAt.{bad, memory, source, unwritten}
 use Rattle.jc_run.specs.Play.Plays.{ended, line, over, unread}
 use Rattle.jc_run.specs.declared.fault.ScriptFault.{ScriptFault}
 use Rattle.jc_run.specs.PrivatePlay.{HasPlayed, IsTurn}
-use Rattle.jc_script.specs.Script.{Apdu, Asks, Bad, Install, Load, Reset, ScriptCommand, ScriptLine, Skipped, lines_of}
+use Rattle.jc_script.specs.Script.{Apdu, Asks, Bad, Cells, Install, Load, Objects, Reset, ScriptCommand, ScriptLine}
+use Rattle.jc_script.specs.Script.{Skipped, lines_of}
 
 pub same_through : (first second third : List ℕ → List ℕ → Type 0) → HoldSame first second → HoldSame second third
     → HoldSame first third
@@ -41,6 +42,8 @@ module _ (images certificates older old : List ℕ → List ℕ → Type 0) (sam
   answered_as c (Install applet instance incoming) answer after h = h
   answered_as c (Apdu bytes) answer after h = h
   answered_as c Reset answer after h = h
+  answered_as c Cells answer after h = h
+  answered_as c Objects answer after h = h
 
   pub line_as : (c : CardState) (said : ScriptLine) (written : List ℕ) (after : CardState)
       → IsLinePlayed images certificates c said written after → IsLinePlayed older old c said written after

@@ -24,8 +24,8 @@ use Rattle.jc_run.specs.Play.Plays.{ended, line, over, unread}
 use Rattle.jc_run.specs.Runs.{AreGuarded, IsCardRun, IsDone, IsGuarded, accesses_in, accesses_of, answer_lines}
 use Rattle.jc_run.specs.Runs.{commands_in}
 use Rattle.jc_run.specs.Runs.IsCardRun.{command, nothing}
-use Rattle.jc_script.specs.Script.{Apdu, Asks, Bad, Install, Load, Reset, Script, ScriptCommand, ScriptLine, Skipped}
-use Rattle.jc_script.specs.Script.{line_at, script_from, with_line}
+use Rattle.jc_script.specs.Script.{Apdu, Asks, Bad, Cells, Install, Load, Objects, Reset, Script, ScriptCommand}
+use Rattle.jc_script.specs.Script.{ScriptLine, Skipped, line_at, script_from, with_line}
 
 module _ (images certificates : List ℕ → List ℕ → Type 0) where
   abbrev Done : List ScriptCommand → CardState → List ℕ → ScriptEnd → Type 0
@@ -135,6 +135,8 @@ module _ (laws : Laws) (images certificates : List ℕ → List ℕ → Type 0) 
   guarded c (Install applet instance incoming) answer after h = laws.install c applet instance incoming
   guarded c (Apdu bytes) answer after h = laws.apdu c bytes
   guarded c Reset answer after h = laws.reset c
+  guarded c Cells answer after h = h.1
+  guarded c Objects answer after h = h.1
 
   given_changes : {A : Type 0} (c : CardState) (done : Option (Left A)) (said : A → Answered) (answer : Answered)
       (after : CardState) → IfSome done (IsGuardedCommand c) → IsGiven done said answer after
@@ -153,6 +155,8 @@ module _ (laws : Laws) (images certificates : List ℕ → List ℕ → Type 0) 
       (laws.install c applet instance incoming) h
   changes c (Apdu bytes) answer after h = given_changes c (apdu_command c bytes) _ answer after (laws.apdu c bytes) h
   changes c Reset answer after h = given_changes c (reset_command c) _ answer after (laws.reset c) h
+  changes c Cells answer after h = rw h.1 (laws.none c.heap c.heap (λ number o e. e))
+  changes c Objects answer after h = rw h.1 (laws.none c.heap c.heap (λ number o e. e))
 
   run_changes : {commands : List ScriptCommand} {c : CardState} {answers : List Answered} {touches : List Touch}
       {after : CardState} → IsCardRun images certificates commands c answers touches after
@@ -172,6 +176,9 @@ module _ (laws : Laws) (images certificates : List ℕ → List ℕ → Type 0) 
       let same : given.left ≡ l = cc in
       rw (given.after_is, same) h
 
+  unchanged_apart : (c : CardState) → IsApartCard c → KeepsApart c [] c
+  unchanged_apart c p = record { card = p; plain = laws.unchanged c.heap c.heap (λ number o e. e) }
+
   stays_apart : (c : CardState) (command : ScriptCommand) (answer : Answered) (after : CardState) → IsApartCard c
       → IsAnswered images certificates c command answer after → KeepsApart c (accesses_of c command) after
   stays_apart c (Load folder certificate) answer after p h = record {
@@ -184,6 +191,8 @@ module _ (laws : Laws) (images certificates : List ℕ → List ℕ → Type 0) 
   stays_apart c (Apdu bytes) answer after p h =
       given_apart c (apdu_command c bytes) _ answer after (laws.apart_apdu c p bytes) h
   stays_apart c Reset answer after p h = given_apart c (reset_command c) _ answer after (laws.apart_reset c p) h
+  stays_apart c Cells answer after p h = rw h.1 (unchanged_apart c p)
+  stays_apart c Objects answer after p h = rw h.1 (unchanged_apart c p)
 
   run_apart : {commands : List ScriptCommand} {c : CardState} {answers : List Answered} {touches : List Touch}
       {after : CardState} → IsApartCard c → IsCardRun images certificates commands c answers touches after

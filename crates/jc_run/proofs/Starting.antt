@@ -17,7 +17,8 @@ use Rattle.jc_run.specs.Runs.{IsSimulated, commands_in}
 use Rattle.jc_script.specs.Script.{script_commands}
 
 -- where a card is made, or memory is out, its limits are such as it may have
-limits_fit : {A : Type 0} (fit : Bool) (result made : Result A CardFault) → (fit ≡ false → result ≡ Err cards.BadLimits)
+pub limits_fit : {A : Type 0} (fit : Bool) (result made : Result A CardFault)
+    → (fit ≡ false → result ≡ Err cards.BadLimits)
     → result ≡ made → (made ≡ Err cards.BadLimits → ⊥) → fit ≡ true
 limits_fit true result made told is other = refl
 limits_fit false result made told is other = absurd (other (sym is ∙ told refl))

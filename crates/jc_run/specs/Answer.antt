@@ -12,7 +12,8 @@ use Rattle.jc_card.specs.declared.fault.InstallFault.TheVariants.{UnknownApplet}
 use Rattle.jc_run.specs.declared.answer.CommandAnswer.{CommandAnswer}
 use Rattle.jc_run.specs.declared.answer.CommandAnswer.TheVariants as answers
 
--- the number of a package or an instance; a refusal; the data and the status of an answer to a reader; a reset
+-- the number of a package or an instance; a refusal; the data and the status of an answer to a reader; a reset; how
+-- many cells or objects are used, and how many there may be
 pub data Answered : Type 0 where
   Loaded : (number : ℕ) → Answered
   NotLoaded : (fault : LoadFault) → Answered
@@ -20,6 +21,8 @@ pub data Answered : Type 0 where
   NotInstalled : (fault : InstallFault) → Answered
   Responds : (response : Response) → Answered
   WasReset : Answered
+  Cells : (used most : ℕ) → Answered
+  Objects : (used most : ℕ) → Answered
 
 -- ---- lines
 
@@ -33,7 +36,7 @@ install_words UnknownApplet = codes "20 UnknownApplet"
 install_words TooLong = codes "21 TooLong"
 install_words AidInUse = codes "22 AidInUse"
 install_words NoInstance = codes "23 NoInstance"
-install_words (InstallFailed status) = codes "24 InstallFailed " ++ status_text status
+install_words (InstallFailed failure) = codes "24 InstallFailed " ++ status_text failure.status
 
 -- the status, and data before it where any are sent
 abbrev pub response_line : List ℕ → ℕ → List ℕ
@@ -49,11 +52,13 @@ line_of (Installed number) = codes "installed " ++ decimal number
 line_of (NotInstalled fault) = codes "refused " ++ install_words fault
 line_of (Responds response) = response_line response.sent response.status
 line_of WasReset = codes "reset"
+line_of (Cells used most) = ((codes "cells " ++ decimal used) ++ codes " of ") ++ decimal most
+line_of (Objects used most) = ((codes "objects " ++ decimal used) ++ codes " of ") ++ decimal most
 
 -- ---- answers of the code
 
 abbrev pub shown_response : Answer → Response
-shown_response answer = record { sent = answer.sent.items; status = answer.status }
+shown_response answer = record { sent = answer.sent.items; status = answer.status; cause = answer.cause }
 
 abbrev pub shown : CommandAnswer → Answered
 shown (answers.Loaded number) = Loaded number
@@ -62,3 +67,5 @@ shown (answers.Installed number) = Installed number
 shown (answers.NotInstalled fault) = NotInstalled fault
 shown (answers.Responds answer) = Responds (shown_response answer)
 shown answers.Reset = WasReset
+shown (answers.Cells used most) = Cells used most
+shown (answers.Objects used most) = Objects used most

@@ -8,7 +8,7 @@ use Rattle.jc_packages.specs.Source.{Asked, Certificate, Image}
 use Rattle.jc_run.specs.Answer.{Answered}
 use Rattle.jc_run.specs.Play.{IsAnswered, Plays, RunsTo, ScriptEnd}
 use Rattle.jc_run.specs.Runs.{IsSimulated}
-use Rattle.jc_script.specs.Script.{Apdu, Install, Load, Reset, ScriptCommand, lines_of}
+use Rattle.jc_script.specs.Script.{Apdu, Cells, Install, Load, Objects, Reset, ScriptCommand, lines_of}
 
 -- it leaves words that hold the card which it leaves on the machine's card, and is answered as there
 pub record Answers (images certificates : List ℕ → List ℕ → Type 0) (c : CardState) (command : ScriptCommand)
@@ -23,6 +23,8 @@ AsksSource (Load folder certificate) = ⊤
 AsksSource (Install applet instance incoming) = ⊥
 AsksSource (Apdu bytes) = ⊥
 AsksSource Reset = ⊥
+AsksSource Cells = ⊥
+AsksSource Objects = ⊥
 
 -- and for this, in this order
 abbrev pub asked_by : ScriptCommand → List Asked
@@ -30,6 +32,8 @@ asked_by (Load folder certificate) = Image folder ∷ Certificate certificate �
 asked_by (Install applet instance incoming) = []
 asked_by (Apdu bytes) = []
 asked_by Reset = []
+asked_by Cells = []
+asked_by Objects = []
 
 -- what was written behind what was there, and how it ended, is what these lines come to; the first has a number
 pub record PlaysOn (images certificates : List ℕ → List ℕ → Type 0) (number : ℕ) (bytes : List ℕ) (c : CardState)

@@ -1,6 +1,8 @@
 -- What a script comes to on the card of the defensive machine: what is written, and how it ends. What the source of
 -- packages holds is two relations: the image of a package under a name, and the bytes of a certificate.
-use Rattle.std.specs.Prelude.{◌≡◌, ℕ, suc, List, [], ◌∷◌, ◌++◌, Option, Some, Result, Ok, Err, true, false}
+use Rattle.std.specs.Prelude.{◌≡◌, ◌+◌, ℕ, suc, nat_lt, true, false}
+use Rattle.std.specs.Prelude.{List, [], ◌∷◌, ◌++◌, length, Option, Some, Result, Ok, Err}
+use Rattle.std.specs.Prelude.{if◌then◌else◌}
 use Rattle.jc_api.specs.Bound.{Bound}
 use Rattle.jc_base.specs.declared.fault.LoadFault.{LoadFault}
 use Rattle.jc_card.specs.Card.{CardState}
@@ -10,9 +12,14 @@ use Rattle.jc_card.specs.Load.{IsLoad}
 use Rattle.jc_card.specs.New.{are_limits, new_card}
 use Rattle.jc_card.specs.Parts.{Left}
 use Rattle.jc_card.specs.declared.limits.Limits.{Limits}
+use Rattle.jc_run.specs.Answer as answers
 use Rattle.jc_run.specs.Answer.{Answered, Installed, Loaded, NotInstalled, NotLoaded, Responds, WasReset, line_of}
-use Rattle.jc_script.specs.Script.{Apdu, Asks, Bad, Install, Load, Reset, ScriptCommand, ScriptLine, Skipped, line_at}
-use Rattle.jc_script.specs.Script.{lines_of}
+use Rattle.jc_script.specs.Script.{Apdu, Asks, Bad, Cells, Install, Load, Objects, Reset, ScriptCommand, ScriptLine}
+use Rattle.jc_script.specs.Script.{Skipped, line_at, lines_of, most_in_line, most_lines}
+use Rattle.jc_script.specs.Faults.{fault_at}
+use Rattle.jc_script.specs.declared.fault.LineCause.TheVariants.{TooLong, TooMany}
+use Rattle.jc_script.specs.declared.fault.LineFault.{LineFault}
+use Rattle.jc_store.specs.Heap.{cells_in}
 
 -- ---- a command
 
@@ -52,6 +59,10 @@ IsAnswered images certificates c (Install applet instance incoming) answer after
     IsGiven (install_command c applet instance incoming) install_answer answer after
 IsAnswered images certificates c (Apdu bytes) answer after = IsGiven (apdu_command c bytes) Responds answer after
 IsAnswered images certificates c Reset answer after = IsGiven (reset_command c) (λ u. WasReset) answer after
+IsAnswered images certificates c Cells answer after =
+    (answer ≡ answers.Cells (cells_in c.heap) c.limits.cells) × (after ≡ c)
+IsAnswered images certificates c Objects answer after =
+    (answer ≡ answers.Objects (length c.heap) c.limits.objects) × (after ≡ c)
 
 -- ---- a line
 
@@ -86,6 +97,11 @@ pub data ScriptEnd : Type 0 where
   NotWritten : ScriptEnd
   NoMemory : ScriptEnd
   BadLimits : ScriptEnd
+
+-- what is wrong with a line that isn't read whole: it stands behind the last that a script may have, or is too long
+abbrev pub unread_fault : ℕ → LineFault
+unread_fault number =
+    if nat_lt most_lines number then fault_at TooMany 1 else fault_at TooLong (most_in_line + 1)
 
 -- bytes of which these are the first
 pub record IsPart (bytes whole : List ℕ) : Type 0 where

@@ -14,11 +14,11 @@ use Rattle.jc_card.specs.declared.limits.Limits.{Limits}
 use Rattle.jc_machine.specs.Machine.{Touch}
 use Rattle.jc_run.specs.Answer.{Answered}
 use Rattle.jc_run.specs.Play.{IsAnswered, NotWritten, Over, ScriptEnd, answer_line}
-use Rattle.jc_script.specs.Script.{Apdu, Install, Load, Reset, Script, ScriptCommand, script_commands}
+use Rattle.jc_script.specs.Script.{Apdu, Cells, Install, Load, Objects, Reset, Script, ScriptCommand, script_commands}
 
 -- ---- a run of the card
 
--- the accesses that a command makes, in their order. A load makes none
+-- the accesses that a command makes, in their order. A load makes none, and neither does a count
 abbrev pub accesses_in : {A : Type 0} → Option (Left A) → List Touch
 accesses_in done = option_map_or (λ l. l.touches) done []
 
@@ -27,6 +27,8 @@ accesses_of c (Load folder certificate) = []
 accesses_of c (Install applet instance incoming) = accesses_in (install_command c applet instance incoming)
 accesses_of c (Apdu bytes) = accesses_in (apdu_command c bytes)
 accesses_of c Reset = accesses_in (reset_command c)
+accesses_of c Cells = []
+accesses_of c Objects = []
 
 -- commands one behind the other, each on the card that the one before it left: what they are answered, their accesses
 -- in their order, and the card behind them. No call of a command that is answered is stuck
@@ -47,6 +49,8 @@ IsGuarded c (Install applet instance incoming) after =
     IfSome (install_command c applet instance incoming) (IsGuardedCommand c)
 IsGuarded c (Apdu bytes) after = IfSome (apdu_command c bytes) (IsGuardedCommand c)
 IsGuarded c Reset after = IfSome (reset_command c) (IsGuardedCommand c)
+IsGuarded c Cells after = after ≡ c
+IsGuarded c Objects after = after ≡ c
 
 -- of each command on each card, and of each run from each card on. A run from a card on which the runtime's name is its
 -- own leaves such a card, and plain objects change in their own contexts alone, or by clearing

@@ -1,8 +1,8 @@
 //! What is answered to the commands of a script.
 
-use crate::hexadecimal::Hexadecimal;
 use jc_base::LoadFault;
 use jc_card::{Answer, InstallFault};
+use jc_script::Hexadecimal;
 use std::fmt;
 
 /// What is answered to a command. Its text is the line that is written, without the line feed.
@@ -20,6 +20,10 @@ pub enum CommandAnswer {
     Responds(Answer),
     /// The card is reset.
     Reset,
+    /// How many cells are used, and how many there may be.
+    Cells { used: u16, most: u16 },
+    /// How many objects there are, and how many there may be.
+    Objects { used: u16, most: u16 },
 }
 
 /// A status word as four digits.
@@ -59,8 +63,10 @@ impl fmt::Display for InstallWords {
             InstallFault::TooLong => write!(f, "21 TooLong"),
             InstallFault::AidInUse => write!(f, "22 AidInUse"),
             InstallFault::NoInstance => write!(f, "23 NoInstance"),
-            InstallFault::InstallFailed(status) => {
-                let status = StatusWord { status };
+            InstallFault::InstallFailed(failure) => {
+                let status = StatusWord {
+                    status: failure.status,
+                };
                 write!(f, "24 InstallFailed {status}")
             }
         }
@@ -114,6 +120,8 @@ impl fmt::Display for CommandAnswer {
                 write!(f, "{line}")
             }
             CommandAnswer::Reset => write!(f, "reset"),
+            CommandAnswer::Cells { used, most } => write!(f, "cells {used} of {most}"),
+            CommandAnswer::Objects { used, most } => write!(f, "objects {used} of {most}"),
         }
     }
 }

@@ -1,6 +1,8 @@
 //! One command on a card.
 
-ghost use Rattle.std.specs.Prelude.{◌≡◌, ◌+◌, ◌<◌, ◌^◌, ◌∷◌, [], IfOk, IfErr, OnOk};
+ghost use Rattle.std.specs.Prelude.{◌≡◌, ◌+◌, ◌<◌, ◌^◌, ◌∷◌, [], IfOk, IfErr, OnErr, OnOk, length};
+ghost use Rattle.jc_run.specs.Answer as answers;
+ghost use Rattle.jc_store.specs.Heap.{cells_in};
 ghost use Rattle.jc_card.specs.Card.{CardState};
 ghost use Rattle.jc_card.specs.Commands.{apdu_command};
 ghost use Rattle.jc_card.specs.Install.{install_command};
@@ -77,6 +79,26 @@ fn respond(card: &mut Card, bytes: &[u8]) -> CommandAnswer
     CommandAnswer::Responds(card.apdu(bytes))
 }
 
+/// How many cells are used, and how many there may be.
+fn cells(card: &Card) -> CommandAnswer
+    ensures { (c : CardState) → Holds card.now c → shown result ≡ answers.Cells (cells_in c.heap) c.limits.cells }
+{
+    CommandAnswer::Cells {
+        used: card.cells_used(),
+        most: card.most_cells(),
+    }
+}
+
+/// How many objects there are, and how many there may be.
+fn objects(card: &Card) -> CommandAnswer
+    ensures { (c : CardState) → Holds card.now c → shown result ≡ answers.Objects (length c.heap) c.limits.objects }
+{
+    CommandAnswer::Objects {
+        used: card.objects_used(),
+        most: card.most_objects(),
+    }
+}
+
 /// Does a command on a card. Only a load can fail, and only for what the source says. It asks for the image before the
 /// certificate, and for both before anything is loaded.
 pub fn perform<S: PackageSource>(
@@ -90,6 +112,7 @@ pub fn perform<S: PackageSource>(
         → Answers (S.holds_image source.old) (S.holds_certificate source.old) c (shown_command command.now)
         (shown answer) card.new) }
     ensures failed { IfErr result (λ fault. AsksSource (shown_command command.now)) }
+    ensures kept { OnErr result (card.new ≡ card.old) }
     ensures asks { OnOk result (Asks (S.asked source.old) (S.asked source.new) (asked_by (shown_command command.now))) }
     ensures counted { S.failed source.new ≡ S.failed source.old + failures_in result }
     ensures same_images { HoldSame (S.holds_image source.old) (S.holds_image source.new) }
@@ -113,5 +136,7 @@ pub fn perform<S: PackageSource>(
             card.reset();
             Ok(CommandAnswer::Reset)
         }
+        ScriptCommand::Cells => Ok(cells(card)),
+        ScriptCommand::Objects => Ok(objects(card)),
     }
 }

@@ -3,16 +3,17 @@
 ghost use Rattle.std.specs.Prelude.{◌≡◌};
 
 use jc_card::CardFault;
-use jc_script::ReadFault;
+use jc_script::{LineFault, ReadFault};
 use std::io;
 use thiserror::Error;
 
 /// Why a script ends before its last line.
 #[derive(Debug, Drop, Error)]
 pub enum ScriptFault {
-    /// The line with this number, from 1 on, is no command. It says something else, is too long, or is one too many.
-    #[error("line {0} is no command")]
-    BadLine(u32),
+    /// The line with this number, from 1 on, is no command, for this reason: it says something else, is too long, or is
+    /// one too many.
+    #[error("line {number}, {fault}")]
+    BadLine { number: u32, fault: LineFault },
     /// A package or a certificate that the line with this number names can't be read.
     #[error("line {0}: the package or its certificate can't be read")]
     Source(u32),

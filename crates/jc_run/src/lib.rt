@@ -4,11 +4,14 @@
 mod answer;
 mod command;
 mod fault;
-mod hexadecimal;
 mod run;
+mod session;
+mod telling;
 mod writing;
 
 pub use answer::CommandAnswer;
 pub use command::perform;
 pub use fault::ScriptFault;
 pub use run::{play, run_script};
+pub use session::{converse, run_session};
+pub use telling::{LineRefusal, Teller};

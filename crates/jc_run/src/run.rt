@@ -1,13 +1,13 @@
 //! Scripts, line by line.
 
-ghost use Rattle.std.specs.Prelude.{false, ◌≡◌, ◌+◌, ◌<◌, ◌≤◌, ◌^◌, ℕ, List, Some, IfOk, IfErr, OnOk};
+ghost use Rattle.std.specs.Prelude.{false, ◌≡◌, ◌+◌, ◌<◌, ◌≤◌, ◌^◌, ℕ, List, Some, IfOk, IfErr, OnOk, length};
 ghost use Rattle.jc_card.specs.Card.{CardState};
 ghost use Rattle.jc_card.specs.New.{are_limits};
 ghost use Rattle.jc_card.specs.Reads.{Holds};
 ghost use Rattle.jc_packages.specs.Source.{HoldSame};
 ghost use Rattle.jc_run.specs.End.{end_of, end_of_fault};
 ghost use Rattle.jc_run.specs.Performs.{HasRun, PlaysOn};
-ghost use Rattle.jc_run.specs.Play.{BadLimits, failures_at};
+ghost use Rattle.jc_run.specs.Play.{BadLimits, failures_at, unread_fault};
 ghost use Rattle.jc_run.specs.PrivatePlay.{IsLineDone, IsEnd, IsLineEnd, IsRead, IsUnread, Turns};
 ghost use Rattle.jc_script.specs.Reading.{pending};
 ghost use Rattle.jc_script.specs.Script as script;
@@ -15,20 +15,25 @@ ghost use Rattle.jc_script.specs.Shown.{shown_command};
 
 use crate::command::perform;
 use crate::fault::ScriptFault;
+use crate::telling::Teller;
 use crate::writing::write_answer;
 use jc_api::Binding;
 use jc_card::{Card, Limits, accesses_add_up, commands_are_guarded, commands_stay_apart};
 use jc_packages::{PackageSource, SourceFault};
-use jc_script::{MOST_LINES, NextLine, ScriptCommand, ScriptLine, ScriptReader, said_by};
+use jc_script::{
+    Dialect, LineCause, LineFault, MOST_IN_LINE, MOST_LINES, NextLine, ScriptCommand, ScriptLine,
+    ScriptReader, fault_in, said_by,
+};
 use std::alloc::Global;
 use std::io::{Read, Write};
 
 /// Does the command of the line with a number, and writes its answer.
-fn play_command<W: Write, S: PackageSource>(
+fn play_command<W: Write, S: PackageSource, T: Teller<S>>(
     alloc: Global,
     writer: &mut W,
     source: &mut S,
     card: &mut Card,
+    teller: &mut T,
     command: &ScriptCommand<'_>,
     number: u32,
 ) -> Result<(), ScriptFault>
@@ -51,21 +56,26 @@ fn play_command<W: Write, S: PackageSource>(
         Err(SourceFault::Memory) => return Err(ScriptFault::Memory),
     };
     match write_answer(writer, &answer) {
-        Ok(()) => Ok(()),
+        Ok(()) => {
+            teller.answered(u64::from(number), &answer);
+            Ok(())
+        }
         Err(error) => Err(ScriptFault::Write(error)),
     }
 }
 
 /// Does what the line with a number says.
-fn play_line<W: Write, S: PackageSource>(
+fn play_line<W: Write, S: PackageSource, T: Teller<S>>(
     alloc: Global,
     writer: &mut W,
     source: &mut S,
     card: &mut Card,
+    teller: &mut T,
     line: &[u8],
     number: u32,
 ) -> Result<(), ScriptFault>
-    requires { S.failed source.old < 2 ^ 31 }
+    requires few { S.failed source.old < 2 ^ 31 }
+    requires short { length line.now ≤ 1024 }
     ensures done { OnOk result ((c : CardState) (before : List ℕ) → Holds card.old c
         → W.contents writer.old ≡ Some before
         → IsLineDone (S.holds_image source.old) (S.holds_certificate source.old) c
@@ -80,8 +90,30 @@ fn play_line<W: Write, S: PackageSource>(
 {
     match said_by(line) {
         ScriptLine::Skipped => Ok(()),
-        ScriptLine::Asks(command) => play_command(alloc, writer, source, card, &command, number),
-        ScriptLine::Bad => Err(ScriptFault::BadLine(number)),
+        ScriptLine::Asks(command) => {
+            play_command(alloc, writer, source, card, teller, &command, number)
+        },
+        ScriptLine::Bad => Err(ScriptFault::BadLine {
+            number,
+            fault: fault_in(Dialect::Script, line),
+        }),
+    }
+}
+
+/// What is wrong with a line that isn't read whole: it is one too many, or too long.
+fn unread_fault(number: u32) -> LineFault
+    ensures { result ≡ unread_fault number }
+{
+    if number > MOST_LINES {
+        LineFault {
+            cause: LineCause::TooMany,
+            column: 1,
+        }
+    } else {
+        LineFault {
+            cause: LineCause::TooLong,
+            column: MOST_IN_LINE + 1,
+        }
     }
 }
 
@@ -102,17 +134,21 @@ fn read_line<R: Read>(
     match lines.next(reader, number)? {
         NextLine::Line => Ok(true),
         NextLine::End => Ok(false),
-        NextLine::Bad => Err(ScriptFault::BadLine(number)),
+        NextLine::Bad => Err(ScriptFault::BadLine {
+            number,
+            fault: unread_fault(number),
+        }),
     }
 }
 
 /// Reads the line with a number and does what it says. Says whether there is one.
-fn play_next<R: Read, W: Write, S: PackageSource>(
+fn play_next<R: Read, W: Write, S: PackageSource, T: Teller<S>>(
     alloc: Global,
     reader: &mut R,
     writer: &mut W,
     source: &mut S,
     card: &mut Card,
+    teller: &mut T,
     lines: &mut ScriptReader,
     number: u32,
 ) -> Result<bool, ScriptFault>
@@ -134,7 +170,7 @@ fn play_next<R: Read, W: Write, S: PackageSource>(
     if !read_line(reader, lines, number)? {
         return Ok(false);
     }
-    play_line(alloc, writer, source, card, lines.line(), number)?;
+    play_line(alloc, writer, source, card, teller, lines.line(), number)?;
     Ok(true)
 }
 
@@ -150,7 +186,10 @@ fn play_end<R: Read>(
     ensures counted { failures_at (end_of result) ≡ 0 }
 {
     if read_line(reader, lines, number)? {
-        Err(ScriptFault::BadLine(number))
+        Err(ScriptFault::BadLine {
+            number,
+            fault: unread_fault(number),
+        })
     } else {
         Ok(())
     }
@@ -158,13 +197,14 @@ fn play_end<R: Read>(
 
 /// Plays a script on a card. A line is read when the answer to the one before it is written and flushed. Each answer
 /// stands in a line of its own. A fault leaves the lines before it written, and a fault of the writer a part of the
-/// line that couldn't be written.
-pub fn play<R: Read, W: Write, S: PackageSource>(
+/// line that couldn't be written. Behind each answer the teller is told of it.
+pub fn play<R: Read, W: Write, S: PackageSource, T: Teller<S>>(
     alloc: Global,
     reader: &mut R,
     writer: &mut W,
     source: &mut S,
     card: &mut Card,
+    teller: &mut T,
 ) -> Result<(), ScriptFault>
     requires { S.failed source.old < 2 ^ 31 }
     ensures played { (c : CardState) (bytes before : List ℕ) → Holds card.old c
@@ -178,7 +218,9 @@ pub fn play<R: Read, W: Write, S: PackageSource>(
     let mut lines = ScriptReader::new();
     let mut number = 1;
     while number <= MOST_LINES {
-        if !play_next(alloc, reader, writer, source, card, &mut lines, number)? {
+        if !play_next(
+            alloc, reader, writer, source, card, teller, &mut lines, number,
+        )? {
             return Ok(());
         }
         number += 1;
@@ -188,11 +230,12 @@ pub fn play<R: Read, W: Write, S: PackageSource>(
 
 /// Plays a script on a new card, without packages beside the API's, whose AIDs and tokens a binding says, within
 /// limits. Nothing is read where the limits are too small or too large.
-pub fn run_script<R: Read, W: Write, S: PackageSource>(
+pub fn run_script<R: Read, W: Write, S: PackageSource, T: Teller<S>>(
     alloc: Global,
     reader: &mut R,
     writer: &mut W,
     source: &mut S,
+    teller: &mut T,
     limits: Limits,
     binding: &Binding,
 ) -> Result<(), ScriptFault>
@@ -211,5 +254,5 @@ pub fn run_script<R: Read, W: Write, S: PackageSource>(
     accesses_add_up();
     binding.has_no_clash();
     let mut card = Card::new(alloc, limits, binding)?;
-    play(alloc, reader, writer, source, &mut card)
+    play(alloc, reader, writer, source, &mut card, teller)
 }

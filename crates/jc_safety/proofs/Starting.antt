@@ -26,7 +26,7 @@ use Rattle.jc_machine.specs.Machine.{Calls, Frame, Gives, IsStuck, Machine, Meth
 use Rattle.jc_machine.specs.Machine.{NativeEnd, Surroundings, ThrowsObject}
 use Rattle.jc_machine.specs.Natives.{EndsFit, IsFitCall}
 use Rattle.jc_machine.specs.Step.{Called, Gave, RanOut, Start, Threw, WasStuck, after_first_native, begun, begun_by}
-use Rattle.jc_machine.specs.Step.{ended_by}
+use Rattle.jc_machine.specs.Step.{ended_by, room_lacking}
 use Rattle.jc_machine.specs.Step.{may_begin, native_called, native_ended, native_started, no_frame}
 use Rattle.jc_machine.specs.Step.{runtime_call, standing, started, started_by, steps_of, first_native_call}
 use Rattle.jc_machine.specs.Typed.{HaveTypes, IsTyped, IsTypedBeside}
@@ -102,7 +102,7 @@ module _ {C : Type 0} (s : Surroundings C) (ground : Ground s) (members : HaveMe
   begun_typed steps place k beside =
       let f = first_frame start place k.header in
       if_typed (has_room s [] (length f.locals + (k.header).max_stack)) (steps_of s steps (standing start f))
-      (ended_by (RanOut (standing start f)))
+      (ended_by (RanOut (standing start f) (room_lacking s []) None))
       (runs_safely s ground members steps (standing start f) (first_typed place k beside)) (beside_with f beside)
 
   method_called : (steps : ℕ) (place : MethodPlace) (k : MethodCanBegin s start place)
@@ -167,8 +167,8 @@ module _ {C : Type 0} (s : Surroundings C) (ground : Ground s) (members : HaveMe
     native_typed given declared (ThrowsObject number) fit =
         let P : Option (Object TaggedValue) → Type 0 =
         λ o. EndsTyped s (cond (option_map_or (λ (x : Object TaggedValue). is_throwable shapes x.kind.object) o false)
-        (Threw after number) WasStuck) in
-        let Q : Bool → Type 0 = λ b. EndsTyped s (cond b (Threw after number) WasStuck) in
+        (Threw after number None) WasStuck) in
+        let Q : Bool → Type 0 = λ b. EndsTyped s (cond b (Threw after number None) WasStuck) in
         subst P (sym fit.found) (subst Q (sym fit.throwable) after_typed)
     native_typed given declared (Calls callback) fit =
         let static = members.static member fit.caller k.declared fit.caller_is fit.static k.found in

@@ -26,7 +26,10 @@ use Rattle.jc_machine.specs.Going.{Here}
 use Rattle.jc_machine.specs.Lookup.{code_at, declared_at, instruction_at}
 use Rattle.jc_machine.specs.Machine.{Ends, Machine, Next, Outcome, Stuck, Surroundings, Throws, UsedUp}
 use Rattle.jc_machine.specs.Objects.{act_object}
-use Rattle.jc_machine.specs.Step.{Called, act, act_at, continued, defensive_step, settled, steps_of}
+use Rattle.jc_machine.specs.Step.{Called, act, act_at, continued, defensive_step, point_of, room_lacking, settled}
+use Rattle.jc_machine.specs.Step.{steps_of}
+use Rattle.jc_machine.specs.declared.stop.Budget.{Budget}
+use Rattle.jc_machine.specs.declared.stop.CodePoint.{CodePoint}
 use Rattle.jc_machine.specs.Typed.{IsTyped}
 use Rattle.jc_machine.specs.Words.{act_word}
 use Rattle.jc_words.specs.Shorts.{word_of}
@@ -261,17 +264,18 @@ module _ {C : Type 0} (s : Surroundings C) (ground : Ground s) (members : HaveMe
 
   -- ---- many steps
 
-  goes_on_safely : (go : Machine C → Called C) (outcome : Outcome C)
+  goes_on_safely : (lacking : Budget) (at : Option CodePoint) (go : Machine C → Called C) (outcome : Outcome C)
       → ((m : Machine C) → IsTyped s m → EndsTyped s (go m).ends) → StaysTyped s outcome
-      → EndsTyped s (continued go outcome).ends
-  goes_on_safely go (Next m) each h = each m h
-  goes_on_safely go (Throws m number) each h = h
-  goes_on_safely go (Ends m value) each h = h
-  goes_on_safely go (UsedUp m) each h = h
-  goes_on_safely go Stuck each h = h
+      → EndsTyped s (continued lacking at go outcome).ends
+  goes_on_safely lacking at go (Next m) each h = each m h
+  goes_on_safely lacking at go (Throws m number) each h = h
+  goes_on_safely lacking at go (Ends m value) each h = h
+  goes_on_safely lacking at go (UsedUp m) each h = h
+  goes_on_safely lacking at go Stuck each h = h
 
   pub runs_safely : (n : ℕ) (m : Machine C) → IsTyped s m → EndsTyped s (steps_of s n m).ends
   unfolding steps_of
   runs_safely zero m t = t.beside
   runs_safely (suc n) m t =
-      goes_on_safely (steps_of s n) (defensive_step s m).outcome (runs_safely n) (steps_safely m t)
+      goes_on_safely (room_lacking s (m.top ∷ m.waiting)) (Some (point_of m.top)) (steps_of s n)
+      (defensive_step s m).outcome (runs_safely n) (steps_safely m t)

@@ -4,7 +4,8 @@ use Rattle.std.specs.Io.KnownBytes.{Consumes, IsAtEnd}
 use Rattle.std.proofs.lemmas.List.{length-append}
 use Rattle.std.specs.Prelude.{IfOk}
 use Rattle.jc_script.proofs.Feeds.{feedless_append, line_begins, line_last, line_off, no_lines, some_line}
-use Rattle.jc_script.specs.PrivateReading.{AreSoFar, BeginsLong, EndsPart, GoesOnPart, HasTaken, IsSoFar, IsTooLong, NoFeed, ReadsKnown, ReadsOn, TellsKnown, TellsMore, told_last}
+use Rattle.jc_script.specs.PrivateReading.{AreSoFar, EndsPart, GoesOnPart, HasTaken, IsSoFar, IsTooLong}
+use Rattle.jc_script.specs.PrivateReading.{NoFeed, ReadsKnown, ReadsOn, TellsKnown, TellsMore, told_last}
 use Rattle.jc_script.specs.Reading.{SoFar, Tells, TellsOf, pending}
 use Rattle.jc_script.specs.Script.{Bad, line_at, lines_of, most_in_line, most_lines}
 use Rattle.jc_script.specs.declared.reader.NextLine.{NextLine}
@@ -20,12 +21,11 @@ longer before now byte t full =
     let three = ap length t.line ∙ length-append before.line t.piece in
     omega (arith, one, two, three, full)
 
-pub too_long : (before now : SoFar) (byte : ℕ) (rest : List ℕ) → HasTaken before now → now.unread ≡ byte ∷ rest
-    → (byte == 10) ≡ false → length now.line ≡ most_in_line → IsTooLong before
-too_long before now byte rest t u f full = record {
+pub too_long : (before now after : SoFar) (byte : ℕ) → HasTaken before now → now.unread ≡ byte ∷ after.unread
+    → (byte == 10) ≡ false → length now.line ≡ most_in_line → IsTooLong before after
+too_long before now after byte t u f full = record {
   piece = t.piece ++ byte ∷ [];
-  rest = rest;
-  unread = t.unread ∙ ap (λ l. t.piece ++ l) u ∙ sym (append_assoc t.piece (byte ∷ []) rest);
+  unread = t.unread ∙ ap (λ l. t.piece ++ l) u ∙ sym (append_assoc t.piece (byte ∷ []) after.unread);
   feedless = feedless_append t.piece (byte ∷ []) t.feedless (f, tt);
   long = longer before now byte t full;
 }
@@ -51,9 +51,15 @@ ended (Some bytes) None now after s e = absurd s
 ended (Some bytes) (Some k) now after s e = (ended_lines bytes k now after s e, e.short)
 
 -- a first line of bytes that begin with a long one
-begins_long : (front rest : List ℕ) → NoFeed front → most_in_line < length front → BeginsLong (front ++ rest)
-begins_long [] rest f l = absurd (omega (arith, l))
-begins_long (b ∷ front) rest f l =
+pub record IsLongFirst (bytes : List ℕ) : Type 0 where
+  pub first : List ℕ
+  pub others : List (List ℕ)
+  pub are : lines_of bytes ≡ first ∷ others
+  pub long : most_in_line < length first
+
+long_first : (front rest : List ℕ) → NoFeed front → most_in_line < length front → IsLongFirst (front ++ rest)
+long_first [] rest f l = absurd (omega (arith, l))
+long_first (b ∷ front) rest f l =
     let begins = line_begins b front rest f in
     let more = length-append (b ∷ front) begins.more in record {
       first = (b ∷ front) ++ begins.more;
@@ -62,19 +68,21 @@ begins_long (b ∷ front) rest f l =
       long = omega (arith, more, l);
     }
 
-long_known : (bytes k line : List ℕ) (now : SoFar) → IsSoFar bytes now.line (now.unread ++ k) → IsTooLong now
-    → ReadsKnown line bytes (now.unread ++ k) next.Bad
-long_known bytes k line now s t =
-    let are = s.bytes_are ∙ ap (λ l. now.line ++ (l ++ k)) t.unread ∙ joined now.line t.piece t.rest k in
-    rw are (begins_long (now.line ++ t.piece) (t.rest ++ k)
-    (feedless_append now.line t.piece s.feedless t.feedless) t.long)
+long_known : (bytes k line : List ℕ) (now after : SoFar) → IsSoFar bytes now.line (now.unread ++ k)
+    → IsTooLong now after → ReadsKnown line bytes (after.unread ++ k) next.Bad
+long_known bytes k line now after s t = record {
+  front = now.line ++ t.piece;
+  are = s.bytes_are ∙ ap (λ l. now.line ++ (l ++ k)) t.unread ∙ joined now.line t.piece after.unread k;
+  feedless = feedless_append now.line t.piece s.feedless t.feedless;
+  long = t.long;
+}
 
 pub long_line : (before known : Option (List ℕ)) (now after : SoFar)
-    → AreSoFar before now.line (pending now.unread known) → IsTooLong now
+    → AreSoFar before now.line (pending now.unread known) → IsTooLong now after
     → ReadsOn after.line before (pending after.unread known) next.Bad
 long_line None known now after s t = tt
 long_line (Some bytes) None now after s t = absurd s
-long_line (Some bytes) (Some k) now after s t = long_known bytes k after.line now s t
+long_line (Some bytes) (Some k) now after s t = long_known bytes k after.line now after s t
 
 -- all that was read belongs to the line, and more came
 more_known : (bytes k more unread : List ℕ) (now after : SoFar) → IsSoFar bytes now.line (now.unread ++ k)
@@ -125,12 +133,13 @@ told_known : (number : ℕ) (line bytes rest : List ℕ) (told : NextLine) → n
     → ReadsKnown line bytes rest told → TellsOf number line bytes rest told
 told_known number line bytes rest next.Line few r = record { lines = r.0; short = r.1; few = few }
 told_known number line bytes rest next.End few r = r
-told_known number line bytes rest next.Bad few r = record {
-  first = r.first;
-  others = r.others;
-  are = r.are;
-  bad = bad_if number r.first (grind (arith, r.long));
-}
+told_known number line bytes rest next.Bad few r =
+    let long = long_first r.front rest r.feedless r.long in record {
+      first = long.first;
+      others = long.others;
+      are = ap lines_of r.are ∙ long.are;
+      bad = bad_if number long.first (grind (arith, long.long));
+    }
 
 pub told_short : (number : ℕ) (line : List ℕ) (before after : Option (List ℕ)) → number ≤ most_lines
     → (told : NextLine) → ReadsOn line before after told → Tells number line before after told

@@ -1,5 +1,6 @@
 pub mod Script
 pub mod Shown
+pub mod Faults
 pub mod Reading
 pub mod PrivateWords
 pub mod PrivateReading

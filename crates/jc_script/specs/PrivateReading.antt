@@ -42,18 +42,17 @@ pub record GoesOnPart (before after : SoFar) : Type 0 where
   pub feedless : NoFeed before.unread
   pub line : after.line ≡ before.line ++ before.unread
 
--- a line has too many bytes
-pub record IsTooLong (before : SoFar) : Type 0 where
+-- a line has too many bytes: those that were taken belong to it
+pub record IsTooLong (before after : SoFar) : Type 0 where
   pub piece : List ℕ
-  pub rest : List ℕ
-  pub unread : before.unread ≡ piece ++ rest
+  pub unread : before.unread ≡ piece ++ after.unread
   pub feedless : NoFeed piece
   pub long : most_in_line < length (before.line ++ piece)
 
 abbrev pub TakesPart : SoFar → SoFar → Part → Type 0
 TakesPart before after parts.Ended = EndsPart before after
 TakesPart before after parts.GoesOn = GoesOnPart before after
-TakesPart before after parts.TooLong = IsTooLong before
+TakesPart before after parts.TooLong = IsTooLong before after
 
 -- bytes are a line so far and what is left behind it
 pub record IsSoFar (bytes line left : List ℕ) : Type 0 where
@@ -65,17 +64,17 @@ AreSoFar (Some bytes) line (Some left) = IsSoFar bytes line left
 AreSoFar (Some bytes) line None = ⊥
 AreSoFar None line left = ⊤
 
--- the first line of bytes has too many
-pub record BeginsLong (bytes : List ℕ) : Type 0 where
-  pub first : List ℕ
-  pub others : List (List ℕ)
-  pub are : lines_of bytes ≡ first ∷ others
-  pub long : most_in_line < length first
+-- the first line of bytes has too many: more than it may have stand in front of what is left
+pub record BeginsLong (bytes rest : List ℕ) : Type 0 where
+  pub front : List ℕ
+  pub are : bytes ≡ front ++ rest
+  pub feedless : NoFeed front
+  pub long : most_in_line < length front
 
 abbrev pub ReadsKnown : List ℕ → List ℕ → List ℕ → NextLine → Type 0
 ReadsKnown line bytes rest next.Line = (lines_of bytes ≡ line ∷ lines_of rest) × (length line ≤ most_in_line)
 ReadsKnown line bytes rest next.End = lines_of bytes ≡ []
-ReadsKnown line bytes rest next.Bad = BeginsLong bytes
+ReadsKnown line bytes rest next.Bad = BeginsLong bytes rest
 
 abbrev pub ReadsOn : List ℕ → Option (List ℕ) → Option (List ℕ) → NextLine → Type 0
 ReadsOn line (Some bytes) (Some rest) told = ReadsKnown line bytes rest told
@@ -99,3 +98,36 @@ TellsMore (Some bytes) None told = ⊥
 TellsMore None after next.Line = ⊥
 TellsMore None after next.End = ⊤
 TellsMore None after next.Bad = ⊤
+
+-- ---- the rest of a line that is too long
+
+-- it ends in what was read, or all of that belongs to it
+pub record EndsAmong (before after : List ℕ) : Type 0 where
+  pub piece : List ℕ
+  pub are : before ≡ piece ++ 10 ∷ after
+  pub feedless : NoFeed piece
+
+abbrev pub SkipsPart : List ℕ → List ℕ → Bool → Type 0
+SkipsPart before after true = EndsAmong before after
+SkipsPart before after false = (after ≡ []) × NoFeed before
+
+-- bytes without a line feed stand in front of those that are left
+pub record IsPast (bytes left : List ℕ) : Type 0 where
+  pub piece : List ℕ
+  pub are : bytes ≡ piece ++ left
+  pub feedless : NoFeed piece
+
+abbrev pub ArePast : Option (List ℕ) → Option (List ℕ) → Type 0
+ArePast (Some bytes) (Some left) = IsPast bytes left
+ArePast (Some bytes) None = ⊥
+ArePast None left = ⊤
+
+-- a line feed stands behind them, or nothing does
+pub data IsSkipped (bytes rest : List ℕ) : Type 0 where
+  at_feed : EndsAmong bytes rest → IsSkipped bytes rest
+  at_end : NoFeed bytes → rest ≡ [] → IsSkipped bytes rest
+
+abbrev pub AreSkipped : Option (List ℕ) → Option (List ℕ) → Type 0
+AreSkipped (Some bytes) (Some rest) = IsSkipped bytes rest
+AreSkipped (Some bytes) None = ⊥
+AreSkipped None rest = ⊤

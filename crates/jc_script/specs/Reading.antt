@@ -1,6 +1,6 @@
 -- What is read of a script: a line, its end, or that the next line is none.
 use Rattle.std.specs.Prelude.{⊤, ◌≡◌, ℕ, ◌≤◌, List, [], ◌∷◌, ◌++◌, length, Option, Some, None, option_map}
-use Rattle.jc_script.specs.Script.{Bad, line_at, lines_of, most_in_line, most_lines}
+use Rattle.jc_script.specs.Script.{Bad, line_at, lines_of, most_in_line, most_lines, session_line}
 use Rattle.jc_script.specs.declared.reader.NextLine.{NextLine}
 use Rattle.jc_script.specs.declared.reader.NextLine.TheVariants as next
 
@@ -36,3 +36,26 @@ abbrev pub Tells : ℕ → List ℕ → Option (List ℕ) → Option (List ℕ) 
 Tells number line (Some bytes) (Some rest) told = TellsOf number line bytes rest told
 Tells number line (Some bytes) None told = ⊥
 Tells number line None after told = ⊤
+
+-- ---- a session, whose lines have no numbers
+
+-- a line was taken off
+pub record TakesShortLine (line bytes rest : List ℕ) : Type 0 where
+  pub lines : lines_of bytes ≡ line ∷ lines_of rest
+  pub short : length line ≤ most_in_line
+
+-- a line was taken off that is none
+pub record SkipsLine (bytes rest : List ℕ) : Type 0 where
+  pub first : List ℕ
+  pub lines : lines_of bytes ≡ first ∷ lines_of rest
+  pub bad : session_line first ≡ Bad
+
+abbrev pub TellsOfSession : List ℕ → List ℕ → List ℕ → NextLine → Type 0
+TellsOfSession line bytes rest next.Line = TakesShortLine line bytes rest
+TellsOfSession line bytes rest next.End = lines_of bytes ≡ []
+TellsOfSession line bytes rest next.Bad = SkipsLine bytes rest
+
+abbrev pub TellsInSession : List ℕ → Option (List ℕ) → Option (List ℕ) → NextLine → Type 0
+TellsInSession line (Some bytes) (Some rest) told = TellsOfSession line bytes rest told
+TellsInSession line (Some bytes) None told = ⊥
+TellsInSession line None after told = ⊤

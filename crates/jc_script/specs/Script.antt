@@ -1,8 +1,9 @@
 -- Scripts: their lines, and the commands that lines ask for. A byte is its number: 10 is the line feed.
 use Rattle.std.specs.Prelude.{ℕ, suc, ◌==◌, ◌&&◌, ◌||◌, nat_le, nat_lt, List, [], ◌∷◌, length, Option, Some, None}
-use Rattle.std.specs.Prelude.{bytes_eq, codes, if◌then◌else◌}
+use Rattle.std.specs.Prelude.{bytes_eq, codes, not, position, if◌then◌else◌}
+use Rattle.std.specs.Char.{is_ascii_control}
 use Rattle.std.specs.List.{onto_first}
-use Rattle.std.specs.Option.{option_map_or}
+use Rattle.std.specs.Option.{is_some, option_map_or}
 use Rattle.std.specs.Str.{is_utf8}
 use Rattle.jc_api.specs.Options.{◌>>=◌}
 use Rattle.hex.specs.Hex.{decode_of}
@@ -25,16 +26,25 @@ most_lines = 100000
 -- ---- commands
 
 -- a package and its certificate, by their names; an applet, the new instance and its data; a command of a reader; a
--- reset
+-- reset; and in a session how many cells and objects are used
 pub data ScriptCommand : Type 0 where
   Load : (folder certificate : List ℕ) → ScriptCommand
   Install : (applet instance incoming : List ℕ) → ScriptCommand
   Apdu : (bytes : List ℕ) → ScriptCommand
   Reset : ScriptCommand
+  Cells : ScriptCommand
+  Objects : ScriptCommand
 
--- a name is UTF-8
+-- where the first control byte of ASCII stands, as a carriage return or a tab is
+abbrev pub control_in : List ℕ → Option ℕ
+control_in word = position is_ascii_control word
+
+abbrev pub text_of : List ℕ → Option (List ℕ)
+text_of word = if is_utf8 word then Some word else None
+
+-- a name is UTF-8 without control bytes
 abbrev pub name_of : List ℕ → Option (List ℕ)
-name_of word = if nat_lt 0 (length word) && is_utf8 word then Some word else None
+name_of word = if nat_lt 0 (length word) && not (is_some (control_in word)) then text_of word else None
 
 -- one byte or more, two hexadecimal digits each
 abbrev pub bytes_of : List ℕ → Option (List ℕ)
@@ -93,6 +103,17 @@ pub data ScriptLine : Type 0 where
 -- an empty line and one whose first byte is # are skipped; words have one space between them
 unfoldable pub said_by : List ℕ → ScriptLine
 said_by line = if is_skipped line then Skipped else option_map_or Asks (asked (words_of line)) Bad
+
+-- a line of a session: `cells` and `objects` too
+unfoldable pub said_in_session : List ℕ → ScriptLine
+said_in_session line =
+    if bytes_eq line (codes "cells") then Asks Cells
+    else (if bytes_eq line (codes "objects") then Asks Objects
+    else said_by line)
+
+-- whatever its number is
+abbrev pub session_line : List ℕ → ScriptLine
+session_line line = if nat_lt most_in_line (length line) then Bad else said_in_session line
 
 -- a line by its number, from 1 on: one that is too long is bad, and so is one too many
 abbrev pub line_at : ℕ → List ℕ → ScriptLine

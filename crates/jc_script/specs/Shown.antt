@@ -10,6 +10,8 @@ shown_command (commands.Load folder certificate) = script.Load folder.now certif
 shown_command (commands.Install applet instance incoming) = script.Install applet instance incoming.items
 shown_command (commands.Apdu bytes) = script.Apdu bytes.items
 shown_command commands.Reset = script.Reset
+shown_command commands.Cells = script.Cells
+shown_command commands.Objects = script.Objects
 
 abbrev pub shown : ScriptLine → script.ScriptLine
 shown lines.Skipped = script.Skipped

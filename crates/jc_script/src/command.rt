@@ -33,6 +33,10 @@ pub enum ScriptCommand<'a> {
     Apdu(ArrayVec<u8, MOST_BYTES>),
     /// The card is reset.
     Reset,
+    /// How many cells are used: a line of a session.
+    Cells,
+    /// How many objects there are: a line of a session.
+    Objects,
 }
 
 /// What a line says.
@@ -135,5 +139,19 @@ pub fn said_by(line: &[u8]) -> ScriptLine<'_>
     match asked(Words::new(line)) {
         Some(command) => ScriptLine::Asks(command),
         None => ScriptLine::Bad,
+    }
+}
+
+/// What a line of a session says, of at most [`MOST_IN_LINE`] bytes: it may ask for what is used, too.
+#[tactic(auto, unfolding(crate::specs::Script::said_in_session))]
+pub fn said_in_session(line: &[u8]) -> ScriptLine<'_>
+    ensures { shown result ≡ script.said_in_session line.now }
+{
+    if line == b"cells".as_slice() {
+        ScriptLine::Asks(ScriptCommand::Cells)
+    } else if line == b"objects".as_slice() {
+        ScriptLine::Asks(ScriptCommand::Objects)
+    } else {
+        said_by(line)
     }
 }

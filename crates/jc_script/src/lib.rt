@@ -3,8 +3,14 @@
 
 mod chunk;
 mod command;
+mod fault;
+mod finding;
+mod hexadecimal;
 mod reader;
 mod words;
 
-pub use command::{MOST_BYTES, MOST_IN_LINE, ScriptCommand, ScriptLine, said_by};
+pub use command::{MOST_BYTES, MOST_IN_LINE, ScriptCommand, ScriptLine, said_by, said_in_session};
+pub use fault::{LineCause, LineFault};
+pub use finding::{Dialect, fault_in};
+pub use hexadecimal::Hexadecimal;
 pub use reader::{MOST_LINES, NextLine, ReadFault, ScriptReader};

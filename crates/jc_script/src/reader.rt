@@ -2,8 +2,9 @@
 
 ghost use Rattle.std.specs.Prelude.{◌≡◌, ◌≤◌, ◌<◌, ◌++◌, [], length, position, IfOk};
 ghost use Rattle.std.specs.Io.KnownBytes.{prepend_known};
-ghost use Rattle.jc_script.specs.PrivateReading.{Fills, ReadsOn, TakesPart, TellsMore, told_last};
-ghost use Rattle.jc_script.specs.Reading.{Tells, pending};
+ghost use Rattle.jc_script.specs.PrivateReading.{AreSkipped, Fills, ReadsOn, SkipsPart, TakesPart, TellsMore};
+ghost use Rattle.jc_script.specs.PrivateReading.{told_last};
+ghost use Rattle.jc_script.specs.Reading.{Tells, TellsInSession, pending};
 
 use crate::chunk::Chunk;
 use crate::command::MOST_IN_LINE;
@@ -164,6 +165,52 @@ impl ScriptReader {
             Ok(NextLine::End)
         } else {
             Ok(NextLine::Bad)
+        }
+    }
+
+    // Takes what is unread of a line, with its line feed, and says whether that was there.
+    fn skip_part(&mut self) -> bool
+        ensures line { self.new.line ≡ self.old.line }
+        ensures skipped { SkipsPart self.old.unread self.new.unread result }
+    {
+        while let Some(byte) = self.chunk.next() {
+            if byte == b'\n' {
+                return true;
+            }
+        }
+        false
+    }
+
+    // Takes what is left of a line, with its line feed, if it has one.
+    fn skip_rest<R: Read>(&mut self, reader: &mut R) -> Result<(), ReadFault>
+        ensures { IfOk result (λ u. AreSkipped (pending self.old.unread (R.remaining reader.old))
+            (pending self.new.unread (R.remaining reader.new))) }
+    {
+        for _ in 0..MOST_CALLS {
+            if self.skip_part() {
+                return Ok(());
+            }
+            if !self.fill(reader)? {
+                return Ok(());
+            }
+        }
+        Err(ReadFault::TooManyReads)
+    }
+
+    /// Reads the next line of a session, which may have any number. Of bytes that are known: a line was taken off; or
+    /// there is none left; or a line that is too long was taken off, whole, and isn't lent.
+    pub fn next_in_session<R: Read>(&mut self, reader: &mut R) -> Result<NextLine, ReadFault>
+        ensures { IfOk result (TellsInSession self.new.line (pending self.old.unread (R.remaining reader.old))
+            (pending self.new.unread (R.remaining reader.new))) }
+    {
+        self.line.clear();
+        match self.next_short(reader)? {
+            NextLine::Line => Ok(NextLine::Line),
+            NextLine::End => Ok(NextLine::End),
+            NextLine::Bad => {
+                self.skip_rest(reader)?;
+                Ok(NextLine::Bad)
+            }
         }
     }
 

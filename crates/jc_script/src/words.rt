@@ -1,12 +1,12 @@
 //! Lines as words, and words as names and bytes.
 
-ghost use Rattle.std.specs.Prelude.{◌≡◌, ◌≤◌, ◌∷◌, ◌==◌, ◌/◌, [], length, position, option_copied, option_map, IfSome};
-ghost use Rattle.std.specs.Prelude.{IfNone};
+ghost use Rattle.std.specs.Prelude.{◌≡◌, ◌≤◌, ◌<◌, ◌∷◌, ◌==◌, ◌/◌, [], length, position, option_copied};
+ghost use Rattle.std.specs.Prelude.{option_map, IfNone, IfSome};
 ghost use Rattle.std.specs.Bool.{OnTrue, OnFalse};
 ghost use Rattle.hex.specs.Hex.{decode_of};
 ghost use Rattle.jc_api.specs.Text.{given, is_skipped, spelled_aid, words_of};
 ghost use Rattle.jc_script.specs.PrivateWords.{words_left};
-ghost use Rattle.jc_script.specs.Script.{bytes_of, name_of};
+ghost use Rattle.jc_script.specs.Script.{bytes_of, control_in, name_of, text_of};
 
 use crate::command::{MOST_BYTES, MOST_IN_LINE};
 use arrayvec::ArrayVec;
@@ -72,16 +72,34 @@ pub(crate) fn is_skipped(line: &[u8]) -> bool
     }
 }
 
-/// The name of a file or folder that a word is.
+/// Where the first control byte of ASCII stands, as a carriage return or a tab is.
+pub(crate) fn control_in(word: &[u8]) -> Option<usize>
+    ensures place { result ≡ control_in word.now }
+    ensures within { IfSome result (λ at. at < length word.now) }
+{
+    word.iter().position(|byte| byte.is_ascii_control())
+}
+
+// A word as text.
+fn text_of(word: &[u8]) -> Option<&str>
+    ensures { option_map (λ text. text.now) result ≡ text_of word.now }
+{
+    match str::from_utf8(word) {
+        Ok(text) => Some(text),
+        Err(_) => None,
+    }
+}
+
+/// The name of a file or folder that a word is: UTF-8 without control bytes.
 pub(crate) fn name_of(word: &[u8]) -> Option<&str>
     ensures { option_map (λ name. name.now) result ≡ name_of word.now }
 {
     if word.is_empty() {
         return None;
     }
-    match str::from_utf8(word) {
-        Ok(name) => Some(name),
-        Err(_) => None,
+    match control_in(word) {
+        Some(_) => None,
+        None => text_of(word),
     }
 }
 

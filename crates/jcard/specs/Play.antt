@@ -1,7 +1,6 @@
 -- What a script comes to on a new card, whose packages lie in folders and whose certificates lie in files, and what is
 -- told where it ends early.
 use Rattle.std.specs.Prelude.{⊤, ℕ, Result, Ok, Err}
-use Rattle.jc_card.specs.declared.limits.Limits.{Limits}
 use Rattle.jc_run.specs.End.{end_of_fault}
 use Rattle.jc_run.specs.Play.{NoMemory, NotRead, Over, ScriptEnd, SourceFailed}
 use Rattle.jc_run.specs.declared.fault.ScriptFault.{ScriptFault}
@@ -11,10 +10,6 @@ use Rattle.jcard.specs.declared.files.ReadFault.{ReadFault}
 use Rattle.jcard.specs.declared.files.ReadFault.TheVariants as reading
 use Rattle.jcard.specs.declared.play.PlayFault.{PlayFault}
 use Rattle.jcard.specs.declared.play.PlayFault.TheVariants.{File, Load, Script, Memory}
-
--- the limits of a card of which nothing else is said, with so many steps at most in a call
-abbrev pub limits_with : ℕ → Limits
-limits_with steps = record { objects = 32767; cells = 65535; frames = 64; frame_words = 1024; steps = steps }
 
 -- a file's fault, or want of memory, as it is told of a script
 abbrev pub told_of : ReadFault → PlayFault
@@ -34,7 +29,7 @@ end_of_play (Err fault) = end_of_told fault
 
 -- a script's fault has no fault of a file behind it, and isn't want of memory
 abbrev pub IsOfScript : ScriptFault → Type 0
-IsOfScript (scripts.BadLine number) = ⊤
+IsOfScript (scripts.BadLine number fault) = ⊤
 IsOfScript (scripts.Source number) = ⊥
 IsOfScript (scripts.Read fault) = ⊤
 IsOfScript (scripts.Write error) = ⊤

@@ -1,5 +1,7 @@
 -- What the program says to a command line: a message, the stream that it is written to, and the exit status.
-use Rattle.std.specs.Prelude.{⊤, ◌≡◌, ◌⊎◌, ◌++◌, ℕ, List, Option, Some, None, option_map, codes}
+use Rattle.std.specs.Prelude.{⊤, ◌≡◌, ◌⊎◌, ◌++◌, ℕ, Bool, true, false, List, Option, Some, None, option_map, codes}
+use Rattle.std.specs.Prelude.{bytes_eq, if◌then◌else◌}
+use Rattle.std.specs.String.{string_bytes}
 use Rattle.std.specs.declared.io.ErrorKind.{ErrorKind}
 use Rattle.std.specs.declared.io.ErrorKind.TheVariants as io
 use Rattle.std.specs.Fmt.{decimal}
@@ -15,7 +17,7 @@ use Rattle.jcard.specs.Texts.{AnswersTexts, IsTextFault, fault_line_of}
 use Rattle.jcard.specs.declared.answer.EvalAnswer.{EvalAnswer}
 use Rattle.jcard.specs.Verify.{IsDone, IsUndone}
 use Rattle.jcard.specs.declared.job.Job.{Job}
-use Rattle.jcard.specs.declared.job.Job.TheVariants.{Eval, Verify, Run}
+use Rattle.jcard.specs.declared.job.Job.TheVariants.{Eval, Verify, Run, Session}
 use Rattle.jcard.specs.declared.job.VerifyJob.{VerifyJob}
 use Rattle.jcard.specs.declared.saying.Message.{Message}
 use Rattle.jcard.specs.declared.play.PlayFault.{PlayFault}
@@ -26,7 +28,7 @@ use Rattle.jcard.specs.declared.saying.Remark.{Remark}
 use Rattle.jcard.specs.declared.saying.Reply.{Reply}
 use Rattle.jcard.specs.declared.saying.Reply.TheVariants as replies
 use Rattle.jcard.specs.declared.saying.Status.{Status}
-use Rattle.jcard.specs.declared.saying.Status.TheVariants.{Success, Failure, Misuse}
+use Rattle.jcard.specs.declared.saying.Status.TheVariants.{Success, Failure, Misuse, Uncertified}
 use Rattle.jcard.specs.declared.saying.Stream.TheVariants.{Output, Errors}
 use Rattle.jcard.specs.declared.files.FileFault.{FileFault}
 use Rattle.jcard.specs.declared.files.ReadFault.{ReadFault}
@@ -41,6 +43,7 @@ abbrev pub status_number : Status → ℕ
 status_number Success = 0
 status_number Failure = 1
 status_number Misuse = 2
+status_number Uncertified = 3
 
 -- a line ends with a line feed
 abbrev pub line_feed : List ℕ
@@ -79,12 +82,14 @@ abbrev pub AnswersJob : Job → EvalAnswer → Type 0
 AnswersJob (Eval code cert steps) answer = AnswersTexts code.now cert.now steps answer
 AnswersJob (Verify job) answer = ⊥
 AnswersJob (Run job) answer = ⊥
+AnswersJob (Session job) answer = ⊥
 
 -- what is wrong with the texts of a job of `eval`
 abbrev pub IsJobFault : Job → TextFault → Type 0
 IsJobFault (Eval code cert steps) fault = IsTextFault code.now cert.now fault
 IsJobFault (Verify job) fault = ⊥
 IsJobFault (Run job) fault = ⊥
+IsJobFault (Session job) fault = ⊥
 
 -- the words say a job, and this is its answer
 pub record AnswersLine (words : List Text) (answer : EvalAnswer) : Type 0 where
@@ -135,15 +140,42 @@ abbrev pub IsReply : List Text → Reply → Type 0
 IsReply words (replies.Said said) = IsSaid words said
 IsReply words (replies.Verify job) = IsJobFor words (Verify job)
 IsReply words (replies.Run job) = IsJobFor words (Run job)
+IsReply words (replies.Session job) = IsJobFor words (Session job)
+
+-- there is an answer, and no certificate: the status says so only where that is asked for
+abbrev pub uncertified_status : Bool → Status
+uncertified_status strict = if strict then Uncertified else Success
+
+abbrev pub IsUncertified : Bool → Said → Type 0
+IsUncertified strict said = (said.stream ≡ Output) × (said.status ≡ uncertified_status strict)
 
 -- what is said of the answer to a package: its line, or out of memory
-abbrev pub IsSaidOfVerified : VerifyAnswer → Said → Type 0
-IsSaidOfVerified (answers.Certificate bytes) said =
+abbrev pub IsSaidOfVerified : Bool → VerifyAnswer → Said → Type 0
+IsSaidOfVerified strict (answers.Certificate bytes) said =
     (said.message ≡ Verified (answers.Certificate bytes)) × IsSuccess said
-IsSaidOfVerified (answers.NoCertificate method fault) said =
-    (said.message ≡ Verified (answers.NoCertificate method fault)) × IsSuccess said
-IsSaidOfVerified (answers.Refused fault) said = (said.message ≡ Verified (answers.Refused fault)) × IsSuccess said
-IsSaidOfVerified answers.Memory said = (said.message ≡ Fault Memory) × IsFailure said
+IsSaidOfVerified strict (answers.NoCertificate method fault) said =
+    (said.message ≡ Verified (answers.NoCertificate method fault)) × IsUncertified strict said
+IsSaidOfVerified strict (answers.Refused fault) said =
+    (said.message ≡ Verified (answers.Refused fault)) × IsUncertified strict said
+IsSaidOfVerified strict answers.Memory said = (said.message ≡ Fault Memory) × IsFailure said
+
+-- whether a certificate was written
+abbrev pub is_certified : VerifyAnswer → Bool
+is_certified (answers.Certificate bytes) = true
+is_certified (answers.NoCertificate method fault) = false
+is_certified (answers.Refused fault) = false
+is_certified answers.Memory = false
+
+-- the certificate's file, under this path, may have been written to: it was, or it is at fault, or memory ran out
+abbrev pub may_be_written : List ℕ → Message → Bool
+may_be_written path (Answer answer) = false
+may_be_written path (Fault fault) = true
+may_be_written path (Verified answer) = is_certified answer
+may_be_written path (File fault) = bytes_eq (string_bytes fault.name) path
+may_be_written path (Load number fault) = false
+may_be_written path (Script fault) = false
+may_be_written path (Line error) = false
+may_be_written path NotText = false
 
 -- what is said where files can't be read or written
 abbrev pub IsSaidOfFiles : ReadFault → Said → Type 0
@@ -161,7 +193,7 @@ IsSaidOfPlay plays.Memory said = (said.message ≡ Fault Memory) × IsFailure sa
 -- file at fault; or out of memory
 pub data IsSaidOfJob (holds : List ℕ → Entry → Type 0) (wrote : List Written → Type 0) (job : VerifyJob) (said : Said)
     : Type 0 where
-  done : (answer : VerifyAnswer) → IsDone holds wrote job answer → IsSaidOfVerified answer said
+  done : (answer : VerifyAnswer) → IsDone holds wrote job answer → IsSaidOfVerified job.strict answer said
       → IsSaidOfJob holds wrote job said
   undone : (fault : FileFault) → IsUndone holds wrote job fault → IsSaidOfFiles (reading.File fault) said
       → IsSaidOfJob holds wrote job said

@@ -69,6 +69,11 @@ impl<'a, F: Files, T: Faults> FileSource<'a, F, T> {
         self.fault
     }
 
+    /// The same, as long as the source is there.
+    pub fn fault(&self) -> Option<&FileFault> {
+        self.fault.as_ref()
+    }
+
     // Keeps the fault of a reading that failed, and says which kind it is of.
     fn fail(&mut self, fault: ReadFault) -> SourceFault
         requires few { self.old.failures < 2 ^ 31 }

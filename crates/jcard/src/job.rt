@@ -1,5 +1,7 @@
 //! What the program is asked for.
 
+use jc_card::Limits;
+
 /// What a command line asks for. Hexadecimal is text here, as it was written, and so are the names of files.
 #[derive(Debug, Drop)]
 pub enum Job<'a> {
@@ -13,6 +15,8 @@ pub enum Job<'a> {
     Verify(VerifyJob<'a>),
     /// A script, which is played on a new card.
     Run(RunJob<'a>),
+    /// A new card, which answers the lines of standard input.
+    Session(CardJob<'a>),
 }
 
 /// A package to be verified, by the names of folders and files.
@@ -26,6 +30,8 @@ pub struct VerifyJob<'a> {
     pub earlier: Vec<&'a str>,
     /// The file of the binding, where it isn't the default one.
     pub binding: Option<&'a str>,
+    /// Whether the exit status says so where no certificate is written.
+    pub strict: bool,
 }
 
 /// A script to be played on a new card, by the names of files.
@@ -33,8 +39,17 @@ pub struct VerifyJob<'a> {
 pub struct RunJob<'a> {
     /// The file of the script.
     pub script: &'a str,
-    /// How many instructions a call of an applet may run at most.
-    pub steps: u32,
+    /// The card that it is played on.
+    pub card: CardJob<'a>,
+}
+
+/// A new card, and what is told of it.
+#[derive(Debug, Drop)]
+pub struct CardJob<'a> {
+    /// How much there may be on the card, and in a call of an applet.
+    pub limits: Limits,
     /// The file of the binding, where it isn't the default one.
     pub binding: Option<&'a str>,
+    /// Whether it is told why an answer has no precise diagnosis.
+    pub explains: bool,
 }

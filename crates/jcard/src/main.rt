@@ -12,19 +12,22 @@ mod job;
 mod line;
 mod play;
 mod saying;
+mod telling;
 mod texts;
 mod verify_folders;
 
 use binding::binding_for;
 use files::{FileCause, ReadFault, fault_of};
 use host_files::HostFiles;
-use job::RunJob;
-use play::{PlayFault, play_script};
+use job::{CardJob, RunJob, VerifyJob};
+use play::{PlayFault, hold_session, play_script};
 use saying::{Reply, Said, Status, Stream, remark_of, said_of_play, said_to, said_without_words};
 use std::fs::File;
 use std::process::ExitCode;
+use std::rt::Stderr;
 use std::{env, io};
-use verify_folders::said_of_job;
+use telling::LineTeller;
+use verify_folders::{older_stays, said_of_job};
 
 fn main(rt: HostRuntime) -> ExitCode {
     match words_of(&rt) {
@@ -42,25 +45,64 @@ fn words_of(rt: &HostRuntime) -> io::Result<Vec<String>> {
 fn reply_to(rt: &HostRuntime, words: &[String]) -> ExitCode {
     match said_to(rt.alloc(), words) {
         Reply::Said(said) => say(rt, &said),
-        Reply::Verify(job) => say(rt, &said_of_job(&mut HostFiles::new(rt), rt.alloc(), &job)),
-        Reply::Run(job) => match play_job(rt, &job) {
-            Ok(()) => ExitCode::from(Status::Success.number()),
-            Err(fault) => say(rt, &said_of_play(fault)),
-        },
+        Reply::Verify(job) => verify_job(rt, &job),
+        Reply::Run(job) => said_of_played(rt, play_job(rt, &job)),
+        Reply::Session(job) => said_of_played(rt, session_job(rt, &job)),
     }
+}
+
+// How the program ends behind a script or a session.
+fn said_of_played(rt: &HostRuntime, played: Result<(), PlayFault>) -> ExitCode {
+    match played {
+        Ok(()) => ExitCode::from(Status::Success.number()),
+        Err(fault) => say(rt, &said_of_play(fault)),
+    }
+}
+
+// Verifies a package, and says what comes of it. Where no certificate is written, and there is one from before, that is
+// told.
+fn verify_job(rt: &HostRuntime, job: &VerifyJob) -> ExitCode {
+    let mut files = HostFiles::new(rt);
+    let said = said_of_job(&mut files, rt.alloc(), job);
+    let code = say(rt, &said);
+    if older_stays(&files, job, &said) {
+        let _told = eprintln!(rt; "{}: not written, an older file stays", job.cert);
+    }
+    code
+}
+
+// Who tells of lines, on standard error.
+fn teller_of(rt: &HostRuntime, card: &CardJob) -> LineTeller<Stderr> {
+    LineTeller::new(rt.stderr(), card.limits, card.explains)
+}
+
+// Answers the lines of standard input on a new card. The binding is read first.
+fn session_job(rt: &HostRuntime, job: &CardJob) -> Result<(), PlayFault> {
+    let files = HostFiles::new(rt);
+    let binding = binding_for(&files, rt.alloc(), job.binding)?;
+    hold_session(
+        &files,
+        rt.alloc(),
+        &mut rt.stdin(),
+        &mut io::writer(rt),
+        &mut teller_of(rt, job),
+        job.limits,
+        &binding,
+    )
 }
 
 // Plays a script on a new card. Its answers are written to standard output. The binding is read first.
 fn play_job(rt: &HostRuntime, job: &RunJob) -> Result<(), PlayFault> {
     let files = HostFiles::new(rt);
-    let binding = binding_for(&files, rt.alloc(), job.binding)?;
+    let binding = binding_for(&files, rt.alloc(), job.card.binding)?;
     let mut script = open(rt, job.script)?;
     play_script(
         &files,
         rt.alloc(),
         &mut script,
         &mut io::writer(rt),
-        job.steps,
+        &mut teller_of(rt, &job.card),
+        job.card.limits,
         &binding,
     )
 }

@@ -4,16 +4,18 @@ ghost use Rattle.std.specs.Prelude.{◌≡◌, ℕ, List, Some, IfErr};
 ghost use Rattle.jc_run.specs.End.{end_of_fault};
 ghost use Rattle.jc_run.specs.Performs.{HasRun};
 ghost use Rattle.jc_run.specs.Play.{failures_at};
+ghost use Rattle.jc_run.specs.Session.{HasHeld};
 ghost use Rattle.jcard.specs.FileSource.{HoldsCertificate, IsSourceFault};
 ghost use Rattle.jcard.specs.Folders.{IsImage};
-ghost use Rattle.jcard.specs.Play.{IsTold, end_of_play, end_of_told, limits_with};
+ghost use Rattle.jcard.specs.Play.{IsTold, end_of_play, end_of_told};
 ghost use Rattle.jcard.specs.PrivateFileSource.{TellsAll};
 
 use crate::file_source::{Faults, FileSource};
 use crate::files::{FileFault, Files, ReadFault};
+use crate::telling::LineTeller;
 use jc_api::Binding;
 use jc_card::Limits;
-use jc_run::{ScriptFault, run_script};
+use jc_run::{ScriptFault, run_script, run_session};
 use std::alloc::Global;
 use std::io::{Read, Write};
 use std::marker::Brand;
@@ -44,46 +46,67 @@ impl From<ReadFault> for PlayFault {
     }
 }
 
-/// Plays a script on a new card with the limits of a card of which nothing else is said, but for the steps of a call.
-pub fn play_script<F: Files, R: Read, W: Write>(
+/// Plays a script on a new card with these limits.
+pub fn play_script<F: Files, R: Read, W: Write, E: Write>(
     files: &F,
     alloc: Global,
     reader: &mut R,
     writer: &mut W,
-    steps: u32,
+    teller: &mut LineTeller<E>,
+    limits: Limits,
     binding: &Binding,
 ) -> Result<(), PlayFault>
     ensures played { (bytes before : List ℕ) → R.remaining reader.old ≡ Some bytes
         → W.contents writer.old ≡ Some before
-        → HasRun (IsImage (F.holds files.now)) (HoldsCertificate (F.holds files.now)) (limits_with steps) binding.now
+        → HasRun (IsImage (F.holds files.now)) (HoldsCertificate (F.holds files.now)) limits binding.now
         bytes before (W.contents writer.new) (end_of_play result) }
     ensures told { IfErr result (IsTold (IsSourceFault (F.holds files.now))) }
 {
-    play_telling::<F, R, W, Brand>(files, alloc, reader, writer, steps, binding)
+    play_telling::<F, R, W, E, Brand>(files, alloc, reader, writer, teller, limits, binding)
 }
 
 // Plays a script, of which faults of these kinds are told.
-fn play_telling<F: Files, R: Read, W: Write, T: Faults>(
+fn play_telling<F: Files, R: Read, W: Write, E: Write, T: Faults>(
     files: &F,
     alloc: Global,
     reader: &mut R,
     writer: &mut W,
-    steps: u32,
+    teller: &mut LineTeller<E>,
+    limits: Limits,
     binding: &Binding,
 ) -> Result<(), PlayFault>
     requires { TellsAll (F.holds files.now) T.tells }
     ensures played { (bytes before : List ℕ) → R.remaining reader.old ≡ Some bytes
         → W.contents writer.old ≡ Some before
-        → HasRun (IsImage (F.holds files.now)) (HoldsCertificate (F.holds files.now)) (limits_with steps) binding.now
+        → HasRun (IsImage (F.holds files.now)) (HoldsCertificate (F.holds files.now)) limits binding.now
         bytes before (W.contents writer.new) (end_of_play result) }
     ensures told { IfErr result (IsTold T.tells) }
 {
     let mut source: FileSource<'_, F, T> = FileSource::new(files);
-    let mut limits = Limits::DEFAULT;
-    limits.steps = steps;
-    match run_script(alloc, reader, writer, &mut source, limits, binding) {
+    match run_script(alloc, reader, writer, &mut source, teller, limits, binding) {
         Ok(()) => Ok(()),
         Err(fault) => Err(told_of(source, fault)),
+    }
+}
+
+/// Answers the lines of a session on a new card with these limits.
+pub fn hold_session<F: Files, R: Read, W: Write, E: Write>(
+    files: &F,
+    alloc: Global,
+    reader: &mut R,
+    writer: &mut W,
+    teller: &mut LineTeller<E>,
+    limits: Limits,
+    binding: &Binding,
+) -> Result<(), PlayFault>
+    ensures { (bytes before : List ℕ) → R.remaining reader.old ≡ Some bytes → W.contents writer.old ≡ Some before
+        → HasHeld (IsImage (F.holds files.now)) (HoldsCertificate (F.holds files.now)) limits binding.now
+        bytes before (W.contents writer.new) (end_of_play result) }
+{
+    let mut source: FileSource<'_, F, Brand> = FileSource::new(files);
+    match run_session(alloc, reader, writer, &mut source, teller, limits, binding) {
+        Ok(()) => Ok(()),
+        Err(fault) => Err(PlayFault::Script(fault)),
     }
 }
 

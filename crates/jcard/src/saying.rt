@@ -4,11 +4,12 @@ ghost use Rattle.std.specs.Prelude.{◌≡◌, map};
 ghost use Rattle.std.specs.IoError.{error_kind};
 ghost use Rattle.jcard.specs.PrivateSaying.{IsSaidOfCode};
 ghost use Rattle.jcard.specs.Saying.{IsFailure, IsMisuse, IsReply, IsSaidOfFiles, IsSaidOfLine, IsSaidOfPlay};
-ghost use Rattle.jcard.specs.Saying.{IsSaidOfVerified, IsSaidWithoutWords, IsSuccess, remark_of, status_number};
+ghost use Rattle.jcard.specs.Saying.{IsSaidOfVerified, IsSaidWithoutWords, IsSuccess, is_certified, may_be_written};
+ghost use Rattle.jcard.specs.Saying.{remark_of, status_number, uncertified_status};
 
 use crate::answer::EvalAnswer;
 use crate::files::{FileFault, ReadFault};
-use crate::job::{Job, RunJob, VerifyJob};
+use crate::job::{CardJob, Job, RunJob, VerifyJob};
 use crate::line::{LineFault, job};
 use crate::play::PlayFault;
 use crate::texts::{TextFault, answer_of};
@@ -38,10 +39,12 @@ pub enum Status {
     Failure,
     /// The command line is wrong.
     Misuse,
+    /// No certificate was written, and it was asked to be told so.
+    Uncertified,
 }
 
 impl Status {
-    /// The exit status: 0, 1 or 2.
+    /// The exit status: 0 to 3.
     pub fn number(self) -> u8
         ensures { result ≡ status_number self }
     {
@@ -49,6 +52,7 @@ impl Status {
             Status::Success => 0,
             Status::Failure => 1,
             Status::Misuse => 2,
+            Status::Uncertified => 3,
         }
     }
 }
@@ -110,6 +114,8 @@ pub enum Reply<'a> {
     Verify(VerifyJob<'a>),
     /// A script is to be played, and then it is said why, if it ends early.
     Run(RunJob<'a>),
+    /// A session is to be held, and then the same.
+    Session(CardJob<'a>),
 }
 
 /// What is said beside a message, on standard error: for which method there is no certificate, and where its inference
@@ -154,6 +160,7 @@ pub fn said_to<'a, S: AsStr>(alloc: Global, words: &'a [S]) -> Reply<'a>
         Ok(Job::Eval { code, cert, steps }) => Reply::Said(said_of_code(alloc, code, cert, steps)),
         Ok(Job::Verify(job)) => Reply::Verify(job),
         Ok(Job::Run(job)) => Reply::Run(job),
+        Ok(Job::Session(job)) => Reply::Session(job),
         Err(LineFault::Line(error)) => Reply::Said(said_of_line(error)),
         Err(LineFault::Memory) => Reply::Said(failed(TextFault::Memory)),
     }
@@ -170,17 +177,64 @@ pub fn said_without_words(error: &io::Error) -> Said
     }
 }
 
-/// What is said of the answer to a package.
-pub fn said_of_verified(answer: VerifyAnswer) -> Said
-    ensures { IsSaidOfVerified answer result }
+/// The status of an answer to a package that has no certificate.
+fn uncertified(strict: bool) -> Status
+    ensures { result ≡ uncertified_status strict }
+{
+    if strict {
+        Status::Uncertified
+    } else {
+        Status::Success
+    }
+}
+
+/// What is said of the answer to a package. Whether a certificate was written is part of the status only where that is
+/// asked for.
+pub fn said_of_verified(strict: bool, answer: VerifyAnswer) -> Said
+    ensures { IsSaidOfVerified strict answer result }
 {
     match answer {
         VerifyAnswer::Memory => failed(TextFault::Memory),
-        answer => Said {
+        VerifyAnswer::Certificate(bytes) => Said {
             stream: Stream::Output,
-            message: Message::Verified(answer),
+            message: Message::Verified(VerifyAnswer::Certificate(bytes)),
             status: Status::Success,
         },
+        VerifyAnswer::NoCertificate { method, fault } => Said {
+            stream: Stream::Output,
+            message: Message::Verified(VerifyAnswer::NoCertificate { method, fault }),
+            status: uncertified(strict),
+        },
+        VerifyAnswer::Refused(fault) => Said {
+            stream: Stream::Output,
+            message: Message::Verified(VerifyAnswer::Refused(fault)),
+            status: uncertified(strict),
+        },
+    }
+}
+
+// Whether the certificate's file may have been written to.
+pub(crate) fn may_be_written(path: &str, message: &Message) -> bool
+    ensures { result ≡ may_be_written path.now message.now }
+{
+    match message {
+        Message::Fault(_) => true,
+        Message::Verified(answer) => is_certified(answer),
+        Message::File(fault) => fault.name.as_str() == path,
+        Message::Answer(_)
+        | Message::Load { .. }
+        | Message::Script(_)
+        | Message::Line(_)
+        | Message::NotText => false,
+    }
+}
+
+fn is_certified(answer: &VerifyAnswer) -> bool
+    ensures { result ≡ is_certified answer.now }
+{
+    match answer {
+        VerifyAnswer::Certificate(_) => true,
+        _ => false,
     }
 }
 

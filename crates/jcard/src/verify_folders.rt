@@ -1,15 +1,15 @@
 //! The verification of packages in folders.
 
-ghost use Rattle.std.specs.Prelude.{IfOk, IfErr};
-ghost use Rattle.jcard.specs.Files.{IsWritten, OfFile};
-ghost use Rattle.jcard.specs.Saying.{IsSaidOfJob};
+ghost use Rattle.std.specs.Prelude.{◌≡◌, true, false, IfOk, IfErr};
+ghost use Rattle.jcard.specs.Files.{IsFile, IsWritten, OfFile};
+ghost use Rattle.jcard.specs.Saying.{IsSaidOfJob, may_be_written};
 ghost use Rattle.jcard.specs.Verify.{IsAnswerOf, IsDone, IsUndone, IsUnreadOf, IsUnwrittenOf, written_of};
 
 use crate::binding::binding_for;
 use crate::files::{FileCause, Files, ReadFault, fault_of};
 use crate::folders::{image_in, images_in};
 use crate::job::VerifyJob;
-use crate::saying::{Said, said_of_files, said_of_verified};
+use crate::saying::{Said, may_be_written, said_of_files, said_of_verified};
 use jc_packages::{VerifyAnswer, verify};
 use std::alloc::Global;
 
@@ -19,8 +19,22 @@ pub fn said_of_job<F: Files>(files: &mut F, alloc: Global, job: &VerifyJob) -> S
         result }
 {
     match answer_to(files, alloc, job) {
-        Ok(answer) => said_of_verified(answer),
+        Ok(answer) => said_of_verified(job.strict, answer),
         Err(fault) => said_of_files(fault),
+    }
+}
+
+/// Whether a file stays under the certificate's name that was there before: nothing can have been written to it.
+pub fn older_stays<F: Files>(files: &F, job: &VerifyJob, said: &Said) -> bool
+    ensures unwritten { result ≡ true → may_be_written job.now.cert.now said.now.message ≡ false }
+    ensures there { result ≡ true → IsFile (F.holds files.now job.now.cert.now) }
+{
+    if may_be_written(job.cert, &said.message) {
+        return false;
+    }
+    match files.is_folder(job.cert) {
+        Ok(is_folder) => !is_folder,
+        Err(_) => false,
     }
 }
 

@@ -8,6 +8,7 @@ public interface ISO7816 {
     byte OFFSET_P2 = 3;
     byte OFFSET_LC = 4;
     byte OFFSET_CDATA = 5;
+    byte OFFSET_EXT_CDATA = 7;
 
     byte CLA_ISO7816 = 0;
     byte INS_SELECT = (byte) 0xA4;
@@ -15,7 +16,12 @@ public interface ISO7816 {
 
     short SW_NO_ERROR = (short) 0x9000;
     short SW_BYTES_REMAINING_00 = 0x6100;
+    short SW_WARNING_STATE_UNCHANGED = 0x6200;
     short SW_WRONG_LENGTH = 0x6700;
+    short SW_LOGICAL_CHANNEL_NOT_SUPPORTED = 0x6881;
+    short SW_SECURE_MESSAGING_NOT_SUPPORTED = 0x6882;
+    short SW_LAST_COMMAND_EXPECTED = 0x6883;
+    short SW_COMMAND_CHAINING_NOT_SUPPORTED = 0x6884;
     short SW_SECURITY_STATUS_NOT_SATISFIED = 0x6982;
     short SW_FILE_INVALID = 0x6983;
     short SW_DATA_INVALID = 0x6984;

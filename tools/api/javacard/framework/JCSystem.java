@@ -6,6 +6,10 @@ public final class JCSystem {
     public static final byte CLEAR_ON_RESET = 1;
     public static final byte CLEAR_ON_DESELECT = 2;
 
+    public static final byte MEMORY_TYPE_PERSISTENT = 0;
+    public static final byte MEMORY_TYPE_TRANSIENT_RESET = 1;
+    public static final byte MEMORY_TYPE_TRANSIENT_DESELECT = 2;
+
     private JCSystem() {
     }
 

@@ -7,6 +7,7 @@ public class SystemException extends CardRuntimeException {
     public static final short ILLEGAL_TRANSIENT = 3;
     public static final short ILLEGAL_AID = 4;
     public static final short NO_RESOURCE = 5;
+    public static final short ILLEGAL_USE = 6;
 
     /** Sets the reason. */
     public SystemException(short reason) {

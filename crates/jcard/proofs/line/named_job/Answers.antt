@@ -2,7 +2,7 @@ use Rattle.std.proofs.lemmas.Result.{IfOk-weaker}
 use Rattle.jcard.proofs.Lines.{neither}
 use Rattle.jcard.proofs.line.named_job.Goals as goal
 
-pub returns-in-None-named_run : goal.returns-in-None-named_run
-returns-in-None-named_run c =
+pub returns-in-None-named_card : goal.returns-in-None-named_card
+returns-in-None-named_card c =
     IfOk-weaker c.named_verify.result _ _
-    (λ found finds. neither _ c.in-None.ensures c.in-None-named_run.ensures found finds) c.named_verify.ensures
+    (λ found finds. neither _ c.in-None.ensures c.in-None-named_card.ensures found finds) c.named_verify.ensures

@@ -2,7 +2,7 @@ use Rattle.std.proofs.Common.{◌∙◌, sym, subst, codes}
 use Rattle.clap.specs.Words.{found_of, rows_of}
 use Rattle.clap.proofs.WalkLemmas.{first_value-rows}
 use Rattle.jcard.specs.Line.{Finds, IsRunOf}
-use Rattle.jcard.proofs.Lines.{no_script, no_steps_of_run}
+use Rattle.jcard.proofs.Lines.{no_script}
 use Rattle.jcard.proofs.line.run_job.Goals as goal
 
 pub returns-in_err-script : goal.returns-in_err-script
@@ -11,16 +11,7 @@ returns-in_err-script c =
     subst (λ o. Finds o (IsRunOf (rows_of found))) (sym c.from_residual.ensures)
     (no_script (rows_of found) (sym (first_value-rows found (codes "SCRIPT")) ∙ sym c.in_err-script.ensures))
 
-pub returns-in_err-steps : goal.returns-in_err-steps
-returns-in_err-steps c =
-    let found = found_of c.args.found.now in
-    subst (λ o. Finds o (IsRunOf (rows_of found))) (sym c.from_residual-in_err-steps.ensures)
-    (no_steps_of_run (rows_of found) c.in_err-steps.ensures)
-
 pub returns : goal.returns
 returns c =
-    let found = found_of c.args.found.now in (
-      sym (first_value-rows found (codes "SCRIPT")) ∙ sym c.in_ok-script.ensures,
-      c.in_ok-steps.ensures,
-      sym (first_value-rows found (codes "binding")) ∙ sym c.get_str-binding.ensures,
-    )
+    let found = found_of c.args.found.now in
+    (sym (first_value-rows found (codes "SCRIPT")) ∙ sym c.in_ok-script.ensures, c.in_ok-card.ensures)

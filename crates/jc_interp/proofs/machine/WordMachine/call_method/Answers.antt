@@ -41,8 +41,8 @@ returns-in-Throws g c =
     let before : WordState g.N.Natives.Kept =
     record { machine = c.args.self.now; kept = g.N.Natives.kept c.args.natives.now } in
     let laws = c.accepted_packages_are_type_safe.ensures in
-    method_runs_out w p natives c.args.selected c.args.steps c.args.call.now before
+    rw c.lacking.ensures (method_runs_out w p natives c.args.selected c.args.steps c.args.call.now before
     (λ accepted program. c.tables_are_known.ensures w accepted program) c.law.ensures
     (record { calls = laws.calls; first = laws.first }) c.args.number c.requires.method
     (done c.enter_first.new.self c.enter_first.result) c.enter_first.ensures
-    (other_end c.enter_first.result c.in-Throws.is)
+    (other_end c.enter_first.result c.in-Throws.is))

@@ -1,0 +1,85 @@
+-- Why calls didn't end by themselves, on words.
+use Rattle.std.proofs.Common.{◌≡◌, ℕ, Option, Some, None, option_map, refl, sym, ap, ◌∙◌, subst}
+use Rattle.jc_interp.specs.declared.ends.RunEnd.TheVariants as runs
+use Rattle.jc_machine.specs.Reading.{ReadsObject}
+use Rattle.jc_machine.specs.declared.stop.Budget.{Budget}
+use Rattle.jc_machine.specs.declared.stop.CodePoint.{CodePoint}
+use Rattle.jc_store.specs.Heap.{Object, object_at}
+use Rattle.jc_store.specs.Store.{IsThere}
+use Rattle.jc_store.specs.declared.kind.Kind.{Kind}
+use Rattle.jc_words.specs.Values.{TaggedValue}
+use Rattle.jc_card.specs.Card.{CardState}
+use Rattle.jc_card.specs.Causes.{cause_of, failure_cause, reason_of, thrown_cause}
+use Rattle.jc_card.specs.Parts.{Ended, Normally, OutOfBudget, Uncaught}
+use Rattle.jc_card.specs.Reads.{CardWords, Holds, ReadsEnded}
+use Rattle.jc_card.specs.declared.cause.Cause.{Cause}
+use Rattle.jc_card.specs.declared.cause.Cause.TheVariants.{NotRegistered, RanOut, Threw}
+use Rattle.jc_card.proofs.Ends.{none_there, tagged}
+use Rattle.jc_card.proofs.Thrown.{across}
+
+-- ---- what is thrown
+
+module _ (k : CardWords) (c : CardState) (h : Holds k c) (number : ℕ) (at : Option CodePoint) where
+  abbrev cause : Option (Object TaggedValue) → Option Cause
+  cause = option_map (thrown_cause at)
+
+  pub no_cause : object_at k.machine.store.objects number ≡ None → None ≡ cause (object_at c.heap number)
+  no_cause e = ap cause (sym (none_there k.machine.store.objects c.heap h.beside.heap number e))
+
+  pub its_cause : IsThere k.machine.store number → (kind : Kind)
+      → ((o : Object ℕ) → object_at k.machine.store.objects number ≡ Some o → kind ≡ o.kind) → (reason : ℕ)
+      → ((thrown : Object TaggedValue) → object_at c.heap number ≡ Some thrown → reason ≡ reason_of thrown)
+      → Some (Threw kind.object reason at) ≡ cause (object_at c.heap number)
+  its_cause there kind kinds reason reasons =
+      let p = tagged k.machine.store.objects c.heap h.beside.heap number there.object there.is in
+      let x = across k.machine.store.objects c.heap h.beside.heap number p.0 p.1 in
+      let kind_is : kind ≡ (p.0).kind = kinds x.object x.there ∙ (x.reads).kind in
+      ap (λ (q : Kind). Some (Threw q.object reason at)) kind_is
+      ∙ ap (λ (n : ℕ). Some (Threw ((p.0).kind).object n at)) (reasons p.0 p.1)
+      ∙ ap cause (sym p.1)
+
+-- ---- by how a call ended
+
+module _ (c : CardState) where
+  pub gave_cause : (word : Option ℕ) (e : Ended) → ReadsEnded (runs.Gave word) e → None ≡ cause_of c e
+  gave_cause word (Normally value) r = refl
+  gave_cause word (Uncaught object at) r = absurd r
+  gave_cause word (OutOfBudget spent at) r = absurd r
+
+  pub threw_cause : (object : ℕ) (point : Option CodePoint) (cause : Option Cause) (e : Ended)
+      → ReadsEnded (runs.Threw object point) e → cause ≡ option_map (thrown_cause point) (object_at c.heap object)
+      → cause ≡ cause_of c e
+  threw_cause object point cause (Normally value) r is = absurd r
+  threw_cause object point cause (Uncaught number at) r is =
+      is ∙ ap (λ (n : ℕ). option_map (thrown_cause point) (object_at c.heap n)) r.0
+      ∙ ap (λ (p : Option CodePoint). option_map (thrown_cause p) (object_at c.heap number)) r.1
+  threw_cause object point cause (OutOfBudget spent at) r is = absurd r
+
+  pub ran_out_cause : (budget : Budget) (point : Option CodePoint) (e : Ended) → ReadsEnded (runs.RanOut budget point) e
+      → Some (RanOut budget point) ≡ cause_of c e
+  ran_out_cause budget point (Normally value) r = absurd r
+  ran_out_cause budget point (Uncaught object at) r = absurd r
+  ran_out_cause budget point (OutOfBudget spent at) r = rw (r.0, r.1) refl
+
+  -- ---- of an install
+
+  pub gave_nothing : (word : Option ℕ) (e : Ended) → ReadsEnded (runs.Gave word) e
+      → Some NotRegistered ≡ failure_cause c e
+  gave_nothing word (Normally value) r = refl
+  gave_nothing word (Uncaught object at) r = absurd r
+  gave_nothing word (OutOfBudget spent at) r = absurd r
+
+  pub threw_failure : (object : ℕ) (point : Option CodePoint) (cause : Option Cause) (e : Ended)
+      → ReadsEnded (runs.Threw object point) e → cause ≡ option_map (thrown_cause point) (object_at c.heap object)
+      → cause ≡ failure_cause c e
+  threw_failure object point cause (Normally value) r is = absurd r
+  threw_failure object point cause (Uncaught number at) r is =
+      is ∙ ap (λ (n : ℕ). option_map (thrown_cause point) (object_at c.heap n)) r.0
+      ∙ ap (λ (p : Option CodePoint). option_map (thrown_cause p) (object_at c.heap number)) r.1
+  threw_failure object point cause (OutOfBudget spent at) r is = absurd r
+
+  pub ran_out_failure : (budget : Budget) (point : Option CodePoint) (e : Ended)
+      → ReadsEnded (runs.RanOut budget point) e → Some (RanOut budget point) ≡ failure_cause c e
+  ran_out_failure budget point (Normally value) r = absurd r
+  ran_out_failure budget point (Uncaught object at) r = absurd r
+  ran_out_failure budget point (OutOfBudget spent at) r = rw (r.0, r.1) refl

@@ -1,0 +1,70 @@
+//! Why a call of an applet didn't end by itself: what is told beside a status that says nothing.
+
+ghost use Rattle.std.specs.Prelude.{◌≡◌, option_map};
+ghost use Rattle.jc_card.specs.Card.{CardState};
+ghost use Rattle.jc_card.specs.Causes.{cause_of, failure_cause, thrown_cause};
+ghost use Rattle.jc_card.specs.Parts.{Ended};
+ghost use Rattle.jc_card.specs.Reads.{Holds, ReadsEnded};
+ghost use Rattle.jc_store.specs.Heap.{object_at};
+
+use crate::card::Card;
+use jc_interp::RunEnd;
+use jc_machine::{Budget, CodePoint};
+use jc_store::ObjectType;
+
+/// Why a call of an applet didn't end as it should.
+#[derive(Clone, Copy, Debug, PartialEq, Eq)]
+pub enum Cause {
+    /// Nothing caught an exception: what it is an instance of, its reason, which stands in its first component, and
+    /// where it was thrown.
+    Threw {
+        object: ObjectType,
+        reason: u16,
+        at: Option<CodePoint>,
+    },
+    /// A budget was spent, while a frame stood there.
+    RanOut {
+        spent: Budget,
+        at: Option<CodePoint>,
+    },
+    /// The install method ended, and registered no instance.
+    NotRegistered,
+}
+
+impl Card {
+    // What nothing caught, if it is there.
+    fn cause_of_thrown(&self, object: u16, at: Option<CodePoint>) -> Option<Cause>
+        ensures { (c : CardState) → Holds self.now c → result ≡ option_map (thrown_cause at) (object_at c.heap object) }
+    {
+        if !self.machine.store.is_there(object) {
+            return None;
+        }
+        Some(Cause::Threw {
+            object: self.machine.store.class_of(object).object,
+            reason: self.reason_of(object),
+            at,
+        })
+    }
+
+    // Why a call didn't end by itself, by how it ended.
+    pub(crate) fn cause_of(&self, ended: RunEnd) -> Option<Cause>
+        ensures { (c : CardState) (e : Ended) → Holds self.now c → ReadsEnded ended e → result ≡ cause_of c e }
+    {
+        match ended {
+            RunEnd::Gave(_) => None,
+            RunEnd::Threw { object, at } => self.cause_of_thrown(object, at),
+            RunEnd::RanOut { spent, at } => Some(Cause::RanOut { spent, at }),
+        }
+    }
+
+    // Why an install failed, by how its method ended.
+    pub(crate) fn failure_cause(&self, ended: RunEnd) -> Option<Cause>
+        ensures { (c : CardState) (e : Ended) → Holds self.now c → ReadsEnded ended e → result ≡ failure_cause c e }
+    {
+        match ended {
+            RunEnd::Gave(_) => Some(Cause::NotRegistered),
+            RunEnd::Threw { object, at } => self.cause_of_thrown(object, at),
+            RunEnd::RanOut { spent, at } => Some(Cause::RanOut { spent, at }),
+        }
+    }
+}

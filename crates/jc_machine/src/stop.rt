@@ -1,0 +1,23 @@
+//! Where a call stands that doesn't end by itself, and what it lacks.
+
+/// A place in the code of a loaded package.
+#[derive(Clone, Copy, Debug, PartialEq, Eq)]
+pub struct CodePoint {
+    /// The package's number, from 1 on.
+    pub package: u8,
+    /// The offset of the method's header in the package's Method component.
+    pub method: u16,
+    /// The pc: it counts from the first byte of the method's code.
+    pub pc: u16,
+}
+
+/// What there may be of in one call of the runtime's.
+#[derive(Clone, Copy, Debug, PartialEq, Eq)]
+pub enum Budget {
+    /// Steps.
+    Steps,
+    /// Frames.
+    Frames,
+    /// Words that the locals and the operands of frames take.
+    FrameWords,
+}

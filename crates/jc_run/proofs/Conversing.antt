@@ -1,0 +1,282 @@
+-- A session, line by line.
+use Rattle.std.proofs.Common.{◌≡◌, ◌≤◌, ℕ, List, [], ◌∷◌, ◌++◌, length}
+use Rattle.std.proofs.Common.{Option, Some, None, Result, IfErr, false, nat_lt, refl, sym}
+use Rattle.std.proofs.Common.{ap, ◌∙◌, append_assoc, rules, subst}
+use Rattle.std.proofs.lemmas.Result.{err_from_is_err_and}
+use Rattle.std.specs.Io.KnownBytes.{Appends}
+use Rattle.std.specs.Prelude.{IsErrAnd}
+use Rattle.jc_card.specs.Card.{CardState}
+use Rattle.jc_card.specs.Reads.{CardWords, Holds}
+use Rattle.jc_packages.specs.Source.{HoldSame}
+use Rattle.jc_run.proofs.Ending.{command_done, command_unwritten, none_more}
+use Rattle.jc_run.proofs.Playing.{line_as}
+use Rattle.jc_run.specs.Answer.{Answered}
+use Rattle.jc_run.specs.Performs.{Answers, AsksSource}
+use Rattle.jc_run.specs.Play.{BadLimits, BadLine, EndsAt, IsLinePlayed, IsPart, NoMemory, NotRead, NotWritten, Over}
+use Rattle.jc_run.specs.Play.{ScriptEnd, SourceFailed, answer_line}
+use Rattle.jc_run.specs.Play.EndsAt.{bad as bad_line, memory, source, unwritten as cut_short}
+use Rattle.jc_run.specs.PrivatePlay.{AppendsPart}
+use Rattle.jc_run.specs.PrivateSession.{EndsLine, HasConversed, IsDoneOrRefused, IsLineHeld, IsLineUnwritten}
+use Rattle.jc_run.specs.PrivateSession.{IsSessionTurn}
+use Rattle.jc_run.specs.PrivateSession.IsDoneOrRefused.{left_out, played}
+use Rattle.jc_run.specs.Session.{Converses, ConversesOn, MayRefuse}
+use Rattle.jc_run.specs.Session.Converses.{line as one_done, over, refused as one_refused, unread, unwritten}
+use Rattle.jc_script.specs.Reading.{SkipsLine, TakesShortLine, TellsInSession}
+use Rattle.jc_script.specs.declared.reader.NextLine.TheVariants as next
+use Rattle.jc_script.specs.Script.{Apdu, Asks, Bad, Cells, Install, Load, Objects, Reset, ScriptCommand, ScriptLine}
+use Rattle.jc_script.specs.Script.{Skipped, lines_of, most_in_line, said_in_session, session_line}
+
+-- ---- a line
+
+-- what asks the source may be refused
+pub asking : (command : ScriptCommand) → AsksSource command → MayRefuse (Asks command)
+asking (Load folder certificate) asks = tt
+asking (Install applet instance incoming) asks = elim asks [ ]
+asking (Apdu bytes) asks = elim asks [ ]
+asking Reset asks = elim asks [ ]
+asking Cells asks = elim asks [ ]
+asking Objects asks = elim asks [ ]
+
+module _ (images certificates : List ℕ → List ℕ → Type 0) (c : CardState) where
+  pub line_refused : (said : ScriptLine) (after : CardWords) (before : List ℕ) (now : Option (List ℕ))
+      → MayRefuse said → Holds after c → now ≡ Some before
+      → IsLineHeld images certificates c said after before now
+  line_refused said after before now may h is =
+      record { card = c; written = []; done = left_out may; holds = h; now_is = none_more is }
+
+  pub bad_refused : (said : ScriptLine) (after : CardWords) (before : List ℕ) (now : Option (List ℕ)) → Bad ≡ said
+      → Holds after c → now ≡ Some before → IsLineHeld images certificates c said after before now
+  bad_refused said after before now bad h is =
+      line_refused said after before now (subst MayRefuse bad tt) h is
+
+  pub nothing_said : (said : ScriptLine) (after : CardWords) (before : List ℕ) (now : Option (List ℕ))
+      → Skipped ≡ said → Holds after c → now ≡ Some before → IsLineHeld images certificates c said after before now
+  nothing_said said after before now skipped h is = record {
+    card = c;
+    written = [];
+    done = played [] c (subst (λ (l : ScriptLine). IsLinePlayed images certificates c l [] c) skipped (refl, refl));
+    holds = h;
+    now_is = none_more is;
+  }
+
+  pub command_held : (command : ScriptCommand) (answer : Answered) (after : CardWords) (old now : Option (List ℕ))
+      (before : List ℕ) → Answers images certificates c command answer after → old ≡ Some before
+      → Appends old now (answer_line answer) → IsLineHeld images certificates c (Asks command) after before now
+  command_held command answer after old now before a is h =
+      let d = command_done images certificates c 0 command answer after old now before a is h in record {
+        card = d.card;
+        written = d.written;
+        done = played d.written d.card d.played;
+        holds = d.holds;
+        now_is = d.now_is;
+      }
+
+  unwritten_by : {number : ℕ} {said : ScriptLine} {written : List ℕ} {end : ScriptEnd} → end ≡ NotWritten
+      → (before : List ℕ) (now : Option (List ℕ)) → now ≡ Some (before ++ written)
+      → EndsAt images certificates c number said written end
+      → IsLineUnwritten images certificates c said before now
+  unwritten_by is before now known bad_line = absurd cc
+  unwritten_by is before now known (source folder certificate) = absurd cc
+  unwritten_by is before now known (memory folder certificate) = absurd cc
+  unwritten_by is before now known (cut_short said written whole after done part) =
+      record { written = written; whole = whole; card = after; played = done; part = part; now_is = known }
+
+  pub command_not_written : (command : ScriptCommand) (answer : Answered) (after : CardWords)
+      (old now : Option (List ℕ)) (before : List ℕ) → Answers images certificates c command answer after
+      → old ≡ Some before → AppendsPart old now (answer_line answer)
+      → EndsLine images certificates c (Asks command) before now NotWritten
+  command_not_written command answer after old now before a is h =
+      let e = command_unwritten images certificates c 0 command answer after old now before a is h in
+      unwritten_by refl before now e.now_is e.ends
+
+-- ---- what is told of known bytes
+
+pub told_end : (line : List ℕ) (old new : Option (List ℕ)) (bytes : List ℕ) → old ≡ Some bytes
+    → TellsInSession line old new next.End → lines_of bytes ≡ []
+told_end line None new bytes is t = absurd cc
+told_end line (Some b) None bytes is t = elim t [ ]
+told_end line (Some b) (Some r) bytes is t = let same : b ≡ bytes = cc in rw (← same) t
+
+pub record IsLineOff (line bytes : List ℕ) (new : Option (List ℕ)) : Type 0 where
+  pub rest : List ℕ
+  pub is : new ≡ Some rest
+  pub takes : TakesShortLine line bytes rest
+
+pub told_line : (line : List ℕ) (old new : Option (List ℕ)) (bytes : List ℕ) → old ≡ Some bytes
+    → TellsInSession line old new next.Line → IsLineOff line bytes new
+told_line line None new bytes is t = absurd cc
+told_line line (Some b) None bytes is t = elim t [ ]
+told_line line (Some b) (Some r) bytes is t =
+    let same : b ≡ bytes = cc in record { rest = r; is = refl; takes = rw (← same) t }
+
+pub record IsLineLeftOut (bytes : List ℕ) (new : Option (List ℕ)) : Type 0 where
+  pub rest : List ℕ
+  pub is : new ≡ Some rest
+  pub skips : SkipsLine bytes rest
+
+pub told_bad : (line : List ℕ) (old new : Option (List ℕ)) (bytes : List ℕ) → old ≡ Some bytes
+    → TellsInSession line old new next.Bad → IsLineLeftOut bytes new
+told_bad line None new bytes is t = absurd cc
+told_bad line (Some b) None bytes is t = elim t [ ]
+told_bad line (Some b) (Some r) bytes is t =
+    let same : b ≡ bytes = cc in record { rest = r; is = refl; skips = rw (← same) t }
+
+-- ---- a turn
+
+short_line : (line : List ℕ) → length line ≤ most_in_line → session_line line ≡ said_in_session line
+short_line line short = rw short_enough refl
+  where
+    short_enough : nat_lt most_in_line (length line) ≡ false
+    short_enough = search (rules, short)
+
+module _ (images certificates : List ℕ → List ℕ → Type 0) (c : CardState) (bytes : List ℕ) where
+  pub turn_done : (line rest : List ℕ) (after : CardWords) (left : Option (List ℕ)) (before : List ℕ)
+      (now : Option (List ℕ)) → left ≡ Some rest → TakesShortLine line bytes rest
+      → IsLineHeld images certificates c (said_in_session line) after before now
+      → IsSessionTurn images certificates bytes c after left before now
+  turn_done line rest after left before now is t h = record {
+    first = line;
+    rest = rest;
+    left_is = is;
+    lines = t.lines;
+    done = rw (short_line line t.short) h;
+  }
+
+  pub turn_skipped : (rest : List ℕ) (after : CardWords) (left : Option (List ℕ)) (before : List ℕ)
+      (now : Option (List ℕ)) → left ≡ Some rest → SkipsLine bytes rest → Holds after c → now ≡ Some before
+      → IsSessionTurn images certificates bytes c after left before now
+  turn_skipped rest after left before now is s h known = record {
+    first = s.first;
+    rest = rest;
+    left_is = is;
+    lines = s.lines;
+    done = line_refused images certificates c (session_line s.first) after before now
+        (subst MayRefuse (sym s.bad) tt) h known;
+  }
+
+  pub none_left : (before : List ℕ) (now : Option (List ℕ)) → lines_of bytes ≡ [] → now ≡ Some before
+      → ConversesOn images certificates bytes c before now Over
+  none_left before now none known = record { written = []; converses = rw none (over c); now_is = none_more known }
+
+  pub not_read : (before : List ℕ) (now : Option (List ℕ)) → now ≡ Some before
+      → ConversesOn images certificates bytes c before now NotRead
+  not_read before now known = record { written = []; converses = unread (lines_of bytes) c; now_is = none_more known }
+
+  pub line_ends : (line rest before : List ℕ) (now : Option (List ℕ)) (end : ScriptEnd)
+      → TakesShortLine line bytes rest → EndsLine images certificates c (said_in_session line) before now end
+      → ConversesOn images certificates bytes c before now end
+  line_ends line rest before now Over t e = elim e [ ]
+  line_ends line rest before now (BadLine number) t e = elim e [ ]
+  line_ends line rest before now (SourceFailed number) t e = elim e [ ]
+  line_ends line rest before now NotRead t e = not_read before now e
+  line_ends line rest before now NotWritten t e = record {
+    written = e.written;
+    converses = rw t.lines (unwritten line (lines_of rest) c e.card e.written e.whole
+        (rw (short_line line t.short) e.played) e.part);
+    now_is = e.now_is;
+  }
+  line_ends line rest before now NoMemory t e = elim e [ ]
+  line_ends line rest before now BadLimits t e = elim e [ ]
+
+-- ---- faults that are handed on
+
+pub handed_on : {A E : Type 0} (result : Result A E) (error : E) (P : E → Type 0)
+    → IsErrAnd result (λ told. told ≡ error) → P error → IfErr result P
+handed_on result error P is p =
+    let told = err_from_is_err_and result is in
+    rw (told.1, told.2) p
+
+-- ---- lines that are done
+
+one_line : (images certificates : List ℕ → List ℕ → Type 0) (c after : CardState) (first rest written behind : List ℕ)
+    (end : ScriptEnd) → IsDoneOrRefused images certificates c (session_line first) written after
+    → Converses images certificates (lines_of rest) after behind end
+    → Converses images certificates (first ∷ lines_of rest) c (written ++ behind) end
+one_line images certificates c after first rest written behind end (played w a p) more =
+    one_done first (lines_of rest) c after written behind end p more
+one_line images certificates c after first rest written behind end (left_out may) more =
+    one_refused first (lines_of rest) c behind end may more
+
+module _ (images certificates : List ℕ → List ℕ → Type 0) (c : CardState) (input before : List ℕ) where
+  pub begun : (after : CardWords) (left now : Option (List ℕ)) → Holds after c → left ≡ Some input
+      → now ≡ Some before → HasConversed images certificates c input before after left now
+  begun after left now holds is known = record {
+    card = c;
+    holds = holds;
+    rest = input;
+    left_is = is;
+    written = [];
+    now_is = none_more known;
+    leads = λ behind end p. p;
+  }
+
+  pub one_more : {card after : CardWords} {left rest now further : Option (List ℕ)}
+      → (h : HasConversed images certificates c input before card left now)
+      → IsSessionTurn images certificates h.rest h.card after rest (before ++ h.written) further
+      → HasConversed images certificates c input before after rest further
+  one_more h t = record {
+    card = t.done.card;
+    holds = t.done.holds;
+    rest = t.rest;
+    left_is = t.left_is;
+    written = h.written ++ t.done.written;
+    now_is = t.done.now_is ∙ ap (λ (bs : List ℕ). Some bs) (append_assoc before h.written t.done.written);
+    leads = λ behind end p.
+        rw (append_assoc h.written t.done.written behind) (h.leads (t.done.written ++ behind) end
+        (rw t.lines (one_line images certificates h.card t.done.card t.first t.rest t.done.written behind end
+        t.done.done p)));
+  }
+
+  pub at_end : {card : CardWords} {left now last : Option (List ℕ)} {end : ScriptEnd}
+      → (h : HasConversed images certificates c input before card left now)
+      → ConversesOn images certificates h.rest h.card (before ++ h.written) last end
+      → ConversesOn images certificates input c before last end
+  at_end {end = end} h p = record {
+    written = h.written ++ p.written;
+    converses = h.leads p.written end p.converses;
+    now_is = p.now_is ∙ ap (λ (bs : List ℕ). Some bs) (append_assoc before h.written p.written);
+  }
+
+-- ---- what a source holds that holds the same
+
+module _ (images certificates older old : List ℕ → List ℕ → Type 0) (same_images : HoldSame older images)
+    (same_certificates : HoldSame old certificates) where
+  done_as : {c : CardState} {said : ScriptLine} {written : List ℕ} {after : CardState}
+      → IsDoneOrRefused images certificates c said written after → IsDoneOrRefused older old c said written after
+  done_as {c = c} {said = said} (played written after p) =
+      played written after (line_as images certificates older old same_images same_certificates c said written after p)
+  done_as (left_out may) = left_out may
+
+  converses_as : {lines : List (List ℕ)} {c : CardState} {written : List ℕ} {end : ScriptEnd}
+      → Converses images certificates lines c written end → Converses older old lines c written end
+  converses_as (over c) = over c
+  converses_as (one_done first lines c after written behind end p rest) =
+      one_done first lines c after written behind end
+      (line_as images certificates older old same_images same_certificates c _ written after p) (converses_as rest)
+  converses_as (one_refused first lines c behind end may rest) =
+      one_refused first lines c behind end may (converses_as rest)
+  converses_as (unwritten first lines c after written whole p part) =
+      unwritten first lines c after written whole
+      (line_as images certificates older old same_images same_certificates c _ whole after p) part
+  converses_as (unread lines c) = unread lines c
+
+  pub converses_on_as : {bytes : List ℕ} {c : CardState} {before : List ℕ} {now : Option (List ℕ)} {end : ScriptEnd}
+      → ConversesOn images certificates bytes c before now end → ConversesOn older old bytes c before now end
+  converses_on_as p = record { written = p.written; converses = converses_as p.converses; now_is = p.now_is }
+
+  pub turn_as : {bytes : List ℕ} {c : CardState} {after : CardWords} {left : Option (List ℕ)} {before : List ℕ}
+      {now : Option (List ℕ)} → IsSessionTurn images certificates bytes c after left before now
+      → IsSessionTurn older old bytes c after left before now
+  turn_as t = record {
+    first = t.first;
+    rest = t.rest;
+    left_is = t.left_is;
+    lines = t.lines;
+    done = record {
+      card = t.done.card;
+      written = t.done.written;
+      done = done_as t.done.done;
+      holds = t.done.holds;
+      now_is = t.done.now_is;
+    };
+  }

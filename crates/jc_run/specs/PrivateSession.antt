@@ -1,0 +1,73 @@
+-- Private. The parts of a session.
+use Rattle.std.specs.Prelude.{⊤, ◌≡◌, ℕ, Bool, true, false, List, [], ◌∷◌, ◌++◌, Option, Some}
+use Rattle.jc_card.specs.Card.{CardState}
+use Rattle.jc_card.specs.Reads.{CardWords, Holds}
+use Rattle.jc_run.specs.Play.{BadLimits, BadLine, IsLinePlayed, IsPart, NoMemory, NotRead, NotWritten, Over, ScriptEnd}
+use Rattle.jc_run.specs.Play.{SourceFailed}
+use Rattle.jc_run.specs.Session.{Converses, ConversesOn, MayRefuse}
+use Rattle.jc_script.specs.Script.{ScriptLine, lines_of, session_line}
+
+-- a line is done, or refused
+pub data IsDoneOrRefused (images certificates : List ℕ → List ℕ → Type 0) (c : CardState) (said : ScriptLine)
+    : List ℕ → CardState → Type 0 where
+  played : (written : List ℕ) (after : CardState) → IsLinePlayed images certificates c said written after
+      → IsDoneOrRefused images certificates c said written after
+  left_out : MayRefuse said → IsDoneOrRefused images certificates c said [] c
+
+pub record IsLineHeld (images certificates : List ℕ → List ℕ → Type 0) (c : CardState) (said : ScriptLine)
+    (after : CardWords) (before : List ℕ) (now : Option (List ℕ)) : Type 0 where
+  pub card : CardState
+  pub written : List ℕ
+  pub done : IsDoneOrRefused images certificates c said written card
+  pub holds : Holds after card
+  pub now_is : now ≡ Some (before ++ written)
+
+-- an answer can't be written: a part of its line may stand there
+pub record IsLineUnwritten (images certificates : List ℕ → List ℕ → Type 0) (c : CardState) (said : ScriptLine)
+    (before : List ℕ) (now : Option (List ℕ)) : Type 0 where
+  pub written : List ℕ
+  pub whole : List ℕ
+  pub card : CardState
+  pub played : IsLinePlayed images certificates c said whole card
+  pub part : IsPart written whole
+  pub now_is : now ≡ Some (before ++ written)
+
+-- no line ends a session otherwise
+abbrev pub EndsLine : (images certificates : List ℕ → List ℕ → Type 0) → CardState → ScriptLine → List ℕ
+    → Option (List ℕ) → ScriptEnd → Type 0
+EndsLine images certificates c said before now Over = ⊥
+EndsLine images certificates c said before now (BadLine number) = ⊥
+EndsLine images certificates c said before now (SourceFailed number) = ⊥
+EndsLine images certificates c said before now NotRead = now ≡ Some before
+EndsLine images certificates c said before now NotWritten =
+    IsLineUnwritten images certificates c said before now
+EndsLine images certificates c said before now NoMemory = ⊥
+EndsLine images certificates c said before now BadLimits = ⊥
+
+-- a line was read and is done
+pub record IsSessionTurn (images certificates : List ℕ → List ℕ → Type 0) (bytes : List ℕ) (c : CardState)
+    (after : CardWords) (left : Option (List ℕ)) (before : List ℕ) (now : Option (List ℕ)) : Type 0 where
+  pub first : List ℕ
+  pub rest : List ℕ
+  pub left_is : left ≡ Some rest
+  pub lines : lines_of bytes ≡ first ∷ lines_of rest
+  pub done : IsLineHeld images certificates c (session_line first) after before now
+
+abbrev pub SessionTurns : (images certificates : List ℕ → List ℕ → Type 0) → List ℕ → CardState → CardWords
+    → Option (List ℕ) → List ℕ → Option (List ℕ) → Bool → Type 0
+SessionTurns images certificates bytes c after left before now true =
+    IsSessionTurn images certificates bytes c after left before now
+SessionTurns images certificates bytes c after left before now false =
+    ConversesOn images certificates bytes c before now Over
+
+-- lines are done: whatever those that are left come to, all of them come to that behind what is written
+pub record HasConversed (images certificates : List ℕ → List ℕ → Type 0) (c : CardState) (input before : List ℕ)
+    (after : CardWords) (left now : Option (List ℕ)) : Type 0 where
+  pub card : CardState
+  pub holds : Holds after card
+  pub rest : List ℕ
+  pub left_is : left ≡ Some rest
+  pub written : List ℕ
+  pub now_is : now ≡ Some (before ++ written)
+  pub leads : (behind : List ℕ) (end : ScriptEnd) → Converses images certificates (lines_of rest) card behind end
+      → Converses images certificates (lines_of input) c (written ++ behind) end

@@ -1,0 +1,215 @@
+//! Sessions: lines that are answered one by one, on a card that stays behind a line that is refused.
+
+ghost use Rattle.std.specs.Prelude.{false, ◌≡◌, ◌<◌, ◌≤◌, ◌^◌, ℕ, List, Some, IfOk, IfErr, OnOk, length};
+ghost use Rattle.jc_card.specs.Card.{CardState};
+ghost use Rattle.jc_card.specs.New.{are_limits};
+ghost use Rattle.jc_card.specs.Reads.{Holds};
+ghost use Rattle.jc_packages.specs.Source.{HoldSame};
+ghost use Rattle.jc_run.specs.End.{end_of, end_of_fault};
+ghost use Rattle.jc_run.specs.Play.{BadLimits};
+ghost use Rattle.jc_run.specs.PrivateSession.{EndsLine, IsLineHeld, SessionTurns};
+ghost use Rattle.jc_run.specs.Session.{ConversesOn, HasHeld};
+ghost use Rattle.jc_script.specs.Reading.{pending};
+ghost use Rattle.jc_script.specs.Script as script;
+ghost use Rattle.jc_script.specs.Shown.{shown_command};
+
+use crate::command::perform;
+use crate::fault::ScriptFault;
+use crate::telling::{LineRefusal, Teller};
+use crate::writing::write_answer;
+use jc_api::Binding;
+use jc_card::{Card, Limits, accesses_add_up, commands_are_guarded, commands_stay_apart};
+use jc_packages::{PackageSource, SourceFault};
+use jc_script::{
+    Dialect, LineCause, LineFault, MOST_IN_LINE, NextLine, ReadFault, ScriptCommand, ScriptLine,
+    ScriptReader, fault_in, said_in_session,
+};
+use std::alloc::Global;
+use std::io::{Read, Write};
+
+/// The most readings of a source that may fail.
+const MOST_FAILURES: u32 = 2_147_483_647;
+
+/// A line that is too long.
+const TOO_LONG: LineRefusal = LineRefusal::Bad(LineFault {
+    cause: LineCause::TooLong,
+    column: MOST_IN_LINE + 1,
+});
+
+/// Why a load is refused, by what the source says.
+fn refusal_of(fault: SourceFault) -> LineRefusal {
+    match fault {
+        SourceFault::Failed => LineRefusal::Source,
+        SourceFault::Memory => LineRefusal::Memory,
+    }
+}
+
+/// Does a command and writes its answer, or tells that its files can't be read.
+fn converse_command<W: Write, S: PackageSource, T: Teller<S>>(
+    alloc: Global,
+    writer: &mut W,
+    source: &mut S,
+    card: &mut Card,
+    teller: &mut T,
+    command: &ScriptCommand<'_>,
+    number: u64,
+) -> Result<(), ScriptFault>
+    requires { S.failed source.old < 2 ^ 31 }
+    ensures done { OnOk result ((c : CardState) (before : List ℕ) → Holds card.old c
+        → W.contents writer.old ≡ Some before
+        → IsLineHeld (S.holds_image source.old) (S.holds_certificate source.old) c
+        (script.Asks (shown_command command.now)) card.new before (W.contents writer.new)) }
+    ensures ended { IfErr result (λ fault. (c : CardState) (before : List ℕ) → Holds card.old c
+        → W.contents writer.old ≡ Some before
+        → EndsLine (S.holds_image source.old) (S.holds_certificate source.old) c
+        (script.Asks (shown_command command.now)) before (W.contents writer.new) (end_of_fault fault)) }
+    ensures same_images { HoldSame (S.holds_image source.old) (S.holds_image source.new) }
+    ensures same_certificates { HoldSame (S.holds_certificate source.old) (S.holds_certificate source.new) }
+{
+    let answer = match perform(card, alloc, source, command) {
+        Ok(answer) => answer,
+        Err(fault) => {
+            teller.refused(number, &refusal_of(fault), source);
+            return Ok(());
+        }
+    };
+    match write_answer(writer, &answer) {
+        Ok(()) => {
+            teller.answered(number, &answer);
+            Ok(())
+        }
+        Err(error) => Err(ScriptFault::Write(error)),
+    }
+}
+
+/// Does what a line says, or tells what is wrong with it.
+fn converse_line<W: Write, S: PackageSource, T: Teller<S>>(
+    alloc: Global,
+    writer: &mut W,
+    source: &mut S,
+    card: &mut Card,
+    teller: &mut T,
+    line: &[u8],
+    number: u64,
+) -> Result<(), ScriptFault>
+    requires few { S.failed source.old < 2 ^ 31 }
+    requires short { length line.now ≤ 1024 }
+    ensures done { OnOk result ((c : CardState) (before : List ℕ) → Holds card.old c
+        → W.contents writer.old ≡ Some before
+        → IsLineHeld (S.holds_image source.old) (S.holds_certificate source.old) c
+        (script.said_in_session line.now) card.new before (W.contents writer.new)) }
+    ensures ended { IfErr result (λ fault. (c : CardState) (before : List ℕ) → Holds card.old c
+        → W.contents writer.old ≡ Some before
+        → EndsLine (S.holds_image source.old) (S.holds_certificate source.old) c
+        (script.said_in_session line.now) before (W.contents writer.new) (end_of_fault fault)) }
+    ensures same_images { HoldSame (S.holds_image source.old) (S.holds_image source.new) }
+    ensures same_certificates { HoldSame (S.holds_certificate source.old) (S.holds_certificate source.new) }
+{
+    match said_in_session(line) {
+        ScriptLine::Skipped => Ok(()),
+        ScriptLine::Asks(command) => {
+            converse_command(alloc, writer, source, card, teller, &command, number)
+        }
+        ScriptLine::Bad => {
+            let fault = fault_in(Dialect::Session, line);
+            teller.refused(number, &LineRefusal::Bad(fault), source);
+            Ok(())
+        }
+    }
+}
+
+/// Reads a line and does what it says. Says whether there is one.
+fn converse_next<R: Read, W: Write, S: PackageSource, T: Teller<S>>(
+    alloc: Global,
+    reader: &mut R,
+    writer: &mut W,
+    source: &mut S,
+    card: &mut Card,
+    teller: &mut T,
+    lines: &mut ScriptReader,
+    number: u64,
+) -> Result<bool, ScriptFault>
+    requires { S.failed source.old < 2 ^ 31 }
+    ensures done { IfOk result (λ is_line. (c : CardState) (bytes before : List ℕ) → Holds card.old c
+        → pending lines.old.unread (R.remaining reader.old) ≡ Some bytes → W.contents writer.old ≡ Some before
+        → SessionTurns (S.holds_image source.old) (S.holds_certificate source.old) bytes c card.new
+        (pending lines.new.unread (R.remaining reader.new)) before (W.contents writer.new) is_line) }
+    ensures ended { IfErr result (λ fault. (c : CardState) (bytes before : List ℕ) → Holds card.old c
+        → pending lines.old.unread (R.remaining reader.old) ≡ Some bytes → W.contents writer.old ≡ Some before
+        → ConversesOn (S.holds_image source.old) (S.holds_certificate source.old) bytes c before
+        (W.contents writer.new) (end_of_fault fault)) }
+    ensures same_images { HoldSame (S.holds_image source.old) (S.holds_image source.new) }
+    ensures same_certificates { HoldSame (S.holds_certificate source.old) (S.holds_certificate source.new) }
+{
+    match lines.next_in_session(reader)? {
+        NextLine::End => Ok(false),
+        NextLine::Bad => {
+            teller.refused(number, &TOO_LONG, source);
+            Ok(true)
+        }
+        NextLine::Line => {
+            converse_line(alloc, writer, source, card, teller, lines.line(), number)?;
+            Ok(true)
+        }
+    }
+}
+
+/// Answers lines on a card, one by one, to their end. A line is read when the answer to the one before it is written
+/// and flushed. A line that is no command, or whose files can't be read, is told to the teller, and then the next line
+/// is read.
+pub fn converse<R: Read, W: Write, S: PackageSource, T: Teller<S>>(
+    alloc: Global,
+    reader: &mut R,
+    writer: &mut W,
+    source: &mut S,
+    card: &mut Card,
+    teller: &mut T,
+) -> Result<(), ScriptFault>
+    ensures held { (c : CardState) (bytes before : List ℕ) → Holds card.old c
+        → R.remaining reader.old ≡ Some bytes → W.contents writer.old ≡ Some before
+        → ConversesOn (S.holds_image source.old) (S.holds_certificate source.old) bytes c before
+        (W.contents writer.new) (end_of result) }
+    ensures same_images { HoldSame (S.holds_image source.old) (S.holds_image source.new) }
+    ensures same_certificates { HoldSame (S.holds_certificate source.old) (S.holds_certificate source.new) }
+{
+    let mut lines = ScriptReader::new();
+    for number in 1..u64::MAX {
+        if source.failures() > MOST_FAILURES {
+            return Err(ScriptFault::Read(ReadFault::TooManyReads));
+        }
+        if !converse_next(
+            alloc, reader, writer, source, card, teller, &mut lines, number,
+        )? {
+            return Ok(());
+        }
+    }
+    Err(ScriptFault::Read(ReadFault::TooManyReads))
+}
+
+/// Answers lines on a new card, without packages beside the API's, whose AIDs and tokens a binding says, within limits.
+/// Nothing is read where the limits are too small or too large.
+pub fn run_session<R: Read, W: Write, S: PackageSource, T: Teller<S>>(
+    alloc: Global,
+    reader: &mut R,
+    writer: &mut W,
+    source: &mut S,
+    teller: &mut T,
+    limits: Limits,
+    binding: &Binding,
+) -> Result<(), ScriptFault>
+    ensures held { (bytes before : List ℕ) → R.remaining reader.old ≡ Some bytes
+        → W.contents writer.old ≡ Some before
+        → HasHeld (S.holds_image source.old) (S.holds_certificate source.old) limits binding.now bytes before
+        (W.contents writer.new) (end_of result) }
+    ensures limits { are_limits limits ≡ false → (end_of result ≡ BadLimits)
+        × (R.remaining reader.new ≡ R.remaining reader.old) × (W.contents writer.new ≡ W.contents writer.old) }
+    ensures same_images { HoldSame (S.holds_image source.old) (S.holds_image source.new) }
+    ensures same_certificates { HoldSame (S.holds_certificate source.old) (S.holds_certificate source.new) }
+{
+    commands_are_guarded();
+    commands_stay_apart();
+    accesses_add_up();
+    binding.has_no_clash();
+    let mut card = Card::new(alloc, limits, binding)?;
+    converse(alloc, reader, writer, source, &mut card, teller)
+}

@@ -1,0 +1,123 @@
+-- The rest of a line that is too long.
+use Rattle.std.proofs.Common.{◌≡◌, ◌==◌, ℕ, ◌<◌, true, false, List, [], ◌∷◌, ◌++◌, length}
+use Rattle.std.proofs.Common.{Option, Some, None, ap, ◌∙◌, sym}
+use Rattle.std.proofs.Common.{refl, arith, nat_lt, append_assoc, append-nil, subst}
+use Rattle.std.specs.Io.KnownBytes.{Consumes, IsAtEnd}
+use Rattle.std.proofs.lemmas.List.{length-append}
+use Rattle.jc_script.proofs.Feeds.{feedless_append, line_last, line_off, no_lines}
+use Rattle.jc_script.specs.PrivateReading.{ArePast, AreSkipped, BeginsLong, EndsAmong, IsPast, IsSkipped, NoFeed}
+use Rattle.jc_script.specs.PrivateReading.{ReadsKnown, ReadsOn}
+use Rattle.jc_script.specs.PrivateReading.IsSkipped.{at_end, at_feed}
+use Rattle.jc_script.specs.Reading.{SkipsLine, TellsInSession, TellsOfSession, pending}
+use Rattle.jc_script.specs.Script.{Bad, lines_of, most_in_line, session_line}
+use Rattle.jc_script.specs.declared.reader.NextLine.{NextLine}
+use Rattle.jc_script.specs.declared.reader.NextLine.TheVariants as next
+
+-- ---- one byte more
+
+pub byte_more : (before now : List ℕ) (byte : ℕ) (left : List ℕ) → IsPast before left → left ≡ byte ∷ now
+    → (byte == 10) ≡ false → IsPast before now
+byte_more before now byte left p is f = record {
+  piece = p.piece ++ byte ∷ [];
+  are = p.are ∙ ap (λ l. p.piece ++ l) is ∙ sym (append_assoc p.piece (byte ∷ []) now);
+  feedless = feedless_append p.piece (byte ∷ []) p.feedless (f, tt);
+}
+
+pub ends_at : (before now : List ℕ) (byte : ℕ) (left : List ℕ) → IsPast before left → left ≡ byte ∷ now
+    → (byte == 10) ≡ true → EndsAmong before now
+ends_at before now byte left p is f = record {
+  piece = p.piece;
+  are = p.are ∙ ap (λ l. p.piece ++ l) (is ∙ ap (λ b. b ∷ now) (grind (arith, f)));
+  feedless = p.feedless;
+}
+
+pub none_taken : (before : List ℕ) → IsPast before before
+none_taken before = record { piece = []; are = refl; feedless = tt }
+
+pub all_taken : (before left : List ℕ) → IsPast before left → left ≡ [] → NoFeed before
+all_taken before left p none =
+    subst NoFeed (sym (p.are ∙ ap (λ l. p.piece ++ l) none ∙ append-nil p.piece)) p.feedless
+
+-- ---- parts behind each other
+
+more_past : (bytes unread k more came : List ℕ) → IsPast bytes (unread ++ k) → NoFeed unread → k ≡ came ++ more
+    → IsPast bytes (came ++ more)
+more_past bytes unread k more came p f is = record {
+  piece = p.piece ++ unread;
+  are = p.are ∙ ap (λ l. p.piece ++ (unread ++ l)) is ∙ sym (append_assoc p.piece unread (came ++ more));
+  feedless = feedless_append p.piece unread p.feedless f;
+}
+
+pub goes_past : (before known after : Option (List ℕ)) (unread came : List ℕ) → ArePast before (pending unread known)
+    → NoFeed unread → Consumes known after came → ArePast before (pending came after)
+goes_past None known after unread came p f c = tt
+goes_past (Some bytes) None after unread came p f c = absurd p
+goes_past (Some bytes) (Some k) None unread came p f c = absurd c
+goes_past (Some bytes) (Some k) (Some more) unread came p f c = more_past bytes unread k more came p f c
+
+feed_found : (bytes unread k after : List ℕ) → IsPast bytes (unread ++ k) → EndsAmong unread after
+    → EndsAmong bytes (after ++ k)
+feed_found bytes unread k after p e = record {
+  piece = p.piece ++ e.piece;
+  are = p.are ∙ ap (λ l. p.piece ++ (l ++ k)) e.are ∙ ap (λ l. p.piece ++ l) (append_assoc e.piece (10 ∷ after) k)
+      ∙ sym (append_assoc p.piece e.piece (10 ∷ after ++ k));
+  feedless = feedless_append p.piece e.piece p.feedless e.feedless;
+}
+
+pub skipped_here : (before known : Option (List ℕ)) (unread after : List ℕ) → ArePast before (pending unread known)
+    → EndsAmong unread after → AreSkipped before (pending after known)
+skipped_here None known unread after p e = tt
+skipped_here (Some bytes) None unread after p e = absurd p
+skipped_here (Some bytes) (Some k) unread after p e = at_feed (feed_found bytes unread k after p e)
+
+pub skipped_all : (before known after : Option (List ℕ)) (unread came : List ℕ) → ArePast before (pending unread known)
+    → NoFeed unread → Consumes known after came → IsAtEnd after → came ≡ [] → AreSkipped before (pending came after)
+skipped_all None known after unread came p f c e none = tt
+skipped_all (Some bytes) None after unread came p f c e none = absurd p
+skipped_all (Some bytes) (Some k) None unread came p f c e none = absurd c
+skipped_all (Some bytes) (Some k) (Some more) unread came p f c e none =
+    let rest : (came ++ more) ≡ [] = ap (λ l. l ++ more) none ∙ e in
+    at_end (all_taken bytes (came ++ more) (more_past bytes unread k more came p f c) rest) rest
+
+-- ---- a line of a session
+
+too_long : (line : List ℕ) → most_in_line < length line → session_line line ≡ Bad
+too_long line long = let is : nat_lt most_in_line (length line) ≡ true = grind (arith, long) in rw is refl
+
+longer : (front piece : List ℕ) → most_in_line < length front → most_in_line < length (front ++ piece)
+longer front piece long = let n = length-append front piece in omega (arith, n, long)
+
+last_line : (front piece : List ℕ) → NoFeed front → NoFeed piece → most_in_line < length front
+    → lines_of (front ++ piece) ≡ (front ++ piece) ∷ []
+last_line [] piece f g long = absurd (omega (arith, long))
+last_line (b ∷ front) piece f g long = line_last b (front ++ piece) (feedless_append (b ∷ front) piece f g)
+
+skipped_line : (bytes mid rest : List ℕ) → BeginsLong bytes mid → IsSkipped mid rest → SkipsLine bytes rest
+skipped_line bytes mid rest b (at_feed e) = record {
+  first = b.front ++ e.piece;
+  lines = ap lines_of (b.are ∙ ap (λ l. b.front ++ l) e.are ∙ sym (append_assoc b.front e.piece (10 ∷ rest)))
+      ∙ line_off (b.front ++ e.piece) rest (feedless_append b.front e.piece b.feedless e.feedless);
+  bad = too_long (b.front ++ e.piece) (longer b.front e.piece b.long);
+}
+skipped_line bytes mid rest b (at_end f none) = record {
+  first = b.front ++ mid;
+  lines = ap lines_of b.are ∙ last_line b.front mid b.feedless f b.long
+      ∙ ap (λ l. (b.front ++ mid) ∷ l) (sym (ap lines_of none ∙ no_lines));
+  bad = too_long (b.front ++ mid) (longer b.front mid b.long);
+}
+
+pub told_skipped : (line last : List ℕ) (before mid after : Option (List ℕ)) (told : NextLine) → told ≡ next.Bad
+    → ReadsOn line before mid told → AreSkipped mid after → TellsInSession last before after told
+told_skipped line last None mid after told is r s = tt
+told_skipped line last (Some bytes) None after told is r s = absurd r
+told_skipped line last (Some bytes) (Some m) None told is r s = absurd s
+told_skipped line last (Some bytes) (Some m) (Some rest) told is r s =
+    subst (TellsOfSession last bytes rest) (sym is) (skipped_line bytes m rest (subst (ReadsKnown line bytes m) is r) s)
+
+pub told_whole : (line : List ℕ) (before after : Option (List ℕ)) (told : NextLine) → (told ≡ next.Bad → ⊥)
+    → ReadsOn line before after told → TellsInSession line before after told
+told_whole line None after told fit r = tt
+told_whole line (Some bytes) None told fit r = absurd r
+told_whole line (Some bytes) (Some rest) next.Line fit r = record { lines = r.0; short = r.1 }
+told_whole line (Some bytes) (Some rest) next.End fit r = r
+told_whole line (Some bytes) (Some rest) next.Bad fit r = absurd (fit refl)

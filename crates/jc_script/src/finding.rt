@@ -1,0 +1,256 @@
+//! What is wrong with a line that is no command: the first fault that a reader of the line meets.
+
+ghost use Rattle.std.specs.Prelude.{◌≡◌, ◌+◌, ◌<◌, ◌≤◌, length, not, position, IfSome};
+ghost use Rattle.std.specs.Char.{is_ascii_hexdigit};
+ghost use Rattle.jc_script.specs.Faults.{aid_fault, byte_cause, command_fault, control_fault, digits_fault};
+ghost use Rattle.jc_script.specs.Faults.{extra_fault, fault_at, fault_behind, fault_in, is_printable, keyword_fault};
+ghost use Rattle.jc_script.specs.Faults.{missing_fault, name_fault, odd_fault, spread, word_fault, words_fault};
+
+use crate::fault::{LineCause, LineFault};
+use crate::words::{Words, control_in};
+
+/// Whose line it is: a script's, or a session's, which has two commands more.
+#[derive(Clone, Copy, Debug, PartialEq, Eq)]
+pub enum Dialect {
+    Script,
+    Session,
+}
+
+/// What a word has to be.
+#[derive(Clone, Copy, Debug, PartialEq, Eq)]
+enum Form {
+    /// The name of a file or a folder.
+    Name,
+    /// An AID, in hexadecimal.
+    Aid,
+    /// Bytes, in hexadecimal.
+    Bytes,
+}
+
+/// A fault in a column.
+fn fault_at(cause: LineCause, column: usize) -> LineFault
+    ensures { result ≡ fault_at cause column }
+{
+    LineFault { cause, column }
+}
+
+/// Whether a byte may be printed: it is one of ASCII, from the space on.
+fn is_printable(byte: u8) -> bool
+    ensures { result ≡ is_printable byte }
+{
+    32 <= byte && byte < 127
+}
+
+/// What is wrong with a byte where a digit should stand.
+fn byte_cause(byte: u8) -> LineCause
+    ensures { result ≡ byte_cause byte }
+{
+    if is_printable(byte) {
+        LineCause::NoDigit(byte)
+    } else {
+        LineCause::Unprintable(byte)
+    }
+}
+
+/// A digit without another.
+fn odd_fault(column: usize, word: &[u8]) -> Option<LineFault>
+    requires { column + length word.now ≤ 1027 }
+    ensures { result ≡ odd_fault column word.now }
+{
+    if word.len() % 2 == 0 {
+        None
+    } else {
+        Some(fault_at(LineCause::OddDigit, column + word.len() - 1))
+    }
+}
+
+/// Where the first byte stands that is no digit.
+fn no_digit_in(word: &[u8]) -> Option<usize>
+    ensures place { result ≡ position (λ b. not (is_ascii_hexdigit b)) word.now }
+    ensures within { IfSome result (λ at. at < length word.now) }
+{
+    word.iter().position(|byte| !byte.is_ascii_hexdigit())
+}
+
+/// Where the first byte stands that isn't printable.
+fn unprintable_in(word: &[u8]) -> Option<usize>
+    ensures place { result ≡ position (λ b. not (is_printable b)) word.now }
+    ensures within { IfSome result (λ at. at < length word.now) }
+{
+    word.iter().position(|byte| !is_printable(*byte))
+}
+
+/// What is wrong with digits, of which the first stands in a column.
+fn digits_fault(column: usize, word: &[u8]) -> Option<LineFault>
+    requires { column + length word.now ≤ 1027 }
+    ensures { result ≡ digits_fault column word.now }
+{
+    match no_digit_in(word) {
+        Some(at) => Some(fault_at(byte_cause(word[at]), column + at)),
+        None => odd_fault(column, word),
+    }
+}
+
+/// What is wrong with an AID's digits.
+fn aid_fault(column: usize, word: &[u8]) -> Option<LineFault>
+    requires { column + length word.now ≤ 1027 }
+    ensures { result ≡ aid_fault column word.now }
+{
+    if let Some(fault) = digits_fault(column, word) {
+        return Some(fault);
+    }
+    let length = word.len() / 2;
+    if length < 5 || 16 < length {
+        Some(fault_at(LineCause::AidLength, column))
+    } else {
+        None
+    }
+}
+
+/// A control byte in a name, of which the first byte stands in a column.
+fn control_fault(column: usize, word: &[u8]) -> Option<LineFault>
+    requires { column + length word.now ≤ 1027 }
+    ensures { result ≡ control_fault column word.now }
+{
+    match control_in(word) {
+        Some(at) => Some(fault_at(LineCause::Unprintable(word[at]), column + at)),
+        None => None,
+    }
+}
+
+/// What is wrong with a name.
+fn name_fault(column: usize, word: &[u8]) -> Option<LineFault>
+    requires { column + length word.now ≤ 1027 }
+    ensures { result ≡ name_fault column word.now }
+{
+    match str::from_utf8(word) {
+        Ok(_) => control_fault(column, word),
+        Err(_) => Some(fault_at(LineCause::NotText, column)),
+    }
+}
+
+/// What is wrong with a word.
+fn word_fault(form: Form, column: usize, word: &[u8]) -> Option<LineFault>
+    requires { column + length word.now ≤ 1027 }
+    ensures { result ≡ word_fault form column word.now }
+{
+    if word.is_empty() {
+        return Some(fault_at(LineCause::BlankTooMany, column));
+    }
+    match form {
+        Form::Name => name_fault(column, word),
+        Form::Aid => aid_fault(column, word),
+        Form::Bytes => digits_fault(column, word),
+    }
+}
+
+/// What is wrong with a word that shouldn't stand there.
+fn extra_fault(column: usize, word: &[u8]) -> LineFault
+    ensures { result ≡ extra_fault column word.now }
+{
+    if word.is_empty() {
+        fault_at(LineCause::BlankTooMany, column)
+    } else {
+        fault_at(LineCause::WordTooMany, column)
+    }
+}
+
+/// What is wrong where a word is missing, if it is needed.
+fn missing_fault(needed: usize, column: usize) -> Option<LineFault>
+    ensures { result ≡ missing_fault needed column }
+{
+    if needed == 0 {
+        None
+    } else {
+        Some(fault_at(LineCause::WordMissing, column))
+    }
+}
+
+/// The first fault of words that should have these forms, so many of them at least.
+fn words_fault(
+    forms: &[Form],
+    needed: usize,
+    column: usize,
+    words: &mut Words<'_>,
+) -> Option<LineFault>
+    requires { column + spread words.old ≤ 1027 }
+    ensures { result ≡ words_fault forms.now needed column words.old }
+{
+    let mut left = needed;
+    let mut at = column;
+    for form in forms {
+        let Some(word) = words.next() else {
+            return missing_fault(left, at);
+        };
+        let fault = word_fault(*form, at, word);
+        if fault.is_some() {
+            return fault;
+        }
+        left = left.saturating_sub(1);
+        at += word.len() + 1;
+    }
+    match words.next() {
+        Some(word) => Some(extra_fault(at, word)),
+        None => None,
+    }
+}
+
+/// What is wrong with a first word that is no command.
+fn keyword_fault(keyword: &[u8]) -> LineFault
+    requires { length keyword.now ≤ 1024 }
+    ensures { result ≡ keyword_fault keyword.now }
+{
+    if keyword.is_empty() {
+        return fault_at(LineCause::BlankTooMany, 1);
+    }
+    match unprintable_in(keyword) {
+        Some(at) => fault_at(LineCause::Unprintable(keyword[at]), 1 + at),
+        None => fault_at(LineCause::UnknownCommand, 1),
+    }
+}
+
+/// What is wrong behind a command's first word.
+fn command_fault(forms: &[Form], needed: usize, keyword: &[u8], words: &mut Words<'_>) -> LineFault
+    requires { length keyword.now + spread words.old ≤ 1024 }
+    ensures { result ≡ command_fault forms.now needed keyword.now words.old }
+{
+    match words_fault(forms, needed, keyword.len() + 2, words) {
+        Some(fault) => fault,
+        None => fault_at(LineCause::UnknownCommand, 1),
+    }
+}
+
+/// What is wrong with a line of these words.
+fn fault_behind(dialect: Dialect, keyword: &[u8], words: &mut Words<'_>) -> LineFault
+    requires { length keyword.now + spread words.old ≤ 1024 }
+    ensures { result ≡ fault_behind dialect keyword.now words.old }
+{
+    if keyword == b"load".as_slice() {
+        command_fault(&[Form::Name, Form::Name], 2, keyword, words)
+    } else if keyword == b"install".as_slice() {
+        command_fault(&[Form::Aid, Form::Aid, Form::Bytes], 2, keyword, words)
+    } else if keyword == b"apdu".as_slice() {
+        command_fault(&[Form::Bytes], 1, keyword, words)
+    } else if keyword == b"reset".as_slice() {
+        command_fault(&[], 0, keyword, words)
+    } else if dialect == Dialect::Session && keyword == b"cells".as_slice() {
+        command_fault(&[], 0, keyword, words)
+    } else if dialect == Dialect::Session && keyword == b"objects".as_slice() {
+        command_fault(&[], 0, keyword, words)
+    } else {
+        keyword_fault(keyword)
+    }
+}
+
+/// What is wrong with a line that is no command, of at most [`MOST_IN_LINE`](crate::MOST_IN_LINE) bytes: the first
+/// fault from the left. It is for people: what a line does hangs on [`said_by`](crate::said_by) alone.
+pub fn fault_in(dialect: Dialect, line: &[u8]) -> LineFault
+    requires { length line.now ≤ 1024 }
+    ensures { result ≡ fault_in dialect line.now }
+{
+    let mut words = Words::new(line);
+    match words.next() {
+        Some(keyword) => fault_behind(dialect, keyword, &mut words),
+        None => fault_at(LineCause::UnknownCommand, 1),
+    }
+}

@@ -1,0 +1,172 @@
+"""What tools and examples share: how names are shown, and the rule by which files are replaced and removed.
+
+The rule: a tool replaces and removes only files that it made itself and that are still as it left them. Their checksums
+stand in the file .made-by-TOOL of the folder, as sha256sum writes them. A file that is there with the same content is
+left as it is. A link is never written through. Anything else that is in the way is told, before anything is touched.
+"""
+import hashlib
+import os
+import re
+import stat
+
+# The component files that a package is read from.
+COMPONENTS = ['Header.cap', 'Applet.cap', 'Import.cap', 'ConstantPool.cap', 'Class.cap', 'Method.cap',
+              'StaticField.cap', 'Export.cap', 'Descriptor.cap']
+FOLDER = '-' * 64  # in the place of a folder's checksum
+WORDS = '%s is there already: this tool didn\'t make it, or it was changed'
+ESCAPES = {'\n': '\\n', '\r': '\\r', '\t': '\\t', '\\': '\\\\'}
+
+
+class Taken(Exception):
+    """What is in the way of a tool."""
+
+
+def shown(text):
+    """A name or a path in one line: what isn't printable is escaped, and so are bytes that aren't UTF-8."""
+    def one(char):
+        if char in ESCAPES or char.isprintable():
+            return ESCAPES.get(char, char)
+        if '\udc80' <= char <= '\udcff':
+            return '\\x%02X' % (ord(char) - 0xDC00)
+        return '\\x%02X' % ord(char) if ord(char) < 256 else '\\u%04X' % ord(char)
+    return ''.join(map(one, text))
+
+
+def system_words(error, path=''):
+    """The words of an error of the system's, with the path that it is about."""
+    name = error.filename if isinstance(error.filename, (str, bytes)) else path
+    return '%s: %s' % (shown(os.fsdecode(name)), error.strerror or shown(str(error)))
+
+
+def is_plain(name):
+    """Whether a word names a file or a folder inside of another one."""
+    return name not in ('', '.', '..') and '/' not in name and '\0' not in name
+
+
+def checksum(path):
+    with open(path, 'rb') as file:
+        return hashlib.sha256(file.read()).hexdigest()
+
+
+class Made:
+    """The files of a folder that a tool made. Names are paths from the folder on."""
+
+    def __init__(self, folder, tool):
+        self.folder, self.list = folder, '.made-by-' + tool
+        self.known = self.read()
+
+    def path(self, name):
+        return os.path.join(self.folder, name)
+
+    def kind(self, name):
+        """'file', 'folder', None where nothing is there, or 'other', as a link."""
+        try:
+            mode = os.lstat(self.path(name)).st_mode
+        except (FileNotFoundError, NotADirectoryError):
+            return None
+        return 'file' if stat.S_ISREG(mode) else 'folder' if stat.S_ISDIR(mode) else 'other'
+
+    def read(self):
+        """The pairs of checksums and names that the list has."""
+        if self.kind(self.list) is None:
+            return set()
+        lines = []
+        if self.kind(self.list) == 'file':
+            with open(self.path(self.list), encoding='utf-8', errors='surrogateescape') as file:
+                lines = [re.fullmatch('([0-9a-f]{64}|-{64})  (.+)', line) for line in file.read().split('\n')[:-1]]
+        if not lines or None in lines:
+            raise Taken('%s isn\'t a list of files that were made here' % shown(self.path(self.list)))
+        return {line.groups() for line in lines}
+
+    def save(self):
+        """Writes the list, if anything stands in it."""
+        text = ''.join('%s  %s\n' % row for row in sorted(self.known, key=lambda row: row[::-1]))
+        if text:
+            self.put(self.list, text.encode('utf-8', 'surrogateescape'))
+        elif self.kind(self.list):
+            os.remove(self.path(self.list))
+
+    def put(self, name, content):
+        """Writes a file whole, in the place of one that may be there."""
+        path = self.path(name)
+        with open(path + '.new', 'xb') as file:
+            file.write(content)
+        os.replace(path + '.new', path)
+
+    def is_own(self, name):
+        kind = self.kind(name)
+        if kind == 'file':
+            return (checksum(self.path(name)), name) in self.known
+        return kind == 'folder' and (FOLDER, name) in self.known
+
+    def is_in_the_way(self, name, content):
+        """Whether something else is where this content is to stand, or nothing where that is None."""
+        if self.kind(name) is None or self.is_own(name):
+            return False
+        return content is None or self.kind(name) != 'file' or not self.has(name, content)
+
+    def write(self, files, others=()):
+        """Writes files by their names. Others may not be there, but for own ones, which are removed."""
+        gone = [name for name in others if name not in files]
+        for name in sorted([*files, *gone]):
+            if self.is_in_the_way(name, files.get(name)):
+                raise Taken(WORDS % shown(self.path(name)))
+        os.makedirs(self.folder, exist_ok=True)
+        new = {name: content for name, content in files.items() if not self.kind(name) or not self.has(name, content)}
+        made = {(hashlib.sha256(content).hexdigest(), name) for name, content in new.items()}
+        after = made | {row for row in self.known if row[1] not in new and row[1] not in gone}
+        self.known |= made
+        self.save()  # what was there is own until it is replaced
+        for name in gone:
+            if self.kind(name):
+                os.remove(self.path(name))
+        for name, content in new.items():
+            self.put(name, content)
+        self.known = after
+        self.save()
+
+    def take(self, name, path):
+        """Takes a file that was made elsewhere, with its mode, and as one that is made now."""
+        with open(path, 'rb') as file:
+            self.write({name: file.read()})
+        if self.is_own(name):
+            os.chmod(self.path(name), os.stat(path).st_mode & 0o777)
+            os.utime(self.path(name))
+
+    def has(self, name, content):
+        with open(self.path(name), 'rb') as file:
+            return file.read() == content
+
+    def inside(self):
+        """All that is in the folder, but the list, each folder behind what is in it. Links aren't followed."""
+        found = []
+        for at, folders, files in os.walk(self.folder, topdown=False):
+            names = [os.path.relpath(os.path.join(at, name), self.folder) for name in sorted(files + folders)]
+            found += [name for name in names if name != self.list]
+        return found
+
+    def note_all(self):
+        """Notes all that is in the folder as made."""
+        self.known = {(FOLDER if self.kind(name) == 'folder' else checksum(self.path(name)), name)
+                      for name in self.inside() if self.kind(name) != 'other'}
+        self.save()
+
+    def clear(self):
+        """Removes the folder with all that is in it, which has to be own."""
+        if os.path.islink(self.folder) or os.path.lexists(self.folder) and not os.path.isdir(self.folder):
+            raise Taken(WORDS % shown(self.folder))
+        inside = self.inside()
+        for name in inside:
+            if not self.is_own(name):
+                raise Taken(WORDS % shown(self.path(name)))
+        for name in inside:
+            (os.rmdir if self.kind(name) == 'folder' else os.remove)(self.path(name))
+        if os.path.isdir(self.folder):
+            self.known = set()
+            self.save()
+            os.rmdir(self.folder)
+
+
+def write_components(folder, files, tool):
+    """Writes component files to a folder, which may have none of another package."""
+    Made(folder, tool).write(files, COMPONENTS)

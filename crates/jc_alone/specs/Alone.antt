@@ -80,7 +80,8 @@ alone_step listing m =
 
 -- ---- a run
 
--- at most so many steps; where a further one would begin the budget is used up
+-- at most so many steps; where a further one would begin the budget is used up. Code alone calls nothing: no frame is
+-- ever lacking, and no package's place is told
 unfoldable pub alone_steps : List PlacedInstr → ℕ → Machine ⊤ → Called ⊤
 alone_steps listing zero m = ended_by (RanOut m Steps None)
 alone_steps listing (suc n) m = onward FrameWords None (alone_steps listing n) (alone_step listing m)

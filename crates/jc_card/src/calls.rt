@@ -80,6 +80,7 @@ impl Card {
             selected,
             self.steps,
             &first,
+            &mut self.denial,
         )
     }
 

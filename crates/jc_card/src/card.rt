@@ -1,5 +1,6 @@
 //! The card.
 
+use jc_firewall::Denial;
 use jc_interp::WordMachine;
 use jc_link::World;
 use jc_loaded::Program;
@@ -20,6 +21,8 @@ pub struct Card {
     pub(crate) most_objects: u16,
     pub(crate) most_cells: u16,
     pub(crate) steps: u32,
+    /// What the firewall denied behind a SecurityException with which the last call ended.
+    pub(crate) denial: Option<Denial>,
 }
 
 impl Model for Card {

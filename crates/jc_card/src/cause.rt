@@ -8,6 +8,7 @@ ghost use Rattle.jc_card.specs.Reads.{Holds, ReadsEnded};
 ghost use Rattle.jc_store.specs.Heap.{object_at};
 
 use crate::card::Card;
+use jc_firewall::Denial;
 use jc_interp::RunEnd;
 use jc_machine::{Budget, CodePoint};
 use jc_store::ObjectType;
@@ -32,6 +33,13 @@ pub enum Cause {
 }
 
 impl Card {
+    /// What the firewall denied, where the last command or install ended with a SecurityException of the runtime's: the
+    /// access of the instruction that threw it, or the first use of an argument that it denies to the native member
+    /// which that instruction calls.
+    pub fn denial(&self) -> Option<Denial> {
+        self.denial
+    }
+
     // What nothing caught, if it is there.
     fn cause_of_thrown(&self, object: u16, at: Option<CodePoint>) -> Option<Cause>
         ensures { (c : CardState) → Holds self.now c → result ≡ option_map (thrown_cause at) (object_at c.heap object) }

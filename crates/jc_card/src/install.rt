@@ -140,6 +140,7 @@ impl Card {
             selected,
             self.steps,
             &first,
+            &mut self.denial,
         )
     }
 

@@ -55,6 +55,7 @@ impl Card {
             most_objects: limits.objects,
             most_cells: limits.cells,
             steps: limits.steps,
+            denial: None,
         })
     }
 }

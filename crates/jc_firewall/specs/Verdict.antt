@@ -1,7 +1,7 @@
 -- The firewall (Java Card Runtime Environment Specification, Applet Isolation and Object Sharing: Class and Object
 -- Access Behavior; and Transient Objects for arrays that are cleared on deselect). A table: the first row that fits
 -- decides.
-use Rattle.std.specs.Prelude.{ℕ, ◌==◌, Bool, true, false, not, ◌&&◌, ◌||◌, if◌then◌else◌}
+use Rattle.std.specs.Prelude.{ℕ, ◌==◌, Bool, true, false, not, ◌&&◌, ◌||◌, if◌then◌else◌, Option, None, Some}
 use Rattle.std.specs.Option.{option_map_or}
 use Rattle.jc_store.specs.declared.kind.ClearingEvent.{ClearingEvent}
 use Rattle.jc_store.specs.declared.kind.ClearingEvent.TheVariants.{Reset, Deselect}
@@ -13,6 +13,7 @@ use Rattle.jc_firewall.specs.declared.access.Access.TheVariants.{PutStaticRefere
 use Rattle.jc_firewall.specs.declared.access.Access.TheVariants.{GetField, LoadComponent, StoreComponent}
 use Rattle.jc_firewall.specs.declared.access.Access.TheVariants.{StoreReference, ArrayLength, InvokeVirtual}
 use Rattle.jc_firewall.specs.declared.access.Access.TheVariants.{InvokeInterface, Throw, CheckCast, InstanceOf}
+use Rattle.jc_firewall.specs.declared.access.Denial.{Denial}
 use Rattle.jc_firewall.specs.declared.access.Facts.{Facts}
 use Rattle.jc_firewall.specs.declared.access.Rule.TheVariants.{Storing, Components, Fields, Calls, SharedCalls, Throws}
 use Rattle.jc_firewall.specs.declared.access.Rule.TheVariants.{Casts, SharedCasts, Selection}
@@ -148,3 +149,9 @@ verdict_of access active f =
     if active == runtime_context then verdict_for_runtime (row_of access f) f
     else if stores_reference access && option_map_or is_never_stored f.stored false then Denied Storing
     else verdict_in (row_of access f) active f
+
+-- what is told of an access by the verdict on it
+abbrev pub denial_by : Access → Facts → Verdict → Option Denial
+denial_by access f Allowed = None
+denial_by access f (AllowedSwitch owner) = None
+denial_by access f (Denied rule) = Some (record { access = access; owner = f.owner; rule = rule })

@@ -75,6 +75,16 @@ pub enum Rule {
     Selection,
 }
 
+/// An access that is denied.
+#[derive(Clone, Copy, Debug, PartialEq, Eq)]
+pub struct Denial {
+    pub access: Access,
+    /// The owner of the object.
+    pub owner: Owner,
+    /// Why it is denied.
+    pub rule: Rule,
+}
+
 /// Whether an access is allowed.
 #[derive(Clone, Copy, Debug, PartialEq, Eq)]
 pub enum Verdict {

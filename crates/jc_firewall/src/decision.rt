@@ -2,14 +2,14 @@
 
 ghost use Rattle.std.specs.Prelude.{◌≡◌, ◌&&◌, false};
 ghost use Rattle.std.specs.Option.{option_map_or};
-ghost use Rattle.jc_firewall.specs.Verdict.{is_deselect, is_entry_point, is_global_array, is_never_stored};
+ghost use Rattle.jc_firewall.specs.Verdict.{denial_by, is_deselect, is_entry_point, is_global_array, is_never_stored};
 ghost use Rattle.jc_firewall.specs.Verdict.{is_out_of_selection, is_own, row_of, stores_reference, verdict_for_runtime};
 ghost use Rattle.jc_firewall.specs.Verdict.{verdict_in, verdict_of};
 ghost use Rattle.jc_firewall.specs.declared.access.Access.TheVariants.{CheckCast};
 ghost use Rattle.jc_firewall.specs.Verdict.Row.{components, fields, interface_calls, shared_calls, shared_casts};
 ghost use Rattle.jc_firewall.specs.Verdict.Row.{throws, virtual_calls};
 
-use crate::access::{Access, Facts, Rule, Verdict};
+use crate::access::{Access, Denial, Facts, Rule, Verdict};
 use jc_names::Owner;
 use jc_store::{ClearingEvent, Mark};
 
@@ -221,5 +221,19 @@ pub fn decide(access: Access, active: u8, facts: &Facts) -> Verdict
         Verdict::Denied(Rule::Storing)
     } else {
         between_applets(access, active, facts)
+    }
+}
+
+/// What is told of an access that is denied; nothing of one that is allowed.
+pub fn denial(access: Access, active: u8, facts: &Facts) -> Option<Denial>
+    ensures { result ≡ denial_by access facts.now (verdict_of access active facts.now) }
+{
+    match decide(access, active, facts) {
+        Verdict::Allowed | Verdict::AllowedSwitch(_) => None,
+        Verdict::Denied(rule) => Some(Denial {
+            access,
+            owner: facts.owner,
+            rule,
+        }),
     }
 }

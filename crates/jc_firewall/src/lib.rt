@@ -5,6 +5,6 @@ mod access;
 mod decision;
 mod law;
 
-pub use access::{Access, Facts, Rule, Verdict};
-pub use decision::decide;
+pub use access::{Access, Denial, Facts, Rule, Verdict};
+pub use decision::{decide, denial};
 pub use law::own_is_allowed;

@@ -12,6 +12,7 @@ use crate::entering::{Owners, header_of, size_of};
 use crate::machine::WordMachine;
 use crate::seen::look_at;
 use crate::step::tables_are_known;
+use jc_firewall::Denial;
 use jc_link::World;
 use jc_loaded::{Called, ClassNumber, MethodNumber, Program};
 use jc_machine::{Budget, Natives, WordCall, WordOutcome};
@@ -118,6 +119,7 @@ impl WordMachine {
         steps: u32,
         call: &FirstCall<'_>,
         number: MethodNumber,
+        denial: &mut Option<Denial>,
     ) -> RunEnd
         requires may_call { MayCall world.now program.now N.meaning selected call.now
             (record { machine = self.old; kept = N.kept natives.old }) }
@@ -130,7 +132,7 @@ impl WordMachine {
         natives.law();
         accepted_packages_are_type_safe(natives);
         match self.enter_first(program, number, call) {
-            StepEnd::GoesOn => self.run(natives, world, program, selected, steps),
+            StepEnd::GoesOn => self.run(natives, world, program, selected, steps, denial),
             StepEnd::Throws(_) | StepEnd::Gives(_) | StepEnd::UsedUp => RunEnd::RanOut {
                 spent: self.lacking(),
                 at: None,
@@ -179,6 +181,7 @@ impl WordMachine {
         selected: Option<u8>,
         steps: u32,
         call: &FirstCall<'_>,
+        denial: &mut Option<Denial>,
     ) -> RunEnd
         requires may_call { MayCall world.now program.now N.meaning selected call.now
             (record { machine = self.old; kept = N.kept natives.old }) }
@@ -188,9 +191,9 @@ impl WordMachine {
     {
         tables_are_known(program);
         match call.called {
-            Called::Method(number) => {
-                self.call_method(natives, world, program, selected, steps, call, number)
-            }
+            Called::Method(number) => self.call_method(
+                natives, world, program, selected, steps, call, number, denial,
+            ),
             Called::NativeMethod { member } => {
                 self.call_api(natives, world, program, selected, steps, call, member)
             }
@@ -202,6 +205,8 @@ impl WordMachine {
     /// or a native member, which is one step. It drops all frames, those of before too. It is for calls that read one
     /// of the defensive machine's, of an accepted world, that can begin. The call ends as each such call ends, and what
     /// both keep beside their frames agrees again. `selected` is the context of the applet that is selected, if one is.
+    /// Where the call ends with a SecurityException of the runtime's, `denial` says what the firewall denied behind it,
+    /// if that can be told.
     pub fn call<N: Natives>(
         &mut self,
         natives: &mut N,
@@ -210,6 +215,7 @@ impl WordMachine {
         selected: Option<u8>,
         steps: u32,
         call: &FirstCall<'_>,
+        denial: &mut Option<Denial>,
     ) -> RunEnd
         requires may_call { MayCall world.now program.now N.meaning selected call.now
             (record { machine = self.old; kept = N.kept natives.old }) }
@@ -218,7 +224,8 @@ impl WordMachine {
             (record { machine = self.new; kept = N.kept natives.new }) result }
         ensures dropped { self.new.frames.frames ≡ [] }
     {
-        let end = self.make_call(natives, world, program, selected, steps, call);
+        *denial = None;
+        let end = self.make_call(natives, world, program, selected, steps, call, denial);
         self.frames.clear();
         end
     }

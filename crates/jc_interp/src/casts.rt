@@ -52,7 +52,7 @@ pub(crate) fn is_shared_interface(program: &Program, class: ClassName) -> bool
     }
 }
 
-fn test_of(here: &Here<'_>, type_: TestedType) -> Option<Test>
+pub(crate) fn test_of(here: &Here<'_>, type_: TestedType) -> Option<Test>
     ensures { result ≡ test_of here.now type_ }
 {
     match type_ {
@@ -111,7 +111,7 @@ fn passes(here: &Here<'_>, test: Test, object: Seen) -> bool
     }
 }
 
-fn is_shared(here: &Here<'_>, test: Test) -> bool
+pub(crate) fn is_shared(here: &Here<'_>, test: Test) -> bool
     ensures { result ≡ is_shared here.now test }
 {
     match test {

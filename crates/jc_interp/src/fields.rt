@@ -18,7 +18,7 @@ use jc_store::{Mark, Store};
 
 /// What is done where a field is written.
 #[inline]
-fn putting(form: Form) -> Access
+pub(crate) fn putting(form: Form) -> Access
     ensures { result ≡ putting form }
 {
     match form {
@@ -29,7 +29,7 @@ fn putting(form: Form) -> Access
 
 /// The mark of the object that is stored, if a reference is.
 #[inline]
-fn stored_mark(store: &Store, form: Form, word: u16) -> Option<Mark>
+pub(crate) fn stored_mark(store: &Store, form: Form, word: u16) -> Option<Mark>
     ensures { result ≡ stored_mark store.now form word }
 {
     match form {
@@ -91,7 +91,7 @@ impl WordMachine {
 
     /// The object whose field is used: an operand below so many, or local 0.
     #[inline]
-    fn holder(&self, holder: Holder, below: u8) -> u16
+    pub(crate) fn holder(&self, holder: Holder, below: u8) -> u16
         ensures { result ≡ holder_word holder below self.now }
     {
         match holder {

@@ -6,6 +6,7 @@ mod call;
 mod calls;
 mod casts;
 mod creation;
+mod denied;
 mod ends;
 mod entering;
 mod fetch;

@@ -7,6 +7,7 @@ use crate::member::member_with;
 use crate::natives::{Natives, WordCall, WordOutcome};
 use jc_api::ApiClass;
 use jc_base::ReturnType;
+use jc_firewall::Denial;
 use jc_link::World;
 use jc_store::Store;
 
@@ -46,6 +47,10 @@ impl Natives for IdleNatives {
 
     fn call(&mut self, _world: &World, _store: &mut Store, call: &WordCall<'_>) -> WordOutcome {
         WordOutcome::Returned(idle_result(call.member))
+    }
+
+    fn denial(&self, _world: &World, _store: &Store, _call: &WordCall<'_>) -> Option<Denial> {
+        None
     }
 
     fn law(&self) {}

@@ -6,6 +6,7 @@ mod apdu;
 mod applet;
 mod bytes;
 mod cells;
+mod denied;
 mod ended;
 mod examples;
 mod kept;

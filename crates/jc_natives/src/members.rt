@@ -8,6 +8,7 @@ ghost use Rattle.jc_natives.specs.Rows.{natives};
 use crate::aid::aid_native;
 use crate::apdu::apdu_native;
 use crate::applet::applet_native;
+use crate::denied::denied;
 use crate::ended::{Ended, Question};
 use crate::kept::Runtime;
 use crate::native::{Native, UtilityNative, native_of};
@@ -16,6 +17,7 @@ use crate::system::system_native;
 use crate::utility::{tested, utility_called, utility_native};
 use arrayvec::ArrayVec;
 use jc_classes::growing_keeps_lookups;
+use jc_firewall::Denial;
 use jc_link::{World, built_worlds_are_sound, built_worlds_have_the_api, growing_keeps_linking};
 use jc_machine::{Natives, WordCall, WordCallback, WordOutcome};
 use jc_store::Store;
@@ -123,6 +125,10 @@ impl Natives for Runtime {
         // each object has a number for its class
         let _used = store.objects_used();
         outcome_of(call_member(world, store, call, self))
+    }
+
+    fn denial(&self, world: &World, store: &Store, call: &WordCall<'_>) -> Option<Denial> {
+        denied(world, store, call, native_of(call.member)?)
     }
 
     fn law(&self) {

@@ -34,7 +34,7 @@ const AID: ClassName = ClassName::Api(ApiClass::Aid);
 const OBJECT: ClassName = ClassName::Api(ApiClass::Object);
 
 #[inline(always)]
-fn access_of(way: Way) -> Access
+pub(crate) fn access_of(way: Way) -> Access
     ensures { result ≡ access_of way }
 {
     match way {
@@ -60,7 +60,7 @@ fn is_array(object: ObjectType) -> bool
 
 // What the firewall asks of an object that is there.
 #[inline(always)]
-fn facts_of(world: &World, store: &Store, call: &WordCall<'_>, number: u16) -> Facts
+pub(crate) fn facts_of(world: &World, store: &Store, call: &WordCall<'_>, number: u16) -> Facts
     requires { IsThere store.now number }
     ensures { (object : heaps.Object ℕ) → object_at store.now.objects number ≡ Some object
         → result ≡ facts_of (seen_in world.now store.now call.now) object }

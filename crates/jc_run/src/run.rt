@@ -57,7 +57,7 @@ fn play_command<W: Write, S: PackageSource, T: Teller<S>>(
     };
     match write_answer(writer, &answer) {
         Ok(()) => {
-            teller.answered(u64::from(number), &answer);
+            teller.answered(u64::from(number), &answer, card.denial());
             Ok(())
         }
         Err(error) => Err(ScriptFault::Write(error)),

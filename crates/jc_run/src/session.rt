@@ -75,7 +75,7 @@ fn converse_command<W: Write, S: PackageSource, T: Teller<S>>(
     };
     match write_answer(writer, &answer) {
         Ok(()) => {
-            teller.answered(number, &answer);
+            teller.answered(number, &answer, card.denial());
             Ok(())
         }
         Err(error) => Err(ScriptFault::Write(error)),

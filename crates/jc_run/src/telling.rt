@@ -1,6 +1,7 @@
 //! What is told beside the answers of lines.
 
 use crate::answer::CommandAnswer;
+use jc_firewall::Denial;
 use jc_script::LineFault;
 
 /// Why a line of a session isn't answered.
@@ -16,8 +17,9 @@ pub enum LineRefusal {
 
 /// Who is told of lines, beside the answers that are written. What comes of a line doesn't hang on it.
 pub trait Teller<S> {
-    /// The line with a number, from 1 on, was answered.
-    fn answered(&mut self, number: u64, answer: &CommandAnswer);
+    /// The line with a number, from 1 on, was answered. Where that is by a SecurityException, `denial` says what the
+    /// firewall denied, if it can be told.
+    fn answered(&mut self, number: u64, answer: &CommandAnswer, denial: Option<Denial>);
 
     /// A line of a session wasn't, and the session goes on.
     fn refused(&mut self, number: u64, refusal: &LineRefusal, source: &S);

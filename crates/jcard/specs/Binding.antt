@@ -8,7 +8,8 @@ use Rattle.jc_api.specs.declared.fault.BindingFault.{BindingFault}
 use Rattle.jcard.specs.Files.{Entry, IsContent, IsFaultAt, IsLonger}
 use Rattle.jcard.specs.Files.Entry.{failing}
 use Rattle.jcard.specs.declared.files.FileCause.{FileCause}
-use Rattle.jcard.specs.declared.files.FileCause.TheVariants.{System, NoFolder, TooLong, NotText, NoBinding}
+use Rattle.jcard.specs.declared.files.FileCause.TheVariants.{System, NoFolder, NotRegular, TooLong, NotText}
+use Rattle.jcard.specs.declared.files.FileCause.TheVariants.{NoBinding}
 use Rattle.jcard.specs.declared.files.FileFault.{FileFault}
 
 -- the most bytes of the file of a binding
@@ -29,6 +30,7 @@ pub record SaysNoBinding (bytes : List ℕ) (fault : BindingFault) : Type 0 wher
 abbrev pub IsNoBinding : List ℕ → FileCause → Type 0
 IsNoBinding bytes (System error) = ⊥
 IsNoBinding bytes NoFolder = ⊥
+IsNoBinding bytes NotRegular = ⊥
 IsNoBinding bytes (TooLong most) = ⊥
 IsNoBinding bytes NotText = IsUtf8 bytes → ⊥
 IsNoBinding bytes (NoBinding fault) = SaysNoBinding bytes fault
@@ -49,6 +51,7 @@ pub record HasNoBinding (holds : Entry → Type 0) (cause : FileCause) : Type 0 
 abbrev pub IsUnbound : (Entry → Type 0) → FileCause → Type 0
 IsUnbound holds (System error) = holds (failing error)
 IsUnbound holds NoFolder = ⊥
+IsUnbound holds NotRegular = ⊥
 IsUnbound holds (TooLong limit) = (limit ≡ most_binding) × IsLonger holds most_binding
 IsUnbound holds NotText = HasNoBinding holds NotText
 IsUnbound holds (NoBinding fault) = HasNoBinding holds (NoBinding fault)

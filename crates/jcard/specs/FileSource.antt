@@ -1,7 +1,11 @@
 -- Packages in folders and certificates in files: what such a source holds, and the fault of a reading that failed.
-use Rattle.std.specs.Prelude.{◌⊎◌, ℕ, List}
-use Rattle.jcard.specs.Files.{Entry, IsContent, IsFaultAt, IsUnread}
+use Rattle.std.specs.Prelude.{◌≡◌, ◌⊎◌, ℕ, List}
+use Rattle.jcard.specs.Files.{Entry, IsContent, IsFaultAt, IsIrregular, IsLonger}
+use Rattle.jcard.specs.Files.Entry.{failing}
 use Rattle.jcard.specs.Folders.{IsFolderFault}
+use Rattle.jcard.specs.declared.files.FileCause.{FileCause}
+use Rattle.jcard.specs.declared.files.FileCause.TheVariants.{System, NoFolder, NotRegular, TooLong, NotText}
+use Rattle.jcard.specs.declared.files.FileCause.TheVariants.{NoBinding}
 use Rattle.jcard.specs.declared.files.FileFault.{FileFault}
 
 -- the most bytes of the file of a certificate
@@ -12,9 +16,18 @@ most_certificate = 1048576
 abbrev pub HoldsCertificate : (List ℕ → Entry → Type 0) → List ℕ → List ℕ → Type 0
 HoldsCertificate holds name bytes = IsContent (holds name) most_certificate bytes
 
+-- why no certificate is under a path
+abbrev pub IsNoCertificate : (Entry → Type 0) → FileCause → Type 0
+IsNoCertificate holds (System error) = holds (failing error)
+IsNoCertificate holds NoFolder = ⊥
+IsNoCertificate holds NotRegular = IsIrregular holds
+IsNoCertificate holds (TooLong limit) = (limit ≡ most_certificate) × IsLonger holds most_certificate
+IsNoCertificate holds NotText = ⊥
+IsNoCertificate holds (NoBinding fault) = ⊥
+
 -- why the file with a name holds no certificate
 abbrev pub IsCertificateFault : (List ℕ → Entry → Type 0) → List ℕ → FileFault → Type 0
-IsCertificateFault holds name fault = IsFaultAt name (IsUnread (holds name) most_certificate) fault
+IsCertificateFault holds name fault = IsFaultAt name (IsNoCertificate (holds name)) fault
 
 -- the fault of a reading: a folder holds no image, or a file no certificate
 pub record IsSourceFault (holds : List ℕ → Entry → Type 0) (fault : FileFault) : Type 0 where

@@ -1,21 +1,27 @@
 -- Files: what the system tells of a path, what is read and written there, and why not, with the words for it.
-use Rattle.std.specs.Prelude.{⊤, ◌≡◌, ◌<◌, ◌≤◌, ◌++◌, ℕ, List, length, Option, Some, None, option_map, codes}
+use Rattle.std.specs.Prelude.{⊤, ◌≡◌, ◌<◌, ◌≤◌, ◌++◌, ◌==◌, ◌&&◌, ℕ, Bool, not, List, length, codes}
+use Rattle.std.specs.Prelude.{Option, Some, None, is_some, option_map, position, if◌then◌else◌}
+use Rattle.std.specs.Char.{is_ascii_control}
 use Rattle.std.specs.Fmt.{decimal}
 use Rattle.std.specs.IoError.{error_kind}
+use Rattle.std.specs.Option.{option_and_then}
 use Rattle.std.specs.String.{string_bytes}
 use Rattle.std.specs.declared.io.Error.{Error}
 use Rattle.std.specs.declared.io.ErrorKind.TheVariants.{OutOfMemory}
 use Rattle.jc_api.specs.Fault.{words_of}
 use Rattle.jcard.specs.declared.files.FileCause.{FileCause}
-use Rattle.jcard.specs.declared.files.FileCause.TheVariants.{System, NoFolder, TooLong, NotText, NoBinding}
+use Rattle.jcard.specs.declared.files.FileCause.TheVariants.{System, NoFolder, NotRegular, TooLong, NotText}
+use Rattle.jcard.specs.declared.files.FileCause.TheVariants.{NoBinding}
 use Rattle.jcard.specs.declared.files.FileFault.{FileFault}
 use Rattle.jcard.specs.declared.files.ReadFault.{ReadFault}
 use Rattle.jcard.specs.declared.files.ReadFault.TheVariants.{File, Memory}
 
--- what the system tells of a path: a folder is there, or a file of these bytes, or it tells an error
+-- what the system tells of a path: a folder is there, or a file of these bytes, or something else, as a pipe or a
+-- device, or it tells an error
 pub data Entry : Type 0 where
   folder : Entry
   file : List ℕ → Entry
+  other : Entry
   failing : Error → Entry
 
 -- bytes that were written to the file under a path
@@ -27,10 +33,15 @@ pub record Written : Type 0 where
 abbrev pub IsWritten : (List Written → Type 0) → (List Written → Type 0) → List Written → Type 0
 IsWritten before after files = (earlier : List Written) → before earlier → after (earlier ++ files)
 
--- a file is under a path, whatever its bytes are
-pub record IsFile (holds : Entry → Type 0) : Type 0 where
-  pub bytes : List ℕ
-  pub held : holds (file bytes)
+-- a file is under a path, whatever its bytes are, or something else that isn't a folder
+pub data IsFile (holds : Entry → Type 0) : Type 0 where
+  regular : (bytes : List ℕ) → holds (file bytes) → IsFile holds
+  irregular : holds other → IsFile holds
+
+-- what is under a path isn't a regular file
+pub data IsIrregular (holds : Entry → Type 0) : Type 0 where
+  a_folder : holds folder → IsIrregular holds
+  another : holds other → IsIrregular holds
 
 -- a file of more bytes than so many is under a path
 pub record IsLonger (holds : Entry → Type 0) (most : ℕ) : Type 0 where
@@ -47,6 +58,7 @@ pub record IsContent (holds : Entry → Type 0) (most : ℕ) (bytes : List ℕ) 
 abbrev pub IsUnread : (Entry → Type 0) → ℕ → FileCause → Type 0
 IsUnread holds most (System error) = holds (failing error)
 IsUnread holds most NoFolder = ⊥
+IsUnread holds most NotRegular = ⊥
 IsUnread holds most (TooLong limit) = (limit ≡ most) × IsLonger holds most
 IsUnread holds most NotText = ⊥
 IsUnread holds most (NoBinding fault) = ⊥
@@ -55,6 +67,7 @@ IsUnread holds most (NoBinding fault) = ⊥
 abbrev pub IsUnwritten : (Entry → Type 0) → FileCause → Type 0
 IsUnwritten holds (System error) = holds (failing error)
 IsUnwritten holds NoFolder = ⊥
+IsUnwritten holds NotRegular = ⊥
 IsUnwritten holds (TooLong limit) = ⊥
 IsUnwritten holds NotText = ⊥
 IsUnwritten holds (NoBinding fault) = ⊥
@@ -62,19 +75,31 @@ IsUnwritten holds (NoBinding fault) = ⊥
 -- the words of a cause, of which the system has some of its own
 abbrev pub cause_text : FileCause → Option (List ℕ)
 cause_text (System error) = None
-cause_text NoFolder = Some (codes "it isn't a folder")
+cause_text NoFolder = Some (codes "it isn't a folder; tools/uncap makes one of a CAP file")
+cause_text NotRegular = Some (codes "it isn't a regular file")
 cause_text (TooLong most) = Some ((codes "it has more than " ++ decimal most) ++ codes " bytes")
 cause_text NotText = Some (codes "it isn't UTF-8")
 cause_text (NoBinding fault) = Some (codes "it is no binding: " ++ words_of fault)
 
+-- a byte that is written as it is: no control byte of ASCII, and none that other control characters begin with
+abbrev pub is_plain_byte : ℕ → Bool
+is_plain_byte b = not (is_ascii_control b) && not (b == 194)
+
+-- a name as it is shown. Where it has another byte it is written in a way of its own
+abbrev pub name_text : List ℕ → Option (List ℕ)
+name_text name = if is_some (position (λ b. not (is_plain_byte b)) name) then None else Some name
+
 -- the file is named first
 abbrev pub file_line : FileFault → Option (List ℕ)
-file_line fault = option_map (λ text. (string_bytes fault.name ++ codes ": ") ++ text) (cause_text fault.cause)
+file_line fault =
+    option_and_then (λ name. option_map (λ text. (name ++ codes ": ") ++ text) (cause_text fault.cause))
+    (name_text (string_bytes fault.name))
 
 -- the system tells that it is out of memory
 abbrev pub IsOutOfMemory : FileCause → Type 0
 IsOutOfMemory (System error) = error_kind error ≡ OutOfMemory
 IsOutOfMemory NoFolder = ⊥
+IsOutOfMemory NotRegular = ⊥
 IsOutOfMemory (TooLong limit) = ⊥
 IsOutOfMemory NotText = ⊥
 IsOutOfMemory (NoBinding fault) = ⊥

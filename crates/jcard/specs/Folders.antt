@@ -5,10 +5,11 @@ use Rattle.std.specs.IoError.{error_kind}
 use Rattle.std.specs.Path.{path_join}
 use Rattle.std.specs.declared.io.Error.{Error}
 use Rattle.std.specs.declared.io.ErrorKind.TheVariants.{NotFound}
-use Rattle.jcard.specs.Files.{Entry, IsContent, IsFaultAt, IsFile, IsLonger}
+use Rattle.jcard.specs.Files.{Entry, IsContent, IsFaultAt, IsFile, IsIrregular, IsLonger}
 use Rattle.jcard.specs.Files.Entry.{failing, folder}
 use Rattle.jcard.specs.declared.files.FileCause.{FileCause}
-use Rattle.jcard.specs.declared.files.FileCause.TheVariants.{System, NoFolder, TooLong, NotText, NoBinding}
+use Rattle.jcard.specs.declared.files.FileCause.TheVariants.{System, NoFolder, NotRegular, TooLong, NotText}
+use Rattle.jcard.specs.declared.files.FileCause.TheVariants.{NoBinding}
 use Rattle.jcard.specs.declared.files.FileFault.{FileFault}
 
 -- the component files of a package, in the order in which they make an image
@@ -42,6 +43,7 @@ IsComponent holds (Some bytes) = IsContent holds most_component bytes
 abbrev pub IsNoComponent : (Entry → Type 0) → FileCause → Type 0
 IsNoComponent holds (System error) = holds (failing error) × (error_kind error ≡ NotFound → ⊥)
 IsNoComponent holds NoFolder = ⊥
+IsNoComponent holds NotRegular = IsIrregular holds
 IsNoComponent holds (TooLong limit) = (limit ≡ most_component) × IsLonger holds most_component
 IsNoComponent holds NotText = ⊥
 IsNoComponent holds (NoBinding fault) = ⊥
@@ -50,6 +52,7 @@ IsNoComponent holds (NoBinding fault) = ⊥
 abbrev pub IsNoFolder : (Entry → Type 0) → FileCause → Type 0
 IsNoFolder holds (System error) = holds (failing error)
 IsNoFolder holds NoFolder = IsFile holds
+IsNoFolder holds NotRegular = ⊥
 IsNoFolder holds (TooLong limit) = ⊥
 IsNoFolder holds NotText = ⊥
 IsNoFolder holds (NoBinding fault) = ⊥

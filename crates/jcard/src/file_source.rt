@@ -7,7 +7,7 @@ ghost use Rattle.jcard.specs.FileSource.{HoldsCertificate, IsCertificateFault, I
 ghost use Rattle.jcard.specs.Folders.{IsImage};
 ghost use Rattle.jcard.specs.PrivateFileSource.{IsKept, TellsAll};
 
-use crate::files::{FileFault, Files, ReadFault, fault_of};
+use crate::files::{FileCause, FileFault, Files, ReadFault, fault_of};
 use crate::folders::image_in;
 use jc_packages::{PackageSource, SourceFault};
 use std::alloc::Global;
@@ -120,6 +120,18 @@ impl<'a, F: Files, T: Faults> PackageSource for FileSource<'a, F, T> {
 
 // The certificate in a file.
 fn certificate_in<F: Files>(files: &F, alloc: Global, name: &str) -> Result<Vec<u8>, ReadFault>
+    ensures certificate { IfOk result (λ bytes. HoldsCertificate (F.holds files.now) name.now bytes.items) }
+    ensures faults { IfErr result (OfFile (IsCertificateFault (F.holds files.now) name.now)) }
+{
+    match files.is_regular(name) {
+        Ok(true) => read_certificate(files, alloc, name),
+        Ok(false) => Err(fault_of(alloc, name, FileCause::NotRegular)),
+        Err(error) => Err(fault_of(alloc, name, FileCause::System(error))),
+    }
+}
+
+// The bytes of a regular file.
+fn read_certificate<F: Files>(files: &F, alloc: Global, name: &str) -> Result<Vec<u8>, ReadFault>
     ensures certificate { IfOk result (λ bytes. HoldsCertificate (F.holds files.now) name.now bytes.items) }
     ensures faults { IfErr result (OfFile (IsCertificateFault (F.holds files.now) name.now)) }
 {

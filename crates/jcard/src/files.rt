@@ -1,9 +1,10 @@
 //! The files of a system as the program sees them, and why one can't be read or written.
 
 ghost use Rattle.std.specs.Prelude.{◌≡◌, ℕ, true, false, [], ◌∷◌, List, IfOk, IfErr};
-ghost use Rattle.jcard.specs.Files.{Entry, IsContent, IsFaultAt, IsFile, IsUnread, IsWritten, OfFile, Written};
+ghost use Rattle.jcard.specs.Files.{Entry, IsContent, IsFaultAt, IsFile, IsIrregular, IsUnread, IsWritten, OfFile, Written};
 ghost use Rattle.jcard.specs.Files.Entry.{failing, folder};
 
+use crate::shown::ShownName;
 use jc_api::BindingFault;
 use std::alloc::{AllocError, AllocFailed, Global};
 use std::{fmt, io};
@@ -15,6 +16,8 @@ pub enum FileCause {
     System(io::Error),
     /// It isn't a folder, and should be one.
     NoFolder,
+    /// It isn't a regular file, and should be one.
+    NotRegular,
     /// It has more bytes than it may have.
     TooLong(usize),
     /// It isn't UTF-8, and should be a text.
@@ -31,7 +34,10 @@ impl fmt::Display for FileCause {
     fn fmt<W: fmt::Write>(&self, f: &mut fmt::Formatter<W>) -> fmt::Result {
         match self {
             FileCause::System(error) => write!(f, "{error}"),
-            FileCause::NoFolder => write!(f, "it isn't a folder"),
+            FileCause::NoFolder => {
+                write!(f, "it isn't a folder; tools/uncap makes one of a CAP file")
+            }
+            FileCause::NotRegular => write!(f, "it isn't a regular file"),
             FileCause::TooLong(most) => write!(f, "it has more than {most} bytes"),
             FileCause::NotText => write!(f, "it isn't UTF-8"),
             FileCause::NoBinding(fault) => write!(f, "it is no binding: {fault}"),
@@ -52,7 +58,14 @@ impl fmt::Display for FileFault {
     ghost output = { file_line };
 
     fn fmt<W: fmt::Write>(&self, f: &mut fmt::Formatter<W>) -> fmt::Result {
-        write!(f, "{}: {}", self.name, self.cause)
+        write!(
+            f,
+            "{}: {}",
+            ShownName {
+                name: self.name.as_str()
+            },
+            self.cause
+        )
     }
 }
 
@@ -97,6 +110,11 @@ pub trait Files {
     fn is_folder(&self, path: &str) -> io::Result<bool>
         ensures folder { result ≡ Ok true → holds self.now path.now folder }
         ensures file { result ≡ Ok false → IsFile (holds self.now path.now) }
+        ensures failing { IfErr result (λ error. holds self.now path.now (failing error)) };
+
+    /// Whether a regular file is under a path. What isn't one may be read without end, or never be read.
+    fn is_regular(&self, path: &str) -> io::Result<bool>
+        ensures irregular { result ≡ Ok false → IsIrregular (holds self.now path.now) }
         ensures failing { IfErr result (λ error. holds self.now path.now (failing error)) };
 
     /// All bytes of the file under a path, which has at most so many.

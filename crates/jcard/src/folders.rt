@@ -121,6 +121,24 @@ fn component_in<F: Files>(
         (λ read. IsComponent (F.holds files.now path.now) (option_map (λ bytes. bytes.items) read)) }
     ensures faults { IfErr result (OfFile (IsFaultAt path.now (IsNoComponent (F.holds files.now path.now)))) }
 {
+    match files.is_regular(path) {
+        Ok(true) => read_component(files, alloc, path),
+        Ok(false) => Err(fault_of(alloc, path, FileCause::NotRegular)),
+        Err(error) if error.kind() == io::ErrorKind::NotFound => Ok(None),
+        Err(error) => Err(fault_of(alloc, path, FileCause::System(error))),
+    }
+}
+
+// The bytes of a regular file, if it is still there.
+fn read_component<F: Files>(
+    files: &F,
+    alloc: Global,
+    path: &str,
+) -> Result<Option<Vec<u8>>, ReadFault>
+    ensures component { IfOk result
+        (λ read. IsComponent (F.holds files.now path.now) (option_map (λ bytes. bytes.items) read)) }
+    ensures faults { IfErr result (OfFile (IsFaultAt path.now (IsNoComponent (F.holds files.now path.now)))) }
+{
     match files.read(alloc, path, MOST_COMPONENT) {
         Ok(bytes) => Ok(Some(bytes)),
         Err(FileCause::System(error)) if error.kind() == io::ErrorKind::NotFound => Ok(None),

@@ -29,6 +29,10 @@ impl<'a> Files for HostFiles<'a> {
         Ok(fs::metadata(self.rt, path)?.is_dir())
     }
 
+    fn is_regular(&self, path: &str) -> io::Result<bool> {
+        Ok(fs::metadata(self.rt, path)?.is_file())
+    }
+
     fn read(&self, alloc: Global, path: &str, most: usize) -> Result<Vec<u8>, FileCause> {
         let bytes = read_within(self.rt, alloc, path, most).map_err(FileCause::System)?;
         if bytes.len() > most {

@@ -12,6 +12,7 @@ mod job;
 mod line;
 mod play;
 mod saying;
+mod shown;
 mod telling;
 mod texts;
 mod verify_folders;
@@ -22,6 +23,7 @@ use host_files::HostFiles;
 use job::{CardJob, RunJob, VerifyJob};
 use play::{PlayFault, hold_session, play_script};
 use saying::{Reply, Said, Status, Stream, remark_of, said_of_play, said_to, said_without_words};
+use shown::ShownName;
 use std::fs::File;
 use std::process::ExitCode;
 use std::rt::Stderr;
@@ -66,7 +68,8 @@ fn verify_job(rt: &HostRuntime, job: &VerifyJob) -> ExitCode {
     let said = said_of_job(&mut files, rt.alloc(), job);
     let code = say(rt, &said);
     if older_stays(&files, job, &said) {
-        let _told = eprintln!(rt; "{}: not written, an older file stays", job.cert);
+        let cert = ShownName { name: job.cert };
+        let _told = eprintln!(rt; "{cert}: not written, an older file stays");
     }
     code
 }

@@ -4,8 +4,9 @@ use crate::file_source::{Faults, FileSource};
 use crate::files::Files;
 use jc_api::ApiClass;
 use jc_card::{Cause, InstallFault, Limits};
+use jc_firewall::{Access, Denial, Rule};
 use jc_machine::{Budget, CodePoint};
-use jc_names::ClassName;
+use jc_names::{ClassName, Owner};
 use jc_run::{CommandAnswer, LineRefusal, Teller};
 use jc_script::LineFault;
 use jc_store::ObjectType;
@@ -55,16 +56,16 @@ impl<E: Write> LineTeller<E> {
     }
 
     // Why the answer to a line has no precise diagnosis.
-    fn explain(&mut self, number: u64, cause: Cause) -> io::Result<()> {
+    fn explain(&mut self, number: u64, cause: Cause, denial: Option<Denial>) -> io::Result<()> {
         write!(self.errors, "line {number}: ")?;
         match cause {
             Cause::Threw { object, reason, at } => {
                 self.write_object(object, reason)?;
-                self.write_point(at)
+                self.write_throw(denied(object, denial), at)
             }
             Cause::RanOut { spent, at } => {
                 self.write_budget(spent)?;
-                self.write_point(at)
+                self.write_point(", ", at)
             }
             Cause::NotRegistered => writeln!(self.errors, "install: no register"),
         }
@@ -101,6 +102,29 @@ impl<E: Write> LineTeller<E> {
         }
     }
 
+    // Where it was thrown, and what the firewall denied there, if it did.
+    fn write_throw(&mut self, denial: Option<Denial>, at: Option<CodePoint>) -> io::Result<()> {
+        match denial {
+            Some(denial) => {
+                self.write_denial(denial)?;
+                self.write_point(", in ", at)
+            }
+            None => self.write_point(", ", at),
+        }
+    }
+
+    // The rule, the access, and whose object it is.
+    fn write_denial(&mut self, denial: Denial) -> io::Result<()> {
+        let rule = number_of(denial.rule);
+        let access = words_of(denial.access);
+        write!(self.errors, ", rule {rule}: {access} an object of ")?;
+        if denial.owner.context == Owner::RUNTIME.context {
+            write!(self.errors, "the runtime")
+        } else {
+            write!(self.errors, "package {}", denial.owner.context)
+        }
+    }
+
     // What was spent, and how much of it there was.
     fn write_budget(&mut self, spent: Budget) -> io::Result<()> {
         match spent {
@@ -115,12 +139,12 @@ impl<E: Write> LineTeller<E> {
     }
 
     // Where a frame stood, if one did.
-    fn write_point(&mut self, at: Option<CodePoint>) -> io::Result<()> {
+    fn write_point(&mut self, before: &str, at: Option<CodePoint>) -> io::Result<()> {
         match at {
             Some(point) => writeln!(
                 self.errors,
-                ", package {}, method {}, pc {}",
-                point.package, point.method, point.pc
+                "{}package {}, method {}, pc {}",
+                before, point.package, point.method, point.pc
             ),
             None => writeln!(self.errors),
         }
@@ -152,6 +176,48 @@ fn cause_of_install(fault: InstallFault) -> Option<Cause> {
             }
         }
         _ => None,
+    }
+}
+
+/// What the firewall denied, where a SecurityException is thrown.
+fn denied(object: ObjectType, denial: Option<Denial>) -> Option<Denial> {
+    if object == ObjectType::Instance(ClassName::Api(ApiClass::SecurityException)) {
+        denial
+    } else {
+        None
+    }
+}
+
+/// The number of a rule of the firewall.
+fn number_of(rule: Rule) -> u8 {
+    match rule {
+        Rule::Storing => 1,
+        Rule::Components => 2,
+        Rule::Fields => 3,
+        Rule::Calls => 4,
+        Rule::SharedCalls => 5,
+        Rule::Throws => 6,
+        Rule::Casts => 7,
+        Rule::SharedCasts => 8,
+        Rule::Selection => 9,
+    }
+}
+
+/// What is done to an object: an instruction, or what members of the API do to components too.
+fn words_of(access: Access) -> &'static str {
+    match access {
+        Access::PutStaticReference => "putstatic of",
+        Access::PutReferenceField | Access::PutField => "putfield of",
+        Access::GetField => "getfield of",
+        Access::LoadComponent => "a component read from",
+        Access::StoreComponent => "a component written to",
+        Access::StoreReference => "aastore to",
+        Access::ArrayLength => "arraylength of",
+        Access::InvokeVirtual => "invokevirtual on",
+        Access::InvokeInterface => "invokeinterface on",
+        Access::Throw => "athrow of",
+        Access::CheckCast => "checkcast of",
+        Access::InstanceOf => "instanceof of",
     }
 }
 
@@ -195,12 +261,12 @@ fn name_of(class: ApiClass) -> &'static str {
 }
 
 impl<'a, F: Files, T: Faults, E: Write> Teller<FileSource<'a, F, T>> for LineTeller<E> {
-    fn answered(&mut self, number: u64, answer: &CommandAnswer) {
+    fn answered(&mut self, number: u64, answer: &CommandAnswer, denial: Option<Denial>) {
         if !self.explains {
             return;
         }
         if let Some(cause) = cause_in(answer) {
-            let _told = self.explain(number, cause);
+            let _told = self.explain(number, cause, denial);
         }
     }
 

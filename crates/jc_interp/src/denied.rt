@@ -1,0 +1,241 @@
+//! What the firewall denies of an instruction that throws a SecurityException, to be told of it (Java Card Runtime
+//! Environment Specification, Class and Object Access Behavior).
+
+use crate::calls::Plan;
+use crate::casts::{is_shared, is_shared_interface, test_of};
+use crate::entering::owners_of;
+use crate::fetch::code_of;
+use crate::fields::{putting, stored_mark};
+use crate::here::Here;
+use crate::machine::WordMachine;
+use crate::natives::native_in;
+use crate::perform::call_in;
+use crate::seen::{class_named, facts, look_at, mark_of};
+use jc_code::{
+    FieldAccess, FieldAction, Form, Invocation, ObjectOperation, Operation, TestedType, decode,
+};
+use jc_firewall::{Access, Denial, denial};
+use jc_loaded::Entry;
+use jc_machine::{Natives, WordCall};
+use jc_store::Mark;
+
+/// An access of the instruction at which a frame stands.
+#[derive(Clone, Copy)]
+struct Touch {
+    access: Access,
+    /// The object's number.
+    object: u16,
+    /// The mark of what is stored, if a reference is.
+    stored: Option<Mark>,
+    /// Whether it is called or cast by an interface that is shared.
+    is_shared: bool,
+}
+
+/// An access that stores nothing and names no interface.
+fn plain_touch(access: Access, object: u16) -> Touch {
+    Touch {
+        access,
+        object,
+        stored: None,
+        is_shared: false,
+    }
+}
+
+/// The words of a virtual member's call, the object among them.
+fn virtual_words(here: &Here<'_>, index: u16) -> Option<u8> {
+    match here.program.entries.at(here.frame.method.package, index)? {
+        Entry::VirtualMethod { words, .. } => Some(words),
+        Entry::Class(_) | Entry::Field { .. } | Entry::StaticField { .. } => None,
+        Entry::Method { .. } | Entry::NativeMethod { .. } | Entry::AbstractMethod => None,
+    }
+}
+
+impl WordMachine {
+    /// What is denied of an access.
+    fn denied_touch(&self, here: &Here<'_>, touch: Touch) -> Option<Denial> {
+        let object = look_at(&self.store, touch.object)?;
+        denial(
+            touch.access,
+            here.frame.active.context,
+            &facts(here, object, touch.stored, touch.is_shared),
+        )
+    }
+
+    /// putstatic of a reference
+    fn static_touch(&self, access: FieldAccess) -> Option<Touch> {
+        let word = self.operand(0);
+        match access.action {
+            FieldAction::Get => None,
+            FieldAction::Put => match access.form {
+                Form::Byte | Form::Short => None,
+                Form::Reference => Some(Touch {
+                    access: Access::PutStaticReference,
+                    object: word,
+                    stored: mark_of(&self.store, word),
+                    is_shared: false,
+                }),
+            },
+        }
+    }
+
+    /// getfield, putfield
+    fn field_touch(&self, access: FieldAccess) -> Touch {
+        match access.action {
+            FieldAction::Get => plain_touch(Access::GetField, self.holder(access.holder, 0)),
+            FieldAction::Put => Touch {
+                access: putting(access.form),
+                object: self.holder(access.holder, 1),
+                stored: stored_mark(&self.store, access.form, self.operand(0)),
+                is_shared: false,
+            },
+        }
+    }
+
+    /// getstatic, putstatic, getfield, putfield
+    fn any_field_touch(
+        &self,
+        here: &Here<'_>,
+        access: FieldAccess,
+        index: u16,
+    ) -> Option<Touch> {
+        match here.program.entries.at(here.frame.method.package, index)? {
+            Entry::Field { .. } => Some(self.field_touch(access)),
+            Entry::StaticField { .. } => self.static_touch(access),
+            Entry::Class(_) | Entry::AbstractMethod => None,
+            Entry::VirtualMethod { .. } | Entry::Method { .. } | Entry::NativeMethod { .. } => None,
+        }
+    }
+
+    /// The object of a call of so many words.
+    fn receiver_word(&self, words: u8) -> u16 {
+        self.operand(words.saturating_sub(1))
+    }
+
+    /// invokevirtual, invokeinterface: the object that is called.
+    fn call_touch(&self, here: &Here<'_>, invocation: Invocation) -> Option<Touch> {
+        match invocation {
+            Invocation::Virtual { index } => {
+                let words = virtual_words(here, index)?;
+                Some(plain_touch(Access::InvokeVirtual, self.receiver_word(words)))
+            }
+            Invocation::Interface {
+                arguments, index, ..
+            } => Some(Touch {
+                access: Access::InvokeInterface,
+                object: self.receiver_word(arguments),
+                stored: None,
+                is_shared: is_shared_interface(here.program, class_named(here, index)?),
+            }),
+            Invocation::Special { .. } | Invocation::Static { .. } => None,
+        }
+    }
+
+    /// checkcast, instanceof
+    fn cast_touch(&self, here: &Here<'_>, access: Access, type_: TestedType) -> Option<Touch> {
+        Some(Touch {
+            access,
+            object: self.operand(0),
+            stored: None,
+            is_shared: is_shared(here, test_of(here, type_)?),
+        })
+    }
+
+    /// bastore, sastore, aastore
+    fn store_touch(&self, form: Form) -> Touch {
+        let array = self.operand(2);
+        match form {
+            Form::Byte | Form::Short => plain_touch(Access::StoreComponent, array),
+            Form::Reference => Touch {
+                access: Access::StoreReference,
+                object: array,
+                stored: mark_of(&self.store, self.operand(0)),
+                is_shared: false,
+            },
+        }
+    }
+
+    /// The access of an instruction, if it makes one.
+    fn touch_of(&self, here: &Here<'_>, operation: ObjectOperation) -> Option<Touch> {
+        match operation {
+            ObjectOperation::LoadComponent(_) => {
+                Some(plain_touch(Access::LoadComponent, self.operand(1)))
+            }
+            ObjectOperation::StoreComponent(form) => Some(self.store_touch(form)),
+            ObjectOperation::ArrayLength => Some(plain_touch(Access::ArrayLength, self.operand(0))),
+            ObjectOperation::Field { access, index } => self.any_field_touch(here, access, index),
+            ObjectOperation::Invoke(invocation) => self.call_touch(here, invocation),
+            ObjectOperation::CheckCast(type_) => self.cast_touch(here, Access::CheckCast, type_),
+            ObjectOperation::InstanceOf(type_) => self.cast_touch(here, Access::InstanceOf, type_),
+            ObjectOperation::Throw => Some(plain_touch(Access::Throw, self.operand(0))),
+            ObjectOperation::PushNull | ObjectOperation::Load(_) | ObjectOperation::Store(_) => None,
+            ObjectOperation::Branch { .. } | ObjectOperation::Create(_) => None,
+            ObjectOperation::ReturnReference | ObjectOperation::ReturnVoid => None,
+        }
+    }
+
+    /// What a call leads to.
+    fn plan_of(&self, here: &Here<'_>, invocation: Invocation) -> Plan {
+        match invocation {
+            Invocation::Virtual { index } => self.plan_virtual(here, index),
+            Invocation::Special { index } => self.plan_special(here, index),
+            Invocation::Static { index } => self.plan_static(here, index),
+            Invocation::Interface {
+                arguments,
+                index,
+                token,
+            } => self.plan_interface(here, arguments, index, token),
+        }
+    }
+
+    /// What is denied of the arguments of a native member, if one is called.
+    fn denied_native<N: Natives>(
+        &self,
+        natives: &N,
+        here: &Here<'_>,
+        invocation: Invocation,
+    ) -> Option<Denial> {
+        let Plan::Calls { called, words, .. } = self.plan_of(here, invocation) else {
+            return None;
+        };
+        let owners = owners_of(here, None);
+        let call = WordCall {
+            member: native_in(called)?,
+            arguments: self.frames.arguments(words),
+            active: owners.active,
+            previous: owners.previous,
+            selected: here.selected,
+        };
+        natives.denial(here.world, &self.store, &call)
+    }
+
+    /// What is denied of an instruction on references.
+    fn denied_operation<N: Natives>(
+        &self,
+        natives: &N,
+        here: &Here<'_>,
+        operation: ObjectOperation,
+    ) -> Option<Denial> {
+        if let Some(touch) = self.touch_of(here, operation) {
+            if let Some(denial) = self.denied_touch(here, touch) {
+                return Some(denial);
+            }
+        }
+        self.denied_native(natives, here, call_in(operation)?)
+    }
+
+    /// What the firewall denies of the instruction at which the top frame stands. A native member that another one
+    /// calls isn't looked at.
+    // Apart and seldom called, so that a step has none of it.
+    #[cold]
+    #[inline(never)]
+    pub(crate) fn denied<N: Natives>(&self, natives: &N, here: &Here<'_>) -> Option<Denial> {
+        let code = code_of(&here.program.methods, here.frame);
+        match &decode(code, usize::from(here.frame.pc)) {
+            Ok(instr) => match &instr.operation {
+                Operation::Object(operation) => self.denied_operation(natives, here, *operation),
+                Operation::Word(_) => None,
+            },
+            Err(_) => None,
+        }
+    }
+}

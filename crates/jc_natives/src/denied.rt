@@ -1,0 +1,73 @@
+//! What the firewall denies of the arguments of a member, to be told of it.
+
+ghost use Rattle.std.specs.Prelude.{◌≡◌};
+ghost use Rattle.jc_natives.specs.Rows.{row_of};
+
+use crate::cells::argument;
+use crate::native::Native;
+use crate::row::{Row, Test, Way};
+use crate::rows::{aid_row, apdu_row, applet_row, object_row, system_row, utility_row};
+use crate::tests::{access_of, facts_of};
+use jc_firewall::{Denial, denial};
+use jc_link::World;
+use jc_machine::WordCall;
+use jc_store::Store;
+
+// What a member tests.
+fn row_of(native: Native) -> Row
+    ensures { result ≡ row_of native }
+{
+    match native {
+        Native::OfObject(native) => object_row(native),
+        Native::OfAid(native) => aid_row(native),
+        Native::OfApdu(native) => apdu_row(native),
+        Native::OfApplet(native) => applet_row(native),
+        Native::OfSystem(native) => system_row(native),
+        Native::OfUtility(native) => utility_row(native),
+    }
+}
+
+// What is denied of a use of an object.
+fn denied_use(
+    world: &World,
+    store: &Store,
+    call: &WordCall<'_>,
+    way: Way,
+    number: u16,
+) -> Option<Denial> {
+    if !store.is_there(number) {
+        return None;
+    }
+    let facts = facts_of(world, store, call, number);
+    denial(access_of(way), call.active.context, &facts)
+}
+
+// What is denied of what is tested.
+fn denied_test(
+    world: &World,
+    store: &Store,
+    call: &WordCall<'_>,
+    wanted: Test,
+) -> Option<Denial> {
+    match wanted {
+        Test::Nothing => None,
+        Test::Object(place, way) | Test::ObjectOrNull(place, way) => {
+            denied_use(world, store, call, way, argument(call.arguments, place))
+        }
+        Test::BesideAid => denied_use(world, store, call, Way::Calls, argument(call.arguments, 1)),
+    }
+}
+
+/// The first that is denied of what a member tests.
+pub(crate) fn denied(
+    world: &World,
+    store: &Store,
+    call: &WordCall<'_>,
+    native: Native,
+) -> Option<Denial> {
+    let row = row_of(native);
+    match denied_test(world, store, call, row.first) {
+        Some(denial) => Some(denial),
+        None => denied_test(world, store, call, row.second),
+    }
+}

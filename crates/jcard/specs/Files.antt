@@ -1,5 +1,5 @@
 -- Files: what the system tells of a path, what is read and written there, and why not, with the words for it.
-use Rattle.std.specs.Prelude.{⊤, ◌≡◌, ◌<◌, ◌≤◌, ◌++◌, ◌==◌, ◌&&◌, ℕ, Bool, not, List, length, codes}
+use Rattle.std.specs.Prelude.{⊤, ◌≡◌, ◌<◌, ◌≤◌, ◌++◌, ◌==◌, ◌&&◌, ℕ, Bool, true, false, not, List, length, codes}
 use Rattle.std.specs.Prelude.{Option, Some, None, is_some, option_map, position, if◌then◌else◌}
 use Rattle.std.specs.Char.{is_ascii_control}
 use Rattle.std.specs.Fmt.{decimal}
@@ -33,15 +33,31 @@ pub record Written : Type 0 where
 abbrev pub IsWritten : (List Written → Type 0) → (List Written → Type 0) → List Written → Type 0
 IsWritten before after files = (earlier : List Written) → before earlier → after (earlier ++ files)
 
--- a file is under a path, whatever its bytes are, or something else that isn't a folder
-pub data IsFile (holds : Entry → Type 0) : Type 0 where
-  regular : (bytes : List ℕ) → holds (file bytes) → IsFile holds
-  irregular : holds other → IsFile holds
+-- something that isn't a folder
+abbrev pub is_file : Entry → Bool
+is_file folder = false
+is_file (file bytes) = true
+is_file other = true
+is_file (failing error) = false
 
--- what is under a path isn't a regular file
-pub data IsIrregular (holds : Entry → Type 0) : Type 0 where
-  a_folder : holds folder → IsIrregular holds
-  another : holds other → IsIrregular holds
+-- something that isn't a regular file
+abbrev pub is_irregular : Entry → Bool
+is_irregular folder = true
+is_irregular (file bytes) = false
+is_irregular other = true
+is_irregular (failing error) = false
+
+-- a file is under a path, a regular one or another
+pub record IsFile (holds : Entry → Type 0) : Type 0 where
+  pub entry : Entry
+  pub held : holds entry
+  pub is : is_file entry ≡ true
+
+-- what is under a path is no regular file
+pub record IsIrregular (holds : Entry → Type 0) : Type 0 where
+  pub entry : Entry
+  pub held : holds entry
+  pub is : is_irregular entry ≡ true
 
 -- a file of more bytes than so many is under a path
 pub record IsLonger (holds : Entry → Type 0) (most : ℕ) : Type 0 where
@@ -85,9 +101,13 @@ cause_text (NoBinding fault) = Some (codes "it is no binding: " ++ words_of faul
 abbrev pub is_plain_byte : ℕ → Bool
 is_plain_byte b = not (is_ascii_control b) && not (b == 194)
 
+-- the first of other bytes
+abbrev pub odd_byte : List ℕ → Option ℕ
+odd_byte name = position (λ b. not (is_plain_byte b)) name
+
 -- a name as it is shown. Where it has another byte it is written in a way of its own
 abbrev pub name_text : List ℕ → Option (List ℕ)
-name_text name = if is_some (position (λ b. not (is_plain_byte b)) name) then None else Some name
+name_text name = if is_some (odd_byte name) then None else Some name
 
 -- the file is named first
 abbrev pub file_line : FileFault → Option (List ℕ)

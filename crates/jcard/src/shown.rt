@@ -1,7 +1,7 @@
 //! Names of files as they are shown to people.
 
 ghost use Rattle.std.specs.Prelude.{◌≡◌};
-ghost use Rattle.jcard.specs.Files.{is_plain_byte};
+ghost use Rattle.jcard.specs.Files.{is_plain_byte, odd_byte};
 
 use std::fmt;
 
@@ -12,7 +12,15 @@ fn is_plain(byte: u8) -> bool
     !byte.is_ascii_control() && byte != 194
 }
 
+/// Where the first byte of a name stands that isn't.
+fn odd_byte(name: &str) -> Option<usize>
+    ensures { result ≡ odd_byte name.now }
+{
+    name.as_bytes().iter().position(|byte| !is_plain(*byte))
+}
+
 /// A name. Its control characters are written in hexadecimal, so that they do nothing to a terminal.
+#[derive(Drop)]
 pub struct ShownName<'a> {
     pub name: &'a str,
 }
@@ -23,12 +31,7 @@ impl<'a> fmt::Display for ShownName<'a> {
     ghost output = { λ shown. name_text shown.name.now };
 
     fn fmt<W: fmt::Write>(&self, f: &mut fmt::Formatter<W>) -> fmt::Result {
-        let odd = self
-            .name
-            .as_bytes()
-            .iter()
-            .position(|byte| !is_plain(*byte));
-        match odd {
+        match odd_byte(self.name) {
             None => write!(f, "{}", self.name),
             Some(_) => write_escaped(f, self.name),
         }

@@ -92,12 +92,7 @@ impl WordMachine {
     }
 
     /// getstatic, putstatic, getfield, putfield
-    fn any_field_touch(
-        &self,
-        here: &Here<'_>,
-        access: FieldAccess,
-        index: u16,
-    ) -> Option<Touch> {
+    fn any_field_touch(&self, here: &Here<'_>, access: FieldAccess, index: u16) -> Option<Touch> {
         match here.program.entries.at(here.frame.method.package, index)? {
             Entry::Field { .. } => Some(self.field_touch(access)),
             Entry::StaticField { .. } => self.static_touch(access),
@@ -119,7 +114,9 @@ impl WordMachine {
                 Some(plain_touch(Access::InvokeVirtual, self.receiver_word(words)))
             }
             Invocation::Interface {
-                arguments, index, ..
+                arguments,
+                index,
+                ..
             } => Some(Touch {
                 access: Access::InvokeInterface,
                 object: self.receiver_word(arguments),
@@ -167,7 +164,8 @@ impl WordMachine {
             ObjectOperation::CheckCast(type_) => self.cast_touch(here, Access::CheckCast, type_),
             ObjectOperation::InstanceOf(type_) => self.cast_touch(here, Access::InstanceOf, type_),
             ObjectOperation::Throw => Some(plain_touch(Access::Throw, self.operand(0))),
-            ObjectOperation::PushNull | ObjectOperation::Load(_) | ObjectOperation::Store(_) => None,
+            ObjectOperation::PushNull | ObjectOperation::Load(_) | ObjectOperation::Store(_) =>
+                None,
             ObjectOperation::Branch { .. } | ObjectOperation::Create(_) => None,
             ObjectOperation::ReturnReference | ObjectOperation::ReturnVoid => None,
         }

@@ -111,7 +111,12 @@ fn is_array(object: ObjectType) -> bool
 }
 
 /// What the verdict on an access hangs on.
-pub(crate) fn facts(here: &Here<'_>, object: Seen, stored: Option<Mark>, is_shared_interface: bool) -> Facts
+pub(crate) fn facts(
+    here: &Here<'_>,
+    object: Seen,
+    stored: Option<Mark>,
+    is_shared_interface: bool,
+) -> Facts
     ensures { result ≡ facts_seen here.now object stored is_shared_interface }
 {
     Facts {

@@ -43,12 +43,7 @@ fn denied_use(
 }
 
 // What is denied of what is tested.
-fn denied_test(
-    world: &World,
-    store: &Store,
-    call: &WordCall<'_>,
-    wanted: Test,
-) -> Option<Denial> {
+fn denied_test(world: &World, store: &Store, call: &WordCall<'_>, wanted: Test) -> Option<Denial> {
     match wanted {
         Test::Nothing => None,
         Test::Object(place, way) | Test::ObjectOrNull(place, way) => {

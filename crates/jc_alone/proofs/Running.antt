@@ -187,7 +187,8 @@ module _ (code : List ℕ) (typing : Typing) (t : IsTyping word_rules (word_meth
     step_ends : (o : Outcome ⊤) → (alone_step listing before).outcome ≡ o
         → (continued FrameWords None (alone_steps listing left) o).ends ≡ end
     unfolding alone_steps
-    step_ends o is = sym (ap (λ (x : Outcome ⊤). (continued FrameWords None (alone_steps listing left) x).ends) is) ∙ g.rest
+    step_ends o is = sym (ap (λ (x : Outcome ⊤). (continued FrameWords None (alone_steps listing left) x).ends) is) ∙
+        g.rest
 
     goes_on : (v : WordFrame) (operation : WordOperation) → alone_step listing before ≡ act_word place operation
         → GoesAlong place (act_word place operation) v → GoesWith v left end

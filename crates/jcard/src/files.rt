@@ -1,7 +1,8 @@
 //! The files of a system as the program sees them, and why one can't be read or written.
 
 ghost use Rattle.std.specs.Prelude.{◌≡◌, ℕ, true, false, [], ◌∷◌, List, IfOk, IfErr};
-ghost use Rattle.jcard.specs.Files.{Entry, IsContent, IsFaultAt, IsFile, IsIrregular, IsUnread, IsWritten, OfFile, Written};
+ghost use Rattle.jcard.specs.Files.{Entry, IsContent, IsFaultAt, IsFile, IsIrregular, IsUnread, IsWritten};
+ghost use Rattle.jcard.specs.Files.{OfFile, Written};
 ghost use Rattle.jcard.specs.Files.Entry.{failing, folder};
 
 use crate::shown::ShownName;

@@ -216,24 +216,24 @@ pub extern "C" fn calls_run(alloc: Global, images: &[u8], call: &Call, ended: &m
     }
     let _ = card
         .machine
-        .run(&mut natives, &card.world, &card.program, None, 1000);
+        .run(&mut natives, &card.world, &card.program, None, 1000, &mut None);
     if !begin(&mut card, place, &[call.argument]) {
         return;
     }
     let end = card
         .machine
-        .run(&mut natives, &card.world, &card.program, None, call.steps);
+        .run(&mut natives, &card.world, &card.program, None, call.steps, &mut None);
     match end {
         RunEnd::Gave(None) => ended.how = 1,
         RunEnd::Gave(Some(word)) => {
             ended.how = 2;
             ended.word = word;
         }
-        RunEnd::Threw(object) => {
+        RunEnd::Threw { object, .. } => {
             ended.how = 3;
             ended.word = object;
         }
-        RunEnd::RanOut => ended.how = 4,
+        RunEnd::RanOut { .. } => ended.how = 4,
     }
 }
 '''

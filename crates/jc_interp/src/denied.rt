@@ -3,6 +3,7 @@
 
 use crate::calls::Plan;
 use crate::casts::{is_shared, is_shared_interface, test_of};
+use crate::ends::SECURITY_EXCEPTION;
 use crate::entering::owners_of;
 use crate::fetch::code_of;
 use crate::fields::{putting, stored_mark};
@@ -15,7 +16,8 @@ use jc_code::{
     FieldAccess, FieldAction, Form, Invocation, ObjectOperation, Operation, TestedType, decode,
 };
 use jc_firewall::{Access, Denial, denial};
-use jc_loaded::Entry;
+use jc_link::World;
+use jc_loaded::{Entry, Program};
 use jc_machine::{Natives, WordCall};
 use jc_store::Mark;
 
@@ -221,12 +223,8 @@ impl WordMachine {
         self.denied_native(natives, here, call_in(operation)?)
     }
 
-    /// What the firewall denies of the instruction at which the top frame stands. A native member that another one
-    /// calls isn't looked at.
-    // Apart and seldom called, so that a step has none of it.
-    #[cold]
-    #[inline(never)]
-    pub(crate) fn denied<N: Natives>(&self, natives: &N, here: &Here<'_>) -> Option<Denial> {
+    /// What it denies of the instruction at which a frame stands.
+    fn denied_here<N: Natives>(&self, natives: &N, here: &Here<'_>) -> Option<Denial> {
         let code = code_of(&here.program.methods, here.frame);
         match &decode(code, usize::from(here.frame.pc)) {
             Ok(instr) => match &instr.operation {
@@ -235,5 +233,31 @@ impl WordMachine {
             },
             Err(_) => None,
         }
+    }
+
+    /// What the firewall denies of the instruction at which the top frame stands, where that throws this object. A
+    /// native member that another one calls isn't looked at.
+    // Apart and seldom called: of a step that throws nothing it takes no register.
+    #[cold]
+    #[inline(never)]
+    pub(crate) fn denied<N: Natives>(
+        &self,
+        natives: &N,
+        world: &World,
+        program: &Program,
+        selected: Option<u8>,
+        object: u16,
+    ) -> Option<Denial> {
+        if object != SECURITY_EXCEPTION {
+            return None;
+        }
+        let here = Here {
+            world,
+            program,
+            selected,
+            frame: self.frames.top()?,
+            next_pc: 0,
+        };
+        self.denied_here(natives, &here)
     }
 }

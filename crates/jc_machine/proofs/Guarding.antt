@@ -7,22 +7,20 @@ use Rattle.std.specs.Option.{option_and_then}
 use Rattle.jc_code.specs.Targets.{target_of}
 use Rattle.jc_firewall.specs.Verdict.{verdict_of}
 use Rattle.jc_firewall.specs.declared.access.Access.{Access}
-use Rattle.jc_firewall.specs.declared.access.Facts.{Facts}
 use Rattle.jc_firewall.specs.declared.access.Verdict.{Verdict}
 use Rattle.jc_firewall.specs.declared.access.Verdict.TheVariants.{Allowed, AllowedSwitch, Denied}
 use Rattle.jc_link.specs.declared.target.PoolTarget.{PoolTarget}
 use Rattle.jc_store.specs.Heap.{Heap, Object, object_at}
-use Rattle.jc_store.specs.declared.kind.Mark.{Mark}
 use Rattle.jc_names.specs.declared.owner.Owner.{Owner}
 use Rattle.jc_machine.specs.Apart.{SparesPlain, IsApart}
-use Rattle.jc_machine.specs.Going.{Here, accessed, accessed_to_store, branches, by_verdict, check, facts_of, gives}
-use Rattle.jc_machine.specs.Going.{goes_on, goes_to, judged, jumps, leaves_operands, on_object, on_operands}
+use Rattle.jc_machine.specs.Going.{Here, accessed, accessed_to_store, asking, branches, by_verdict, check, facts_of}
+use Rattle.jc_machine.specs.Going.{gives, goes_on, goes_to, judged, jumps, leaves_operands, on_object, on_operands}
 use Rattle.jc_machine.specs.Going.{on_reference, on_reference_local, on_some, on_target, on_top, on_word, on_word_local}
-use Rattle.jc_machine.specs.Going.{plain, pushed, require, stuck, throws, touch_of, touched}
-use Rattle.jc_machine.specs.Guarded.{AreGuarded, IsJudged, allowed, are_allowed, denied, is_allowed, is_last_denied}
-use Rattle.jc_machine.specs.Guarded.{machine_of, of_frame}
+use Rattle.jc_machine.specs.Going.{plain, pushed, require, storing, stuck, throws, touch_of, touched}
+use Rattle.jc_machine.specs.Guarded.{AreGuarded, AreMade, IsJudged, allowed, are_allowed, by_frame, denied}
+use Rattle.jc_machine.specs.Guarded.{is_allowed, is_last_denied, machine_of, setting_of}
 use Rattle.jc_machine.specs.Lookup.{target_at}
-use Rattle.jc_machine.specs.Machine.{Machine, Next, Outcome, Stepped, Surroundings, Throws, Touch}
+use Rattle.jc_machine.specs.Machine.{Asked, Machine, Next, Outcome, Stepped, Surroundings, Throws, Touch}
 use Rattle.jc_machine.specs.Runtime.{security_exception}
 use Rattle.jc_words.specs.Values.{Null, Ref, TaggedValue, Unset, Word, is_reference}
 use Rattle.jc_machine.proofs.StayingApart.{IsApartIn, IsApartPart, LeadsApart, is_apart_itself, moved_apart, own_spares}
@@ -34,25 +32,31 @@ use Rattle.jc_machine.proofs.GuardingHeaps.{KeepsHeap, all_joined, changes_first
 -- behind these accesses, a part of a step that began in this machine keeps the law
 pub record KeepsLaw {C : Type 0} (around : Surroundings C) (m : Machine C) (before : List Touch) (s : Stepped C)
     : Type 0 where
-  pub judged : AllByRecursion (IsJudged around m) s.touches
+  pub made : AllByRecursion (IsJudged (setting_of around m)) before → AreMade around m (before ++ s.touches)
   pub accesses : AreGuarded s.touches (s.outcome ≡ Throws m security_exception)
   pub changes : (after : Machine C) → machine_of s.outcome ≡ Some after
-      → KeepsHeap (before ++ s.touches) m.heap after.heap
+      → KeepsHeap m.top.active (before ++ s.touches) m.heap after.heap
   -- what is apart stays so
   pub apart : (keeps : C → Bool) → IsApartIn keeps around m → IsApartPart keeps m s
 
 -- ---- ends
 
+-- with no access more
+made_so : {C : Type 0} {around : Surroundings C} {m : Machine C} (before : List Touch)
+    → AllByRecursion (IsJudged (setting_of around m)) before → AreMade around m (before ++ [])
+made_so {around = around} {m = m} before all =
+    subst (AreMade around m) (sym (append-nil before)) (by_frame before all)
+
 pub leaves : {C : Type 0} {around : Surroundings C} {m : Machine C} {before : List Touch} (o : Outcome C)
     (x : Machine C)
-    → machine_of o ≡ Some x → KeepsHeap before m.heap x.heap → LeadsApart around m x
+    → machine_of o ≡ Some x → KeepsHeap m.top.active before m.heap x.heap → LeadsApart around m x
     → KeepsLaw around m before (plain o)
 leaves {C = C} {m = m} {before = before} o x e h a = record {
-  judged = tt;
+  made = made_so before;
   accesses = allowed refl;
   changes = λ after f.
-      subst (λ (y : Machine C). KeepsHeap (before ++ []) m.heap y.heap) (same_Some x after (sym e ∙ f))
-      (changes_first before [] m.heap x.heap h);
+      subst (λ (y : Machine C). KeepsHeap m.top.active (before ++ []) m.heap y.heap) (same_Some x after (sym e ∙ f))
+      (changes_first m.top.active before [] m.heap x.heap h);
   apart = λ keeps p. record {
     spares = tt;
     after = λ after f. subst (IsApart keeps) (same_Some x after (sym e ∙ f)) (a keeps p);
@@ -63,12 +67,13 @@ pub stays : {C : Type 0} {around : Surroundings C} {m : Machine C} {before : Lis
     → machine_of o ≡ Some x → m.heap ≡ x.heap → LeadsApart around m x → KeepsLaw around m before (plain o)
 stays {C = C} {m = m} {before = before} o x e same a =
     leaves o x e
-    (subst (λ (heap : Heap TaggedValue). KeepsHeap before m.heap heap) same (nothing_changes before m.heap)) a
+    (subst (λ (heap : Heap TaggedValue). KeepsHeap m.top.active before m.heap heap) same
+    (nothing_changes m.top.active before m.heap)) a
 
 pub is_stuck : {C : Type 0} {around : Surroundings C} {m : Machine C} {before : List Touch}
     → KeepsLaw around m before stuck
-is_stuck = record {
-  judged = tt;
+is_stuck {before = before} = record {
+  made = made_so before;
   accesses = allowed refl;
   changes = λ after f. absurd (none-some after f);
   apart = λ keeps p. record { spares = tt; after = λ after f. absurd (none-some after f) };
@@ -76,7 +81,7 @@ is_stuck = record {
 
 pub goes : {C : Type 0} {around : Surroundings C} {m : Machine C} {before : List Touch} (h : Here C) (pc : ℕ)
     (locals operands : List TaggedValue)
-    → KeepsHeap before m.heap h.machine.heap → LeadsApart around m h.machine
+    → KeepsHeap m.top.active before m.heap h.machine.heap → LeadsApart around m h.machine
     → KeepsLaw around m before (goes_to h pc locals operands)
 goes h pc locals operands changes a =
     leaves (Next _) _ refl changes (λ keeps p. moved_apart keeps h.machine pc locals operands (a keeps p))
@@ -84,7 +89,8 @@ goes h pc locals operands changes a =
 pub goes_still : {C : Type 0} {before : List Touch} (h : Here C) (pc : ℕ) (locals operands : List TaggedValue)
     → KeepsLaw h.around h.machine before (goes_to h pc locals operands)
 goes_still {before = before} h pc locals operands =
-    goes h pc locals operands (nothing_changes before h.machine.heap) (is_apart_itself h.around h.machine)
+    goes h pc locals operands (nothing_changes h.machine.top.active before h.machine.heap)
+    (is_apart_itself h.around h.machine)
 
 pub goes_behind : {C : Type 0} {before : List Touch} (h : Here C) (locals operands : List TaggedValue)
     → KeepsLaw h.around h.machine before (goes_on h locals operands)
@@ -141,8 +147,8 @@ gives_still h v operands = at_pushed h v operands (leaves_operands h) (leaves_st
 
 pub gives_changed : {C : Type 0} {around : Surroundings C} {m : Machine C} {before : List Touch} (h : Here C)
     (v : TaggedValue)
-    (operands : List TaggedValue) → KeepsHeap before m.heap h.machine.heap → LeadsApart around m h.machine
-    → KeepsLaw around m before (gives h v operands)
+    (operands : List TaggedValue) → KeepsHeap m.top.active before m.heap h.machine.heap
+    → LeadsApart around m h.machine → KeepsLaw around m before (gives h v operands)
 gives_changed h v operands changes a =
     at_pushed h v operands (leaves_operands h) (goes h h.next_pc h.machine.top.locals (v ∷ operands) changes a)
 
@@ -217,42 +223,59 @@ at_object h Unset go k = is_stuck
 -- ---- accesses
 
 -- what goes on behind accesses, of which the last may be denied; then the security exception is thrown
+module _ {C : Type 0} {around : Surroundings C} {m : Machine C} (before ts : List Touch)
+    (s : Stepped C) (guarded : AreGuarded ts (s ≡ plain (Throws m security_exception)))
+    (spares : (keeps : C → Bool) → IsApartIn keeps around m → AllByRecursion (SparesPlain m.heap) ts)
+    (k : KeepsLaw around m (before ++ ts) s) where
+  by_guard : AreGuarded ts (s ≡ plain (Throws m security_exception))
+      → AreGuarded (ts ++ s.touches) (s.outcome ≡ Throws m security_exception)
+  by_guard (allowed h) = guarded_behind ts s.touches (s.outcome ≡ Throws m security_exception) h k.accesses
+  by_guard (denied h e) =
+      subst (λ (x : Stepped C). AreGuarded (ts ++ x.touches) (x.outcome ≡ Throws m security_exception)) (sym e)
+      (denied (subst (λ (l : List Touch). is_last_denied l ≡ true) (sym (append-nil ts)) h) refl)
+
+  joined : (after : Machine C) → KeepsHeap m.top.active ((before ++ ts) ++ s.touches) m.heap after.heap
+      → KeepsHeap m.top.active (before ++ (ts ++ s.touches)) m.heap after.heap
+  joined after h =
+      subst (λ (l : List Touch). KeepsHeap m.top.active l m.heap after.heap) (append_assoc before ts s.touches) h
+
+  -- where it is known how they were made
+  pub behind_made : (AllByRecursion (IsJudged (setting_of around m)) before
+      → AreMade around m (before ++ (ts ++ s.touches))) → KeepsLaw around m before (touched ts s)
+  behind_made made = record {
+    made = made;
+    accesses = by_guard guarded;
+    changes = λ after e. joined after (k.changes after e);
+    apart = λ keeps p. record {
+      spares = all_joined (SparesPlain m.heap) ts s.touches (spares keeps p) (k.apart keeps p).spares;
+      after = λ after e. (k.apart keeps p).after after e;
+    };
+  }
+
+  -- by the frame
+  pub behind_judged : AllByRecursion (IsJudged (setting_of around m)) ts → KeepsLaw around m before (touched ts s)
+  behind_judged judges =
+      behind_made (λ all.
+      subst (AreMade around m) (append_assoc before ts s.touches)
+      (k.made (all_joined (IsJudged (setting_of around m)) before ts all judges)))
+
 pub behind : {C : Type 0} {around : Surroundings C} {m : Machine C} {before : List Touch} (ts : List Touch)
-    (s : Stepped C) → AllByRecursion (IsJudged around m) ts
+    (s : Stepped C) → AllByRecursion (IsJudged (setting_of around m)) ts
     → AreGuarded ts (s ≡ plain (Throws m security_exception))
     → ((keeps : C → Bool) → IsApartIn keeps around m → AllByRecursion (SparesPlain m.heap) ts)
     → KeepsLaw around m (before ++ ts) s → KeepsLaw around m before (touched ts s)
-behind {C = C} {around = around} {m = m} {before = before} ts s judges guarded spares k = record {
-  judged = all_joined (IsJudged around m) ts s.touches judges k.judged;
-  accesses = by_guard guarded;
-  changes = λ after e. joined after (k.changes after e);
-  apart = λ keeps p. record {
-    spares = all_joined (SparesPlain m.heap) ts s.touches (spares keeps p) (k.apart keeps p).spares;
-    after = λ after e. (k.apart keeps p).after after e;
-  };
-}
-  where
-    by_guard : AreGuarded ts (s ≡ plain (Throws m security_exception))
-        → AreGuarded (ts ++ s.touches) (s.outcome ≡ Throws m security_exception)
-    by_guard (allowed h) = guarded_behind ts s.touches (s.outcome ≡ Throws m security_exception) h k.accesses
-    by_guard (denied h e) =
-        subst (λ (x : Stepped C). AreGuarded (ts ++ x.touches) (x.outcome ≡ Throws m security_exception)) (sym e)
-        (denied (subst (λ (l : List Touch). is_last_denied l ≡ true) (sym (append-nil ts)) h) refl)
-
-    joined : (after : Machine C) → KeepsHeap ((before ++ ts) ++ s.touches) m.heap after.heap
-        → KeepsHeap (before ++ (ts ++ s.touches)) m.heap after.heap
-    joined after h =
-        subst (λ (l : List Touch). KeepsHeap l m.heap after.heap) (append_assoc before ts s.touches) h
+behind {before = before} ts s judges guarded spares k = behind_judged before ts s guarded spares k judges
 
 -- one that is allowed
 pub behind_allowed : {C : Type 0} {around : Surroundings C} {m : Machine C} {before : List Touch} (t : Touch)
-    (s : Stepped C) → IsJudged around m t → are_allowed (t ∷ []) ≡ true
+    (s : Stepped C) → IsJudged (setting_of around m) t → are_allowed (t ∷ []) ≡ true
     → ((keeps : C → Bool) → IsApartIn keeps around m → SparesPlain m.heap t)
     → KeepsLaw around m (before ++ t ∷ []) s → KeepsLaw around m before (touched (t ∷ []) s)
 behind_allowed t s judges h spares k =
     behind (t ∷ []) s (judges, tt) (allowed h) (λ keeps p. (spares keeps p, tt)) k
 
-denied_still : {C : Type 0} {before : List Touch} (h : Here C) (t : Touch) → IsJudged h.around h.machine t
+denied_still : {C : Type 0} {before : List Touch} (h : Here C) (t : Touch)
+    → IsJudged (setting_of h.around h.machine) t
     → is_allowed t.verdict ≡ false → t.active ≡ h.machine.top.active.context
     → KeepsLaw h.around h.machine before (touched (t ∷ []) (throws h security_exception))
 denied_still h t judges e own =
@@ -260,58 +283,51 @@ denied_still h t judges e own =
     (λ keeps p. (own_spares h.around h.machine t own keeps p, tt)) (throws_still h security_exception)
 
 -- a verdict: what goes on knows that the access was allowed, and whether it switches
-pub at_verdict : {C : Type 0} {before : List Touch} (h : Here C) (access : Access) (number : ℕ) (v : Verdict)
-    (go : Option Owner → Stepped C) → IsJudged h.around h.machine (touch_of h access number v)
+pub at_verdict : {C : Type 0} {before : List Touch} (h : Here C) (asked : Asked) (v : Verdict)
+    (go : Option Owner → Stepped C) → IsJudged (setting_of h.around h.machine) (touch_of h asked v)
     → (is_allowed v ≡ true → (switch : Option Owner) → switch ≡ switched_by v
-    → KeepsLaw h.around h.machine (before ++ touch_of h access number v ∷ []) (go switch))
-    → KeepsLaw h.around h.machine before (by_verdict h access number v go)
-at_verdict h access number Allowed go judges k =
-    behind_allowed (touch_of h access number Allowed) (go None) judges refl
-    (own_spares h.around h.machine (touch_of h access number Allowed) refl) (k refl None refl)
-at_verdict h access number (AllowedSwitch owner) go judges k =
-    behind_allowed (touch_of h access number (AllowedSwitch owner)) (go (Some owner)) judges refl
-    (own_spares h.around h.machine (touch_of h access number (AllowedSwitch owner)) refl) (k refl (Some owner) refl)
-at_verdict h access number (Denied rule) go judges k =
-    denied_still h (touch_of h access number (Denied rule)) judges refl refl
+    → KeepsLaw h.around h.machine (before ++ touch_of h asked v ∷ []) (go switch))
+    → KeepsLaw h.around h.machine before (by_verdict h asked v go)
+at_verdict h asked Allowed go judges k =
+    behind_allowed (touch_of h asked Allowed) (go None) judges refl
+    (own_spares h.around h.machine (touch_of h asked Allowed) refl) (k refl None refl)
+at_verdict h asked (AllowedSwitch owner) go judges k =
+    behind_allowed (touch_of h asked (AllowedSwitch owner)) (go (Some owner)) judges refl
+    (own_spares h.around h.machine (touch_of h asked (AllowedSwitch owner)) refl) (k refl (Some owner) refl)
+at_verdict h asked (Denied rule) go judges k =
+    denied_still h (touch_of h asked (Denied rule)) judges refl refl
 
--- the firewall's verdict on an access in a place, and the access with it
-abbrev pub verdict_in : {C : Type 0} → Here C → Access → Facts → Verdict
-verdict_in h access facts = verdict_of access h.machine.top.active.context facts
+-- the firewall's verdict on what is asked in a place, and the access with it
+abbrev pub verdict_in : {C : Type 0} → Here C → Asked → Object TaggedValue → Verdict
+verdict_in h asked object = verdict_of asked.access h.machine.top.active.context (facts_of h asked object)
 
-abbrev pub touch_in : {C : Type 0} → Here C → Access → ℕ → Facts → Touch
-touch_in h access number facts = touch_of h access number (verdict_in h access facts)
+abbrev pub touch_in : {C : Type 0} → Here C → Asked → Object TaggedValue → Touch
+touch_in h asked object = touch_of h asked (verdict_in h asked object)
 
-pub at_judged : {C : Type 0} {before : List Touch} (h : Here C) (access : Access) (number : ℕ)
-    (object : Object TaggedValue) → object_at h.machine.heap number ≡ Some object → (stored : Option Mark)
-    (shared : Bool) (go : Option Owner → Stepped C)
-    → (is_allowed (verdict_in h access (facts_of h object stored shared)) ≡ true → (switch : Option Owner)
-    → switch ≡ switched_by (verdict_in h access (facts_of h object stored shared))
-    → KeepsLaw h.around h.machine (before ++ touch_in h access number (facts_of h object stored shared) ∷ [])
-    (go switch))
-    → KeepsLaw h.around h.machine before (judged h access number (facts_of h object stored shared) go)
-at_judged h access number object there stored shared go k =
-    at_verdict h access number (verdict_in h access (facts_of h object stored shared)) go
-    (record {
-      active = of_frame refl;
-      object = object;
-      found = there;
-      stored = stored;
-      shared = shared;
-      verdict = refl;
-    }) k
+pub at_judged : {C : Type 0} {before : List Touch} (h : Here C) (asked : Asked)
+    (object : Object TaggedValue) → object_at h.machine.heap asked.object ≡ Some object
+    → (go : Option Owner → Stepped C)
+    → (is_allowed (verdict_in h asked object) ≡ true → (switch : Option Owner)
+    → switch ≡ switched_by (verdict_in h asked object)
+    → KeepsLaw h.around h.machine (before ++ touch_in h asked object ∷ []) (go switch))
+    → KeepsLaw h.around h.machine before (judged h asked object go)
+at_judged h asked object there go k =
+    at_verdict h asked (verdict_in h asked object) go
+    (record { active = refl; object = object; found = there; verdict = refl }) k
 
 pub at_stored : {C : Type 0} {before : List Touch} (h : Here C) (access : Access) (number : ℕ)
-    (object : Object TaggedValue) → object_at h.machine.heap number ≡ Some object → (mark : Option Mark)
+    (object : Object TaggedValue) → object_at h.machine.heap number ≡ Some object → (v : TaggedValue)
     (s : Stepped C)
-    → (is_allowed (verdict_in h access (facts_of h object mark false)) ≡ true
-    → KeepsLaw h.around h.machine (before ++ touch_in h access number (facts_of h object mark false) ∷ []) s)
-    → KeepsLaw h.around h.machine before (accessed_to_store h access number object mark s)
-at_stored h access number object there mark s k =
-    at_judged h access number object there mark false (λ switch. s) (λ fine switch by. k fine)
+    → (is_allowed (verdict_in h (storing access number v) object) ≡ true
+    → KeepsLaw h.around h.machine (before ++ touch_in h (storing access number v) object ∷ []) s)
+    → KeepsLaw h.around h.machine before (accessed_to_store h access number object v s)
+at_stored h access number object there v s k =
+    at_judged h (storing access number v) object there (λ switch. s) (λ fine switch by. k fine)
 
 pub at_accessed : {C : Type 0} {before : List Touch} (h : Here C) (access : Access) (number : ℕ)
     (object : Object TaggedValue) → object_at h.machine.heap number ≡ Some object → (s : Stepped C)
-    → (is_allowed (verdict_in h access (facts_of h object None false)) ≡ true
-    → KeepsLaw h.around h.machine (before ++ touch_in h access number (facts_of h object None false) ∷ []) s)
+    → (is_allowed (verdict_in h (asking access number) object) ≡ true
+    → KeepsLaw h.around h.machine (before ++ touch_in h (asking access number) object ∷ []) s)
     → KeepsLaw h.around h.machine before (accessed h access number object s)
-at_accessed h access number object there s k = at_stored h access number object there None s k
+at_accessed h access number object there s k =
+    at_judged h (asking access number) object there (λ switch. s) (λ fine switch by. k fine)

@@ -6,11 +6,10 @@ use Rattle.jc_firewall.specs.declared.access.Access.TheVariants.{ArrayLength, Lo
 use Rattle.jc_firewall.specs.declared.access.Access.TheVariants.{StoreReference}
 use Rattle.jc_machine.specs.Arrays.{act_length, act_load, act_store, act_store_reference, act_store_word}
 use Rattle.jc_machine.specs.Arrays.{is_array_of, is_in_bounds, is_there, loaded_as, stored_as}
-use Rattle.jc_machine.specs.Going.{Here}
-use Rattle.jc_machine.specs.Lookup.{component_class, is_array, is_instance, leads_to, mark_of}
+use Rattle.jc_machine.specs.Going.{Here, asking, storing}
+use Rattle.jc_machine.specs.Lookup.{component_class, is_array, is_instance, leads_to}
 use Rattle.jc_machine.specs.Runtime.{array_index_exception, array_store_exception}
 use Rattle.jc_words.specs.Values.{Word}
-use Rattle.std.proofs.Common.{None}
 use Rattle.jc_machine.proofs.Guarding.{KeepsLaw, at_accessed, at_check, at_object, at_reference, at_require, at_some}
 use Rattle.jc_machine.proofs.Guarding.{at_stored, at_word, gives_still}
 use Rattle.jc_machine.proofs.GuardingWrites.{stores}
@@ -28,17 +27,17 @@ store_word_keeps h form =
     at_object h array _ (λ number o there. at_check (is_array_of form o.kind.object) _
     (at_accessed h StoreComponent number o there _ (λ fine.
     at_require h array_index_exception (is_in_bounds index o) _
-    (stores h StoreComponent number o None index (stored_as form (Word n)) vs there (inr refl) fine)))))))
+    (stores h (asking StoreComponent number) o index (stored_as form (Word n)) vs there refl (inr refl) fine)))))))
 
 store_reference_keeps : {C : Type 0} (h : Here C) → KeepsLaw h.around h.machine [] (act_store_reference h)
 store_reference_keeps h =
     at_reference h.machine.top.operands _ (λ v ts. at_check (is_there h v) _ (at_word ts _ (λ index us.
     at_reference us _ (λ array vs. at_object h array _ (λ number o there.
     at_some (component_class o.kind.object) _ (λ class e.
-    at_stored h StoreReference number o there (mark_of h.machine.heap v) _ (λ fine.
+    at_stored h StoreReference number o there v _ (λ fine.
     at_require h array_index_exception (is_in_bounds index o) _
     (at_require h array_store_exception (leads_to h.machine.heap (is_instance h.around.world.shapes class) v) _
-    (stores h StoreReference number o (mark_of h.machine.heap v) index v vs there (inr refl) fine)))))))))
+    (stores h (storing StoreReference number v) o index v vs there refl (inr refl) fine)))))))))
 
 pub store_keeps : {C : Type 0} (h : Here C) (form : Form) → KeepsLaw h.around h.machine [] (act_store h form)
 store_keeps h Forms.Reference = store_reference_keeps h

@@ -5,7 +5,6 @@ use Rattle.jc_base.specs.Signature.{Signature}
 use Rattle.jc_classes.specs.Methods.{interface_method_of}
 use Rattle.jc_code.specs.declared.object.Invocation.{Invocation}
 use Rattle.jc_code.specs.declared.object.Invocation.TheVariants.{Virtual, Special, Static, Interface}
-use Rattle.jc_firewall.specs.declared.access.Access.{Access}
 use Rattle.jc_firewall.specs.declared.access.Access.TheVariants.{InvokeInterface, InvokeVirtual}
 use Rattle.jc_names.specs.Names.{home_at}
 use Rattle.jc_names.specs.declared.name.ClassName.{ClassName}
@@ -18,10 +17,9 @@ use Rattle.jc_machine.specs.Apart.{HaveApiMembers, has_no_code, is_member}
 use Rattle.jc_machine.specs.Calls.{MethodTarget, VirtualTarget, act_call, act_interface, act_of_interface, act_special}
 use Rattle.jc_machine.specs.Calls.{act_static_call, act_virtual, active_in, found_for, has_interface, invokes}
 use Rattle.jc_machine.specs.Calls.{special_target, static_target, virtual_target, with_arguments, with_receiver}
-use Rattle.jc_machine.specs.Going.{Here, facts_of}
-use Rattle.jc_machine.specs.Guarded.{of_frame}
-use Rattle.jc_machine.specs.Lookup.{are_of_types, class_of, is_of_class, is_shared_interface}
-use Rattle.jc_machine.specs.Machine.{Stepped, Touch}
+use Rattle.jc_machine.specs.Going.{Here, asking, facts_of, wanting}
+use Rattle.jc_machine.specs.Lookup.{are_of_types, class_of, is_of_class}
+use Rattle.jc_machine.specs.Machine.{Asked, Stepped, Touch}
 use Rattle.jc_machine.specs.Natives.{AreNativesGuarded}
 use Rattle.jc_machine.specs.Runtime.{class_cast_exception}
 use Rattle.jc_words.specs.Values.{TaggedValue}
@@ -40,8 +38,7 @@ invokes_keeps : {C : Type 0} {before : List Touch} (h : Here C) → AreNativesGu
 invokes_keeps h natives switch (Loaded number offset) arguments operands runs =
     enters_keeps h switch (record { number = number; offset = offset }) arguments operands (runs refl)
 invokes_keeps h natives switch (Api member) arguments operands runs =
-    native_keeps h natives h.machine.top.active (of_frame refl) (top_runs h.around h.machine) h.machine.top.previous
-    member arguments operands
+    native_keeps h natives member arguments operands
 
 -- a call that doesn't switch
 unswitched_keeps : {C : Type 0} {before : List Touch} (h : Here C) → AreNativesGuarded h.around.natives
@@ -52,16 +49,15 @@ unswitched_keeps h natives method arguments operands =
 
 -- one that may: what was found for an object, if a package has it, is no method of the runtime's objects
 switched_keeps : {C : Type 0} {before : List Touch} (h : Here C) → AreNativesGuarded h.around.natives
-    → (access : Access) (number : ℕ) (o : Object TaggedValue) → object_at h.machine.heap number ≡ Some o
-    → (shared : Bool) (switch : Option Owner)
-    → switch ≡ switched_by (verdict_in h access (facts_of h o None shared)) → (method : MethodName)
+    → (asked : Asked) (o : Object TaggedValue) → object_at h.machine.heap asked.object ≡ Some o
+    → (switch : Option Owner) → switch ≡ switched_by (verdict_in h asked o) → (method : MethodName)
     → (HaveApiMembers h.around.world.shapes → is_member method ≡ false → has_no_code o.kind.object ≡ true → ⊥)
     → (arguments operands : List TaggedValue)
     → KeepsLaw h.around h.machine before (invokes h switch method arguments operands)
-switched_keeps h natives access number o there shared switch by method code arguments operands =
+switched_keeps h natives asked o there switch by method code arguments operands =
     invokes_keeps h natives switch method arguments operands (λ loaded keeps p.
-    switched_runs h.machine.heap p.machine.objects number o there (code p.members loaded) h.machine.top.active
-    (top_is_applets keeps h.machine p.machine) access (facts_of h o None shared) refl refl switch by)
+    switched_runs h.machine.heap p.machine.objects asked.object o there (code p.members loaded) h.machine.top.active
+    (top_is_applets keeps h.machine p.machine) asked.access (facts_of h asked o) refl refl switch by)
 
 -- ---- instructions
 
@@ -90,9 +86,9 @@ virtual_keeps : {C : Type 0} (h : Here C) → AreNativesGuarded h.around.natives
 virtual_keeps h natives target =
     at_receiver h target.signature _ (λ arguments number o operands there.
     at_check (is_of_class h.around.world.shapes target.class o.kind.object) _
-    (at_judged h InvokeVirtual number o there None false _ (λ fine switch by.
+    (at_judged h (asking InvokeVirtual number) o there _ (λ fine switch by.
     at_some (found_for h target.token o) _ (λ method e.
-    switched_keeps h natives InvokeVirtual number o there false switch by method
+    switched_keeps h natives (asking InvokeVirtual number) o there switch by method
     (λ api. found_has_code h.around.world.shapes api o.kind.object target.token
     (home_at h.machine.top.method.number) method e) arguments operands))))
 
@@ -114,12 +110,11 @@ of_interface_keeps : {C : Type 0} (h : Here C) → AreNativesGuarded h.around.na
     → KeepsLaw h.around h.machine [] (act_of_interface h interface token signature)
 of_interface_keeps h natives interface token signature =
     at_receiver h signature _ (λ arguments number o operands there.
-    at_judged h InvokeInterface number o there None (is_shared_interface h.around.world.shapes interface) _
+    at_judged h (wanting InvokeInterface number (Some interface)) o there _
     (λ fine switch by.
     at_require h class_cast_exception (has_interface h.around.world.shapes interface o) _
     (at_some (interface_method_of h.around.world.shapes (class_of o.kind.object) interface token) _ (λ method e.
-    switched_keeps h natives InvokeInterface number o there (is_shared_interface h.around.world.shapes interface)
-    switch by method
+    switched_keeps h natives (wanting InvokeInterface number (Some interface)) o there switch by method
     (λ api. listed_has_code h.around.world.shapes api o.kind.object interface token method e) arguments operands))))
 
 interface_keeps : {C : Type 0} (h : Here C) → AreNativesGuarded h.around.natives → (count token : ℕ)

@@ -1,5 +1,5 @@
 -- Instructions on fields keep the law of accesses.
-use Rattle.std.proofs.Common.{◌≡◌, ℕ, List, [], length, nat_lt, slice_get, inl, refl, Some, false}
+use Rattle.std.proofs.Common.{◌≡◌, ℕ, List, [], length, nat_lt, slice_get, inl, refl, Some, true, false}
 use Rattle.jc_base.specs.declared.declared_type.DeclaredType.{DeclaredType}
 use Rattle.jc_code.specs.declared.object.FieldAccess.{FieldAccess}
 use Rattle.jc_code.specs.declared.object.FieldAction.{FieldAction}
@@ -18,8 +18,9 @@ use Rattle.jc_machine.specs.Arrays.{loaded_as, stored_as}
 use Rattle.jc_machine.specs.Fields.{FieldTarget, InstanceField, act_field, act_get_static, act_instance, act_on_target}
 use Rattle.jc_machine.specs.Fields.{act_put_static, act_static, field_target, gets, of_class, of_objects, on_holder}
 use Rattle.jc_machine.specs.Fields.{put_static, puts, putting, static_at, stored_in_static}
-use Rattle.jc_machine.specs.Going.{Here, facts_of}
-use Rattle.jc_machine.specs.Lookup.{is_of_class, is_of_type, mark_of}
+use Rattle.jc_machine.specs.Going.{Here, facts_of, storing}
+use Rattle.jc_machine.specs.Guarded.{may_change}
+use Rattle.jc_machine.specs.Lookup.{is_of_class, is_of_type}
 use Rattle.jc_machine.specs.Machine.{Machine, Stepped, Surroundings, Touch}
 use Rattle.jc_words.specs.Values.{Null, Ref, TaggedValue, Unset, Word}
 use Rattle.jc_machine.proofs.Guarding.{KeepsLaw, at_accessed, at_check, at_object, at_reference, at_reference_local}
@@ -43,7 +44,7 @@ at_stored_value : {C : Type 0} (h : Here C) (v : TaggedValue) (s : Stepped C)
 at_stored_value h (Word n) s k = k []
 at_stored_value h (Ref n) s k =
     at_object h (Ref n) _ (λ number o there.
-    at_stored h PutStaticReference number o there (Some o.kind.mark) s (λ fine. k _))
+    at_stored h PutStaticReference number o there (Ref n) s (λ fine. k _))
 at_stored_value h Null s k = k []
 at_stored_value h Unset s k = is_stuck
 
@@ -60,7 +61,7 @@ put_static_keeps h form place declared =
     at_check (is_of_type h.around.world.shapes h.machine.heap declared v) _
     (at_some (static_at h.machine.statics place.home place.offset) _ (λ s e. at_stored_value h v _ (λ before.
     goes (put_static h place (stored_as form v)) h.next_pc h.machine.top.locals vs
-    (nothing_changes before h.machine.heap) (static_apart h place (stored_as form v))))))
+    (nothing_changes h.machine.top.active before h.machine.heap) (static_apart h place (stored_as form v))))))
 
 static_keeps : {C : Type 0} (h : Here C) (access : FieldAccess) (place : StaticPlace)
     (declared : DeclaredType ClassName) (action : FieldAction) (holder : Holder)
@@ -86,14 +87,19 @@ putting_row Forms.Reference f = refl
 putting_row Forms.Byte f = refl
 putting_row Forms.Short f = refl
 
+putting_changes : (form : Form) → may_change (putting form) ≡ true
+putting_changes Forms.Reference = refl
+putting_changes Forms.Byte = refl
+putting_changes Forms.Short = refl
+
 puts_keeps : {C : Type 0} (h : Here C) (form : Form) (field : InstanceField) (v value : TaggedValue)
     (vs : List TaggedValue) → KeepsLaw h.around h.machine [] (puts h form field v value vs)
 puts_keeps h form field v value vs =
     at_object h v _ (λ number o there. at_check (is_of_class h.around.world.shapes field.class o.kind.object) _
-    (at_stored h (putting form) number o there (mark_of h.machine.heap value) _ (λ fine.
+    (at_stored h (putting form) number o there value _ (λ fine.
     at_check (nat_lt field.cell (length o.cells)) _
-    (stores h (putting form) number o (mark_of h.machine.heap value) field.cell (stored_as form value) vs there
-    (inl (putting_row form (facts_of h o (mark_of h.machine.heap value) false))) fine))))
+    (stores h (storing (putting form) number value) o field.cell (stored_as form value) vs there (putting_changes form)
+    (inl (putting_row form (facts_of h (storing (putting form) number value) o))) fine))))
 
 at_holder : {C : Type 0} {around : Surroundings C} {m : Machine C} {before : List Touch} (h : Here C) (holder : Holder)
     (vs : List TaggedValue)

@@ -4,19 +4,22 @@ use Rattle.std.proofs.Common.{slice_get}
 use Rattle.std.proofs.lemmas.Bool.{and_from, and_parts}
 use Rattle.std.proofs.lemmas.Option.{none-some, same_Some}
 use Rattle.std.specs.List.{AllByRecursion}
+use Rattle.jc_names.specs.declared.owner.Owner.{Owner}
 use Rattle.jc_store.specs.Heap.{Heap, Object, object_at}
-use Rattle.jc_machine.specs.Guarded.{AreGuarded, ChangesAccessed, IsAccessed, allowed, are_allowed, denied, is_allowed}
-use Rattle.jc_machine.specs.Guarded.{is_last_denied}
+use Rattle.jc_machine.specs.Guarded.{AddsFor, AreGuarded, ChangesAccessed, IsAccessed, allowed, are_allowed, denied}
+use Rattle.jc_machine.specs.Guarded.{is_allowed, is_last_denied}
 use Rattle.jc_machine.specs.Machine.{Touch}
 use Rattle.jc_machine.specs.Natives.{IsStill, KeepsObjects}
 use Rattle.jc_words.specs.Values.{TaggedValue}
 
 -- ---- objects
 
--- by these accesses objects become others: those that were there stay, and change only where they were accessed
-pub record KeepsHeap (touches : List Touch) (before after : Heap TaggedValue) : Type 0 where
-  pub changes : ChangesAccessed touches before after
+-- by these accesses, in a context, objects become others: those that were there stay, and change only where they were
+-- accessed; and new ones are of an owner
+pub record KeepsHeap (owner : Owner) (touches : List Touch) (before after : Heap TaggedValue) : Type 0 where
+  pub changes : ChangesAccessed owner.context touches before after
   pub kept : KeepsObjects before after
+  pub adds : AddsFor owner before after
 
 -- ---- lists of accesses
 
@@ -65,44 +68,52 @@ get_first [] ys k x e = absurd (none-some x e)
 get_first (y ∷ xs) ys zero x e = e
 get_first (y ∷ xs) ys (suc k) x e = get_first xs ys k x e
 
-accessed_first : (xs ys : List Touch) (n : ℕ) (o : Object TaggedValue) → IsAccessed xs n o → IsAccessed (xs ++ ys) n o
-accessed_first xs ys n o a = record {
+accessed_first : (active : ℕ) (xs ys : List Touch) (n : ℕ) (o : Object TaggedValue) → IsAccessed active xs n o
+    → IsAccessed active (xs ++ ys) n o
+accessed_first active xs ys n o a = record {
   place = a.place;
   touch = a.touch;
   listed = get_first xs ys a.place a.touch a.listed;
   is = a.is;
+  changes = a.changes;
   allowed = a.allowed;
   own = a.own;
 }
 
-accessed_later : (xs ys : List Touch) (n : ℕ) (o : Object TaggedValue) → IsAccessed ys n o → IsAccessed (xs ++ ys) n o
-accessed_later [] ys n o a = a
-accessed_later (x ∷ xs) ys n o a =
-    let b = accessed_later xs ys n o a in record {
+accessed_later : (active : ℕ) (xs ys : List Touch) (n : ℕ) (o : Object TaggedValue) → IsAccessed active ys n o
+    → IsAccessed active (xs ++ ys) n o
+accessed_later active [] ys n o a = a
+accessed_later active (x ∷ xs) ys n o a =
+    let b = accessed_later active xs ys n o a in record {
       place = suc b.place;
       touch = b.touch;
       listed = b.listed;
       is = b.is;
+      changes = b.changes;
       allowed = b.allowed;
       own = b.own;
     }
 
 -- ---- what changes
 
-pub changes_first : (xs ys : List Touch) (a b : Heap TaggedValue) → KeepsHeap xs a b → KeepsHeap (xs ++ ys) a b
-changes_first xs ys a b h = record {
+pub changes_first : (owner : Owner) (xs ys : List Touch) (a b : Heap TaggedValue) → KeepsHeap owner xs a b
+    → KeepsHeap owner (xs ++ ys) a b
+changes_first owner xs ys a b h = record {
   changes = λ n o p e f.
       elim (h.changes n o p e f)
-      [ inl same ↦ inl same | inr accessed ↦ inr (accessed_first xs ys n o accessed) ];
+      [ inl same ↦ inl same | inr accessed ↦ inr (accessed_first owner.context xs ys n o accessed) ];
   kept = h.kept;
+  adds = h.adds;
 }
 
-pub changes_later : (xs ys : List Touch) (a b : Heap TaggedValue) → KeepsHeap ys a b → KeepsHeap (xs ++ ys) a b
-changes_later xs ys a b h = record {
+pub changes_later : (owner : Owner) (xs ys : List Touch) (a b : Heap TaggedValue) → KeepsHeap owner ys a b
+    → KeepsHeap owner (xs ++ ys) a b
+changes_later owner xs ys a b h = record {
   changes = λ n o p e f.
       elim (h.changes n o p e f)
-      [ inl same ↦ inl same | inr accessed ↦ inr (accessed_later xs ys n o accessed) ];
+      [ inl same ↦ inl same | inr accessed ↦ inr (accessed_later owner.context xs ys n o accessed) ];
   kept = h.kept;
+  adds = h.adds;
 }
 
 one_object : (found : Option (Object TaggedValue)) (o p : Object TaggedValue) → found ≡ Some o → found ≡ Some p
@@ -114,9 +125,10 @@ pub is_still : (heap : Heap TaggedValue) (n : ℕ) (o : Object TaggedValue) → 
     → IsStill heap n o
 is_still heap n o e = record { object = o; found = e; kind = refl; owner = refl; size = refl }
 
-pub nothing_changes : (xs : List Touch) (heap : Heap TaggedValue) → KeepsHeap xs heap heap
-nothing_changes xs heap = record {
+pub nothing_changes : (owner : Owner) (xs : List Touch) (heap : Heap TaggedValue) → KeepsHeap owner xs heap heap
+nothing_changes owner xs heap = record {
   changes = λ n o p e f.
       inl (ap (λ (x : Object TaggedValue). x.cells) (one_object (object_at heap n) o p e f));
   kept = λ n o e. is_still heap n o e;
+  adds = λ n o e f. absurd (none-some o (sym f ∙ e));
 }

@@ -1,38 +1,40 @@
 -- New frames, and native members and what they call, keep the law of accesses, where native members keep theirs.
-use Rattle.std.proofs.Common.{◌≡◌, ◌⊎◌, inl, inr, ℕ, ◌+◌, Bool, true, false, not, List, ◌∷◌, ◌++◌, length, Option, Some}
-use Rattle.std.proofs.Common.{None, cond, refl, sym, ap, ◌∙◌, subst, ◌&&◌}
+use Rattle.std.proofs.Common.{◌≡◌, ℕ, ◌+◌, Bool, true, false, not, List, [], ◌∷◌, ◌++◌, length, Option, Some, None, cond}
+use Rattle.std.proofs.Common.{refl, sym, ap, ◌∙◌, subst, ◌&&◌, append-nil, eqb-true, nat_lt}
 use Rattle.std.proofs.lemmas.Bool.{and_from, and_parts}
 use Rattle.std.specs.List.{AllByRecursion}
 use Rattle.std.specs.Option.{option_and_then}
 use Rattle.jc_base.specs.Signature.{Signature}
 use Rattle.jc_cap_method.specs.declared.header.MethodHeader.{MethodHeader}
 use Rattle.jc_classes.specs.Methods.{virtual_method_of}
-use Rattle.jc_firewall.specs.Verdict.{runtime_context}
 use Rattle.jc_link.specs.Found.{is_same_return}
 use Rattle.jc_names.specs.declared.name.ClassName.{ClassName}
 use Rattle.jc_names.specs.declared.name.MethodName.{MethodName}
 use Rattle.jc_names.specs.declared.name.MethodName.TheVariants.{Api, Loaded}
 use Rattle.jc_names.specs.declared.owner.Owner.{Owner}
 use Rattle.jc_store.specs.Heap.{Heap, Object, object_at}
-use Rattle.jc_machine.specs.Apart.{AsksApplet, IsApartAnswer, IsSetApart, SparesPlain, is_applets}
+use Rattle.jc_machine.specs.Apart.{IsApartAnswer, IsSetApart, SparesPlain, is_applets}
 use Rattle.jc_machine.specs.Calls.{VirtualMember, active_in, after_native, called_as, callback_fits, calls_back}
 use Rattle.jc_machine.specs.Calls.{entered, enters, frame_of, has_room, inner_native_ends, is_in_place_of}
-use Rattle.jc_machine.specs.Calls.{native_answer, native_ends, native_gives, native_may_begin, native_type, on_native}
-use Rattle.jc_machine.specs.Calls.{previous_in, type_of_member, virtual_member, with_given}
-use Rattle.jc_machine.specs.Going.{Here, moved, plain, throws, touched, with_machine}
-use Rattle.jc_machine.specs.Guarded.{AreGuarded, IsActive, IsJudged, of_callee, of_runtime}
+use Rattle.jc_machine.specs.Calls.{is_member_or_loaded, native_answer, native_call, native_ends, native_gives}
+use Rattle.jc_machine.specs.Calls.{native_may_begin, native_type, on_native, previous_in, takes, type_of_member}
+use Rattle.jc_machine.specs.Calls.{virtual_member, with_given}
+use Rattle.jc_machine.specs.Going.{Here, check, moved, plain, stuck, throws, touched, with_machine}
+use Rattle.jc_machine.specs.Guarded.{AreGuarded, AreMade, IsCalledBack, IsJudged, as_owner, by_callback, by_frame}
+use Rattle.jc_machine.specs.Guarded.{frame_answer, setting_of}
 use Rattle.jc_machine.specs.Lookup.{are_of_types, class_of, declared_at, is_given, is_of_class}
 use Rattle.jc_machine.specs.Machine.{Callback, Calls, Frame, Gives, IsStuck, Machine, MethodPlace, NativeAnswer}
 use Rattle.jc_machine.specs.Machine.{NativeCall, NativeEnd, Next, Stepped, Surroundings, Throws, ThrowsObject, Touch}
 use Rattle.jc_machine.specs.Machine.{UsedUp}
-use Rattle.jc_machine.specs.Natives.{AreNativesGuarded, IsGuardedAnswer, IsNativeTouch, IsRefusedAnswer}
+use Rattle.jc_machine.specs.Natives.{AreNativesGuarded, IsGuardedAnswer, IsModest, IsOfReceiver, IsRefusedAnswer}
+use Rattle.jc_machine.specs.Natives.{shareable_member}
 use Rattle.jc_machine.specs.Runtime.{security_exception}
 use Rattle.jc_words.specs.Values.{Ref, TaggedValue}
-use Rattle.jc_machine.proofs.Guarding.{KeepsLaw, at_check, at_checked, at_some, behind, gives_changed, goes, is_stuck}
-use Rattle.jc_machine.proofs.Guarding.{leaves, stays}
-use Rattle.jc_machine.proofs.GuardingHeaps.{KeepsHeap, changes_later, each_mapped, mapped}
+use Rattle.jc_machine.proofs.Guarding.{KeepsLaw, at_check, at_checked, at_some, behind, behind_made, gives_changed}
+use Rattle.jc_machine.proofs.Guarding.{goes, is_stuck, leaves, stays}
+use Rattle.jc_machine.proofs.GuardingHeaps.{KeepsHeap, all_joined, changes_later, mapped, nothing_changes}
 use Rattle.jc_machine.proofs.StayingApart.{IsApartIn, LeadsApart, RunsApplets, are_applets, is_apart_itself}
-use Rattle.jc_machine.proofs.StayingApart.{objects_stay_apart}
+use Rattle.jc_machine.proofs.StayingApart.{objects_stay_apart, top_runs}
 use Rattle.jc_machine.proofs.Switching.{called_runs}
 
 -- ---- frames
@@ -77,25 +79,12 @@ pub enters_keeps : {C : Type 0} {before : List Touch} (h : Here C) (switch : Opt
     → KeepsLaw h.around h.machine before (enters h switch place arguments operands)
 enters_keeps h switch place arguments operands runs =
     at_some (option_and_then (λ d. d.method.header) (declared_at h.around.world place)) _ (λ (header : MethodHeader) e.
-    at_check (not header.is_abstract) _
+    at_check (not header.is_abstract && takes h place arguments) _
     (entered_keeps h
     (frame_of place header arguments (active_in h.machine.top switch) (previous_in h.machine.top switch))
     header.max_stack operands runs))
 
 -- ---- native members
-
--- with what a native member is called
-abbrev call_of : {C : Type 0} → Here C → Owner → Option Owner → ℕ → List TaggedValue → NativeCall C
-call_of h active previous member arguments = record {
-  member = member;
-  arguments = arguments;
-  active = active;
-  previous = previous;
-  heap = h.machine.heap;
-  runtime = h.machine.runtime;
-  selected = h.around.selected;
-  limits = h.around.limits;
-}
 
 -- an answer has changed nothing in a machine; and what the law of native members says of it there
 record IsAsWas {C : Type 0} (m : Machine C) (a : NativeAnswer C) : Type 0 where
@@ -111,64 +100,121 @@ record IsFineApart {C : Type 0} (keeps : C → Bool) (m : Machine C) (a : Native
   spares : AllByRecursion (SparesPlain m.heap) a.touches
   objects : IsSetApart a.heap
   kept : keeps a.runtime ≡ true
-  calls : (callback : Callback) → a.ends ≡ Calls callback → AsksApplet callback
 
-record IsFineAnswer {C : Type 0} (around : Surroundings C) (m : Machine C) (a : NativeAnswer C) : Type 0 where
-  judged : AllByRecursion (IsJudged around m) a.touches
+record IsFineAnswer {C : Type 0} (around : Surroundings C) (m : Machine C) (before : List Touch) (a : NativeAnswer C)
+    : Type 0 where
+  made : AllByRecursion (IsJudged (setting_of around m)) before → AreMade around m (before ++ a.touches)
   guarded : AreGuarded a.touches (IsRefusal m a)
-  changes : KeepsHeap a.touches m.heap a.heap
-  calls : (callback : Callback) → a.ends ≡ Calls callback → IsAsWas m a
+  changes : KeepsHeap m.top.active a.touches m.heap a.heap
   apart : (keeps : C → Bool) → IsApartIn keeps around m → IsFineApart keeps m a
 
--- its accesses are judged, where whose owner is active may be so
-native_context : {C : Type 0} (m : Machine C) (active context : ℕ) → IsActive m active
-    → (context ≡ active) ⊎ (context ≡ runtime_context) → IsActive m context
-native_context m active context may (inl e) = subst (IsActive m) (sym e) may
-native_context m active context may (inr e) = of_runtime e
+abbrev answer_to : {C : Type 0} → Here C → NativeCall C → NativeAnswer C
+answer_to h call = h.around.natives.answer h.around.world call
 
-native_judged : {C : Type 0} (h : Here C) (active : Owner) (previous : Option Owner) (member : ℕ)
-    (arguments : List TaggedValue) → IsActive h.machine active.context → (t : Touch)
-    → IsNativeTouch h.around.world (call_of h active previous member arguments) t → IsJudged h.around h.machine t
-native_judged h active previous member arguments may t n = record {
-  active = native_context h.machine active.context t.active may n.active;
-  object = n.object;
-  found = n.found;
-  stored = None;
-  shared = false;
-  verdict = n.verdict;
-}
-
-fine_answer : {C : Type 0} (h : Here C) → AreNativesGuarded h.around.natives → (active : Owner)
-    → IsActive h.machine active.context → RunsApplets h.around h.machine active
-    → (previous : Option Owner) (member : ℕ) (arguments : List TaggedValue)
-    → IsFineAnswer h.around h.machine (native_answer h active previous member arguments)
-fine_answer {C = C} h natives active may runs previous member arguments =
-    let call : NativeCall C = call_of h active previous member arguments in
+refused_as : {C : Type 0} (h : Here C) (active : Owner) (previous : Option Owner) (member : ℕ)
+    (arguments : List TaggedValue)
+    → IsGuardedAnswer h.around.natives h.around.world (native_call h.around h.machine active previous member arguments)
+    (native_answer h active previous member arguments)
+    → AreGuarded (native_answer h active previous member arguments).touches
+    (IsRefusal h.machine (native_answer h active previous member arguments))
+refused_as {C = C} h active previous member arguments g =
+    let call : NativeCall C = native_call h.around h.machine active previous member arguments in
     let a : NativeAnswer C = native_answer h active previous member arguments in
-    let g : IsGuardedAnswer h.around.world call a = natives h.around.world call in record {
-      judged =
-          each_mapped (IsNativeTouch h.around.world call) (IsJudged h.around h.machine) a.touches
-          (native_judged h active previous member arguments may) g.touches;
-      guarded = mapped a.touches (IsRefusedAnswer call a) (IsRefusal h.machine a) (λ r. record {
-        unchanged = record { heap = r.unchanged.heap; runtime = r.unchanged.runtime };
-        throws = r.throws;
-      }) g.guarded;
-      changes = record { changes = g.changes; kept = g.kept };
-      calls = λ callback e. record { heap = (g.calls callback e).heap; runtime = (g.calls callback e).runtime };
-      apart = λ keeps p.
-          let n : IsApartAnswer keeps call a =
-          p.natives h.around.world call p.machine.objects (runs keeps p) p.machine.kept in record {
-            spares = n.spares;
-            objects =
-                objects_stay_apart call.heap a.heap active p.machine.objects g.kept (runs keeps p) n.adds;
-            kept = n.kept;
-            calls = n.calls;
-          };
+    mapped a.touches (IsRefusedAnswer call a) (IsRefusal h.machine a) (λ r. record {
+      unchanged = record { heap = r.unchanged.heap; runtime = r.unchanged.runtime };
+      throws = r.throws;
+    }) g.guarded
+
+apart_as : {C : Type 0} (h : Here C) (active : Owner) (previous : Option Owner) (member : ℕ)
+    (arguments : List TaggedValue) → RunsApplets h.around h.machine active
+    → IsGuardedAnswer h.around.natives h.around.world (native_call h.around h.machine active previous member arguments)
+    (native_answer h active previous member arguments) → (keeps : C → Bool) → IsApartIn keeps h.around h.machine
+    → IsFineApart keeps h.machine (native_answer h active previous member arguments)
+apart_as {C = C} h active previous member arguments runs g keeps p =
+    let call : NativeCall C = native_call h.around h.machine active previous member arguments in
+    let a : NativeAnswer C = native_answer h active previous member arguments in
+    let n : IsApartAnswer keeps call a =
+    p.natives h.around.world call p.machine.objects (runs keeps p) p.machine.kept in record {
+      spares = n.spares;
+      objects = objects_stay_apart h.machine.heap a.heap active p.machine.objects g.kept (runs keeps p) g.adds;
+      kept = n.kept;
+    }
+
+-- one that the frame calls
+frame_fine : {C : Type 0} (h : Here C) → AreNativesGuarded h.around.natives → (before : List Touch) (member : ℕ)
+    (arguments : List TaggedValue)
+    → IsFineAnswer h.around h.machine before (frame_answer h.around h.machine member arguments)
+frame_fine {C = C} h natives before member arguments =
+    let active = h.machine.top.active in
+    let previous = h.machine.top.previous in
+    let a : NativeAnswer C = frame_answer h.around h.machine member arguments in
+    let g : IsGuardedAnswer h.around.natives h.around.world
+    (native_call h.around h.machine active previous member arguments) a =
+    natives h.around.world (native_call h.around h.machine active previous member arguments) in record {
+      made = λ all.
+          by_frame (before ++ a.touches)
+          (all_joined (IsJudged (setting_of h.around h.machine)) before a.touches all g.touches);
+      guarded = refused_as h active previous member arguments g;
+      changes = record { changes = g.changes; kept = g.kept; adds = g.adds };
+      apart = λ keeps p. apart_as h active previous member arguments (top_runs h.around h.machine) g keeps p;
+    }
+
+-- the frame's call of one that makes this call, with its accesses behind others
+record IsCalling {C : Type 0} (h : Here C) (before : List Touch) (callback : Callback) : Type 0 where
+  member : ℕ
+  arguments : List TaggedValue
+  first : List Touch
+  begins : native_may_begin h.around.world.shapes h.machine.heap member arguments ≡ true
+  calls : (frame_answer h.around h.machine member arguments).ends ≡ Calls callback
+  before_is : before ≡ first ++ (frame_answer h.around h.machine member arguments).touches
+  asks : callback.member ≡ shareable_member
+
+both_all : {A : Type 0} (P Q R : A → Type 0) (xs : List A) → ((x : A) → P x → Q x → R x) → AllByRecursion P xs
+    → AllByRecursion Q xs → AllByRecursion R xs
+both_all P Q R [] f h k = tt
+both_all P Q R (x ∷ xs) f h k = (f x h.0 k.0, both_all P Q R xs f h.1 k.1)
+
+-- one that is called so on an object
+callee_fine : {C : Type 0} (h : Here C) → AreNativesGuarded h.around.natives → (before : List Touch)
+    (callback : Callback) → IsCalling h before callback → (object : Object TaggedValue)
+    → object_at h.machine.heap callback.object ≡ Some object → RunsApplets h.around h.machine object.owner
+    → (member : ℕ) → member ≡ callback.member
+    → IsFineAnswer h.around h.machine before
+    (native_answer h object.owner (Some h.machine.top.active) member (Ref callback.object ∷ callback.arguments))
+callee_fine {C = C} h natives before callback calling object there runs member is =
+    let arguments = Ref callback.object ∷ callback.arguments in
+    let previous = Some h.machine.top.active in
+    let setting = setting_of h.around h.machine in
+    let b : NativeAnswer C = native_answer h object.owner previous member arguments in
+    let g : IsGuardedAnswer h.around.natives h.around.world
+    (native_call h.around h.machine object.owner previous member arguments) b =
+    natives h.around.world (native_call h.around h.machine object.owner previous member arguments) in
+    let modest : IsModest callback.object (native_call h.around h.machine object.owner previous member arguments) b =
+    g.modest callback.object callback.arguments (is ∙ calling.asks) refl in
+    let called : AllByRecursion (IsCalledBack setting callback.object) b.touches =
+    both_all (IsJudged (as_owner setting object)) (IsOfReceiver callback.object) (IsCalledBack setting callback.object)
+    b.touches (λ t judged of. record {
+      object = object;
+      found = there;
+      is = of.is;
+      access = of.access;
+      by = of.by;
+      judged = judged;
+    }) g.touches modest.touches in record {
+      made = λ all.
+          subst (λ (l : List Touch). AreMade h.around h.machine (l ++ b.touches)) (sym calling.before_is)
+          (by_callback calling.member calling.arguments callback calling.first b.touches calling.begins calling.calls
+          (subst (λ (l : List Touch). AllByRecursion (IsJudged setting) l) calling.before_is all) called);
+      guarded = refused_as h object.owner previous member arguments g;
+      changes =
+          subst (λ (x : Heap TaggedValue). KeepsHeap h.machine.top.active b.touches h.machine.heap x)
+          (sym modest.unchanged.heap) (nothing_changes h.machine.top.active b.touches h.machine.heap);
+      apart = λ keeps p. apart_as h object.owner previous member arguments runs g keeps p;
     }
 
 -- the machine behind it
-answer_apart : {C : Type 0} (h : Here C) (a : NativeAnswer C) → IsFineAnswer h.around h.machine a
-    → LeadsApart h.around h.machine (after_native h a).machine
+answer_apart : {C : Type 0} {before : List Touch} (h : Here C) (a : NativeAnswer C)
+    → IsFineAnswer h.around h.machine before a → LeadsApart h.around h.machine (after_native h a).machine
 answer_apart h a fine keeps p = record {
   objects = (fine.apart keeps p).objects;
   frames = p.machine.frames;
@@ -214,100 +260,131 @@ same_thrown : (ends : NativeEnd) (number : ℕ) → ends ≡ ThrowsObject number
     → ends ≡ ThrowsObject security_exception → number ≡ security_exception
 same_thrown ends number e f = cc
 
--- behind an answer that isn't a refusal
-goes_behind_answer : {C : Type 0} {before : List Touch} (h : Here C) (a : NativeAnswer C) (s : Stepped C)
-    → IsFineAnswer h.around h.machine a → (a.ends ≡ ThrowsObject security_exception → ⊥)
+-- ---- what makes no access
+
+check_none : {C : Type 0} (b : Bool) (s : Stepped C) → s.touches ≡ [] → (check b s).touches ≡ []
+check_none true s e = e
+check_none false s e = refl
+
+given_none : {C : Type 0} (h : Here C) (value : Option TaggedValue) (operands : List TaggedValue)
+    → (with_given h value operands).touches ≡ []
+given_none h None operands = refl
+given_none h (Some v) operands = check_none (nat_lt (length operands) h.max_stack) _ refl
+
+gives_none : {C : Type 0} (h : Here C) (signature : Signature ClassName) (value : Option TaggedValue)
+    (operands : List TaggedValue) → (native_gives h signature value operands).touches ≡ []
+gives_none h signature value operands =
+    check_none (is_given h.around.world.shapes h.machine.heap signature.result value) _ (given_none h value operands)
+
+-- ---- behind an answer
+
+-- what makes no access
+ends_behind : {C : Type 0} {before : List Touch} (h : Here C) (a : NativeAnswer C) (s : Stepped C)
+    → s.touches ≡ [] → IsFineAnswer h.around h.machine before a
+    → AreGuarded a.touches (s ≡ plain (Throws h.machine security_exception))
     → KeepsLaw h.around h.machine (before ++ a.touches) s → KeepsLaw h.around h.machine before (touched a.touches s)
-goes_behind_answer h a s fine other k =
-    behind a.touches s fine.judged
-    (mapped a.touches (IsRefusal h.machine a) (s ≡ plain (Throws h.machine security_exception)) (λ r.
-    absurd (other r.throws)) fine.guarded) (λ keeps p. (fine.apart keeps p).spares) k
+ends_behind {before = before} h a s none fine guarded k =
+    behind_made before a.touches s guarded (λ keeps p. (fine.apart keeps p).spares) k (λ all.
+    subst (λ (l : List Touch). AreMade h.around h.machine (before ++ l))
+    (sym (ap (λ (l : List Touch). a.touches ++ l) none ∙ append-nil a.touches)) (fine.made all))
+
+-- one that isn't a refusal
+unrefused : {C : Type 0} {before : List Touch} (h : Here C) (a : NativeAnswer C) (s : Stepped C)
+    → IsFineAnswer h.around h.machine before a → (a.ends ≡ ThrowsObject security_exception → ⊥)
+    → AreGuarded a.touches (s ≡ plain (Throws h.machine security_exception))
+unrefused h a s fine other =
+    mapped a.touches (IsRefusal h.machine a) (s ≡ plain (Throws h.machine security_exception)) (λ r.
+    absurd (other r.throws)) fine.guarded
 
 -- it gives what it gives
 given_keeps : {C : Type 0} {around : Surroundings C} {m : Machine C} {before : List Touch} (h : Here C)
     (value : Option TaggedValue)
-    (operands : List TaggedValue) → KeepsHeap before m.heap h.machine.heap → LeadsApart around m h.machine
-    → KeepsLaw around m before (with_given h value operands)
+    (operands : List TaggedValue) → KeepsHeap m.top.active before m.heap h.machine.heap
+    → LeadsApart around m h.machine → KeepsLaw around m before (with_given h value operands)
 given_keeps h None operands changes apart = goes h h.next_pc h.machine.top.locals operands changes apart
 given_keeps h (Some v) operands changes apart = gives_changed h v operands changes apart
 
 gives_keeps : {C : Type 0} {around : Surroundings C} {m : Machine C} {before : List Touch} (h : Here C)
     (signature : Signature ClassName)
-    (value : Option TaggedValue) (operands : List TaggedValue) → KeepsHeap before m.heap h.machine.heap
+    (value : Option TaggedValue) (operands : List TaggedValue)
+    → KeepsHeap m.top.active before m.heap h.machine.heap
     → LeadsApart around m h.machine → KeepsLaw around m before (native_gives h signature value operands)
 gives_keeps h signature value operands changes apart =
     at_check (is_given h.around.world.shapes h.machine.heap signature.result value) _
     (given_keeps h value operands changes apart)
 
 gave_keeps : {C : Type 0} {before : List Touch} (h : Here C) (a : NativeAnswer C) (signature : Signature ClassName)
-    (value : Option TaggedValue) (operands : List TaggedValue) → IsFineAnswer h.around h.machine a
+    (value : Option TaggedValue) (operands : List TaggedValue) → IsFineAnswer h.around h.machine before a
     → a.ends ≡ Gives value
     → KeepsLaw h.around h.machine before (touched a.touches (native_gives (after_native h a) signature value operands))
 gave_keeps {before = before} h a signature value operands fine e =
-    goes_behind_answer h a (native_gives (after_native h a) signature value operands) fine
-    (not_given a.ends value e)
+    let s = native_gives (after_native h a) signature value operands in
+    ends_behind h a s (gives_none (after_native h a) signature value operands) fine
+    (unrefused h a s fine (not_given a.ends value e))
     (gives_keeps (after_native h a) signature value operands
-    (changes_later before a.touches h.machine.heap a.heap fine.changes) (answer_apart h a fine))
+    (changes_later h.machine.top.active before a.touches h.machine.heap a.heap fine.changes) (answer_apart h a fine))
 
 -- it throws, as where an access of its own was denied
 threw_keeps : {C : Type 0} {before : List Touch} (h : Here C) (a : NativeAnswer C) (number : ℕ)
-    → IsFineAnswer h.around h.machine a → a.ends ≡ ThrowsObject number
+    → IsFineAnswer h.around h.machine before a → a.ends ≡ ThrowsObject number
     → KeepsLaw h.around h.machine before (touched a.touches (throws (after_native h a) number))
 threw_keeps {C = C} {before = before} h a number fine e =
-    behind a.touches (throws (after_native h a) number) fine.judged
+    ends_behind h a (throws (after_native h a) number) refl fine
     (mapped a.touches (IsRefusal h.machine a)
     (throws (after_native h a) number ≡ plain (Throws h.machine security_exception)) (λ r.
     ap (λ (m : Machine C). plain (Throws m number)) (same_machine h a r.unchanged)
     ∙ ap (λ n. plain (Throws h.machine n)) (same_thrown a.ends number e r.throws)) fine.guarded)
-    (λ keeps p. (fine.apart keeps p).spares)
     (leaves (Throws (after_native h a).machine number) (after_native h a).machine refl
-    (changes_later before a.touches h.machine.heap a.heap fine.changes) (answer_apart h a fine))
+    (changes_later h.machine.top.active before a.touches h.machine.heap a.heap fine.changes) (answer_apart h a fine))
+
+stuck_keeps : {C : Type 0} {before : List Touch} (h : Here C) (a : NativeAnswer C)
+    → IsFineAnswer h.around h.machine before a → (a.ends ≡ ThrowsObject security_exception → ⊥)
+    → KeepsLaw h.around h.machine before (touched a.touches stuck)
+stuck_keeps h a fine other = ends_behind h a stuck refl fine (unrefused h a stuck fine other) is_stuck
 
 -- ---- a native member that another one called
 
 inner_end_keeps : {C : Type 0} {before : List Touch} (h : Here C) (a : NativeAnswer C)
-    (signature : Signature ClassName) (operands : List TaggedValue) → IsFineAnswer h.around h.machine a →
-    (ends : NativeEnd)
-    → a.ends ≡ ends
+    (signature : Signature ClassName) (operands : List TaggedValue) → IsFineAnswer h.around h.machine before a
+    → (ends : NativeEnd) → a.ends ≡ ends
     → KeepsLaw h.around h.machine before
     (touched a.touches (inner_native_ends operands (after_native h a) signature ends))
 inner_end_keeps h a signature operands fine (Gives value) e = gave_keeps h a signature value operands fine e
 inner_end_keeps h a signature operands fine (ThrowsObject number) e = threw_keeps h a number fine e
-inner_end_keeps h a signature operands fine (Calls callback) e =
-    goes_behind_answer h a _ fine (not_called a.ends callback e) is_stuck
-inner_end_keeps h a signature operands fine IsStuck e = goes_behind_answer h a _ fine (not_stuck a.ends e) is_stuck
+inner_end_keeps h a signature operands fine (Calls callback) e = stuck_keeps h a fine (not_called a.ends callback e)
+inner_end_keeps h a signature operands fine IsStuck e = stuck_keeps h a fine (not_stuck a.ends e)
 
-inner_keeps : {C : Type 0} {before : List Touch} (h : Here C) → AreNativesGuarded h.around.natives → (active : Owner)
-    → IsActive h.machine active.context → RunsApplets h.around h.machine active
-    → (previous : Option Owner) (member : ℕ) (arguments operands : List TaggedValue)
+inner_keeps : {C : Type 0} {before : List Touch} (h : Here C) (active : Owner) (previous : Option Owner) (member : ℕ)
+    (arguments operands : List TaggedValue)
+    → IsFineAnswer h.around h.machine before (native_answer h active previous member arguments)
     → KeepsLaw h.around h.machine before (on_native h active previous member arguments (inner_native_ends operands))
-inner_keeps h natives active may runs previous member arguments operands =
+inner_keeps h active previous member arguments operands fine =
     at_check (native_may_begin h.around.world.shapes h.machine.heap member arguments) _
     (at_some (native_type h.around.world.shapes member) _ (λ signature e.
-    inner_end_keeps h (native_answer h active previous member arguments) signature operands
-    (fine_answer h natives active may runs previous member arguments)
+    inner_end_keeps h (native_answer h active previous member arguments) signature operands fine
     (native_answer h active previous member arguments).ends refl))
 
 called_as_keeps : {C : Type 0} {before : List Touch} (h : Here C) → AreNativesGuarded h.around.natives
-    → (owner : Owner) → IsActive h.machine owner.context → RunsApplets h.around h.machine owner
-    → (method : MethodName) (arguments operands : List TaggedValue)
-    → KeepsLaw h.around h.machine before (called_as h owner method arguments operands)
-called_as_keeps h natives owner may runs (Loaded number offset) arguments operands =
-    enters_keeps h (Some owner) (record { number = number; offset = offset }) arguments operands runs
-called_as_keeps h natives owner may runs (Api member) arguments operands =
-    inner_keeps h natives owner may runs (Some h.machine.top.active) member arguments operands
-
--- what a native member calls is of Applet, where what is apart stays so
-abbrev AsksApart : {C : Type 0} → Here C → Callback → Type 0
-AsksApart {C} h callback = (keeps : C → Bool) → IsApartIn keeps h.around h.machine → AsksApplet callback
+    → (callback : Callback) → IsCalling h before callback → (object : Object TaggedValue)
+    → object_at h.machine.heap callback.object ≡ Some object → RunsApplets h.around h.machine object.owner
+    → (method : MethodName) → is_member_or_loaded callback.member method ≡ true → (operands : List TaggedValue)
+    → KeepsLaw h.around h.machine before
+    (called_as h object.owner method (Ref callback.object ∷ callback.arguments) operands)
+called_as_keeps h natives callback calling object there runs (Loaded number offset) is operands =
+    enters_keeps h (Some object.owner) (record { number = number; offset = offset })
+    (Ref callback.object ∷ callback.arguments) operands runs
+called_as_keeps {before = before} h natives callback calling object there runs (Api member) is operands =
+    inner_keeps h object.owner (Some h.machine.top.active) member (Ref callback.object ∷ callback.arguments) operands
+    (callee_fine h natives before callback calling object there runs member (eqb-true member callback.member is))
 
 called_owner : {C : Type 0} (h : Here C) (given signature : Signature ClassName) (callback : Callback)
-    → AsksApart h callback → (object : Object TaggedValue) → object_at h.machine.heap callback.object ≡ Some object
+    → callback.member ≡ shareable_member → (object : Object TaggedValue)
+    → object_at h.machine.heap callback.object ≡ Some object
     → (member : VirtualMember) → virtual_member h.around.world.shapes callback.member ≡ Some member
     → callback_fits h given signature member.class object callback.arguments ≡ true
     → RunsApplets h.around h.machine object.owner
 called_owner h given signature callback asks object there member e fits keeps p =
-    called_runs h.around.world.shapes p.members h.machine.heap p.machine.objects callback (asks keeps p) object there
+    called_runs h.around.world.shapes p.members h.machine.heap p.machine.objects callback asks object there
     member e
     (and_parts (is_of_class h.around.world.shapes member.class object.kind.object)
     (is_same_return given.result signature.result)
@@ -317,47 +394,81 @@ called_owner h given signature callback asks object there member e fits keeps p 
     (are_of_types h.around.world.shapes h.machine.heap signature.parameters callback.arguments) fits).0).0
 
 calls_back_keeps : {C : Type 0} {before : List Touch} (h : Here C) → AreNativesGuarded h.around.natives
-    → (given : Signature ClassName) (callback : Callback) (operands : List TaggedValue) → AsksApart h callback
-    → KeepsLaw h.around h.machine before (calls_back h given callback operands)
-calls_back_keeps h natives given callback operands asks =
+    → (given : Signature ClassName) (callback : Callback) (operands : List TaggedValue)
+    → IsCalling h before callback → KeepsLaw h.around h.machine before (calls_back h given callback operands)
+calls_back_keeps h natives given callback operands calling =
     at_some (object_at h.machine.heap callback.object) _ (λ object there.
     at_some (type_of_member h.around.world.shapes callback.member) _ (λ signature e.
     at_some (virtual_member h.around.world.shapes callback.member) _ (λ member is.
     at_checked (callback_fits h given signature member.class object callback.arguments) _ (λ fits.
     at_some (virtual_method_of h.around.world.shapes (class_of object.kind.object) member.token 0) _ (λ method e.
-    at_check (is_in_place_of h.around.world.shapes member.class signature method) _
-    (called_as_keeps h natives object.owner (of_callee callback.object object there refl)
-    (called_owner h given signature callback asks object there member is fits) method
-    (Ref callback.object ∷ callback.arguments) operands))))))
+    at_checked (is_in_place_of h.around.world.shapes callback.member member.class signature method) _ (λ in_place.
+    called_as_keeps h natives callback calling object there
+    (called_owner h given signature callback calling.asks object there member is fits) method
+    (first_part (is_member_or_loaded callback.member method) _ _ in_place) operands))))))
+  where
+    first_part : (a b c : Bool) → (a && b && c) ≡ true → a ≡ true
+    first_part a b c e = (and_parts a b (and_parts (a && b) c e).0).0
 
 -- a native member that makes a call has changed nothing
 called_back_keeps : {C : Type 0} {before : List Touch} (h : Here C) → AreNativesGuarded h.around.natives
     → (a : NativeAnswer C) (given : Signature ClassName) (callback : Callback) (operands : List TaggedValue)
-    → IsAsWas h.machine a → AsksApart h callback
+    → IsAsWas h.machine a → IsCalling h before callback
     → KeepsLaw h.around h.machine before (calls_back (after_native h a) given callback operands)
-called_back_keeps {C = C} {before = before} h natives a given callback operands same asks =
+called_back_keeps {C = C} {before = before} h natives a given callback operands same calling =
     subst (λ (x : Here C). KeepsLaw h.around h.machine before (calls_back x given callback operands))
-    (sym (same_place h a same)) (calls_back_keeps h natives given callback operands asks)
+    (sym (same_place h a same)) (calls_back_keeps h natives given callback operands calling)
 
-end_keeps : {C : Type 0} {before : List Touch} (h : Here C) → AreNativesGuarded h.around.natives
-    → (a : NativeAnswer C) (signature : Signature ClassName) (operands : List TaggedValue)
-    → IsFineAnswer h.around h.machine a → (ends : NativeEnd) → a.ends ≡ ends
-    → KeepsLaw h.around h.machine before (touched a.touches (native_ends operands (after_native h a) signature ends))
-end_keeps h natives a signature operands fine (Gives value) e = gave_keeps h a signature value operands fine e
-end_keeps h natives a signature operands fine (ThrowsObject number) e = threw_keeps h a number fine e
-end_keeps h natives a signature operands fine (Calls callback) e =
-    goes_behind_answer h a _ fine (not_called a.ends callback e)
-    (called_back_keeps h natives a signature callback operands (fine.calls callback e)
-    (λ keeps p. (fine.apart keeps p).calls callback e))
-end_keeps h natives a signature operands fine IsStuck e = goes_behind_answer h a _ fine (not_stuck a.ends e) is_stuck
+-- ---- a native member that the frame calls
 
-pub native_keeps : {C : Type 0} {before : List Touch} (h : Here C) → AreNativesGuarded h.around.natives
-    → (active : Owner) → IsActive h.machine active.context → RunsApplets h.around h.machine active
-    → (previous : Option Owner) (member : ℕ) (arguments operands : List TaggedValue)
-    → KeepsLaw h.around h.machine before (on_native h active previous member arguments (native_ends operands))
-native_keeps h natives active may runs previous member arguments operands =
-    at_check (native_may_begin h.around.world.shapes h.machine.heap member arguments) _
-    (at_some (native_type h.around.world.shapes member) _ (λ signature e.
-    end_keeps h natives (native_answer h active previous member arguments) signature operands
-    (fine_answer h natives active may runs previous member arguments)
-    (native_answer h active previous member arguments).ends refl))
+module _ {C : Type 0} (h : Here C) (natives : AreNativesGuarded h.around.natives) (member : ℕ)
+    (arguments operands : List TaggedValue) where
+  abbrev a : NativeAnswer C
+  a = frame_answer h.around h.machine member arguments
+
+  guarded_so : IsGuardedAnswer h.around.natives h.around.world
+      (native_call h.around h.machine h.machine.top.active h.machine.top.previous member arguments) a
+  guarded_so =
+      natives h.around.world
+      (native_call h.around h.machine h.machine.top.active h.machine.top.previous member arguments)
+
+  asks_keeps : {before : List Touch} (signature : Signature ClassName) (callback : Callback)
+      → native_may_begin h.around.world.shapes h.machine.heap member arguments ≡ true → a.ends ≡ Calls callback
+      → KeepsLaw h.around h.machine before
+      (touched a.touches (calls_back (after_native h a) signature callback operands))
+  asks_keeps {before = before} signature callback begins e =
+      let fine = frame_fine h natives before member arguments in
+      let s = calls_back (after_native h a) signature callback operands in
+      let same = guarded_so.calls callback e in
+      behind a.touches s guarded_so.touches (unrefused h a s fine (not_called a.ends callback e))
+      (λ keeps p. (fine.apart keeps p).spares)
+      (called_back_keeps h natives a signature callback operands
+      (record { heap = same.heap; runtime = same.runtime }) (record {
+        member = member;
+        arguments = arguments;
+        first = before;
+        begins = begins;
+        calls = e;
+        before_is = refl;
+        asks = guarded_so.asks callback e;
+      }))
+
+  end_keeps : {before : List Touch} (signature : Signature ClassName)
+      → native_may_begin h.around.world.shapes h.machine.heap member arguments ≡ true → (ends : NativeEnd)
+      → a.ends ≡ ends
+      → KeepsLaw h.around h.machine before (touched a.touches (native_ends operands (after_native h a) signature ends))
+  end_keeps {before = before} signature begins (Gives value) e =
+      gave_keeps h a signature value operands (frame_fine h natives before member arguments) e
+  end_keeps {before = before} signature begins (ThrowsObject number) e =
+      threw_keeps h a number (frame_fine h natives before member arguments) e
+  end_keeps signature begins (Calls callback) e = asks_keeps signature callback begins e
+  end_keeps {before = before} signature begins IsStuck e =
+      stuck_keeps h a (frame_fine h natives before member arguments) (not_stuck a.ends e)
+
+  pub native_keeps : {before : List Touch}
+      → KeepsLaw h.around h.machine before
+      (on_native h h.machine.top.active h.machine.top.previous member arguments (native_ends operands))
+  native_keeps =
+      at_checked (native_may_begin h.around.world.shapes h.machine.heap member arguments) _ (λ begins.
+      at_some (native_type h.around.world.shapes member) _ (λ signature e.
+      end_keeps signature begins a.ends refl))

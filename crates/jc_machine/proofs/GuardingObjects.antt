@@ -15,10 +15,8 @@ use Rattle.jc_code.specs.declared.object.ReferenceCondition.{ReferenceCondition}
 use Rattle.jc_code.specs.declared.object.ReferenceCondition.TheVariants as Conditions
 use Rattle.jc_code.specs.declared.object.TestedType.{TestedType}
 use Rattle.jc_code.specs.declared.object.TestedType.TheVariants as Tested
-use Rattle.jc_firewall.specs.Verdict.{runtime_context}
 use Rattle.jc_firewall.specs.declared.access.Access.{Access}
 use Rattle.jc_firewall.specs.declared.access.Access.TheVariants as accesses
-use Rattle.jc_firewall.specs.declared.access.Verdict.TheVariants.{Allowed}
 use Rattle.jc_names.specs.declared.name.ClassName.{ClassName}
 use Rattle.jc_step.specs.Objects.{class_target, has_objects}
 use Rattle.jc_store.specs.Heap.{Heap, Object, next_number, object_at}
@@ -30,9 +28,9 @@ use Rattle.jc_words.specs.Shorts.{short}
 use Rattle.jc_words.specs.Values.{Null, Ref, TaggedValue, Unset, Word}
 use Rattle.jc_api.specs.declared.class.ApiClass.TheVariants.{SystemException}
 use Rattle.jc_machine.specs.Apart.{SparesPlain}
-use Rattle.jc_machine.specs.Going.{Here, gives, no_resource, stored_in, throws, throws_system}
-use Rattle.jc_machine.specs.Guarded.{IsAccessed, of_runtime}
-use Rattle.jc_machine.specs.Lookup.{component_class, is_instance, is_shared_interface, is_throwable}
+use Rattle.jc_machine.specs.Going.{Here, gives, no_resource, runtime_touch, stored_in, throws, throws_system, wanting}
+use Rattle.jc_machine.specs.Guarded.{IsAccessed}
+use Rattle.jc_machine.specs.Lookup.{component_class, is_instance, is_throwable}
 use Rattle.jc_machine.specs.Machine.{Machine, Stepped, Surroundings, Throws, Touch}
 use Rattle.jc_machine.specs.Natives.{AreNativesGuarded}
 use Rattle.jc_machine.specs.Objects.{Test, act_branch, act_check_cast, act_create, act_instance_of, act_object}
@@ -55,22 +53,19 @@ use Rattle.jc_machine.proofs.GuardingWrites.{more_changes, new_apart, one_change
 
 -- the runtime's own write of the reason
 abbrev reason_touch : Touch
-reason_touch = record {
-  active = runtime_context;
-  access = accesses.PutField;
-  object = system_exception;
-  verdict = Allowed;
-}
+reason_touch = runtime_touch accesses.PutField system_exception
 
 not_plain_too : (mark : Mark) → mark ≡ TemporaryEntryPoint → mark ≡ Plain → ⊥
 not_plain_too mark e f = cc
 
-reason_accessed : (object : Object TaggedValue) → IsAccessed (reason_touch ∷ []) system_exception object
-reason_accessed object = record {
+reason_accessed : (active : ℕ) (object : Object TaggedValue)
+    → IsAccessed active (reason_touch ∷ []) system_exception object
+reason_accessed active object = record {
   place = 0;
   touch = reason_touch;
   listed = refl;
   is = refl;
+  changes = refl;
   allowed = refl;
   own = λ plain. inr refl;
 }
@@ -87,27 +82,25 @@ system_keeps h reason =
     at_some (object_at h.machine.heap system_exception) _ (λ object there.
     behind_allowed reason_touch (throws (stored_in h system_exception object 0 (Word reason)) system_exception)
     (record {
-      active = of_runtime refl;
+      active = (refl, refl);
       object = object;
       found = there;
-      stored = None;
-      shared = false;
       verdict = refl;
     }) refl (λ keeps p. reason_spares h.machine.heap p.machine.objects.own)
     (leaves (Throws (stored_in h system_exception object 0 (Word reason)).machine system_exception)
     (stored_in h system_exception object 0 (Word reason)).machine refl
-    (one_changes (reason_touch ∷ []) h.machine.heap object 0 (Word reason) system_exception
-    (reason_accessed object) there) (stored_apart h system_exception object 0 (Word reason) there)))
+    (one_changes h.machine.top.active (reason_touch ∷ []) h.machine.heap object 0 (Word reason) system_exception
+    (reason_accessed h.machine.top.active.context object) there) (stored_apart h system_exception object 0 (Word reason) there)))
 
 made_keeps : {C : Type 0} (h : Here C) (object : ObjectType) (cells vs : List TaggedValue)
     → KeepsLaw h.around h.machine [] (gives (made h object cells) (Ref (next_number h.machine.heap)) vs)
 made_keeps h object cells vs =
     gives_changed (made h object cells) (Ref (next_number h.machine.heap)) vs
-    (more_changes [] h.machine.heap (record {
+    (more_changes h.machine.top.active [] h.machine.heap (record {
       kind = record { object = object; mark = Plain; clears = None };
       owner = h.machine.top.active;
       cells = cells;
-    })) (new_apart h (record {
+    }) (record { whose = refl; plain = refl })) (new_apart h (record {
       kind = record { object = object; mark = Plain; clears = None };
       owner = h.machine.top.active;
       cells = cells;
@@ -151,13 +144,13 @@ at_test : {C : Type 0} {around : Surroundings C} {m : Machine C} {before : List 
     → ((test : Test) → KeepsLaw around m before (go test)) → KeepsLaw around m before (on_test h type go)
 at_test h (Tested.Class index) go k =
     at_class h index _ (λ c. k (record {
-      is_shared = is_shared_interface h.around.world.shapes c;
+      wanted = Some c;
       passes = is_instance h.around.world.shapes c;
     }))
-at_test h (Tested.WordArray kind) go k = k (record { is_shared = false; passes = is_array_of_words kind })
+at_test h (Tested.WordArray kind) go k = k (record { wanted = None; passes = is_array_of_words kind })
 at_test h (Tested.ReferenceArray index) go k =
     at_class h index _ (λ c. k (record {
-      is_shared = false;
+      wanted = None;
       passes = λ object. option_map_or (λ e. is_subtype h.around.world.shapes e c) (component_class object) false;
     }))
 
@@ -168,7 +161,7 @@ at_tested : {C : Type 0} (h : Here C) (access : Access) (type : TestedType) (v :
 at_tested h access type (Word n) of_null go k l = is_stuck
 at_tested h access type (Ref n) of_null go k l =
     at_test h type _ (λ test. at_object h (Ref n) _ (λ number o there.
-    at_judged h access number o there None test.is_shared _ (λ fine switch by.
+    at_judged h (wanting access number test.wanted) o there _ (λ fine switch by.
     l _ (test.passes o.kind.object))))
 at_tested h access type Null of_null go k l = at_test h type _ (λ test. k)
 at_tested h access type Unset of_null go k l = is_stuck

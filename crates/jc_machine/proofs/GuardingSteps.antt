@@ -1,20 +1,22 @@
 -- Each step keeps the law of accesses, where native members keep theirs; and what is apart stays so.
-use Rattle.std.proofs.Common.{◌≡◌, inl, inr, ℕ, ◌-◌, Bool, true, false, cond, List, [], ◌∷◌, Option, Some, None, refl}
-use Rattle.std.proofs.Common.{sym, ap, ◌∙◌, subst, nat_lt}
+use Rattle.std.proofs.Common.{◌≡◌, ◌⊎◌, inl, inr, ℕ, zero, suc, ◌-◌, Bool, true, false, cond, List, [], ◌∷◌, Option}
+use Rattle.std.proofs.Common.{Some, None, refl, sym, ap, ◌∙◌, subst, nat_lt, slice_get}
 use Rattle.std.proofs.lemmas.Bool.{and_parts, both_ways}
 use Rattle.std.proofs.lemmas.Option.{none-some, same_Some}
-use Rattle.std.specs.List.{list_all}
+use Rattle.std.specs.List.{AllByRecursion, list_all}
 use Rattle.std.specs.Option.{option_map_or}
 use Rattle.jc_cap_desc.specs.Shape.{MethodBody}
 use Rattle.jc_cap_method.specs.declared.handler.Handler.{Handler}
 use Rattle.jc_code.specs.declared.instr.Operation.{Operation}
 use Rattle.jc_code.specs.declared.instr.Operation.TheVariants as operations
+use Rattle.jc_firewall.specs.Verdict.{runtime_context}
 use Rattle.jc_names.specs.declared.name.ClassName.{ClassName}
+use Rattle.jc_names.specs.declared.owner.Owner.{Owner}
 use Rattle.jc_store.specs.Heap.{Heap, Object, object_at}
-use Rattle.jc_machine.specs.Apart.{AreNativesApart, HaveApiMembers, IsApart, StaysApart, is_applets}
+use Rattle.jc_machine.specs.Apart.{AreNativesApart, HaveApiMembers, IsApart, SparesPlain, StaysApart, is_applets}
 use Rattle.jc_machine.specs.Going.{Here, moved}
-use Rattle.jc_machine.specs.Guarded.{AreGuarded, IsGuarded, IsRefused, KeepsPlain, allowed, are_allowed, denied}
-use Rattle.jc_machine.specs.Guarded.{machine_of}
+use Rattle.jc_machine.specs.Guarded.{AreGuarded, ChangesAccessed, IsAccessed, IsGuarded, IsRefused, KeepsPlain}
+use Rattle.jc_machine.specs.Guarded.{allowed, are_allowed, denied, machine_of}
 use Rattle.jc_machine.specs.Lookup.{class_of, code_at, declared_at, instruction_at, is_throwable}
 use Rattle.jc_machine.specs.Machine.{Ends, Frame, Machine, Next, Outcome, Stuck, Surroundings, Throws, Touch, UsedUp}
 use Rattle.jc_machine.specs.Natives.{AreNativesGuarded, KeepsObjects}
@@ -122,16 +124,17 @@ object_leaves s m number (Some o) =
     (unwound_leaves s m number (class_of o.kind.object) (m.top ∷ m.waiting) (λ keeps p. p.frames)) (of_stuck m)
 
 -- what an outcome changes is what it changes when it is settled
-settled_changes : {C : Type 0} (s : Surroundings C) (touches : List Touch) (heap : Heap TaggedValue) (o : Outcome C)
-    → ((x : Machine C) → machine_of o ≡ Some x → KeepsHeap touches heap x.heap) → (after : Machine C)
-    → machine_of (settled s o) ≡ Some after → KeepsHeap touches heap after.heap
-settled_changes s touches heap (Next m) h after e = h after e
-settled_changes s touches heap (Throws m object) h after e =
-    subst (λ (x : Heap TaggedValue). KeepsHeap touches heap x)
+settled_changes : {C : Type 0} (s : Surroundings C) (owner : Owner) (touches : List Touch) (heap : Heap TaggedValue)
+    (o : Outcome C)
+    → ((x : Machine C) → machine_of o ≡ Some x → KeepsHeap owner touches heap x.heap) → (after : Machine C)
+    → machine_of (settled s o) ≡ Some after → KeepsHeap owner touches heap after.heap
+settled_changes s owner touches heap (Next m) h after e = h after e
+settled_changes s owner touches heap (Throws m object) h after e =
+    subst (λ (x : Heap TaggedValue). KeepsHeap owner touches heap x)
     ((object_leaves s m object (object_at m.heap object)).same after e) (h m refl)
-settled_changes s touches heap (Ends m value) h after e = h after e
-settled_changes s touches heap (UsedUp m) h after e = h after e
-settled_changes s touches heap Stuck h after e = absurd (none-some after e)
+settled_changes s owner touches heap (Ends m value) h after e = h after e
+settled_changes s owner touches heap (UsedUp m) h after e = h after e
+settled_changes s owner touches heap Stuck h after e = absurd (none-some after e)
 
 -- a machine that is apart is so behind what is caught
 settled_apart : {C : Type 0} (s : Surroundings C) (keeps : C → Bool) (o : Outcome C)
@@ -148,22 +151,44 @@ settled_apart s keeps Stuck h after e = absurd (none-some after e)
 
 steps_keep_heap : {C : Type 0} (s : Surroundings C) → AreNativesGuarded s.natives → (m after : Machine C)
     → machine_of (defensive_step s m).outcome ≡ Some after
-    → KeepsHeap (defensive_step s m).touches m.heap after.heap
+    → KeepsHeap m.top.active (defensive_step s m).touches m.heap after.heap
 unfolding defensive_step
 steps_keep_heap s natives m after e =
-    settled_changes s (act_at s m).touches m.heap (act_at s m).outcome (at_keeps s natives m).changes after e
+    settled_changes s m.top.active (act_at s m).touches m.heap (act_at s m).outcome (at_keeps s natives m).changes after
+    e
 
 pub steps_keep : {C : Type 0} (s : Surroundings C) → AreNativesGuarded s.natives → (m : Machine C) → IsGuarded s m
 unfolding defensive_step
 steps_keep {C = C} s natives m =
     let k = at_keeps s natives m in record {
-      judged = k.judged;
+      made = k.made tt;
       accesses =
           mapped (act_at s m).touches ((act_at s m).outcome ≡ Throws m security_exception)
           (settled s (act_at s m).outcome ≡ settled s (Throws m security_exception))
           (λ e. ap (λ (o : Outcome C). settled s o) e) k.accesses;
       changes = λ after e. (steps_keep_heap s natives m after e).changes;
+      adds = λ after e. (steps_keep_heap s natives m after e).adds;
     }
+
+-- what the runtime accesses isn't plain
+all_at : {A : Type 0} (P : A → Type 0) (xs : List A) (k : ℕ) (x : A) → AllByRecursion P xs → slice_get xs k ≡ Some x
+    → P x
+all_at P [] k x h e = absurd (none-some x e)
+all_at P (y ∷ xs) zero x h e = subst P (same_Some y x e) h.0
+all_at P (y ∷ xs) (suc k) x h e = all_at P xs k x h.1 e
+
+plain_kept : (active : ℕ) (touches : List Touch) (before after : Heap TaggedValue)
+    → AllByRecursion (SparesPlain before) touches → ChangesAccessed active touches before after
+    → KeepsPlain active before after
+plain_kept active touches before after spares changes n o p e f plain =
+    elim (changes n o p e f) [ | inl same ↦ inl same | inr a ↦ inr (own_of a (a.own plain)) ]
+  where
+    own_of : (a : IsAccessed active touches n o)
+        → (active ≡ o.owner.context) ⊎ (a.touch.active ≡ runtime_context) → active ≡ o.owner.context
+    own_of a (inl own) = own
+    own_of a (inr runtime) =
+        absurd (all_at (SparesPlain before) touches a.place a.touch spares a.listed runtime o
+        (ap (object_at before) a.is ∙ e) plain)
 
 pub steps_stay_apart : {C : Type 0} (keeps : C → Bool) (s : Surroundings C) → AreNativesGuarded s.natives
     → AreNativesApart keeps s.natives → HaveApiMembers s.world.shapes → (m : Machine C) → IsApart keeps m
@@ -173,6 +198,9 @@ steps_stay_apart {C = C} keeps s natives apart members m a =
     let p : IsApartPart keeps m (act_at s m) =
     (at_keeps s natives m).apart keeps (record { members = members; natives = apart; machine = a }) in record {
       spares = p.spares;
+      plain = λ after e.
+          plain_kept m.top.active.context (act_at s m).touches m.heap after.heap p.spares
+          (steps_keep_heap s natives m after e).changes;
       after = λ after e. settled_apart s keeps (act_at s m).outcome p.after after e;
     }
 
@@ -190,18 +218,3 @@ denied_are_refused s natives m e =
 pub objects_are_kept : {C : Type 0} (s : Surroundings C) → AreNativesGuarded s.natives → (m after : Machine C)
     → machine_of (defensive_step s m).outcome ≡ Some after → KeepsObjects m.heap after.heap
 objects_are_kept s natives m after e = (steps_keep_heap s natives m after e).kept
-
-pub plain_are_kept : {C : Type 0} (s : Surroundings C) → AreNativesGuarded s.natives → (m : Machine C)
-    → KeepsPlain s m
-plain_are_kept s natives m after e number o p before found plain =
-    elim ((steps_keep s natives m).changes after e number o p before found) [
-      | inl same ↦ inl same
-      | inr a ↦ inr (record {
-        place = a.place;
-        touch = a.touch;
-        listed = a.listed;
-        is = a.is;
-        allowed = a.allowed;
-        active = a.own plain;
-      })
-    ]

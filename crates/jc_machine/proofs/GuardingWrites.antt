@@ -14,13 +14,13 @@ use Rattle.jc_firewall.specs.declared.access.Verdict.TheVariants.{Allowed, Denie
 use Rattle.jc_store.specs.Heap.{Heap, Object, object_at, with_cell, with_new, with_object}
 use Rattle.jc_store.specs.declared.kind.Mark.{Mark}
 use Rattle.jc_store.specs.declared.kind.Mark.TheVariants.{Plain}
-use Rattle.jc_machine.specs.Apart.{IsPlainOf}
-use Rattle.jc_machine.specs.Going.{Here, facts_of, leaves_operands, stored_in, touch_of, with_heap}
-use Rattle.jc_machine.specs.Guarded.{ChangesAccessed, IsAccessed, is_allowed}
-use Rattle.jc_machine.specs.Machine.{Touch}
+use Rattle.jc_machine.specs.Going.{Here, facts_of, leaves_operands, stored_in, with_heap}
+use Rattle.jc_machine.specs.Guarded.{ChangesAccessed, IsAccessed, IsPlainOf, is_allowed, may_change}
+use Rattle.jc_machine.specs.Machine.{Asked, Touch}
+use Rattle.jc_names.specs.declared.owner.Owner.{Owner}
 use Rattle.jc_machine.specs.Natives.{IsStill, KeepsObjects}
 use Rattle.jc_words.specs.Values.{TaggedValue}
-use Rattle.jc_machine.proofs.Guarding.{KeepsLaw, goes, verdict_in}
+use Rattle.jc_machine.proofs.Guarding.{KeepsLaw, goes, touch_in, verdict_in}
 use Rattle.jc_machine.proofs.GuardingHeaps.{KeepsHeap, get_first, is_still}
 use Rattle.jc_machine.proofs.StayingApart.{LeadsApart, adds_none, adds_one, objects_stay_apart, top_is_applets}
 
@@ -71,17 +71,18 @@ own_object access active f written fine plain =
     (λ h. sym (eqb-true f.owner.context active (by_row active f (row_of access f) written plain h))) fine
 
 -- an allowed access that writes
-pub is_accessed : {C : Type 0} (h : Here C) (access : Access) (number : ℕ) (object : Object TaggedValue)
-    (mark : Option Mark) → IsWritten access (facts_of h object mark false)
-    → is_allowed (verdict_in h access (facts_of h object mark false)) ≡ true
-    → IsAccessed (touch_of h access number (verdict_in h access (facts_of h object mark false)) ∷ []) number object
-is_accessed h access number object mark written fine = record {
+pub is_accessed : {C : Type 0} (h : Here C) (asked : Asked) (object : Object TaggedValue)
+    → may_change asked.access ≡ true → IsWritten asked.access (facts_of h asked object)
+    → is_allowed (verdict_in h asked object) ≡ true
+    → IsAccessed h.machine.top.active.context (touch_in h asked object ∷ []) asked.object object
+is_accessed h asked object changes written fine = record {
   place = 0;
-  touch = touch_of h access number (verdict_in h access (facts_of h object mark false));
+  touch = touch_in h asked object;
   listed = refl;
   is = refl;
+  changes = changes;
   allowed = fine;
-  own = own_object access h.machine.top.active.context (facts_of h object mark false) written fine;
+  own = own_object asked.access h.machine.top.active.context (facts_of h asked object) written fine;
 }
 
 -- ---- the heap behind it
@@ -99,21 +100,22 @@ set_there (z ∷ xs) zero x y e = refl
 set_there (z ∷ xs) (suc k) x y e = set_there xs k x y e
 
 -- of an object that was accessed one component changes
-module _ (touches : List Touch) (heap : Heap TaggedValue) (object : Object TaggedValue) (index : ℕ)
+module _ (owner : Owner) (touches : List Touch) (heap : Heap TaggedValue) (object : Object TaggedValue) (index : ℕ)
     (v : TaggedValue) where
-  one_changes_only : (number : ℕ) → IsAccessed touches number object → object_at heap number ≡ Some object
-      → ChangesAccessed touches heap (with_object heap number (with_cell object index v))
+  one_changes_only : (number : ℕ) → IsAccessed owner.context touches number object
+      → object_at heap number ≡ Some object
+      → ChangesAccessed owner.context touches heap (with_object heap number (with_cell object index v))
   one_changes_only zero accessed there n o p e f = absurd (none-some object there)
   one_changes_only (suc k) accessed there zero o p e f = absurd (none-some o e)
   one_changes_only (suc k) accessed there (suc i) o p e f =
       elim (get_set heap k i (with_cell object index v))
       [ inl is ↦ inr (same is) | inr still ↦ inl (unchanged still) ]
     where
-      same : k ≡ i → IsAccessed touches (suc i) o
+      same : k ≡ i → IsAccessed owner.context touches (suc i) o
       same is =
-          subst (λ (x : Object TaggedValue). IsAccessed touches (suc i) x)
+          subst (λ (x : Object TaggedValue). IsAccessed owner.context touches (suc i) x)
           (same_Some object o (sym there ∙ ap (slice_get heap) is ∙ e))
-          (subst (λ (n : ℕ). IsAccessed touches (suc n) object) is accessed)
+          (subst (λ (n : ℕ). IsAccessed owner.context touches (suc n) object) is accessed)
 
       unchanged : slice_get (set heap k (with_cell object index v)) i ≡ slice_get heap i → p.cells ≡ o.cells
       unchanged still = ap (λ (x : Object TaggedValue). x.cells) (same_Some p o (sym f ∙ still ∙ e))
@@ -142,16 +144,20 @@ module _ (touches : List Touch) (heap : Heap TaggedValue) (object : Object Tagge
       unchanged still =
           record { object = o; found = still ∙ e; kind = refl; owner = refl; size = refl }
 
-  pub one_changes : (number : ℕ) → IsAccessed touches number object → object_at heap number ≡ Some object
-      → KeepsHeap touches heap (with_object heap number (with_cell object index v))
-  one_changes number accessed there =
-      record { changes = one_changes_only number accessed there; kept = each_stays number there }
+  pub one_changes : (number : ℕ) → IsAccessed owner.context touches number object
+      → object_at heap number ≡ Some object
+      → KeepsHeap owner touches heap (with_object heap number (with_cell object index v))
+  one_changes number accessed there = record {
+    changes = one_changes_only number accessed there;
+    kept = each_stays number there;
+    adds = adds_none owner heap number (with_cell object index v);
+  }
 
 -- an object more
-more_changes_only : (touches : List Touch) (heap : Heap TaggedValue) (new : Object TaggedValue)
-    → ChangesAccessed touches heap (with_new heap new)
-more_changes_only touches heap new zero o p e f = absurd (none-some o e)
-more_changes_only touches heap new (suc i) o p e f =
+more_changes_only : (active : ℕ) (touches : List Touch) (heap : Heap TaggedValue) (new : Object TaggedValue)
+    → ChangesAccessed active touches heap (with_new heap new)
+more_changes_only active touches heap new zero o p e f = absurd (none-some o e)
+more_changes_only active touches heap new (suc i) o p e f =
     inl (ap (λ (x : Object TaggedValue). x.cells) (same_Some p o (sym f ∙ get_first heap (new ∷ []) i o e)))
 
 all_stay : (heap : Heap TaggedValue) (new : Object TaggedValue) → KeepsObjects heap (with_new heap new)
@@ -159,10 +165,13 @@ all_stay heap new zero o e = absurd (none-some o e)
 all_stay heap new (suc i) o e =
     is_still (with_new heap new) (suc i) o (get_first heap (new ∷ []) i o e)
 
-pub more_changes : (touches : List Touch) (heap : Heap TaggedValue) (new : Object TaggedValue)
-    → KeepsHeap touches heap (with_new heap new)
-more_changes touches heap new =
-    record { changes = more_changes_only touches heap new; kept = all_stay heap new }
+pub more_changes : (owner : Owner) (touches : List Touch) (heap : Heap TaggedValue) (new : Object TaggedValue)
+    → IsPlainOf owner new → KeepsHeap owner touches heap (with_new heap new)
+more_changes owner touches heap new plain = record {
+  changes = more_changes_only owner.context touches heap new;
+  kept = all_stay heap new;
+  adds = adds_one owner heap new plain;
+}
 
 -- ---- what is apart
 
@@ -172,7 +181,8 @@ pub stored_apart : {C : Type 0} (h : Here C) (number : ℕ) (object : Object Tag
 stored_apart h number object index v there keeps p = record {
   objects =
       objects_stay_apart h.machine.heap (with_object h.machine.heap number (with_cell object index v))
-      h.machine.top.active p.machine.objects (each_stays [] h.machine.heap object index v number there)
+      h.machine.top.active p.machine.objects
+      (each_stays h.machine.top.active [] h.machine.heap object index v number there)
       (top_is_applets keeps h.machine p.machine)
       (adds_none h.machine.top.active h.machine.heap number (with_cell object index v));
   frames = p.machine.frames;
@@ -192,14 +202,15 @@ new_apart h new plain keeps p = record {
 }
 
 -- a component is stored, and the frame goes on
-pub stores : {C : Type 0} (h : Here C) (access : Access) (number : ℕ) (object : Object TaggedValue)
-    (mark : Option Mark) (index : ℕ) (v : TaggedValue) (vs : List TaggedValue)
-    → object_at h.machine.heap number ≡ Some object → IsWritten access (facts_of h object mark false)
-    → is_allowed (verdict_in h access (facts_of h object mark false)) ≡ true
-    → KeepsLaw h.around h.machine (touch_of h access number (verdict_in h access (facts_of h object mark false)) ∷ [])
-    (leaves_operands (stored_in h number object index v) vs)
-stores h access number object mark index v vs there written fine =
-    goes (stored_in h number object index v) h.next_pc h.machine.top.locals vs
-    (one_changes (touch_of h access number (verdict_in h access (facts_of h object mark false)) ∷ []) h.machine.heap
-    object index v number (is_accessed h access number object mark written fine) there)
-    (stored_apart h number object index v there)
+pub stores : {C : Type 0} (h : Here C) (asked : Asked) (object : Object TaggedValue)
+    (index : ℕ) (v : TaggedValue) (vs : List TaggedValue)
+    → object_at h.machine.heap asked.object ≡ Some object → may_change asked.access ≡ true
+    → IsWritten asked.access (facts_of h asked object)
+    → is_allowed (verdict_in h asked object) ≡ true
+    → KeepsLaw h.around h.machine (touch_in h asked object ∷ [])
+    (leaves_operands (stored_in h asked.object object index v) vs)
+stores h asked object index v vs there changes written fine =
+    goes (stored_in h asked.object object index v) h.next_pc h.machine.top.locals vs
+    (one_changes h.machine.top.active (touch_in h asked object ∷ []) h.machine.heap
+    object index v asked.object (is_accessed h asked object changes written fine) there)
+    (stored_apart h asked.object object index v there)

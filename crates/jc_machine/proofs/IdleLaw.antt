@@ -1,5 +1,6 @@
 -- Native members that do nothing keep the law of native members.
-use Rattle.std.proofs.Common.{◌≡◌, ◌&&◌, Bool, true, false, cond, Option, Some, None, refl, ap, inl, ◌∙◌}
+use Rattle.std.proofs.Common.{◌≡◌, ◌&&◌, Bool, true, false, cond, Option, Some, None, refl, sym, ap, inl, ◌∙◌}
+use Rattle.std.proofs.lemmas.Option.{none-some}
 use Rattle.std.specs.Option.{option_and_then, option_map_or}
 use Rattle.jc_base.specs.Signature.{Signature}
 use Rattle.jc_classes.specs.Members.{DeclaredMethod, method_at}
@@ -27,7 +28,7 @@ same : {V : Type 0} (found : Option (Object V)) (o p : Object V) → found ≡ S
 same found o p e f = cc
 
 -- nothing is accessed, and nothing changes
-idle_is_guarded : (w : World) (call : NativeCall (Unit {0})) → IsGuardedAnswer w call (idle.answer w call)
+idle_is_guarded : (w : World) (call : NativeCall (Unit {0})) → IsGuardedAnswer idle w call (idle.answer w call)
 idle_is_guarded w call = record {
   touches = tt;
   guarded = allowed refl;
@@ -35,7 +36,10 @@ idle_is_guarded w call = record {
   changes = λ number o p before after.
       inl (ap (λ (x : Object TaggedValue). x.cells) (same (object_at call.heap number) o p before after));
   room = λ within. within;
+  adds = λ number o found none. absurd (none-some o (sym none ∙ found));
   calls = λ callback e. absurd cc;
+  asks = λ callback e. absurd cc;
+  modest = λ number rest is first. record { touches = tt; unchanged = record { heap = refl; runtime = refl } };
 }
 
 -- a method may begin with the arguments of a call; and these are of the types of a signature

@@ -9,10 +9,10 @@ use Rattle.jc_names.specs.declared.owner.Owner.{Owner}
 use Rattle.jc_store.specs.Heap.{Heap, Object, object_at, with_new, with_object}
 use Rattle.jc_store.specs.declared.kind.Kind.{Kind}
 use Rattle.jc_store.specs.declared.kind.Mark.TheVariants.{Plain}
-use Rattle.jc_machine.specs.Apart.{AddsFor, AreNativesApart, HaveApiMembers, IsApart, IsPlainOf, IsRuntimes, IsSetApart}
-use Rattle.jc_machine.specs.Apart.{SparesPlain, has_no_code, is_applets}
+use Rattle.jc_machine.specs.Apart.{AreNativesApart, HaveApiMembers, IsApart, IsRuntimes, IsSetApart, SparesPlain}
+use Rattle.jc_machine.specs.Apart.{has_no_code, is_applets}
 use Rattle.jc_machine.specs.Going.{moved, with_top}
-use Rattle.jc_machine.specs.Guarded.{machine_of}
+use Rattle.jc_machine.specs.Guarded.{AddsFor, IsPlainOf, machine_of}
 use Rattle.jc_machine.specs.Machine.{Frame, Machine, Stepped, Surroundings, Touch}
 use Rattle.jc_machine.specs.Natives.{KeepsObjects}
 use Rattle.jc_words.specs.Values.{TaggedValue}

@@ -31,10 +31,11 @@ use Rattle.jc_store.specs.declared.kind.Mark.TheVariants.{Plain}
 use Rattle.jc_store.specs.declared.kind.ObjectType.{ObjectType}
 use Rattle.jc_store.specs.declared.kind.ObjectType.TheVariants.{BooleanArray, ByteArray, Instance, ReferenceArray}
 use Rattle.jc_store.specs.declared.kind.ObjectType.TheVariants.{ShortArray}
-use Rattle.jc_machine.specs.Apart.{AsksApplet, HaveApiMembers, IsSetApart, has_no_code, is_applets, is_member}
+use Rattle.jc_machine.specs.Apart.{HaveApiMembers, IsSetApart, has_no_code, is_applets, is_member}
 use Rattle.jc_machine.specs.Calls.{VirtualMember, virtual_member, virtual_member_in}
 use Rattle.jc_machine.specs.Lookup.{class_of, is_of_class}
 use Rattle.jc_machine.specs.Machine.{Callback}
+use Rattle.jc_machine.specs.Natives.{shareable_member}
 use Rattle.jc_words.specs.Values.{TaggedValue}
 use Rattle.jc_machine.proofs.StayingApart.{applets_not, applets_or}
 
@@ -236,9 +237,15 @@ of_declared : (world : List Shape) (member : ℕ) (v : VirtualMember) (m : Optio
 of_declared world member v None found e = absurd (none-some v e)
 of_declared world member v (Some m) found e = of_token member m found v _ e
 
+-- the member that others call is Applet's
+of_applet : (number : ℕ) → number ≡ shareable_member → (m : ApiMember) → member_of number ≡ Some m
+    → m.class ≡ tables.Applet
+of_applet number is m found =
+    sym (ap (λ o. option_map_or (λ (x : ApiMember). x.class) o tables.Applet) (ap member_of (sym is) ∙ found))
+
 -- so the object of such a call has an applet's owner
 pub called_runs : (world : List Shape) → HaveApiMembers world → (heap : Heap TaggedValue) → IsSetApart heap
-    → (callback : Callback) → AsksApplet callback → (o : Object TaggedValue)
+    → (callback : Callback) → callback.member ≡ shareable_member → (o : Object TaggedValue)
     → object_at heap callback.object ≡ Some o → (v : VirtualMember) → virtual_member world callback.member ≡ Some v
     → is_of_class world v.class o.kind.object ≡ true → is_applets o.owner ≡ true
 called_runs world api heap apart callback asks o there v e below =
@@ -247,4 +254,4 @@ called_runs world api heap apart callback asks o there v e below =
     owner_with_code heap apart callback.object o there (λ h.
     no_applet world api o.kind.object h
     (subst (λ (c : ClassName). is_of_class world c o.kind.object ≡ true)
-    (m.is ∙ ap (λ (c : ApiClass). classes.Api c) (asks m.declared m.found)) below))
+    (m.is ∙ ap (λ (c : ApiClass). classes.Api c) (of_applet callback.member asks m.declared m.found)) below))

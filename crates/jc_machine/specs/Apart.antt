@@ -3,7 +3,6 @@
 -- Card Runtime Environment Specification, Contexts and Context Switching; JCRE Privileges).
 use Rattle.std.specs.Prelude.{◌≡◌, ◌≢◌, ℕ, ◌==◌, Bool, true, false, not, List, ◌∷◌, Some, None}
 use Rattle.std.specs.List.{AllByRecursion, list_all}
-use Rattle.jc_api.specs.Member.{ApiMember, member_of}
 use Rattle.jc_api.specs.Token.{is_same_class}
 use Rattle.jc_api.specs.declared.class.ApiClass.{ApiClass}
 use Rattle.jc_api.specs.declared.class.ApiClass.TheVariants.{Applet}
@@ -21,9 +20,8 @@ use Rattle.jc_store.specs.declared.kind.Mark.TheVariants.{Plain}
 use Rattle.jc_store.specs.declared.kind.ObjectType.{ObjectType}
 use Rattle.jc_store.specs.declared.kind.ObjectType.TheVariants.{BooleanArray, ByteArray, Instance, ReferenceArray}
 use Rattle.jc_store.specs.declared.kind.ObjectType.TheVariants.{ShortArray}
-use Rattle.jc_machine.specs.Guarded.{machine_of}
-use Rattle.jc_machine.specs.Machine.{Callback, Calls, Frame, Machine, NativeAnswer, NativeCall, Natives, Surroundings}
-use Rattle.jc_machine.specs.Machine.{Touch}
+use Rattle.jc_machine.specs.Guarded.{KeepsPlain, machine_of}
+use Rattle.jc_machine.specs.Machine.{Frame, Machine, NativeAnswer, NativeCall, Natives, Surroundings, Touch}
 use Rattle.jc_machine.specs.Runtime.{HasRuntimeObjects}
 use Rattle.jc_machine.specs.Step.{defensive_step}
 use Rattle.jc_words.specs.Values.{TaggedValue}
@@ -85,26 +83,10 @@ SparesPlain heap touch = touch.active ≡ runtime_context → (o : Object Tagged
 
 -- ---- native members
 
--- a plain object of an owner
-pub record IsPlainOf (owner : Owner) (o : Object TaggedValue) : Type 0 where
-  pub whose : o.owner ≡ owner
-  pub plain : o.kind.mark ≡ Plain
-
--- objects that weren't there are an owner's, and plain
-abbrev pub AddsFor : Owner → Heap TaggedValue → Heap TaggedValue → Type 0
-AddsFor owner before after = (number : ℕ) (o : Object TaggedValue) → object_at after number ≡ Some o
-    → object_at before number ≡ None → IsPlainOf owner o
-
--- a call that a native member makes is of a member of Applet
-abbrev pub AsksApplet : Callback → Type 0
-AsksApplet callback = (member : ApiMember) → member_of callback.member ≡ Some member → member.class ≡ Applet
-
--- what it does in the runtime's name spares plain objects; what it makes is its caller's; it calls applets alone
+-- what it does in the runtime's name spares plain objects, and what the runtime keeps passes the test still
 pub record IsApartAnswer {C : Type 0} (keeps : C → Bool) (call : NativeCall C) (a : NativeAnswer C) : Type 0 where
   pub spares : AllByRecursion (SparesPlain call.heap) a.touches
-  pub adds : AddsFor call.active call.heap a.heap
   pub kept : keeps a.runtime ≡ true
-  pub calls : (callback : Callback) → a.ends ≡ Calls callback → AsksApplet callback
 
 -- each answer to a call by an applet is so
 abbrev pub AreNativesApart : {C : Type 0} → (C → Bool) → Natives C → Type 0
@@ -113,7 +95,10 @@ AreNativesApart {C} keeps natives = (w : World) (call : NativeCall C) → IsSetA
 
 -- ---- a step
 
--- its accesses in the runtime's name spare plain objects, and the machine behind it is apart again
+-- its accesses in the runtime's name spare plain objects; so the components of a plain object change only where its
+-- owner's context is that of the frame that runs; and the machine behind it is apart again
 pub record StaysApart {C : Type 0} (keeps : C → Bool) (s : Surroundings C) (m : Machine C) : Type 0 where
   pub spares : AllByRecursion (SparesPlain m.heap) (defensive_step s m).touches
+  pub plain : (after : Machine C) → machine_of (defensive_step s m).outcome ≡ Some after
+      → KeepsPlain m.top.active.context m.heap after.heap
   pub after : (after : Machine C) → machine_of (defensive_step s m).outcome ≡ Some after → IsApart keeps after

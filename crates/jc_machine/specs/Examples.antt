@@ -28,7 +28,7 @@ use Rattle.jc_firewall.specs.declared.access.Access.TheVariants.{InvokeVirtual}
 use Rattle.jc_firewall.specs.declared.access.Verdict.{Verdict}
 use Rattle.jc_firewall.specs.declared.access.Verdict.TheVariants.{Allowed}
 use Rattle.jc_machine.specs.Lookup.{fields_of}
-use Rattle.jc_machine.specs.Machine.{Calls, Ends, Gives, Limits, Machine, NativeAnswer, NativeCall, Natives, Next}
+use Rattle.jc_machine.specs.Machine.{ByCode, Calls, Ends, Gives, Limits, Machine, NativeAnswer, NativeCall, Natives, Next}
 use Rattle.jc_machine.specs.Machine.{Outcome, Stuck, Surroundings, Throws, Touch, UsedUp}
 use Rattle.jc_machine.specs.Runtime.{RuntimeObject, runtime_objects}
 use Rattle.jc_machine.specs.Step.{defensive_step, CallEnd, Gave, RanOut, Start, Threw, WasStuck, runtime_call}
@@ -54,6 +54,7 @@ abbrev pub quiet : Natives (Unit {0})
 quiet = record {
   answer = λ w call. record { touches = []; heap = call.heap; runtime = call.runtime; ends = Gives None };
   fits = λ w heap runtime. true;
+  registers = λ runtime. None;
 }
 
 -- natives of which the one that asks for a shareable object has that of object 11 called, and that one is accessed
@@ -66,14 +67,26 @@ asked_natives member call =
       ends = Calls (record { member = 40; object = 11; arguments = Null ∷ Word 0 ∷ [] });
     }
     else if member == 40 then record {
-      touches = record { active = call.active.context; access = InvokeVirtual; object = 11; verdict = Allowed } ∷ [];
+      touches = record {
+        by = ByCode;
+        active = call.active.context;
+        access = InvokeVirtual;
+        object = 11;
+        stored = None;
+        wanted = None;
+        verdict = Allowed;
+      } ∷ [];
       heap = call.heap;
       runtime = call.runtime;
       ends = Gives (Some Null);
     } else record { touches = []; heap = call.heap; runtime = call.runtime; ends = Gives None }
 
 abbrev pub asking : Natives (Unit {0})
-asking = record { answer = λ w call. asked_natives call.member call; fits = λ w heap runtime. true }
+asking = record {
+  answer = λ w call. asked_natives call.member call;
+  fits = λ w heap runtime. true;
+  registers = λ runtime. None;
+}
 
 abbrev pub bounds : Limits
 bounds = record { objects = 100; cells = 1000; frames = 4; frame_words = 100 }
@@ -121,12 +134,22 @@ end_of (Threw m object at) = an_object object
 end_of (RanOut m spent at) = used_up
 end_of WasStuck = stuck
 
+-- what is shown of an access: from which context, what, to which object, and the verdict on it
+pub record ShownTouch : Type 0 where
+  pub active : ℕ
+  pub access : Access
+  pub object : ℕ
+  pub verdict : Verdict
+
+abbrev pub shown_touch : Touch → ShownTouch
+shown_touch t = record { active = t.active; access = t.access; object = t.object; verdict = t.verdict }
+
 -- what is shown of a call: its accesses, and its end
 pub record Shown : Type 0 where
-  pub touches : List Touch
+  pub touches : List ShownTouch
   pub end : End
 
-abbrev pub shown : List Touch → End → Shown
+abbrev pub shown : List ShownTouch → End → Shown
 shown touches end = record { touches = touches; end = end }
 
 -- what is shown where nothing was accessed
@@ -134,13 +157,13 @@ abbrev pub untouched : End → Shown
 untouched end = shown [] end
 
 -- an access from a context to an object, and the verdict on it
-abbrev pub touch : ℕ → Access → ℕ → Verdict → Touch
+abbrev pub touch : ℕ → Access → ℕ → Verdict → ShownTouch
 touch active access object verdict = record { active = active; access = access; object = object; verdict = verdict }
 
 unfoldable pub run_with : Natives (Unit {0}) → List Package → ℕ → Start (Unit {0}) → Shown
 run_with natives packages steps start =
     let called = runtime_call (around natives packages) steps start in
-    record { touches = called.touches; end = end_of called.ends }
+    record { touches = map shown_touch called.touches; end = end_of called.ends }
 
 abbrev pub run : List Package → ℕ → Start (Unit {0}) → Shown
 run packages steps start = run_with quiet packages steps start

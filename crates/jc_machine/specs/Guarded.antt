@@ -1,44 +1,110 @@
 -- What the firewall guards in a step, whatever runs: it judges each access, none is made that it denies, and no
 -- component changes without one.
-use Rattle.std.specs.Prelude.{◌≡◌, ◌⊎◌, ℕ, ◌&&◌, Bool, true, false, not, List, [], ◌∷◌, Option, Some, None, slice_get}
+use Rattle.std.specs.Prelude.{◌≡◌, ◌⊎◌, ℕ, ◌==◌, ◌&&◌, ◌||◌, Bool, true, false, not, List, [], ◌∷◌, ◌++◌, Option, Some}
+use Rattle.std.specs.Prelude.{None, slice_get}
 use Rattle.std.specs.List.{AllByRecursion, list_all}
+use Rattle.std.specs.Option.{option_map_or}
+use Rattle.jc_cap_desc.specs.Shape.{Shape}
 use Rattle.jc_firewall.specs.Verdict.{runtime_context, verdict_of}
+use Rattle.jc_firewall.specs.declared.access.Access.{Access}
+use Rattle.jc_firewall.specs.declared.access.Access.TheVariants.{ArrayLength, CheckCast, GetField, InstanceOf}
+use Rattle.jc_firewall.specs.declared.access.Access.TheVariants.{InvokeInterface, InvokeVirtual, LoadComponent, PutField}
+use Rattle.jc_firewall.specs.declared.access.Access.TheVariants.{PutReferenceField, PutStaticReference, StoreComponent}
+use Rattle.jc_firewall.specs.declared.access.Access.TheVariants.{StoreReference, Throw}
 use Rattle.jc_firewall.specs.declared.access.Verdict.{Verdict}
 use Rattle.jc_firewall.specs.declared.access.Verdict.TheVariants.{Allowed, AllowedSwitch, Denied}
+use Rattle.jc_names.specs.declared.owner.Owner.{Owner}
 use Rattle.jc_store.specs.Heap.{Heap, Object, object_at}
-use Rattle.jc_store.specs.declared.kind.Mark.{Mark}
 use Rattle.jc_store.specs.declared.kind.Mark.TheVariants.{Plain}
-use Rattle.jc_machine.specs.Going.{facts_in}
-use Rattle.jc_machine.specs.Machine.{Ends, Machine, Next, Outcome, Stepped, Stuck, Surroundings, Throws, Touch, UsedUp}
-use Rattle.jc_machine.specs.Runtime.{security_exception}
+use Rattle.jc_machine.specs.Calls.{native_call, native_may_begin}
+use Rattle.jc_machine.specs.Going.{facts_for}
+use Rattle.jc_machine.specs.Machine.{Asked, By, ByCode, ByRuntime, Callback, Calls, Ends, Machine, NativeAnswer, Next}
+use Rattle.jc_machine.specs.Machine.{Outcome, Stepped, Stuck, Surroundings, Throws, Touch, UsedUp}
+use Rattle.jc_machine.specs.Runtime.{apdu_buffer, apdu_exception, iso_exception, security_exception, system_exception}
 use Rattle.jc_machine.specs.Step.{defensive_step, settled}
 use Rattle.jc_words.specs.Values.{TaggedValue}
 
--- ---- accesses
+-- ---- an access, and what it is judged by
 
--- a context that may be active where a step accesses an object: that of the frame that runs, the runtime's, or that of
--- an object of which a native member has another one called
-pub data IsActive {C : Type 0} (m : Machine C) (context : ℕ) : Type 0 where
-  of_frame : context ≡ m.top.active.context → IsActive m context
-  of_runtime : context ≡ runtime_context → IsActive m context
-  of_callee : (number : ℕ) (object : Object TaggedValue) → object_at m.heap number ≡ Some object
-      → context ≡ object.owner.context → IsActive m context
+-- where accesses are made: the packages, the context of the applet that is selected, the objects, the context that is
+-- active, and the AID object of the instance that is being installed
+pub record Setting : Type 0 where
+  pub shapes : List Shape
+  pub selected : Option ℕ
+  pub heap : Heap TaggedValue
+  pub active : ℕ
+  pub registers : Option ℕ
 
--- an access is to an object that is there, and its verdict is the firewall's on that object. What it stores, and
--- whether it calls or casts to a shareable interface, is the instruction's
-pub record IsJudged {C : Type 0} (s : Surroundings C) (m : Machine C) (touch : Touch) : Type 0 where
-  pub active : IsActive m touch.active
+-- where a step makes its accesses: the context is that of the frame that runs
+abbrev pub setting_of : {C : Type 0} → Surroundings C → Machine C → Setting
+setting_of s m = record {
+  shapes = s.world.shapes;
+  selected = s.selected;
+  heap = m.heap;
+  active = m.top.active.context;
+  registers = s.natives.registers m.runtime;
+}
+
+-- the objects that the runtime accesses in its own name in a step: its exceptions with a reason, the APDU buffer, and
+-- the AID object of the instance that is being installed
+abbrev pub is_runtimes : Option ℕ → ℕ → Bool
+is_runtimes registers number =
+    number == iso_exception || number == system_exception || number == apdu_exception || number == apdu_buffer
+    || option_map_or (λ n. n == number) registers false
+
+-- the context that is active in an access: the one of the code, or the runtime's, for objects of its own
+abbrev pub IsActive : Setting → Touch → By → Type 0
+IsActive g t ByCode = t.active ≡ g.active
+IsActive g t ByRuntime = (t.active ≡ runtime_context) × (is_runtimes g.registers t.object ≡ true)
+
+-- what was asked
+abbrev pub asked_by : Touch → Asked
+asked_by t = record { access = t.access; object = t.object; stored = t.stored; wanted = t.wanted }
+
+-- an access is to an object that is there, and its verdict is the firewall's on that object
+pub record IsJudged (g : Setting) (t : Touch) : Type 0 where
+  pub active : IsActive g t t.by
   pub object : Object TaggedValue
-  pub found : object_at m.heap touch.object ≡ Some object
-  pub stored : Option Mark
-  pub shared : Bool
-  pub verdict : touch.verdict
-      ≡ verdict_of touch.access touch.active (facts_in s.world.shapes s.selected object stored shared)
+  pub found : object_at g.heap t.object ≡ Some object
+  pub verdict : t.verdict
+      ≡ verdict_of t.access t.active (facts_for g.shapes g.selected g.heap (asked_by t) object)
 
 abbrev pub is_allowed : Verdict → Bool
 is_allowed Allowed = true
 is_allowed (AllowedSwitch owner) = true
 is_allowed (Denied rule) = false
+
+-- ---- the accesses of a step
+
+-- where an object's owner is active
+abbrev pub as_owner : Setting → Object TaggedValue → Setting
+as_owner g object = record g { active = object.owner.context }
+
+-- a native member was called on this very object, as the object's owner: what it accesses is that object, of which a
+-- member is called
+pub record IsCalledBack (g : Setting) (number : ℕ) (t : Touch) : Type 0 where
+  pub object : Object TaggedValue
+  pub found : object_at g.heap number ≡ Some object
+  pub is : t.object ≡ number
+  pub access : t.access ≡ InvokeVirtual
+  pub by : t.by ≡ ByCode
+  pub judged : IsJudged (as_owner g object) t
+
+-- what a native member answers that the frame calls
+abbrev pub frame_answer : {C : Type 0} → Surroundings C → Machine C → ℕ → List TaggedValue → NativeAnswer C
+frame_answer s m member arguments =
+    s.natives.answer s.world (native_call s m m.top.active m.top.previous member arguments)
+
+-- each access of a step is made in the context of the frame that runs, or by the runtime. Only where the frame calls a
+-- native member that has a member of another object called, that one's stand behind those of the first
+pub data AreMade {C : Type 0} (s : Surroundings C) (m : Machine C) : List Touch → Type 0 where
+  by_frame : (touches : List Touch) → AllByRecursion (IsJudged (setting_of s m)) touches → AreMade s m touches
+  by_callback : (member : ℕ) (arguments : List TaggedValue) (callback : Callback) (before called : List Touch)
+      → native_may_begin s.world.shapes m.heap member arguments ≡ true
+      → (frame_answer s m member arguments).ends ≡ Calls callback
+      → AllByRecursion (IsJudged (setting_of s m)) (before ++ (frame_answer s m member arguments).touches)
+      → AllByRecursion (IsCalledBack (setting_of s m) callback.object) called
+      → AreMade s m ((before ++ (frame_answer s m member arguments).touches) ++ called)
 
 -- each access is allowed
 abbrev pub are_allowed : List Touch → Bool
@@ -57,19 +123,48 @@ pub data AreGuarded (touches : List Touch) (Refused : Type 0) : Type 0 where
 
 -- ---- what changes
 
--- an object stands in the list as one to which access was allowed; a plain one in its own context, or to the runtime
-pub record IsAccessed (touches : List Touch) (number : ℕ) (object : Object TaggedValue) : Type 0 where
+-- components change by these: fields and components that are stored, and native members that are called of an object
+abbrev pub may_change : Access → Bool
+may_change PutStaticReference = false
+may_change PutReferenceField = true
+may_change PutField = true
+may_change GetField = false
+may_change LoadComponent = false
+may_change StoreComponent = true
+may_change StoreReference = true
+may_change ArrayLength = false
+may_change InvokeVirtual = true
+may_change InvokeInterface = false
+may_change Throw = false
+may_change CheckCast = false
+may_change InstanceOf = false
+
+-- in the list stands an access to an object by which it may change, and that is allowed. A plain one is of the context
+-- that was active, or the runtime accessed it
+pub record IsAccessed (active : ℕ) (touches : List Touch) (number : ℕ) (object : Object TaggedValue) : Type 0 where
   pub place : ℕ
   pub touch : Touch
   pub listed : slice_get touches place ≡ Some touch
   pub is : touch.object ≡ number
+  pub changes : may_change touch.access ≡ true
   pub allowed : is_allowed touch.verdict ≡ true
-  pub own : object.kind.mark ≡ Plain → (touch.active ≡ object.owner.context) ⊎ (touch.active ≡ runtime_context)
+  pub own : object.kind.mark ≡ Plain → (active ≡ object.owner.context) ⊎ (touch.active ≡ runtime_context)
 
--- of the objects that were there components change only of those that were accessed; a new object may hold anything
-abbrev pub ChangesAccessed : List Touch → Heap TaggedValue → Heap TaggedValue → Type 0
-ChangesAccessed touches before after = (number : ℕ) (o p : Object TaggedValue) → object_at before number ≡ Some o
-    → object_at after number ≡ Some p → (p.cells ≡ o.cells) ⊎ IsAccessed touches number o
+-- of the objects that were there components change only of those that were so accessed
+abbrev pub ChangesAccessed : ℕ → List Touch → Heap TaggedValue → Heap TaggedValue → Type 0
+ChangesAccessed active touches before after = (number : ℕ) (o p : Object TaggedValue)
+    → object_at before number ≡ Some o → object_at after number ≡ Some p
+    → (p.cells ≡ o.cells) ⊎ IsAccessed active touches number o
+
+-- a plain object of an owner
+pub record IsPlainOf (owner : Owner) (o : Object TaggedValue) : Type 0 where
+  pub whose : o.owner ≡ owner
+  pub plain : o.kind.mark ≡ Plain
+
+-- objects that weren't there are an owner's, and plain. They may hold anything
+abbrev pub AddsFor : Owner → Heap TaggedValue → Heap TaggedValue → Type 0
+AddsFor owner before after = (number : ℕ) (o : Object TaggedValue) → object_at after number ≡ Some o
+    → object_at before number ≡ None → IsPlainOf owner o
 
 -- ---- a step
 
@@ -87,25 +182,16 @@ IsRefused s m stepped = stepped.outcome ≡ settled s (Throws m security_excepti
 
 -- the law of accesses, of one step
 pub record IsGuarded {C : Type 0} (s : Surroundings C) (m : Machine C) : Type 0 where
-  pub judged : AllByRecursion (IsJudged s m) (defensive_step s m).touches
+  pub made : AreMade s m (defensive_step s m).touches
   pub accesses : AreGuarded (defensive_step s m).touches (IsRefused s m (defensive_step s m))
   pub changes : (after : Machine C) → machine_of (defensive_step s m).outcome ≡ Some after
-      → ChangesAccessed (defensive_step s m).touches m.heap after.heap
+      → ChangesAccessed m.top.active.context (defensive_step s m).touches m.heap after.heap
+  pub adds : (after : Machine C) → machine_of (defensive_step s m).outcome ≡ Some after
+      → AddsFor m.top.active m.heap after.heap
 
 -- ---- what follows
 
--- an object was accessed by a context, or by the runtime
-pub record IsAccessedBy (touches : List Touch) (number context : ℕ) : Type 0 where
-  pub place : ℕ
-  pub touch : Touch
-  pub listed : slice_get touches place ≡ Some touch
-  pub is : touch.object ≡ number
-  pub allowed : is_allowed touch.verdict ≡ true
-  pub active : (touch.active ≡ context) ⊎ (touch.active ≡ runtime_context)
-
--- a plain object changes only by an access of its own context, or of the runtime
-abbrev pub KeepsPlain : {C : Type 0} → Surroundings C → Machine C → Type 0
-KeepsPlain {C} s m = (after : Machine C) → machine_of (defensive_step s m).outcome ≡ Some after
-    → (number : ℕ) (o p : Object TaggedValue) → object_at m.heap number ≡ Some o
-    → object_at after.heap number ≡ Some p → o.kind.mark ≡ Plain
-    → (p.cells ≡ o.cells) ⊎ IsAccessedBy (defensive_step s m).touches number o.owner.context
+-- a plain object has the components that it had, or its owner's context is this one
+abbrev pub KeepsPlain : ℕ → Heap TaggedValue → Heap TaggedValue → Type 0
+KeepsPlain active before after = (number : ℕ) (o p : Object TaggedValue) → object_at before number ≡ Some o
+    → object_at after number ≡ Some p → o.kind.mark ≡ Plain → (p.cells ≡ o.cells) ⊎ (active ≡ o.owner.context)

@@ -41,4 +41,5 @@ idle = record {
     ends = Gives (idle_result call.member);
   };
   fits = λ w heap runtime. true;
+  registers = λ runtime. None;
 }

@@ -1,26 +1,25 @@
 -- The law of native members: what a machine relies on, whatever they do (Java Card API Specification; Java Card
 -- Runtime Environment Specification, Applet Isolation and Object Sharing).
-use Rattle.std.specs.Prelude.{◌≡◌, ◌⊎◌, ℕ, ◌≤◌, length, Some, None, true, false}
+use Rattle.std.specs.Prelude.{◌≡◌, ℕ, ◌≤◌, ◌∷◌, length, List, Some, None, true, false}
 use Rattle.std.specs.List.{AllByRecursion}
 use Rattle.jc_api.specs.Member.{ApiMember, member_of}
 use Rattle.jc_api.specs.declared.member.MemberKind.TheVariants.{Static, Virtual}
 use Rattle.jc_base.specs.Signature.{Signature}
 use Rattle.jc_names.specs.declared.name.ClassName.{ClassName}
 use Rattle.jc_names.specs.declared.name.ClassName.TheVariants as classes
-use Rattle.jc_firewall.specs.Verdict.{runtime_context, verdict_of}
+use Rattle.jc_firewall.specs.declared.access.Access.TheVariants.{InvokeVirtual}
 use Rattle.jc_link.specs.Found.{is_same_return}
 use Rattle.jc_link.specs.Linked.{World}
 use Rattle.jc_store.specs.Heap.{Heap, Object, cells_in, object_at}
 use Rattle.jc_machine.specs.Accepted.{IsAccepted}
 use Rattle.jc_machine.specs.Calls.{native_may_begin, native_type, type_of_member}
-use Rattle.jc_machine.specs.Going.{facts_in}
-use Rattle.jc_machine.specs.Guarded.{AreGuarded, ChangesAccessed}
+use Rattle.jc_machine.specs.Guarded.{AddsFor, AreGuarded, ChangesAccessed, IsJudged, Setting}
 use Rattle.jc_machine.specs.Lookup.{are_of_types, is_given, is_of_class, is_throwable}
 use Rattle.jc_machine.specs.Machine.{Callback, Calls, Gives, IsStuck, Limits, NativeAnswer, NativeCall, NativeEnd}
-use Rattle.jc_machine.specs.Machine.{Natives, ThrowsObject, Touch}
+use Rattle.jc_machine.specs.Machine.{ByCode, Natives, ThrowsObject, Touch}
 use Rattle.jc_machine.specs.Runtime.{HasRuntimeObjects, security_exception}
 use Rattle.jc_machine.specs.Typed.{HeapTyped}
-use Rattle.jc_words.specs.Values.{TaggedValue}
+use Rattle.jc_words.specs.Values.{Ref, TaggedValue}
 
 -- ---- objects stay
 
@@ -49,32 +48,56 @@ pub record IsRefusedAnswer {C : Type 0} (call : NativeCall C) (a : NativeAnswer 
   pub unchanged : IsUnchanged call a
   pub throws : a.ends ≡ ThrowsObject security_exception
 
--- an access of a native member: the caller's or the runtime's own, to an object that is there; its verdict is the
--- firewall's, and no reference is stored by it
-pub record IsNativeTouch {C : Type 0} (w : World) (call : NativeCall C) (touch : Touch) : Type 0 where
-  pub active : (touch.active ≡ call.active.context) ⊎ (touch.active ≡ runtime_context)
-  pub object : Object TaggedValue
-  pub found : object_at call.heap touch.object ≡ Some object
-  pub verdict : touch.verdict ≡ verdict_of touch.access touch.active (facts_in w.shapes call.selected object None false)
+-- where a native member makes its accesses: the context is its caller's
+abbrev pub setting_for : {C : Type 0} → Natives C → World → NativeCall C → Setting
+setting_for natives w call = record {
+  shapes = w.shapes;
+  selected = call.selected;
+  heap = call.heap;
+  active = call.active.context;
+  registers = natives.registers call.runtime;
+}
 
 -- objects have room within limits
 pub record IsWithin (limits : Limits) (heap : Heap TaggedValue) : Type 0 where
   pub objects : length heap ≤ limits.objects
   pub cells : cells_in heap ≤ limits.cells
 
--- its accesses are such; each is allowed, or it is refused at the last; only objects change that it accessed, or made;
--- it makes none where there is no room; and a native member that makes a call has changed nothing
-pub record IsGuardedAnswer {C : Type 0} (w : World) (call : NativeCall C) (a : NativeAnswer C) : Type 0 where
-  pub touches : AllByRecursion (IsNativeTouch w call) a.touches
+-- the virtual member of Applet that a native member has called: getShareableInterfaceObject
+abbrev pub shareable_member : ℕ
+shareable_member = 40
+
+-- an access of a member that is called on an object, to that object alone
+pub record IsOfReceiver (number : ℕ) (t : Touch) : Type 0 where
+  pub is : t.object ≡ number
+  pub access : t.access ≡ InvokeVirtual
+  pub by : t.by ≡ ByCode
+
+-- called on an object, it accesses that object alone, and changes nothing
+pub record IsModest {C : Type 0} (number : ℕ) (call : NativeCall C) (a : NativeAnswer C) : Type 0 where
+  pub touches : AllByRecursion (IsOfReceiver number) a.touches
+  pub unchanged : IsUnchanged call a
+
+-- each access is its caller's, or the runtime's own, and judged; each is allowed, or it is refused at the last; only
+-- objects change that it accessed, and what it makes is its caller's; it makes none where there is no room. One that
+-- makes a call has changed nothing, and calls the one member that others call, which is modest
+pub record IsGuardedAnswer {C : Type 0} (natives : Natives C) (w : World) (call : NativeCall C) (a : NativeAnswer C)
+    : Type 0 where
+  pub touches : AllByRecursion (IsJudged (setting_for natives w call)) a.touches
   pub guarded : AreGuarded a.touches (IsRefusedAnswer call a)
   pub kept : KeepsObjects call.heap a.heap
-  pub changes : ChangesAccessed a.touches call.heap a.heap
+  pub changes : ChangesAccessed call.active.context a.touches call.heap a.heap
+  pub adds : AddsFor call.active call.heap a.heap
   pub room : IsWithin call.limits call.heap → IsWithin call.limits a.heap
   pub calls : (callback : Callback) → a.ends ≡ Calls callback → IsUnchanged call a
+  pub asks : (callback : Callback) → a.ends ≡ Calls callback → callback.member ≡ shareable_member
+  pub modest : (number : ℕ) (rest : List TaggedValue) → call.member ≡ shareable_member
+      → call.arguments ≡ Ref number ∷ rest → IsModest number call a
 
 -- each answer is so, in any world, of any call
 abbrev pub AreNativesGuarded : {C : Type 0} → Natives C → Type 0
-AreNativesGuarded {C} natives = (w : World) (call : NativeCall C) → IsGuardedAnswer w call (natives.answer w call)
+AreNativesGuarded {C} natives =
+    (w : World) (call : NativeCall C) → IsGuardedAnswer natives w call (natives.answer w call)
 
 -- ---- types: of a call that is as it should be
 

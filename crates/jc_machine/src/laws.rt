@@ -12,9 +12,9 @@ ghost use Rattle.jc_code.specs.Listing.{IsListing, PlacedInstr, placed_at};
 ghost use Rattle.jc_code.specs.declared.instr.Instr.{Instr};
 ghost use Rattle.jc_link.specs.Built.{IsBuilt};
 ghost use Rattle.jc_machine.specs.Accepted.{HaveByteTokens, HaveCode, IsAccepted, api_alone, linked_as};
-ghost use Rattle.jc_machine.specs.Apart.{AddsFor, AreNativesApart, HaveApiMembers, IsApart, IsSetApart, StaysApart};
+ghost use Rattle.jc_machine.specs.Apart.{AreNativesApart, HaveApiMembers, IsApart, IsSetApart, StaysApart};
 ghost use Rattle.jc_machine.specs.Apart.{is_applets};
-ghost use Rattle.jc_machine.specs.Guarded.{IsGuarded, IsRefused, KeepsPlain, are_allowed, machine_of};
+ghost use Rattle.jc_machine.specs.Guarded.{AddsFor, IsGuarded, IsRefused, are_allowed, machine_of};
 ghost use Rattle.jc_machine.specs.Lookup.{body_at, code_at, instruction_at};
 ghost use Rattle.jc_machine.specs.Machine.{Machine, MethodPlace, Surroundings};
 ghost use Rattle.jc_machine.specs.Natives.{AreNativesGuarded, KeepsObjects};
@@ -64,22 +64,25 @@ pub fn runtime_objects_stay()
 {}
 
 /// The law of accesses, of each step of each machine, well typed or not, whose native members keep theirs. Each
-/// access is judged by the firewall; it is allowed, or it is the last, and then the security exception is thrown from
-/// the machine as it was. Components change only of objects of which an allowed access is listed; those of a plain
-/// object by its own context alone, or by the runtime. Each object stays, of the same kind, owner and size. What the
+/// access is made in the context of the frame that runs, or by the runtime to one of its named objects; behind a native
+/// member that has a member of another object called, also to that very object, by that call, in its owner's context.
+/// The firewall judges each, by what the access stores and what it wants. It is allowed, or it is the last, and then
+/// the security exception is thrown from the machine as it was. Components change only of objects of which an allowed
+/// access is listed by which they may change; those of a plain object in its own context alone, or by the runtime. Each
+/// object stays, of the same kind, owner and size; one that is new is plain, and of the owner that is active. What the
 /// runtime keeps may be of any type. It does nothing.
 pub fn accesses_are_guarded<N: Natives>(_natives: &N)
     ensures guarded { (s : Surroundings N.Kept) → AreNativesGuarded s.natives → (m : Machine N.Kept) → IsGuarded s m }
     ensures denied { (s : Surroundings N.Kept) → AreNativesGuarded s.natives → (m : Machine N.Kept)
         → are_allowed (defensive_step s m).touches ≡ false → IsRefused s m (defensive_step s m) }
-    ensures plain { (s : Surroundings N.Kept) → AreNativesGuarded s.natives → (m : Machine N.Kept) → KeepsPlain s m }
     ensures kept { (s : Surroundings N.Kept) → AreNativesGuarded s.natives → (m after : Machine N.Kept)
         → machine_of (defensive_step s m).outcome ≡ Some after → KeepsObjects m.heap after.heap }
 {}
 
 /// The runtime's name is its own. Where no frame is active as the runtime, its objects have no code of packages, and
 /// each object that isn't plain is its own, this is so behind each step, and the step's accesses in the runtime's name
-/// spare plain objects. Objects are set apart still where each stays and others are added that are plain, for an owner
+/// spare plain objects: so the components of a plain object change only where its owner's context is that of the frame
+/// that runs. Objects are set apart still where each stays and others are added that are plain, for an owner
 /// in the context of a package. What the runtime keeps may be of any type, with any test that the native members keep.
 /// It does nothing.
 pub fn steps_stay_apart<N: Natives>(_natives: &N)

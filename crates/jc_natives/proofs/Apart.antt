@@ -1,5 +1,4 @@
--- The law of the runtime's name: a member writes to no plain object in it, makes plain ones for its caller, and has
--- applets alone called.
+-- The law of the runtime's name: a member accesses no plain object in it, and what the runtime keeps names applets.
 use Rattle.std.proofs.Common.{◌≡◌, ◌≢◌, ◌⊎◌, inl, inr, ℕ, zero, suc, ◌==◌, ◌&&◌, ◌-◌, ◌<◌, ◌≤◌, not, Bool, true, false}
 use Rattle.std.proofs.Common.{cond, List, [], ◌∷◌, ◌++◌, get_or, length, slice_get, Option, Some, None, refl, sym, ap}
 use Rattle.std.proofs.Common.{subst, ◌∙◌, arith}
@@ -12,24 +11,30 @@ use Rattle.jc_api.specs.Numbered.{numbered}
 use Rattle.jc_api.specs.declared.class.ApiClass.TheVariants.{Applet}
 use Rattle.jc_firewall.specs.Verdict.{runtime, runtime_context}
 use Rattle.jc_link.specs.Linked.{World}
-use Rattle.jc_machine.specs.Apart.{AreNativesApart, AsksApplet, IsApartAnswer, IsSetApart, SparesPlain, is_applets}
+use Rattle.std.specs.Prelude.{⊤}
+use Rattle.std.proofs.Common.{◌||◌}
+use Rattle.jc_machine.specs.Apart.{AreNativesApart, IsSetApart, SparesPlain, is_applets}
+use Rattle.jc_machine.specs.Guarded.{IsActive, IsJudged, is_runtimes}
+use Rattle.jc_machine.specs.Natives.{setting_for}
 use Rattle.jc_machine.specs.Calls.{native_may_begin}
-use Rattle.jc_machine.specs.Machine.{Callback, Calls, Gives, IsStuck, NativeCall, NativeEnd, ThrowsObject, Touch}
-use Rattle.jc_machine.specs.Runtime.{HasRuntimeObject, HasRuntimeObjects, RuntimeObject}
+use Rattle.jc_machine.specs.Machine.{By, ByCode, ByRuntime, IsStuck, NativeCall, Touch}
+use Rattle.jc_machine.specs.Runtime.{HasRuntimeObject, HasRuntimeObjects, RuntimeObject, apdu_buffer, apdu_exception}
+use Rattle.jc_machine.specs.Runtime.{iso_exception, system_exception}
 use Rattle.jc_names.specs.declared.owner.Owner.{Owner}
 use Rattle.jc_natives.proofs.Bare.{bare_object, both}
 use Rattle.jc_natives.proofs.Between.{all_taken}
 use Rattle.jc_natives.proofs.Facts.{own_aid, own_object}
-use Rattle.jc_natives.proofs.Guarding.{IsUse, all_both, no_call, same_found, tested_uses, written_as_large}
+use Rattle.jc_natives.proofs.Answering.{answers_guarded}
+use Rattle.jc_natives.proofs.Changed.{either_is}
+use Rattle.jc_natives.proofs.Guarding.{same_found}
 use Rattle.jc_natives.proofs.Keeping.{both_are}
-use Rattle.jc_natives.proofs.Reaching.{row_reaches}
-use Rattle.jc_natives.proofs.Spared.{AreSpared, IsApartWork, SparesOwn, all_throw_own, roomy_apart, work_apart}
+use Rattle.jc_natives.proofs.Spared.{IsApartWork, SparesOwn, all_throw_own, roomy_apart, work_apart}
 use Rattle.jc_natives.specs.Apart.{installs_applet, names_applets}
-use Rattle.jc_natives.specs.Applets.{owner_of}
+use Rattle.jc_natives.specs.Applets.{aid_object, owner_of}
+use Rattle.jc_natives.specs.declared.kept.Installing.{Installing}
 use Rattle.jc_natives.specs.Cells.{Write, bare, bared, written}
 use Rattle.jc_natives.specs.Kept.{Kept, after_install, has_registered, is_instance_number, kept_instances, with_install}
-use Rattle.jc_natives.specs.Meaning.{answering_member, begun, did, done, ended, is_touched, made, meaning, new_array}
-use Rattle.jc_natives.specs.Meaning.{own_touch, own_touch_of, own_touches, unchanged, work_of}
+use Rattle.jc_natives.specs.Meaning.{answer_of, begun, done, ended, meaning, registering, unchanged, work_of}
 use Rattle.jc_natives.specs.Rows.{natives, row_of}
 use Rattle.jc_natives.specs.Seen.{Seen, arguments_of, seen_of}
 use Rattle.jc_natives.specs.Tests.{tested}
@@ -64,19 +69,49 @@ global_is_not e = cc
 permanent_is_not : PermanentEntryPoint ≢ Plain
 permanent_is_not e = cc
 
--- an object was tested, or isn't plain
-abbrev IsSpared : Heap TaggedValue → List Touch → ℕ → Type 0
-IsSpared heap touches number = (is_touched touches number ≡ true) ⊎ SparesAt heap number
+-- what the runtime accesses in its own name isn't plain
+module _ (heap : Heap TaggedValue) (has : HasRuntimeObjects heap) (k : Kept) (named : names_applets k ≡ true) where
+  spares_registered : (number : ℕ) (o : Option Installing) → option_map_or installs_applet o true ≡ true
+      → option_map_or (λ n. n == number) (option_map (λ (i : Installing). aid_object i.owner.instance) o) false ≡ true
+      → SparesAt heap number
+  spares_registered number None installs e = absurd (unequal e)
+  spares_registered number (Some i) installs e =
+      subst (SparesAt heap) (eqb-true (aid_object i.owner.instance) number e)
+      (own_spares heap _ (own_aid heap i.owner.instance has
+      (both (is_applets i.owner) (is_instance_number i.owner.instance) installs).1) permanent_is_not)
 
-own_spared : (heap : Heap TaggedValue) (touches : List Touch) → HasRuntimeObjects heap
-    → SparesOwn (IsSpared heap touches)
-own_spared heap touches has = record {
-  iso = inr (own_spares heap _ (own_object heap 7 _ has refl) temporary_is_not);
-  system = inr (own_spares heap _ (own_object heap 8 _ has refl) temporary_is_not);
-  apdu = inr (own_spares heap _ (own_object heap 9 _ has refl) temporary_is_not);
-  buffer = inr (own_spares heap _ (own_object heap 11 _ has refl) global_is_not);
-  aids = λ number e. inr (own_spares heap _ (own_aid heap number has e) permanent_is_not);
-}
+  spares_exact : (number own : ℕ) → SparesAt heap own → (number == own) ≡ true → SparesAt heap number
+  spares_exact number own spares e = subst (SparesAt heap) (sym (eqb-true number own e)) spares
+
+  named_spares : (number : ℕ) → is_runtimes (registering k) number ≡ true → SparesAt heap number
+  named_spares number e =
+      elim (either_is (number == iso_exception || number == system_exception || number == apdu_exception
+      || number == apdu_buffer) (option_map_or (λ n. n == number) (registering k) false) e) [
+        | inr f ↦ spares_registered number k.installing
+            (both (list_all of_applet_in k.instances) (option_map_or installs_applet k.installing true) named).1 f
+        | inl f ↦
+            elim (either_is (number == iso_exception || number == system_exception || number == apdu_exception)
+            (number == apdu_buffer) f) [
+              | inr g ↦ spares_exact number apdu_buffer
+                  (own_spares heap _ (own_object heap 11 _ has refl) global_is_not) g
+              | inl g ↦
+                  elim (either_is (number == iso_exception || number == system_exception)
+                  (number == apdu_exception) g) [
+                    | inr h ↦ spares_exact number apdu_exception
+                        (own_spares heap _ (own_object heap 9 _ has refl) temporary_is_not) h
+                    | inl h ↦
+                        elim (either_is (number == iso_exception) (number == system_exception) h) [
+                          | inr j ↦ spares_exact number system_exception
+                              (own_spares heap _ (own_object heap 8 _ has refl) temporary_is_not) j
+                          | inl j ↦ spares_exact number iso_exception
+                              (own_spares heap _ (own_object heap 7 _ has refl) temporary_is_not) j
+                        ]
+                  ]
+            ]
+      ]
+    where
+      of_applet_in : Instance → Bool
+      of_applet_in i = is_applets i.owner
 
 -- ---- owners
 
@@ -106,51 +141,6 @@ owners_apart heap apart number =
     by_object None f e = absurd (unequal e)
     by_object (Some o) f e = not_runtime o.owner (λ g. (apart.others number o f g).instance) e
 
--- ---- objects that weren't there
-
-none_more : (before after : Heap TaggedValue) (n : ℕ) (o : Object TaggedValue) → length after ≡ length before
-    → slice_get after n ≡ Some o → slice_get before n ≡ None → ⊥
-none_more before after n o same is none = by_length (slice_get_cases before n).1
-  where
-    by_length : ((x : Object TaggedValue) × (n < length before) × (slice_get before n ≡ Some x)
-        × (get_or before n x ≡ x)) ⊎ ((length before ≤ n) × (slice_get before n ≡ None)) → ⊥
-    by_length (inl c) = none-some c.0 (sym none ∙ c.2)
-    by_length (inr c) =
-        let low = c.0 in none-some o (sym (slice_get_past after n (omega (arith, same, low))) ∙ is)
-
-none_new : (before after : Heap TaggedValue) (number : ℕ) (o : Object TaggedValue) → length after ≡ length before
-    → object_at after number ≡ Some o → object_at before number ≡ None → ⊥
-none_new before after zero o same is none = none-some o is
-none_new before after (suc n) o same is none = none_more before after n o same is none
-
-last_is : {A : Type 0} (xs : List A) (x y : A) (n : ℕ) → slice_get (xs ++ x ∷ []) n ≡ Some y → slice_get xs n ≡ None
-    → y ≡ x
-last_is [] x y zero e f = sym (same_Some x y e)
-last_is [] x y (suc n) e f = absurd (none-some y e)
-last_is (z ∷ xs) x y zero e f = absurd (none-some z (sym f))
-last_is (z ∷ xs) x y (suc n) e f = last_is xs x y n e f
-
-new_is : (heap : Heap TaggedValue) (x y : Object TaggedValue) (number : ℕ) → object_at (with_new heap x) number ≡ Some y
-    → object_at heap number ≡ None → y ≡ x
-new_is heap x y zero e f = absurd (none-some y e)
-new_is heap x y (suc n) e f = last_is heap x y n e f
-
--- ---- calls
-
-abbrev called_member : NativeEnd → ℕ
-called_member (Gives value) = 0
-called_member (ThrowsObject object) = 0
-called_member (Calls callback) = callback.member
-called_member IsStuck = 0
-
-abbrev asks_only : NativeEnd → Type 0
-asks_only ends = (callback : Callback) → ends ≡ Calls callback → AsksApplet callback
-
-asking_asks : (asked : Callback) → asked.member ≡ answering_member → asks_only (Calls asked)
-asking_asks asked is callback e member found =
-    let same : answering_member ≡ callback.member = sym is ∙ ap called_member e in
-    sym (ap (λ o. option_map_or (λ (m : ApiMember). m.class) o Applet) (ap member_of same ∙ found))
-
 -- ---- answers
 
 module _ (w : World) (call : NativeCall Kept) (apart : IsSetApart call.heap)
@@ -158,116 +148,63 @@ module _ (w : World) (call : NativeCall Kept) (apart : IsSetApart call.heap)
   not_active : call.active.context ≡ runtime_context → ⊥
   not_active e = unequal (sym (ap not (eq-eqb call.active.context runtime_context e)) ∙ active)
 
-  -- what tests access is accessed by the caller
-  caller_spares : (touches : List Touch) → AllByRecursion (IsUse w call) touches
+  -- what its caller accesses isn't accessed as the runtime
+  judged_spares : (by : By) (t : Touch) → IsActive (setting_for meaning w call) t by → SparesPlain call.heap t
+  judged_spares ByCode t h e = absurd (not_active (sym h ∙ e))
+  judged_spares ByRuntime t h e = named_spares call.heap apart.own call.runtime kept t.object h.1
+
+  all_spare : (touches : List Touch) → AllByRecursion (IsJudged (setting_for meaning w call)) touches
       → AllByRecursion (SparesPlain call.heap) touches
-  caller_spares [] uses = tt
-  caller_spares (t ∷ touches) uses =
-      (λ e. absurd (not_active (sym (uses.0).active ∙ e)), caller_spares touches uses.1)
+  all_spare [] h = tt
+  all_spare (t ∷ touches) h = (judged_spares t.by t (h.0).active, all_spare touches h.1)
 
-  own_touch_spares : (touches : List Touch) (x : Write) → IsSpared call.heap touches x.object
-      → AllByRecursion (SparesPlain call.heap) (own_touch_of touches call.heap x)
-  own_touch_spares touches x spared = by_touched (is_touched touches x.object) refl spared
-    where
-      by_object : SparesAt call.heap x.object → (o : Option (Object TaggedValue))
-          → AllByRecursion (SparesPlain call.heap)
-          (option_map_or (λ object. own_touch x.object object ∷ []) o [])
-      by_object spares None = tt
-      by_object spares (Some o) = (λ e. spares, tt)
-
-      by_touched : (b : Bool) → is_touched touches x.object ≡ b → IsSpared call.heap touches x.object
-          → AllByRecursion (SparesPlain call.heap) (cond b []
-          (option_map_or (λ object. own_touch x.object object ∷ []) (object_at call.heap x.object) []))
-      by_touched true e either = tt
-      by_touched false e (inl f) = absurd (unequal (sym e ∙ f))
-      by_touched false e (inr spares) = by_object spares (object_at call.heap x.object)
-
-  own_touches_spare : (touches : List Touch) (writes : List Write) → AreSpared (IsSpared call.heap touches) writes
-      → AllByRecursion (SparesPlain call.heap) (own_touches touches call.heap writes)
-  own_touches_spare touches [] spared = tt
-  own_touches_spare touches (x ∷ writes) spared =
-      all_both (SparesPlain call.heap) (own_touch_of touches call.heap x) (own_touches touches call.heap writes)
-      (own_touch_spares touches x spared.0) (own_touches_spare touches writes spared.1)
-
-  unchanged_apart : (touches : List Touch) (ends : NativeEnd) → AllByRecursion (IsUse w call) touches → asks_only ends
-      → IsApartAnswer names_applets call (unchanged call touches ends)
-  unchanged_apart touches ends uses asks = record {
-    spares = caller_spares touches uses;
-    adds = λ number o found none. absurd (none-some o (sym none ∙ found));
-    kept = kept;
-    calls = asks;
-  }
-
-  did_apart : (touches : List Touch) (writes : List Write) (k : Kept) (ending : Ending)
-      → AllByRecursion (IsUse w call) touches
-      → IsApartWork (IsSpared call.heap touches) (Does writes k ending)
-      → IsApartAnswer names_applets call (did call touches writes k ending)
-  did_apart touches writes k ending uses work = record {
-    spares = all_both (SparesPlain call.heap) touches (own_touches touches call.heap writes)
-        (caller_spares touches uses) (own_touches_spare touches writes work.0);
-    adds = λ number o found none.
-        absurd (none_new call.heap (written Word call.heap writes) number o
-        (written_as_large call.heap writes).objects found none);
-    kept = work.1;
-    calls = λ callback e. absurd (no_call w call ending callback e);
-  }
-
-  made_apart : (touches : List Touch) (array : NewArray) → AllByRecursion (IsUse w call) touches
-      → IsApartAnswer names_applets call (made call touches array)
-  made_apart touches array uses = record {
-    spares = caller_spares touches uses;
-    adds = λ number o found none.
-        let same = new_is call.heap (new_array call.active array) o number found none in
-        record {
-          whose = ap (λ (x : Object TaggedValue). x.owner) same;
-          plain = ap (λ (x : Object TaggedValue). x.kind.mark) same;
-        };
-    kept = kept;
-    calls = λ callback e. absurd cc;
-  }
-
-  done_apart : (touches : List Touch) (work : Work) → AllByRecursion (IsUse w call) touches
-      → IsApartWork (IsSpared call.heap touches) work → IsApartAnswer names_applets call (done call touches work)
-  done_apart touches (Does writes k ending) uses spared = did_apart touches writes k ending uses spared
-  done_apart touches (Makes array) uses spared = made_apart touches array uses
-  done_apart touches (Asks question) uses spared = unchanged_apart touches _ uses (asking_asks _ refl)
-
+  -- what the runtime keeps
   abbrev s : Seen
   s = seen_of w call
 
   abbrev args : List ℕ
   args = arguments_of call
 
-  begun_apart : (number : ℕ) (o : Option Native) → numbered natives number ≡ o
-      → IsApartAnswer names_applets call (begun w call o)
-  begun_apart number None e = unchanged_apart [] IsStuck tt (λ callback f. absurd cc)
-  begun_apart number (Some native) e = by_thrown (tested s args (row_of native)).thrown refl
+  abbrev Any : By → ℕ → Type 0
+  Any by number = ⊤
+
+  done_kept : (touches : List Touch) (work : Work) → IsApartWork Any s call.runtime work
+      → names_applets (done call touches work).runtime ≡ true
+  done_kept touches (Does writes k ending) h = h.1 (owners_apart call.heap apart) kept
+  done_kept touches (Makes array) h = kept
+  done_kept touches (Asks question) h = kept
+
+  begun_kept : (number : ℕ) (o : Option Native) → numbered natives number ≡ o
+      → names_applets (begun w call o).runtime ≡ true
+  begun_kept number None e = kept
+  begun_kept number (Some native) e = by_thrown (tested s args (row_of native)).thrown
     where
-      by_thrown : (o : Option ℕ) → (tested s args (row_of native)).thrown ≡ o
-          → IsApartAnswer names_applets call (ended call (tested s args (row_of native)).touches o
-          (work_of s call.runtime args native))
-      by_thrown (Some object) f =
-          unchanged_apart (tested s args (row_of native)).touches (ThrowsObject object)
-          (tested_uses w call args (row_of native)).uses (λ callback g. absurd cc)
-      by_thrown None f =
-          let touches = (tested s args (row_of native)).touches in
-          let own = own_spared call.heap touches apart.own in
-          let owners = owners_apart call.heap apart in
-          let spared = IsSpared call.heap touches in
-          done_apart touches _ (tested_uses w call args (row_of native)).uses
-          (roomy_apart spared own s call.runtime args kept owners call.limits.objects call.limits.cells call.heap
+      any_own : SparesOwn Any call.runtime
+      any_own = record { iso = tt; system = tt; apdu = tt; buffer = tt; registers = λ i f. tt }
+
+      by_thrown : (o : Option ℕ) → names_applets (ended call (tested s args (row_of native)).touches o
+          (work_of s call.runtime args native)).runtime ≡ true
+      by_thrown (Some object) = kept
+      by_thrown None =
+          done_kept (tested s args (row_of native)).touches _
+          (roomy_apart Any s call.runtime any_own args call.limits.objects call.limits.cells call.heap
           (work_of s call.runtime args native)
-          (work_apart spared own s call.runtime args kept owners native (all_throw_own number native e)
-          (λ place way by. inl (row_reaches s args (row_of native) place way f by))))
+          (work_apart Any s call.runtime any_own args native (all_throw_own number native e)
+          (λ place way change by. tt)))
+
+  answer_kept : names_applets (answer_of w call).runtime ≡ true
+  answer_kept = by_begin (native_may_begin w.shapes call.heap call.member call.arguments)
+    where
+      by_begin : (b : Bool) → names_applets (cond b (begun w call (numbered natives call.member))
+          (unchanged call [] IsStuck)).runtime ≡ true
+      by_begin true = begun_kept call.member (numbered natives call.member) refl
+      by_begin false = kept
 
 pub members_apart : AreNativesApart names_applets meaning
-members_apart w call apart active kept =
-    by_begin (native_may_begin w.shapes call.heap call.member call.arguments)
-  where
-    by_begin : (b : Bool) → IsApartAnswer names_applets call
-        (cond b (begun w call (numbered natives call.member)) (unchanged call [] IsStuck))
-    by_begin true = begun_apart w call apart active kept call.member (numbered natives call.member) refl
-    by_begin false = unchanged_apart w call apart active kept [] IsStuck tt (λ callback f. absurd cc)
+members_apart w call apart active kept = record {
+  spares = all_spare w call apart active kept (answer_of w call).touches (answers_guarded w call).touches;
+  kept = answer_kept w call apart active kept;
+}
 
 -- ---- calls of the runtime itself
 

@@ -14,6 +14,7 @@ use Rattle.jc_base.specs.declared.declared_type.ReturnType.TheVariants.{Void, Va
 use Rattle.jc_firewall.specs.Verdict.{verdict_of}
 use Rattle.jc_firewall.specs.declared.access.Verdict.{Verdict}
 use Rattle.jc_firewall.specs.declared.access.Verdict.TheVariants.{Allowed, AllowedSwitch, Denied}
+use Rattle.jc_machine.specs.Machine.{ByRuntime}
 use Rattle.jc_machine.specs.Lookup.{is_byte_array, is_given, is_throwable}
 use Rattle.jc_machine.specs.Machine.{NativeAnswer}
 use Rattle.jc_machine.specs.Natives.{EndsFit, IsFitCallback, IsThrown, KeepsObjects}
@@ -107,7 +108,7 @@ module _ (known : Known) where
   writes_typed (x ∷ []) fits = write_typed w.shapes call.heap x fits fit.heap
   writes_typed (x ∷ y ∷ writes) fits = absurd fits
 
-  no_space : Fits (Does (record { object = 9; from = 0; words = 2 ∷ [] } ∷ []) call.runtime (Throws 9))
+  no_space : Fits (Does (record { by = ByRuntime; object = 9; from = 0; words = 2 ∷ [] } ∷ []) call.runtime (Throws 9))
   no_space = (system_reason known 9 2 (system_leads known) (omega arith), (fit.fits, system_thrown known))
 
   done_fits : (touches : List _) (work : Work) → Fits work → Answers (done call touches work)
@@ -156,7 +157,7 @@ module _ (known : Known) where
       by_room : (b : Bool) → Answers (done call touches (array_or_refusal b array call.runtime))
       by_room true = done_fits touches (Makes array) fits
       by_room false =
-          done_fits touches (Does (record { object = 9; from = 0; words = 2 ∷ [] } ∷ []) call.runtime (Throws 9))
+          done_fits touches (Does (record { by = ByRuntime; object = 9; from = 0; words = 2 ∷ [] } ∷ []) call.runtime (Throws 9))
           no_space
   roomy_fits touches (Asks q) fits = done_fits touches (Asks q) fits
 

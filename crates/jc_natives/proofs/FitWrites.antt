@@ -14,6 +14,7 @@ use Rattle.jc_classes.specs.Subtype.{comes_to_end, is_at_or_above, is_class_belo
 use Rattle.jc_classes.specs.Walk.{most_classes}
 use Rattle.jc_link.specs.ApiClasses.{StandsThere, cells_within}
 use Rattle.jc_link.specs.Linked.{World}
+use Rattle.jc_machine.specs.Machine.{ByCode}
 use Rattle.jc_machine.specs.Lookup.{is_byte, is_of_class, is_throwable}
 use Rattle.jc_machine.specs.Machine.{NativeCall}
 use Rattle.jc_machine.specs.Natives.{IsFitCall, IsThrown}
@@ -168,14 +169,14 @@ module _ (known : Known) where
 
   pub to_bytes : (number from : ℕ) (words : List ℕ) → LeadsToBytes call.heap number
       → FitsWords w.shapes ByteArray from words
-      → FitsWrite w.shapes call.heap (record { object = number; from = from; words = words })
+      → FitsWrite w.shapes call.heap (record { by = ByCode; object = number; from = from; words = words })
   to_bytes number from words leads fits o found =
       subst (λ type. FitsWords w.shapes type from words) (sym (leads o found)) fits
 
   -- words that fit objects of a class below one
   to_class : (number from : ℕ) (words : List ℕ) (c : ApiClass) → LeadsToClass w.shapes call.heap number (Api c)
       → ((type : ObjectType) → is_of_class w.shapes (Api c) type ≡ true → FitsWords w.shapes type from words)
-      → FitsWrite w.shapes call.heap (record { object = number; from = from; words = words })
+      → FitsWrite w.shapes call.heap (record { by = ByCode; object = number; from = from; words = words })
   to_class number from words c leads fits o found =
       let same = same_Some leads.object o (sym leads.found ∙ found) in
       fits o.kind.object (ap (λ (x : Object TaggedValue). is_of_class w.shapes (Api c) x.kind.object) (sym same)
@@ -279,32 +280,32 @@ module _ (known : Known) where
   reason_written : (number n : ℕ) (c : ApiClass) → LeadsToClass w.shapes call.heap number (Api c) → n < 65536
       → is_same_name (Api api.Object) (Api c) ≡ false → above_in most_classes c api.Object ≡ false
       → ((k : ℕ) → comes_to_end w.shapes k (Api c) ≡ true → 1 ≤ cells_within k c)
-      → FitsWrite w.shapes call.heap (record { object = number; from = 0; words = n ∷ [] })
+      → FitsWrite w.shapes call.heap (record { by = ByCode; object = number; from = 0; words = n ∷ [] })
   reason_written number n c leads small other none enough =
       to_class number 0 (n ∷ []) c leads (class_fits c (n ∷ []) other none (λ d below.
       ((blank_at w.shapes there c d 0 ends below (λ k f. let a = enough k f in omega (arith, a)), small), tt)))
 
   pub runtime_reason : (number n : ℕ) → LeadsToClass w.shapes call.heap number (Api api.CardRuntimeException)
-      → n < 65536 → FitsWrite w.shapes call.heap (record { object = number; from = 0; words = n ∷ [] })
+      → n < 65536 → FitsWrite w.shapes call.heap (record { by = ByCode; object = number; from = 0; words = n ∷ [] })
   unfolding most_classes
   runtime_reason number n leads small =
       reason_written number n api.CardRuntimeException leads small refl refl (reason_cells w.shapes there)
 
   pub iso_reason : (number n : ℕ) → LeadsToClass w.shapes call.heap number (Api api.IsoException) → n < 65536
-      → FitsWrite w.shapes call.heap (record { object = number; from = 0; words = n ∷ [] })
+      → FitsWrite w.shapes call.heap (record { by = ByCode; object = number; from = 0; words = n ∷ [] })
   unfolding most_classes
   iso_reason number n leads small =
       reason_written number n api.IsoException leads small refl refl (below_reason w.shapes there api.IsoException refl)
 
   pub system_reason : (number n : ℕ) → LeadsToClass w.shapes call.heap number (Api api.SystemException) → n < 65536
-      → FitsWrite w.shapes call.heap (record { object = number; from = 0; words = n ∷ [] })
+      → FitsWrite w.shapes call.heap (record { by = ByCode; object = number; from = 0; words = n ∷ [] })
   unfolding most_classes
   system_reason number n leads small =
       reason_written number n api.SystemException leads small refl refl
       (below_reason w.shapes there api.SystemException refl)
 
   pub apdu_reason : (number n : ℕ) → LeadsToClass w.shapes call.heap number (Api api.ApduException) → n < 65536
-      → FitsWrite w.shapes call.heap (record { object = number; from = 0; words = n ∷ [] })
+      → FitsWrite w.shapes call.heap (record { by = ByCode; object = number; from = 0; words = n ∷ [] })
   unfolding most_classes
   apdu_reason number n leads small =
       reason_written number n api.ApduException leads small refl refl
@@ -313,7 +314,7 @@ module _ (known : Known) where
   -- an AID: its length and its bytes
   pub aid_written : (number : ℕ) (bytes : List ℕ) → LeadsToClass w.shapes call.heap number (Api api.Aid)
       → length bytes ≤ 16 → are_bytes bytes ≡ true
-      → FitsWrite w.shapes call.heap (record { object = number; from = 0; words = length bytes ∷ bytes })
+      → FitsWrite w.shapes call.heap (record { by = ByCode; object = number; from = 0; words = length bytes ∷ bytes })
   unfolding most_classes
   aid_written number bytes leads short e =
       to_class number 0 (length bytes ∷ bytes) api.Aid leads

@@ -15,6 +15,7 @@ use Rattle.jc_base.specs.declared.declared_type.ReturnType.TheVariants.{Value}
 use Rattle.jc_classes.specs.Subtype.{is_class_below}
 use Rattle.jc_link.specs.Found.{is_same_return}
 use Rattle.jc_link.specs.MemberType.{counted}
+use Rattle.jc_machine.specs.Machine.{ByCode}
 use Rattle.jc_machine.specs.Calls.{type_of_member}
 use Rattle.jc_machine.specs.Lookup.{are_of_types, component_class, is_boolean_array, is_byte_array, is_of_class}
 use Rattle.jc_machine.specs.Lookup.{is_short_array, leads_to}
@@ -128,7 +129,7 @@ module _ (known : Known) where
           (object_class w.shapes call.heap m call.arguments typed has.0)
 
       reason_is : (n : ℕ) → n < 65536 → HasReason m
-          → FitsWrite w.shapes call.heap (record { object = argument args 0; from = 0; words = n ∷ [] })
+          → FitsWrite w.shapes call.heap (record { by = ByCode; object = argument args 0; from = 0; words = n ∷ [] })
       reason_is n small has = by_class has.1
         where
           leads : (c : ApiClass) → m.class ≡ c → LeadsToClass w.shapes call.heap (argument args 0) (Api c)
@@ -138,14 +139,14 @@ module _ (known : Known) where
 
           by_class : (m.class ≡ api.CardRuntimeException)
               ⊎ ((m.class ≡ api.IsoException) ⊎ ((m.class ≡ api.SystemException) ⊎ (m.class ≡ api.ApduException)))
-              → FitsWrite w.shapes call.heap (record { object = argument args 0; from = 0; words = n ∷ [] })
+              → FitsWrite w.shapes call.heap (record { by = ByCode; object = argument args 0; from = 0; words = n ∷ [] })
           by_class (inl e) = runtime_reason known (argument args 0) n (leads api.CardRuntimeException e) small
           by_class (inr (inl e)) = iso_reason known (argument args 0) n (leads api.IsoException e) small
           by_class (inr (inr (inl e))) = system_reason known (argument args 0) n (leads api.SystemException e) small
           by_class (inr (inr (inr e))) = apdu_reason known (argument args 0) n (leads api.ApduException e) small
 
       reason_set : (n : ℕ) → n < 65536 → Gives suits.nothing m.signature.result → HasReason m
-          → Fits known (Does (record { object = argument args 0; from = 0; words = n ∷ [] } ∷ []) k NoResult)
+          → Fits known (Does (record { by = ByCode; object = argument args 0; from = 0; words = n ∷ [] } ∷ []) k NoResult)
       reason_set n small g has = (reason_is n small has, (fit.fits, void_ends known m.signature.result is g))
 
       -- ---- by class
@@ -169,12 +170,12 @@ module _ (known : Known) where
         where
           written_so : has_aid_length count ≡ true
               → FitsWrite w.shapes call.heap
-              (record { object = argument args 0; from = 0; words = count ∷ bytes_of o array offset count })
+              (record { by = ByCode; object = argument args 0; from = 0; words = count ∷ bytes_of o array offset count })
           written_so e =
               let high = leb-true count 16 (both (nat_le 5 count) (nat_le count 16) e).1 in
               let count_is = length_of_bytes o array offset count in
               subst (λ n. FitsWrite w.shapes call.heap
-              (record { object = argument args 0; from = 0; words = n ∷ bytes_of o array offset count }))
+              (record { by = ByCode; object = argument args 0; from = 0; words = n ∷ bytes_of o array offset count }))
               count_is
               (aid_written known (argument args 0) (bytes_of o array offset count) (object_is api.Aid has)
               (omega (arith, high, count_is)) (bytes_are o array offset count))

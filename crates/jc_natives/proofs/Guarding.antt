@@ -1,4 +1,4 @@
--- The law of accesses: each access of a native member is allowed or the last, and only what was accessed changes.
+-- The law of accesses: what members access is judged, and only what was accessed changes.
 use Rattle.std.proofs.Common.{◌≡◌, ◌≢◌, ◌⊎◌, inl, inr, ℕ, zero, suc, ◌+◌, ◌==◌, ◌&&◌, ◌||◌, Bool, true, false, cond}
 use Rattle.std.proofs.Common.{List, [], ◌∷◌, ◌++◌, length, map, set, slice_get, nat_le, nat_lt, Option, Some, None}
 use Rattle.std.proofs.Common.{refl, sym, ap, subst, ◌∙◌, arith, length-append}
@@ -17,19 +17,21 @@ use Rattle.jc_firewall.specs.declared.access.Verdict.{Verdict}
 use Rattle.jc_firewall.specs.declared.access.Verdict.TheVariants.{Allowed, AllowedSwitch, Denied}
 use Rattle.jc_link.specs.Linked.{World}
 use Rattle.jc_machine.specs.Calls.{native_may_begin}
-use Rattle.jc_machine.specs.Going.{facts_in}
+use Rattle.jc_machine.specs.Going.{facts_for, facts_in}
 use Rattle.jc_machine.specs.Guarded.{AreGuarded, ChangesAccessed, IsAccessed, allowed, are_allowed, denied, is_allowed}
-use Rattle.jc_machine.specs.Guarded.{is_last_denied}
+use Rattle.jc_machine.specs.Guarded.{AddsFor, IsJudged, IsPlainOf, asked_by, is_last_denied, is_runtimes, may_change}
 use Rattle.jc_machine.specs.Lookup.{is_array}
-use Rattle.jc_machine.specs.Machine.{Callback, Calls, IsStuck, Limits, NativeCall, NativeEnd, ThrowsObject, Touch}
-use Rattle.jc_machine.specs.Natives.{IsGuardedAnswer, IsNativeTouch, IsRefusedAnswer, IsStill, IsWithin, KeepsObjects}
+use Rattle.jc_machine.specs.Machine.{By, ByCode, ByRuntime, Callback, Calls, IsStuck, Limits, NativeCall, NativeEnd, ThrowsObject, Touch}
+use Rattle.jc_machine.specs.Natives.{IsGuardedAnswer, IsModest, IsOfReceiver, IsRefusedAnswer, IsStill, IsWithin}
+use Rattle.jc_machine.specs.Natives.{KeepsObjects, setting_for, shareable_member}
 use Rattle.jc_machine.specs.Runtime.{security_exception, system_exception}
 use Rattle.jc_natives.proofs.Bare.{bare_object, both}
 use Rattle.jc_natives.proofs.Getting.{new_object, other_object}
 use Rattle.jc_natives.proofs.Putting.{put_none, put_some, same_or_not}
 use Rattle.jc_natives.specs.Cells.{Write, bare, has_room, put, put_all, written}
 use Rattle.jc_natives.specs.Kept.{Kept}
-use Rattle.jc_natives.specs.Meaning.{answer_of, array_or_refusal, begun, did, done, end_of, ended, is_touched, made}
+use Rattle.jc_natives.specs.Meaning.{answer_of, array_or_refusal, begun, did, done, end_of, ended, has_words, made}
+use Rattle.jc_natives.specs.Meaning.{meaning, registering, touch_by}
 use Rattle.jc_natives.specs.Meaning.{new_array, own_touch, own_touch_of, own_touches, unchanged, with_room, work_of}
 use Rattle.jc_natives.specs.Rows.{natives, row_of}
 use Rattle.jc_natives.specs.Seen.{arguments_of, seen_of}
@@ -49,10 +51,11 @@ use Rattle.jc_names.specs.declared.owner.Owner.{Owner}
 use Rattle.jc_store.specs.Heap.{Heap, Object, cells_in, object_at, with_cell, with_new, with_object}
 use Rattle.jc_store.specs.declared.kind.Mark.TheVariants.{Plain}
 use Rattle.jc_words.specs.Values.{TaggedValue, Word}
+use Rattle.jc_natives.proofs.Changed.{either_is, is_change_of, is_changed}
 
 -- ---- lists of accesses
 
-allowed_both : (xs ys : List Touch) → are_allowed xs ≡ true → are_allowed ys ≡ true → are_allowed (xs ++ ys) ≡ true
+pub allowed_both : (xs ys : List Touch) → are_allowed xs ≡ true → are_allowed ys ≡ true → are_allowed (xs ++ ys) ≡ true
 allowed_both [] ys e f = f
 allowed_both (x ∷ xs) ys e f =
     let b = both (is_allowed x.verdict) (are_allowed xs) e in
@@ -73,7 +76,7 @@ pub all_both : {A : Type 0} (P : A → Type 0) (xs ys : List A) → AllByRecursi
 all_both P [] ys a b = b
 all_both P (x ∷ xs) ys a b = (a.0, all_both P xs ys a.1 b)
 
-got_front : {A : Type 0} (xs ys : List A) (n : ℕ) (x : A) → slice_get xs n ≡ Some x → slice_get (xs ++ ys) n ≡ Some x
+pub got_front : {A : Type 0} (xs ys : List A) (n : ℕ) (x : A) → slice_get xs n ≡ Some x → slice_get (xs ++ ys) n ≡ Some x
 got_front [] ys n x e = absurd (none-some x e)
 got_front (y ∷ xs) ys zero x e = e
 got_front (y ∷ xs) ys (suc n) x e = got_front xs ys n x e
@@ -88,7 +91,7 @@ got_back (x ∷ xs) ys n =
 
 -- an access of the caller's, by one of the ways in which members use objects
 pub record IsUse (w : World) (call : NativeCall Kept) (touch : Touch) : Type 0 where
-  pub native : IsNativeTouch w call touch
+  pub native : IsJudged (setting_for meaning w call) touch
   pub way : Way
   pub access : touch.access ≡ access_of way
   pub active : touch.active ≡ call.active.context
@@ -117,7 +120,7 @@ module _ (w : World) (call : NativeCall Kept) where
       → verdict_of (access_of way) call.active.context (facts_of (seen_of w call) (bare o)) ≡ v
       → IsUse w call (touch_of (seen_of w call) way number v)
   use_of way number o v found is = record {
-    native = record { active = inl refl; object = o; found = found; verdict = sym is ∙ same_verdict way o };
+    native = record { active = refl; object = o; found = found; verdict = sym is ∙ same_verdict way o };
     way = way;
     access = refl;
     active = refl;
@@ -189,7 +192,7 @@ module _ (w : World) (call : NativeCall Kept) where
       (followed_uses _ _ (ranged_uses arguments row.first_range) (ranged_uses arguments row.second_range)))
 
   natives_of : (touches : List Touch) → AllByRecursion (IsUse w call) touches
-      → AllByRecursion (IsNativeTouch w call) touches
+      → AllByRecursion (IsJudged (setting_for meaning w call)) touches
   natives_of [] uses = tt
   natives_of (t ∷ touches) uses = ((uses.0).native, natives_of touches uses.1)
 
@@ -198,7 +201,7 @@ module _ (w : World) (call : NativeCall Kept) where
 pub same_found : {V : Type 0} (found : Option (Object V)) (o p : Object V) → found ≡ Some o → found ≡ Some p → p ≡ o
 same_found found o p e f = same_Some p o (sym f ∙ e)
 
-keeps_itself : (heap : Heap TaggedValue) → KeepsObjects heap heap
+pub keeps_itself : (heap : Heap TaggedValue) → KeepsObjects heap heap
 keeps_itself heap number o found = record { object = o; found = found; kind = refl; owner = refl; size = refl }
 
 keeps_on : (one two three : Heap TaggedValue) → KeepsObjects one two → KeepsObjects two three → KeepsObjects one three
@@ -287,29 +290,38 @@ put_all_apart heap number from other [] h = refl
 put_all_apart heap number from other (v ∷ values) h =
     put_all_apart (put heap number from v) number (from + 1) other values h ∙ put_apart heap number from other v h
 
-abbrev is_written_in : List Write → ℕ → Bool
-is_written_in writes number = list_any (λ (x : Write). x.object == number) writes
+-- words are written to an object
+abbrev pub is_write_to : ℕ → Write → Bool
+is_write_to number x = has_words x.words && x.object == number
+
+abbrev pub is_written_in : List Write → ℕ → Bool
+is_written_in writes number = list_any (is_write_to number) writes
 
 neither : (a b : Bool) → (a || b) ≡ false → (a ≡ false) × (b ≡ false)
 neither false b e = (refl, e)
 neither true b e = absurd cc
 
+unequal : false ≡ true → ⊥
+unequal g = cc
+
+-- where no words are, none is written
+put_elsewhere : (heap : Heap TaggedValue) (object from number : ℕ) (words : List ℕ)
+    → (has_words words && object == number) ≡ false
+    → object_at (put_all heap object from (map Word words)) number ≡ object_at heap number
+put_elsewhere heap object from number [] e = refl
+put_elsewhere heap object from number (word ∷ words) e =
+    put_all_apart heap object from number (map Word (word ∷ words))
+    (λ f. unequal (sym e ∙ eq-eqb object number f))
+
 written_apart : (heap : Heap TaggedValue) (writes : List Write) (number : ℕ) → is_written_in writes number ≡ false
     → object_at (written Word heap writes) number ≡ object_at heap number
 written_apart heap [] number e = refl
 written_apart heap (x ∷ writes) number e =
-    let b = neither (x.object == number) (is_written_in writes number) e in
+    let b = neither (is_write_to number x) (is_written_in writes number) e in
     written_apart (put_all heap x.object x.from (map Word x.words)) writes number b.1
-    ∙ put_all_apart heap x.object x.from number (map Word x.words) (λ f. unequal (sym b.0 ∙ eq-eqb x.object number f))
-  where
-    unequal : false ≡ true → ⊥
-    unequal g = cc
+    ∙ put_elsewhere heap x.object x.from number x.words b.0
 
 -- ---- what is written was accessed
-
-pub either_is : (a b : Bool) → (a || b) ≡ true → (a ≡ true) ⊎ (b ≡ true)
-either_is true b e = inl refl
-either_is false b e = inr e
 
 -- a plain object that a member may use is its context's own, or the runtime uses it
 by_fields : (by_runtime own : Bool) → is_allowed (cond by_runtime Allowed (cond own Allowed (Denied rules.Fields)))
@@ -357,39 +369,59 @@ own_use ways.Calls active f e plain =
     whose active f (by_calls (active == runtime_context) (is_own active f) (is_entry_point f.mark)
     (is_global_array f.mark) f.owner e (ap is_entry_point plain) (ap is_global_array plain))
 
+-- what is written was tested, where the caller writes, and is named, where the runtime does
+pub record IsPlaced (registers : Option ℕ) (touches : List Touch) (by : By) (number : ℕ) : Type 0 where
+  pub code : by ≡ ByCode → is_changed touches number ≡ true
+  pub runtime : by ≡ ByRuntime → is_runtimes registers number ≡ true
+
+abbrev pub ArePlaced : Option ℕ → List Touch → List Write → Type 0
+ArePlaced registers touches writes =
+    AllByRecursion (λ (x : Write). IsPlaced registers touches x.by x.object) writes
+
 module _ (w : World) (call : NativeCall Kept) where
+  abbrev active : ℕ
+  active = call.active.context
+
+  abbrev Judged : Touch → Type 0
+  Judged = IsJudged (setting_for meaning w call)
+
   -- an object that was tested
   tested_access : (touches : List Touch) → AllByRecursion (IsUse w call) touches → are_allowed touches ≡ true
       → (number : ℕ) (o : Object TaggedValue) → object_at call.heap number ≡ Some o
-      → is_touched touches number ≡ true → IsAccessed touches number o
+      → is_changed touches number ≡ true → IsAccessed active touches number o
   tested_access [] uses fine number o found e = absurd cc
   tested_access (t ∷ touches) uses fine number o found e =
       by_first (tested_access touches uses.1 (both (is_allowed t.verdict) (are_allowed touches) fine).1 number o found)
-      (either_is (t.object == number) (is_touched touches number) e)
+      (either_is (is_change_of number t) (is_changed touches number) e)
     where
       parts : (is_allowed t.verdict ≡ true) × (are_allowed touches ≡ true)
       parts = both (is_allowed t.verdict) (are_allowed touches) fine
 
       own_of : (u : IsUse w call t) → u.native.object ≡ o → o.kind.mark ≡ Plain
-          → (t.active ≡ o.owner.context) ⊎ (t.active ≡ runtime_context)
+          → (active ≡ o.owner.context) ⊎ (t.active ≡ runtime_context)
       own_of u same plain =
-          let facts = facts_in w.shapes call.selected u.native.object None false in
+          let facts = facts_for w.shapes call.selected call.heap (asked_by t) u.native.object in
           let verdict = u.native.verdict ∙ ap (λ a. verdict_of a t.active facts) u.access in
-          subst (λ (x : Object TaggedValue). (t.active ≡ x.owner.context) ⊎ (t.active ≡ runtime_context)) same
+          elim
           (own_use u.way t.active facts (ap is_allowed (sym verdict) ∙ parts.0)
-          (ap (λ (x : Object TaggedValue). x.kind.mark) same ∙ plain))
+          (ap (λ (x : Object TaggedValue). x.kind.mark) same ∙ plain)) [
+            | inl own ↦ inl (sym u.active ∙ own ∙ ap (λ (x : Object TaggedValue). x.owner.context) same)
+            | inr by ↦ inr by
+          ]
 
-      by_first : (is_touched touches number ≡ true → IsAccessed touches number o)
-          → ((t.object == number) ≡ true) ⊎ (is_touched touches number ≡ true) → IsAccessed (t ∷ touches) number o
+      by_first : (is_changed touches number ≡ true → IsAccessed active touches number o)
+          → (is_change_of number t ≡ true) ⊎ (is_changed touches number ≡ true) → IsAccessed active (t ∷ touches) number o
       by_first rest (inl f) =
           let u = uses.0 in
+          let g = both (t.object == number) (may_change t.access) f in
           let same = same_found (object_at call.heap number) o u.native.object found
-          (ap (object_at call.heap) (sym (eqb-true t.object number f)) ∙ u.native.found) in
+          (ap (object_at call.heap) (sym (eqb-true t.object number g.0)) ∙ u.native.found) in
           record {
             place = 0;
             touch = t;
             listed = refl;
-            is = eqb-true t.object number f;
+            is = eqb-true t.object number g.0;
+            changes = g.1;
             allowed = parts.0;
             own = λ plain. own_of u same plain;
           }
@@ -400,135 +432,157 @@ module _ (w : World) (call : NativeCall Kept) where
             touch = later.touch;
             listed = later.listed;
             is = later.is;
+            changes = later.changes;
             allowed = later.allowed;
             own = later.own;
           }
 
-  -- an object that the runtime writes in its own name
-  own_access : (touches : List Touch) (writes : List Write) (number : ℕ) (o : Object TaggedValue)
-      → object_at call.heap number ≡ Some o → is_touched touches number ≡ false → is_written_in writes number ≡ true
-      → IsAccessed (own_touches touches call.heap writes) number o
-  own_access touches [] number o found apart e = absurd cc
-  own_access touches (x ∷ writes) number o found apart e =
-      by_first (own_access touches writes number o found apart)
-      (either_is (x.object == number) (is_written_in writes number) e)
-    where
-      here : x.object ≡ number → own_touch_of touches call.heap x ≡ own_touch x.object o ∷ []
-      here f =
-          ap (λ n. cond (is_touched touches n) []
-          (option_map_or (λ object. own_touch x.object object ∷ []) (object_at call.heap n) [])) f
-          ∙ ap (λ b. cond b [] (option_map_or (λ object. own_touch x.object object ∷ []) (object_at call.heap number)
-          [])) apart
-          ∙ ap (λ p. option_map_or (λ object. own_touch x.object object ∷ []) p []) found
-
-      by_first : (is_written_in writes number ≡ true → IsAccessed (own_touches touches call.heap writes) number o)
-          → ((x.object == number) ≡ true) ⊎ (is_written_in writes number ≡ true)
-          → IsAccessed (own_touches touches call.heap (x ∷ writes)) number o
-      by_first rest (inl f) =
-          let same = eqb-true x.object number f in
-          record {
-            place = 0;
-            touch = own_touch x.object o;
-            listed = ap (λ ts. slice_get (ts ++ own_touches touches call.heap writes) 0) (here same);
-            is = same;
-            allowed = refl;
-            own = λ plain. inr refl;
-          }
-      by_first rest (inr f) =
-          let later = rest f in
-          record {
-            place = length (own_touch_of touches call.heap x) + later.place;
-            touch = later.touch;
-            listed = got_back (own_touch_of touches call.heap x) (own_touches touches call.heap writes) later.place
-                ∙ later.listed;
-            is = later.is;
-            allowed = later.allowed;
-            own = later.own;
-          }
-
-  accessed_in_front : (xs ys : List Touch) (number : ℕ) (o : Object TaggedValue) → IsAccessed xs number o
-      → IsAccessed (xs ++ ys) number o
+  accessed_in_front : (xs ys : List Touch) (number : ℕ) (o : Object TaggedValue) → IsAccessed active xs number o
+      → IsAccessed active (xs ++ ys) number o
   accessed_in_front xs ys number o a = record {
     place = a.place;
     touch = a.touch;
     listed = got_front xs ys a.place a.touch a.listed;
     is = a.is;
+    changes = a.changes;
     allowed = a.allowed;
     own = a.own;
   }
 
-  accessed_behind : (xs ys : List Touch) (number : ℕ) (o : Object TaggedValue) → IsAccessed ys number o
-      → IsAccessed (xs ++ ys) number o
+  accessed_behind : (xs ys : List Touch) (number : ℕ) (o : Object TaggedValue) → IsAccessed active ys number o
+      → IsAccessed active (xs ++ ys) number o
   accessed_behind xs ys number o a = record {
     place = length xs + a.place;
     touch = a.touch;
     listed = got_back xs ys a.place ∙ a.listed;
     is = a.is;
+    changes = a.changes;
     allowed = a.allowed;
     own = a.own;
   }
 
-  changes_accessed : (touches : List Touch) (writes : List Write) → AllByRecursion (IsUse w call) touches
-      → are_allowed touches ≡ true
-      → ChangesAccessed (touches ++ own_touches touches call.heap writes) call.heap (written Word call.heap writes)
-  changes_accessed touches writes uses fine number o p before after =
-      by_written (is_written_in writes number) refl (is_touched touches number) refl
+  -- an object that is written
+  module _ (touches : List Touch) (uses : AllByRecursion (IsUse w call) touches)
+      (fine : are_allowed touches ≡ true) (number : ℕ) (o : Object TaggedValue)
+      (found : object_at call.heap number ≡ Some o) where
+    may_change_so : (array : Bool) → may_change (cond array StoreComponent PutField) ≡ true
+    may_change_so true = refl
+    may_change_so false = refl
+
+    own_accessed : (ts : List Touch) → IsAccessed active (own_touch number o ∷ ts) number o
+    own_accessed ts = record {
+      place = 0;
+      touch = own_touch number o;
+      listed = refl;
+      is = refl;
+      changes = may_change_so (is_array o.kind.object);
+      allowed = refl;
+      own = λ plain. inr refl;
+    }
+
+    abbrev Either : List Write → Type 0
+    Either writes = IsAccessed active touches number o ⊎ IsAccessed active (own_touches call.heap writes) number o
+
+    later_access : (x : Write) (writes : List Write) → Either writes → Either (x ∷ writes)
+    later_access x writes (inl a) = inl a
+    later_access x writes (inr a) =
+        inr (accessed_behind (own_touch_of call.heap x) (own_touches call.heap writes) number o a)
+
+    first_access : (by : By) (from : ℕ) (words : List ℕ) (writes : List Write)
+        → IsPlaced (registering call.runtime) touches by number → has_words words ≡ true
+        → Either (record { by = by; object = number; from = from; words = words } ∷ writes)
+    first_access ByCode from words writes placed some =
+        inl (tested_access touches uses fine number o found (placed.code refl))
+    first_access ByRuntime from words writes placed some =
+        inr (subst (λ (ts : List Touch). IsAccessed active (ts ++ own_touches call.heap writes) number o)
+        (sym (ap (λ b. cond b (option_map_or (λ object. own_touch number object ∷ []) (object_at call.heap number) [])
+        []) some ∙ ap (λ x. option_map_or (λ object. own_touch number object ∷ []) x []) found))
+        (own_accessed (own_touches call.heap writes)))
+
+    write_access_of : (writes : List Write) → ArePlaced (registering call.runtime) touches writes
+        → is_written_in writes number ≡ true → Either writes
+    write_access_of [] placed e = absurd cc
+    write_access_of (x ∷ writes) placed e =
+        by_first (write_access_of writes placed.1) (either_is (is_write_to number x) (is_written_in writes number) e)
+      where
+        by_first : (is_written_in writes number ≡ true → Either writes)
+            → (is_write_to number x ≡ true) ⊎ (is_written_in writes number ≡ true) → Either (x ∷ writes)
+        by_first rest (inl f) =
+            let g = both (has_words x.words) (x.object == number) f in
+            let same : number ≡ x.object = sym (eqb-true x.object number g.1) in
+            subst (λ (n : ℕ). Either (record { by = x.by; object = n; from = x.from; words = x.words } ∷ writes)) same
+            (first_access x.by x.from x.words writes
+            (subst (λ (n : ℕ). IsPlaced (registering call.runtime) touches x.by n) (sym same) placed.0) g.0)
+        by_first rest (inr f) = later_access x writes (rest f)
+
+  pub changes_accessed : (touches : List Touch) (writes : List Write) → AllByRecursion (IsUse w call) touches
+      → are_allowed touches ≡ true → ArePlaced (registering call.runtime) touches writes
+      → ChangesAccessed active (touches ++ own_touches call.heap writes) call.heap (written Word call.heap writes)
+  changes_accessed touches writes uses fine placed number o p before after =
+      by_written (is_written_in writes number) refl
     where
-      by_written : (b : Bool) → is_written_in writes number ≡ b → (c : Bool) → is_touched touches number ≡ c
-          → (p.cells ≡ o.cells) ⊎ IsAccessed (touches ++ own_touches touches call.heap writes) number o
-      by_written false e c f =
+      either_list : IsAccessed active touches number o ⊎ IsAccessed active (own_touches call.heap writes) number o
+          → IsAccessed active (touches ++ own_touches call.heap writes) number o
+      either_list (inl a) = accessed_in_front touches (own_touches call.heap writes) number o a
+      either_list (inr a) = accessed_behind touches (own_touches call.heap writes) number o a
+
+      by_written : (b : Bool) → is_written_in writes number ≡ b
+          → (p.cells ≡ o.cells) ⊎ IsAccessed active (touches ++ own_touches call.heap writes) number o
+      by_written false e =
           inl (ap (λ (x : Object TaggedValue). x.cells)
           (same_found (object_at call.heap number) o p before (sym (written_apart call.heap writes number e) ∙ after)))
-      by_written true e true f =
-          inr (accessed_in_front touches (own_touches touches call.heap writes) number o
-          (tested_access touches uses fine number o before f))
-      by_written true e false f =
-          inr (accessed_behind touches (own_touches touches call.heap writes) number o
-          (own_access touches writes number o before f e))
+      by_written true e =
+          inr (either_list (write_access_of touches uses fine number o before writes placed e))
 
   -- the runtime's own accesses
-  own_native : (x : Write) (o : Object TaggedValue) → object_at call.heap x.object ≡ Some o
-      → IsNativeTouch w call (own_touch x.object o)
-  own_native x o found =
-      record { active = inr refl; object = o; found = found; verdict = by_array (is_array o.kind.object) }
+  own_judged : (number : ℕ) (o : Object TaggedValue) → object_at call.heap number ≡ Some o
+      → is_runtimes (registering call.runtime) number ≡ true → Judged (own_touch number o)
+  own_judged number o found named =
+      record { active = (refl, named); object = o; found = found; verdict = by_array (is_array o.kind.object) }
     where
       by_array : (b : Bool) → Allowed ≡ verdict_of (cond b StoreComponent PutField) runtime_context
           (facts_in w.shapes call.selected o None false)
       by_array true = refl
       by_array false = refl
 
-  own_natives_of : (touches : List Touch) (x : Write)
-      → AllByRecursion (IsNativeTouch w call) (own_touch_of touches call.heap x)
-  own_natives_of touches x = by_touched (is_touched touches x.object) (object_at call.heap x.object) refl
+  touch_judged : (by : By) (number : ℕ) → (by ≡ ByRuntime → is_runtimes (registering call.runtime) number ≡ true)
+      → AllByRecursion Judged (touch_by by call.heap number)
+  touch_judged ByCode number named = tt
+  touch_judged ByRuntime number named = by_object (object_at call.heap number) refl
     where
-      by_touched : (b : Bool) (o : Option (Object TaggedValue)) → object_at call.heap x.object ≡ o
-          → AllByRecursion (IsNativeTouch w call)
-          (cond b [] (option_map_or (λ object. own_touch x.object object ∷ []) o []))
-      by_touched true o e = tt
-      by_touched false None e = tt
-      by_touched false (Some o) e = (own_native x o e, tt)
+      by_object : (o : Option (Object TaggedValue)) → object_at call.heap number ≡ o
+          → AllByRecursion Judged (option_map_or (λ object. own_touch number object ∷ []) o [])
+      by_object None e = tt
+      by_object (Some o) e = (own_judged number o e (named refl), tt)
 
-  own_natives : (touches : List Touch) (writes : List Write)
-      → AllByRecursion (IsNativeTouch w call) (own_touches touches call.heap writes)
-  own_natives touches [] = tt
-  own_natives touches (x ∷ writes) =
-      all_both (IsNativeTouch w call) (own_touch_of touches call.heap x) (own_touches touches call.heap writes)
-      (own_natives_of touches x) (own_natives touches writes)
+  if_words : (P : List Touch → Type 0) (b : Bool) (ts : List Touch) → P ts → P [] → P (cond b ts [])
+  if_words P true ts p q = p
+  if_words P false ts p q = q
 
-  own_allowed_of : (touches : List Touch) (x : Write) → are_allowed (own_touch_of touches call.heap x) ≡ true
-  own_allowed_of touches x = by_touched (is_touched touches x.object) (object_at call.heap x.object)
+  pub own_natives : (touches : List Touch) (writes : List Write)
+      → ArePlaced (registering call.runtime) touches writes
+      → AllByRecursion Judged (own_touches call.heap writes)
+  own_natives touches [] placed = tt
+  own_natives touches (x ∷ writes) placed =
+      all_both Judged (own_touch_of call.heap x) (own_touches call.heap writes)
+      (if_words (AllByRecursion Judged) (has_words x.words) (touch_by x.by call.heap x.object)
+      (touch_judged x.by x.object (placed.0).runtime) tt) (own_natives touches writes placed.1)
+
+  touch_allowed : (by : By) (number : ℕ) → are_allowed (touch_by by call.heap number) ≡ true
+  touch_allowed ByCode number = refl
+  touch_allowed ByRuntime number = by_object (object_at call.heap number)
     where
-      by_touched : (b : Bool) (o : Option (Object TaggedValue))
-          → are_allowed (cond b [] (option_map_or (λ object. own_touch x.object object ∷ []) o [])) ≡ true
-      by_touched true o = refl
-      by_touched false None = refl
-      by_touched false (Some o) = refl
+      by_object : (o : Option (Object TaggedValue))
+          → are_allowed (option_map_or (λ object. own_touch number object ∷ []) o []) ≡ true
+      by_object None = refl
+      by_object (Some o) = refl
 
-  own_allowed : (touches : List Touch) (writes : List Write) → are_allowed (own_touches touches call.heap writes) ≡ true
-  own_allowed touches [] = refl
-  own_allowed touches (x ∷ writes) =
-      allowed_both (own_touch_of touches call.heap x) (own_touches touches call.heap writes)
-      (own_allowed_of touches x) (own_allowed touches writes)
+  pub own_allowed : (writes : List Write) → are_allowed (own_touches call.heap writes) ≡ true
+  own_allowed [] = refl
+  own_allowed (x ∷ writes) =
+      allowed_both (own_touch_of call.heap x) (own_touches call.heap writes)
+      (if_words (λ ts. are_allowed ts ≡ true) (has_words x.words) (touch_by x.by call.heap x.object)
+      (touch_allowed x.by x.object) refl) (own_allowed writes)
 
 -- ---- room
 
@@ -583,7 +637,7 @@ cells_of_new : (heap : Heap TaggedValue) (object : Object TaggedValue)
 cells_of_new [] object = omega arith
 cells_of_new (o ∷ heap) object = let e = cells_of_new heap object in omega (arith, e)
 
-made_within : (limits : Limits) (heap : Heap TaggedValue) (object : Object TaggedValue) (size : ℕ)
+pub made_within : (limits : Limits) (heap : Heap TaggedValue) (object : Object TaggedValue) (size : ℕ)
     → length object.cells ≡ size → has_room limits.objects limits.cells heap size ≡ true
     → IsWithin limits (with_new heap object)
 made_within limits heap object size count room =
@@ -593,116 +647,3 @@ made_within limits heap object size count room =
     let one = length-append heap (object ∷ []) in
     let two = cells_of_new heap object in
     record { objects = omega (arith, objects, one); cells = omega (arith, cells, two, count) }
-
--- ---- answers
-
-module _ (w : World) (call : NativeCall Kept) where
-  -- nothing changes
-  unchanged_guarded : (touches : List Touch) (ends : NativeEnd) → AllByRecursion (IsUse w call) touches
-      → AreGuarded touches (IsRefusedAnswer call (unchanged call touches ends))
-      → IsGuardedAnswer w call (unchanged call touches ends)
-  unchanged_guarded touches ends uses guarded = record {
-    touches = natives_of w call touches uses;
-    guarded = guarded;
-    kept = keeps_itself call.heap;
-    changes = λ number o p before after.
-        inl (ap (λ (x : Object TaggedValue). x.cells) (same_found (object_at call.heap number) o p before after));
-    room = λ within. within;
-    calls = λ callback e. record { heap = refl; runtime = refl };
-  }
-
-  pub no_call : (ending : Ending) (callback : Callback) → end_of ending ≡ Calls callback → ⊥
-  no_call NoResult callback e = cc
-  no_call (GivesWord word) callback e = cc
-  no_call (GivesReference number) callback e = cc
-  no_call (Throws object) callback e = cc
-
-  did_guarded : (touches : List Touch) (writes : List Write) (k : Kept) (ending : Ending)
-      → AllByRecursion (IsUse w call) touches → are_allowed touches ≡ true
-      → IsGuardedAnswer w call (did call touches writes k ending)
-  did_guarded touches writes k ending uses fine =
-      let large = written_as_large call.heap writes in
-      record {
-        touches = all_both (IsNativeTouch w call) touches (own_touches touches call.heap writes)
-            (natives_of w call touches uses) (own_natives w call touches writes);
-        guarded = allowed (allowed_both touches (own_touches touches call.heap writes) fine
-            (own_allowed w call touches writes));
-        kept = keeps_written call.heap writes;
-        changes = changes_accessed w call touches writes uses fine;
-        room = λ within.
-            let o = within.objects in
-            let c = within.cells in
-            let a = large.objects in
-            let b = large.cells in
-            record { objects = omega (arith, o, a); cells = omega (arith, c, b) };
-        calls = λ callback e. absurd (no_call ending callback e);
-      }
-
-  made_guarded : (touches : List Touch) (array : NewArray) → AllByRecursion (IsUse w call) touches
-      → are_allowed touches ≡ true → has_room call.limits.objects call.limits.cells call.heap array.size ≡ true
-      → IsGuardedAnswer w call (made call touches array)
-  made_guarded touches array uses fine room = record {
-    touches = natives_of w call touches uses;
-    guarded = allowed fine;
-    kept = keeps_new call.heap (new_array call.active array);
-    changes = λ number o p before after. inl (stays number o p before after);
-    room = λ within. made_within call.limits call.heap (new_array call.active array) array.size
-        (length-replicate array.size _) room;
-    calls = λ callback e. absurd cc;
-  }
-    where
-      stays : (number : ℕ) (o p : Object TaggedValue) → object_at call.heap number ≡ Some o
-          → object_at (with_new call.heap (new_array call.active array)) number ≡ Some p → p.cells ≡ o.cells
-      stays zero o p before after = absurd (none-some o before)
-      stays (suc n) o p before after =
-          ap (λ (x : Object TaggedValue). x.cells)
-          (same_found (slice_get (call.heap ++ new_array call.active array ∷ []) n) o p
-          (got_front call.heap (new_array call.active array ∷ []) n o before) after)
-
-  done_guarded : (touches : List Touch) (work : Work) → AllByRecursion (IsUse w call) touches
-      → are_allowed touches ≡ true
-      → IsGuardedAnswer w call (done call touches
-      (with_room call.limits.objects call.limits.cells call.heap call.runtime work))
-  done_guarded touches (Does writes k ending) uses fine = did_guarded touches writes k ending uses fine
-  done_guarded touches (Makes array) uses fine =
-      by_room (has_room call.limits.objects call.limits.cells call.heap array.size) refl
-    where
-      by_room : (b : Bool) → has_room call.limits.objects call.limits.cells call.heap array.size ≡ b
-          → IsGuardedAnswer w call (done call touches (array_or_refusal b array call.runtime))
-      by_room true e = made_guarded touches array uses fine e
-      by_room false e =
-          did_guarded touches (record { object = system_exception; from = 0; words = no_transient_space ∷ [] } ∷ [])
-          call.runtime (Throws system_exception) uses fine
-  done_guarded touches (Asks question) uses fine = unchanged_guarded touches _ uses (allowed fine)
-
-  ended_guarded : (t : Tested) (work : Work) → AreUses w call t
-      → IsGuardedAnswer w call (ended call t.touches t.thrown work)
-  ended_guarded t work are = by_thrown t.thrown refl are.verdicts
-    where
-      by_thrown : (thrown : Option ℕ) → t.thrown ≡ thrown → (are_allowed t.touches ≡ true) ⊎ Refuses t
-          → IsGuardedAnswer w call (ended call t.touches thrown work)
-      by_thrown (Some object) e (inl fine) = unchanged_guarded t.touches (ThrowsObject object) are.uses (allowed fine)
-      by_thrown (Some object) e (inr refuses) =
-          unchanged_guarded t.touches (ThrowsObject object) are.uses
-          (denied refuses.0 (record {
-            unchanged = record { heap = refl; runtime = refl };
-            throws = ap ThrowsObject (same_Some object security_exception (sym e ∙ refuses.1));
-          }))
-      by_thrown None e (inl fine) = done_guarded t.touches work are.uses fine
-      by_thrown None e (inr refuses) = absurd (none-some security_exception (sym e ∙ refuses.1))
-
-  begun_guarded : (o : Option Native) → IsGuardedAnswer w call (begun w call o)
-  begun_guarded None = unchanged_guarded [] IsStuck tt (allowed refl)
-  begun_guarded (Some native) =
-      ended_guarded (tested (seen_of w call) (arguments_of call) (row_of native))
-      (work_of (seen_of w call) call.runtime (arguments_of call) native)
-      (tested_uses w call (arguments_of call) (row_of native))
-
--- each answer is guarded
-pub answers_guarded : (w : World) (call : NativeCall Kept) → IsGuardedAnswer w call (answer_of w call)
-answers_guarded w call = by_begin (native_may_begin w.shapes call.heap call.member call.arguments)
-  where
-    by_begin : (b : Bool) → IsGuardedAnswer w call (cond b (begun w call (numbered natives call.member))
-        (unchanged call [] IsStuck))
-    by_begin true = begun_guarded w call (numbered natives call.member)
-    by_begin false = unchanged_guarded w call [] IsStuck tt (allowed refl)

@@ -31,7 +31,7 @@ use Rattle.jc_natives.proofs.ApiTypes.{IsDeclared, is_declared}
 use Rattle.jc_natives.proofs.Facts.{AreTyped}
 use Rattle.jc_natives.proofs.FitWrites.{Known}
 use Rattle.jc_natives.proofs.Fits.{begun_fits}
-use Rattle.jc_natives.proofs.Guarding.{answers_guarded}
+use Rattle.jc_natives.proofs.Answering.{answers_guarded}
 use Rattle.jc_natives.proofs.Keeping.{kept_fits_still}
 use Rattle.jc_natives.proofs.Simulation.{Begins, begins_of}
 use Rattle.jc_natives.proofs.Suits.{suits}

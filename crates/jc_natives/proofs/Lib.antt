@@ -5,6 +5,7 @@ mod Parts
 mod Room
 mod Bare
 mod Simulation
+mod Changed
 mod Guarding
 mod Keeping
 mod Numbers
@@ -21,6 +22,7 @@ mod Loading
 mod Between
 mod Reaching
 mod Spared
+mod Answering
 mod Apart
 mod Owning
 mod Passing

@@ -10,9 +10,11 @@ use Rattle.std.specs.List.{AllByRecursion, list_all}
 use Rattle.std.specs.Option.{option_map, option_map_or}
 use Rattle.jc_api.specs.Numbered.{numbered}
 use Rattle.jc_machine.specs.Apart.{is_applets}
+use Rattle.jc_machine.specs.Guarded.{may_change}
+use Rattle.jc_machine.specs.Machine.{By, ByCode, ByRuntime}
 use Rattle.jc_machine.specs.Runtime.{apdu_buffer, apdu_exception, iso_exception, most_instances, system_exception}
 use Rattle.jc_natives.proofs.Bare.{both}
-use Rattle.jc_natives.proofs.Guarding.{either_is}
+use Rattle.jc_natives.proofs.Changed.{either_is}
 use Rattle.jc_natives.proofs.Keeping.{both_are}
 use Rattle.jc_natives.specs.Aids.{aid_work}
 use Rattle.jc_natives.specs.Apdus.{apdu_work, is_fresh, is_in_buffer, is_incoming, is_length_set, is_outgoing, sends}
@@ -25,6 +27,7 @@ use Rattle.jc_natives.specs.Meaning.{array_or_refusal, with_room, work_of}
 use Rattle.jc_natives.specs.Objects.{object_work}
 use Rattle.jc_natives.specs.Rows.{aid_row, natives, object_row, row_of, utility_row}
 use Rattle.jc_natives.specs.Seen.{Seen}
+use Rattle.jc_natives.specs.Tests.{access_of}
 use Rattle.jc_natives.specs.System.{asks, makes, may_make, system_work}
 use Rattle.jc_natives.specs.Utilities.{utility_work}
 use Rattle.jc_natives.specs.Work.{Asks, Does, Makes, Work, bad_length, buffer_bounds, illegal_aid, illegal_transient}
@@ -111,21 +114,26 @@ with_instance_named k i e f =
 
 -- ---- works
 
--- the objects of the runtime's that members write
-pub record SparesOwn (Spared : ℕ → Type 0) : Type 0 where
-  pub iso : Spared iso_exception
-  pub system : Spared system_exception
-  pub apdu : Spared apdu_exception
-  pub buffer : Spared apdu_buffer
-  pub aids : (number : ℕ) → is_instance_number number ≡ true → Spared (aid_object number)
+-- the objects of the runtime's that members write in its name, where this is kept
+pub record SparesOwn (Spared : By → ℕ → Type 0) (k : Kept) : Type 0 where
+  pub iso : Spared ByRuntime iso_exception
+  pub system : Spared ByRuntime system_exception
+  pub apdu : Spared ByRuntime apdu_exception
+  pub buffer : Spared ByRuntime apdu_buffer
+  pub registers : (i : Installing) → k.installing ≡ Some i → Spared ByRuntime (aid_object i.owner.instance)
 
-module _ (Spared : ℕ → Type 0) where
-  -- each object that is written is spared, and what is kept names applets
+module _ (Spared : By → ℕ → Type 0) (s : Seen) (k : Kept) where
+  -- each object that is written is spared
   abbrev pub AreSpared : List Write → Type 0
-  AreSpared writes = AllByRecursion (λ (x : Write). Spared x.object) writes
+  AreSpared writes = AllByRecursion (λ (x : Write). Spared x.by x.object) writes
+
+  -- what is kept names applets still, where objects of numbered instances are of applets
+  abbrev pub StaysNamed : Kept → Type 0
+  StaysNamed after = ((number : ℕ) → is_instance_number (owner_of s.objects number).instance ≡ true
+      → is_applets (owner_of s.objects number) ≡ true) → names_applets k ≡ true → names_applets after ≡ true
 
   abbrev pub IsApartWork : Work → Type 0
-  IsApartWork (Does writes k ending) = AreSpared writes × (names_applets k ≡ true)
+  IsApartWork (Does writes after ending) = AreSpared writes × StaysNamed after
   IsApartWork (Makes array) = ⊤
   IsApartWork (Asks question) = ⊤
 
@@ -133,49 +141,51 @@ module _ (Spared : ℕ → Type 0) where
   either_apart true x y p q = p refl
   either_apart false x y p q = q
 
-  -- an object that a row tests, whatever it is
+  -- an object that a row tests, by a way in which it may change
   abbrev pub AreTested : List ℕ → Row → Type 0
-  AreTested args row = (place : ℕ) (way : Way)
-      → (row.first ≡ tests.Object place way) ⊎ (row.second ≡ tests.Object place way) → Spared (argument args place)
+  AreTested args row = (place : ℕ) (way : Way) → may_change (access_of way) ≡ true
+      → (row.first ≡ tests.Object place way) ⊎ (row.second ≡ tests.Object place way)
+      → Spared ByCode (argument args place)
 
-  module _ (own : SparesOwn Spared) (s : Seen) (k : Kept) (args : List ℕ) (kept : names_applets k ≡ true)
-      (owners : (number : ℕ) → is_instance_number (owner_of s.objects number).instance ≡ true
-      → is_applets (owner_of s.objects number) ≡ true)
-    where
+  kept : StaysNamed k
+  kept owners e = e
+
+  module _ (own : SparesOwn Spared k) (args : List ℕ) where
       system_apart : (reason : ℕ) → IsApartWork (throws_system k reason)
       system_apart reason = ((own.system, tt), kept)
 
       apdu_apart : (reason : ℕ) → IsApartWork (throws_apdu k reason)
       apdu_apart reason = ((own.apdu, tt), kept)
 
-      exception_spared : (object : ℕ) → is_own_exception object ≡ true → Spared object
+      exception_spared : (object : ℕ) → is_own_exception object ≡ true → Spared ByRuntime object
       exception_spared object e =
           by_first (either_is (object == iso_exception) (object == system_exception || object == apdu_exception) e)
         where
-          by_second : ((object == system_exception) ≡ true) ⊎ ((object == apdu_exception) ≡ true) → Spared object
-          by_second (inl f) = subst Spared (sym (eqb-true object system_exception f)) own.system
-          by_second (inr f) = subst Spared (sym (eqb-true object apdu_exception f)) own.apdu
+          by_second : ((object == system_exception) ≡ true) ⊎ ((object == apdu_exception) ≡ true)
+              → Spared ByRuntime object
+          by_second (inl f) = subst (Spared ByRuntime) (sym (eqb-true object system_exception f)) own.system
+          by_second (inr f) = subst (Spared ByRuntime) (sym (eqb-true object apdu_exception f)) own.apdu
 
           by_first : ((object == iso_exception) ≡ true)
-              ⊎ ((object == system_exception || object == apdu_exception) ≡ true) → Spared object
-          by_first (inl f) = subst Spared (sym (eqb-true object iso_exception f)) own.iso
+              ⊎ ((object == system_exception || object == apdu_exception) ≡ true) → Spared ByRuntime object
+          by_first (inl f) = subst (Spared ByRuntime) (sym (eqb-true object iso_exception f)) own.iso
           by_first (inr f) = by_second (either_is (object == system_exception) (object == apdu_exception) f)
 
       object_apart : (native : ObjectNative) → object_throws_own native ≡ true → AreTested args (object_row native)
           → IsApartWork (object_work s k args native)
       object_apart objects.Construct e tested = (tt, kept)
       object_apart objects.Equals e tested = (tt, kept)
-      object_apart objects.ConstructWithReason e tested = ((tested 0 ways.Fields (inl refl), tt), kept)
+      object_apart objects.ConstructWithReason e tested = ((tested 0 ways.Fields refl (inl refl), tt), kept)
       object_apart objects.GetReason e tested = (tt, kept)
-      object_apart objects.SetReason e tested = ((tested 0 ways.Calls (inl refl), tt), kept)
+      object_apart objects.SetReason e tested = ((tested 0 ways.Calls refl (inl refl), tt), kept)
       object_apart (objects.ThrowIt object) e tested = ((exception_spared object e, tt), kept)
 
       aid_apart : (native : AidNative) → AreTested args (aid_row native) → IsApartWork (aid_work s k args native)
       aid_apart aids.Construct tested =
           either_apart (has_aid_length (extended (argument args 3))) _ _
-          (λ e. ((tested 0 ways.Fields (inl refl), tt), kept)) (system_apart illegal_value)
+          (λ e. ((tested 0 ways.Fields refl (inl refl), tt), kept)) (system_apart illegal_value)
       aid_apart aids.Equals tested = (tt, kept)
-      aid_apart aids.GetBytes tested = ((tested 1 ways.Stores (inr refl), tt), kept)
+      aid_apart aids.GetBytes tested = ((tested 1 ways.Stores refl (inr refl), tt), kept)
 
       sends_apart : (array offset count : ℕ) → IsApartWork (sends s k array offset count)
       sends_apart array offset count =
@@ -207,10 +217,10 @@ module _ (Spared : ℕ → Type 0) where
 
       -- the instance that is being installed, where an object may register in its name
       record May (object : ℕ) (i : Installing) : Type 0 where
-        installs : installs_applet i ≡ true
+        installing : k.installing ≡ Some i
         number : ((owner_of s.objects object).instance == i.owner.instance) ≡ true
 
-      may_of : (object : ℕ) (o : Option Installing) (i : Installing) → option_map_or installs_applet o true ≡ true
+      may_of : (object : ℕ) (o : Option Installing) (i : Installing) → k.installing ≡ o
           → allowed s object o ≡ Some i → May object i
       may_of object None i e f = absurd (none-some i f)
       may_of object (Some j) i e f = by_test (may_register s object j) refl f
@@ -218,19 +228,28 @@ module _ (Spared : ℕ → Type 0) where
           by_test : (b : Bool) → may_register s object j ≡ b → cond b (Some j) None ≡ Some i → May object i
           by_test true g h =
               subst (May object) (same_Some j i h) (record {
-                installs = e;
+                installing = e;
                 number = (both (not j.registered) ((owner_of s.objects object).instance == j.owner.instance) g).1;
               })
           by_test false g h = absurd (none-some i h)
 
+      -- it has a number
+      is_numbered : (object : ℕ) (i : Installing) → May object i → names_applets k ≡ true
+          → is_instance_number (owner_of s.objects object).instance ≡ true
+      is_numbered object i may named =
+          let installs : option_map_or installs_applet k.installing true ≡ true =
+          (both (list_all of_applet k.instances) (option_map_or installs_applet k.installing true) named).1 in
+          let its : installs_applet i ≡ true =
+          ap (λ (o : Option Installing). option_map_or installs_applet o true) (sym may.installing) ∙ installs in
+          ap is_instance_number (eqb-true (owner_of s.objects object).instance i.owner.instance may.number)
+          ∙ (both (is_applets i.owner) (is_instance_number i.owner.instance) its).1
+
       registers_apart : (object : ℕ) (aid : List ℕ) (i : Installing) → May object i
           → IsApartWork (registers s k i.owner.instance object aid)
       registers_apart object aid i may =
-          let own_number = (both (is_applets i.owner) (is_instance_number i.owner.instance) may.installs).1 in
-          let number = ap is_instance_number (eqb-true (owner_of s.objects object).instance i.owner.instance may.number)
-          ∙ own_number in
           either_apart (not (is_some (instance_with k.instances aid)) && nat_lt (length k.instances) most_instances) _ _
-          (λ e. ((own.aids i.owner.instance own_number, tt), with_instance_named k _ kept (owners object number)))
+          (λ e. ((own.registers i may.installing, tt), λ owners named.
+          with_instance_named k _ named (owners object (is_numbered object i may named))))
           (system_apart illegal_aid)
 
       on_allowed_apart : (object : ℕ) (go : Installing → Work)
@@ -238,12 +257,9 @@ module _ (Spared : ℕ → Type 0) where
           → IsApartWork (on_allowed k (allowed s object k.installing) go)
       on_allowed_apart object go each = by_option (allowed s object k.installing) refl
         where
-          installs : option_map_or installs_applet k.installing true ≡ true
-          installs = (both (list_all of_applet k.instances) (option_map_or installs_applet k.installing true) kept).1
-
           by_option : (o : Option Installing) → allowed s object k.installing ≡ o → IsApartWork (on_allowed k o go)
           by_option None e = system_apart illegal_aid
-          by_option (Some i) e = each i (may_of object k.installing i installs e)
+          by_option (Some i) e = each i (may_of object k.installing i refl e)
 
       applet_apart : (native : AppletNative) → IsApartWork (applet_work s k args native)
       applet_apart applets.Register =
@@ -281,11 +297,11 @@ module _ (Spared : ℕ → Type 0) where
 
       utility_apart : (native : UtilityNative) → AreTested args (utility_row native)
           → IsApartWork (utility_work s k args native)
-      utility_apart utilities.ArrayCopy tested = ((tested 2 ways.Stores (inr refl), tt), kept)
-      utility_apart utilities.ArrayFill tested = ((tested 0 ways.Stores (inl refl), tt), kept)
+      utility_apart utilities.ArrayCopy tested = ((tested 2 ways.Stores refl (inr refl), tt), kept)
+      utility_apart utilities.ArrayFill tested = ((tested 0 ways.Stores refl (inl refl), tt), kept)
       utility_apart utilities.ArrayCompare tested = (tt, kept)
       utility_apart utilities.GetShort tested = (tt, kept)
-      utility_apart utilities.SetShort tested = ((tested 0 ways.Stores (inl refl), tt), kept)
+      utility_apart utilities.SetShort tested = ((tested 0 ways.Stores refl (inl refl), tt), kept)
       utility_apart utilities.MakeShort tested = (tt, kept)
 
       pub work_apart : (native : Native) → throws_own native ≡ true → AreTested args (row_of native)

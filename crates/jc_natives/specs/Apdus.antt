@@ -7,7 +7,7 @@ use Rattle.jc_natives.specs.Cells.{argument, is_within, size_of}
 use Rattle.jc_natives.specs.Kept.{Kept, expected_of, most_sent, with_announced, with_sent, with_state}
 use Rattle.jc_natives.specs.Seen.{Seen}
 use Rattle.jc_natives.specs.Work.{GivesReference, GivesWord, NoResult, Work, bad_length, buffer_bounds, gives}
-use Rattle.jc_natives.specs.Work.{illegal_use, unless_apdu, writes_to}
+use Rattle.jc_natives.specs.Work.{illegal_use, unless_apdu, writes_own}
 use Rattle.jc_natives.specs.declared.kept.ApduState.{ApduState}
 use Rattle.jc_natives.specs.declared.kept.ApduState.TheVariants.{Closed, Fresh, LengthSet, Outgoing, Received}
 use Rattle.jc_natives.specs.declared.native.ApduNative.{ApduNative}
@@ -79,7 +79,7 @@ abbrev pub apdu_work : Seen → Kept → List ℕ → ApduNative → Work
 apdu_work s k arguments GetBuffer = gives k (GivesReference apdu_buffer)
 apdu_work s k arguments SetIncomingAndReceive =
     in_state k (is_fresh k.state)
-    (writes_to (with_state k Received) apdu_buffer data_offset k.incoming (GivesWord (length k.incoming)))
+    (writes_own (with_state k Received) apdu_buffer data_offset k.incoming (GivesWord (length k.incoming)))
 apdu_work s k arguments SetOutgoing =
     in_state k (is_incoming k.state) (gives (with_state k Outgoing) (GivesWord (expected_of k)))
 apdu_work s k arguments SetOutgoingLength =

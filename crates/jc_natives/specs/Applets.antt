@@ -10,7 +10,7 @@ use Rattle.jc_natives.specs.Cells.{argument, bit, extended}
 use Rattle.jc_natives.specs.Kept.{Kept, has_aid_length, instance_with, with_instance}
 use Rattle.jc_natives.specs.Seen.{Seen}
 use Rattle.jc_natives.specs.Work.{GivesReference, GivesWord, NoResult, Work, gives, illegal_aid, illegal_value}
-use Rattle.jc_natives.specs.Work.{throws_system, unless_system, writes_to}
+use Rattle.jc_natives.specs.Work.{throws_system, unless_system, writes_own}
 use Rattle.jc_natives.specs.declared.kept.Installing.{Installing}
 use Rattle.jc_natives.specs.declared.native.AppletNative.{AppletNative}
 use Rattle.jc_natives.specs.declared.native.AppletNative.TheVariants.{Deselect, GetShareable, Process, Register}
@@ -40,7 +40,7 @@ abbrev pub registers : Seen → Kept → ℕ → ℕ → List ℕ → Work
 registers s k number object aid =
     unless_system k illegal_aid
     (not (is_some (instance_with k.instances aid)) && nat_lt (length k.instances) most_instances)
-    (writes_to (with_instance k (record { aid = aid; object = object; owner = owner_of s.objects object }))
+    (writes_own (with_instance k (record { aid = aid; object = object; owner = owner_of s.objects object }))
     (aid_object number) 0 (length aid ∷ aid) NoResult)
 
 abbrev pub on_allowed : Kept → Option Installing → (Installing → Work) → Work

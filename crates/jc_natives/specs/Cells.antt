@@ -3,6 +3,7 @@
 use Rattle.std.specs.Prelude.{ℕ, zero, suc, ◌+◌, ◌*◌, ◌/◌, ◌%◌, ◌&&◌, Bool, true, false, List, [], ◌∷◌, length, map}
 use Rattle.std.specs.Prelude.{Option, Some, None, get_or, nat_le, nat_lt, unwrap_or, if◌then◌else◌}
 use Rattle.std.specs.Option.{option_map_or}
+use Rattle.jc_machine.specs.Machine.{By}
 use Rattle.jc_store.specs.Heap.{Heap, Object, cells_in, object_at, with_cell, with_object}
 use Rattle.jc_words.specs.Values.{Null, Ref, TaggedValue, Unset, Word}
 
@@ -108,8 +109,9 @@ abbrev pub put_all : {V : Type 0} → Heap V → ℕ → ℕ → List V → Heap
 put_all heap number from [] = heap
 put_all heap number from (value ∷ values) = put_all (put heap number from value) number (from + 1) values
 
--- words that are written to an object, from an index on
+-- words that are written to an object, from an index on: by the member's caller, or by the runtime in its own name
 pub record Write : Type 0 where
+  pub by : By
   pub object : ℕ
   pub from : ℕ
   pub words : List ℕ

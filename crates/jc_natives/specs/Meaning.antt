@@ -1,25 +1,25 @@
 -- What the native members mean: each tests its arguments, and then does its work.
 use Rattle.std.specs.Prelude.{ℕ, ◌==◌, ◌&&◌, Bool, false, true, List, [], ◌∷◌, ◌++◌, length, Option, Some, None, nat_le}
 use Rattle.std.specs.Prelude.{nat_lt, replicate, if◌then◌else◌}
-use Rattle.std.specs.List.{list_all, list_any}
-use Rattle.std.specs.Option.{option_map_or}
+use Rattle.std.specs.List.{list_all}
+use Rattle.std.specs.Option.{option_map, option_map_or}
 use Rattle.jc_api.specs.Numbered.{numbered}
 use Rattle.jc_api.specs.declared.class.ApiClass.TheVariants.{Applet}
 use Rattle.jc_cap_desc.specs.Shape.{Shape}
-use Rattle.jc_firewall.specs.Verdict.{runtime_context}
 use Rattle.jc_firewall.specs.declared.access.Access.{Access}
 use Rattle.jc_firewall.specs.declared.access.Access.TheVariants.{PutField, StoreComponent}
-use Rattle.jc_firewall.specs.declared.access.Verdict.TheVariants.{Allowed}
 use Rattle.jc_link.specs.Linked.{World}
 use Rattle.jc_machine.specs.Calls.{native_may_begin}
 use Rattle.jc_machine.specs.Lookup.{is_array, is_of_class}
-use Rattle.jc_machine.specs.Machine.{Calls, Gives, IsStuck, NativeAnswer, NativeCall, NativeEnd, Natives, ThrowsObject}
-use Rattle.jc_machine.specs.Machine.{Touch}
+use Rattle.jc_machine.specs.Going.{runtime_touch}
+use Rattle.jc_machine.specs.Machine.{By, ByCode, ByRuntime, Calls, Gives, IsStuck, NativeAnswer, NativeCall, NativeEnd}
+use Rattle.jc_machine.specs.Machine.{Natives, ThrowsObject, Touch}
+use Rattle.jc_machine.specs.Natives.{shareable_member}
 use Rattle.jc_names.specs.declared.name.ClassName.TheVariants.{Api}
 use Rattle.jc_names.specs.declared.owner.Owner.{Owner}
 use Rattle.jc_natives.specs.Aids.{aid_work}
 use Rattle.jc_natives.specs.Apdus.{apdu_work}
-use Rattle.jc_natives.specs.Applets.{applet_work}
+use Rattle.jc_natives.specs.Applets.{aid_object, applet_work}
 use Rattle.jc_natives.specs.Cells.{Write, has_room, written}
 use Rattle.jc_natives.specs.Kept.{Kept, are_bytes, is_aid, is_instance_number, is_same_owner}
 use Rattle.jc_natives.specs.Objects.{object_work}
@@ -79,25 +79,28 @@ new_array owner array = record {
 
 -- ---- the runtime's own accesses
 
--- an object that is written is one that was tested, or the runtime writes it in its own name
-abbrev pub is_touched : List Touch → ℕ → Bool
-is_touched touches number = list_any (λ (t : Touch). t.object == number) touches
-
+-- by which components are written
 abbrev pub write_access : Object TaggedValue → Access
 write_access object = if is_array object.kind.object then StoreComponent else PutField
 
 abbrev pub own_touch : ℕ → Object TaggedValue → Touch
-own_touch number object =
-    record { active = runtime_context; access = write_access object; object = number; verdict = Allowed }
+own_touch number object = runtime_touch (write_access object) number
 
-abbrev pub own_touch_of : List Touch → Heap TaggedValue → Write → List Touch
-own_touch_of touches heap w =
-    if is_touched touches w.object then []
-    else option_map_or (λ object. own_touch w.object object ∷ []) (object_at heap w.object) []
+-- what the caller writes is what was tested; a write of no words is none
+abbrev pub touch_by : By → Heap TaggedValue → ℕ → List Touch
+touch_by ByCode heap number = []
+touch_by ByRuntime heap number = option_map_or (λ object. own_touch number object ∷ []) (object_at heap number) []
 
-abbrev pub own_touches : List Touch → Heap TaggedValue → List Write → List Touch
-own_touches touches heap [] = []
-own_touches touches heap (w ∷ writes) = own_touch_of touches heap w ++ own_touches touches heap writes
+abbrev pub has_words : List ℕ → Bool
+has_words [] = false
+has_words (word ∷ words) = true
+
+abbrev pub own_touch_of : Heap TaggedValue → Write → List Touch
+own_touch_of heap w = if has_words w.words then touch_by w.by heap w.object else []
+
+abbrev pub own_touches : Heap TaggedValue → List Write → List Touch
+own_touches heap [] = []
+own_touches heap (w ∷ writes) = own_touch_of heap w ++ own_touches heap writes
 
 -- ---- answers
 
@@ -107,7 +110,7 @@ unchanged call touches ends = record { touches = touches; heap = call.heap; runt
 
 abbrev pub did : NativeCall Kept → List Touch → List Write → Kept → Ending → NativeAnswer Kept
 did call touches writes k ending = record {
-  touches = touches ++ own_touches touches call.heap writes;
+  touches = touches ++ own_touches call.heap writes;
   heap = written Word call.heap writes;
   runtime = k;
   ends = end_of ending;
@@ -121,14 +124,11 @@ made call touches array = record {
   ends = Gives (Some (Ref (next_number call.heap)));
 }
 
--- the member that applets answer such a question by: getShareableInterfaceObject
-abbrev pub answering_member : ℕ
-answering_member = 40
-
+-- applets answer such a question by getShareableInterfaceObject
 abbrev pub asked : NativeCall Kept → List Touch → Question → NativeAnswer Kept
 asked call touches q =
     unchanged call touches
-    (Calls (record { member = answering_member; object = q.object; arguments = reference q.aid ∷ Word q.word ∷ [] }))
+    (Calls (record { member = shareable_member; object = q.object; arguments = reference q.aid ∷ Word q.word ∷ [] }))
 
 -- an array is made where there is room for it
 abbrev pub array_or_refusal : Bool → NewArray → Kept → Work
@@ -188,7 +188,11 @@ fits_kept w heap k =
     list_all (fits_instance w.shapes heap) k.instances && option_map_or fits_installing k.installing true
     && fits_command k
 
+-- the AID object that is written where the instance registers that is being installed
+abbrev pub registering : Kept → Option ℕ
+registering k = option_map (λ (i : Installing). aid_object i.owner.instance) k.installing
+
 -- ---- the members
 
 abbrev pub meaning : Natives Kept
-meaning = record { answer = answer_of; fits = fits_kept }
+meaning = record { answer = answer_of; fits = fits_kept; registers = registering }

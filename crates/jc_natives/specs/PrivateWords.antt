@@ -8,7 +8,8 @@ use Rattle.jc_machine.specs.declared.natives.WordOutcome.TheVariants.{CallsBack,
 use Rattle.jc_names.specs.declared.owner.Owner.{Owner}
 use Rattle.jc_natives.specs.Cells.{Write, put_all}
 use Rattle.jc_natives.specs.Kept.{Kept}
-use Rattle.jc_natives.specs.Meaning.{answering_member, with_room, work_of}
+use Rattle.jc_natives.specs.Meaning.{with_room, work_of}
+use Rattle.jc_machine.specs.Natives.{shareable_member}
 use Rattle.jc_natives.specs.Rows.{row_of}
 use Rattle.jc_natives.specs.Seen.{Seen}
 use Rattle.jc_natives.specs.Tests.{tested}
@@ -89,7 +90,7 @@ word_work s k arguments (Some native) = native_work s k arguments native
 
 -- a question as a call, and an end as it is told
 pub record AsksSo (callback : WordCallback) (q : Question) : Type 0 where
-  pub member : callback.member ≡ answering_member
+  pub member : callback.member ≡ shareable_member
   pub object : callback.object ≡ q.object
   pub arguments : callback.arguments.items ≡ q.aid ∷ q.word ∷ []
 

@@ -9,7 +9,7 @@ use Rattle.jc_firewall.specs.declared.access.Facts.{Facts}
 use Rattle.jc_firewall.specs.declared.access.Verdict.{Verdict}
 use Rattle.jc_firewall.specs.declared.access.Verdict.TheVariants.{Allowed, AllowedSwitch, Denied}
 use Rattle.jc_machine.specs.Lookup.{is_array}
-use Rattle.jc_machine.specs.Machine.{Touch}
+use Rattle.jc_machine.specs.Machine.{ByCode, Touch}
 use Rattle.jc_machine.specs.Runtime.{array_index_exception, null_pointer_exception, security_exception}
 use Rattle.jc_natives.specs.Cells.{aid_count, argument, extended, is_within, size_of}
 use Rattle.jc_natives.specs.Seen.{Seen, is_aid_object}
@@ -69,8 +69,15 @@ facts_of s object = record {
 }
 
 abbrev pub touch_of : Seen → Way → ℕ → Verdict → Touch
-touch_of s way number verdict =
-    record { active = s.active.context; access = access_of way; object = number; verdict = verdict }
+touch_of s way number verdict = record {
+  by = ByCode;
+  active = s.active.context;
+  access = access_of way;
+  object = number;
+  stored = None;
+  wanted = None;
+  verdict = verdict;
+}
 
 -- a denied access is the last, and throws
 abbrev pub by_verdict : Seen → Way → ℕ → Verdict → Tested

@@ -1,6 +1,7 @@
 -- What a native member does once its tests have passed, and how a work that is refused ends.
 use Rattle.std.specs.Prelude.{ℕ, Bool, List, [], ◌∷◌, if◌then◌else◌}
 use Rattle.jc_api.specs.declared.class.ApiClass.TheVariants.{Object}
+use Rattle.jc_machine.specs.Machine.{ByCode, ByRuntime}
 use Rattle.jc_machine.specs.Runtime.{apdu_exception, system_exception}
 use Rattle.jc_names.specs.declared.name.ClassName.TheVariants.{Api}
 use Rattle.jc_natives.specs.Cells.{Write}
@@ -45,13 +46,19 @@ gives k ending = Does [] k ending
 abbrev pub throws : Kept → ℕ → Work
 throws k object = Does [] k (Throws object)
 
--- words are written to an object
+-- words are written to an object, by the caller
 abbrev pub writes_to : Kept → ℕ → ℕ → List ℕ → Ending → Work
-writes_to k object from words ending = Does (record { object = object; from = from; words = words } ∷ []) k ending
+writes_to k object from words ending =
+    Does (record { by = ByCode; object = object; from = from; words = words } ∷ []) k ending
+
+-- to an object of the runtime's, by the runtime
+abbrev pub writes_own : Kept → ℕ → ℕ → List ℕ → Ending → Work
+writes_own k object from words ending =
+    Does (record { by = ByRuntime; object = object; from = from; words = words } ∷ []) k ending
 
 -- the runtime sets the reason of one of its exceptions, and throws it
 abbrev pub throws_with : Kept → ℕ → ℕ → Work
-throws_with k object reason = writes_to k object 0 (reason ∷ []) (Throws object)
+throws_with k object reason = writes_own k object 0 (reason ∷ []) (Throws object)
 
 -- ---- reasons (Java Card API Specification, SystemException, APDUException)
 

@@ -23,9 +23,9 @@ use jc_link::growing_keeps_linking;
 
 /// Each access of a native member is allowed, or is its last and changes nothing; and only objects change that were
 /// accessed. It does nothing.
-#[tactic(auto, using(crate::proofs::Guarding::answers_guarded))]
+#[tactic(auto, using(crate::proofs::Answering::answers_guarded))]
 pub fn members_are_guarded()
-    ensures { (w : World) (call : NativeCall Kept) → IsGuardedAnswer w call (meaning.answer w call) }
+    ensures { (w : World) (call : NativeCall Kept) → IsGuardedAnswer meaning w call (meaning.answer w call) }
 {}
 
 /// What the runtime keeps fits the objects as long as these stay. It does nothing.

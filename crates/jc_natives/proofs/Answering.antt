@@ -1,0 +1,376 @@
+-- Each answer of a native member is guarded.
+use Rattle.std.proofs.Common.{◌≡◌, ◌≢◌, ◌⊎◌, inl, inr, ℕ, zero, suc, ◌+◌, ◌==◌, ◌&&◌, ◌||◌, Bool, true, false, cond}
+use Rattle.std.proofs.Common.{List, [], ◌∷◌, ◌++◌, length, map, set, slice_get, nat_le, nat_lt, Option, Some, None}
+use Rattle.std.proofs.Common.{refl, sym, ap, subst, ◌∙◌, arith, length-append}
+use Rattle.std.proofs.lemmas.Bool.{eq-eqb, eqb-true, leb-true, ltb-true}
+use Rattle.std.proofs.lemmas.List.{length-replicate, length-set}
+use Rattle.std.proofs.lemmas.Option.{none-some, same_Some}
+use Rattle.std.specs.List.{AllByRecursion, list_any}
+use Rattle.std.specs.Option.{option_map, option_map_or}
+use Rattle.jc_api.specs.Numbered.{numbered}
+use Rattle.jc_firewall.specs.Verdict.{is_entry_point, is_global_array, is_out_of_selection, is_own, runtime}
+use Rattle.jc_firewall.specs.Verdict.{runtime_context, verdict_of}
+use Rattle.jc_firewall.specs.declared.access.Access.TheVariants.{PutField, StoreComponent}
+use Rattle.jc_firewall.specs.declared.access.Facts.{Facts}
+use Rattle.jc_firewall.specs.declared.access.Rule.TheVariants as rules
+use Rattle.jc_firewall.specs.declared.access.Verdict.{Verdict}
+use Rattle.jc_firewall.specs.declared.access.Verdict.TheVariants.{Allowed, AllowedSwitch, Denied}
+use Rattle.jc_link.specs.Linked.{World}
+use Rattle.jc_machine.specs.Calls.{native_may_begin}
+use Rattle.jc_machine.specs.Going.{facts_for, facts_in}
+use Rattle.jc_machine.specs.Guarded.{AreGuarded, ChangesAccessed, IsAccessed, allowed, are_allowed, denied, is_allowed}
+use Rattle.jc_machine.specs.Guarded.{AddsFor, IsJudged, IsPlainOf, asked_by, is_last_denied, is_runtimes, may_change}
+use Rattle.jc_machine.specs.Lookup.{is_array}
+use Rattle.jc_machine.specs.Machine.{By, ByCode, ByRuntime, Callback, Calls, IsStuck, Limits, NativeCall, NativeEnd, ThrowsObject, Touch}
+use Rattle.jc_machine.specs.Natives.{IsGuardedAnswer, IsModest, IsOfReceiver, IsRefusedAnswer, IsStill, IsWithin}
+use Rattle.jc_machine.specs.Natives.{KeepsObjects, setting_for, shareable_member}
+use Rattle.jc_machine.specs.Runtime.{security_exception, system_exception}
+use Rattle.jc_natives.proofs.Bare.{bare_object, both}
+use Rattle.jc_natives.proofs.Getting.{new_object, other_object}
+use Rattle.jc_natives.proofs.Putting.{put_none, put_some, same_or_not}
+use Rattle.jc_natives.specs.Cells.{Write, bare, has_room, put, put_all, written}
+use Rattle.jc_natives.specs.Kept.{Kept}
+use Rattle.jc_natives.specs.Meaning.{answer_of, array_or_refusal, begun, did, done, end_of, ended, has_words, made}
+use Rattle.jc_natives.specs.Meaning.{meaning, registering, touch_by}
+use Rattle.jc_natives.specs.Meaning.{new_array, own_touch, own_touch_of, own_touches, unchanged, with_room, work_of}
+use Rattle.jc_natives.specs.Rows.{natives, row_of}
+use Rattle.jc_natives.specs.Seen.{arguments_of, seen_of}
+use Rattle.jc_natives.specs.Tests.{Tested, access_of, by_verdict, facts_of, followed, goes_on, on_object, ranged, test}
+use Rattle.jc_natives.specs.Tests.{tested, touch_of, used}
+use Rattle.jc_natives.specs.Work.{Asks, Does, Ending, GivesReference, GivesWord, Makes, NewArray, NoResult, Throws}
+use Rattle.jc_natives.specs.Work.{Work, no_transient_space}
+use Rattle.jc_natives.specs.declared.native.Native.{Native}
+use Rattle.jc_natives.specs.declared.row.Range.{Range}
+use Rattle.jc_natives.specs.declared.row.Row.{Row}
+use Rattle.jc_natives.specs.declared.row.Test.{Test}
+use Rattle.jc_natives.specs.declared.row.Test.TheVariants.{BesideAid, Nothing}
+use Rattle.jc_natives.specs.declared.row.Test.TheVariants as tests
+use Rattle.jc_natives.specs.declared.row.Way.{Way}
+use Rattle.jc_natives.specs.declared.row.Way.TheVariants as ways
+use Rattle.jc_names.specs.declared.owner.Owner.{Owner}
+use Rattle.jc_store.specs.Heap.{Heap, Object, cells_in, object_at, with_cell, with_new, with_object}
+use Rattle.jc_store.specs.declared.kind.Mark.TheVariants.{Plain}
+use Rattle.jc_words.specs.Values.{TaggedValue, Word}
+use Rattle.jc_natives.proofs.Changed.{either_is, is_change_of, is_changed}
+use Rattle.std.proofs.Common.{get_or, ◌<◌, ◌≤◌}
+use Rattle.std.proofs.lemmas.Option.{slice_get_cases, slice_get_past}
+use Rattle.jc_machine.specs.Machine.{Gives, NativeAnswer}
+use Rattle.jc_machine.specs.Natives.{IsUnchanged}
+use Rattle.jc_machine.specs.Runtime.{apdu_buffer, apdu_exception, iso_exception}
+use Rattle.jc_natives.proofs.Guarding.{ArePlaced, AreUses, IsPlaced, IsUse, Refuses, all_both, allowed_both}
+use Rattle.jc_natives.proofs.Guarding.{changes_accessed, got_front, keeps_itself, keeps_new, keeps_written, made_within}
+use Rattle.jc_natives.proofs.Guarding.{natives_of, own_allowed, own_natives, same_found, tested_uses, written_as_large}
+use Rattle.jc_natives.proofs.Reaching.{row_reaches}
+use Rattle.jc_natives.proofs.Spared.{IsApartWork, SparesOwn, all_throw_own, throws_own, work_apart}
+use Rattle.jc_natives.specs.Applets.{aid_object}
+use Rattle.jc_natives.specs.Cells.{argument, bits}
+use Rattle.jc_natives.specs.Seen.{Seen}
+use Rattle.jc_natives.specs.declared.kept.Installing.{Installing}
+use Rattle.jc_natives.specs.declared.native.AppletNative.TheVariants as applets
+use Rattle.jc_natives.specs.declared.native.Native.TheVariants.{OfApplet}
+use Rattle.jc_words.specs.Values.{Ref}
+
+-- ---- objects that weren't there
+
+none_more : (before after : Heap TaggedValue) (n : ℕ) (o : Object TaggedValue) → length after ≡ length before
+    → slice_get after n ≡ Some o → slice_get before n ≡ None → ⊥
+none_more before after n o same is none = by_length (slice_get_cases before n).1
+  where
+    by_length : ((x : Object TaggedValue) × (n < length before) × (slice_get before n ≡ Some x)
+        × (get_or before n x ≡ x)) ⊎ ((length before ≤ n) × (slice_get before n ≡ None)) → ⊥
+    by_length (inl c) = none-some c.0 (sym none ∙ c.2)
+    by_length (inr c) =
+        let low = c.0 in none-some o (sym (slice_get_past after n (omega (arith, same, low))) ∙ is)
+
+none_new : (before after : Heap TaggedValue) (number : ℕ) (o : Object TaggedValue) → length after ≡ length before
+    → object_at after number ≡ Some o → object_at before number ≡ None → ⊥
+none_new before after zero o same is none = none-some o is
+none_new before after (suc n) o same is none = none_more before after n o same is none
+
+last_is : {A : Type 0} (xs : List A) (x y : A) (n : ℕ) → slice_get (xs ++ x ∷ []) n ≡ Some y → slice_get xs n ≡ None
+    → y ≡ x
+last_is [] x y zero e f = sym (same_Some x y e)
+last_is [] x y (suc n) e f = absurd (none-some y e)
+last_is (z ∷ xs) x y zero e f = absurd (none-some z (sym f))
+last_is (z ∷ xs) x y (suc n) e f = last_is xs x y n e f
+
+new_is : (heap : Heap TaggedValue) (x y : Object TaggedValue) (number : ℕ) → object_at (with_new heap x) number ≡ Some y
+    → object_at heap number ≡ None → y ≡ x
+new_is heap x y zero e f = absurd (none-some y e)
+new_is heap x y (suc n) e f = last_is heap x y n e f
+
+-- ---- answers
+
+-- what the runtime writes in its own name is named
+owns : (call : NativeCall Kept) (touches : List Touch)
+    → SparesOwn (IsPlaced (registering call.runtime) touches) call.runtime
+owns call touches = record {
+  iso = record { code = λ e. absurd cc; runtime = λ e. refl };
+  system = record { code = λ e. absurd cc; runtime = λ e. refl };
+  apdu = record { code = λ e. absurd cc; runtime = λ e. refl };
+  buffer = record { code = λ e. absurd cc; runtime = λ e. refl };
+  registers = λ i e. record {
+    code = λ f. absurd cc;
+    runtime = λ f.
+        is_registered (aid_object i.owner.instance)
+        (ap (λ (o : Option Installing). option_map (λ (x : Installing). aid_object x.owner.instance) o) e);
+  };
+}
+  where
+    last_is_true : (a b c d e : Bool) → e ≡ true → (a || b || c || d || e) ≡ true
+    last_is_true true b c d e f = refl
+    last_is_true false true c d e f = refl
+    last_is_true false false true d e f = refl
+    last_is_true false false false true e f = refl
+    last_is_true false false false false e f = f
+
+    is_registered : (number : ℕ) → registering call.runtime ≡ Some number
+        → is_runtimes (registering call.runtime) number ≡ true
+    is_registered number e =
+        last_is_true (number == iso_exception) (number == system_exception) (number == apdu_exception)
+        (number == apdu_buffer) (option_map_or (λ n. n == number) (registering call.runtime) false)
+        (ap (λ o. option_map_or (λ n. n == number) o false) e ∙ eq-eqb number number refl)
+
+-- ---- what it comes to, but for modesty
+
+record IsFine (w : World) (call : NativeCall Kept) (a : NativeAnswer Kept) : Type 0 where
+  touches : AllByRecursion (IsJudged (setting_for meaning w call)) a.touches
+  guarded : AreGuarded a.touches (IsRefusedAnswer call a)
+  kept : KeepsObjects call.heap a.heap
+  changes : ChangesAccessed call.active.context a.touches call.heap a.heap
+  adds : AddsFor call.active call.heap a.heap
+  room : IsWithin call.limits call.heap → IsWithin call.limits a.heap
+  calls : (callback : Callback) → a.ends ≡ Calls callback → IsUnchanged call a
+  asks : (callback : Callback) → a.ends ≡ Calls callback → callback.member ≡ shareable_member
+
+pub no_call : (ending : Ending) (callback : Callback) → end_of ending ≡ Calls callback → ⊥
+no_call NoResult callback e = cc
+no_call (GivesWord word) callback e = cc
+no_call (GivesReference number) callback e = cc
+no_call (Throws object) callback e = cc
+
+abbrev asks_only : NativeEnd → Type 0
+asks_only ends = (callback : Callback) → ends ≡ Calls callback → callback.member ≡ shareable_member
+
+asked_member : NativeEnd → ℕ
+asked_member (Gives value) = shareable_member
+asked_member (ThrowsObject object) = shareable_member
+asked_member (Calls callback) = callback.member
+asked_member IsStuck = shareable_member
+
+asks_so : (asked : Callback) → asked.member ≡ shareable_member → asks_only (Calls asked)
+asks_so asked is callback e = sym (ap asked_member e) ∙ is
+
+module _ (w : World) (call : NativeCall Kept) where
+  -- nothing changes
+  unchanged_fine : (touches : List Touch) (ends : NativeEnd) → AllByRecursion (IsUse w call) touches
+      → AreGuarded touches (IsRefusedAnswer call (unchanged call touches ends)) → asks_only ends
+      → IsFine w call (unchanged call touches ends)
+  unchanged_fine touches ends uses guarded asks = record {
+    touches = natives_of w call touches uses;
+    guarded = guarded;
+    kept = keeps_itself call.heap;
+    changes = λ number o p before after.
+        inl (ap (λ (x : Object TaggedValue). x.cells) (same_found (object_at call.heap number) o p before after));
+    adds = λ number o found none. absurd (none-some o (sym none ∙ found));
+    room = λ within. within;
+    calls = λ callback e. record { heap = refl; runtime = refl };
+    asks = asks;
+  }
+
+  did_fine : (touches : List Touch) (writes : List Write) (k : Kept) (ending : Ending)
+      → AllByRecursion (IsUse w call) touches → are_allowed touches ≡ true
+      → ArePlaced (registering call.runtime) touches writes
+      → IsFine w call (did call touches writes k ending)
+  did_fine touches writes k ending uses fine placed =
+      let large = written_as_large call.heap writes in
+      record {
+        touches = all_both (IsJudged (setting_for meaning w call)) touches (own_touches call.heap writes)
+            (natives_of w call touches uses) (own_natives w call touches writes placed);
+        guarded = allowed (allowed_both touches (own_touches call.heap writes) fine
+            (own_allowed w call writes));
+        kept = keeps_written call.heap writes;
+        changes = changes_accessed w call touches writes uses fine placed;
+        adds = λ number o found none.
+            absurd (none_new call.heap (written Word call.heap writes) number o large.objects found none);
+        room = λ within.
+            let o = within.objects in
+            let c = within.cells in
+            let a = large.objects in
+            let b = large.cells in
+            record { objects = omega (arith, o, a); cells = omega (arith, c, b) };
+        calls = λ callback e. absurd (no_call ending callback e);
+        asks = λ callback e. absurd (no_call ending callback e);
+      }
+
+  made_fine : (touches : List Touch) (array : NewArray) → AllByRecursion (IsUse w call) touches
+      → are_allowed touches ≡ true → has_room call.limits.objects call.limits.cells call.heap array.size ≡ true
+      → IsFine w call (made call touches array)
+  made_fine touches array uses fine room = record {
+    touches = natives_of w call touches uses;
+    guarded = allowed fine;
+    kept = keeps_new call.heap (new_array call.active array);
+    changes = λ number o p before after. inl (stays number o p before after);
+    adds = λ number o found none.
+        let same = new_is call.heap (new_array call.active array) o number found none in record {
+          whose = ap (λ (x : Object TaggedValue). x.owner) same;
+          plain = ap (λ (x : Object TaggedValue). x.kind.mark) same;
+        };
+    room = λ within. made_within call.limits call.heap (new_array call.active array) array.size
+        (length-replicate array.size _) room;
+    calls = λ callback e. absurd cc;
+    asks = λ callback e. absurd cc;
+  }
+    where
+      stays : (number : ℕ) (o p : Object TaggedValue) → object_at call.heap number ≡ Some o
+          → object_at (with_new call.heap (new_array call.active array)) number ≡ Some p → p.cells ≡ o.cells
+      stays zero o p before after = absurd (none-some o before)
+      stays (suc n) o p before after =
+          ap (λ (x : Object TaggedValue). x.cells)
+          (same_found (slice_get (call.heap ++ new_array call.active array ∷ []) n) o p
+          (got_front call.heap (new_array call.active array ∷ []) n o before) after)
+
+  -- what it does, where what it writes is as it should be
+  done_fine : (touches : List Touch) (work : Work) → AllByRecursion (IsUse w call) touches
+      → are_allowed touches ≡ true
+      → IsApartWork (IsPlaced (registering call.runtime) touches) (seen_of w call) call.runtime work
+      → IsFine w call (done call touches
+      (with_room call.limits.objects call.limits.cells call.heap call.runtime work))
+  done_fine touches (Does writes k ending) uses fine placed = did_fine touches writes k ending uses fine placed.0
+  done_fine touches (Makes array) uses fine placed =
+      by_room (has_room call.limits.objects call.limits.cells call.heap array.size) refl
+    where
+      by_room : (b : Bool) → has_room call.limits.objects call.limits.cells call.heap array.size ≡ b
+          → IsFine w call (done call touches (array_or_refusal b array call.runtime))
+      by_room true e = made_fine touches array uses fine e
+      by_room false e =
+          did_fine touches (record {
+            by = ByRuntime;
+            object = system_exception;
+            from = 0;
+            words = no_transient_space ∷ [];
+          } ∷ []) call.runtime (Throws system_exception) uses fine ((owns call touches).system, tt)
+  done_fine touches (Asks question) uses fine placed =
+      unchanged_fine touches _ uses (allowed fine) (asks_so _ refl)
+
+  abbrev s : Seen
+  s = seen_of w call
+
+  abbrev args : List ℕ
+  args = arguments_of call
+
+  module _ (native : Native) (own : throws_own native ≡ true) where
+    abbrev t : Tested
+    t = tested s args (row_of native)
+
+    abbrev work : Work
+    work = work_of s call.runtime args native
+
+    placed_work : t.thrown ≡ None
+        → IsApartWork (IsPlaced (registering call.runtime) t.touches) s call.runtime work
+    placed_work e =
+        work_apart (IsPlaced (registering call.runtime) t.touches) s call.runtime (owns call t.touches) args native own
+        (λ place way change by. record {
+          code = λ f. row_reaches s args (row_of native) place way change e by;
+          runtime = λ f. absurd cc;
+        })
+
+    by_thrown : (thrown : Option ℕ) → t.thrown ≡ thrown → (are_allowed t.touches ≡ true) ⊎ Refuses t
+        → IsFine w call (ended call t.touches thrown work)
+    by_thrown (Some object) e (inl fine) =
+        unchanged_fine t.touches (ThrowsObject object) (tested_uses w call args (row_of native)).uses (allowed fine)
+        (λ callback f. absurd cc)
+    by_thrown (Some object) e (inr refuses) =
+        unchanged_fine t.touches (ThrowsObject object) (tested_uses w call args (row_of native)).uses
+        (denied refuses.0 (record {
+          unchanged = record { heap = refl; runtime = refl };
+          throws = ap ThrowsObject (same_Some object security_exception (sym e ∙ refuses.1));
+        })) (λ callback f. absurd cc)
+    by_thrown None e (inl fine) =
+        done_fine t.touches work (tested_uses w call args (row_of native)).uses fine (placed_work e)
+    by_thrown None e (inr refuses) = absurd (none-some security_exception (sym e ∙ refuses.1))
+
+    native_fine : IsFine w call (begun w call (Some native))
+    native_fine = by_thrown t.thrown refl (tested_uses w call args (row_of native)).verdicts
+
+  begun_fine : (number : ℕ) (o : Option Native) → numbered natives number ≡ o → IsFine w call (begun w call o)
+  begun_fine number None e = unchanged_fine [] IsStuck tt (allowed refl) (λ callback f. absurd cc)
+  begun_fine number (Some native) e = native_fine native (all_throw_own number native e)
+
+  -- each answer
+  answer_fine : IsFine w call (answer_of w call)
+  answer_fine = by_begin (native_may_begin w.shapes call.heap call.member call.arguments)
+    where
+      by_begin : (b : Bool) → IsFine w call (cond b (begun w call (numbered natives call.member))
+          (unchanged call [] IsStuck))
+      by_begin true = begun_fine call.member (numbered natives call.member) refl
+      by_begin false = unchanged_fine [] IsStuck tt (allowed refl) (λ callback f. absurd cc)
+
+  -- ---- the member that others call
+
+  module _ (number : ℕ) (rest : List TaggedValue) (first : call.arguments ≡ Ref number ∷ rest) where
+    abbrev Of : Touch → Type 0
+    Of = IsOfReceiver number
+
+    followed_of : (t u : Tested) → AllByRecursion Of t.touches → AllByRecursion Of u.touches
+        → AllByRecursion Of (followed t u).touches
+    followed_of t u h k = by_end t.thrown
+      where
+        by_end : (thrown : Option ℕ) → AllByRecursion Of (goes_on t.touches thrown u).touches
+        by_end (Some object) = h
+        by_end None = all_both Of t.touches u.touches h k
+
+    verdict_of_it : (v : Verdict) → AllByRecursion Of (by_verdict s ways.Calls number v).touches
+    verdict_of_it Allowed = (record { is = refl; access = refl; by = refl }, tt)
+    verdict_of_it (AllowedSwitch owner) = (record { is = refl; access = refl; by = refl }, tt)
+    verdict_of_it (Denied rule) = (record { is = refl; access = refl; by = refl }, tt)
+
+    object_of_it : (o : Option (Object ℕ)) → AllByRecursion Of (on_object s ways.Calls number o).touches
+    object_of_it None = tt
+    object_of_it (Some o) = verdict_of_it (verdict_of (access_of ways.Calls) s.active.context (facts_of s o))
+
+    used_of_it : AllByRecursion Of (used s ways.Calls (argument args 0)).touches
+    used_of_it =
+        subst (λ n. AllByRecursion Of (used s ways.Calls n).touches)
+        (sym (ap (λ vs. argument (map bits vs) 0) first)) (object_of_it (object_at s.objects number))
+
+    abbrev shareable : Native
+    shareable = OfApplet applets.GetShareable
+
+    row_of_it : AllByRecursion Of (tested s args (row_of shareable)).touches
+    row_of_it =
+        followed_of (used s ways.Calls (argument args 0)) _ used_of_it
+        (followed_of (test s args tests.Nothing) _ tt (followed_of (ranged s args None) (ranged s args None) tt tt))
+
+    modest_end : (thrown : Option ℕ)
+        → IsModest number call (ended call (tested s args (row_of shareable)).touches thrown
+        (work_of s call.runtime args shareable))
+    modest_end (Some object) = record { touches = row_of_it; unchanged = record { heap = refl; runtime = refl } }
+    modest_end None = record {
+      touches = all_both Of (tested s args (row_of shareable)).touches [] row_of_it tt;
+      unchanged = record { heap = refl; runtime = refl };
+    }
+
+    modest_begun : (b : Bool) → call.member ≡ shareable_member
+        → IsModest number call (cond b (begun w call (numbered natives call.member)) (unchanged call [] IsStuck))
+    modest_begun true is =
+        subst (λ (o : Option Native). IsModest number call (begun w call o)) (sym (ap (numbered natives) is))
+        (modest_end (tested s args (row_of shareable)).thrown)
+    modest_begun false is = record { touches = tt; unchanged = record { heap = refl; runtime = refl } }
+
+-- each answer is guarded
+pub answers_guarded : (w : World) (call : NativeCall Kept) → IsGuardedAnswer meaning w call (answer_of w call)
+answers_guarded w call =
+    let a = answer_fine w call in record {
+      touches = a.touches;
+      guarded = a.guarded;
+      kept = a.kept;
+      changes = a.changes;
+      adds = a.adds;
+      room = a.room;
+      calls = a.calls;
+      asks = a.asks;
+      modest = λ number rest is first.
+          modest_begun w call number rest first
+          (native_may_begin w.shapes call.heap call.member call.arguments) is;
+    }

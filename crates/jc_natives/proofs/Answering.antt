@@ -152,7 +152,7 @@ no_call (Throws object) callback e = cc
 abbrev asks_only : NativeEnd → Type 0
 asks_only ends = (callback : Callback) → ends ≡ Calls callback → callback.member ≡ shareable_member
 
-asked_member : NativeEnd → ℕ
+abbrev asked_member : NativeEnd → ℕ
 asked_member (Gives value) = shareable_member
 asked_member (ThrowsObject object) = shareable_member
 asked_member (Calls callback) = callback.member
@@ -339,8 +339,10 @@ module _ (w : World) (call : NativeCall Kept) where
 
     row_of_it : AllByRecursion Of (tested s args (row_of shareable)).touches
     row_of_it =
-        followed_of (used s ways.Calls (argument args 0)) _ used_of_it
-        (followed_of (test s args tests.Nothing) _ tt (followed_of (ranged s args None) (ranged s args None) tt tt))
+        let ranges = followed (ranged s args None) (ranged s args None) in
+        let passed = test s args tests.Nothing in
+        followed_of (used s ways.Calls (argument args 0)) (followed passed ranges) used_of_it
+        (followed_of passed ranges tt (followed_of (ranged s args None) (ranged s args None) tt tt))
 
     modest_end : (thrown : Option ℕ)
         → IsModest number call (ended call (tested s args (row_of shareable)).touches thrown

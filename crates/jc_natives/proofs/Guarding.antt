@@ -191,7 +191,7 @@ module _ (w : World) (call : NativeCall Kept) where
       (followed_uses _ _ (test_uses arguments row.second)
       (followed_uses _ _ (ranged_uses arguments row.first_range) (ranged_uses arguments row.second_range)))
 
-  natives_of : (touches : List Touch) → AllByRecursion (IsUse w call) touches
+  pub natives_of : (touches : List Touch) → AllByRecursion (IsUse w call) touches
       → AllByRecursion (IsJudged (setting_for meaning w call)) touches
   natives_of [] uses = tt
   natives_of (t ∷ touches) uses = ((uses.0).native, natives_of touches uses.1)

@@ -115,13 +115,15 @@ pub record IsThrown (w : World) (heap : Heap TaggedValue) (number : ℕ) : Type 
   pub found : object_at heap number ≡ Some object
   pub throwable : is_throwable w.shapes object.kind.object ≡ true
 
--- a call that a native member makes: only a static one makes any. It calls a virtual member of an object that is there
--- and of the member's class, on arguments of its types, and that gives what the native member is declared to give
+-- a call that a native member makes: only a static one makes any. It calls the one member that others call, which is
+-- virtual, of an object that is there and of the member's class, on arguments of its types, and that gives what the
+-- native member is declared to give
 pub record IsFitCallback {C : Type 0} (w : World) (call : NativeCall C) (a : NativeAnswer C)
     (given : Signature ClassName) (callback : Callback) : Type 0 where
   pub caller : ApiMember
   pub caller_is : member_of call.member ≡ Some caller
   pub static : caller.kind ≡ Static
+  pub shareable : callback.member ≡ shareable_member
   pub member : ApiMember
   pub member_is : member_of callback.member ≡ Some member
   pub virtual : member.kind ≡ Virtual

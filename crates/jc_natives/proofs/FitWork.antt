@@ -135,6 +135,7 @@ module _ (known : Known) where
         caller = fits.caller;
         caller_is = fits.caller_is;
         static = fits.static;
+        shareable = fits.shareable;
         member = fits.member;
         member_is = fits.member_is;
         virtual = fits.virtual;

@@ -278,6 +278,7 @@ module _ (known : Known) where
             caller = m;
             caller_is = numbered_is;
             static = kind;
+            shareable = refl;
             member = asking;
             member_is = asking_is;
             virtual = asking_kind;

@@ -150,7 +150,7 @@ module _ (world : List Shape) (stand : (c : ApiClass) → StandsThere world c) w
   none_above steps each c None up h = absurd cc
   none_above steps each c (Some d) up h = below_applet c d up (each d h)
 
-  applet_alone : (steps : ℕ) (c : ApiClass) → is_below_applet steps (classes.Api c) ≡ true
+  pub applet_alone : (steps : ℕ) (c : ApiClass) → is_below_applet steps (classes.Api c) ≡ true
       → is_same_class c api_classes.Applet ≡ true
   applet_alone zero c h = absurd cc
   applet_alone (suc n) c h =

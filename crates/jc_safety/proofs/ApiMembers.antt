@@ -14,6 +14,7 @@ use Rattle.jc_api.specs.Class.{is_interface, package_of}
 use Rattle.jc_api.specs.Member.{ApiMember, member_of}
 use Rattle.jc_api.specs.NoClash.{HasNoClash}
 use Rattle.jc_api.specs.Numbered.{numbered}
+use Rattle.jc_api.specs.Token as Tokens
 use Rattle.jc_api.specs.Token.{is_at_or_above, is_same_class, is_virtual, member_token_limit, members_meet}
 use Rattle.jc_api.specs.declared.class.ApiClass.{ApiClass}
 use Rattle.jc_api.specs.declared.class.ApiPackage.{ApiPackage}
@@ -51,7 +52,8 @@ use Rattle.jc_names.specs.declared.name.MethodName.{MethodName}
 use Rattle.jc_names.specs.declared.name.MethodName.TheVariants.{Api}
 use Rattle.jc_machine.specs.Calls.{VirtualMember, token_in, virtual_member, virtual_member_in}
 use Rattle.jc_machine.specs.Machine.{Surroundings}
-use Rattle.jc_safety.proofs.ApiCode.{BeginsSo, api_above, api_name, begins_so, lies, low_home}
+use Rattle.jc_api.specs.declared.class.ApiClass.TheVariants as api_classes
+use Rattle.jc_safety.proofs.ApiCode.{BeginsSo, api_above, api_name, applet_alone, begins_so, lies, low_home}
 use Rattle.jc_safety.proofs.Callees.{and_then, got_within, mapped_from}
 use Rattle.jc_safety.proofs.Ground.{Ground, named}
 use Rattle.jc_safety.proofs.Lists.{and_true}
@@ -270,6 +272,15 @@ module _ (bound : Bound) (clear : HasNoClash bound) (n : ℕ) (x : ApiMember) (i
       (api_world bound) home n)) above) not_above
       ∙ its_name (package_of x.class) (has_member bound n x is) above
 
+-- Applet is above itself
+first_is : (a b : Bool) → a ≡ true → (a || b) ≡ true
+first_is true b e = refl
+first_is false b e = absurd cc
+
+at_applet : (b : ApiClass) → is_same_class b api_classes.Applet ≡ true → is_at_or_above b api_classes.Applet ≡ true
+unfolding is_at_or_above Tokens.chain
+at_applet b e = first_is (is_same_class b api_classes.Applet) _ e
+
 -- ---- in a world
 
 module _ {C : Type 0} (s : Surroundings C) (ground : Ground s) (begins : BeginsSo s.world.shapes) where
@@ -439,6 +450,22 @@ module _ {C : Type 0} (s : Surroundings C) (ground : Ground s) (begins : BeginsS
             let j = api_name shapes ground.api name d a.class there a.is in
             by_member j.0 j.1 a.class a.is a.above
 
+    -- of Applet's, no other one is found
+    no_other : x.class ≡ api_classes.Applet → (c : ClassName) (j : ℕ) → IsHeir shapes c (classes.Api x.class)
+        → virtual_method_of shapes c its.token 0 ≡ Some (Api j) → j ≡ n
+    no_other its_class_is c j heir finds =
+        let a = walk_finds its.token j (lt-ltb its.token 128 low) most_classes c finds in
+        let k = a.declared in
+        let below : is_class_below shapes (classes.Api k.member.class) (classes.Api x.class) ≡ true =
+        declared_below c (Api j) _ heir finds (its_method j k.member k.number) in
+        let same : is_same_class k.member.class api_classes.Applet ≡ true =
+        applet_alone shapes ground.api most_classes k.member.class
+        (subst (λ (y : ApiClass). is_class_below shapes (classes.Api k.member.class) (classes.Api y) ≡ true)
+        its_class_is below) in
+        let up : is_at_or_above k.member.class api_classes.Applet ≡ true = at_applet k.member.class same in
+        only bound begins.clear n x is virtual j its.token k.member k.number k.virtual
+        (subst (λ (y : ApiClass). is_at_or_above k.member.class y ≡ true) (sym its_class_is) up) k.its_token its.its
+
     has_virtual : HasVirtual shapes n x.class
     has_virtual = record {
       token = its.token;
@@ -446,6 +473,7 @@ module _ {C : Type 0} (s : Surroundings C) (ground : Ground s) (begins : BeginsS
       listed = listed_here;
       found = found_here;
       below = declared_below;
+      only = no_other;
     }
 
   static_there : (n : ℕ) (x : ApiMember) (d : DeclaredMethod) → member_of n ≡ Some x → x.kind ≡ Static

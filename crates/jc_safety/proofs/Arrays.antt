@@ -28,7 +28,7 @@ use Rattle.jc_types.specs.declared.ty.Ty.TheVariants as types
 use Rattle.jc_machine.specs.Arrays.{act_length, act_load, act_store_reference, act_store_word, is_array_of, is_in_bounds, loaded_as, stored_as}
 use Rattle.jc_machine.specs.Going.{Here, accessed, check, gives, on_object, on_some, require}
 use Rattle.jc_machine.specs.Lookup.{class_of, component_class, is_array, is_byte, is_instance, is_of_class, is_short_array}
-use Rattle.jc_machine.specs.Lookup.{is_word, leads_to, mark_of}
+use Rattle.jc_machine.specs.Lookup.{is_word, leads_to}
 use Rattle.jc_firewall.specs.declared.access.Access.TheVariants.{ArrayLength, LoadComponent, StoreComponent, StoreReference}
 use Rattle.jc_machine.specs.Machine.{Machine, Surroundings}
 use Rattle.jc_machine.specs.Runtime.{array_index_exception, array_store_exception}
@@ -364,7 +364,7 @@ module _ {C : Type 0} (s : Surroundings C) (ground : Ground s) (m : Machine C) (
       (safe_check s (leads_to m.heap any_object w) _ value_is
       (safe_some s (object_at m.heap n) o _ found
       (safe_some s (component_class o.kind.object) array.class _ (ap component_class array.is)
-      (safe_to_store s ground m t d next us StoreReference n o (mark_of m.heap w) _
+      (safe_to_store s ground m t d next us StoreReference n o w _
       (safe_required s ground m t d next us array_index_exception (is_in_bounds index o) _
       (array_index s ground m.heap t.beside.runtime_objects)
       (λ inside.

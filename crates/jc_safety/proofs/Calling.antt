@@ -52,7 +52,7 @@ use Rattle.jc_machine.specs.Calls.{act_call, act_interface, act_of_interface, ac
 use Rattle.jc_machine.specs.Calls.{act_static_call, act_virtual, found_for, has_interface, invokes, special_target}
 use Rattle.jc_machine.specs.Calls.{static_target}
 use Rattle.jc_machine.specs.Calls.{virtual_target, with_arguments, with_receiver}
-use Rattle.jc_machine.specs.Going.{Here, check, facts_of, judged, on_object, on_reference, on_some, require}
+use Rattle.jc_machine.specs.Going.{Here, asking, check, judged, on_object, on_reference, on_some, require, wanting}
 use Rattle.jc_machine.specs.Lookup.{are_of_types, body_at, class_of, instruction_at, is_of_class, is_of_type}
 use Rattle.jc_machine.specs.Lookup.{is_shared_interface}
 use Rattle.jc_machine.specs.Lookup.{leads_to}
@@ -310,8 +310,7 @@ module _ {C : Type 0} (s : Surroundings C) (ground : Ground s) (m : Machine C) (
       virtual_safe invocation entry class token signature later stands a v small =
           receiver_safe (Below (types.Class class)) (is_of_class shapes class) (λ u is. is.type) signature later a
           (λ arguments n o vs.
-          check (is_of_class shapes class o.kind.object) (judged (at ops) InvokeVirtual n (facts_of
-          (at ops) o None false) (λ switch. on_some (found_for (at ops) token o) (λ method. invokes
+          check (is_of_class shapes class o.kind.object) (judged (at ops) (asking InvokeVirtual n) o (λ switch. on_some (found_for (at ops) token o) (λ method. invokes
           (at ops) switch method arguments vs))))
           (λ n o vs there is fit rest.
           let made = object_made n o there in
@@ -321,7 +320,7 @@ module _ {C : Type 0} (s : Surroundings C) (ground : Ground s) (m : Machine C) (
           let may = found_method s ground m.heap n o token home kept.method signature (given_to signature) there
           kept.found concrete (kept.type ∙ v.type) fit in
           safe_check s (is_of_class shapes class o.kind.object) _ is
-          (safe_judged s (at ops) InvokeVirtual n (facts_of (at ops) o None false) _
+          (safe_judged s (at ops) (asking InvokeVirtual n) o _
           (throws_at s ground m t ops _ (security s ground m.heap t.beside.runtime_objects))
           (λ switch.
           safe_some s (found_for (at ops) token o) kept.method
@@ -423,13 +422,13 @@ module _ {C : Type 0} (s : Surroundings C) (ground : Ground s) (m : Machine C) (
       of_interface_safe invocation interface token signature later stands a x =
           receiver_safe Reference any_object (λ u is. is) signature later a
           (λ arguments n o vs.
-          judged (at ops) InvokeInterface n (facts_of (at ops) o None (is_shared_interface shapes interface))
+          judged (at ops) (wanting InvokeInterface n (Some interface)) o
           (λ switch. require (at ops) class_cast_exception (has_interface shapes interface o) (on_some
           (interface_method_of shapes (class_of o.kind.object) interface token) (λ method. invokes
           (at ops) switch method arguments vs))))
           (λ n o vs there is fit rest.
           let made = object_made n o there in
-          safe_judged s (at ops) InvokeInterface n (facts_of (at ops) o None (is_shared_interface shapes interface)) _
+          safe_judged s (at ops) (wanting InvokeInterface n (Some interface)) o _
           (throws_at s ground m t ops _ (security s ground m.heap t.beside.runtime_objects))
           (λ switch.
           rows.safe_required s ground m t d next ops class_cast_exception (has_interface shapes interface o)

@@ -27,7 +27,7 @@ use Rattle.jc_store.specs.declared.kind.ObjectType.TheVariants.{BooleanArray, By
 use Rattle.jc_types.specs.State.{Types}
 use Rattle.jc_types.specs.declared.ty.Ty.{Ty}
 use Rattle.jc_types.specs.declared.ty.Ty.TheVariants as types
-use Rattle.jc_machine.specs.Going.{Here, facts_of, gives, judged, on_object, on_reference, require}
+use Rattle.jc_machine.specs.Going.{Here, gives, judged, on_object, on_reference, require, wanting}
 use Rattle.jc_machine.specs.Lookup.{class_of, component_class, is_instance, is_of_class, is_shared_interface, leads_to}
 use Rattle.jc_machine.specs.Machine.{Machine, Stepped, Surroundings}
 use Rattle.jc_machine.specs.Objects.{Test, act_check_cast, act_instance_of, bit, is_array_of_words, on_test, tested}
@@ -85,7 +85,7 @@ module _ {C : Type 0} (s : Surroundings C) (ground : Ground s) (m : Machine C) (
       ∙ e
 
   words_fit : (kind : WordKind)
-      → Fits (record { is_shared = false; passes = is_array_of_words kind }) (checked.word_array kind)
+      → Fits (record { wanted = None; passes = is_array_of_words kind }) (checked.word_array kind)
   words_fit Kinds.Boolean = record { passes = λ n o found e. leads_so _ n o found e; null = refl }
   words_fit Kinds.Byte = record { passes = λ n o found e. leads_so _ n o found e; null = refl }
   words_fit Kinds.Short = record { passes = λ n o found e. leads_so _ n o found e; null = refl }
@@ -117,9 +117,9 @@ module _ {C : Type 0} (s : Surroundings C) (ground : Ground s) (m : Machine C) (
       let counts : is_class_below shapes (counted shapes x.0) (counted (rows.before s ground m t) x.0) ≡ true =
       subst (λ (k : ClassName). is_class_below shapes (counted shapes x.0) k ≡ true) named.counts
       (counted_reflexive s ground x.0) in
-      let test : Test = record { is_shared = is_shared_interface shapes x.0; passes = is_instance shapes x.0 } in
+      let test : Test = record { wanted = Some x.0; passes = is_instance shapes x.0 } in
       rows.safe_target s ground m t d next us index class_target f.target x.0
-      (λ c. go (record { is_shared = is_shared_interface shapes c; passes = is_instance shapes c })) f.is f.gives
+      (λ c. go (record { wanted = Some c; passes = is_instance shapes c })) f.is f.gives
       (each test
       (subst (λ (v : Ty). Fits test v) x.2
       (record {
@@ -130,7 +130,7 @@ module _ {C : Type 0} (s : Surroundings C) (ground : Ground s) (m : Machine C) (
       })))
   test_safe (Tested.WordArray kind) u e us go each =
       let same : checked.word_array kind ≡ u = cc in
-      let test : Test = record { is_shared = false; passes = is_array_of_words kind } in
+      let test : Test = record { wanted = None; passes = is_array_of_words kind } in
       each test (subst (λ (v : Ty). Fits test v) same (words_fit kind))
   test_safe (Tested.ReferenceArray index) u e us go each =
       let x = mapped_some s ground m t d next (reference_array set.world) (class_of_entry set index) u e in
@@ -139,12 +139,12 @@ module _ {C : Type 0} (s : Surroundings C) (ground : Ground s) (m : Machine C) (
       let named = named_class s.world m.top.method.number p.body (ground.packages m.top.method.number p.body p.loaded)
       index f.target x.0 f.is f.gives in
       let test : Test = record {
-        is_shared = false;
+        wanted = None;
         passes = λ object. option_map_or (λ (e : ClassName). is_subtype shapes e x.0) (component_class object) false;
       } in
       rows.safe_target s ground m t d next us index class_target f.target x.0
       (λ c. go (record {
-        is_shared = false;
+        wanted = None;
         passes = λ object. option_map_or (λ (e : ClassName). is_subtype shapes e c) (component_class object) false;
       })) f.is f.gives
       (each test
@@ -168,11 +168,11 @@ module _ {C : Type 0} (s : Surroundings C) (ground : Ground s) (m : Machine C) (
       (λ n o found any.
       test_safe type u e us
       (λ test. on_object (at us) (Ref n) (λ number object.
-      judged (at us) access number (facts_of (at us) object None test.is_shared)
+      judged (at us) (wanting access number test.wanted) object
       (λ switch. go (Ref n) (test.passes object.kind.object))))
       (λ test fits.
       safe_some s (object_at m.heap n) o _ found
-      (safe_judged s (at us) access n (facts_of (at us) o None test.is_shared)
+      (safe_judged s (at us) (wanting access n test.wanted) o
       (λ switch. go (Ref n) (test.passes o.kind.object))
       (throws_at s ground m t us _ (security s ground m.heap t.beside.runtime_objects))
       (λ switch. each n (test.passes o.kind.object) (λ passes. fits.passes n o found passes)))))

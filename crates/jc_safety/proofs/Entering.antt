@@ -1,8 +1,8 @@
 -- A call that is entered: its caller waits, and the frame of the method that is called runs.
 use Rattle.std.proofs.Common.{◌≡◌, ℕ, ◌+◌, ◌≤◌, List, ◌∷◌, length}
-use Rattle.std.proofs.Common.{Bool, true, false, cond, not, Option, Some}
+use Rattle.std.proofs.Common.{Bool, true, false, cond, not, ◌&&◌, Option, Some}
 use Rattle.std.proofs.Common.{sym, ap, ◌∙◌, subst}
-use Rattle.std.specs.Option.{option_and_then}
+use Rattle.std.specs.Option.{option_and_then, option_map_or}
 use Rattle.jc_cap_desc.specs.Shape.{MethodBody, Shape}
 use Rattle.jc_check.specs.Checked.{IsMethodTyped}
 use Rattle.jc_check.specs.Package.{arguments_of}
@@ -19,9 +19,9 @@ use Rattle.jc_store.specs.Heap.{Heap}
 use Rattle.jc_types.specs.State.{Types}
 use Rattle.jc_types.specs.declared.ty.Ty.{Ty}
 use Rattle.jc_machine.specs.Accepted.{linked_as}
-use Rattle.jc_machine.specs.Calls.{active_in, entered, enters, frame_of, has_room, previous_in}
+use Rattle.jc_machine.specs.Calls.{accepts, active_in, entered, enters, frame_of, has_room, previous_in}
 use Rattle.jc_machine.specs.Going.{Here, check, moved, plain, throws}
-use Rattle.jc_machine.specs.Lookup.{body_at, code_at, declared_at, instruction_at}
+use Rattle.jc_machine.specs.Lookup.{body_at, code_at, declared_at, instruction_at, may_begin_with}
 use Rattle.jc_machine.specs.Machine.{Frame, Machine, MethodPlace, Next, Stepped, Surroundings, UsedUp}
 use Rattle.jc_machine.specs.Natives.{IsThrown, KeepsObjects}
 use Rattle.jc_machine.specs.Runtime.{HasRuntimeObjects}
@@ -32,6 +32,7 @@ use Rattle.jc_safety.proofs.Callees.{MayCall, abstract_is, begins_typed, its_bod
 use Rattle.jc_safety.proofs.Goes.{placed}
 use Rattle.jc_safety.proofs.Ground.{Ground, MethodOf, method_of_code}
 use Rattle.jc_safety.proofs.Growing.{keeps_self, operands_still, types_still, waiting_still}
+use Rattle.jc_safety.proofs.Lists.{and_true}
 use Rattle.jc_safety.proofs.Rows as rows
 use Rattle.jc_safety.proofs.Safe.{IsSafe, safe_check, safe_some}
 
@@ -194,12 +195,15 @@ module _ {C : Type 0} (s : Surroundings C) (ground : Ground s) (m : Machine C) (
         let given = sym (ap (result_of shapes) same) ∙ may.given in
         safe_some s (option_and_then (λ (x : DeclaredMethod). x.method.header) (declared_at s.world place)) of.header
         (λ header.
-        check (not header.is_abstract) (entered (at us) (frame_of place header arguments (active_in (still us) switch)
-        (previous_in (still us) switch)) header.max_stack vs))
+        check (not header.is_abstract && accepts (at us) place arguments) (entered (at us) (frame_of place header arguments
+        (active_in (still us) switch) (previous_in (still us) switch)) header.max_stack vs))
         (ap (option_and_then (λ (x : DeclaredMethod). x.method.header)) of.found ∙ of.header_is)
-        (safe_check s (not of.header.is_abstract)
+        (safe_check s (not of.header.is_abstract && accepts (at us) place arguments)
         (entered (at us) (frame_of place of.header arguments (active_in (still us) switch) (previous_in
         (still us) switch)) of.header.max_stack vs)
+        (and_true (not of.header.is_abstract) (accepts (at us) place arguments)
         (not_so of.header.is_abstract of.concrete)
+        (ap (λ (o : Option DeclaredMethod). option_map_or (λ (d : DeclaredMethod). may_begin_with shapes heap d arguments)
+        o false) may.there ∙ may.begins))
         (entered_safe place l.0 l.1 c.0 c.1 typed of arguments fit result given us vs site
         (active_in (still us) switch) (previous_in (still us) switch)))

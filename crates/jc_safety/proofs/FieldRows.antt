@@ -137,7 +137,7 @@ module _ {C : Type 0} (s : Surroundings C) (ground : Ground s) (m : Machine C) (
         by_object None e there = absurd cc
         by_object (Some o) e there =
             safe_some s (object_at m.heap n) o _ e
-            (rows.safe_to_store s ground m t d next us PutStaticReference n o (Some o.kind.mark) x safe)
+            (rows.safe_to_store s ground m t d next us PutStaticReference n o (Ref n) x safe)
     object_stored us Null x w h safe = safe
     object_stored us Unset x w h safe = absurd cc
 

@@ -31,7 +31,7 @@ use Rattle.jc_types.specs.declared.ty.Ty.TheVariants as types
 use Rattle.jc_machine.specs.Arrays.{loaded_as, stored_as}
 use Rattle.jc_machine.specs.Fields.{InstanceField, gets, puts, putting}
 use Rattle.jc_machine.specs.Going.{Here, check, gives, on_reference, on_reference_local, on_top}
-use Rattle.jc_machine.specs.Lookup.{fields_of, is_byte, is_kept_as, is_of_class, is_of_type, is_word, leads_to, mark_of}
+use Rattle.jc_machine.specs.Lookup.{fields_of, is_byte, is_kept_as, is_of_class, is_of_type, is_word, leads_to}
 use Rattle.jc_machine.specs.Machine.{Machine, Surroundings}
 use Rattle.jc_machine.specs.Typed.{CellsTyped, HaveTypes, HoldTypes, IsOperand, IsTyped, has_type, is_cell}
 use Rattle.jc_words.specs.Shorts.{low_byte, signed_byte}
@@ -255,7 +255,7 @@ module _ {C : Type 0} (s : Surroundings C) (ground : Ground s) (m : Machine C) (
         let fits = stored_typed shapes m.heap form declared x of_form x_typed in
         safe_some s (object_at m.heap n) o _ found
         (safe_check s (is_of_class shapes class o.kind.object) _ of_class
-        (rows.safe_to_store s ground m t d next us (putting form) n o (mark_of m.heap x) _
+        (rows.safe_to_store s ground m t d next us (putting form) n o x _
         (safe_check s (nat_lt cell (length o.cells)) _ (within_length o.cells cell c.0 c.1)
         (rows.leaves_stored s ground m t d next us vs after_it n o cell (stored_as form x) found
         (cell_put o.kind.object o.cells (stored_as form x) of_class fits typed) has_locals holds goes)))))

@@ -5,7 +5,9 @@ use Rattle.std.proofs.Common.{refl, sym, ap, ◌∙◌, subst, arith}
 use Rattle.std.proofs.lemmas.Bool.{eq-eqb, lt-ltb}
 use Rattle.std.specs.Option.{option_and_then, option_map_or}
 use Rattle.jc_api.specs.Class.{number_of}
+use Rattle.jc_api.specs.Member.{ApiMember, member_of}
 use Rattle.jc_api.specs.declared.class.ApiClass.TheVariants as api
+use Rattle.jc_api.specs.declared.class.ApiClass.TheVariants.{Applet}
 use Rattle.jc_base.specs.Signature.{Signature}
 use Rattle.jc_base.specs.declared.declared_type.DeclaredType.{DeclaredType}
 use Rattle.jc_base.specs.declared.declared_type.DeclaredType.TheVariants as Declared
@@ -40,6 +42,7 @@ use Rattle.jc_store.specs.declared.kind.ObjectType.TheVariants.{ShortArray}
 use Rattle.jc_types.specs.State.{Types, all_below}
 use Rattle.jc_types.specs.declared.ty.Ty.{Ty}
 use Rattle.jc_machine.specs.Calls.{callback_fits, called_as, calls_back, inner_native_ends, invokes, is_in_place_of}
+use Rattle.jc_machine.specs.Calls.{is_member_or_loaded}
 use Rattle.jc_machine.specs.Calls.{native_ends, native_gives, native_may_begin, native_type, on_native}
 use Rattle.jc_machine.specs.Calls.{type_of_member, virtual_member, with_given}
 use Rattle.jc_machine.specs.Going.{Here, leaves_operands, moved}
@@ -502,14 +505,18 @@ module _ {C : Type 0} (s : Surroundings C) (ground : Ground s) (m : Machine C) (
     called members heap runtime b (Api member) result arguments may instance owner us vs site =
         inner_native members heap runtime b member result arguments may instance owner (Some m.top.active) us vs site
 
-    in_place : (c : ClassName) (x : Signature ClassName) (name : MethodName) (y : DeclaredMethod)
+    in_place : (member : ℕ) (c : ClassName) (x : Signature ClassName) (name : MethodName) (y : DeclaredMethod)
+        → is_member_or_loaded member name ≡ true
         → method_at shapes name ≡ Some y → is_class_below shapes y.class c ≡ true
-        → method_type_of shapes name ≡ Some x → is_in_place_of shapes c x name ≡ true
-    in_place c x name y there below type =
-        and_true (option_map_or (λ (z : DeclaredMethod). is_class_below shapes z.class c) (method_at shapes name) false)
+        → method_type_of shapes name ≡ Some x → is_in_place_of shapes member c x name ≡ true
+    in_place member c x name y its there below type =
+        let declared : Bool = option_map_or (λ (z : DeclaredMethod). is_class_below shapes z.class c)
+        (method_at shapes name) false in
+        and_true (is_member_or_loaded member name && declared)
         (option_map_or (is_same_signature x) (method_type_of shapes name) false)
+        (and_true (is_member_or_loaded member name) declared its
         (ap (λ (o : Option DeclaredMethod). option_map_or (λ (z : DeclaredMethod). is_class_below shapes z.class c) o
-        false) there ∙ below)
+        false) there ∙ below))
         (ap (λ (o : Option (Signature ClassName)). option_map_or (is_same_signature x) o false) type
         ∙ signature_itself x)
 
@@ -553,6 +560,17 @@ module _ {C : Type 0} (s : Surroundings C) (ground : Ground s) (m : Machine C) (
       on_heir : IsHeir shapes on class
       on_heir = heir_below s ground on class fit.below made.class class_there
 
+      -- it is that member, or a package's
+      of_applet : fit.member.class ≡ Applet
+      of_applet =
+          sym (ap (λ (o : Option ApiMember). option_map_or (λ (x : ApiMember). x.class) o Applet)
+          (ap member_of (sym fit.shareable) ∙ fit.member_is))
+
+      stands_there : (name : MethodName) → virtual_method_of shapes on its.token 0 ≡ Some name
+          → is_member_or_loaded callback.member name ≡ true
+      stands_there (Api j) e = eq-eqb j callback.member (its.only of_applet on j on_heir e)
+      stands_there (Loaded number offset) e = refl
+
       calls_back_safe : (result : Option Ty) → returned_type given.result ≡ result → (us vs : List TaggedValue)
           → Site s ground m t result vs next → IsSafe s (calls_back (spot heap runtime b us) given callback vs)
       unfolding found_method
@@ -577,8 +595,9 @@ module _ {C : Type 0} (s : Surroundings C) (ground : Ground s) (m : Machine C) (
           (is_same_return given.result fit.signature.result)
           (are_of_types shapes heap fit.signature.parameters callback.arguments) fit.below fit.result arguments_fit)
           (safe_some s (virtual_method_of shapes on its.token 0) kept.method _ kept.found
-          (safe_check s (is_in_place_of shapes class fit.signature kept.method) _
-          (in_place class fit.signature kept.method f.declared f.there
+          (safe_check s (is_in_place_of shapes callback.member class fit.signature kept.method) _
+          (in_place callback.member class fit.signature kept.method f.declared (stands_there kept.method kept.found)
+          f.there
           (its.below on kept.method f.declared on_heir kept.found f.there) type)
           (called members heap runtime b kept.method result (Ref callback.object ∷ callback.arguments)
           (record {

@@ -24,8 +24,8 @@ use Rattle.jc_types.specs.State.{Types}
 use Rattle.jc_types.specs.declared.ty.Ty.{Ty}
 use Rattle.jc_machine.specs.Accepted.{linked_as}
 use Rattle.jc_machine.specs.Reading.{Pointwise}
-use Rattle.jc_machine.specs.Going.{Here, accessed, accessed_to_store, branches, facts_of, gives, leaves_operands, on_target, throws}
-use Rattle.jc_machine.specs.Going.{require, stored_in}
+use Rattle.jc_machine.specs.Going.{Here, accessed, accessed_to_store, asking, branches, gives, leaves_operands, on_target, throws}
+use Rattle.jc_machine.specs.Going.{require, stored_in, storing}
 use Rattle.jc_machine.specs.Lookup.{body_at, target_at}
 use Rattle.jc_machine.specs.Machine.{Machine, Stepped, Surroundings}
 use Rattle.jc_machine.specs.Natives.{IsThrown}
@@ -181,13 +181,13 @@ module _ {C : Type 0} (s : Surroundings C) (ground : Ground s) (m : Machine C) (
     pub safe_accessed : (us : List TaggedValue) (access : Access) (n : ℕ) (o : heaps.Object TaggedValue)
         → (x : Stepped C) → IsSafe s x → IsSafe s (accessed (here us) access n o x)
     safe_accessed us access n o x safe =
-        safe_judged s (here us) access n (facts_of (here us) o None false) (λ switch. x)
+        safe_judged s (here us) (asking access n) o (λ switch. x)
         (throws_at s ground m t us _ (security s ground m.heap t.beside.runtime_objects)) (λ switch. safe)
 
     pub safe_to_store : (us : List TaggedValue) (access : Access) (n : ℕ) (o : heaps.Object TaggedValue)
-        → (mark : Option Mark) (x : Stepped C) → IsSafe s x → IsSafe s (accessed_to_store (here us) access n o mark x)
-    safe_to_store us access n o mark x safe =
-        safe_judged s (here us) access n (facts_of (here us) o mark false) (λ switch. x)
+        → (v : TaggedValue) (x : Stepped C) → IsSafe s x → IsSafe s (accessed_to_store (here us) access n o v x)
+    safe_to_store us access n o v x safe =
+        safe_judged s (here us) (storing access n v) o (λ switch. x)
         (throws_at s ground m t us _ (security s ground m.heap t.beside.runtime_objects)) (λ switch. safe)
 
     pub safe_required : (us : List TaggedValue) (exception : ℕ) (b : Bool) (x : Stepped C)

@@ -7,8 +7,10 @@ use Rattle.jc_firewall.specs.declared.access.Verdict.{Verdict}
 use Rattle.jc_firewall.specs.declared.access.Verdict.TheVariants.{Allowed, AllowedSwitch, Denied}
 use Rattle.jc_firewall.specs.Verdict.{verdict_of}
 use Rattle.jc_names.specs.declared.owner.Owner.{Owner}
-use Rattle.jc_machine.specs.Going.{Here, by_verdict, check, judged, on_some, require, touched}
-use Rattle.jc_machine.specs.Machine.{Ends, Machine, Next, Outcome, Stepped, Stuck, Surroundings, Throws, Touch, UsedUp}
+use Rattle.jc_words.specs.Values.{TaggedValue}
+use Rattle.jc_store.specs.Heap.{Object}
+use Rattle.jc_machine.specs.Going.{Here, by_verdict, check, facts_of, judged, on_some, require, touched}
+use Rattle.jc_machine.specs.Machine.{Asked, Ends, Machine, Next, Outcome, Stepped, Stuck, Surroundings, Throws, Touch, UsedUp}
 use Rattle.jc_machine.specs.Natives.{IsThrown}
 use Rattle.jc_machine.specs.Runtime.{security_exception}
 use Rattle.jc_machine.specs.Typed.{IsPlaced, IsTyped, IsTypedBeside, WaitTyped, given_by}
@@ -49,16 +51,16 @@ module _ {C : Type 0} (s : Surroundings C) where
   safe_require h exception true x may go = go refl
   safe_require h exception false x may go = record { fine = may }
 
-  safe_verdict : (h : Here C) (access : Access) (number : ℕ) (verdict : Verdict) (go : Option Owner → Stepped C)
+  safe_verdict : (h : Here C) (asked : Asked) (verdict : Verdict) (go : Option Owner → Stepped C)
       → MayUnwind s h.machine security_exception
-      → ((switch : Option Owner) → IsSafe s (go switch)) → IsSafe s (by_verdict h access number verdict go)
-  safe_verdict h access number Allowed go may each = record { fine = (each None).fine }
-  safe_verdict h access number (AllowedSwitch owner) go may each = record { fine = (each (Some owner)).fine }
-  safe_verdict h access number (Denied rule) go may each = record { fine = may }
+      → ((switch : Option Owner) → IsSafe s (go switch)) → IsSafe s (by_verdict h asked verdict go)
+  safe_verdict h asked Allowed go may each = record { fine = (each None).fine }
+  safe_verdict h asked (AllowedSwitch owner) go may each = record { fine = (each (Some owner)).fine }
+  safe_verdict h asked (Denied rule) go may each = record { fine = may }
 
   -- an access: it is denied, or the step goes on, whoever is active then
-  pub safe_judged : (h : Here C) (access : Access) (number : ℕ) (facts : Facts) (go : Option Owner → Stepped C)
+  pub safe_judged : (h : Here C) (asked : Asked) (object : Object TaggedValue) (go : Option Owner → Stepped C)
       → MayUnwind s h.machine security_exception
-      → ((switch : Option Owner) → IsSafe s (go switch)) → IsSafe s (judged h access number facts go)
-  safe_judged h access number facts go may each =
-      safe_verdict h access number (verdict_of access h.machine.top.active.context facts) go may each
+      → ((switch : Option Owner) → IsSafe s (go switch)) → IsSafe s (judged h asked object go)
+  safe_judged h asked object go may each =
+      safe_verdict h asked (verdict_of asked.access h.machine.top.active.context (facts_of h asked object)) go may each

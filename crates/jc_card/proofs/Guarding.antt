@@ -8,7 +8,8 @@ use Rattle.jc_names.specs.declared.name.MethodName.{MethodName}
 use Rattle.jc_names.specs.declared.name.MethodName.TheVariants.{Loaded}
 use Rattle.jc_names.specs.declared.owner.Owner.{Owner}
 use Rattle.jc_machine.specs.Runtime.{apdu_buffer, install_array}
-use Rattle.jc_natives.specs.Kept.{after_install, with_command, with_install}
+use Rattle.jc_natives.specs.Kept.{after_install, with_command, with_install, without_command}
+use Rattle.jc_natives.specs.declared.kept.Installing.{Installing}
 use Rattle.jc_natives.specs.declared.kept.Instance.{Instance}
 use Rattle.jc_safety.specs.Starting.{method_for}
 use Rattle.jc_store.specs.Heap.{Heap, Object, object_at}
@@ -19,7 +20,7 @@ use Rattle.jc_card.proofs.LeadingCalls.{StepsGuarded, call_part}
 use Rattle.jc_card.proofs.LeadingWrites.{clear_part, write_part}
 use Rattle.jc_base.specs.declared.fault.LoadFault.{LoadFault}
 use Rattle.jc_safety.specs.Loading.{loaded_arrays, next_package}
-use Rattle.jc_card.specs.Accesses.{IsGuardedCommand, Leads, LeavesObjects}
+use Rattle.jc_card.specs.Accesses.{IsGuardedCommand, IsRunning, IsSameBeside, LeavesObjects}
 use Rattle.jc_card.specs.Accesses.Leads.{nowhere, onward}
 use Rattle.jc_card.specs.Card.{CardState, selected_instance, with_kept, with_selected}
 use Rattle.jc_card.specs.Command.{Command, buffer_of, command_of, not_selected, wrong_length}
@@ -33,17 +34,15 @@ use Rattle.jc_card.specs.declared.calls.AppletCall.{AppletCall}
 use Rattle.jc_card.specs.declared.calls.AppletCall.TheVariants as calls
 use Rattle.jc_card.specs.declared.fault.InstallFault.TheVariants as faults
 use Rattle.jc_card.specs.declared.places.AppletPlace.{AppletPlace}
-use Rattle.std.proofs.Common.{ap, not, nat_le, ◌==◌}
+use Rattle.std.proofs.Common.{ap, inl, inr, not, nat_le, ◌==◌}
 use Rattle.jc_link.specs.Built.{IsBuilt}
 use Rattle.jc_machine.specs.Apart.{IsSetApart, is_applets}
 use Rattle.jc_machine.specs.Runtime.{most_instances}
 use Rattle.jc_natives.specs.Apart.{names_applets}
 use Rattle.jc_natives.specs.Kept.{is_instance_number}
-use Rattle.jc_card.proofs.Leading.{led}
 use Rattle.jc_card.proofs.Owners.{buffer_is_global, deselect_keeps_numbers, install_is_global, next_number_fits}
-use Rattle.jc_card.proofs.Owners.{not_refused_few, place_has_number, selected_owner}
-use Rattle.jc_card.proofs.Sparing.{kept_through, nothing_kept_plain}
-use Rattle.jc_card.specs.Accesses.{IsApartCard, KeepsApart, KeepsPlain}
+use Rattle.jc_card.proofs.Owners.{not_refused_few, place_has_number, selected_is, selected_owner}
+use Rattle.jc_card.specs.Accesses.{IsApartCard, KeepsApart}
 
 -- ---- one part after the other
 
@@ -53,25 +52,25 @@ Fine c done = IfSome done (IsPart c)
 
 gives_part : {A : Type 0} (c : CardState) (value : A) → Fine c (gives c value)
 gives_part c value = record {
-  accesses = nowhere c.heap;
+  accesses = nowhere c c still;
   packages = refl;
-  apart = λ p. record { card = p; plain = nothing_kept_plain c.heap };
+  apart = λ p. record { card = p; plain = nowhere c c still };
 }
+  where
+    still : IsSameBeside c c
+    still = record { packages = refl; objects = refl; statics = refl; limits = refl; steps = refl }
 
 joined : {A B : Type 0} (c : CardState) (l : Left A) (next : Option (Left B)) → IsPart c l → Fine l.card next
     → Fine c (option_map (behind l.touches) next)
 joined c l None first h = tt
 joined c l (Some m) first h = record {
-  accesses =
-      onward c.heap l.card.heap m.card.heap l.touches m.touches first.accesses
-      (subst (λ (w : World). Leads w l.card.heap m.touches m.card.heap) first.packages h.accesses);
+  accesses = onward c l.card m.card l.touches m.touches first.accesses h.accesses;
   packages = h.packages ∙ first.packages;
   apart = λ p.
       let f = first.apart p in
       let n = h.apart f.card in record {
         card = n.card;
-        plain = kept_through c.heap l.card.heap m.card.heap l.touches m.touches (led first.accesses).objects f.plain
-            n.plain;
+        plain = onward c l.card m.card l.touches m.touches f.plain n.plain;
       };
 }
 
@@ -88,24 +87,20 @@ then_known : {A B : Type 0} (c : CardState) (done : Option (Left A)) (next : Car
 then_known c None next Known h k each = tt
 then_known c (Some l) next Known h k each = joined c l (next l.card l.value) h (each l.card l.value k)
 
--- a card with the same packages and objects, on which the runtime keeps applets' instances if it did before
-moved : {A : Type 0} (c d : CardState) (done : Option (Left A)) → d.world ≡ c.world → d.heap ≡ c.heap
+-- a card that is the same but for what the runtime keeps and which instance is selected; and it keeps applets'
+-- instances if it did before
+moved : {A : Type 0} (c d : CardState) (done : Option (Left A)) → IsSameBeside c d
     → (names_applets c.kept ≡ true → names_applets d.kept ≡ true) → Fine d done → Fine c done
-moved c d None packages heap instances h = tt
-moved c d (Some l) packages heap instances h = record {
-  accesses =
-      subst (λ (w : World). Leads w c.heap l.touches l.card.heap) packages
-      (subst (λ (before : Heap TaggedValue). Leads d.world before l.touches l.card.heap) heap h.accesses);
-  packages = h.packages ∙ packages;
+moved c d None same instances h = tt
+moved c d (Some l) same instances h = record {
+  accesses = onward c d l.card [] l.touches (nowhere c d same) h.accesses;
+  packages = h.packages ∙ same.packages;
   apart = λ p.
       let k = h.apart (record {
-        packages = subst (λ (w : World). IsBuilt w.shapes) (sym packages) p.packages;
-        objects = subst IsSetApart (sym heap) p.objects;
+        packages = subst (λ (w : World). IsBuilt w.shapes) (sym same.packages) p.packages;
+        objects = subst IsSetApart (sym same.objects) p.objects;
         instances = instances p.instances;
-      }) in record {
-        card = k.card;
-        plain = subst (λ (before : Heap TaggedValue). KeepsPlain l.touches before l.card.heap) heap k.plain;
-      };
+      }) in record { card = k.card; plain = onward c d l.card [] l.touches (nowhere c d same) k.plain };
 }
 
 either : {A : Type 0} (c : CardState) (b : Bool) (x y : Option (Left A)) → Fine c x → Fine c y → Fine c (cond b x y)
@@ -125,26 +120,28 @@ or_else c (Some x) go other each h = each x refl
 module _ (laws : StepsGuarded) where
   -- ---- calls
 
-  method_part : (c : CardState) (selected : ℕ) (owner : Owner) (method : MethodName) (arguments : List TaggedValue)
-      → (IsApartCard c → is_applets owner ≡ true) → Fine c (call_method c selected owner method arguments)
-  method_part c selected owner method arguments whose = call_part laws c (Some selected) owner method arguments whose
+  method_part : (c : CardState) (owner : Owner) (method : MethodName) (arguments : List TaggedValue)
+      → IsRunning c owner → (IsApartCard c → is_applets owner ≡ true)
+      → Fine c (call_method c owner.context owner method arguments)
+  method_part c owner method arguments running whose = call_part laws c owner method arguments running whose
 
   on_part : (c : CardState) (i : Instance) (call : AppletCall) (object : Object TaggedValue)
-      → (IsApartCard c → is_applets i.owner ≡ true) → Fine c (call_on c i call object)
-  on_part c i call object whose =
+      → IsRunning c i.owner → (IsApartCard c → is_applets i.owner ≡ true) → Fine c (call_on c i call object)
+  on_part c i call object running whose =
       if_some c (method_for c.world.shapes object (member_called call))
       (λ method. call_method c i.owner.context i.owner method (Ref i.object ∷ arguments_of call))
-      (λ method. method_part c i.owner.context i.owner method (Ref i.object ∷ arguments_of call) whose)
+      (λ method. method_part c i.owner method (Ref i.object ∷ arguments_of call) running whose)
 
-  applet_part : (c : CardState) (i : Instance) (call : AppletCall) → (IsApartCard c → is_applets i.owner ≡ true)
-      → Fine c (call_applet c i call)
-  applet_part c i call whose =
-      if_some c (object_at c.heap i.object) (call_on c i call) (λ object. on_part c i call object whose)
+  applet_part : (c : CardState) (i : Instance) (call : AppletCall) → IsRunning c i.owner
+      → (IsApartCard c → is_applets i.owner ≡ true) → Fine c (call_applet c i call)
+  applet_part c i call running whose =
+      if_some c (object_at c.heap i.object) (call_on c i call) (λ object. on_part c i call object running whose)
 
   selected_part : (call : AppletCall) (c : CardState) → Fine c (call_selected c call)
   selected_part call c =
       or_else c (selected_instance c) (λ i. call_applet c i call) (gives c (Normally None))
-      (λ i e. applet_part c i call (λ p. selected_owner c.kept c.selected i p.instances e))
+      (λ i e. applet_part c i call (inl (selected_is c.kept c.selected i e))
+      (λ p. selected_owner c.kept c.selected i p.instances e))
       (λ e. gives_part c (Normally None))
 
   -- ---- selection
@@ -154,7 +151,7 @@ module _ (laws : StepsGuarded) where
       or_else c c.selected
       (λ (owner : Owner). clear events.Deselect (Some owner.context) (with_selected c None)) (gives c tt)
       (λ owner e. moved c (with_selected c None)
-      (clear events.Deselect (Some owner.context) (with_selected c None)) refl refl (λ names. names)
+      (clear events.Deselect (Some owner.context) (with_selected c None)) (record { packages = refl; objects = refl; statics = refl; limits = refl; steps = refl }) (λ names. names)
       (clear_part laws events.Deselect (Some owner.context) (with_selected c None))) (λ e. gives_part c tt)
 
   deselect_part : (c : CardState) → Fine c (commands.deselect c)
@@ -166,7 +163,7 @@ module _ (laws : StepsGuarded) where
 
   answered_part : (c : CardState) (ended : Ended) → Fine c (commands.answered c ended)
   answered_part c ended = record {
-    accesses = nowhere c.heap;
+    accesses = nowhere c (with_kept c (without_command c.kept)) closed;
     packages = refl;
     apart = λ p. record {
       card = record {
@@ -174,14 +171,17 @@ module _ (laws : StepsGuarded) where
         objects = p.objects;
         instances = laws.closed c.kept p.instances;
       };
-      plain = nothing_kept_plain c.heap;
+      plain = nowhere c (with_kept c (without_command c.kept)) closed;
     };
   }
+    where
+      closed : IsSameBeside c (with_kept c (without_command c.kept))
+      closed = record { packages = refl; objects = refl; statics = refl; limits = refl; steps = refl }
 
   process_part : (c : CardState) (k : Command) (selecting : Bool) → Fine c (commands.process c k selecting)
   process_part c k selecting =
       let d = with_kept c (with_command c.kept k.incoming k.expected selecting) in
-      moved c d (and_then (call_selected d calls.Process) commands.answered) refl refl
+      moved c d (and_then (call_selected d calls.Process) commands.answered) (record { packages = refl; objects = refl; statics = refl; limits = refl; steps = refl })
       (λ names. laws.opened c.kept names k.incoming k.expected selecting)
       (then_part d (call_selected d calls.Process) commands.answered (selected_part calls.Process d) answered_part)
 
@@ -203,7 +203,7 @@ module _ (laws : StepsGuarded) where
   choose_part : (owner : Owner) (k : Command) (c : CardState) → Fine c (commands.choose c owner k)
   choose_part owner k c =
       let d = with_selected c (Some owner) in
-      moved c d (commands.ask d k) refl refl (λ names. names) (ask_part k d)
+      moved c d (commands.ask d k) (record { packages = refl; objects = refl; statics = refl; limits = refl; steps = refl }) (λ names. names) (ask_part k d)
 
   select_part : (c : CardState) (owner : Owner) (k : Command) → Fine c (commands.select c owner k)
   select_part c owner k =
@@ -224,7 +224,7 @@ module _ (laws : StepsGuarded) where
   receive_part : (c : CardState) (k : Command) → Fine c (commands.receive c k)
   receive_part c k =
       then_part c (write apdu_buffer (buffer_of k) c) (λ c u. commands.perform c k)
-      (write_part laws apdu_buffer (buffer_of k) c (buffer_is_global c)) (λ d u. perform_part k d)
+      (write_part laws apdu_buffer (buffer_of k) c (inl refl) (buffer_is_global c)) (λ d u. perform_part k d)
 
   apdu_part : (c : CardState) (bytes : List ℕ) → Fine c (commands.apdu_command c bytes)
   apdu_part c bytes =
@@ -234,7 +234,7 @@ module _ (laws : StepsGuarded) where
   reset_part : (c : CardState) → Fine c (commands.reset_command c)
   reset_part c =
       let d = with_selected c None in
-      moved c d (and_then (clear events.Reset None d) (λ c u. clear events.Deselect None c)) refl refl
+      moved c d (and_then (clear events.Reset None d) (λ c u. clear events.Deselect None c)) (record { packages = refl; objects = refl; statics = refl; limits = refl; steps = refl })
       (λ names. names)
       (then_part d (clear events.Reset None d) (λ c u. clear events.Deselect None c)
       (clear_part laws events.Reset None d) (λ e u. clear_part laws events.Deselect None e))
@@ -245,19 +245,23 @@ module _ (laws : StepsGuarded) where
   settle_part owner c ended =
       let d = with_kept c (after_install c.kept (installs.succeeds c ended)) in
       let says = λ (after : CardState) (u : Unit {0}). gives after (installs.installed c owner ended) in
-      moved c d (and_then (clear events.Deselect (Some owner.context) d) says) refl refl
+      moved c d (and_then (clear events.Deselect (Some owner.context) d) says) (record { packages = refl; objects = refl; statics = refl; limits = refl; steps = refl })
       (λ names. laws.over c.kept names (installs.succeeds c ended))
       (then_part d (clear events.Deselect (Some owner.context) d) says
       (clear_part laws events.Deselect (Some owner.context) d)
       (λ e u. gives_part e (installs.installed c owner ended)))
 
   module _ (place : AppletPlace) (owner : Owner) (whose : is_applets owner ≡ true) where
-    called_part : (size : ℕ) (c : CardState)
+    -- the instance that is being installed is this owner's
+    abbrev IsInstalling : CardState → Type 0
+    IsInstalling c = option_map (λ (i : Installing). i.owner) c.kept.installing ≡ Some owner
+
+    called_part : (size : ℕ) (c : CardState) → IsInstalling c
         → Fine c (and_then (installs.call_install c place owner size) (λ c ended. installs.settle c owner ended))
-    called_part size c =
+    called_part size c installing =
         then_part c (installs.call_install c place owner size) (λ c ended. installs.settle c owner ended)
-        (method_part c owner.context owner (Loaded place.number place.install)
-        (Ref install_array ∷ Word 0 ∷ Word size ∷ []) (λ p. whose)) (settle_part owner)
+        (method_part c owner (Loaded place.number place.install)
+        (Ref install_array ∷ Word 0 ∷ Word size ∷ []) (inr installing) (λ p. whose)) (settle_part owner)
 
     install_as_part : is_instance_number owner.instance ≡ true → (c : CardState) (applet instance incoming : List ℕ)
         → Fine c (installs.install_as c place owner applet instance incoming)
@@ -268,10 +272,11 @@ module _ (laws : StepsGuarded) where
         let next = λ (c : CardState) (u : Unit {0}). and_then
         (installs.call_install c place owner (length parameters))
         (λ (c : CardState) (ended : Ended). installs.settle c owner ended) in
-        moved c d (and_then (write install_array words d) next) refl refl
+        moved c d (and_then (write install_array words d) next) (record { packages = refl; objects = refl; statics = refl; limits = refl; steps = refl })
         (λ names. laws.begun c.kept names owner applet whose numbered)
-        (then_part d (write install_array words d) next
-        (write_part laws install_array words d (install_is_global d)) (λ e u. called_part (length parameters) e))
+        (then_known d (write install_array words d) next IsInstalling
+        (write_part laws install_array words d (inr refl) (install_is_global d)) refl
+        (λ e u installing. called_part (length parameters) e installing))
 
   -- an applet's package has a number from one on, and an instance that isn't refused one to 32
   accepted_part : (c : CardState) (place : AppletPlace) (applet instance incoming : List ℕ)

@@ -1,17 +1,24 @@
 -- Accesses, one after the other: what was accessed then, and which objects change.
-use Rattle.std.proofs.Common.{◌≡◌, ℕ, zero, suc, List, [], ◌∷◌, ◌++◌, Some, inl, inr, refl, sym}
-use Rattle.std.proofs.Common.{ap, ◌∙◌, slice_get}
+use Rattle.std.proofs.Common.{◌≡◌, ◌⊎◌, ℕ, zero, suc, List, [], ◌∷◌, ◌++◌, Option, Some, inl, inr, refl, sym}
+use Rattle.std.proofs.Common.{ap, ◌∙◌, slice_get, subst}
 use Rattle.std.proofs.lemmas.Option.{same_Some}
-use Rattle.jc_link.specs.Linked.{World}
-use Rattle.jc_machine.specs.Guarded.{IsAccessed}
-use Rattle.jc_machine.specs.Machine.{Touch}
+use Rattle.jc_firewall.specs.Verdict.{runtime_context}
+use Rattle.jc_machine.specs.Guarded as steps
+use Rattle.jc_machine.specs.Guarded.{ChangesAccessed, machine_of}
+use Rattle.jc_machine.specs.Machine.{Ends, Machine, Next, Outcome, Stuck, Surroundings, Throws, Touch, UsedUp}
 use Rattle.jc_machine.specs.Natives.{KeepsObjects}
+use Rattle.jc_machine.specs.Step.{defensive_step}
 use Rattle.jc_names.specs.declared.owner.Owner.{Owner}
+use Rattle.jc_natives.specs.Kept.{Kept}
 use Rattle.jc_store.specs.Heap.{Heap, Object}
 use Rattle.jc_store.specs.declared.kind.Kind.{Kind}
+use Rattle.jc_store.specs.declared.kind.Mark.TheVariants.{Plain}
 use Rattle.jc_words.specs.Values.{TaggedValue}
-use Rattle.jc_card.specs.Accesses.{ChangesBy, IsApartCard, IsGuardedCommand, KeepsApart, Leads, LeavesObjects}
-use Rattle.jc_card.specs.Accesses.Leads.{by_native, by_runtime, by_step, nowhere, onward}
+use Rattle.jc_card.specs.Accesses.{ChangesBy, IsAccessed, IsApartCard, IsGuardedCommand, KeepsApart, Leads}
+use Rattle.jc_card.specs.Accesses.{LeavesObjects, RunsAs, Steps, law_of_accesses, machine_at_end}
+use Rattle.jc_card.specs.Accesses.Leads.{by_call, by_clearing, by_write, nowhere, onward as led_onward}
+use Rattle.jc_card.specs.Accesses.RunsAs.{by_method, by_native, by_none}
+use Rattle.jc_card.specs.Accesses.Steps.{last, onward, spent}
 use Rattle.jc_card.specs.Card.{CardState}
 use Rattle.jc_card.specs.Parts.{Left}
 
@@ -45,6 +52,7 @@ accessed_first xs ys n o a = record {
   touch = a.touch;
   listed = got_first xs ys a.place a.touch a.listed;
   is = a.is;
+  changes = a.changes;
   allowed = a.allowed;
   own = a.own;
 }
@@ -57,6 +65,7 @@ accessed_later (x ∷ xs) ys n o a =
       touch = b.touch;
       listed = b.listed;
       is = b.is;
+      changes = b.changes;
       allowed = b.allowed;
       own = b.own;
     }
@@ -69,6 +78,7 @@ accessed_before xs n o p kind owner a = record {
   touch = a.touch;
   listed = a.listed;
   is = a.is;
+  changes = a.changes;
   allowed = a.allowed;
   own = λ plain.
       elim (a.own (ap (λ (k : Kind). k.mark) kind ∙ plain)) [
@@ -76,6 +86,26 @@ accessed_before xs n o p kind owner a = record {
         | inr other ↦ inr other
       ];
 }
+
+-- what is accessed in a context is accessed in its own, if it is plain
+pub accessed_in : (active : ℕ) (xs : List Touch) (n : ℕ) (o : Object TaggedValue) → steps.IsAccessed active xs n o
+    → IsAccessed xs n o
+accessed_in active xs n o a = record {
+  place = a.place;
+  touch = a.touch;
+  listed = a.listed;
+  is = a.is;
+  changes = a.changes;
+  allowed = a.allowed;
+  own = λ plain. by_who a.who (a.own plain);
+}
+  where
+    by_who : (a.touch.active ≡ active) ⊎ (a.touch.active ≡ runtime_context)
+        → (active ≡ o.owner.context) ⊎ (a.touch.active ≡ runtime_context)
+        → (a.touch.active ≡ o.owner.context) ⊎ (a.touch.active ≡ runtime_context)
+    by_who (inl same) (inl own) = inl (same ∙ own)
+    by_who (inr runtime) (inl own) = inr runtime
+    by_who who (inr runtime) = inr runtime
 
 -- ---- what changes
 
@@ -104,19 +134,60 @@ added_up a b c xs ys first next = record {
       ];
 }
 
+-- by accesses in a context
+changes_in : (active : ℕ) (xs : List Touch) (a b : Heap TaggedValue) → KeepsObjects a b
+    → ChangesAccessed active xs a b → ChangesBy xs a b
+changes_in active xs a b kept changes = record {
+  objects = kept;
+  components = λ n o p e f.
+      elim (changes n o p e f) [ | inl same ↦ inl same | inr c ↦ inr (accessed_in active xs n o c) ];
+}
+
+-- ---- steps
+
+-- what is left at an end is left
+pub left_at_end : (o : Outcome Kept) (after : Machine Kept) → machine_at_end o ≡ Some after → machine_of o ≡ Some after
+left_at_end (Next m) after e = absurd cc
+left_at_end (Throws m object) after e = e
+left_at_end (Ends m value) after e = e
+left_at_end (UsedUp m) after e = e
+left_at_end Stuck after e = e
+
+led_steps : {s : Surroundings Kept} {n : ℕ} {m after : Machine Kept} {xs : List Touch}
+    → Steps law_of_accesses s n m xs after → ChangesBy xs m.heap after.heap
+led_steps (spent m) = nothing_changes m.heap
+led_steps {s = s} (last n m after lawful e) =
+    let left = left_at_end (defensive_step s m).outcome after e in
+    changes_in m.top.active.context (defensive_step s m).touches m.heap after.heap (lawful.kept after left)
+    (lawful.guarded.changes after left)
+led_steps {s = s} (onward n m next after more lawful e rest) =
+    let left = ap (λ (o : Outcome Kept). machine_of o) e in
+    added_up m.heap next.heap after.heap (defensive_step s m).touches more
+    (changes_in m.top.active.context (defensive_step s m).touches m.heap next.heap (lawful.kept next left)
+    (lawful.guarded.changes next left)) (led_steps rest)
+
+led_call : {c : CardState} {owner : Owner} {xs : List Touch} {after : Machine Kept}
+    → RunsAs law_of_accesses c owner xs after → ChangesBy xs c.heap after.heap
+led_call (by_method place header arguments touches after run) = led_steps run
+led_call {c = c} (by_none f is) = nothing_changes c.heap
+led_call {c = c} {owner = owner} (by_native member arguments f is lawful) =
+    changes_in owner.context _ c.heap _ lawful.kept lawful.changes
+
 -- ---- a command
 
-pub led : {w : World} {a b : Heap TaggedValue} {xs : List Touch} → Leads w a xs b → ChangesBy xs a b
-led (nowhere heap) = nothing_changes heap
-led (by_step s m after is e guarded kept) = record { objects = kept; components = guarded.changes after e }
-led (by_native call guarded) = record { objects = guarded.kept; components = guarded.changes }
-led (by_runtime before after touches work) = record { objects = work.kept; components = work.changes }
-led (onward before between after touches more first next) =
-    added_up before between after touches more (led first) (led next)
+pub led : {c d : CardState} {xs : List Touch} → Leads law_of_accesses c xs d → ChangesBy xs c.heap d.heap
+led (nowhere c d same) =
+    subst (λ (heap : Heap TaggedValue). ChangesBy [] c.heap heap) (sym same.objects) (nothing_changes c.heap)
+led (by_call c owner touches after running run) = led_call run
+led (by_write c number heap which work others claim) = changes_in runtime_context _ c.heap heap work.kept work.changes
+led (by_clearing c event context touches heap work clears) =
+    changes_in runtime_context touches c.heap heap work.kept work.changes
+led (led_onward c between after touches more first next) =
+    added_up c.heap between.heap after.heap touches more (led first) (led next)
 
 -- a part of a command: where its accesses lead, that the packages stay, and that it keeps a card apart
 pub record IsPart {A : Type 0} (c : CardState) (l : Left A) : Type 0 where
-  pub accesses : Leads c.world c.heap l.touches l.card.heap
+  pub accesses : Leads law_of_accesses c l.touches l.card
   pub packages : l.card.world ≡ c.world
   pub apart : IsApartCard c → KeepsApart c l.touches l.card
 

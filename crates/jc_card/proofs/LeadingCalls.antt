@@ -4,12 +4,16 @@ use Rattle.std.proofs.Common.{Option, Some, None, Bool, true, false}
 use Rattle.std.proofs.Common.{cond, refl, ap, ◌∙◌, ◌&&◌, IfSome}
 use Rattle.jc_cap_desc.specs.Shape.{Shape}
 use Rattle.jc_link.specs.Built.{IsBuilt}
-use Rattle.jc_machine.specs.Apart.{AddsFor, AreNativesApart, HaveApiMembers, IsApart, IsApartAnswer, IsSetApart}
+use Rattle.jc_machine.specs.Apart.{AreNativesApart, HaveApiMembers, IsApart, IsApartAnswer, IsSetApart}
 use Rattle.jc_machine.specs.Apart.{StaysApart, is_applets}
 use Rattle.jc_natives.specs.Apart.{names_applets}
-use Rattle.jc_card.proofs.Leading.{led}
-use Rattle.jc_card.proofs.Sparing.{kept_through, nothing_kept_plain, spared}
-use Rattle.jc_card.specs.Accesses.{IsApartCard, KeepsPlain}
+use Rattle.std.proofs.Common.{append-nil, sym, subst}
+use Rattle.jc_card.proofs.Leading.{left_at_end}
+use Rattle.jc_card.proofs.Sparing.{spared}
+use Rattle.jc_card.specs.Accesses.{Claims, IsApartCard, IsLawfulStep, IsRunning, RunsAs, Steps, call_as, law_of_accesses}
+use Rattle.jc_card.specs.Accesses.{law_of_plain_objects, machine_at_end, machine_with}
+use Rattle.jc_card.specs.Accesses.RunsAs.{by_method, by_native, by_none}
+use Rattle.jc_card.specs.Accesses.Steps.{last, onward, spent}
 use Rattle.jc_card.specs.Card.{left_by}
 use Rattle.jc_card.specs.Parts.{Normally, OutOfBudget, Uncaught}
 use Rattle.jc_base.specs.Signature.{Signature}
@@ -18,9 +22,9 @@ use Rattle.jc_classes.specs.Members.{DeclaredMethod}
 use Rattle.jc_cap_method.specs.declared.header.MethodHeader.{MethodHeader}
 use Rattle.jc_link.specs.Linked.{World}
 use Rattle.jc_machine.specs.Calls.{frame_of, has_room, native_may_begin, native_type}
-use Rattle.jc_machine.specs.Guarded.{IsGuarded, machine_of}
+use Rattle.jc_machine.specs.Guarded.{AddsFor, IsGuarded, machine_of}
 use Rattle.jc_machine.specs.Lookup.{is_given, is_throwable, declared_at}
-use Rattle.jc_machine.specs.Machine.{Calls, Ends, Frame, Gives, IsStuck, Machine, MethodPlace, NativeAnswer}
+use Rattle.jc_machine.specs.Machine.{Calls, Ends, Frame, Gives, IsStuck, Machine, MethodPlace, NativeAnswer, NativeCall}
 use Rattle.jc_machine.specs.Machine.{NativeEnd, Next, Outcome, Stuck, Surroundings, Throws, ThrowsObject, Touch, UsedUp}
 use Rattle.jc_machine.specs.Natives.{AreNativesGuarded, IsGuardedAnswer, KeepsObjects}
 use Rattle.jc_machine.specs.Step.{Called, CallEnd, Gave, RanOut, Start, Threw, WasStuck, after_first_native, begun}
@@ -39,8 +43,7 @@ use Rattle.jc_natives.specs.Meaning.{meaning}
 use Rattle.jc_store.specs.Heap.{Heap, Object, object_at}
 use Rattle.jc_words.specs.Values.{TaggedValue}
 use Rattle.jc_card.proofs.Leading.{IsPart}
-use Rattle.jc_card.specs.Accesses.{Leads}
-use Rattle.jc_card.specs.Accesses.Leads.{by_native, by_step, nowhere, onward}
+use Rattle.jc_card.specs.Accesses.Leads.{by_call}
 use Rattle.jc_card.specs.Card.{CardState, around}
 use Rattle.jc_card.specs.Parts.{Ended, ended, ended_call}
 
@@ -64,182 +67,206 @@ pub record StepsGuarded : Type 0 where
       → names_applets (with_command k incoming expected selecting) ≡ true
   pub closed : (k : Kept) → names_applets k ≡ true → names_applets (without_command k) ≡ true
 
-module _ (laws : StepsGuarded) (c : CardState) (selected : Option ℕ) where
+module _ (laws : StepsGuarded) (c : CardState) (owner : Owner) where
   abbrev s : Surroundings Kept
-  s = around c selected
+  s = around c (Some owner.context)
 
   abbrev w : World
   w = c.world
 
-  -- ---- how a call ends
+  -- ---- steps
 
   -- a machine that is apart, in a world that is built
   record IsFit (m : Machine Kept) : Type 0 where
     built : IsBuilt w.shapes
     apart : IsApart names_applets m
 
-  -- where accesses lead; and, if this held before, the machine is apart behind them, and plain objects are kept
-  record AreLed (P : Type 0) (heap : Heap TaggedValue) (touches : List Touch) (m : Machine Kept) : Type 0 where
-    accesses : Leads w heap touches m.heap
-    fit : P → IsFit m
-    plain : P → KeepsPlain touches heap m.heap
+  -- at most so many steps lead so; and, if the first machine is apart, so is the last, and plain objects are kept
+  record AreLed (n : ℕ) (m : Machine Kept) (touches : List Touch) (after : Machine Kept) : Type 0 where
+    steps : Steps law_of_accesses s n m touches after
+    fit : IsFit m → IsFit after
+    plain : IsFit m → Steps law_of_plain_objects s n m touches after
 
-  abbrev led_end : Type 0 → Heap TaggedValue → List Touch → CallEnd Kept → Type 0
-  led_end P heap touches (Gave m value) = AreLed P heap touches m
-  led_end P heap touches (Threw m object at) = AreLed P heap touches m
-  led_end P heap touches (RanOut m spent at) = AreLed P heap touches m
-  led_end P heap touches WasStuck = Unit {0}
+  abbrev led_end : ℕ → Machine Kept → List Touch → CallEnd Kept → Type 0
+  led_end n m touches (Gave after value) = AreLed n m touches after
+  led_end n m touches (Threw after object at) = AreLed n m touches after
+  led_end n m touches (RanOut after spent at) = AreLed n m touches after
+  led_end n m touches WasStuck = Unit {0}
 
-  abbrev leads_to : Type 0 → Heap TaggedValue → Called Kept → Type 0
-  leads_to P heap called = led_end P heap called.touches called.ends
+  abbrev leads_to : ℕ → Machine Kept → Called Kept → Type 0
+  leads_to n m called = led_end n m called.touches called.ends
 
-  -- no access
-  stays : (P : Type 0) (m : Machine Kept) → (P → IsFit m) → AreLed P m.heap [] m
-  stays P m fit = record { accesses = nowhere m.heap; fit = fit; plain = λ p. nothing_kept_plain m.heap }
+  lawful : (m : Machine Kept) → IsLawfulStep s m
+  lawful m =
+      record { guarded = laws.steps s laws.members m; kept = λ after e. laws.kept s laws.members m after e }
 
-  module _ (P : Type 0) (heap : Heap TaggedValue) (between : Machine Kept) (touches : List Touch)
-      (first : AreLed P heap touches between) where
-    led_on : (more : List Touch) (m : Machine Kept) → AreLed (IsFit between) between.heap more m
-        → AreLed P heap (touches ++ more) m
-    led_on more m next = record {
-      accesses = onward heap between.heap m.heap touches more first.accesses next.accesses;
-      fit = λ p. next.fit (first.fit p);
-      plain = λ p.
-          kept_through heap between.heap m.heap touches more (led first.accesses).objects (first.plain p)
-          (next.plain (first.fit p));
+  stays_apart : (m : Machine Kept) → IsFit m → StaysApart names_applets s m
+  stays_apart m p = laws.apart_steps s laws.members laws.apart_members (laws.api w.shapes p.built) m p.apart
+
+  fit_behind : (m after : Machine Kept) → machine_of (defensive_step s m).outcome ≡ Some after → IsFit m → IsFit after
+  fit_behind m after e p = record { built = p.built; apart = (stays_apart m p).after after e }
+
+  -- a step that ends the call
+  module _ (n : ℕ) (m after : Machine Kept) (e : machine_at_end (defensive_step s m).outcome ≡ Some after) where
+    nothing_more : (claims : Claims) → Steps claims s (suc n) m (defensive_step s m).touches after
+        → Steps claims s (suc n) m ((defensive_step s m).touches ++ []) after
+    nothing_more claims h =
+        subst (λ (l : List Touch). Steps claims s (suc n) m l after) (sym (append-nil (defensive_step s m).touches)) h
+
+    end_led : AreLed (suc n) m ((defensive_step s m).touches ++ []) after
+    end_led = record {
+      steps = nothing_more law_of_accesses (last n m after (lawful m) e);
+      fit = fit_behind m after (left_at_end (defensive_step s m).outcome after e);
+      plain = λ p. nothing_more law_of_plain_objects (last n m after (stays_apart m p).plain e);
     }
 
-    end_joined : (more : List Touch) (ends : CallEnd Kept) → led_end (IsFit between) between.heap more ends
-        → led_end P heap (touches ++ more) ends
-    end_joined more (Gave m value) next = led_on more m next
-    end_joined more (Threw m object at) next = led_on more m next
-    end_joined more (RanOut m spent at) next = led_on more m next
-    end_joined more WasStuck next = tt
+  -- one that doesn't
+  module _ (n : ℕ) (m next : Machine Kept) (e : (defensive_step s m).outcome ≡ Next next) where
+    led_on : (more : List Touch) (after : Machine Kept) → AreLed n next more after
+        → AreLed (suc n) m ((defensive_step s m).touches ++ more) after
+    led_on more after h = record {
+      steps = onward n m next after more (lawful m) e h.steps;
+      fit = λ p. h.fit (fit_behind m next (ap (λ (o : Outcome Kept). machine_of o) e) p);
+      plain = λ p.
+          onward n m next after more (stays_apart m p).plain e
+          (h.plain (fit_behind m next (ap (λ (o : Outcome Kept). machine_of o) e) p));
+    }
 
-  -- of what holds before, less may be known
-  less_known : (P Q : Type 0) (heap : Heap TaggedValue) (called : Called Kept) → (Q → P) → leads_to P heap called
-      → leads_to Q heap called
-  less_known P Q heap called gives h = by_end called.touches called.ends h
-    where
-      led_less : (touches : List Touch) (m : Machine Kept) → AreLed P heap touches m → AreLed Q heap touches m
-      led_less touches m h = record {
-        accesses = h.accesses;
-        fit = λ q. h.fit (gives q);
-        plain = λ q. h.plain (gives q);
+    end_joined : (more : List Touch) (ends : CallEnd Kept) → led_end n next more ends
+        → led_end (suc n) m ((defensive_step s m).touches ++ more) ends
+    end_joined more (Gave after value) h = led_on more after h
+    end_joined more (Threw after object at) h = led_on more after h
+    end_joined more (RanOut after spent at) h = led_on more after h
+    end_joined more WasStuck h = tt
+
+  by_outcome : (n : ℕ) (m : Machine Kept) (lacking : Budget) (at : Option CodePoint) (o : Outcome Kept)
+      → (defensive_step s m).outcome ≡ o → ((next : Machine Kept) → leads_to n next (steps_of s n next))
+      → leads_to (suc n) m
+      (called_so_far (defensive_step s m).touches (continued lacking at (steps_of s n) o))
+  by_outcome n m lacking at (Next next) e each =
+      end_joined n m next e (steps_of s n next).touches (steps_of s n next).ends (each next)
+  by_outcome n m lacking at (Throws after object) e each =
+      end_led n m after (ap (λ (o : Outcome Kept). machine_at_end o) e)
+  by_outcome n m lacking at (Ends after value) e each =
+      end_led n m after (ap (λ (o : Outcome Kept). machine_at_end o) e)
+  by_outcome n m lacking at (UsedUp after) e each =
+      end_led n m after (ap (λ (o : Outcome Kept). machine_at_end o) e)
+  by_outcome n m lacking at Stuck e each = tt
+
+  steps_lead : (n : ℕ) (m : Machine Kept) → leads_to n m (steps_of s n m)
+  unfolding steps_of
+  steps_lead zero m = record { steps = spent m; fit = λ p. p; plain = λ p. spent m }
+  steps_lead (suc n) m =
+      by_outcome n m (room_lacking s (m.top ∷ m.waiting)) (Some (point_of m.top)) (defensive_step s m).outcome refl
+      (steps_lead n)
+
+  -- ---- a call
+
+  -- what is called as an applet
+  record IsFitStart : Type 0 where
+    built : IsBuilt w.shapes
+    objects : IsSetApart c.heap
+    instances : names_applets c.kept ≡ true
+    applets : is_applets owner ≡ true
+
+  record IsCallLed (touches : List Touch) (after : Machine Kept) : Type 0 where
+    runs : RunsAs law_of_accesses c owner touches after
+    fit : IsFitStart → IsFit after
+    plain : IsFitStart → RunsAs law_of_plain_objects c owner touches after
+
+  abbrev call_end : List Touch → CallEnd Kept → Type 0
+  call_end touches (Gave after value) = IsCallLed touches after
+  call_end touches (Threw after object at) = IsCallLed touches after
+  call_end touches (RanOut after spent at) = IsCallLed touches after
+  call_end touches WasStuck = Unit {0}
+
+  abbrev from : Called Kept → Type 0
+  from called = call_end called.touches called.ends
+
+  either : (b : Bool) (x y : Called Kept) → from x → from y → from (cond b x y)
+  either true x y h k = h
+  either false x y h k = k
+
+  begin_fit : (f : Frame) → f.active ≡ owner → IsFitStart → IsFit (machine_with c f)
+  begin_fit f is p = record {
+    built = p.built;
+    apart = record {
+      objects = p.objects;
+      frames = ap (λ (o : Owner). is_applets o && true) is ∙ ap (λ (b : Bool). b && true) p.applets;
+      kept = p.instances;
+    };
+  }
+
+  -- no step
+  none_led : (f : Frame) → f.active ≡ owner → IsCallLed [] (machine_with c f)
+  none_led f is = record { runs = by_none f is; fit = begin_fit f is; plain = λ p. by_none f is }
+
+  module _ (method : MethodName) (arguments : List TaggedValue) where
+    abbrev start : Start Kept
+    start = record {
+      heap = c.heap;
+      statics = c.statics;
+      runtime = c.kept;
+      owner = owner;
+      method = method;
+      arguments = arguments;
+    }
+
+    -- ---- the first frame
+
+    module _ (place : MethodPlace) (header : MethodHeader) where
+      abbrev first : Frame
+      first = frame_of place header arguments owner None
+
+      of_steps : (touches : List Touch) (after : Machine Kept) → AreLed c.steps (machine_with c first) touches after
+          → IsCallLed touches after
+      of_steps touches after h = record {
+        runs = by_method place header arguments touches after h.steps;
+        fit = λ p. h.fit (begin_fit first refl p);
+        plain = λ p. by_method place header arguments touches after (h.plain (begin_fit first refl p));
       }
 
-      by_end : (touches : List Touch) (ends : CallEnd Kept) → led_end P heap touches ends → led_end Q heap touches ends
-      by_end touches (Gave m value) h = led_less touches m h
-      by_end touches (Threw m object at) h = led_less touches m h
-      by_end touches (RanOut m spent at) h = led_less touches m h
-      by_end touches WasStuck h = tt
+      of_end : (touches : List Touch) (ends : CallEnd Kept) → led_end c.steps (machine_with c first) touches ends
+          → call_end touches ends
+      of_end touches (Gave after value) h = of_steps touches after h
+      of_end touches (Threw after object at) h = of_steps touches after h
+      of_end touches (RanOut after spent at) h = of_steps touches after h
+      of_end touches WasStuck h = tt
 
-  -- ---- steps
+      begun_leads : from (begun s c.steps start place header)
+      begun_leads =
+          either (has_room s [] (length first.locals + header.max_stack)) (steps_of s c.steps (standing start first))
+          (ended_by (RanOut (standing start first) (room_lacking s []) None))
+          (of_end (steps_of s c.steps (machine_with c first)).touches (steps_of s c.steps (machine_with c first)).ends
+          (steps_lead c.steps (machine_with c first)))
+          (none_led first refl)
 
-  continued_leads : (P : Type 0) (lacking : Budget) (at : Option CodePoint) (go : Machine Kept → Called Kept)
-      (heap : Heap TaggedValue) (touches : List Touch) (outcome : Outcome Kept)
-      → ((after : Machine Kept) → machine_of outcome ≡ Some after → AreLed P heap touches after)
-      → ((m : Machine Kept) → leads_to (IsFit m) m.heap (go m))
-      → leads_to P heap (called_so_far touches (continued lacking at go outcome))
-  continued_leads P lacking at go heap touches (Next m) first each =
-      end_joined P heap m touches (first m refl) (go m).touches (go m).ends (each m)
-  continued_leads P lacking at go heap touches (Throws m object) first each =
-      end_joined P heap m touches (first m refl) [] (Threw m object at) (stays (IsFit m) m (λ p. p))
-  continued_leads P lacking at go heap touches (Ends m value) first each =
-      end_joined P heap m touches (first m refl) [] (Gave m value) (stays (IsFit m) m (λ p. p))
-  continued_leads P lacking at go heap touches (UsedUp m) first each =
-      end_joined P heap m touches (first m refl) [] (RanOut m lacking at) (stays (IsFit m) m (λ p. p))
-  continued_leads P lacking at go heap touches Stuck first each = tt
+    begun_by_leads : (place : MethodPlace) (d : DeclaredMethod) (header : Option MethodHeader)
+        → from (begun_by s c.steps start place d header)
+    begun_by_leads place d None = tt
+    begun_by_leads place d (Some header) =
+        either (may_begin s start d header) (begun s c.steps start place header) (ended_by WasStuck)
+        (begun_leads place header) tt
 
-  step_leads : (m after : Machine Kept) → machine_of (defensive_step s m).outcome ≡ Some after
-      → AreLed (IsFit m) m.heap (defensive_step s m).touches after
-  step_leads m after e = record {
-    accesses = by_step s m after refl e (laws.steps s laws.members m) (laws.kept s laws.members m after e);
-    fit = λ p. record { built = p.built; apart = (stays_apart p).after after e };
-    plain = λ p.
-        spared (defensive_step s m).touches m.heap after.heap ((laws.steps s laws.members m).changes after e)
-        (stays_apart p).spares;
-  }
-    where
-      stays_apart : IsFit m → StaysApart names_applets s m
-      stays_apart p =
-          laws.apart_steps s laws.members laws.apart_members (laws.api w.shapes p.built) m p.apart
-
-  steps_lead : (n : ℕ) (m : Machine Kept) → leads_to (IsFit m) m.heap (steps_of s n m)
-  unfolding steps_of
-  steps_lead zero m = stays (IsFit m) m (λ p. p)
-  steps_lead (suc n) m =
-      continued_leads (IsFit m) (room_lacking s (m.top ∷ m.waiting)) (Some (point_of m.top)) (steps_of s n) m.heap
-      (defensive_step s m).touches (defensive_step s m).outcome (step_leads m) (steps_lead n)
-
-  -- ---- the first frame
-
-  module _ (start : Start Kept) where
-    -- what is called as an applet
-    record IsFitStart : Type 0 where
-      built : IsBuilt w.shapes
-      objects : IsSetApart start.heap
-      instances : names_applets start.runtime ≡ true
-      owner : is_applets start.owner ≡ true
-
-    abbrev from : Called Kept → Type 0
-    from called = leads_to IsFitStart start.heap called
-
-    either : (b : Bool) (x y : Called Kept) → from x → from y → from (cond b x y)
-    either true x y h k = h
-    either false x y h k = k
-
-    standing_fit : (f : Frame) → f.active ≡ start.owner → IsFitStart → IsFit (standing start f)
-    standing_fit f is p = record {
-      built = p.built;
-      apart = record {
-        objects = p.objects;
-        frames = ap (λ (o : Owner). is_applets o && true) is ∙ ap (λ (b : Bool). b && true) p.owner;
-        kept = p.instances;
-      };
-    }
-
-    ran_out : from (ended_by (RanOut (standing start (no_frame start.owner)) budgets.Steps None))
-    ran_out =
-        stays IsFitStart (standing start (no_frame start.owner)) (standing_fit (no_frame start.owner) refl)
-
-    begun_leads : (steps : ℕ) (place : MethodPlace) (header : MethodHeader) → from (begun s steps start place header)
-    begun_leads steps place header =
-        let f = frame_of place header start.arguments start.owner None in
-        either (has_room s [] (length f.locals + header.max_stack)) (steps_of s steps (standing start f))
-        (ended_by (RanOut (standing start f) (room_lacking s []) None))
-        (less_known (IsFit (standing start f)) IsFitStart start.heap (steps_of s steps (standing start f))
-        (standing_fit f refl) (steps_lead steps (standing start f)))
-        (stays IsFitStart (standing start f) (standing_fit f refl))
-
-    begun_by_leads : (steps : ℕ) (place : MethodPlace) (d : DeclaredMethod) (header : Option MethodHeader)
-        → from (begun_by s steps start place d header)
-    begun_by_leads steps place d None = tt
-    begun_by_leads steps place d (Some header) =
-        either (may_begin s start d header) (begun s steps start place header) (ended_by WasStuck)
-        (begun_leads steps place header) tt
-
-    started_leads : (steps : ℕ) (place : MethodPlace) (found : Option DeclaredMethod)
-        → from (started s steps start place found)
-    started_leads steps place None = tt
-    started_leads steps place (Some d) = begun_by_leads steps place d d.method.header
+    started_leads : (place : MethodPlace) (found : Option DeclaredMethod)
+        → from (started s c.steps start place found)
+    started_leads place None = tt
+    started_leads place (Some d) = begun_by_leads place d d.method.header
 
     -- ---- a native member
 
     gave_leads : (touches : List Touch) (m : Machine Kept) (value : Option TaggedValue) (b : Bool)
-        → AreLed IsFitStart start.heap touches m
-        → led_end IsFitStart start.heap touches (cond b (Gave m value) WasStuck)
+        → IsCallLed touches m → call_end touches (cond b (Gave m value) WasStuck)
     gave_leads touches m value true h = h
     gave_leads touches m value false h = tt
 
     threw_leads : (touches : List Touch) (m : Machine Kept) (object : ℕ) (b : Bool)
-        → AreLed IsFitStart start.heap touches m
-        → led_end IsFitStart start.heap touches (cond b (Threw m object None) WasStuck)
+        → IsCallLed touches m → call_end touches (cond b (Threw m object None) WasStuck)
     threw_leads touches m object true h = h
     threw_leads touches m object false h = tt
 
     native_ended_leads : (touches : List Touch) (m : Machine Kept) (member : ℕ) (ends : NativeEnd)
-        → AreLed IsFitStart start.heap touches m → led_end IsFitStart start.heap touches (native_ended s m member ends)
+        → IsCallLed touches m → call_end touches (native_ended s m member ends)
     native_ended_leads touches m member (Gives value) h =
         let fits = λ (signature : Signature ClassName).
         is_given s.world.shapes m.heap signature.result value in
@@ -253,96 +280,86 @@ module _ (laws : StepsGuarded) (c : CardState) (selected : Option ℕ) where
 
     -- behind a native member
     module _ (member : ℕ) where
+      abbrev call : NativeCall Kept
+      call = call_as c owner member arguments
+
       abbrev a : NativeAnswer Kept
-      a = first_answer s start member
+      a = meaning.answer w call
 
-      answer_guarded : IsGuardedAnswer w (first_native_call s start member) a
-      answer_guarded = laws.members w (first_native_call s start member)
+      answer_guarded : IsGuardedAnswer meaning w call a
+      answer_guarded = laws.members w call
 
-      answer_apart : IsFitStart → IsApartAnswer names_applets (first_native_call s start member) a
-      answer_apart p = laws.apart_members w (first_native_call s start member) p.objects p.owner p.instances
+      answer_apart : IsFitStart → IsApartAnswer names_applets call a
+      answer_apart p = laws.apart_members w call p.objects p.applets p.instances
 
-      member_leads : AreLed IsFitStart start.heap a.touches (after_first_native start a)
-      member_leads = record {
-        accesses = by_native (first_native_call s start member) answer_guarded;
+      member_led : IsCallLed a.touches (after_first_native start a)
+      member_led = record {
+        runs = by_native member arguments (no_frame owner) refl answer_guarded;
         fit = λ p. record {
           built = p.built;
           apart = record {
             objects =
-                laws.apart_objects start.heap a.heap start.owner p.objects answer_guarded.kept p.owner
-                (answer_apart p).adds;
-            frames = ap (λ (b : Bool). b && true) p.owner;
+                laws.apart_objects c.heap a.heap owner p.objects answer_guarded.kept p.applets answer_guarded.adds;
+            frames = ap (λ (b : Bool). b && true) p.applets;
             kept = (answer_apart p).kept;
           };
         };
-        plain = λ p. spared a.touches start.heap a.heap answer_guarded.changes (answer_apart p).spares;
+        plain = λ p.
+            by_native member arguments (no_frame owner) refl
+            (spared owner.context a.touches c.heap a.heap answer_guarded.changes (answer_apart p).spares);
       }
 
       native_leads : from (native_called s start member a)
-      native_leads = native_ended_leads a.touches (after_first_native start a) member a.ends member_leads
+      native_leads = native_ended_leads a.touches (after_first_native start a) member a.ends member_led
 
-    native_started_leads : (steps : ℕ) (member : ℕ) → from (native_started s steps start member)
-    native_started_leads zero member = ran_out
+    native_started_leads : (steps member : ℕ) → from (native_started s steps start member)
+    native_started_leads zero member = none_led (no_frame owner) refl
     native_started_leads (suc n) member =
-        either (native_may_begin s.world.shapes start.heap member start.arguments)
+        either (native_may_begin s.world.shapes c.heap member arguments)
         (native_called s start member (first_answer s start member)) (ended_by WasStuck) (native_leads member) tt
 
     -- ---- whatever is called
 
-    started_by_leads : (steps : ℕ) (method : MethodName) → from (started_by s steps start method)
-    started_by_leads steps (Loaded number offset) =
+    started_by_leads : (name : MethodName) → from (started_by s c.steps start name)
+    started_by_leads (Loaded number offset) =
         let place : MethodPlace = record { number = number; offset = offset } in
-        started_leads steps place (declared_at s.world place)
-    started_by_leads steps (Api member) = native_started_leads steps member
+        started_leads place (declared_at s.world place)
+    started_by_leads (Api member) = native_started_leads c.steps member
 
-    call_leads : (steps : ℕ) → from (runtime_call s steps start)
+    call_leads : from (runtime_call s c.steps start)
     unfolding runtime_call
-    call_leads steps = started_by_leads steps start.method
+    call_leads = started_by_leads method
 
-  -- ---- as a part of a command
+    -- ---- as a part of a command
 
-  abbrev start_of : Owner → MethodName → List TaggedValue → Start Kept
-  start_of owner method arguments = record {
-    heap = c.heap;
-    statics = c.statics;
-    runtime = c.kept;
-    owner = owner;
-    method = method;
-    arguments = arguments;
-  }
+    module _ (running : IsRunning c owner) (is_owner : IsApartCard c → is_applets owner ≡ true) where
+      fit_start : IsApartCard c → IsFitStart
+      fit_start p =
+          record { built = p.packages; objects = p.objects; instances = p.instances; applets = is_owner p }
 
-  module _ (owner : Owner) (method : MethodName) (arguments : List TaggedValue)
-      (is_owner : IsApartCard c → is_applets owner ≡ true) where
-    abbrev Started : Type 0
-    Started = IsFitStart (start_of owner method arguments)
-
-    fit_start : IsApartCard c → Started
-    fit_start p =
-        record { built = p.packages; objects = p.objects; instances = p.instances; owner = is_owner p }
-
-    left_apart : (touches : List Touch) (m : Machine Kept) (ends : Ended) → AreLed Started c.heap touches m
-        → IsPart c (record { touches = touches; card = left_by c m; value = ends })
-    left_apart touches m ends h = record {
-      accesses = h.accesses;
-      packages = refl;
-      apart = λ p. record {
-        card = record {
-          packages = p.packages;
-          objects = (h.fit (fit_start p)).apart.objects;
-          instances = (h.fit (fit_start p)).apart.kept;
+      left_apart : (touches : List Touch) (m : Machine Kept) (ends : Ended) → IsCallLed touches m
+          → IsPart c (record { touches = touches; card = left_by c m; value = ends })
+      left_apart touches m ends h = record {
+        accesses = by_call c owner touches m running h.runs;
+        packages = refl;
+        apart = λ p. record {
+          card = record {
+            packages = p.packages;
+            objects = (h.fit (fit_start p)).apart.objects;
+            instances = (h.fit (fit_start p)).apart.kept;
+          };
+          plain = by_call c owner touches m running (h.plain (fit_start p));
         };
-        plain = h.plain (fit_start p);
-      };
-    }
+      }
 
-    ended_part : (touches : List Touch) (ends : CallEnd Kept) → led_end Started c.heap touches ends
-        → IfSome (ended_call c touches ends) (IsPart c)
-    ended_part touches (Gave m value) h = left_apart touches m (Normally value) h
-    ended_part touches (Threw m object at) h = left_apart touches m (Uncaught object at) h
-    ended_part touches (RanOut m spent at) h = left_apart touches m (OutOfBudget spent at) h
-    ended_part touches WasStuck h = tt
+      ended_part : (touches : List Touch) (ends : CallEnd Kept) → call_end touches ends
+          → IfSome (ended_call c touches ends) (IsPart c)
+      ended_part touches (Gave m value) h = left_apart touches m (Normally value) h
+      ended_part touches (Threw m object at) h = left_apart touches m (Uncaught object at) h
+      ended_part touches (RanOut m spent at) h = left_apart touches m (OutOfBudget spent at) h
+      ended_part touches WasStuck h = tt
 
-    pub call_part : IfSome (ended c (runtime_call s c.steps (start_of owner method arguments))) (IsPart c)
-    call_part =
-        let called = runtime_call s c.steps (start_of owner method arguments) in
-        ended_part called.touches called.ends (call_leads (start_of owner method arguments) c.steps)
+      pub call_part : IfSome (ended c (runtime_call s c.steps start)) (IsPart c)
+      call_part =
+          let called = runtime_call s c.steps start in
+          ended_part called.touches called.ends call_leads

@@ -2,16 +2,14 @@
 use Rattle.std.proofs.Common.{◌≡◌, ℕ, zero, suc, ◌+◌, List, [], ◌∷◌, ◌++◌, map, set, length, Option, Some, None}
 use Rattle.std.proofs.Common.{Bool, true, false, cond, refl, sym, ap, subst, ◌∙◌, inl, inr, ◌⊎◌, slice_get, IfSome}
 use Rattle.std.proofs.Common.{◌≢◌, IsSome}
-use Rattle.std.proofs.lemmas.Bool.{and_parts as both}
+use Rattle.std.proofs.Common.{◌&&◌}
 use Rattle.std.proofs.lemmas.Option.{none-some}
-use Rattle.jc_machine.specs.Apart.{AddsFor, SparesPlain}
 use Rattle.jc_names.specs.declared.owner.Owner.{Owner}
 use Rattle.jc_store.specs.Heap.{is_same_event}
 use Rattle.jc_store.specs.declared.kind.Mark.TheVariants.{Plain}
-use Rattle.jc_card.proofs.Leading.{led}
+use Rattle.jc_card.proofs.Leading.{keeps_self}
 use Rattle.jc_card.proofs.LeadingCalls.{StepsGuarded}
-use Rattle.jc_card.proofs.Sparing.{spared}
-use Rattle.jc_card.specs.Accesses.{IsAccessedIn, IsApartCard, IsCleared, KeepsPlain}
+use Rattle.jc_card.specs.Accesses.{AllCleared, Clears, IsApartCard, IsOwnWork, LeavesOthers}
 use Rattle.std.proofs.Common.{arith}
 use Rattle.std.proofs.Math.Seq.{length-sets, sets}
 use Rattle.std.proofs.lemmas.Option.{same_Some}
@@ -23,7 +21,8 @@ use Rattle.jc_firewall.specs.declared.access.Facts.{Facts}
 use Rattle.jc_firewall.specs.declared.access.Verdict.TheVariants.{Allowed}
 use Rattle.jc_link.specs.Linked.{World}
 use Rattle.jc_machine.specs.Going.{facts_in}
-use Rattle.jc_machine.specs.Guarded.{ChangesAccessed, IsAccessed, are_allowed}
+use Rattle.jc_machine.specs.Guarded.{AddsFor, ChangesAccessed, IsAccessed, are_allowed, may_change}
+use Rattle.jc_machine.specs.Runtime.{apdu_buffer, install_array}
 use Rattle.jc_machine.specs.Lookup.{is_array}
 use Rattle.jc_machine.specs.Machine.{Touch}
 use Rattle.jc_machine.specs.Natives.{KeepsObjects}
@@ -32,11 +31,13 @@ use Rattle.jc_natives.specs.Meaning.{own_touch}
 use Rattle.jc_safety.specs.Zeroing.{zero_or_null, zeroed, zeroed_where}
 use Rattle.jc_store.specs.Heap.{Heap, Object, is_cleared_by, object_at, with_cell, with_object}
 use Rattle.jc_store.specs.declared.kind.ClearingEvent.{ClearingEvent}
+use Rattle.jc_store.specs.declared.kind.ClearingEvent.TheVariants as events
 use Rattle.jc_words.specs.Values.{TaggedValue, Word}
 use Rattle.jc_card.proofs.Heaps.{all_put}
 use Rattle.jc_card.proofs.Leading.{IsPart}
-use Rattle.jc_card.specs.Accesses.{IsOwnAccess, Leads}
-use Rattle.jc_card.specs.Accesses.Leads.{by_runtime, nowhere}
+use Rattle.jc_card.specs.Accesses.{IsOwnAccess}
+use Rattle.jc_card.specs.Accesses.Leads.{by_clearing, by_write}
+use Rattle.jc_card.specs.Commands.{reset_command}
 use Rattle.jc_card.specs.Card.{CardState}
 use Rattle.jc_card.specs.Parts.{clear, clearing_touches, runtime_touch, write}
 
@@ -49,6 +50,7 @@ own_allowed false f = refl
 own_access : (w : World) (heap : Heap TaggedValue) (number : ℕ) (o : Object TaggedValue)
     → object_at heap number ≡ Some o → IsOwnAccess w heap (own_touch number o)
 own_access w heap number o e = record {
+  by = refl;
   active = refl;
   object = o;
   found = e;
@@ -56,14 +58,20 @@ own_access w heap number o e = record {
       own_allowed (is_array o.kind.object) (facts_in w.shapes selected o None false);
 }
 
+own_changes : (b : Bool) → may_change (cond b StoreComponent PutField) ≡ true
+own_changes true = refl
+own_changes false = refl
+
 own_accessed : (touches : List Touch) (place number : ℕ) (o : Object TaggedValue)
-    → slice_get touches place ≡ Some (own_touch number o) → IsAccessed touches number o
+    → slice_get touches place ≡ Some (own_touch number o) → IsAccessed runtime_context touches number o
 own_accessed touches place number o e = record {
   place = place;
   touch = own_touch number o;
   listed = e;
   is = refl;
+  changes = own_changes (is_array o.kind.object);
   allowed = refl;
+  who = inr refl;
   own = λ plain. inr refl;
 }
 
@@ -96,16 +104,16 @@ module _ (touches : List Touch) (heap : Heap TaggedValue) (o p : Object TaggedVa
     | inr old ↦ record { object = q; found = old; kind = refl; owner = refl; size = refl }
   ]
 
-  one_changes : (number : ℕ) → object_at heap number ≡ Some o → IsAccessed touches number o
-      → ChangesAccessed touches heap (with_object heap number p)
+  one_changes : (number : ℕ) → object_at heap number ≡ Some o → IsAccessed runtime_context touches number o
+      → ChangesAccessed runtime_context touches heap (with_object heap number p)
   one_changes zero found a i q r e f = absurd cc
   one_changes (suc n) found a zero q r e f = absurd cc
   one_changes (suc n) found a (suc i) q r e f = elim (got_set heap n i p q e) [
     | inl new ↦
         let there = subst (λ (k : ℕ). slice_get heap k ≡ Some o) new.0 found in
         let same : o ≡ q = cc in
-        inr (subst (λ (x : Object TaggedValue). IsAccessed touches (suc i) x) same
-        (subst (λ (k : ℕ). IsAccessed touches (suc k) o) new.0 a))
+        inr (subst (λ (x : Object TaggedValue). IsAccessed runtime_context touches (suc i) x) same
+        (subst (λ (k : ℕ). IsAccessed runtime_context touches (suc k) o) new.0 a))
     | inr old ↦ let same : r ≡ q = cc in inl (ap (λ (x : Object TaggedValue). x.cells) same)
   ]
 
@@ -123,22 +131,48 @@ module _ (w : World) (heap : Heap TaggedValue) (number : ℕ) (values : List Tag
   abbrev touches_for : Option (Object TaggedValue) → List Touch
   touches_for found = option_map_or (λ object. own_touch number object ∷ []) found []
 
-  put_leads : (found : Option (Object TaggedValue)) → object_at heap number ≡ found
-      → Leads w heap (touches_for found) (put_all heap number 0 values)
-  put_leads None e =
-      subst (λ (h : Heap TaggedValue). Leads w heap [] h) (sym (nothing_put heap number 0 values e)) (nowhere heap)
-  put_leads (Some o) e =
+  put_work : (found : Option (Object TaggedValue)) → object_at heap number ≡ found
+      → IsOwnWork w heap (touches_for found) (put_all heap number 0 values)
+  put_work None e =
+      subst (λ (h : Heap TaggedValue). IsOwnWork w heap [] h) (sym (nothing_put heap number 0 values e)) (record {
+        judged = tt;
+        allowed = refl;
+        kept = keeps_self heap;
+        changes = λ n o p f g. inl (ap (λ (x : Object TaggedValue). x.cells) (same_Some p o (sym g ∙ f)));
+      })
+  put_work (Some o) e =
       let p : Object TaggedValue =
       record { kind = o.kind; owner = o.owner; cells = sets o.cells 0 values } in
       let size = length-sets o.cells 0 values in
       let touches = own_touch number o ∷ [] in
-      subst (λ (h : Heap TaggedValue). Leads w heap touches h) (sym (all_put heap number 0 values o e))
-      (by_runtime heap (with_object heap number p) touches (record {
+      subst (λ (h : Heap TaggedValue). IsOwnWork w heap touches h) (sym (all_put heap number 0 values o e))
+      (record {
         judged = (own_access w heap number o e, tt);
         allowed = refl;
         kept = one_stays touches heap o p refl refl size number e;
         changes = one_changes touches heap o p refl refl size number e (own_accessed touches 0 number o refl);
-      }))
+      })
+
+  set_other : {A : Type 0} (xs : List A) (k i : ℕ) (x : A) → (i ≡ k → ⊥) → slice_get (set xs k x) i ≡ slice_get xs i
+  set_other [] k i x other = refl
+  set_other (y ∷ xs) zero zero x other = absurd (other refl)
+  set_other (y ∷ xs) zero (suc i) x other = refl
+  set_other (y ∷ xs) (suc k) zero x other = refl
+  set_other (y ∷ xs) (suc k) (suc i) x other = set_other xs k i x (λ e. other (ap suc e))
+
+  object_other : (k i : ℕ) (p : Object TaggedValue) → (i ≡ k → ⊥)
+      → object_at (with_object heap k p) i ≡ object_at heap i
+  object_other zero i p other = refl
+  object_other (suc k) zero p other = refl
+  object_other (suc k) (suc i) p other = set_other heap k i p (λ e. other (ap suc e))
+
+  put_others : (found : Option (Object TaggedValue)) → object_at heap number ≡ found
+      → LeavesOthers number heap (put_all heap number 0 values)
+  put_others None e other apart =
+      ap (λ (h : Heap TaggedValue). object_at h other) (nothing_put heap number 0 values e)
+  put_others (Some o) e other apart =
+      ap (λ (h : Heap TaggedValue). object_at h other) (all_put heap number 0 values o e)
+      ∙ object_other number other (record { kind = o.kind; owner = o.owner; cells = sets o.cells 0 values }) apart
 
 -- no object is added where as many are there
 set_none : {A : Type 0} (xs : List A) (k i : ℕ) (x : A) → slice_get xs i ≡ None → slice_get (set xs k x) i ≡ None
@@ -167,52 +201,36 @@ none_put heap number values (Some o) e n f =
     ap (λ (h : Heap TaggedValue). object_at h n) (all_put heap number 0 values o e)
     ∙ one_set heap number (record { kind = o.kind; owner = o.owner; cells = sets o.cells 0 values }) n f
 
--- an object that isn't plain is accessed
-one_spared : (heap : Heap TaggedValue) (number : ℕ) (found : Option (Object TaggedValue))
-    → object_at heap number ≡ found → ((o : Object TaggedValue) → object_at heap number ≡ Some o → o.kind.mark ≢ Plain)
-    → AllByRecursion (SparesPlain heap) (option_map_or (λ object. own_touch number object ∷ []) found [])
-one_spared heap number None e other = tt
-one_spared heap number (Some o) e other = (λ runtime q f. other q f, tt)
-
 -- some applet's owner
 abbrev any_owner : Owner
 any_owner = record { context = 1; instance = 1 }
 
 module _ (laws : StepsGuarded) where
   pub write_part : (number : ℕ) (words : List ℕ) (c : CardState)
+      → (number ≡ apdu_buffer) ⊎ (number ≡ install_array)
       → (IsApartCard c → (o : Object TaggedValue) → object_at c.heap number ≡ Some o → o.kind.mark ≢ Plain)
       → IfSome (write number words c) (IsPart c)
-  write_part number words c other =
-      let after = put_all c.heap number 0 (map Word words) in
-      let touches = runtime_touch c.heap number in
-      let leads = put_leads c.world c.heap number (map Word words) (object_at c.heap number) refl in
+  write_part number words c which other =
+      let values = map Word words in
+      let after = put_all c.heap number 0 values in
+      let work = put_work c.world c.heap number values (object_at c.heap number) refl in
+      let others = put_others c.world c.heap number values (object_at c.heap number) refl in
       record {
-        accesses = leads;
+        accesses = by_write c number after which work others tt;
         packages = refl;
         apart = λ p. record {
           card = record {
             packages = p.packages;
-            objects = laws.apart_objects c.heap after any_owner p.objects (led leads).objects refl
+            objects = laws.apart_objects c.heap after any_owner p.objects work.kept refl
                 (none_added any_owner c.heap after
-                (none_put c.heap number (map Word words) (object_at c.heap number) refl));
+                (none_put c.heap number values (object_at c.heap number) refl));
             instances = p.instances;
           };
-          plain = spared touches c.heap after (led leads).components
-              (one_spared c.heap number (object_at c.heap number) refl (other p));
+          plain = by_write c number after which work others (other p);
         };
       }
 
 -- ---- what is cleared
-
-has_event : (event : ClearingEvent) (context : Option ℕ) (o : Object TaggedValue)
-    → is_cleared_by event context o ≡ true → IsSome o.kind.clears
-has_event event context o h =
-    by_clears o.kind.clears (both (option_map_or (is_same_event event) o.kind.clears false) _ h).0
-  where
-    by_clears : (clears : Option ClearingEvent) → option_map_or (is_same_event event) clears false ≡ true
-        → IsSome clears
-    by_clears None h = absurd cc
-    by_clears (Some e) h = refl
 
 module _ (w : World) (event : ClearingEvent) (context : Option ℕ) where
   abbrev test : Object TaggedValue → Bool
@@ -321,62 +339,39 @@ module _ (w : World) (event : ClearingEvent) (context : Option ℕ) where
 
   -- what isn't cleared stays
   one_changed : (touches : List Touch) (number : ℕ) (b : Bool) (o : Object TaggedValue) → test o ≡ b
-      → (test o ≡ true → IsAccessed touches number o)
-      → ((one b o).cells ≡ o.cells) ⊎ IsAccessed touches number o
+      → (test o ≡ true → IsAccessed runtime_context touches number o)
+      → ((one b o).cells ≡ o.cells) ⊎ IsAccessed runtime_context touches number o
   one_changed touches number true o e accessed = inr (accessed e)
   one_changed touches number false o e accessed = inl refl
 
   changes : (heap : Heap TaggedValue)
-      → ChangesAccessed (clearing_touches event context 1 heap) heap (zeroed_where test heap)
+      → ChangesAccessed runtime_context (clearing_touches event context 1 heap) heap (zeroed_where test heap)
   changes heap zero o p e f = absurd cc
   changes heap (suc n) o p e f =
       let touches = clearing_touches event context 1 heap in
       let same : p ≡ one (test o) o = same_Some p (one (test o) o) (sym f ∙ got_cleared heap n o e) in
-      subst (λ (x : Object TaggedValue). (x.cells ≡ o.cells) ⊎ IsAccessed touches (suc n) o) (sym same)
+      subst (λ (x : Object TaggedValue). (x.cells ≡ o.cells) ⊎ IsAccessed runtime_context touches (suc n) o) (sym same)
       (one_changed touches (suc n) (test o) o refl (λ t.
       let at : 1 + n ≡ suc n = omega arith in
       let l = subst (λ (k : ℕ). IsListed touches (own_touch k o)) at (listed heap 1 n o e t) in
       own_accessed touches l.place (suc n) o l.there))
 
-  clear_leads : (heap : Heap TaggedValue)
-      → Leads w heap (clearing_touches event context 1 heap) (zeroed_where test heap)
-  clear_leads heap =
-      by_runtime heap (zeroed_where test heap) (clearing_touches event context 1 heap) (record {
-        judged =
-            judged heap heap 0 (λ n o e.
-            let at : n ≡ 0 + n = omega arith in
-            subst (λ (k : ℕ). slice_get heap k ≡ Some o) at e);
-        allowed = all_allowed 1 heap;
-        kept = stay heap;
-        changes = changes heap;
-      })
+  clear_work : (heap : Heap TaggedValue)
+      → IsOwnWork w heap (clearing_touches event context 1 heap) (zeroed_where test heap)
+  clear_work heap = record {
+    judged =
+        judged heap heap 0 (λ n o e.
+        let at : n ≡ 0 + n = omega arith in
+        subst (λ (k : ℕ). slice_get heap k ≡ Some o) at e);
+    allowed = all_allowed 1 heap;
+    kept = stay heap;
+    changes = changes heap;
+  }
 
-  -- of a plain object that changed an event clears it
-  cleared_only : (heap : Heap TaggedValue)
-      → KeepsPlain (clearing_touches event context 1 heap) heap (zeroed_where test heap)
-  cleared_only heap zero o p e f plain = absurd cc
-  cleared_only heap (suc n) o p e f plain =
-      by_test (test o) refl (same_Some p (one (test o) o) (sym f ∙ got_cleared heap n o e))
-    where
-      by_runtime : test o ≡ true → IsAccessedIn (clearing_touches event context 1 heap) (suc n) runtime_context
-      by_runtime t =
-          let touches = clearing_touches event context 1 heap in
-          let at : 1 + n ≡ suc n = omega arith in
-          let l = subst (λ (k : ℕ). IsListed touches (own_touch k o)) at (listed heap 1 n o e t) in record {
-            place = l.place;
-            touch = own_touch (suc n) o;
-            listed = l.there;
-            is = refl;
-            allowed = refl;
-            active = refl;
-          }
-
-      by_test : (b : Bool) → test o ≡ b → p ≡ one b o
-          → (p.cells ≡ o.cells) ⊎ IsAccessedIn (clearing_touches event context 1 heap) (suc n) o.owner.context
-          ⊎ IsCleared (clearing_touches event context 1 heap) (suc n) o
-      by_test true t is =
-          inr (inr (record { transient = has_event event context o t; by_runtime = by_runtime t }))
-      by_test false t is = inl (ap (λ (x : Object TaggedValue). x.cells) is)
+  -- exactly those that it names
+  pub clears_exactly : (heap : Heap TaggedValue) → Clears event context heap (zeroed_where test heap)
+  clears_exactly heap zero o e = absurd cc
+  clears_exactly heap (suc n) o e = got_cleared heap n o e
 
   none_cleared : (heap : Heap TaggedValue) (n : ℕ) → slice_get heap n ≡ None
       → slice_get (zeroed_where test heap) n ≡ None
@@ -393,17 +388,53 @@ pub clear_part : (laws : StepsGuarded) (event : ClearingEvent) (context : Option
     → IfSome (clear event context c) (IsPart c)
 clear_part laws event context c =
     let after = zeroed_where (is_cleared_by event context) c.heap in
-    let leads = clear_leads c.world event context c.heap in
+    let touches = clearing_touches event context 1 c.heap in
+    let work = clear_work c.world event context c.heap in
+    let exact = clears_exactly c.world event context c.heap in
     record {
-      accesses = leads;
+      accesses = by_clearing c event context touches after work exact;
       packages = refl;
       apart = λ p. record {
         card = record {
           packages = p.packages;
-          objects = laws.apart_objects c.heap after any_owner p.objects (led leads).objects refl
+          objects = laws.apart_objects c.heap after any_owner p.objects work.kept refl
               (none_added any_owner c.heap after (none_cleared_at c.world event context c.heap));
           instances = p.instances;
         };
-        plain = cleared_only c.world event context c.heap;
+        plain = by_clearing c event context touches after work exact;
       };
     }
+
+-- ---- a reset
+
+-- first the arrays that a reset clears, and then those that a deselection does
+module _ (w : World) (heap : Heap TaggedValue) (number : ℕ) (o : Object TaggedValue)
+    (there : object_at heap number ≡ Some o) where
+  abbrev first : Heap TaggedValue
+  first = zeroed_where (is_cleared_by events.Reset None) heap
+
+  abbrev second : Heap TaggedValue
+  second = zeroed_where (is_cleared_by events.Deselect None) first
+
+  by_tests : (p : Object TaggedValue) (b d : Bool) → is_cleared_by events.Reset None o ≡ b → cond b (zeroed o) o ≡ p
+      → is_cleared_by events.Deselect None p ≡ d → object_at second number ≡ Some (cond d (zeroed p) p)
+  by_tests p b d e is f =
+      clears_exactly w events.Deselect None first number p
+      (clears_exactly w events.Reset None heap number o there
+      ∙ ap (λ (x : Bool). Some (cond x (zeroed o) o)) e ∙ ap (λ (x : Object TaggedValue). Some x) is)
+      ∙ ap (λ (x : Bool). Some (cond x (zeroed p) p)) f
+
+  by_event : (clears : Option ClearingEvent) → o.kind.clears ≡ clears → IsSome clears
+      → object_at second number ≡ Some (zeroed o)
+  by_event None e some = absurd cc
+  by_event (Some events.Reset) e some =
+      by_tests (zeroed o) true false
+      (ap (λ (x : Option ClearingEvent). option_map_or (is_same_event events.Reset) x false && true) e) refl
+      (ap (λ (x : Option ClearingEvent). option_map_or (is_same_event events.Deselect) x false && true) e)
+  by_event (Some events.Deselect) e some =
+      by_tests o false true
+      (ap (λ (x : Option ClearingEvent). option_map_or (is_same_event events.Reset) x false && true) e) refl
+      (ap (λ (x : Option ClearingEvent). option_map_or (is_same_event events.Deselect) x false && true) e)
+
+pub all_cleared : (c : CardState) → IfSome (reset_command c) (λ l. AllCleared c.heap l.card.heap)
+all_cleared c number o there some = by_event c.world c.heap number o there o.kind.clears refl some

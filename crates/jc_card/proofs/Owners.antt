@@ -23,7 +23,7 @@ use Rattle.jc_card.specs.declared.calls.AppletCall.TheVariants as calls
 use Rattle.jc_card.specs.declared.fault.InstallFault.{InstallFault}
 use Rattle.jc_card.specs.declared.fault.InstallFault.TheVariants as faults
 use Rattle.jc_card.specs.declared.places.AppletPlace.{AppletPlace}
-use Rattle.std.proofs.Common.{◌≢◌, ap, nat_le, ◌==◌, arith}
+use Rattle.std.proofs.Common.{◌≢◌, ap, nat_le, ◌==◌, arith, eqb-true}
 use Rattle.std.proofs.lemmas.Bool.{and_from, and_parts, le-leb, leb-false, ne_eqb}
 use Rattle.std.proofs.lemmas.Option.{same_Some}
 use Rattle.std.specs.List.{find, list_all}
@@ -33,7 +33,7 @@ use Rattle.jc_machine.specs.Apart.{is_applets}
 use Rattle.jc_machine.specs.Runtime.{most_instances}
 use Rattle.jc_machine.specs.Step.{Called, CallEnd, Gave, RanOut, Threw, WasStuck}
 use Rattle.jc_natives.specs.Apart.{installs_applet, names_applets}
-use Rattle.jc_natives.specs.Kept.{Kept, instance_of, instance_with, is_instance_number}
+use Rattle.jc_natives.specs.Kept.{Kept, instance_of, instance_with, is_instance_number, is_same_owner}
 use Rattle.jc_store.specs.declared.kind.Mark.TheVariants.{Plain}
 use Rattle.jc_card.specs.Accesses.{IsApartCard}
 use Rattle.jc_card.specs.Parts.{call_applet, ended, ended_call}
@@ -59,6 +59,29 @@ selected_owner k (Some owner) i names e =
     found_passes (λ (i : Instance). is_applets i.owner) _ k.instances i
     (and_parts (list_all (λ (i : Instance). is_applets i.owner) k.instances)
     (option_map_or installs_applet k.installing true) names).0 e
+
+-- the selected instance is that of the owner that is selected
+found_is : {A : Type 0} (wanted : A → Bool) (xs : List A) (x : A) → find wanted xs ≡ Some x → wanted x ≡ true
+found_is wanted [] x e = absurd cc
+found_is {A} wanted (y ∷ xs) x e = by_first (wanted y) refl (found_is wanted xs x) e
+  where
+    by_first : (b : Bool) → wanted y ≡ b → (find wanted xs ≡ Some x → wanted x ≡ true)
+        → cond b (Some y) (find wanted xs) ≡ Some x → wanted x ≡ true
+    by_first true first later f = subst (λ (z : A). wanted z ≡ true) (same_Some y x f) first
+    by_first false first later f = later f
+
+same_owner : (a b : Owner) → is_same_owner a b ≡ true → a ≡ b
+same_owner a b e =
+    let parts = and_parts (a.context == b.context) (a.instance == b.instance) e in
+    ap (λ (n : ℕ). record { context = n; instance = a.instance }) (eqb-true a.context b.context parts.0)
+    ∙ ap (λ (n : ℕ). record { context = b.context; instance = n }) (eqb-true a.instance b.instance parts.1)
+
+pub selected_is : (k : Kept) (selected : Option Owner) (i : Instance)
+    → option_and_then (instance_of k.instances) selected ≡ Some i → selected ≡ Some i.owner
+selected_is k None i e = absurd cc
+selected_is k (Some owner) i e =
+    ap (λ (o : Owner). Some o)
+    (sym (same_owner i.owner owner (found_is (λ (x : Instance). is_same_owner x.owner owner) k.instances i e)))
 
 -- ---- the runtime's arrays aren't plain
 

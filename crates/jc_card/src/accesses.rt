@@ -5,7 +5,7 @@ ghost use Rattle.std.specs.Prelude.{ℕ, List, [], ◌++◌, Result, IfSome};
 ghost use Rattle.jc_base.specs.declared.fault.LoadFault.{LoadFault};
 ghost use Rattle.jc_api.specs.Bound.{Bound};
 ghost use Rattle.jc_api.specs.NoClash.{HasNoClash};
-ghost use Rattle.jc_card.specs.Accesses.{ChangesBy, IsApartCard, IsGuardedCommand, KeepsApart, KeepsPlain};
+ghost use Rattle.jc_card.specs.Accesses.{AllCleared, ChangesBy, IsApartCard, IsGuardedCommand, KeepsApart};
 ghost use Rattle.jc_card.specs.Accesses.{LeavesObjects};
 ghost use Rattle.jc_card.specs.Card.{CardState};
 ghost use Rattle.jc_card.specs.Commands.{apdu_command, reset_command};
@@ -14,7 +14,6 @@ ghost use Rattle.jc_card.specs.Load.{IsLoad};
 ghost use Rattle.jc_card.specs.New.{new_card};
 ghost use Rattle.jc_card.specs.declared.limits.Limits.{Limits};
 ghost use Rattle.jc_machine.specs.Machine.{Touch};
-ghost use Rattle.jc_machine.specs.Natives.{KeepsObjects};
 ghost use Rattle.jc_store.specs.Heap.{Heap};
 ghost use Rattle.jc_words.specs.Values.{TaggedValue};
 
@@ -24,15 +23,19 @@ use jc_machine::{
 use jc_natives::{Runtime, members_are_guarded, members_stay_apart};
 use jc_safety::api_runs_its_own_code;
 
-/// The law of accesses, of each command on each card. Each access is judged by the firewall; it is allowed, or it is
-/// the last of its step, and then the security exception is thrown and nothing has changed. The packages and the
-/// objects stay. Components change only of objects of which an allowed access is listed. A load makes no access, and
-/// leaves each object as it was. It does nothing.
+/// The law of accesses, of each command on each card. What a command does to objects is done part by part: by calls of
+/// the instance that is selected or installed, whose context counts as the selected one; by words that the runtime
+/// writes into the APDU buffer or the array of an install; and by clearing exactly the transient arrays that an event
+/// and a context name. A call is at most so many steps, each from the machine that the one before it left, from the
+/// frame at the start of its method, and each keeps the law of accesses of a step. The packages and the objects stay.
+/// Components change only of objects of which an allowed access is listed. Behind a reset each transient array is zero
+/// or null. A load makes no access, and leaves each object as it was. It does nothing.
 pub fn commands_are_guarded()
     ensures apdu { (c : CardState) (bytes : List ℕ) → IfSome (apdu_command c bytes) (IsGuardedCommand c) }
     ensures install { (c : CardState) (applet instance incoming : List ℕ)
         → IfSome (install_command c applet instance incoming) (IsGuardedCommand c) }
     ensures reset { (c : CardState) → IfSome (reset_command c) (IsGuardedCommand c) }
+    ensures cleared { (c : CardState) → IfSome (reset_command c) (λ l. AllCleared c.heap l.card.heap) }
     ensures load { (c after : CardState) (image certificate : List ℕ) (result : Result ℕ LoadFault)
         → IsLoad c image certificate result after → LeavesObjects c.heap after.heap }
 {
@@ -44,8 +47,7 @@ pub fn commands_are_guarded()
 }
 
 /// The runtime's name is its own, on a card that is new and behind each command: no code of packages runs as the
-/// runtime. So of plain objects the components change only by accesses in their own contexts, or by clearing. It does
-/// nothing.
+/// runtime. So a plain object changes only in steps of a frame in its owner's context, or by clearing. It does nothing.
 pub fn commands_stay_apart()
     ensures new { (limits : Limits) (binding : Bound) → HasNoClash binding → IsApartCard (new_card limits binding) }
     ensures apdu { (c : CardState) → IsApartCard c → (bytes : List ℕ)
@@ -66,14 +68,10 @@ pub fn commands_stay_apart()
     new_machines_are_typed();
 }
 
-/// What accesses change, and others behind them; how plain objects are kept then; and that nothing changes where each
-/// object is left as it was. It does nothing.
+/// What accesses change, and others behind them; and that nothing changes where each object is left as it was. It does
+/// nothing.
 pub fn accesses_add_up()
     ensures none { (before after : Heap TaggedValue) → LeavesObjects before after → ChangesBy [] before after }
     ensures more { (first between last : Heap TaggedValue) (touches behind : List Touch)
         → ChangesBy touches first between → ChangesBy behind between last → ChangesBy (touches ++ behind) first last }
-    ensures plain { (first between last : Heap TaggedValue) (touches behind : List Touch) → KeepsObjects first between
-        → KeepsPlain touches first between → KeepsPlain behind between last
-        → KeepsPlain (touches ++ behind) first last }
-    ensures unchanged { (before after : Heap TaggedValue) → LeavesObjects before after → KeepsPlain [] before after }
 {}

@@ -2,7 +2,7 @@
 //! Transient Objects).
 
 ghost use Rattle.std.specs.Prelude.{IfSome};
-ghost use Rattle.jc_card.specs.Accesses.{IsGuardedCommand};
+ghost use Rattle.jc_card.specs.Accesses.{AllCleared, IsGuardedCommand};
 ghost use Rattle.jc_card.specs.Card.{CardState, with_selected};
 ghost use Rattle.jc_card.specs.Commands.{deselect, reset_command, unselect};
 ghost use Rattle.jc_card.specs.Parts.{clear, gives};
@@ -55,6 +55,8 @@ impl Card {
     pub fn reset(&mut self)
         ensures done { Does self.old self.new GivesNothing reset_command }
         ensures guarded { (c : CardState) → Holds self.old c → IfSome (reset_command c) (IsGuardedCommand c) }
+        ensures cleared { (c : CardState) → Holds self.old c
+            → IfSome (reset_command c) (λ l. AllCleared c.heap l.card.heap) }
     {
         commands_are_guarded();
         self.set_selected(None);

@@ -77,6 +77,7 @@ accessed_first active xs ys n o a = record {
   is = a.is;
   changes = a.changes;
   allowed = a.allowed;
+  who = a.who;
   own = a.own;
 }
 
@@ -91,6 +92,7 @@ accessed_later active (x ∷ xs) ys n o a =
       is = b.is;
       changes = b.changes;
       allowed = b.allowed;
+      who = b.who;
       own = b.own;
     }
 

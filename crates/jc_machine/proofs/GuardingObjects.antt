@@ -67,6 +67,7 @@ reason_accessed active object = record {
   is = refl;
   changes = refl;
   allowed = refl;
+  who = inr refl;
   own = λ plain. inr refl;
 }
 

@@ -82,6 +82,7 @@ is_accessed h asked object changes written fine = record {
   is = refl;
   changes = changes;
   allowed = fine;
+  who = inl refl;
   own = own_object asked.access h.machine.top.active.context (facts_of h asked object) written fine;
 }
 

@@ -139,8 +139,8 @@ may_change Throw = false
 may_change CheckCast = false
 may_change InstanceOf = false
 
--- in the list stands an access to an object by which it may change, and that is allowed. A plain one is of the context
--- that was active, or the runtime accessed it
+-- in the list stands an access to an object by which it may change, and that is allowed: it was made in this context,
+-- or by the runtime; and a plain object is of this context, if the runtime didn't access it
 pub record IsAccessed (active : ℕ) (touches : List Touch) (number : ℕ) (object : Object TaggedValue) : Type 0 where
   pub place : ℕ
   pub touch : Touch
@@ -148,6 +148,7 @@ pub record IsAccessed (active : ℕ) (touches : List Touch) (number : ℕ) (obje
   pub is : touch.object ≡ number
   pub changes : may_change touch.access ≡ true
   pub allowed : is_allowed touch.verdict ≡ true
+  pub who : (touch.active ≡ active) ⊎ (touch.active ≡ runtime_context)
   pub own : object.kind.mark ≡ Plain → (active ≡ object.owner.context) ⊎ (touch.active ≡ runtime_context)
 
 -- of the objects that were there components change only of those that were so accessed

@@ -423,6 +423,7 @@ module _ (w : World) (call : NativeCall Kept) where
             is = eqb-true t.object number g.0;
             changes = g.1;
             allowed = parts.0;
+            who = inl u.active;
             own = λ plain. own_of u same plain;
           }
       by_first rest (inr f) =
@@ -434,6 +435,7 @@ module _ (w : World) (call : NativeCall Kept) where
             is = later.is;
             changes = later.changes;
             allowed = later.allowed;
+            who = later.who;
             own = later.own;
           }
 
@@ -446,6 +448,7 @@ module _ (w : World) (call : NativeCall Kept) where
     is = a.is;
     changes = a.changes;
     allowed = a.allowed;
+    who = a.who;
     own = a.own;
   }
 
@@ -458,6 +461,7 @@ module _ (w : World) (call : NativeCall Kept) where
     is = a.is;
     changes = a.changes;
     allowed = a.allowed;
+    who = a.who;
     own = a.own;
   }
 
@@ -477,6 +481,7 @@ module _ (w : World) (call : NativeCall Kept) where
       is = refl;
       changes = may_change_so (is_array o.kind.object);
       allowed = refl;
+      who = inr refl;
       own = λ plain. inr refl;
     }
 

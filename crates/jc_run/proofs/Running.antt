@@ -4,7 +4,7 @@ use Rattle.std.proofs.Common.{append_assoc, Result}
 use Rattle.jc_api.specs.Bound.{Bound}
 use Rattle.jc_api.specs.NoClash.{HasNoClash}
 use Rattle.jc_base.specs.declared.fault.LoadFault.{LoadFault}
-use Rattle.jc_card.specs.Accesses.{ChangesBy, IsApartCard, IsGuardedCommand, KeepsApart, KeepsPlain, LeavesObjects}
+use Rattle.jc_card.specs.Accesses.{ChangesBy, IsApartCard, IsGuardedCommand, KeepsApart, LeavesObjects}
 use Rattle.jc_card.specs.Card.{CardState}
 use Rattle.jc_card.specs.Commands.{apdu_command, reset_command}
 use Rattle.jc_card.specs.Install.{install_command}
@@ -13,7 +13,6 @@ use Rattle.jc_card.specs.New.{new_card}
 use Rattle.jc_card.specs.declared.limits.Limits.{Limits}
 use Rattle.jc_card.specs.Parts.{Left}
 use Rattle.jc_machine.specs.Machine.{Touch}
-use Rattle.jc_machine.specs.Natives.{KeepsObjects}
 use Rattle.jc_store.specs.Heap.{Heap}
 use Rattle.jc_words.specs.Values.{TaggedValue}
 use Rattle.jc_run.specs.Answer.{Answered}
@@ -21,7 +20,8 @@ use Rattle.jc_run.specs.Play.{EndsAt, IsAnswered, IsGiven, IsLinePlayed, NotWrit
 use Rattle.jc_run.specs.Play.{answer_line}
 use Rattle.jc_run.specs.Play.EndsAt.{bad, memory, source, unwritten}
 use Rattle.jc_run.specs.Play.Plays.{ended, line, over, unread}
-use Rattle.jc_run.specs.Runs.{AreGuarded, IsCardRun, IsDone, IsGuarded, accesses_in, accesses_of, answer_lines}
+use Rattle.jc_run.specs.Runs.{AreGuarded, IsCardRun, IsDone, IsGuarded, IsKeptApart, accesses_in, accesses_of}
+use Rattle.jc_run.specs.Runs.{answer_lines}
 use Rattle.jc_run.specs.Runs.{commands_in}
 use Rattle.jc_run.specs.Runs.IsCardRun.{command, nothing}
 use Rattle.jc_script.specs.Script.{Apdu, Asks, Bad, Cells, Install, Load, Objects, Reset, Script, ScriptCommand}
@@ -121,9 +121,6 @@ pub record Laws : Type 0 where
   pub apart_reset : (c : CardState) → IsApartCard c → IfSome (reset_command c) (λ l. KeepsApart c l.touches l.card)
   pub apart_load : (c after : CardState) (image certificate : List ℕ) (result : Result ℕ LoadFault) → IsApartCard c
       → IsLoad c image certificate result after → IsApartCard after
-  pub plain : (first between last : Heap TaggedValue) (touches behind : List Touch) → KeepsObjects first between
-      → KeepsPlain touches first between → KeepsPlain behind between last → KeepsPlain (touches ++ behind) first last
-  pub unchanged : (before after : Heap TaggedValue) → LeavesObjects before after → KeepsPlain [] before after
   pub none : (before after : Heap TaggedValue) → LeavesObjects before after → ChangesBy [] before after
   pub more : (first between last : Heap TaggedValue) (touches behind : List Touch) → ChangesBy touches first between
       → ChangesBy behind between last → ChangesBy (touches ++ behind) first last
@@ -170,46 +167,44 @@ module _ (laws : Laws) (images certificates : List ℕ → List ℕ → Type 0) 
 
   given_apart : {A : Type 0} (c : CardState) (done : Option (Left A)) (said : A → Answered) (answer : Answered)
       (after : CardState) → IfSome done (λ l. KeepsApart c l.touches l.card) → IsGiven done said answer after
-      → KeepsApart c (accesses_in done) after
+      → IsApartCard after
   given_apart c None said answer after h given = absurd cc
   given_apart c (Some l) said answer after h given =
       let same : given.left ≡ l = cc in
-      rw (given.after_is, same) h
+      rw (given.after_is, same) h.card
 
-  unchanged_apart : (c : CardState) → IsApartCard c → KeepsApart c [] c
-  unchanged_apart c p = record { card = p; plain = laws.unchanged c.heap c.heap (λ number o e. e) }
+  kept_apart : (c : CardState) (command : ScriptCommand) (answer : Answered) (after : CardState) → IsApartCard c
+      → IsAnswered images certificates c command answer after → IsKeptApart c command after
+  kept_apart c (Load folder certificate) answer after p h = laws.apart_load c after h.image h.bytes h.result p h.load
+  kept_apart c (Install applet instance incoming) answer after p h = laws.apart_install c p applet instance incoming
+  kept_apart c (Apdu bytes) answer after p h = laws.apart_apdu c p bytes
+  kept_apart c Reset answer after p h = laws.apart_reset c p
+  kept_apart c Cells answer after p h = h.1
+  kept_apart c Objects answer after p h = h.1
 
   stays_apart : (c : CardState) (command : ScriptCommand) (answer : Answered) (after : CardState) → IsApartCard c
-      → IsAnswered images certificates c command answer after → KeepsApart c (accesses_of c command) after
-  stays_apart c (Load folder certificate) answer after p h = record {
-    card = laws.apart_load c after h.image h.bytes h.result p h.load;
-    plain = laws.unchanged c.heap after.heap (laws.load c after h.image h.bytes h.result h.load);
-  }
+      → IsAnswered images certificates c command answer after → IsApartCard after
+  stays_apart c (Load folder certificate) answer after p h = laws.apart_load c after h.image h.bytes h.result p h.load
   stays_apart c (Install applet instance incoming) answer after p h =
       given_apart c (install_command c applet instance incoming) _ answer after
       (laws.apart_install c p applet instance incoming) h
   stays_apart c (Apdu bytes) answer after p h =
       given_apart c (apdu_command c bytes) _ answer after (laws.apart_apdu c p bytes) h
   stays_apart c Reset answer after p h = given_apart c (reset_command c) _ answer after (laws.apart_reset c p) h
-  stays_apart c Cells answer after p h = rw h.1 (unchanged_apart c p)
-  stays_apart c Objects answer after p h = rw h.1 (unchanged_apart c p)
+  stays_apart c Cells answer after p h = rw h.1 p
+  stays_apart c Objects answer after p h = rw h.1 p
 
   run_apart : {commands : List ScriptCommand} {c : CardState} {answers : List Answered} {touches : List Touch}
       {after : CardState} → IsApartCard c → IsCardRun images certificates commands c answers touches after
-      → KeepsApart c touches after
-  run_apart p (nothing c) = record { card = p; plain = laws.unchanged c.heap c.heap (λ number o e. e) }
+      → IsApartCard after
+  run_apart p (nothing c) = p
   run_apart p (command first more c between after answer answers touches answered rest) =
-      let one = stays_apart c first answer between p answered in
-      let last = run_apart one.card rest in record {
-        card = last.card;
-        plain =
-            laws.plain c.heap between.heap after.heap (accesses_of c first) touches
-            (changes c first answer between answered).objects one.plain last.plain;
-      }
+      run_apart (stays_apart c first answer between p answered) rest
 
   pub all_guarded : AreGuarded images certificates
   all_guarded = record {
     commands = guarded;
     runs = λ commands c answers touches after run. run_changes run;
-    apart = λ commands c answers touches after p run. run_apart p run;
+    apart = kept_apart;
+    stays = λ commands c answers touches after p run. run_apart p run;
   }

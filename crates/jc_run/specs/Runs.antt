@@ -52,17 +52,30 @@ IsGuarded c Reset after = IfSome (reset_command c) (IsGuardedCommand c)
 IsGuarded c Cells after = after ≡ c
 IsGuarded c Objects after = after ≡ c
 
--- of each command on each card, and of each run from each card on. A run from a card on which the runtime's name is its
--- own leaves such a card, and plain objects change in their own contexts alone, or by clearing
+-- on a card on which the runtime's name is its own: a command leaves such a card, and part by part it keeps plain
+-- objects. A load makes no part
+abbrev pub IsKeptApart : CardState → ScriptCommand → CardState → Type 0
+IsKeptApart c (Load folder certificate) after = IsApartCard after
+IsKeptApart c (Install applet instance incoming) after =
+    IfSome (install_command c applet instance incoming) (λ l. KeepsApart c l.touches l.card)
+IsKeptApart c (Apdu bytes) after = IfSome (apdu_command c bytes) (λ l. KeepsApart c l.touches l.card)
+IsKeptApart c Reset after = IfSome (reset_command c) (λ l. KeepsApart c l.touches l.card)
+IsKeptApart c Cells after = after ≡ c
+IsKeptApart c Objects after = after ≡ c
+
+-- of each command on each card, and of each run from each card on. From a card on which the runtime's name is its own
+-- each command is kept apart, and each run leaves such a card
 pub record AreGuarded (images certificates : List ℕ → List ℕ → Type 0) : Type 0 where
   pub commands : (c : CardState) (command : ScriptCommand) (answer : Answered) (after : CardState)
       → IsAnswered images certificates c command answer after → IsGuarded c command after
   pub runs : (commands : List ScriptCommand) (c : CardState) (answers : List Answered) (touches : List Touch)
       (after : CardState) → IsCardRun images certificates commands c answers touches after
       → ChangesBy touches c.heap after.heap
-  pub apart : (commands : List ScriptCommand) (c : CardState) (answers : List Answered) (touches : List Touch)
+  pub apart : (c : CardState) (command : ScriptCommand) (answer : Answered) (after : CardState) → IsApartCard c
+      → IsAnswered images certificates c command answer after → IsKeptApart c command after
+  pub stays : (commands : List ScriptCommand) (c : CardState) (answers : List Answered) (touches : List Touch)
       (after : CardState) → IsApartCard c → IsCardRun images certificates commands c answers touches after
-      → KeepsApart c touches after
+      → IsApartCard after
 
 -- ---- a script
 

@@ -1,5 +1,6 @@
 use Rattle.jc_natives.specs.Apart.{names_applets}
 use Rattle.jc_card.proofs.Guarding.{apdus_guarded, installs_guarded, loads_leave, resets_guarded}
+use Rattle.jc_card.proofs.LeadingWrites.{all_cleared}
 use Rattle.jc_card.proofs.accesses.commands_are_guarded.Goals as goal
 
 pub returns-clause-apdu : goal.returns-clause-apdu
@@ -46,6 +47,9 @@ returns-clause-reset c = resets_guarded (record {
   opened = c.members_stay_apart.ensures.opened;
   closed = c.members_stay_apart.ensures.closed;
 })
+
+pub returns-clause-cleared : goal.returns-clause-cleared
+returns-clause-cleared c = all_cleared
 
 pub returns-clause-load : goal.returns-clause-load
 returns-clause-load c = loads_leave

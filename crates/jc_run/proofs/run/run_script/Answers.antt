@@ -17,8 +17,6 @@ returns-clause-run g c = λ bytes before is known.
       apart_install = c.commands_stay_apart.ensures.install;
       apart_reset = c.commands_stay_apart.ensures.reset;
       apart_load = c.commands_stay_apart.ensures.load;
-      plain = c.accesses_add_up.ensures.plain;
-      unchanged = c.accesses_add_up.ensures.unchanged;
       none = c.accesses_add_up.ensures.none;
       more = c.accesses_add_up.ensures.more;
     }) _ _ c.args.limits c.args.binding.now bytes before _ c.new.result c.new.ensures.limits c.has_no_clash.ensures
@@ -38,8 +36,6 @@ returns-in_err-card-clause-run g c = λ bytes before is known.
       apart_install = c.commands_stay_apart.ensures.install;
       apart_reset = c.commands_stay_apart.ensures.reset;
       apart_load = c.commands_stay_apart.ensures.load;
-      plain = c.accesses_add_up.ensures.plain;
-      unchanged = c.accesses_add_up.ensures.unchanged;
       none = c.accesses_add_up.ensures.none;
       more = c.accesses_add_up.ensures.more;
     }) _ _ c.args.limits c.args.binding.now bytes before _ c.new.result c.new.ensures.limits c.has_no_clash.ensures

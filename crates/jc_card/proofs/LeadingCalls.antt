@@ -90,7 +90,7 @@ module _ (laws : StepsGuarded) (c : CardState) (owner : Owner) where
   abbrev led_end : ℕ → Machine Kept → List Touch → CallEnd Kept → Type 0
   led_end n m touches (Gave after value) = AreLed n m touches after
   led_end n m touches (Threw after object at) = AreLed n m touches after
-  led_end n m touches (RanOut after spent at) = AreLed n m touches after
+  led_end n m touches (RanOut after lack at) = AreLed n m touches after
   led_end n m touches WasStuck = Unit {0}
 
   abbrev leads_to : ℕ → Machine Kept → Called Kept → Type 0
@@ -136,7 +136,7 @@ module _ (laws : StepsGuarded) (c : CardState) (owner : Owner) where
         → led_end (suc n) m ((defensive_step s m).touches ++ more) ends
     end_joined more (Gave after value) h = led_on more after h
     end_joined more (Threw after object at) h = led_on more after h
-    end_joined more (RanOut after spent at) h = led_on more after h
+    end_joined more (RanOut after lack at) h = led_on more after h
     end_joined more WasStuck h = tt
 
   by_outcome : (n : ℕ) (m : Machine Kept) (lacking : Budget) (at : Option CodePoint) (o : Outcome Kept)
@@ -177,7 +177,7 @@ module _ (laws : StepsGuarded) (c : CardState) (owner : Owner) where
   abbrev call_end : List Touch → CallEnd Kept → Type 0
   call_end touches (Gave after value) = IsCallLed touches after
   call_end touches (Threw after object at) = IsCallLed touches after
-  call_end touches (RanOut after spent at) = IsCallLed touches after
+  call_end touches (RanOut after lack at) = IsCallLed touches after
   call_end touches WasStuck = Unit {0}
 
   abbrev from : Called Kept → Type 0
@@ -230,7 +230,7 @@ module _ (laws : StepsGuarded) (c : CardState) (owner : Owner) where
           → call_end touches ends
       of_end touches (Gave after value) h = of_steps touches after h
       of_end touches (Threw after object at) h = of_steps touches after h
-      of_end touches (RanOut after spent at) h = of_steps touches after h
+      of_end touches (RanOut after lack at) h = of_steps touches after h
       of_end touches WasStuck h = tt
 
       begun_leads : from (begun s c.steps start place header)
@@ -356,7 +356,7 @@ module _ (laws : StepsGuarded) (c : CardState) (owner : Owner) where
           → IfSome (ended_call c touches ends) (IsPart c)
       ended_part touches (Gave m value) h = left_apart touches m (Normally value) h
       ended_part touches (Threw m object at) h = left_apart touches m (Uncaught object at) h
-      ended_part touches (RanOut m spent at) h = left_apart touches m (OutOfBudget spent at) h
+      ended_part touches (RanOut m lack at) h = left_apart touches m (OutOfBudget lack at) h
       ended_part touches WasStuck h = tt
 
       pub call_part : IfSome (ended c (runtime_call s c.steps start)) (IsPart c)

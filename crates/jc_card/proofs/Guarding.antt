@@ -37,6 +37,8 @@ use Rattle.jc_card.specs.declared.places.AppletPlace.{AppletPlace}
 use Rattle.std.proofs.Common.{ap, inl, inr, not, nat_le, ◌==◌}
 use Rattle.jc_link.specs.Built.{IsBuilt}
 use Rattle.jc_machine.specs.Apart.{IsSetApart, is_applets}
+use Rattle.jc_machine.specs.Machine.{StaticValue}
+use Rattle.jc_machine.specs.Storable.{FieldsHoldStorable}
 use Rattle.jc_machine.specs.Runtime.{most_instances}
 use Rattle.jc_natives.specs.Apart.{names_applets}
 use Rattle.jc_natives.specs.Kept.{is_instance_number}
@@ -99,6 +101,10 @@ moved c d (Some l) same instances h = record {
       let k = h.apart (record {
         packages = subst (λ (w : World). IsBuilt w.shapes) (sym same.packages) p.packages;
         objects = subst IsSetApart (sym same.objects) p.objects;
+        statics =
+            subst (λ (heap : Heap TaggedValue). FieldsHoldStorable heap d.statics) (sym same.objects)
+            (subst (λ (statics : List (List StaticValue)). FieldsHoldStorable c.heap statics) (sym same.statics)
+            p.statics);
         instances = instances p.instances;
       }) in record { card = k.card; plain = onward c d l.card [] l.touches (nowhere c d same) k.plain };
 }
@@ -169,6 +175,7 @@ module _ (laws : StepsGuarded) where
       card = record {
         packages = p.packages;
         objects = p.objects;
+        statics = p.statics;
         instances = laws.closed c.kept p.instances;
       };
       plain = nowhere c (with_kept c (without_command c.kept)) closed;

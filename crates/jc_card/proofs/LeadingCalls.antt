@@ -23,6 +23,10 @@ use Rattle.jc_cap_method.specs.declared.header.MethodHeader.{MethodHeader}
 use Rattle.jc_link.specs.Linked.{World}
 use Rattle.jc_machine.specs.Calls.{frame_of, has_room, native_may_begin, native_type}
 use Rattle.jc_machine.specs.Guarded.{AddsFor, IsGuarded, machine_of}
+use Rattle.jc_machine.specs.Machine.{StaticValue}
+use Rattle.jc_machine.specs.Storable.{FieldsHoldStorable, HoldStorable, may_be_held}
+use Rattle.jc_natives.specs.Cells.{put_all}
+use Rattle.std.proofs.Common.{map}
 use Rattle.jc_machine.specs.Lookup.{is_given, is_throwable, declared_at}
 use Rattle.jc_machine.specs.Machine.{Calls, Ends, Frame, Gives, IsStuck, Machine, MethodPlace, NativeAnswer, NativeCall}
 use Rattle.jc_machine.specs.Machine.{NativeEnd, Next, Outcome, Stuck, Surroundings, Throws, ThrowsObject, Touch, UsedUp}
@@ -41,7 +45,7 @@ use Rattle.jc_names.specs.declared.owner.Owner.{Owner}
 use Rattle.jc_natives.specs.Kept.{Kept, after_install, is_instance_number, with_command, with_install, without_command}
 use Rattle.jc_natives.specs.Meaning.{meaning}
 use Rattle.jc_store.specs.Heap.{Heap, Object, object_at}
-use Rattle.jc_words.specs.Values.{TaggedValue}
+use Rattle.jc_words.specs.Values.{TaggedValue, Word}
 use Rattle.jc_card.proofs.Leading.{IsPart}
 use Rattle.jc_card.specs.Accesses.Leads.{by_call}
 use Rattle.jc_card.specs.Card.{CardState, around}
@@ -57,7 +61,14 @@ pub record StepsGuarded : Type 0 where
   pub apart_steps : (s : Surroundings Kept) → AreNativesGuarded s.natives → AreNativesApart names_applets s.natives
       → HaveApiMembers s.world.shapes → (m : Machine Kept) → IsApart names_applets m → StaysApart names_applets s m
   pub apart_objects : (before after : Heap TaggedValue) (owner : Owner) → IsSetApart before
-      → KeepsObjects before after → is_applets owner ≡ true → AddsFor owner before after → IsSetApart after
+      → KeepsObjects before after → is_applets owner ≡ true → AddsFor owner before after → HoldStorable after
+      → IsSetApart after
+  pub held : (before after : Heap TaggedValue) → KeepsObjects before after → (v : TaggedValue)
+      → may_be_held before v ≡ true → may_be_held after v ≡ true
+  pub fields : (before after : Heap TaggedValue) → KeepsObjects before after → (statics : List (List StaticValue))
+      → FieldsHoldStorable before statics → FieldsHoldStorable after statics
+  pub words : (heap : Heap TaggedValue) → HoldStorable heap → (number from : ℕ) (words : List ℕ)
+      → HoldStorable (put_all heap number from (map Word words))
   pub api : (world : List Shape) → IsBuilt world → HaveApiMembers world
   pub begun : (k : Kept) → names_applets k ≡ true → (owner : Owner) (aid : List ℕ) → is_applets owner ≡ true
       → is_instance_number owner.instance ≡ true → names_applets (with_install k owner aid) ≡ true
@@ -166,6 +177,7 @@ module _ (laws : StepsGuarded) (c : CardState) (owner : Owner) where
   record IsFitStart : Type 0 where
     built : IsBuilt w.shapes
     objects : IsSetApart c.heap
+    statics : FieldsHoldStorable c.heap c.statics
     instances : names_applets c.kept ≡ true
     applets : is_applets owner ≡ true
 
@@ -192,6 +204,7 @@ module _ (laws : StepsGuarded) (c : CardState) (owner : Owner) where
     built = p.built;
     apart = record {
       objects = p.objects;
+      statics = p.statics;
       frames = ap (λ (o : Owner). is_applets o && true) is ∙ ap (λ (b : Bool). b && true) p.applets;
       kept = p.instances;
     };
@@ -299,7 +312,9 @@ module _ (laws : StepsGuarded) (c : CardState) (owner : Owner) where
           built = p.built;
           apart = record {
             objects =
-                laws.apart_objects c.heap a.heap owner p.objects answer_guarded.kept p.applets answer_guarded.adds;
+                laws.apart_objects c.heap a.heap owner p.objects answer_guarded.kept p.applets answer_guarded.adds
+                (answer_apart p).stored;
+            statics = laws.fields c.heap a.heap answer_guarded.kept c.statics p.statics;
             frames = ap (λ (b : Bool). b && true) p.applets;
             kept = (answer_apart p).kept;
           };
@@ -335,7 +350,13 @@ module _ (laws : StepsGuarded) (c : CardState) (owner : Owner) where
     module _ (running : IsRunning c owner) (is_owner : IsApartCard c → is_applets owner ≡ true) where
       fit_start : IsApartCard c → IsFitStart
       fit_start p =
-          record { built = p.packages; objects = p.objects; instances = p.instances; applets = is_owner p }
+          record {
+            built = p.packages;
+            objects = p.objects;
+            statics = p.statics;
+            instances = p.instances;
+            applets = is_owner p;
+          }
 
       left_apart : (touches : List Touch) (m : Machine Kept) (ends : Ended) → IsCallLed touches m
           → IsPart c (record { touches = touches; card = left_by c m; value = ends })
@@ -346,6 +367,7 @@ module _ (laws : StepsGuarded) (c : CardState) (owner : Owner) where
           card = record {
             packages = p.packages;
             objects = (h.fit (fit_start p)).apart.objects;
+            statics = (h.fit (fit_start p)).apart.statics;
             instances = (h.fit (fit_start p)).apart.kept;
           };
           plain = by_call c owner touches m running (h.plain (fit_start p));

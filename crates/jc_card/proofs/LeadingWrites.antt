@@ -26,13 +26,14 @@ use Rattle.jc_machine.specs.Runtime.{apdu_buffer, install_array}
 use Rattle.jc_machine.specs.Lookup.{is_array}
 use Rattle.jc_machine.specs.Machine.{Touch}
 use Rattle.jc_machine.specs.Natives.{KeepsObjects}
+use Rattle.jc_machine.specs.Storable.{HoldStorable, may_be_held}
 use Rattle.jc_natives.specs.Cells.{put, put_all}
 use Rattle.jc_natives.specs.Meaning.{own_touch}
 use Rattle.jc_safety.specs.Zeroing.{zero_or_null, zeroed, zeroed_where}
 use Rattle.jc_store.specs.Heap.{Heap, Object, is_cleared_by, object_at, with_cell, with_object}
 use Rattle.jc_store.specs.declared.kind.ClearingEvent.{ClearingEvent}
 use Rattle.jc_store.specs.declared.kind.ClearingEvent.TheVariants as events
-use Rattle.jc_words.specs.Values.{TaggedValue, Word}
+use Rattle.jc_words.specs.Values.{Null, Ref, TaggedValue, Unset, Word}
 use Rattle.jc_card.proofs.Heaps.{all_put}
 use Rattle.jc_card.proofs.Leading.{IsPart}
 use Rattle.jc_card.specs.Accesses.{IsOwnAccess}
@@ -223,7 +224,9 @@ module _ (laws : StepsGuarded) where
             packages = p.packages;
             objects = laws.apart_objects c.heap after any_owner p.objects work.kept refl
                 (none_added any_owner c.heap after
-                (none_put c.heap number values (object_at c.heap number) refl));
+                (none_put c.heap number values (object_at c.heap number) refl))
+                (laws.words c.heap p.objects.stored number 0 words);
+            statics = laws.fields c.heap after work.kept c.statics p.statics;
             instances = p.instances;
           };
           plain = by_write c number after which work others (other p);
@@ -373,6 +376,53 @@ module _ (w : World) (event : ClearingEvent) (context : Option ℕ) where
   clears_exactly heap zero o e = absurd cc
   clears_exactly heap (suc n) o e = got_cleared heap n o e
 
+  -- what was cleared holds what it may
+  record WasAt (heap : Heap TaggedValue) (n : ℕ) (p : Object TaggedValue) : Type 0 where
+    object : Object TaggedValue
+    there : slice_get heap n ≡ Some object
+    is : p ≡ one (test object) object
+
+  was_at : (heap : Heap TaggedValue) (n : ℕ) (p : Object TaggedValue)
+      → slice_get (zeroed_where test heap) n ≡ Some p → WasAt heap n p
+  was_at [] n p e = absurd cc
+  was_at (x ∷ heap) zero p e = record { object = x; there = refl; is = sym (same_Some (one (test x) x) p e) }
+  was_at (x ∷ heap) (suc n) p e =
+      let w = was_at heap n p e in record { object = w.object; there = w.there; is = w.is }
+
+  zero_held : (heap : Heap TaggedValue) (v : TaggedValue) → may_be_held heap (zero_or_null v) ≡ true
+  zero_held heap (Word n) = refl
+  zero_held heap (Ref n) = refl
+  zero_held heap Null = refl
+  zero_held heap Unset = refl
+
+  zeros_held : (heap : Heap TaggedValue) (vs : List TaggedValue)
+      → AllByRecursion (λ (v : TaggedValue). may_be_held heap v ≡ true) (map zero_or_null vs)
+  zeros_held heap [] = tt
+  zeros_held heap (v ∷ vs) = (zero_held heap v, zeros_held heap vs)
+
+  module _ (still : (before after : Heap TaggedValue) → KeepsObjects before after → (v : TaggedValue)
+      → may_be_held before v ≡ true → may_be_held after v ≡ true) (heap : Heap TaggedValue)
+      (holds : HoldStorable heap) where
+    stay_held : (vs : List TaggedValue) → AllByRecursion (λ (v : TaggedValue). may_be_held heap v ≡ true) vs
+        → AllByRecursion (λ (v : TaggedValue). may_be_held (zeroed_where test heap) v ≡ true) vs
+    stay_held [] h = tt
+    stay_held (v ∷ vs) h = (still heap (zeroed_where test heap) (stay heap) v h.0, stay_held vs h.1)
+
+    one_held : (b : Bool) (o : Object TaggedValue)
+        → AllByRecursion (λ (v : TaggedValue). may_be_held heap v ≡ true) o.cells
+        → AllByRecursion (λ (v : TaggedValue). may_be_held (zeroed_where test heap) v ≡ true) (one b o).cells
+    one_held true o h = zeros_held (zeroed_where test heap) o.cells
+    one_held false o h = stay_held o.cells h
+
+    cleared_holds : HoldStorable (zeroed_where test heap)
+    cleared_holds zero p e = absurd cc
+    cleared_holds (suc n) p e =
+        let w = was_at heap n p e in
+        subst
+        (λ (x : Object TaggedValue). AllByRecursion
+        (λ (v : TaggedValue). may_be_held (zeroed_where test heap) v ≡ true) x.cells) (sym w.is)
+        (one_held (test w.object) w.object (holds (suc n) w.object w.there))
+
   none_cleared : (heap : Heap TaggedValue) (n : ℕ) → slice_get heap n ≡ None
       → slice_get (zeroed_where test heap) n ≡ None
   none_cleared [] n e = refl
@@ -398,7 +448,9 @@ clear_part laws event context c =
         card = record {
           packages = p.packages;
           objects = laws.apart_objects c.heap after any_owner p.objects work.kept refl
-              (none_added any_owner c.heap after (none_cleared_at c.world event context c.heap));
+              (none_added any_owner c.heap after (none_cleared_at c.world event context c.heap))
+              (cleared_holds c.world event context laws.held c.heap p.objects.stored);
+          statics = laws.fields c.heap after work.kept c.statics p.statics;
           instances = p.instances;
         };
         plain = by_clearing c event context touches after work exact;

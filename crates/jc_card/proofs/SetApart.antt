@@ -24,7 +24,22 @@ use Rattle.jc_safety.specs.Loading.{loaded_array, loaded_arrays, mark_of_arrays,
 use Rattle.jc_safety.specs.Loading.{type_of_array}
 use Rattle.jc_store.specs.Heap.{Heap, Object, object_at}
 use Rattle.jc_store.specs.declared.kind.Mark.TheVariants.{Plain}
-use Rattle.jc_words.specs.Values.{TaggedValue}
+use Rattle.jc_words.specs.Values.{Null, Ref, TaggedValue, Word}
+use Rattle.std.proofs.Common.{◌+◌, ◌/◌, ◌<◌, ◌&&◌, ◌||◌, cond, false, not, nat_lt, length, replicate, ap, ◌∙◌, arith}
+use Rattle.std.proofs.lemmas.Bool.{lt-ltb, ltb-true}
+use Rattle.std.proofs.lemmas.Option.{slice_get_within}
+use Rattle.std.specs.List.{AllByRecursion}
+use Rattle.std.specs.Option.{option_map_or}
+use Rattle.jc_base.specs.declared.declared_type.DeclaredType.{DeclaredType}
+use Rattle.jc_base.specs.declared.class_ref.ClassRef.{ClassRef}
+use Rattle.jc_base.specs.declared.declared_type.DeclaredType.TheVariants as Declared
+use Rattle.jc_firewall.specs.Verdict.{is_global_array, is_never_stored}
+use Rattle.jc_link.specs.Statics.{StaticField, static_fields}
+use Rattle.jc_machine.specs.Machine.{StaticValue}
+use Rattle.jc_machine.specs.Runtime.{install_array}
+use Rattle.jc_machine.specs.Storable.{FieldsHoldStorable, HoldStorable, is_librarys, is_storable, may_be_held}
+use Rattle.jc_machine.specs.Storable.{may_be_static}
+use Rattle.jc_safety.specs.Loading.{own_shape, reference_at, static_value, static_values, value_at, words_of_array}
 use Rattle.jc_card.proofs.Leading.{got_first}
 use Rattle.jc_card.specs.Accesses.{IsApartCard}
 use Rattle.jc_card.specs.Card.{CardState}
@@ -70,6 +85,25 @@ new_context : (number : ℕ) (o : Object TaggedValue) → object_at new_heap num
 new_context zero o e = absurd cc
 new_context (suc n) o e = made_context runtime_objects n o e
 
+-- all components are 0
+zeros_held : (heap : Heap TaggedValue) (count : ℕ)
+    → AllByRecursion (λ (v : TaggedValue). may_be_held heap v ≡ true) (replicate count (Word 0))
+zeros_held heap zero = tt
+zeros_held heap (suc n) = (refl, zeros_held heap n)
+
+made_holds : (heap : Heap TaggedValue) (wanted : List RuntimeObject) (n : ℕ) (o : Object TaggedValue)
+    → slice_get (map made wanted) n ≡ Some o
+    → AllByRecursion (λ (v : TaggedValue). may_be_held heap v ≡ true) o.cells
+made_holds heap [] n o e = absurd cc
+made_holds heap (x ∷ xs) zero o e =
+    subst (λ (o : Object TaggedValue). AllByRecursion (λ (v : TaggedValue). may_be_held heap v ≡ true) o.cells)
+    (same_Some (made x) o e) (zeros_held heap x.size)
+made_holds heap (x ∷ xs) (suc n) o e = made_holds heap xs n o e
+
+new_holds : HoldStorable new_heap
+new_holds zero o e = absurd cc
+new_holds (suc n) o e = made_holds new_heap runtime_objects n o e
+
 pub new_apart : HasRuntimeObjects new_heap → (limits : Limits) (binding : Bound) → HasNoClash binding
     → IsApartCard (new_card limits binding)
 new_apart own limits binding clear = record {
@@ -78,7 +112,9 @@ new_apart own limits binding clear = record {
     own = own;
     others = new_others;
     marked = λ number o e other. new_context number o e;
+    stored = new_holds;
   };
+  statics = tt;
   instances = refl;
 }
 
@@ -131,8 +167,38 @@ arrays_codeless number body (x ∷ xs) zero o e =
     })
 arrays_codeless number body (x ∷ xs) (suc k) o e = arrays_codeless number body xs k o e
 
-module _ (stay : (before after : Heap TaggedValue) → KeepsObjects before after → HasRuntimeObjects before
-    → HasRuntimeObjects after) (heap : Heap TaggedValue) (apart : IsSetApart heap) (number : ℕ)
+-- what the runtime's objects, values and static fields rely on where objects stay
+pub record Staying : Type 0 where
+  pub own : (before after : Heap TaggedValue) → KeepsObjects before after → HasRuntimeObjects before
+      → HasRuntimeObjects after
+  pub held : (before after : Heap TaggedValue) → KeepsObjects before after → (v : TaggedValue)
+      → may_be_held before v ≡ true → may_be_held after v ≡ true
+  pub fields : (before after : Heap TaggedValue) → KeepsObjects before after → (statics : List (List StaticValue))
+      → FieldsHoldStorable before statics → FieldsHoldStorable after statics
+
+-- arrays hold words
+words_held : (heap : Heap TaggedValue) (words : List ℕ)
+    → AllByRecursion (λ (v : TaggedValue). may_be_held heap v ≡ true) (map Word words)
+words_held heap [] = tt
+words_held heap (word ∷ words) = (refl, words_held heap words)
+
+arrays_hold : (heap : Heap TaggedValue) (number : ℕ) (body : LinkedBody) (arrays : List StaticArray) (k : ℕ)
+    (o : Object TaggedValue) → slice_get (map (loaded_array number body) arrays) k ≡ Some o
+    → AllByRecursion (λ (v : TaggedValue). may_be_held heap v ≡ true) o.cells
+arrays_hold heap number body [] k o e = absurd cc
+arrays_hold heap number body (x ∷ xs) zero o e =
+    subst (λ (o : Object TaggedValue). AllByRecursion (λ (v : TaggedValue). may_be_held heap v ≡ true) o.cells)
+    (same_Some (loaded_array number body x) o e) (words_held heap (words_of_array x))
+arrays_hold heap number body (x ∷ xs) (suc k) o e = arrays_hold heap number body xs k o e
+
+all_stay_held : (before after : Heap TaggedValue) (vs : List TaggedValue)
+    → ((v : TaggedValue) → may_be_held before v ≡ true → may_be_held after v ≡ true)
+    → AllByRecursion (λ (v : TaggedValue). may_be_held before v ≡ true) vs
+    → AllByRecursion (λ (v : TaggedValue). may_be_held after v ≡ true) vs
+all_stay_held before after [] still h = tt
+all_stay_held before after (v ∷ vs) still h = (still v h.0, all_stay_held before after vs still h.1)
+
+module _ (stay : Staying) (heap : Heap TaggedValue) (apart : IsSetApart heap) (number : ℕ)
     (body : LinkedBody) where
   others_behind : (n : ℕ) (o : Object TaggedValue) → object_at (heap ++ loaded_arrays number body) n ≡ Some o
       → o.owner.context ≡ runtime_context → IsRuntimes o
@@ -150,12 +216,118 @@ module _ (stay : (before after : Heap TaggedValue) → KeepsObjects before after
     | inr new ↦ arrays_marked number body body.kept.statics.arrays new.0 o new.1 other
   ]
 
+  holds_behind : HoldStorable (heap ++ loaded_arrays number body)
+  holds_behind zero o e = absurd cc
+  holds_behind (suc n) o e = elim (joined_either heap (loaded_arrays number body) n o e) [
+    | inl before ↦
+        all_stay_held heap (heap ++ loaded_arrays number body) o.cells
+        (stay.held heap (heap ++ loaded_arrays number body) (all_stay heap (loaded_arrays number body)))
+        (apart.stored (suc n) o before)
+    | inr new ↦
+        arrays_hold (heap ++ loaded_arrays number body) number body body.kept.statics.arrays new.0 o new.1
+  ]
+
+  -- ---- static fields
+
+  abbrev behind : Heap TaggedValue
+  behind = heap ++ loaded_arrays number body
+
+  -- the runtime's own global arrays have smaller numbers
+  beyond_own : install_array < suc (length heap)
+  beyond_own =
+      let own = apart.own.1.1.1.1.1.1.1.1.1.1.1.1.0 in
+      let within = slice_get_within heap 12 own.object own.found in
+      omega (arith, within)
+
+  got_behind : (xs ys : List (Object TaggedValue)) (i : ℕ) → slice_get (xs ++ ys) (length xs + i) ≡ slice_get ys i
+  got_behind [] ys i = let e : 0 + i ≡ i = omega arith in ap (slice_get ys) e
+  got_behind (x ∷ xs) ys i =
+      let e : suc (length xs) + i ≡ suc (length xs + i) = omega arith in
+      ap (slice_get (x ∷ xs ++ ys)) e ∙ got_behind xs ys i
+
+  array_is_fine : (i : ℕ) (array : StaticArray) (n : ℕ) → install_array < n
+      → (is_storable (loaded_array number body array) || is_librarys n (loaded_array number body array)) ≡ true
+  array_is_fine i array n beyond = by_mark body.kept.applets
+    where
+      by_mark : (applets : Option (List Applet))
+          → (not (is_never_stored (mark_of_arrays applets))
+          || (is_global_array (mark_of_arrays applets) && nat_lt install_array n)) ≡ true
+      by_mark None = lt-ltb install_array n beyond
+      by_mark (Some applets) = refl
+
+  mapped_at : (arrays : List StaticArray) (i : ℕ) → i < length arrays
+      → (array : StaticArray) × (slice_get (map (loaded_array number body) arrays) i
+      ≡ Some (loaded_array number body array))
+  mapped_at [] i low = absurd (omega (arith, low))
+  mapped_at (x ∷ xs) zero low = (x, refl)
+  mapped_at (x ∷ xs) (suc i) low = mapped_at xs i (omega (arith, low))
+
+  array_static : (i : ℕ) → i < length body.kept.statics.arrays
+      → may_be_static behind (Ref (suc (length heap) + i)) ≡ true
+  array_static i low =
+      let at = mapped_at body.kept.statics.arrays i low in
+      let n = suc (length heap) + i in
+      let beyond = beyond_own in
+      let same : n ≡ suc (length heap + i) = omega arith in
+      ap (λ (k : ℕ). option_map_or (λ (o : Object TaggedValue). is_storable o || is_librarys n o) (object_at behind k)
+      false) same
+      ∙ ap (λ (x : Option (Object TaggedValue)). option_map_or
+      (λ (o : Object TaggedValue). is_storable o || is_librarys n o) x false)
+      (got_behind heap (loaded_arrays number body) i ∙ at.1)
+      ∙ array_is_fine i at.0 n (omega (arith, beyond))
+
+  reference_static : (offset : ℕ) → may_be_static behind (reference_at (suc (length heap)) body.kept.statics offset) ≡ true
+  reference_static offset =
+      by_array (nat_lt (offset / 2) (length body.kept.statics.arrays)) refl
+    where
+      by_array : (b : Bool) → nat_lt (offset / 2) (length body.kept.statics.arrays) ≡ b
+          → may_be_static behind (cond b (Ref (suc (length heap) + offset / 2)) Null) ≡ true
+      by_array true e = array_static (offset / 2) (ltb-true (offset / 2) (length body.kept.statics.arrays) e)
+      by_array false e = refl
+
+  value_static : (offset : ℕ) (type : DeclaredType ClassRef)
+      → may_be_static behind (value_at (suc (length heap)) body.kept.statics offset type) ≡ true
+  value_static offset Declared.Boolean = refl
+  value_static offset Declared.Byte = refl
+  value_static offset Declared.Short = refl
+  value_static offset (Declared.Reference c) = reference_static offset
+  value_static offset Declared.BooleanArray = reference_static offset
+  value_static offset Declared.ByteArray = reference_static offset
+  value_static offset Declared.ShortArray = reference_static offset
+  value_static offset (Declared.ReferenceArray c) = reference_static offset
+
+  abbrev IsStatic : StaticValue → Type 0
+  IsStatic s = may_be_static behind s.value ≡ true
+
+  values_static : (fields : List StaticField)
+      → AllByRecursion IsStatic (map (static_value (suc (length heap)) body.kept.statics) fields)
+  values_static [] = tt
+  values_static (f ∷ fields) = (value_static f.offset f.type, values_static fields)
+
+  shape_static : (shape : Option Shape)
+      → AllByRecursion IsStatic (option_map_or (static_values (suc (length heap)) body.kept.statics) shape [])
+  shape_static None = tt
+  shape_static (Some shape) = values_static (static_fields shape)
+
+  one_more : (statics : List (List StaticValue)) (fields : List StaticValue) → FieldsHoldStorable behind statics
+      → AllByRecursion IsStatic fields → FieldsHoldStorable behind (statics ++ fields ∷ [])
+  one_more [] fields h k = (k, tt)
+  one_more (x ∷ xs) fields h k = (h.0, one_more xs fields h.1 k)
+
+  fields_behind : (statics : List (List StaticValue)) (shape : Option Shape) → FieldsHoldStorable heap statics
+      → FieldsHoldStorable behind
+      (statics ++ option_map_or (static_values (suc (length heap)) body.kept.statics) shape [] ∷ [])
+  fields_behind statics shape h =
+      one_more statics (option_map_or (static_values (suc (length heap)) body.kept.statics) shape [])
+      (stay.fields heap behind (all_stay heap (loaded_arrays number body)) statics h) (shape_static shape)
+
   apart_behind : IsSetApart (heap ++ loaded_arrays number body)
   apart_behind = record {
     own =
-        stay heap (heap ++ loaded_arrays number body) (all_stay heap (loaded_arrays number body)) apart.own;
+        stay.own heap (heap ++ loaded_arrays number body) (all_stay heap (loaded_arrays number body)) apart.own;
     others = others_behind;
     marked = marked_behind;
+    stored = holds_behind;
   }
 
 built_behind : (before : List Shape) (l : Linked) → IsBuilt before
@@ -163,8 +335,7 @@ built_behind : (before : List Shape) (l : Linked) → IsBuilt before
 built_behind before l built k =
     let linked = (k.1).linked in subst IsBuilt (sym linked.world) (loaded before (k.1).«package» built linked.fine)
 
-pub load_apart : ((before after : Heap TaggedValue) → KeepsObjects before after → HasRuntimeObjects before
-    → HasRuntimeObjects after) → (c after : CardState) (image certificate : List ℕ) (result : Result ℕ LoadFault)
+pub load_apart : Staying → (c after : CardState) (image certificate : List ℕ) (result : Result ℕ LoadFault)
     → IsApartCard c → IsLoad c image certificate result after → IsApartCard after
 load_apart stay c after image certificate (Ok number) p h =
     let l = h.linked in
@@ -172,6 +343,7 @@ load_apart stay c after image certificate (Ok number) p h =
       packages =
           built_behind c.world.shapes l p.packages (h.fit.linked.parts, h.fit.linked.linked);
       objects = apart_behind stay c.heap p.objects (next_package c.world) l.body;
+      statics = fields_behind stay c.heap p.objects (next_package c.world) l.body c.statics (own_shape l) p.statics;
       instances = p.instances;
     })
 load_apart stay c after image certificate (Err fault) p h = subst IsApartCard (sym h.kept) p

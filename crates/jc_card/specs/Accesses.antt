@@ -19,6 +19,7 @@ use Rattle.jc_machine.specs.Machine.{Stuck, Surroundings, Throws, Touch, UsedUp}
 use Rattle.jc_machine.specs.Natives.{IsGuardedAnswer, KeepsObjects}
 use Rattle.jc_machine.specs.Runtime.{apdu_buffer, install_array}
 use Rattle.jc_machine.specs.Step.{defensive_step}
+use Rattle.jc_machine.specs.Storable.{FieldsHoldStorable}
 use Rattle.jc_names.specs.declared.owner.Owner.{Owner}
 use Rattle.jc_natives.specs.Apart.{names_applets}
 use Rattle.jc_natives.specs.Kept.{Kept}
@@ -210,10 +211,12 @@ law_of_plain_objects = record {
 }
 
 -- a card on which the runtime's name is its own: its packages are linked, no code of theirs runs as the runtime, and
--- the instances are of their contexts
+-- the instances are of their contexts. No field, component or static field of it holds a reference to a temporary entry
+-- point or a global array, but static fields to arrays of libraries
 pub record IsApartCard (c : CardState) : Type 0 where
   pub packages : IsBuilt c.world.shapes
   pub objects : IsSetApart c.heap
+  pub statics : FieldsHoldStorable c.heap c.statics
   pub instances : names_applets c.kept ≡ true
 
 -- behind a command it stays so on a card; and part by part, plain objects are changed in their own contexts alone, and

@@ -18,9 +18,10 @@ ghost use Rattle.jc_store.specs.Heap.{Heap};
 ghost use Rattle.jc_words.specs.Values.{TaggedValue};
 
 use jc_machine::{
-    accesses_are_guarded, new_machines_are_typed, runtime_objects_stay, steps_stay_apart,
+    accesses_are_guarded, held_values_stay, new_machines_are_typed, runtime_objects_stay,
+    steps_stay_apart,
 };
-use jc_natives::{Runtime, members_are_guarded, members_stay_apart};
+use jc_natives::{Runtime, members_are_guarded, members_stay_apart, written_words_are_held};
 use jc_safety::api_runs_its_own_code;
 
 /// The law of accesses, of each command on each card. What a command does to objects is done part by part: by calls of
@@ -41,13 +42,17 @@ pub fn commands_are_guarded()
 {
     members_are_guarded();
     members_stay_apart();
+    held_values_stay();
+    written_words_are_held();
     accesses_are_guarded(&Runtime::new());
     steps_stay_apart(&Runtime::new());
     api_runs_its_own_code();
 }
 
 /// The runtime's name is its own, on a card that is new and behind each command: no code of packages runs as the
-/// runtime. So a plain object changes only in steps of a frame in its owner's context, or by clearing. It does nothing.
+/// runtime. So a plain object changes only in steps of a frame in its owner's context, or by clearing. And no field,
+/// component or static field holds a reference to a temporary entry point or a global array, but static fields to
+/// arrays of libraries. It does nothing.
 pub fn commands_stay_apart()
     ensures new { (limits : Limits) (binding : Bound) → HasNoClash binding → IsApartCard (new_card limits binding) }
     ensures apdu { (c : CardState) → IsApartCard c → (bytes : List ℕ)
@@ -61,6 +66,8 @@ pub fn commands_stay_apart()
 {
     members_are_guarded();
     members_stay_apart();
+    held_values_stay();
+    written_words_are_held();
     accesses_are_guarded(&Runtime::new());
     steps_stay_apart(&Runtime::new());
     api_runs_its_own_code();

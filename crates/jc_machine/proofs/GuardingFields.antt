@@ -1,5 +1,5 @@
 -- Instructions on fields keep the law of accesses.
-use Rattle.std.proofs.Common.{◌≡◌, ℕ, List, [], length, nat_lt, slice_get, inl, refl, Some, true, false}
+use Rattle.std.proofs.Common.{◌≡◌, ℕ, List, [], length, nat_lt, slice_get, inl, refl, ap, Option, Some, true, false}
 use Rattle.jc_base.specs.declared.declared_type.DeclaredType.{DeclaredType}
 use Rattle.jc_code.specs.declared.object.FieldAccess.{FieldAccess}
 use Rattle.jc_code.specs.declared.object.FieldAction.{FieldAction}
@@ -9,7 +9,7 @@ use Rattle.jc_code.specs.declared.object.Form.TheVariants as Forms
 use Rattle.jc_code.specs.declared.object.Holder.{Holder}
 use Rattle.jc_code.specs.declared.object.Holder.TheVariants as Holders
 use Rattle.jc_firewall.specs.Verdict.{fields, row_of}
-use Rattle.jc_firewall.specs.declared.access.Access.TheVariants.{GetField, PutStaticReference}
+use Rattle.jc_firewall.specs.declared.access.Access.TheVariants.{GetField, PutReferenceField, PutStaticReference}
 use Rattle.jc_firewall.specs.declared.access.Facts.{Facts}
 use Rattle.jc_link.specs.declared.named.StaticPlace.{StaticPlace}
 use Rattle.jc_names.specs.declared.name.ClassName.{ClassName}
@@ -19,15 +19,19 @@ use Rattle.jc_machine.specs.Fields.{FieldTarget, InstanceField, act_field, act_g
 use Rattle.jc_machine.specs.Fields.{act_put_static, act_static, field_target, gets, of_class, of_objects, on_holder}
 use Rattle.jc_machine.specs.Fields.{put_static, puts, putting, static_at, stored_in_static}
 use Rattle.jc_machine.specs.Going.{Here, facts_of, storing}
-use Rattle.jc_machine.specs.Guarded.{may_change}
+use Rattle.jc_machine.specs.Guarded.{is_allowed, may_change}
+use Rattle.jc_store.specs.Heap.{Object, object_at}
+use Rattle.std.specs.Option.{option_map_or}
 use Rattle.jc_machine.specs.Lookup.{is_of_class, is_of_type}
 use Rattle.jc_machine.specs.Machine.{Machine, Stepped, Surroundings, Touch}
 use Rattle.jc_words.specs.Values.{Null, Ref, TaggedValue, Unset, Word}
-use Rattle.jc_machine.proofs.Guarding.{KeepsLaw, at_accessed, at_check, at_object, at_reference, at_reference_local}
-use Rattle.jc_machine.proofs.Guarding.{at_some, at_stored, at_target, at_top, gives_still, goes, is_stuck}
+use Rattle.jc_machine.proofs.Guarding.{KeepsLaw, at_accessed, at_check, at_checked, at_object, at_reference}
+use Rattle.jc_machine.proofs.Guarding.{at_reference_local, at_some, at_stored, at_target, at_top, gives_still, goes}
+use Rattle.jc_machine.proofs.Guarding.{is_stuck, verdict_in}
+use Rattle.jc_machine.proofs.Storing.{any_type, asked_held, held_as, held_static, put_holds, short_held, typed_leads}
 use Rattle.jc_machine.proofs.GuardingHeaps.{nothing_changes}
 use Rattle.jc_machine.proofs.GuardingWrites.{stores}
-use Rattle.jc_machine.proofs.StayingApart.{LeadsApart}
+use Rattle.jc_machine.proofs.StayingApart.{IsHeld, LeadsApart, top_isnt_runtime}
 
 -- ---- static fields
 
@@ -39,29 +43,39 @@ get_static_keeps h form place =
 
 -- what is stored has been accessed, if it is an object
 at_stored_value : {C : Type 0} (h : Here C) (v : TaggedValue) (s : Stepped C)
-    → ((before : List Touch) → KeepsLaw h.around h.machine before s) → KeepsLaw h.around h.machine []
-    (stored_in_static h v s)
-at_stored_value h (Word n) s k = k []
+    → ((before : List Touch) → IsHeld h.around h.machine v → KeepsLaw h.around h.machine before s)
+    → KeepsLaw h.around h.machine [] (stored_in_static h v s)
+at_stored_value h (Word n) s k = k [] (λ keeps p. refl)
 at_stored_value h (Ref n) s k =
-    at_object h (Ref n) _ (λ number o there.
-    at_stored h PutStaticReference number o there (Ref n) s (λ fine. k _))
-at_stored_value h Null s k = k []
+    at_some (object_at h.machine.heap n) _ (λ o there.
+    at_stored h PutStaticReference n o there (Ref n) s (λ fine. k _ (λ keeps p.
+    asked_held h PutStaticReference n (Ref n) o (top_isnt_runtime keeps h.machine p.machine) refl
+    (ap (λ (x : Option (Object TaggedValue)). option_map_or (λ (y : Object TaggedValue). any_type y.kind.object) x
+    false) there) fine)))
+at_stored_value h Null s k = k [] (λ keeps p. refl)
 at_stored_value h Unset s k = is_stuck
 
 -- static fields alone change
-static_apart : {C : Type 0} (h : Here C) (place : StaticPlace) (v : TaggedValue)
+static_apart : {C : Type 0} (h : Here C) (place : StaticPlace) (v : TaggedValue) → IsHeld h.around h.machine v
     → LeadsApart h.around h.machine (put_static h place v).machine
-static_apart h place v keeps p =
-    record { objects = p.machine.objects; frames = p.machine.frames; kept = p.machine.kept }
+static_apart h place v held keeps p = record {
+  objects = p.machine.objects;
+  statics =
+      put_holds h.machine.heap place.offset v (held_static h.machine.heap v (held keeps p)) h.machine.statics place.home
+      p.machine.statics;
+  frames = p.machine.frames;
+  kept = p.machine.kept;
+}
 
 put_static_keeps : {C : Type 0} (h : Here C) (form : Form) (place : StaticPlace) (declared : DeclaredType ClassName)
     → KeepsLaw h.around h.machine [] (act_put_static h form place declared)
 put_static_keeps h form place declared =
     at_top h.machine.top.operands _ (λ v vs.
     at_check (is_of_type h.around.world.shapes h.machine.heap declared v) _
-    (at_some (static_at h.machine.statics place.home place.offset) _ (λ s e. at_stored_value h v _ (λ before.
+    (at_some (static_at h.machine.statics place.home place.offset) _ (λ s e. at_stored_value h v _ (λ before held.
     goes (put_static h place (stored_as form v)) h.next_pc h.machine.top.locals vs
-    (nothing_changes h.machine.top.active before h.machine.heap) (static_apart h place (stored_as form v))))))
+    (nothing_changes h.machine.top.active before h.machine.heap) (static_apart h place (stored_as form v)
+    (λ keeps p. held_as h.machine.heap form v (held keeps p)))))))
 
 static_keeps : {C : Type 0} (h : Here C) (access : FieldAccess) (place : StaticPlace)
     (declared : DeclaredType ClassName) (action : FieldAction) (holder : Holder)
@@ -92,14 +106,32 @@ putting_changes Forms.Reference = refl
 putting_changes Forms.Byte = refl
 putting_changes Forms.Short = refl
 
+-- what a put of a field stores, of the field's type
+put_held : {C : Type 0} (h : Here C) (form : Form) (field : InstanceField) (value : TaggedValue)
+    → is_form_of form field.declared ≡ true
+    → is_of_type h.around.world.shapes h.machine.heap field.declared value ≡ true
+    → (number : ℕ) (o : Object TaggedValue) → is_allowed (verdict_in h (storing (putting form) number value) o) ≡ true
+    → IsHeld h.around h.machine (stored_as form value)
+put_held h Forms.Reference field value of_form typed number o fine keeps p =
+    asked_held h PutReferenceField number value o (top_isnt_runtime keeps h.machine p.machine) refl
+    (typed_leads h.around.world.shapes h.machine.heap field.declared value of_form typed) fine
+put_held h Forms.Byte field (Word n) of_form typed number o fine keeps p = refl
+put_held h Forms.Byte field (Ref n) of_form typed number o fine keeps p = refl
+put_held h Forms.Byte field Null of_form typed number o fine keeps p = refl
+put_held h Forms.Byte field Unset of_form typed number o fine keeps p = refl
+put_held h Forms.Short field value of_form typed number o fine keeps p =
+    short_held h.around.world.shapes h.machine.heap field.declared value of_form typed
+
 puts_keeps : {C : Type 0} (h : Here C) (form : Form) (field : InstanceField) (v value : TaggedValue)
-    (vs : List TaggedValue) → KeepsLaw h.around h.machine [] (puts h form field v value vs)
-puts_keeps h form field v value vs =
+    (vs : List TaggedValue) → is_form_of form field.declared ≡ true
+    → is_of_type h.around.world.shapes h.machine.heap field.declared value ≡ true → KeepsLaw h.around h.machine [] (puts h form field v value vs)
+puts_keeps h form field v value vs of_form typed =
     at_object h v _ (λ number o there. at_check (is_of_class h.around.world.shapes field.class o.kind.object) _
     (at_stored h (putting form) number o there value _ (λ fine.
     at_check (nat_lt field.cell (length o.cells)) _
     (stores h (storing (putting form) number value) o field.cell (stored_as form value) vs there (putting_changes form)
-    (inl (putting_row form (facts_of h (storing (putting form) number value) o))) fine))))
+    (inl (putting_row form (facts_of h (storing (putting form) number value) o))) fine
+    (put_held h form field value of_form typed number o fine)))))
 
 at_holder : {C : Type 0} {around : Surroundings C} {m : Machine C} {before : List Touch} (h : Here C) (holder : Holder)
     (vs : List TaggedValue)
@@ -112,20 +144,21 @@ at_holder h Holders.This vs go k =
     at_reference_local (slice_get h.machine.top.locals 0) (λ v. go v vs) (λ v. k v vs)
 
 instance_keeps : {C : Type 0} (h : Here C) (access : FieldAccess) (field : InstanceField) (action : FieldAction)
+    → is_form_of access.form field.declared ≡ true
     → KeepsLaw h.around h.machine [] (act_instance h access field action)
-instance_keeps h access field Get =
+instance_keeps h access field Get of_form =
     at_holder h access.holder h.machine.top.operands (gets h access.form field) (gets_keeps h access.form field)
-instance_keeps h access field Put =
+instance_keeps h access field Put of_form =
     at_top h.machine.top.operands _ (λ value us.
-    at_check (is_of_type h.around.world.shapes h.machine.heap field.declared value) _
-    (at_holder h access.holder us _ (λ v vs. puts_keeps h access.form field v value vs)))
+    at_checked (is_of_type h.around.world.shapes h.machine.heap field.declared value) _ (λ typed.
+    at_holder h access.holder us _ (λ v vs. puts_keeps h access.form field v value vs of_form typed)))
 
 -- ---- instructions
 
 target_keeps : {C : Type 0} (h : Here C) (access : FieldAccess) (target : FieldTarget)
     → KeepsLaw h.around h.machine [] (act_on_target h access target)
 target_keeps h access (of_objects field) =
-    at_check (is_form_of access.form field.declared) _ (instance_keeps h access field access.action)
+    at_checked (is_form_of access.form field.declared) _ (instance_keeps h access field access.action)
 target_keeps h access (of_class place declared) =
     at_check (is_form_of access.form declared) _ (static_keeps h access place declared access.action access.holder)
 

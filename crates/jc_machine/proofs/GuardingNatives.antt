@@ -35,6 +35,7 @@ use Rattle.jc_machine.proofs.Guarding.{goes, is_stuck, leaves, stays}
 use Rattle.jc_machine.proofs.GuardingHeaps.{KeepsHeap, all_joined, changes_later, mapped, nothing_changes}
 use Rattle.jc_machine.proofs.StayingApart.{IsApartIn, LeadsApart, RunsApplets, are_applets, is_apart_itself}
 use Rattle.jc_machine.proofs.StayingApart.{objects_stay_apart, top_runs}
+use Rattle.jc_machine.proofs.Storing.{fields_still}
 use Rattle.jc_machine.proofs.Switching.{called_runs}
 
 -- ---- frames
@@ -53,6 +54,7 @@ above_apart : {C : Type 0} (h : Here C) (f : Frame) (operands : List TaggedValue
     → RunsApplets h.around h.machine f.active → LeadsApart h.around h.machine (above h f operands)
 above_apart h f operands runs keeps p = record {
   objects = p.machine.objects;
+  statics = p.machine.statics;
   frames =
       and_from (is_applets f.active) (are_applets (h.machine.top ∷ h.machine.waiting)) (runs keeps p)
       p.machine.frames;
@@ -136,7 +138,8 @@ apart_as {C = C} h active previous member arguments runs g keeps p =
     let n : IsApartAnswer keeps call a =
     p.natives h.around.world call p.machine.objects (runs keeps p) p.machine.kept in record {
       spares = n.spares;
-      objects = objects_stay_apart h.machine.heap a.heap active p.machine.objects g.kept (runs keeps p) g.adds;
+      objects =
+          objects_stay_apart h.machine.heap a.heap active p.machine.objects g.kept (runs keeps p) g.adds n.stored;
       kept = n.kept;
     }
 
@@ -217,6 +220,7 @@ answer_apart : {C : Type 0} {before : List Touch} (h : Here C) (a : NativeAnswer
     → IsFineAnswer h.around h.machine before a → LeadsApart h.around h.machine (after_native h a).machine
 answer_apart h a fine keeps p = record {
   objects = (fine.apart keeps p).objects;
+  statics = fields_still h.machine.heap a.heap fine.changes.kept h.machine.statics p.machine.statics;
   frames = p.machine.frames;
   kept = (fine.apart keeps p).kept;
 }

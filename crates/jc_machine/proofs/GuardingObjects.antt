@@ -48,6 +48,9 @@ use Rattle.jc_machine.proofs.GuardingCalls.{call_keeps}
 use Rattle.jc_machine.proofs.GuardingFields.{field_keeps}
 use Rattle.jc_machine.proofs.GuardingReturns.{at_returns}
 use Rattle.jc_machine.proofs.GuardingWrites.{more_changes, new_apart, one_changes, stored_apart}
+use Rattle.jc_machine.proofs.Storing.{all_replicate, cells_held}
+use Rattle.jc_machine.specs.Storable.{may_be_held}
+use Rattle.std.specs.List.{AllByRecursion}
 
 -- ---- new objects
 
@@ -91,11 +94,16 @@ system_keeps h reason =
     (leaves (Throws (stored_in h system_exception object 0 (Word reason)).machine system_exception)
     (stored_in h system_exception object 0 (Word reason)).machine refl
     (one_changes h.machine.top.active (reason_touch ∷ []) h.machine.heap object 0 (Word reason) system_exception
-    (reason_accessed h.machine.top.active.context object) there) (stored_apart h system_exception object 0 (Word reason) there)))
+    (reason_accessed h.machine.top.active.context object) there) (stored_apart h system_exception object 0 (Word reason) there
+    (λ keeps p. refl))))
 
-made_keeps : {C : Type 0} (h : Here C) (object : ObjectType) (cells vs : List TaggedValue)
+-- cells that hold what may be held, whatever the objects
+abbrev AreHeld : List TaggedValue → Type 0
+AreHeld cells = (heap : Heap TaggedValue) → AllByRecursion (λ (v : TaggedValue). may_be_held heap v ≡ true) cells
+
+made_keeps : {C : Type 0} (h : Here C) (object : ObjectType) (cells vs : List TaggedValue) → AreHeld cells
     → KeepsLaw h.around h.machine [] (gives (made h object cells) (Ref (next_number h.machine.heap)) vs)
-made_keeps h object cells vs =
+made_keeps h object cells vs held =
     gives_changed (made h object cells) (Ref (next_number h.machine.heap)) vs
     (more_changes h.machine.top.active [] h.machine.heap (record {
       kind = record { object = object; mark = Plain; clears = None };
@@ -105,23 +113,24 @@ made_keeps h object cells vs =
       kind = record { object = object; mark = Plain; clears = None };
       owner = h.machine.top.active;
       cells = cells;
-    }) (record { whose = refl; plain = refl }))
+    }) (record { whose = refl; plain = refl }) (held _))
 
-by_space : {C : Type 0} (h : Here C) (object : ObjectType) (cells vs : List TaggedValue) (space : Bool)
+by_space : {C : Type 0} (h : Here C) (object : ObjectType) (cells vs : List TaggedValue) (space : Bool) → AreHeld cells
     → KeepsLaw h.around h.machine []
     (cond space (gives (made h object cells) (Ref (next_number h.machine.heap)) vs) (throws_system h no_resource))
-by_space h object cells vs true = made_keeps h object cells vs
-by_space h object cells vs false = system_keeps h no_resource
+by_space h object cells vs true held = made_keeps h object cells vs held
+by_space h object cells vs false held = system_keeps h no_resource
 
-creates_keeps : {C : Type 0} (h : Here C) (object : ObjectType) (cells vs : List TaggedValue)
+creates_keeps : {C : Type 0} (h : Here C) (object : ObjectType) (cells vs : List TaggedValue) → AreHeld cells
     → KeepsLaw h.around h.machine [] (creates h object cells vs)
-creates_keeps h object cells vs = by_space h object cells vs (has_space h cells)
+creates_keeps h object cells vs held = by_space h object cells vs (has_space h cells) held
 
 array_keeps : {C : Type 0} (h : Here C) (object : ObjectType) (v : TaggedValue) (count : ℕ) (vs : List TaggedValue)
-    → KeepsLaw h.around h.machine [] (creates_array h object v count vs)
-array_keeps h object v count vs =
+    → ((heap : Heap TaggedValue) → may_be_held heap v ≡ true) → KeepsLaw h.around h.machine [] (creates_array h object v count vs)
+array_keeps h object v count vs held =
     at_require h negative_size_exception (not (int_lt (short count) (pos 0))) _
-    (creates_keeps h object (replicate count v) vs)
+    (creates_keeps h object (replicate count v) vs (λ heap.
+    all_replicate (λ (x : TaggedValue). may_be_held heap x ≡ true) count v (held heap)))
 
 at_class : {C : Type 0} {around : Surroundings C} {m : Machine C} {before : List Touch} (h : Here C) (index : ℕ)
     (go : ClassName → Stepped C)
@@ -131,12 +140,14 @@ at_class h index go k = at_target h index class_target go k
 create_keeps : {C : Type 0} (h : Here C) (creation : Creation) → KeepsLaw h.around h.machine [] (act_create h creation)
 create_keeps h (Creations.Object index) =
     at_class h index _ (λ c. at_check (has_objects h.around.world.shapes c) _
-    (creates_keeps h (Instance c) (cells_of h.around.world.shapes c) h.machine.top.operands))
+    (creates_keeps h (Instance c) (cells_of h.around.world.shapes c) h.machine.top.operands
+    (λ heap. cells_held heap h.around.world.shapes c)))
 create_keeps h (Creations.WordArray kind) =
-    at_word h.machine.top.operands _ (λ count vs. array_keeps h (word_array kind) (Word 0) count vs)
+    at_word h.machine.top.operands _ (λ count vs. array_keeps h (word_array kind) (Word 0) count vs
+    (λ heap. refl))
 create_keeps h (Creations.ReferenceArray index) =
     at_class h index _ (λ c. at_word h.machine.top.operands _ (λ count vs.
-    array_keeps h (ReferenceArray c) Null count vs))
+    array_keeps h (ReferenceArray c) Null count vs (λ heap. refl)))
 
 -- ---- casts
 

@@ -94,6 +94,7 @@ caught_leaves {C = C} m object f waiting body room outward (Some handler) are h 
     either m (option_map_or (nat_lt 0) room false) (Next caught) Stuck
     (of_machine m (Next caught) caught refl refl (λ keeps p. record {
       objects = p.objects;
+      statics = p.statics;
       frames = are keeps p;
       kept = p.kept;
     })) (of_stuck m)

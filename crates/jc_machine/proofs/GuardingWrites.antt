@@ -22,7 +22,10 @@ use Rattle.jc_machine.specs.Natives.{IsStill, KeepsObjects}
 use Rattle.jc_words.specs.Values.{TaggedValue}
 use Rattle.jc_machine.proofs.Guarding.{KeepsLaw, goes, touch_in, verdict_in}
 use Rattle.jc_machine.proofs.GuardingHeaps.{KeepsHeap, get_first, is_still}
-use Rattle.jc_machine.proofs.StayingApart.{LeadsApart, adds_none, adds_one, objects_stay_apart, top_is_applets}
+use Rattle.jc_machine.specs.Storable.{may_be_held}
+use Rattle.jc_machine.proofs.Storing.{fields_still, new_holds, stored_holds}
+use Rattle.std.specs.List.{AllByRecursion}
+use Rattle.jc_machine.proofs.StayingApart.{IsHeld, LeadsApart, adds_none, adds_one, objects_stay_apart, top_is_applets}
 
 -- ---- whose a plain object is that is written to
 
@@ -177,27 +180,38 @@ more_changes owner touches heap new plain = record {
 -- ---- what is apart
 
 pub stored_apart : {C : Type 0} (h : Here C) (number : ℕ) (object : Object TaggedValue) (index : ℕ) (v : TaggedValue)
-    → object_at h.machine.heap number ≡ Some object
+    → object_at h.machine.heap number ≡ Some object → IsHeld h.around h.machine v
     → LeadsApart h.around h.machine (stored_in h number object index v).machine
-stored_apart h number object index v there keeps p = record {
+stored_apart h number object index v there held keeps p = record {
   objects =
       objects_stay_apart h.machine.heap (with_object h.machine.heap number (with_cell object index v))
       h.machine.top.active p.machine.objects
       (each_stays h.machine.top.active [] h.machine.heap object index v number there)
       (top_is_applets keeps h.machine p.machine)
-      (adds_none h.machine.top.active h.machine.heap number (with_cell object index v));
+      (adds_none h.machine.top.active h.machine.heap number (with_cell object index v))
+      (stored_holds h.machine.heap p.machine.objects.stored number object index v there (held keeps p)
+      (each_stays h.machine.top.active [] h.machine.heap object index v number there));
+  statics =
+      fields_still h.machine.heap (with_object h.machine.heap number (with_cell object index v))
+      (each_stays h.machine.top.active [] h.machine.heap object index v number there) h.machine.statics
+      p.machine.statics;
   frames = p.machine.frames;
   kept = p.machine.kept;
 }
 
 -- a plain object of the owner that is active
 pub new_apart : {C : Type 0} (h : Here C) (new : Object TaggedValue) → IsPlainOf h.machine.top.active new
+    → AllByRecursion (λ (v : TaggedValue). may_be_held (with_new h.machine.heap new) v ≡ true) new.cells
     → LeadsApart h.around h.machine (with_heap h.machine (with_new h.machine.heap new))
-new_apart h new plain keeps p = record {
+new_apart h new plain held keeps p = record {
   objects =
       objects_stay_apart h.machine.heap (with_new h.machine.heap new) h.machine.top.active p.machine.objects
       (all_stay h.machine.heap new) (top_is_applets keeps h.machine p.machine)
-      (adds_one h.machine.top.active h.machine.heap new plain);
+      (adds_one h.machine.top.active h.machine.heap new plain)
+      (new_holds h.machine.heap p.machine.objects.stored new (all_stay h.machine.heap new) held);
+  statics =
+      fields_still h.machine.heap (with_new h.machine.heap new) (all_stay h.machine.heap new) h.machine.statics
+      p.machine.statics;
   frames = p.machine.frames;
   kept = p.machine.kept;
 }
@@ -207,11 +221,11 @@ pub stores : {C : Type 0} (h : Here C) (asked : Asked) (object : Object TaggedVa
     (index : ℕ) (v : TaggedValue) (vs : List TaggedValue)
     → object_at h.machine.heap asked.object ≡ Some object → may_change asked.access ≡ true
     → IsWritten asked.access (facts_of h asked object)
-    → is_allowed (verdict_in h asked object) ≡ true
+    → is_allowed (verdict_in h asked object) ≡ true → IsHeld h.around h.machine v
     → KeepsLaw h.around h.machine (touch_in h asked object ∷ [])
     (leaves_operands (stored_in h asked.object object index v) vs)
-stores h asked object index v vs there changes written fine =
+stores h asked object index v vs there changes written fine held =
     goes (stored_in h asked.object object index v) h.next_pc h.machine.top.locals vs
     (one_changes h.machine.top.active (touch_in h asked object ∷ []) h.machine.heap
     object index v asked.object (is_accessed h asked object changes written fine) there)
-    (stored_apart h asked.object object index v there)
+    (stored_apart h asked.object object index v there held)

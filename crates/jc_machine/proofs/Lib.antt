@@ -11,6 +11,7 @@ mod GuardingArrays
 mod GuardingCalls
 mod GuardingFields
 mod GuardingHeaps
+mod Storing
 mod GuardingNatives
 mod GuardingObjects
 mod GuardingReturns

@@ -15,6 +15,7 @@ use Rattle.jc_machine.specs.Going.{moved, with_top}
 use Rattle.jc_machine.specs.Guarded.{AddsFor, IsPlainOf, machine_of}
 use Rattle.jc_machine.specs.Machine.{Frame, Machine, Stepped, Surroundings, Touch}
 use Rattle.jc_machine.specs.Natives.{KeepsObjects}
+use Rattle.jc_machine.specs.Storable.{HoldStorable, may_be_held}
 use Rattle.jc_words.specs.Values.{TaggedValue}
 use Rattle.jc_machine.proofs.Staying.{they_stay}
 
@@ -36,7 +37,7 @@ applets_or owner =
 
 module _ (before after : Heap TaggedValue) (owner : Owner) (apart : IsSetApart before)
     (kept : KeepsObjects before after) (applets : is_applets owner ≡ true)
-    (adds : AddsFor owner before after) where
+    (adds : AddsFor owner before after) (stored : HoldStorable after) where
   old_kind : (number : ℕ) (o p : Object TaggedValue) → object_at after number ≡ Some o
       → object_at before number ≡ Some p → o.kind ≡ p.kind
   old_kind number o p e f =
@@ -83,12 +84,14 @@ module _ (before after : Heap TaggedValue) (owner : Owner) (apart : IsSetApart b
     own = they_stay before after kept apart.own;
     others = λ number o e c. others_by number o e c (object_at before number) refl;
     marked = λ number o e m. marked_by number o e m (object_at before number) refl;
+    stored = stored;
   }
 
 pub objects_stay_apart : (before after : Heap TaggedValue) (owner : Owner) → IsSetApart before
-    → KeepsObjects before after → is_applets owner ≡ true → AddsFor owner before after → IsSetApart after
-objects_stay_apart before after owner apart kept applets adds =
-    set_apart_still before after owner apart kept applets adds
+    → KeepsObjects before after → is_applets owner ≡ true → AddsFor owner before after
+    → HoldStorable after → IsSetApart after
+objects_stay_apart before after owner apart kept applets adds stored =
+    set_apart_still before after owner apart kept applets adds stored
 
 -- ---- what is added
 
@@ -165,10 +168,21 @@ is_apart_itself around m keeps p = p.machine
 -- its frame goes on
 pub moved_apart : {C : Type 0} (keeps : C → Bool) (m : Machine C) (pc : ℕ) (locals operands : List TaggedValue)
     → IsApart keeps m → IsApart keeps (with_top m (moved m.top pc locals operands))
-moved_apart keeps m pc locals operands a = record { objects = a.objects; frames = a.frames; kept = a.kept }
+moved_apart keeps m pc locals operands a =
+    record { objects = a.objects; statics = a.statics; frames = a.frames; kept = a.kept }
 
 -- an access in the context of the frame that runs
 pub own_spares : {C : Type 0} (around : Surroundings C) (m : Machine C) (t : Touch)
     → t.active ≡ m.top.active.context → (keeps : C → Bool) → IsApartIn keeps around m → SparesPlain m.heap t
 own_spares around m t e keeps p f o there plain =
     applets_not m.top.active (top_is_applets keeps m p.machine) (sym e ∙ f)
+
+-- a value may be held there
+abbrev pub IsHeld : {C : Type 0} → Surroundings C → Machine C → TaggedValue → Type 0
+IsHeld {C} around m v = (keeps : C → Bool) → IsApartIn keeps around m → may_be_held m.heap v ≡ true
+
+-- the frame that runs isn't the runtime's
+pub top_isnt_runtime : {C : Type 0} (keeps : C → Bool) (m : Machine C) → IsApart keeps m
+    → (m.top.active.context == runtime_context) ≡ true → ⊥
+top_isnt_runtime keeps m a e =
+    applets_not m.top.active (top_is_applets keeps m a) (eqb-true m.top.active.context runtime_context e)

@@ -24,6 +24,7 @@ use Rattle.jc_machine.specs.Guarded.{KeepsPlain, machine_of}
 use Rattle.jc_machine.specs.Machine.{Frame, Machine, NativeAnswer, NativeCall, Natives, Surroundings, Touch}
 use Rattle.jc_machine.specs.Runtime.{HasRuntimeObjects}
 use Rattle.jc_machine.specs.Step.{defensive_step}
+use Rattle.jc_machine.specs.Storable.{FieldsHoldStorable, HoldStorable}
 use Rattle.jc_words.specs.Values.{TaggedValue}
 
 -- ---- objects and frames
@@ -43,21 +44,25 @@ pub record IsRuntimes (o : Object TaggedValue) : Type 0 where
   pub codeless : has_no_code o.kind.object ≡ true
 
 -- the runtime has its own objects, whatever else is in its context has no code, and an object that isn't plain is in
--- its context: a call of such an object switches to the runtime, whose ever it is
+-- its context: a call of such an object switches to the runtime, whose ever it is. No component holds a reference that
+-- may not be stored
 pub record IsSetApart (heap : Heap TaggedValue) : Type 0 where
   pub own : HasRuntimeObjects heap
   pub others : (number : ℕ) (o : Object TaggedValue) → object_at heap number ≡ Some o
       → o.owner.context ≡ runtime_context → IsRuntimes o
   pub marked : (number : ℕ) (o : Object TaggedValue) → object_at heap number ≡ Some o → o.kind.mark ≢ Plain
       → o.owner.context ≡ runtime_context
+  pub stored : HoldStorable heap
 
 -- an owner in the context of a package
 abbrev pub is_applets : Owner → Bool
 is_applets owner = not (owner.context == runtime_context)
 
--- so are the objects of a machine, its frames are active as such owners, and what the runtime keeps passes a test
+-- so are the objects of a machine; no static field of it holds a reference that may not be stored there; its frames are
+-- active as applets; and what the runtime keeps passes a test
 pub record IsApart {C : Type 0} (keeps : C → Bool) (m : Machine C) : Type 0 where
   pub objects : IsSetApart m.heap
+  pub statics : FieldsHoldStorable m.heap m.statics
   pub frames : list_all (λ (f : Frame). is_applets f.active) (m.top ∷ m.waiting) ≡ true
   pub kept : keeps m.runtime ≡ true
 
@@ -83,9 +88,11 @@ SparesPlain heap touch = touch.active ≡ runtime_context → (o : Object Tagged
 
 -- ---- native members
 
--- what it does in the runtime's name spares plain objects, and what the runtime keeps passes the test still
+-- what it does in the runtime's name spares plain objects; no component holds what may not be stored; and what the
+-- runtime keeps passes the test still
 pub record IsApartAnswer {C : Type 0} (keeps : C → Bool) (call : NativeCall C) (a : NativeAnswer C) : Type 0 where
   pub spares : AllByRecursion (SparesPlain call.heap) a.touches
+  pub stored : HoldStorable a.heap
   pub kept : keeps a.runtime ≡ true
 
 -- each answer to a call by an applet is so

@@ -16,10 +16,11 @@ ghost use Rattle.jc_machine.specs.Apart.{AreNativesApart, HaveApiMembers, IsApar
 ghost use Rattle.jc_machine.specs.Apart.{is_applets};
 ghost use Rattle.jc_machine.specs.Guarded.{AddsFor, IsGuarded, IsRefused, are_allowed, machine_of};
 ghost use Rattle.jc_machine.specs.Lookup.{body_at, code_at, instruction_at};
-ghost use Rattle.jc_machine.specs.Machine.{Machine, MethodPlace, Surroundings};
+ghost use Rattle.jc_machine.specs.Machine.{Machine, MethodPlace, StaticValue, Surroundings};
 ghost use Rattle.jc_machine.specs.Natives.{AreNativesGuarded, KeepsObjects};
 ghost use Rattle.jc_machine.specs.Runtime.{HasRuntimeObjects};
 ghost use Rattle.jc_machine.specs.Step.{defensive_step};
+ghost use Rattle.jc_machine.specs.Storable.{FieldsHoldStorable, HoldStorable, may_be_held};
 ghost use Rattle.jc_machine.specs.Uncounted.{HaveCells, IsInstructionAt};
 ghost use Rattle.jc_link.specs.Linked.{IsBoundTo, IsLast, IsWorld, Linked, LinkedBody, World, with_linked};
 ghost use Rattle.jc_names.specs.declared.owner.Owner.{Owner};
@@ -82,15 +83,24 @@ pub fn accesses_are_guarded<N: Natives>(_natives: &N)
 /// The runtime's name is its own. Where no frame is active as the runtime, its objects have no code of packages, and
 /// each object that isn't plain is its own, this is so behind each step, and the step's accesses in the runtime's name
 /// spare plain objects: so the components of a plain object change only where its owner's context is that of the frame
-/// that runs. Objects are set apart still where each stays and others are added that are plain, for an owner
-/// in the context of a package. What the runtime keeps may be of any type, with any test that the native members keep.
+/// that runs. No field or component holds a reference to a temporary entry point or a global array, and no static field
+/// does but to an array of a library. Objects are set apart still where each stays, others are added that are plain, for
+/// an owner in the context of a package, and components hold nothing else. What the runtime keeps may be of any type, with any test that the native members keep.
 /// It does nothing.
 pub fn steps_stay_apart<N: Natives>(_natives: &N)
     ensures steps { (keeps : N.Kept → Bool) (s : Surroundings N.Kept) → AreNativesGuarded s.natives
         → AreNativesApart keeps s.natives → HaveApiMembers s.world.shapes → (m : Machine N.Kept) → IsApart keeps m
         → StaysApart keeps s m }
     ensures objects { (before after : Heap TaggedValue) (owner : Owner) → IsSetApart before → KeepsObjects before after
-        → is_applets owner ≡ true → AddsFor owner before after → IsSetApart after }
+        → is_applets owner ≡ true → AddsFor owner before after → HoldStorable after → IsSetApart after }
+{}
+
+/// What a component or a static field may hold it may hold as long as objects stay. It does nothing.
+pub fn held_values_stay()
+    ensures held { (before after : Heap TaggedValue) → KeepsObjects before after → (v : TaggedValue)
+        → may_be_held before v ≡ true → may_be_held after v ≡ true }
+    ensures fields { (before after : Heap TaggedValue) → KeepsObjects before after → (statics : List (List StaticValue))
+        → FieldsHoldStorable before statics → FieldsHoldStorable after statics }
 {}
 
 /// An instruction is found at a pc of code where it begins there behind others that stand one behind the other from the

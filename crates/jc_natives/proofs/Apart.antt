@@ -27,6 +27,8 @@ use Rattle.jc_natives.proofs.Facts.{own_aid, own_object}
 use Rattle.jc_natives.proofs.Answering.{answers_guarded}
 use Rattle.jc_natives.proofs.Changed.{either_is}
 use Rattle.jc_natives.proofs.Guarding.{same_found}
+use Rattle.jc_natives.proofs.Holding.{HeldStays, made_holds, written_holds}
+use Rattle.jc_machine.specs.Storable.{HoldStorable}
 use Rattle.jc_natives.proofs.Keeping.{both_are}
 use Rattle.jc_natives.proofs.Spared.{IsApartWork, SparesOwn, all_throw_own, roomy_apart, work_apart}
 use Rattle.jc_natives.specs.Apart.{installs_applet, names_applets}
@@ -34,7 +36,7 @@ use Rattle.jc_natives.specs.Applets.{aid_object, owner_of}
 use Rattle.jc_natives.specs.declared.kept.Installing.{Installing}
 use Rattle.jc_natives.specs.Cells.{Write, bare, bared, written}
 use Rattle.jc_natives.specs.Kept.{Kept, after_install, has_registered, is_instance_number, kept_instances, with_install}
-use Rattle.jc_natives.specs.Meaning.{answer_of, begun, done, ended, meaning, registering, unchanged, work_of}
+use Rattle.jc_natives.specs.Meaning.{answer_of, begun, done, ended, meaning, registering, unchanged, with_room, work_of}
 use Rattle.jc_natives.specs.Rows.{natives, row_of}
 use Rattle.jc_natives.specs.Seen.{Seen, arguments_of, seen_of}
 use Rattle.jc_natives.specs.Tests.{tested}
@@ -200,9 +202,38 @@ module _ (w : World) (call : NativeCall Kept) (apart : IsSetApart call.heap)
       by_begin true = begun_kept call.member (numbered natives call.member) refl
       by_begin false = kept
 
-pub members_apart : AreNativesApart names_applets meaning
-members_apart w call apart active kept = record {
+-- what members leave holds what may be held
+module _ (still : HeldStays) (w : World) (call : NativeCall Kept) (holds : HoldStorable call.heap) where
+  done_holds : (touches : List Touch) (work : Work) → HoldStorable (done call touches work).heap
+  done_holds touches (Does writes k ending) = written_holds still call.heap holds writes
+  done_holds touches (Makes array) = made_holds still call.heap holds call.active array
+  done_holds touches (Asks question) = holds
+
+  begun_holds : (o : Option Native) → HoldStorable (begun w call o).heap
+  begun_holds None = holds
+  begun_holds (Some native) = by_thrown (tested (seen_of w call) (arguments_of call) (row_of native)).thrown
+    where
+      by_thrown : (o : Option ℕ) → HoldStorable (ended call
+          (tested (seen_of w call) (arguments_of call) (row_of native)).touches o
+          (work_of (seen_of w call) call.runtime (arguments_of call) native)).heap
+      by_thrown (Some object) = holds
+      by_thrown None =
+          done_holds (tested (seen_of w call) (arguments_of call) (row_of native)).touches
+          (with_room call.limits.objects call.limits.cells call.heap call.runtime
+          (work_of (seen_of w call) call.runtime (arguments_of call) native))
+
+  answer_holds : HoldStorable (answer_of w call).heap
+  answer_holds = by_begin (native_may_begin w.shapes call.heap call.member call.arguments)
+    where
+      by_begin : (b : Bool) → HoldStorable (cond b (begun w call (numbered natives call.member))
+          (unchanged call [] IsStuck)).heap
+      by_begin true = begun_holds (numbered natives call.member)
+      by_begin false = holds
+
+pub members_apart : HeldStays → AreNativesApart names_applets meaning
+members_apart still w call apart active kept = record {
   spares = all_spare w call apart active kept (answer_of w call).touches (answers_guarded w call).touches;
+  stored = answer_holds still w call apart.stored;
   kept = answer_kept w call apart active kept;
 }
 

@@ -23,6 +23,7 @@ mod Between
 mod Reaching
 mod Spared
 mod Answering
+mod Holding
 mod Apart
 mod Owning
 mod Passing

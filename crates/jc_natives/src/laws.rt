@@ -1,6 +1,6 @@
 //! What holds of all native members.
 
-ghost use Rattle.std.specs.Prelude.{◌≡◌, ◌<◌, ◌≤◌, ◌++◌, ℕ, Bool, List, Some, length, true};
+ghost use Rattle.std.specs.Prelude.{◌≡◌, ◌<◌, ◌≤◌, ◌++◌, ℕ, Bool, List, Some, length, map, true};
 ghost use Rattle.jc_api.specs.Member.{ApiMember, member_of};
 ghost use Rattle.jc_cap_desc.specs.Shape.{Shape};
 ghost use Rattle.jc_link.specs.Built.{IsBuilt};
@@ -16,10 +16,13 @@ ghost use Rattle.jc_natives.specs.Kept.{Kept, after_install, are_bytes, is_aid, 
 ghost use Rattle.jc_natives.specs.Kept.{with_command, with_install, without_command};
 ghost use Rattle.jc_natives.specs.Meaning.{meaning};
 ghost use Rattle.jc_store.specs.Heap.{Heap};
-ghost use Rattle.jc_words.specs.Values.{TaggedValue};
+ghost use Rattle.jc_machine.specs.Storable.{HoldStorable};
+ghost use Rattle.jc_natives.specs.Cells.{put_all};
+ghost use Rattle.jc_words.specs.Values.{TaggedValue, Word};
 
 use jc_classes::growing_keeps_lookups;
 use jc_link::growing_keeps_linking;
+use jc_machine::held_values_stay;
 
 /// Each access of a native member is allowed, or is its last and changes nothing; and only objects change that were
 /// accessed. It does nothing.
@@ -52,9 +55,9 @@ pub fn calls_keep_fitting()
         → meaning.fits w heap (without_command k) ≡ true }
 {}
 
-/// The runtime's name is its own in native members too: what an applet calls writes to no plain object in the runtime's
-/// name, makes objects for its caller, and has applets alone called; and what the runtime keeps names applets alone. So
-/// it does when a card is new, and behind each call of the runtime itself. It does nothing.
+/// The runtime's name is its own in native members too: what an applet calls accesses no plain object in the runtime's
+/// name, leaves no reference where it may not be stored, and what the runtime keeps names applets alone. So it does when
+/// a card is new, and behind each call of the runtime itself. It does nothing.
 pub fn members_stay_apart()
     ensures members { AreNativesApart names_applets meaning }
     ensures new { names_applets nothing_kept ≡ true }
@@ -65,7 +68,17 @@ pub fn members_stay_apart()
     ensures opened { (k : Kept) → names_applets k ≡ true → (incoming : List ℕ) (expected : ℕ) (selecting : Bool)
         → names_applets (with_command k incoming expected selecting) ≡ true }
     ensures closed { (k : Kept) → names_applets k ≡ true → names_applets (without_command k) ≡ true }
-{}
+{
+    held_values_stay();
+}
+
+/// Objects hold what may be held still where words are written to one. It does nothing.
+pub fn written_words_are_held()
+    ensures { (heap : Heap TaggedValue) → HoldStorable heap → (number from : ℕ) (words : List ℕ)
+        → HoldStorable (put_all heap number from (map Word words)) }
+{
+    held_values_stay();
+}
 
 /// What the runtime keeps fits still behind a load: in the world with the package, and with more objects behind those
 /// that were there. It does nothing.

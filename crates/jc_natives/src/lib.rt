@@ -25,5 +25,5 @@ pub use examples::{arguments_are_tested, bytes_are_written, members_refuse, rang
 pub use kept::{ApduState, Installing, Instance, Runtime};
 pub use laws::{
     calls_keep_fitting, kept_stays_fit, loads_keep_fitting, members_are_declared,
-    members_are_guarded, members_stay_apart,
+    members_are_guarded, members_stay_apart, written_words_are_held,
 };

@@ -14,6 +14,9 @@ returns-clause-apdu c = apdus_stay_apart (record {
   apart_members = c.members_stay_apart.ensures.members;
   apart_steps = c.steps_stay_apart.ensures.steps names_applets;
   apart_objects = c.steps_stay_apart.ensures.objects;
+  held = c.held_values_stay.ensures.held;
+  fields = c.held_values_stay.ensures.fields;
+  words = c.written_words_are_held.ensures;
   api = c.api_runs_its_own_code.ensures;
   begun = c.members_stay_apart.ensures.begun;
   over = c.members_stay_apart.ensures.over;
@@ -29,6 +32,9 @@ returns-clause-install c = installs_stay_apart (record {
   apart_members = c.members_stay_apart.ensures.members;
   apart_steps = c.steps_stay_apart.ensures.steps names_applets;
   apart_objects = c.steps_stay_apart.ensures.objects;
+  held = c.held_values_stay.ensures.held;
+  fields = c.held_values_stay.ensures.fields;
+  words = c.written_words_are_held.ensures;
   api = c.api_runs_its_own_code.ensures;
   begun = c.members_stay_apart.ensures.begun;
   over = c.members_stay_apart.ensures.over;
@@ -44,6 +50,9 @@ returns-clause-reset c = resets_stay_apart (record {
   apart_members = c.members_stay_apart.ensures.members;
   apart_steps = c.steps_stay_apart.ensures.steps names_applets;
   apart_objects = c.steps_stay_apart.ensures.objects;
+  held = c.held_values_stay.ensures.held;
+  fields = c.held_values_stay.ensures.fields;
+  words = c.written_words_are_held.ensures;
   api = c.api_runs_its_own_code.ensures;
   begun = c.members_stay_apart.ensures.begun;
   over = c.members_stay_apart.ensures.over;
@@ -52,4 +61,8 @@ returns-clause-reset c = resets_stay_apart (record {
 })
 
 pub returns-clause-load : goal.returns-clause-load
-returns-clause-load c = load_apart c.runtime_objects_stay.ensures
+returns-clause-load c = load_apart (record {
+  own = c.runtime_objects_stay.ensures;
+  held = c.held_values_stay.ensures.held;
+  fields = c.held_values_stay.ensures.fields;
+})

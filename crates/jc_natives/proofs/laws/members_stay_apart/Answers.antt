@@ -3,7 +3,7 @@ use Rattle.jc_natives.proofs.Apart.{begun_named, members_apart, over_named}
 use Rattle.jc_natives.proofs.laws.members_stay_apart.Goals as goal
 
 pub returns-clause-members : goal.returns-clause-members
-returns-clause-members c = members_apart
+returns-clause-members c = members_apart c.held_values_stay.ensures.held
 
 pub returns-clause-new : goal.returns-clause-new
 returns-clause-new c = refl

@@ -1,5 +1,5 @@
--- Why a package isn't fit, by what each step of its check says.
-use Rattle.std.proofs.Common.{◌≡◌, ◌⊎◌, inl, inr, ℕ, List, Some, Result, Ok, Err, refl, sym, ap, subst}
+-- Why a package isn't fit, by what each step of its check says; and a load of one that isn't.
+use Rattle.std.proofs.Common.{◌≡◌, ◌⊎◌, inl, inr, ℕ, List, Some, Result, Ok, Err, refl, sym, ap, ◌∙◌, subst}
 use Rattle.jc_base.specs.Cutting.{Piece, Splits, answer}
 use Rattle.jc_base.specs.Parts.{Infos}
 use Rattle.jc_base.specs.declared.fault.LoadFault.{LoadFault}
@@ -10,11 +10,13 @@ use Rattle.jc_cert.specs.Cert.{IsCert, Row}
 use Rattle.jc_cert.specs.Writing.{spelling}
 use Rattle.jc_check.specs.Checked.{IsFirstRefusal}
 use Rattle.jc_check.specs.Checked as checks
-use Rattle.jc_link.specs.Linked.{IsRefusal, Linked, refusal_of}
-use Rattle.jc_card.specs.Load.{AreSpelled, IsCut, IsLinkedBehind, IsUnfit}
+use Rattle.jc_link.specs.Linked.{IsRefusal, Linked, World, refusal_of}
+use Rattle.jc_card.specs.Card.{CardState}
+use Rattle.jc_card.specs.Load.{AreSpelled, IsCut, IsLinkedBehind, IsOutOfMemory, IsUnfit, IsWithoutRoom}
+use Rattle.jc_card.specs.Reads.{CardWords, Holds, LoadsFrom}
 
 abbrev Unfit : List Shape → List ℕ → List ℕ → LoadFault → Type 0
-Unfit before image certificate fault = (fault ≡ Memory) ⊎ IsUnfit before image certificate fault
+Unfit before image certificate fault = IsOutOfMemory image fault ⊎ IsUnfit before image certificate fault
 
 -- what a cutter finds
 abbrev Found : List ℕ → Result Infos LoadFault → Type 0
@@ -27,17 +29,31 @@ pub uncut : (before : List Shape) (image certificate : List ℕ) (fault : LoadFa
     → Found image (Err fault) → Unfit before image certificate fault
 uncut before image certificate fault f = inr (IsUnfit.unlinked (Err fault) fault (is_cut image (Err fault) f) refl)
 
-unlinked_by : (before : List Shape) (read : Result Package LoadFault) (fault : LoadFault) → IsRefusal before read fault
-    → (fault ≡ Memory) ⊎ (refusal_of before read ≡ Some fault)
-unlinked_by before (Err why) fault r = inr (ap Some (sym r))
-unlinked_by before (Ok p) fault r = r
+unlinked_by : (before : List Shape) (image certificate : List ℕ) (parts : Infos) (read : Result Package LoadFault)
+    (fault : LoadFault) → IsCut image (Ok parts) → package_of parts ≡ read → IsRefusal before read fault
+    → Unfit before image certificate fault
+unlinked_by before image certificate parts (Err why) fault cut is r =
+    inr (IsUnfit.unlinked (Ok parts) fault cut (ap (refusal_of before) is ∙ ap Some (sym r)))
+unlinked_by before image certificate parts (Ok p) fault cut is (inl memory) =
+    inl (record { is = memory; parts = parts; cut = cut; «package» = p; read = is })
+unlinked_by before image certificate parts (Ok p) fault cut is (inr told) =
+    inr (IsUnfit.unlinked (Ok parts) fault cut (ap (refusal_of before) is ∙ told))
 
 pub unlinked : (before : List Shape) (image certificate : List ℕ) (parts : Infos) (fault : LoadFault)
     → Found image (Ok parts) → IsRefusal before (package_of parts) fault → Unfit before image certificate fault
-unlinked before image certificate parts fault f r = elim (unlinked_by before (package_of parts) fault r) [
-  | inl memory ↦ inl memory
-  | inr told ↦ inr (IsUnfit.unlinked (Ok parts) fault (is_cut image (Ok parts) f) told)
-]
+unlinked before image certificate parts fault f r =
+    unlinked_by before image certificate parts (package_of parts) fault (is_cut image (Ok parts) f) refl r
+
+-- of a package that is linked
+pub out_of_memory : (before : List Shape) (image : List ℕ) (l : Linked) (fault : LoadFault)
+    → IsLinkedBehind before image l → fault ≡ Memory → IsOutOfMemory image fault
+out_of_memory before image l fault behind memory = record {
+  is = memory;
+  parts = behind.parts;
+  cut = behind.cut;
+  «package» = behind.linked.«package»;
+  read = behind.linked.read;
+}
 
 pub unspelled : (before : List Shape) (image certificate : List ℕ) (l : Linked) (fault : LoadFault)
     → IsLinkedBehind before image l
@@ -46,11 +62,36 @@ pub unspelled : (before : List Shape) (image certificate : List ℕ) (l : Linked
 unspelled before image certificate l fault behind none (inl bad) =
     inr (subst (IsUnfit before image certificate) (sym bad)
     (IsUnfit.unspelled l behind (λ rows spelled. none bad rows spelled.cert spelled.bytes_are)))
-unspelled before image certificate l fault behind none (inr memory) = inl memory
+unspelled before image certificate l fault behind none (inr memory) =
+    inl (out_of_memory before image l fault behind memory)
 
 pub uncarried : (before : List Shape) (image certificate : List ℕ) (l : Linked) (rows : List Row) (fault : LoadFault)
     → IsLinkedBehind before image l → AreSpelled certificate rows → checks.IsRefusal l rows fault
     → Unfit before image certificate fault
-uncarried before image certificate l rows fault behind spelled (inl memory) = inl memory
+uncarried before image certificate l rows fault behind spelled (inl memory) =
+    inl (out_of_memory before image l fault behind memory)
 uncarried before image certificate l rows fault behind spelled (inr first) =
     inr (IsUnfit.uncarried l rows fault behind spelled first)
+
+-- ---- a load
+
+with_room : (c : CardState) (image certificate : List ℕ) (fault : LoadFault)
+    → Unfit c.world.shapes image certificate fault
+    → IsOutOfMemory image fault ⊎ IsUnfit c.world.shapes image certificate fault
+    ⊎ IsWithoutRoom c image certificate fault
+with_room c image certificate fault (inl out) = inl out
+with_room c image certificate fault (inr unfit) = inr (inl unfit)
+
+pub refused : (w : World) (k : CardWords) (c : CardState) (image certificate : List ℕ) (fault : LoadFault)
+    → w ≡ c.world → Holds k c → Unfit w.shapes image certificate fault
+    → LoadsFrom c k image certificate (Err fault)
+refused w k c image certificate fault same h unfit = record {
+  card = c;
+  load = record {
+    kept = refl;
+    why =
+        with_room c image certificate fault
+        (subst (λ (x : World). Unfit x.shapes image certificate fault) same unfit);
+  };
+  holds = h;
+}

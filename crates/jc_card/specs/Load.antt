@@ -7,7 +7,7 @@ use Rattle.jc_base.specs.Parts.{Infos}
 use Rattle.jc_base.specs.declared.fault.LoadFault.{LoadFault}
 use Rattle.jc_base.specs.declared.fault.LoadFault.TheVariants.{BadCertificate, Full, Memory}
 use Rattle.jc_cap_desc.specs.Package.{package_of}
-use Rattle.jc_cap_desc.specs.Shape.{Shape}
+use Rattle.jc_cap_desc.specs.Shape.{Package, Shape}
 use Rattle.jc_cert.specs.Cert.{IsCert, Row}
 use Rattle.jc_cert.specs.Writing.{spelling}
 use Rattle.jc_check.specs.Checked.{CarriesPackage, IsFirstRefusal}
@@ -88,11 +88,19 @@ pub record IsWithoutRoom (c : CardState) (image certificate : List ℕ) (fault :
   pub fit : IsFit c.world.shapes image certificate linked
   pub room : has_room c linked ≡ false
 
+-- memory may be out once the image is cut into its parts, and these are read as a package
+pub record IsOutOfMemory (image : List ℕ) (fault : LoadFault) : Type 0 where
+  pub is : fault ≡ Memory
+  pub parts : Infos
+  pub cut : IsCut image (Ok parts)
+  pub «package» : Package
+  pub read : package_of parts ≡ Ok «package»
+
 -- another leaves the card as it was, and so does one for which memory was out
 pub record IsNotLoaded (c : CardState) (image certificate : List ℕ) (fault : LoadFault) (after : CardState)
     : Type 0 where
   pub kept : after ≡ c
-  pub why : (fault ≡ Memory) ⊎ IsUnfit c.world.shapes image certificate fault
+  pub why : IsOutOfMemory image fault ⊎ IsUnfit c.world.shapes image certificate fault
       ⊎ IsWithoutRoom c image certificate fault
 
 -- what is answered to a load, and the card behind it

@@ -1,10 +1,9 @@
 //! Packages that are linked and checked before they are loaded.
 
 ghost use Rattle.std.specs.Prelude.{◌≡◌, ◌⊎◌, ◌<◌, IfErr, IfOk};
-ghost use Rattle.jc_base.specs.declared.fault.LoadFault.TheVariants.{Memory};
 ghost use Rattle.jc_cap_pool.specs.declared.entry.MemberRef.{MemberRef};
 ghost use Rattle.jc_cap_pool.specs.declared.entry.PoolEntry.TheVariants.{VirtualMethodref};
-ghost use Rattle.jc_card.specs.Load.{IsFit, IsUnfit};
+ghost use Rattle.jc_card.specs.Load.{IsFit, IsOutOfMemory, IsUnfit};
 ghost use Rattle.jc_link.specs.Linked.{IsBoundTo, with_linked};
 ghost use Rattle.jc_machine.specs.Accepted.{HaveByteTokens, IsAccepted};
 
@@ -57,7 +56,7 @@ pub(crate) fn checked(
     ensures fit { IfOk result (IsFit world.now.shapes image.now certificate.now) }
     ensures accepted { IfOk result (λ l. IsAccepted world.now → IsAccepted (with_linked world.now l)) }
     ensures unfit { IfErr result
-        (λ fault. (fault ≡ Memory) ⊎ IsUnfit world.now.shapes image.now certificate.now fault) }
+        (λ fault. IsOutOfMemory image.now fault ⊎ IsUnfit world.now.shapes image.now certificate.now fault) }
 {
     accepted_worlds_grow();
     let linked = link(alloc, &cut(image)?, world)?;

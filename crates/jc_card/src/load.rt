@@ -61,8 +61,9 @@ impl Card {
     }
 
     /// Loads a package, from its image and the bytes of its certificate. The answer is its number, from 1 on. A refused
-    /// package leaves the card as it was. Of several refusals that apply the one with the smallest number is told, and
-    /// `Memory` may come in place of any that isn't about the image's components.
+    /// package leaves the card as it was. Of several refusals that apply the one with the smallest number is told.
+    /// `Memory` may come in place of an `Ok`, or of the refusals 10 to 18. It never comes in place of those of 1 to 9,
+    /// which say that the image isn't cut into its components, or isn't read as a package.
     pub fn load(&mut self, alloc: Global, image: &[u8], certificate: &[u8]) -> Result<u8, LoadFault>
         ensures done { Loads self.old self.new image.now certificate.now result }
         ensures guarded { (c after : CardState) → IsLoad c image.now certificate.now result after

@@ -32,7 +32,8 @@ use Rattle.jc_code.specs.Listing.{ListingLaws}
 use Rattle.jc_link.specs.Linked.{Linked, refusal_of}
 use Rattle.jc_link.specs.WellFormed.{fault_behind}
 use Rattle.jc_card.specs.Card.{CardState}
-use Rattle.jc_card.specs.Load.{AreSpelled, IsCut, IsLinkedBehind, IsLoad, IsUnfit, IsWithoutRoom, has_room}
+use Rattle.jc_card.specs.Load.{AreSpelled, IsCut, IsLinkedBehind, IsLoad, IsOutOfMemory, IsUnfit}
+use Rattle.jc_card.specs.Load.{IsWithoutRoom, has_room}
 use Rattle.jc_card.specs.Load.IsUnfit.{uncarried as not_carried, unlinked as not_linked, unspelled as not_spelled}
 use Rattle.jc_refusals.specs.Loads.{Applies, IsLeast, roomless, uncarried, uncut, unlinked, unread, unspelled}
 use Rattle.jc_refusals.specs.Order.{IsBetween}
@@ -315,12 +316,51 @@ module _ (s : Stages) (c : CardState) (image certificate : List ℕ) where
   applies_without_room fault h =
       subst (Applies c image certificate) (sym h.is) (roomless h.linked h.fit.linked h.room)
 
+  -- ---- where memory is out
+
+  -- of an image that is read as a package
+  module _ (parts : Infos) (p : Package) (cut : IsCut image (Ok parts)) (read : package_of parts ≡ Ok p) where
+    read_refusals : (other : LoadFault) → Applies c image certificate other → IsBetween 10 18 other
+    read_refusals other (uncut g k) = absurd (both_cut g parts k cut)
+    read_refusals other (unread more g k e) =
+        let is = same_read parts more (Ok p) (Err g) cut k read e in absurd cc
+    read_refusals other (unlinked more q g k e f) =
+        let least = (s.linked before q g f).from in
+        let most = (s.linked before q g f).to in record { from = omega (arith, least); to = omega (arith, most) }
+    read_refusals other (unspelled none) = record { from = omega arith; to = omega arith }
+    read_refusals other (uncarried l rows g linked spelled first) =
+        let is = s.checked l rows g first in record { from = omega (arith, is); to = omega (arith, is) }
+    read_refusals other (roomless l linked full) = record { from = omega arith; to = omega arith }
+
+  -- want of memory applies to nothing
+  no_memory : (fault : LoadFault) → fault ≡ Memory → Applies c image certificate fault → ⊥
+  no_memory fault is (uncut g k) =
+      let most = (of_cut g k).to in
+      let same : number_of g ≡ 19 = ap number_of is in
+      omega (arith, most, same)
+  no_memory fault is (unread parts g k e) =
+      let most = (s.read parts g e).to in
+      let same : number_of g ≡ 19 = ap number_of is in
+      omega (arith, most, same)
+  no_memory fault is (unlinked parts p g k e f) =
+      let most = (s.linked before p g f).to in
+      let same : number_of g ≡ 19 = ap number_of is in
+      omega (arith, most, same)
+  no_memory fault is (unspelled none) = absurd cc
+  no_memory fault is (uncarried l rows g linked spelled first) =
+      let told = s.checked l rows g first in
+      let same : number_of g ≡ 19 = ap number_of is in
+      omega (arith, told, same)
+  no_memory fault is (roomless l linked full) = absurd cc
+
   -- ---- both
 
-  by_reason : (fault : LoadFault) → fault ≢ Memory
-      → (fault ≡ Memory) ⊎ IsUnfit before image certificate fault ⊎ IsWithoutRoom c image certificate fault
-      → IsLeast c image certificate fault
-  by_reason fault other (inl e) = absurd (other e)
+  abbrev Reason : LoadFault → Type 0
+  Reason fault =
+      IsOutOfMemory image fault ⊎ IsUnfit before image certificate fault ⊎ IsWithoutRoom c image certificate fault
+
+  by_reason : (fault : LoadFault) → fault ≢ Memory → Reason fault → IsLeast c image certificate fault
+  by_reason fault other (inl out) = absurd (other out.is)
   by_reason fault other (inr (inl unfit)) =
       record { applies = applies_unfit fault unfit; least = least_unfit fault unfit }
   by_reason fault other (inr (inr without)) =
@@ -329,6 +369,15 @@ module _ (s : Stages) (c : CardState) (image certificate : List ℕ) where
   pub told_is_least : (after : CardState) (fault : LoadFault) → IsLoad c image certificate (Err fault) after
       → fault ≢ Memory → IsLeast c image certificate fault
   told_is_least after fault h other = by_reason fault other h.why
+
+  behind_reading : Reason Memory → (other : LoadFault) → Applies c image certificate other → IsBetween 10 18 other
+  behind_reading (inl out) = read_refusals out.parts out.«package» out.cut out.read
+  behind_reading (inr (inl unfit)) = absurd (no_memory Memory refl (applies_unfit Memory unfit))
+  behind_reading (inr (inr without)) = absurd (no_memory Memory refl (applies_without_room Memory without))
+
+  pub memory_is_behind : (after : CardState) → IsLoad c image certificate (Err Memory) after
+      → (other : LoadFault) → Applies c image certificate other → IsBetween 10 18 other
+  memory_is_behind after h = behind_reading h.why
 
   pub loaded_has_none : (after : CardState) (number : ℕ) → IsLoad c image certificate (Ok number) after
       → (other : LoadFault) → Applies c image certificate other → ⊥

@@ -40,10 +40,14 @@ pub fn refusals_are_in_order()
 {}
 
 /// A refusal that a load is told applies to it, if it isn't want of memory, and no other that applies has a smaller
-/// number; and a package to which one applies isn't loaded. It does nothing.
+/// number. Where want of memory is told, those that apply have numbers from 10 to 18. A package to which a refusal
+/// applies isn't loaded. It does nothing.
 pub fn the_least_refusal_is_told()
     ensures told { (c after : CardState) (image certificate : List ℕ) (fault : LoadFault)
         → IsLoad c image certificate (Err fault) after → fault ≢ Memory → IsLeast c image certificate fault }
+    ensures memory { (c after : CardState) (image certificate : List ℕ)
+        → IsLoad c image certificate (Err Memory) after
+        → (other : LoadFault) → Applies c image certificate other → IsBetween 10 18 other }
     ensures loaded { (c after : CardState) (image certificate : List ℕ) (number : ℕ)
         → IsLoad c image certificate (Ok number) after → (other : LoadFault) → Applies c image certificate other → ⊥ }
 {

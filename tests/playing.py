@@ -1,5 +1,6 @@
 """Scripts on a card: packages in folders, their certificates by `jcard verify`, and scripts by `jcard run`, both of the
 program that ./jcard builds. tests/card-rows, tests/machine-rows, tests/check and tests of failures use it."""
+import ctypes
 import os
 import subprocess
 from dataclasses import dataclass, field
@@ -19,9 +20,17 @@ class Said:
     status: int
 
 
-def jcard(*words, folder=None, stdin=b''):
-    """What jcard says to a command line, with a folder as the current one."""
-    run = subprocess.run([PROGRAM, *words], input=stdin, capture_output=True, timeout=SECONDS, env={}, cwd=folder)
+def without_power():
+    """Takes from a process, before its program begins, what lets root read each file (capabilities 1 and 2, by Linux's
+    prctl). Others can't, and need not."""
+    for capability in 1, 2:
+        ctypes.CDLL(None).prctl(24, capability, 0, 0, 0)
+
+
+def jcard(*words, folder=None, stdin=b'', before=None):
+    """What jcard says to a command line, with a folder as the current one. The process does `before` first."""
+    run = subprocess.run([PROGRAM, *words], input=stdin, capture_output=True, timeout=SECONDS, env={}, cwd=folder,
+                         preexec_fn=before)
     stdout, stderr = (text.decode(errors='backslashreplace') for text in (run.stdout, run.stderr))
     return Said(stdout, stderr, run.returncode)
 

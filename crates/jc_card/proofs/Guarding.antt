@@ -157,7 +157,8 @@ module _ (laws : StepsGuarded) where
       or_else c c.selected
       (λ (owner : Owner). clear events.Deselect (Some owner.context) (with_selected c None)) (gives c tt)
       (λ owner e. moved c (with_selected c None)
-      (clear events.Deselect (Some owner.context) (with_selected c None)) (record { packages = refl; objects = refl; statics = refl; limits = refl; steps = refl }) (λ names. names)
+      (clear events.Deselect (Some owner.context) (with_selected c None))
+      (record { packages = refl; objects = refl; statics = refl; limits = refl; steps = refl }) (λ names. names)
       (clear_part laws events.Deselect (Some owner.context) (with_selected c None))) (λ e. gives_part c tt)
 
   deselect_part : (c : CardState) → Fine c (commands.deselect c)
@@ -188,7 +189,8 @@ module _ (laws : StepsGuarded) where
   process_part : (c : CardState) (k : Command) (selecting : Bool) → Fine c (commands.process c k selecting)
   process_part c k selecting =
       let d = with_kept c (with_command c.kept k.incoming k.expected selecting) in
-      moved c d (and_then (call_selected d calls.Process) commands.answered) (record { packages = refl; objects = refl; statics = refl; limits = refl; steps = refl })
+      moved c d (and_then (call_selected d calls.Process) commands.answered)
+      (record { packages = refl; objects = refl; statics = refl; limits = refl; steps = refl })
       (λ names. laws.opened c.kept names k.incoming k.expected selecting)
       (then_part d (call_selected d calls.Process) commands.answered (selected_part calls.Process d) answered_part)
 
@@ -210,7 +212,8 @@ module _ (laws : StepsGuarded) where
   choose_part : (owner : Owner) (k : Command) (c : CardState) → Fine c (commands.choose c owner k)
   choose_part owner k c =
       let d = with_selected c (Some owner) in
-      moved c d (commands.ask d k) (record { packages = refl; objects = refl; statics = refl; limits = refl; steps = refl }) (λ names. names) (ask_part k d)
+      moved c d (commands.ask d k)
+      (record { packages = refl; objects = refl; statics = refl; limits = refl; steps = refl }) (λ names. names) (ask_part k d)
 
   select_part : (c : CardState) (owner : Owner) (k : Command) → Fine c (commands.select c owner k)
   select_part c owner k =
@@ -241,7 +244,8 @@ module _ (laws : StepsGuarded) where
   reset_part : (c : CardState) → Fine c (commands.reset_command c)
   reset_part c =
       let d = with_selected c None in
-      moved c d (and_then (clear events.Reset None d) (λ c u. clear events.Deselect None c)) (record { packages = refl; objects = refl; statics = refl; limits = refl; steps = refl })
+      moved c d (and_then (clear events.Reset None d) (λ c u. clear events.Deselect None c))
+      (record { packages = refl; objects = refl; statics = refl; limits = refl; steps = refl })
       (λ names. names)
       (then_part d (clear events.Reset None d) (λ c u. clear events.Deselect None c)
       (clear_part laws events.Reset None d) (λ e u. clear_part laws events.Deselect None e))
@@ -252,7 +256,8 @@ module _ (laws : StepsGuarded) where
   settle_part owner c ended =
       let d = with_kept c (after_install c.kept (installs.succeeds c ended)) in
       let says = λ (after : CardState) (u : Unit {0}). gives after (installs.installed c owner ended) in
-      moved c d (and_then (clear events.Deselect (Some owner.context) d) says) (record { packages = refl; objects = refl; statics = refl; limits = refl; steps = refl })
+      moved c d (and_then (clear events.Deselect (Some owner.context) d) says)
+      (record { packages = refl; objects = refl; statics = refl; limits = refl; steps = refl })
       (λ names. laws.over c.kept names (installs.succeeds c ended))
       (then_part d (clear events.Deselect (Some owner.context) d) says
       (clear_part laws events.Deselect (Some owner.context) d)
@@ -279,7 +284,8 @@ module _ (laws : StepsGuarded) where
         let next = λ (c : CardState) (u : Unit {0}). and_then
         (installs.call_install c place owner (length parameters))
         (λ (c : CardState) (ended : Ended). installs.settle c owner ended) in
-        moved c d (and_then (write install_array words d) next) (record { packages = refl; objects = refl; statics = refl; limits = refl; steps = refl })
+        moved c d (and_then (write install_array words d) next)
+        (record { packages = refl; objects = refl; statics = refl; limits = refl; steps = refl })
         (λ names. laws.begun c.kept names owner applet whose numbered)
         (then_known d (write install_array words d) next IsInstalling
         (write_part laws install_array words d (inr refl) (install_is_global d)) refl

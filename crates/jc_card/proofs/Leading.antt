@@ -140,7 +140,7 @@ changes_in : (active : ℕ) (xs : List Touch) (a b : Heap TaggedValue) → Keeps
 changes_in active xs a b kept changes = record {
   objects = kept;
   components = λ n o p e f.
-      elim (changes n o p e f) [ | inl same ↦ inl same | inr c ↦ inr (accessed_in active xs n o c) ];
+      elim (changes n o p e f) [ inl same ↦ inl same | inr c ↦ inr (accessed_in active xs n o c) ];
 }
 
 -- ---- steps

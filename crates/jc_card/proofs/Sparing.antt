@@ -19,7 +19,7 @@ pub spared : (active : ℕ) (touches : List Touch) (before after : Heap TaggedVa
     → ChangesAccessed active touches before after → AllByRecursion (SparesPlain before) touches
     → KeepsPlain active before after
 spared active touches before after changes spares n o p e f plain =
-    elim (changes n o p e f) [ | inl same ↦ inl same | inr a ↦ inr (own_of a (a.own plain)) ]
+    elim (changes n o p e f) [ inl same ↦ inl same | inr a ↦ inr (own_of a (a.own plain)) ]
   where
     own_of : (a : IsAccessed active touches n o)
         → (active ≡ o.owner.context) ⊎ (a.touch.active ≡ runtime_context) → active ≡ o.owner.context

@@ -182,7 +182,7 @@ plain_kept : (active : ℕ) (touches : List Touch) (before after : Heap TaggedVa
     → AllByRecursion (SparesPlain before) touches → ChangesAccessed active touches before after
     → KeepsPlain active before after
 plain_kept active touches before after spares changes n o p e f plain =
-    elim (changes n o p e f) [ | inl same ↦ inl same | inr a ↦ inr (own_of a (a.own plain)) ]
+    elim (changes n o p e f) [ inl same ↦ inl same | inr a ↦ inr (own_of a (a.own plain)) ]
   where
     own_of : (a : IsAccessed active touches n o)
         → (active ≡ o.owner.context) ⊎ (a.touch.active ≡ runtime_context) → active ≡ o.owner.context

@@ -116,7 +116,7 @@ get_set (z ∷ xs) zero zero x y e = inl (refl, sym (same_Some x y e))
 get_set (z ∷ xs) zero (suc i) x y e = inr e
 get_set (z ∷ xs) (suc k) zero x y e = inr e
 get_set (z ∷ xs) (suc k) (suc i) x y e =
-    elim (get_set xs k i x y e) [ | inl new ↦ inl (ap suc new.0, new.1) | inr old ↦ inr old ]
+    elim (get_set xs k i x y e) [ inl new ↦ inl (ap suc new.0, new.1) | inr old ↦ inr old ]
 
 module _ (heap : Heap TaggedValue) (holds : HoldStorable heap) where
   pub stored_holds : (number : ℕ) (object : Object TaggedValue) (index : ℕ) (v : TaggedValue)

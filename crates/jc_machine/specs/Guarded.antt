@@ -8,7 +8,8 @@ use Rattle.jc_cap_desc.specs.Shape.{Shape}
 use Rattle.jc_firewall.specs.Verdict.{runtime_context, verdict_of}
 use Rattle.jc_firewall.specs.declared.access.Access.{Access}
 use Rattle.jc_firewall.specs.declared.access.Access.TheVariants.{ArrayLength, CheckCast, GetField, InstanceOf}
-use Rattle.jc_firewall.specs.declared.access.Access.TheVariants.{InvokeInterface, InvokeVirtual, LoadComponent, PutField}
+use Rattle.jc_firewall.specs.declared.access.Access.TheVariants.{InvokeInterface, InvokeVirtual, LoadComponent}
+use Rattle.jc_firewall.specs.declared.access.Access.TheVariants.{PutField}
 use Rattle.jc_firewall.specs.declared.access.Access.TheVariants.{PutReferenceField, PutStaticReference, StoreComponent}
 use Rattle.jc_firewall.specs.declared.access.Access.TheVariants.{StoreReference, Throw}
 use Rattle.jc_firewall.specs.declared.access.Verdict.{Verdict}

@@ -84,9 +84,9 @@ pub fn accesses_are_guarded<N: Natives>(_natives: &N)
 /// each object that isn't plain is its own, this is so behind each step, and the step's accesses in the runtime's name
 /// spare plain objects: so the components of a plain object change only where its owner's context is that of the frame
 /// that runs. No field or component holds a reference to a temporary entry point or a global array, and no static field
-/// does but to an array of a library. Objects are set apart still where each stays, others are added that are plain, for
-/// an owner in the context of a package, and components hold nothing else. What the runtime keeps may be of any type, with any test that the native members keep.
-/// It does nothing.
+/// does but to an array of a library. Objects are set apart still where each stays, others are added that are plain,
+/// for an owner in the context of a package, and components hold nothing else. What the runtime keeps may be of any
+/// type, with any test that the native members keep. It does nothing.
 pub fn steps_stay_apart<N: Natives>(_natives: &N)
     ensures steps { (keeps : N.Kept → Bool) (s : Surroundings N.Kept) → AreNativesGuarded s.natives
         → AreNativesApart keeps s.natives → HaveApiMembers s.world.shapes → (m : Machine N.Kept) → IsApart keeps m

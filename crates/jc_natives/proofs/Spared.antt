@@ -151,175 +151,178 @@ module _ (Spared : By → ℕ → Type 0) (s : Seen) (k : Kept) where
   kept owners e = e
 
   module _ (own : SparesOwn Spared k) (args : List ℕ) where
-      system_apart : (reason : ℕ) → IsApartWork (throws_system k reason)
-      system_apart reason = ((own.system, tt), kept)
+    system_apart : (reason : ℕ) → IsApartWork (throws_system k reason)
+    system_apart reason = ((own.system, tt), kept)
 
-      apdu_apart : (reason : ℕ) → IsApartWork (throws_apdu k reason)
-      apdu_apart reason = ((own.apdu, tt), kept)
+    apdu_apart : (reason : ℕ) → IsApartWork (throws_apdu k reason)
+    apdu_apart reason = ((own.apdu, tt), kept)
 
-      exception_spared : (object : ℕ) → is_own_exception object ≡ true → Spared ByRuntime object
-      exception_spared object e =
-          by_first (either_is (object == iso_exception) (object == system_exception || object == apdu_exception) e)
-        where
-          by_second : ((object == system_exception) ≡ true) ⊎ ((object == apdu_exception) ≡ true)
-              → Spared ByRuntime object
-          by_second (inl f) = subst (Spared ByRuntime) (sym (eqb-true object system_exception f)) own.system
-          by_second (inr f) = subst (Spared ByRuntime) (sym (eqb-true object apdu_exception f)) own.apdu
+    exception_spared : (object : ℕ) → is_own_exception object ≡ true → Spared ByRuntime object
+    exception_spared object e =
+        by_first (either_is (object == iso_exception) (object == system_exception || object == apdu_exception) e)
+      where
+        by_second : ((object == system_exception) ≡ true) ⊎ ((object == apdu_exception) ≡ true)
+            → Spared ByRuntime object
+        by_second (inl f) = subst (Spared ByRuntime) (sym (eqb-true object system_exception f)) own.system
+        by_second (inr f) = subst (Spared ByRuntime) (sym (eqb-true object apdu_exception f)) own.apdu
 
-          by_first : ((object == iso_exception) ≡ true)
-              ⊎ ((object == system_exception || object == apdu_exception) ≡ true) → Spared ByRuntime object
-          by_first (inl f) = subst (Spared ByRuntime) (sym (eqb-true object iso_exception f)) own.iso
-          by_first (inr f) = by_second (either_is (object == system_exception) (object == apdu_exception) f)
+        by_first : ((object == iso_exception) ≡ true)
+            ⊎ ((object == system_exception || object == apdu_exception) ≡ true) → Spared ByRuntime object
+        by_first (inl f) = subst (Spared ByRuntime) (sym (eqb-true object iso_exception f)) own.iso
+        by_first (inr f) = by_second (either_is (object == system_exception) (object == apdu_exception) f)
 
-      object_apart : (native : ObjectNative) → object_throws_own native ≡ true → AreTested args (object_row native)
-          → IsApartWork (object_work s k args native)
-      object_apart objects.Construct e tested = (tt, kept)
-      object_apart objects.Equals e tested = (tt, kept)
-      object_apart objects.ConstructWithReason e tested = ((tested 0 ways.Fields refl (inl refl), tt), kept)
-      object_apart objects.GetReason e tested = (tt, kept)
-      object_apart objects.SetReason e tested = ((tested 0 ways.Calls refl (inl refl), tt), kept)
-      object_apart (objects.ThrowIt object) e tested = ((exception_spared object e, tt), kept)
+    object_apart : (native : ObjectNative) → object_throws_own native ≡ true → AreTested args (object_row native)
+        → IsApartWork (object_work s k args native)
+    object_apart objects.Construct e tested = (tt, kept)
+    object_apart objects.Equals e tested = (tt, kept)
+    object_apart objects.ConstructWithReason e tested = ((tested 0 ways.Fields refl (inl refl), tt), kept)
+    object_apart objects.GetReason e tested = (tt, kept)
+    object_apart objects.SetReason e tested = ((tested 0 ways.Calls refl (inl refl), tt), kept)
+    object_apart (objects.ThrowIt object) e tested = ((exception_spared object e, tt), kept)
 
-      aid_apart : (native : AidNative) → AreTested args (aid_row native) → IsApartWork (aid_work s k args native)
-      aid_apart aids.Construct tested =
-          either_apart (has_aid_length (extended (argument args 3))) _ _
-          (λ e. ((tested 0 ways.Fields refl (inl refl), tt), kept)) (system_apart illegal_value)
-      aid_apart aids.Equals tested = (tt, kept)
-      aid_apart aids.GetBytes tested = ((tested 1 ways.Stores refl (inr refl), tt), kept)
+    aid_apart : (native : AidNative) → AreTested args (aid_row native) → IsApartWork (aid_work s k args native)
+    aid_apart aids.Construct tested =
+        either_apart (has_aid_length (extended (argument args 3))) _ _
+        (λ e. ((tested 0 ways.Fields refl (inl refl), tt), kept)) (system_apart illegal_value)
+    aid_apart aids.Equals tested = (tt, kept)
+    aid_apart aids.GetBytes tested = ((tested 1 ways.Stores refl (inr refl), tt), kept)
 
-      sends_apart : (array offset count : ℕ) → IsApartWork (sends s k array offset count)
-      sends_apart array offset count =
-          either_apart (nat_le (length k.sent + count) k.announced) _ _ (λ e. (tt, kept)) (apdu_apart illegal_use)
+    sends_apart : (array offset count : ℕ) → IsApartWork (sends s k array offset count)
+    sends_apart array offset count =
+        either_apart (nat_le (length k.sent + count) k.announced) _ _ (λ e. (tt, kept)) (apdu_apart illegal_use)
 
-      apdu_work_apart : (native : ApduNative) → IsApartWork (apdu_work s k args native)
-      apdu_work_apart apdus.GetBuffer = (tt, kept)
-      apdu_work_apart apdus.SetIncomingAndReceive =
-          either_apart (is_fresh k.state) _ _ (λ e. ((own.buffer, tt), kept)) (apdu_apart illegal_use)
-      apdu_work_apart apdus.SetOutgoing =
-          either_apart (is_incoming k.state) _ _ (λ e. (tt, kept)) (apdu_apart illegal_use)
-      apdu_work_apart apdus.SetOutgoingLength =
-          either_apart (is_outgoing k.state) _ _
-          (λ e. either_apart (nat_le (argument args 1) most_sent) _ _ (λ f. (tt, kept)) (apdu_apart bad_length))
-          (apdu_apart illegal_use)
-      apdu_work_apart apdus.SendBytes =
-          either_apart (is_length_set k.state) _ _
-          (λ e. either_apart (is_in_buffer s (argument args 1) (argument args 2)) _ _
-          (λ f. sends_apart apdu_buffer (argument args 1) (argument args 2)) (apdu_apart buffer_bounds))
-          (apdu_apart illegal_use)
-      apdu_work_apart apdus.SendBytesLong =
-          either_apart (is_length_set k.state) _ _
-          (λ e. sends_apart (argument args 1) (argument args 2) (argument args 3)) (apdu_apart illegal_use)
-      apdu_work_apart apdus.SetOutgoingAndSend =
-          either_apart (is_incoming k.state) _ _
-          (λ e. either_apart (nat_le (argument args 2) most_sent) _ _
-          (λ f. either_apart (is_in_buffer s (argument args 1) (argument args 2)) _ _ (λ g. (tt, kept))
-          (apdu_apart buffer_bounds)) (apdu_apart bad_length)) (apdu_apart illegal_use)
+    apdu_work_apart : (native : ApduNative) → IsApartWork (apdu_work s k args native)
+    apdu_work_apart apdus.GetBuffer = (tt, kept)
+    apdu_work_apart apdus.SetIncomingAndReceive =
+        either_apart (is_fresh k.state) _ _ (λ e. ((own.buffer, tt), kept)) (apdu_apart illegal_use)
+    apdu_work_apart apdus.SetOutgoing =
+        either_apart (is_incoming k.state) _ _ (λ e. (tt, kept)) (apdu_apart illegal_use)
+    apdu_work_apart apdus.SetOutgoingLength =
+        either_apart (is_outgoing k.state) _ _
+        (λ e. either_apart (nat_le (argument args 1) most_sent) _ _ (λ f. (tt, kept)) (apdu_apart bad_length))
+        (apdu_apart illegal_use)
+    apdu_work_apart apdus.SendBytes =
+        either_apart (is_length_set k.state) _ _
+        (λ e. either_apart (is_in_buffer s (argument args 1) (argument args 2)) _ _
+        (λ f. sends_apart apdu_buffer (argument args 1) (argument args 2)) (apdu_apart buffer_bounds))
+        (apdu_apart illegal_use)
+    apdu_work_apart apdus.SendBytesLong =
+        either_apart (is_length_set k.state) _ _
+        (λ e. sends_apart (argument args 1) (argument args 2) (argument args 3)) (apdu_apart illegal_use)
+    apdu_work_apart apdus.SetOutgoingAndSend =
+        either_apart (is_incoming k.state) _ _
+        (λ e. either_apart (nat_le (argument args 2) most_sent) _ _
+        (λ f. either_apart (is_in_buffer s (argument args 1) (argument args 2)) _ _ (λ g. (tt, kept))
+        (apdu_apart buffer_bounds)) (apdu_apart bad_length)) (apdu_apart illegal_use)
 
-      -- the instance that is being installed, where an object may register in its name
-      record May (object : ℕ) (i : Installing) : Type 0 where
-        installing : k.installing ≡ Some i
-        number : ((owner_of s.objects object).instance == i.owner.instance) ≡ true
+    -- the instance that is being installed, where an object may register in its name
+    record May (object : ℕ) (i : Installing) : Type 0 where
+      installing : k.installing ≡ Some i
+      number : ((owner_of s.objects object).instance == i.owner.instance) ≡ true
 
-      may_of : (object : ℕ) (o : Option Installing) (i : Installing) → k.installing ≡ o
-          → allowed s object o ≡ Some i → May object i
-      may_of object None i e f = absurd (none-some i f)
-      may_of object (Some j) i e f = by_test (may_register s object j) refl f
-        where
-          by_test : (b : Bool) → may_register s object j ≡ b → cond b (Some j) None ≡ Some i → May object i
-          by_test true g h =
-              subst (May object) (same_Some j i h) (record {
-                installing = e;
-                number = (both (not j.registered) ((owner_of s.objects object).instance == j.owner.instance) g).1;
-              })
-          by_test false g h = absurd (none-some i h)
+    may_of : (object : ℕ) (o : Option Installing) (i : Installing) → k.installing ≡ o
+        → allowed s object o ≡ Some i → May object i
+    may_of object None i e f = absurd (none-some i f)
+    may_of object (Some j) i e f = by_test (may_register s object j) refl f
+      where
+        by_test : (b : Bool) → may_register s object j ≡ b → cond b (Some j) None ≡ Some i → May object i
+        by_test true g h =
+            subst (May object) (same_Some j i h) (record {
+              installing = e;
+              number = (both (not j.registered) ((owner_of s.objects object).instance == j.owner.instance) g).1;
+            })
+        by_test false g h = absurd (none-some i h)
 
-      -- it has a number
-      is_numbered : (object : ℕ) (i : Installing) → May object i → names_applets k ≡ true
-          → is_instance_number (owner_of s.objects object).instance ≡ true
-      is_numbered object i may named =
-          let installs : option_map_or installs_applet k.installing true ≡ true =
-          (both (list_all of_applet k.instances) (option_map_or installs_applet k.installing true) named).1 in
-          let its : installs_applet i ≡ true =
-          ap (λ (o : Option Installing). option_map_or installs_applet o true) (sym may.installing) ∙ installs in
-          ap is_instance_number (eqb-true (owner_of s.objects object).instance i.owner.instance may.number)
-          ∙ (both (is_applets i.owner) (is_instance_number i.owner.instance) its).1
+    -- it has a number
+    is_numbered : (object : ℕ) (i : Installing) → May object i → names_applets k ≡ true
+        → is_instance_number (owner_of s.objects object).instance ≡ true
+    is_numbered object i may named =
+        let installs : option_map_or installs_applet k.installing true ≡ true =
+        (both (list_all of_applet k.instances) (option_map_or installs_applet k.installing true) named).1 in
+        let its : installs_applet i ≡ true =
+        ap (λ (o : Option Installing). option_map_or installs_applet o true) (sym may.installing) ∙ installs in
+        ap is_instance_number (eqb-true (owner_of s.objects object).instance i.owner.instance may.number)
+        ∙ (both (is_applets i.owner) (is_instance_number i.owner.instance) its).1
 
-      registers_apart : (object : ℕ) (aid : List ℕ) (i : Installing) → May object i
-          → IsApartWork (registers s k i.owner.instance object aid)
-      registers_apart object aid i may =
-          either_apart (not (is_some (instance_with k.instances aid)) && nat_lt (length k.instances) most_instances) _ _
-          (λ e. ((own.registers i may.installing, tt), λ owners named.
-          with_instance_named k _ named (owners object (is_numbered object i may named))))
-          (system_apart illegal_aid)
+    registers_apart : (object : ℕ) (aid : List ℕ) (i : Installing) → May object i
+        → IsApartWork (registers s k i.owner.instance object aid)
+    registers_apart object aid i may =
+        either_apart (not (is_some (instance_with k.instances aid)) && nat_lt (length k.instances) most_instances) _ _
+        (λ e. (
+          (own.registers i may.installing, tt),
+          λ owners named.
+              with_instance_named k _ named (owners object (is_numbered object i may named)),
+        ))
+        (system_apart illegal_aid)
 
-      on_allowed_apart : (object : ℕ) (go : Installing → Work)
-          → ((i : Installing) → May object i → IsApartWork (go i))
-          → IsApartWork (on_allowed k (allowed s object k.installing) go)
-      on_allowed_apart object go each = by_option (allowed s object k.installing) refl
-        where
-          by_option : (o : Option Installing) → allowed s object k.installing ≡ o → IsApartWork (on_allowed k o go)
-          by_option None e = system_apart illegal_aid
-          by_option (Some i) e = each i (may_of object k.installing i refl e)
+    on_allowed_apart : (object : ℕ) (go : Installing → Work)
+        → ((i : Installing) → May object i → IsApartWork (go i))
+        → IsApartWork (on_allowed k (allowed s object k.installing) go)
+    on_allowed_apart object go each = by_option (allowed s object k.installing) refl
+      where
+        by_option : (o : Option Installing) → allowed s object k.installing ≡ o → IsApartWork (on_allowed k o go)
+        by_option None e = system_apart illegal_aid
+        by_option (Some i) e = each i (may_of object k.installing i refl e)
 
-      applet_apart : (native : AppletNative) → IsApartWork (applet_work s k args native)
-      applet_apart applets.Register =
-          on_allowed_apart (argument args 0) _ (λ i may. registers_apart (argument args 0) _ i may)
-      applet_apart applets.RegisterBytes =
-          on_allowed_apart (argument args 0) _
-          (λ i may. either_apart (has_aid_length (extended (argument args 3))) _ _
-          (λ e. registers_apart (argument args 0) _ i may) (system_apart illegal_value))
-      applet_apart applets.Select = (tt, kept)
-      applet_apart applets.Deselect = (tt, kept)
-      applet_apart applets.Process = (tt, kept)
-      applet_apart applets.SelectingApplet = (tt, kept)
-      applet_apart applets.GetShareable = (tt, kept)
+    applet_apart : (native : AppletNative) → IsApartWork (applet_work s k args native)
+    applet_apart applets.Register =
+        on_allowed_apart (argument args 0) _ (λ i may. registers_apart (argument args 0) _ i may)
+    applet_apart applets.RegisterBytes =
+        on_allowed_apart (argument args 0) _
+        (λ i may. either_apart (has_aid_length (extended (argument args 3))) _ _
+        (λ e. registers_apart (argument args 0) _ i may) (system_apart illegal_value))
+    applet_apart applets.Select = (tt, kept)
+    applet_apart applets.Deselect = (tt, kept)
+    applet_apart applets.Process = (tt, kept)
+    applet_apart applets.SelectingApplet = (tt, kept)
+    applet_apart applets.GetShareable = (tt, kept)
 
-      asks_apart : (word : ℕ) (o : Option Instance) → IsApartWork (asks s k word o)
-      asks_apart word None = (tt, kept)
-      asks_apart word (Some i) = tt
+    asks_apart : (word : ℕ) (o : Option Instance) → IsApartWork (asks s k word o)
+    asks_apart word None = (tt, kept)
+    asks_apart word (Some i) = tt
 
-      makes_apart : (elements : Elements) (size : ℕ) (event : Option ClearingEvent)
-          → IsApartWork (makes s k elements size event)
-      makes_apart elements size None = system_apart illegal_value
-      makes_apart elements size (Some event) =
-          either_apart (may_make s event) _ _ (λ e. either_apart (is_count size) _ _ (λ f. tt) (tt, kept))
-          (system_apart illegal_transient)
+    makes_apart : (elements : Elements) (size : ℕ) (event : Option ClearingEvent)
+        → IsApartWork (makes s k elements size event)
+    makes_apart elements size None = system_apart illegal_value
+    makes_apart elements size (Some event) =
+        either_apart (may_make s event) _ _ (λ e. either_apart (is_count size) _ _ (λ f. tt) (tt, kept))
+        (system_apart illegal_transient)
 
-      system_work_apart : (native : SystemNative) → IsApartWork (system_work s k args native)
-      system_work_apart system.GetAid = (tt, kept)
-      system_work_apart system.LookupAid = (tt, kept)
-      system_work_apart system.GetPreviousAid = (tt, kept)
-      system_work_apart system.AskForShareable = asks_apart (argument args 1) _
-      system_work_apart system.MakeBooleans = makes_apart _ (argument args 0) _
-      system_work_apart system.MakeBytes = makes_apart _ (argument args 0) _
-      system_work_apart system.MakeShorts = makes_apart _ (argument args 0) _
-      system_work_apart system.MakeReferences = makes_apart _ (argument args 0) _
+    system_work_apart : (native : SystemNative) → IsApartWork (system_work s k args native)
+    system_work_apart system.GetAid = (tt, kept)
+    system_work_apart system.LookupAid = (tt, kept)
+    system_work_apart system.GetPreviousAid = (tt, kept)
+    system_work_apart system.AskForShareable = asks_apart (argument args 1) _
+    system_work_apart system.MakeBooleans = makes_apart _ (argument args 0) _
+    system_work_apart system.MakeBytes = makes_apart _ (argument args 0) _
+    system_work_apart system.MakeShorts = makes_apart _ (argument args 0) _
+    system_work_apart system.MakeReferences = makes_apart _ (argument args 0) _
 
-      utility_apart : (native : UtilityNative) → AreTested args (utility_row native)
-          → IsApartWork (utility_work s k args native)
-      utility_apart utilities.ArrayCopy tested = ((tested 2 ways.Stores refl (inr refl), tt), kept)
-      utility_apart utilities.ArrayFill tested = ((tested 0 ways.Stores refl (inl refl), tt), kept)
-      utility_apart utilities.ArrayCompare tested = (tt, kept)
-      utility_apart utilities.GetShort tested = (tt, kept)
-      utility_apart utilities.SetShort tested = ((tested 0 ways.Stores refl (inl refl), tt), kept)
-      utility_apart utilities.MakeShort tested = (tt, kept)
+    utility_apart : (native : UtilityNative) → AreTested args (utility_row native)
+        → IsApartWork (utility_work s k args native)
+    utility_apart utilities.ArrayCopy tested = ((tested 2 ways.Stores refl (inr refl), tt), kept)
+    utility_apart utilities.ArrayFill tested = ((tested 0 ways.Stores refl (inl refl), tt), kept)
+    utility_apart utilities.ArrayCompare tested = (tt, kept)
+    utility_apart utilities.GetShort tested = (tt, kept)
+    utility_apart utilities.SetShort tested = ((tested 0 ways.Stores refl (inl refl), tt), kept)
+    utility_apart utilities.MakeShort tested = (tt, kept)
 
-      pub work_apart : (native : Native) → throws_own native ≡ true → AreTested args (row_of native)
-          → IsApartWork (work_of s k args native)
-      work_apart (OfObject native) e tested = object_apart native e tested
-      work_apart (OfAid native) e tested = aid_apart native tested
-      work_apart (OfApdu native) e tested = apdu_work_apart native
-      work_apart (OfApplet native) e tested = applet_apart native
-      work_apart (OfSystem native) e tested = system_work_apart native
-      work_apart (OfUtility native) e tested = utility_apart native tested
+    pub work_apart : (native : Native) → throws_own native ≡ true → AreTested args (row_of native)
+        → IsApartWork (work_of s k args native)
+    work_apart (OfObject native) e tested = object_apart native e tested
+    work_apart (OfAid native) e tested = aid_apart native tested
+    work_apart (OfApdu native) e tested = apdu_work_apart native
+    work_apart (OfApplet native) e tested = applet_apart native
+    work_apart (OfSystem native) e tested = system_work_apart native
+    work_apart (OfUtility native) e tested = utility_apart native tested
 
-      -- also where there is no room for an array
-      pub roomy_apart : (objects cells : ℕ) {V : Type 0} (heap : Heap V) (work : Work) → IsApartWork work
-          → IsApartWork (with_room objects cells heap k work)
-      roomy_apart objects cells heap (Does writes runtime ending) apart = apart
-      roomy_apart objects cells heap (Makes array) apart = by_room (has_room objects cells heap array.size)
-        where
-          by_room : (b : Bool) → IsApartWork (array_or_refusal b array k)
-          by_room true = tt
-          by_room false = system_apart no_transient_space
-      roomy_apart objects cells heap (Asks question) apart = tt
+    -- also where there is no room for an array
+    pub roomy_apart : (objects cells : ℕ) {V : Type 0} (heap : Heap V) (work : Work) → IsApartWork work
+        → IsApartWork (with_room objects cells heap k work)
+    roomy_apart objects cells heap (Does writes runtime ending) apart = apart
+    roomy_apart objects cells heap (Makes array) apart = by_room (has_room objects cells heap array.size)
+      where
+        by_room : (b : Bool) → IsApartWork (array_or_refusal b array k)
+        by_room true = tt
+        by_room false = system_apart no_transient_space
+    roomy_apart objects cells heap (Asks question) apart = tt

@@ -56,8 +56,8 @@ pub fn calls_keep_fitting()
 {}
 
 /// The runtime's name is its own in native members too: what an applet calls accesses no plain object in the runtime's
-/// name, leaves no reference where it may not be stored, and what the runtime keeps names applets alone. So it does when
-/// a card is new, and behind each call of the runtime itself. It does nothing.
+/// name, leaves no reference where it may not be stored, and what the runtime keeps names applets alone. So it does
+/// when a card is new, and behind each call of the runtime itself. It does nothing.
 pub fn members_stay_apart()
     ensures members { AreNativesApart names_applets meaning }
     ensures new { names_applets nothing_kept ≡ true }

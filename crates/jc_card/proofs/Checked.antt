@@ -8,7 +8,6 @@ use Rattle.jc_cap_desc.specs.Package.{package_of}
 use Rattle.jc_cap_desc.specs.Shape.{Package, Shape}
 use Rattle.jc_cert.specs.Cert.{IsCert, Row}
 use Rattle.jc_cert.specs.Writing.{spelling}
-use Rattle.jc_check.specs.Checked.{IsFirstRefusal}
 use Rattle.jc_check.specs.Checked as checks
 use Rattle.jc_link.specs.Linked.{IsRefusal, Linked, World, refusal_of}
 use Rattle.jc_card.specs.Card.{CardState}

@@ -1,5 +1,5 @@
 -- Accesses, one after the other: what was accessed then, and which objects change.
-use Rattle.std.proofs.Common.{◌≡◌, ◌⊎◌, ℕ, zero, suc, List, [], ◌∷◌, ◌++◌, Option, Some, inl, inr, refl, sym}
+use Rattle.std.proofs.Common.{◌≡◌, ◌⊎◌, ℕ, zero, suc, List, [], ◌∷◌, ◌++◌, Some, inl, inr, refl, sym}
 use Rattle.std.proofs.Common.{ap, ◌∙◌, slice_get, subst}
 use Rattle.std.proofs.lemmas.Option.{same_Some}
 use Rattle.jc_firewall.specs.Verdict.{runtime_context}
@@ -12,7 +12,6 @@ use Rattle.jc_names.specs.declared.owner.Owner.{Owner}
 use Rattle.jc_natives.specs.Kept.{Kept}
 use Rattle.jc_store.specs.Heap.{Heap, Object}
 use Rattle.jc_store.specs.declared.kind.Kind.{Kind}
-use Rattle.jc_store.specs.declared.kind.Mark.TheVariants.{Plain}
 use Rattle.jc_words.specs.Values.{TaggedValue}
 use Rattle.jc_card.specs.Accesses.{ChangesBy, IsAccessed, IsApartCard, IsGuardedCommand, KeepsApart, Leads}
 use Rattle.jc_card.specs.Accesses.{LeavesObjects, RunsAs, Steps, law_of_accesses, machine_at_end}

@@ -34,9 +34,8 @@ use Rattle.jc_machine.specs.Natives.{AreNativesGuarded, IsGuardedAnswer, KeepsOb
 use Rattle.jc_machine.specs.Step.{Called, CallEnd, Gave, RanOut, Start, Threw, WasStuck, after_first_native, begun}
 use Rattle.jc_machine.specs.Step.{begun_by, called_so_far, continued, defensive_step, ended_by, first_answer, may_begin}
 use Rattle.jc_machine.specs.Step.{native_called, native_ended, native_started, no_frame, point_of, room_lacking}
-use Rattle.jc_machine.specs.Step.{runtime_call, standing, started, started_by, steps_of, first_native_call}
+use Rattle.jc_machine.specs.Step.{runtime_call, standing, started, started_by, steps_of}
 use Rattle.jc_machine.specs.declared.stop.Budget.{Budget}
-use Rattle.jc_machine.specs.declared.stop.Budget.TheVariants as budgets
 use Rattle.jc_machine.specs.declared.stop.CodePoint.{CodePoint}
 use Rattle.jc_names.specs.declared.name.ClassName.{ClassName}
 use Rattle.jc_names.specs.declared.name.MethodName.{MethodName}

@@ -40,7 +40,7 @@ use Rattle.jc_card.specs.Accesses.{IsOwnAccess}
 use Rattle.jc_card.specs.Accesses.Leads.{by_clearing, by_write}
 use Rattle.jc_card.specs.Commands.{reset_command}
 use Rattle.jc_card.specs.Card.{CardState}
-use Rattle.jc_card.specs.Parts.{clear, clearing_touches, runtime_touch, write}
+use Rattle.jc_card.specs.Parts.{clear, clearing_touches, write}
 
 -- ---- the runtime's own access
 

@@ -6,7 +6,7 @@ use Rattle.jc_firewall.specs.Verdict.{runtime_context}
 use Rattle.jc_machine.specs.Apart.{SparesPlain}
 use Rattle.jc_machine.specs.Guarded.{ChangesAccessed, IsAccessed, KeepsPlain}
 use Rattle.jc_machine.specs.Machine.{Touch}
-use Rattle.jc_store.specs.Heap.{Heap, Object, object_at}
+use Rattle.jc_store.specs.Heap.{Heap, object_at}
 use Rattle.jc_words.specs.Values.{TaggedValue}
 
 all_at : {A : Type 0} (P : A → Type 0) (xs : List A) (k : ℕ) (x : A) → AllByRecursion P xs → slice_get xs k ≡ Some x

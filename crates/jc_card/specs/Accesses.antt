@@ -1,7 +1,7 @@
 -- What a command does to objects: the firewall judges each of its accesses; one that it denies throws, and changes
 -- nothing; and a plain object changes only in its own context, or by clearing (Java Card Runtime Environment
 -- Specification, Applet Isolation and Object Sharing: Class and Object Access Behavior; Transient Objects).
-use Rattle.std.specs.Prelude.{◌≡◌, ◌≢◌, ◌⊎◌, ⊤, ℕ, zero, suc, true, List, [], ◌++◌, Option, Some, None, IsSome}
+use Rattle.std.specs.Prelude.{◌≡◌, ◌≢◌, ◌⊎◌, ⊤, ℕ, suc, true, List, [], ◌++◌, Option, Some, None, IsSome}
 use Rattle.std.specs.Prelude.{slice_get, if◌then◌else◌}
 use Rattle.std.specs.List.{AllByRecursion}
 use Rattle.std.specs.Option.{option_map}

@@ -1,5 +1,5 @@
 -- Calls keep the law of accesses, where native members keep theirs.
-use Rattle.std.proofs.Common.{◌≡◌, ℕ, ◌+◌, ◌==◌, Bool, true, false, List, [], ◌∷◌, length, take, drop, reverse, Option}
+use Rattle.std.proofs.Common.{◌≡◌, ℕ, ◌+◌, ◌==◌, true, false, List, [], ◌∷◌, length, take, drop, reverse, Option}
 use Rattle.std.proofs.Common.{Some, None, refl}
 use Rattle.jc_base.specs.Signature.{Signature}
 use Rattle.jc_classes.specs.Methods.{interface_method_of}

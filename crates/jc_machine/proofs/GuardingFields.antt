@@ -1,5 +1,5 @@
 -- Instructions on fields keep the law of accesses.
-use Rattle.std.proofs.Common.{◌≡◌, ℕ, List, [], length, nat_lt, slice_get, inl, refl, ap, Option, Some, true, false}
+use Rattle.std.proofs.Common.{◌≡◌, ℕ, List, [], length, nat_lt, slice_get, inl, refl, ap, Option, true, false}
 use Rattle.jc_base.specs.declared.declared_type.DeclaredType.{DeclaredType}
 use Rattle.jc_code.specs.declared.object.FieldAccess.{FieldAccess}
 use Rattle.jc_code.specs.declared.object.FieldAction.{FieldAction}

@@ -3,7 +3,7 @@ use Rattle.std.proofs.Common.{◌≡◌, ◌⊎◌, inl, inr, ℕ, zero, suc, �
 use Rattle.std.proofs.Common.{◌∷◌, ◌++◌, Option, Some, None, refl, sym, ap, ◌∙◌, subst, slice_get, set, map, replicate}
 use Rattle.std.proofs.lemmas.Option.{none-some, same_Some}
 use Rattle.std.specs.List.{AllByRecursion}
-use Rattle.std.specs.Option.{option_and_then, option_map, option_map_or}
+use Rattle.std.specs.Option.{option_map, option_map_or}
 use Rattle.jc_base.specs.declared.declared_type.DeclaredType.{DeclaredType}
 use Rattle.jc_base.specs.declared.declared_type.DeclaredType.TheVariants as Declared
 use Rattle.jc_cap_desc.specs.Shape.{Shape}
@@ -28,14 +28,14 @@ use Rattle.jc_machine.specs.Fields.{with_static, with_value, with_value_in}
 use Rattle.jc_machine.specs.Going.{Here, facts_of, storing}
 use Rattle.jc_machine.specs.Guarded.{is_allowed}
 use Rattle.jc_machine.specs.Lookup.{is_of_type, leads_to, mark_of, of_package, with_package}
-use Rattle.jc_machine.specs.Machine.{Machine, StaticValue}
+use Rattle.jc_machine.specs.Machine.{StaticValue}
 use Rattle.jc_machine.specs.Natives.{KeepsObjects}
 use Rattle.jc_machine.specs.Objects.{cells_of, initial}
 use Rattle.jc_machine.specs.Lookup.{fields_of}
 use Rattle.jc_machine.specs.Storable.{FieldsHoldStorable, HoldStorable, is_librarys, is_storable, may_be_held}
 use Rattle.jc_machine.specs.Storable.{may_be_static}
 use Rattle.jc_words.specs.Values.{Null, Ref, TaggedValue, Unset, Word}
-use Rattle.jc_machine.proofs.GuardingHeaps.{each_mapped, get_first}
+use Rattle.jc_machine.proofs.GuardingHeaps.{each_mapped}
 
 -- ---- where objects stay
 

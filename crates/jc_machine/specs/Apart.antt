@@ -1,7 +1,7 @@
 -- The runtime's name is its own. Code of packages never runs as the runtime: frames are active as applets, and an
 -- object of the runtime's has no class of a package. So a step accesses no plain object in the runtime's name (Java
 -- Card Runtime Environment Specification, Contexts and Context Switching; JCRE Privileges).
-use Rattle.std.specs.Prelude.{◌≡◌, ◌≢◌, ℕ, ◌==◌, Bool, true, false, not, List, ◌∷◌, Some, None}
+use Rattle.std.specs.Prelude.{◌≡◌, ◌≢◌, ℕ, ◌==◌, Bool, true, false, not, List, ◌∷◌, Some}
 use Rattle.std.specs.List.{AllByRecursion, list_all}
 use Rattle.jc_api.specs.Token.{is_same_class}
 use Rattle.jc_api.specs.declared.class.ApiClass.{ApiClass}

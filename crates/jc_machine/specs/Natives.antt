@@ -1,6 +1,6 @@
 -- The law of native members: what a machine relies on, whatever they do (Java Card API Specification; Java Card
 -- Runtime Environment Specification, Applet Isolation and Object Sharing).
-use Rattle.std.specs.Prelude.{◌≡◌, ℕ, ◌≤◌, ◌∷◌, length, List, Some, None, true, false}
+use Rattle.std.specs.Prelude.{◌≡◌, ℕ, ◌≤◌, ◌∷◌, length, List, Some, true}
 use Rattle.std.specs.List.{AllByRecursion}
 use Rattle.jc_api.specs.Member.{ApiMember, member_of}
 use Rattle.jc_api.specs.declared.member.MemberKind.TheVariants.{Static, Virtual}

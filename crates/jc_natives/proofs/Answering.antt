@@ -1,63 +1,48 @@
 -- Each answer of a native member is guarded.
-use Rattle.std.proofs.Common.{◌≡◌, ◌≢◌, ◌⊎◌, inl, inr, ℕ, zero, suc, ◌+◌, ◌==◌, ◌&&◌, ◌||◌, Bool, true, false, cond}
-use Rattle.std.proofs.Common.{List, [], ◌∷◌, ◌++◌, length, map, set, slice_get, nat_le, nat_lt, Option, Some, None}
-use Rattle.std.proofs.Common.{refl, sym, ap, subst, ◌∙◌, arith, length-append}
-use Rattle.std.proofs.lemmas.Bool.{eq-eqb, eqb-true, leb-true, ltb-true}
-use Rattle.std.proofs.lemmas.List.{length-replicate, length-set}
+use Rattle.std.proofs.Common.{◌≡◌, ◌⊎◌, inl, inr, ℕ, zero, suc, ◌+◌, ◌==◌, ◌||◌, Bool, true, false, cond}
+use Rattle.std.proofs.Common.{List, [], ◌∷◌, ◌++◌, length, map, slice_get, Option, Some, None}
+use Rattle.std.proofs.Common.{refl, sym, ap, subst, ◌∙◌, arith}
+use Rattle.std.proofs.lemmas.Bool.{eq-eqb}
+use Rattle.std.proofs.lemmas.List.{length-replicate}
 use Rattle.std.proofs.lemmas.Option.{none-some, same_Some}
-use Rattle.std.specs.List.{AllByRecursion, list_any}
+use Rattle.std.specs.List.{AllByRecursion}
 use Rattle.std.specs.Option.{option_map, option_map_or}
 use Rattle.jc_api.specs.Numbered.{numbered}
-use Rattle.jc_firewall.specs.Verdict.{is_entry_point, is_global_array, is_out_of_selection, is_own, runtime}
-use Rattle.jc_firewall.specs.Verdict.{runtime_context, verdict_of}
-use Rattle.jc_firewall.specs.declared.access.Access.TheVariants.{PutField, StoreComponent}
-use Rattle.jc_firewall.specs.declared.access.Facts.{Facts}
-use Rattle.jc_firewall.specs.declared.access.Rule.TheVariants as rules
+use Rattle.jc_firewall.specs.Verdict.{runtime}
+use Rattle.jc_firewall.specs.Verdict.{verdict_of}
 use Rattle.jc_firewall.specs.declared.access.Verdict.{Verdict}
 use Rattle.jc_firewall.specs.declared.access.Verdict.TheVariants.{Allowed, AllowedSwitch, Denied}
 use Rattle.jc_link.specs.Linked.{World}
 use Rattle.jc_machine.specs.Calls.{native_may_begin}
-use Rattle.jc_machine.specs.Going.{facts_for, facts_in}
-use Rattle.jc_machine.specs.Guarded.{AreGuarded, ChangesAccessed, IsAccessed, allowed, are_allowed, denied, is_allowed}
-use Rattle.jc_machine.specs.Guarded.{AddsFor, IsJudged, IsPlainOf, asked_by, is_last_denied, is_runtimes, may_change}
-use Rattle.jc_machine.specs.Lookup.{is_array}
-use Rattle.jc_machine.specs.Machine.{By, ByCode, ByRuntime, Callback, Calls, IsStuck, Limits, NativeCall, NativeEnd, ThrowsObject, Touch}
-use Rattle.jc_machine.specs.Natives.{IsGuardedAnswer, IsModest, IsOfReceiver, IsRefusedAnswer, IsStill, IsWithin}
+use Rattle.jc_machine.specs.Guarded.{AreGuarded, ChangesAccessed, allowed, are_allowed, denied}
+use Rattle.jc_machine.specs.Guarded.{AddsFor, IsJudged, is_runtimes}
+use Rattle.jc_machine.specs.Machine.{ByRuntime, Callback, Calls, IsStuck, NativeCall, NativeEnd, ThrowsObject, Touch}
+use Rattle.jc_machine.specs.Natives.{IsGuardedAnswer, IsModest, IsOfReceiver, IsRefusedAnswer, IsWithin}
 use Rattle.jc_machine.specs.Natives.{KeepsObjects, setting_for, shareable_member}
 use Rattle.jc_machine.specs.Runtime.{security_exception, system_exception}
-use Rattle.jc_natives.proofs.Bare.{bare_object, both}
-use Rattle.jc_natives.proofs.Getting.{new_object, other_object}
-use Rattle.jc_natives.proofs.Putting.{put_none, put_some, same_or_not}
-use Rattle.jc_natives.specs.Cells.{Write, bare, has_room, put, put_all, written}
+use Rattle.jc_natives.specs.Cells.{Write, has_room, written}
 use Rattle.jc_natives.specs.Kept.{Kept}
-use Rattle.jc_natives.specs.Meaning.{answer_of, array_or_refusal, begun, did, done, end_of, ended, has_words, made}
-use Rattle.jc_natives.specs.Meaning.{meaning, registering, touch_by}
-use Rattle.jc_natives.specs.Meaning.{new_array, own_touch, own_touch_of, own_touches, unchanged, with_room, work_of}
+use Rattle.jc_natives.specs.Meaning.{answer_of, array_or_refusal, begun, did, done, end_of, ended, made}
+use Rattle.jc_natives.specs.Meaning.{meaning, registering}
+use Rattle.jc_natives.specs.Meaning.{new_array, own_touches, unchanged, with_room, work_of}
 use Rattle.jc_natives.specs.Rows.{natives, row_of}
 use Rattle.jc_natives.specs.Seen.{arguments_of, seen_of}
 use Rattle.jc_natives.specs.Tests.{Tested, access_of, by_verdict, facts_of, followed, goes_on, on_object, ranged, test}
-use Rattle.jc_natives.specs.Tests.{tested, touch_of, used}
+use Rattle.jc_natives.specs.Tests.{tested, used}
 use Rattle.jc_natives.specs.Work.{Asks, Does, Ending, GivesReference, GivesWord, Makes, NewArray, NoResult, Throws}
 use Rattle.jc_natives.specs.Work.{Work, no_transient_space}
 use Rattle.jc_natives.specs.declared.native.Native.{Native}
-use Rattle.jc_natives.specs.declared.row.Range.{Range}
-use Rattle.jc_natives.specs.declared.row.Row.{Row}
-use Rattle.jc_natives.specs.declared.row.Test.{Test}
-use Rattle.jc_natives.specs.declared.row.Test.TheVariants.{BesideAid, Nothing}
+use Rattle.jc_natives.specs.declared.row.Test.TheVariants.{Nothing}
 use Rattle.jc_natives.specs.declared.row.Test.TheVariants as tests
-use Rattle.jc_natives.specs.declared.row.Way.{Way}
 use Rattle.jc_natives.specs.declared.row.Way.TheVariants as ways
-use Rattle.jc_names.specs.declared.owner.Owner.{Owner}
-use Rattle.jc_store.specs.Heap.{Heap, Object, cells_in, object_at, with_cell, with_new, with_object}
-use Rattle.jc_store.specs.declared.kind.Mark.TheVariants.{Plain}
+use Rattle.jc_store.specs.Heap.{Heap, Object, object_at, with_new}
 use Rattle.jc_words.specs.Values.{TaggedValue, Word}
-use Rattle.jc_natives.proofs.Changed.{either_is, is_change_of, is_changed}
 use Rattle.std.proofs.Common.{get_or, ◌<◌, ◌≤◌}
 use Rattle.std.proofs.lemmas.Option.{slice_get_cases, slice_get_past}
 use Rattle.jc_machine.specs.Machine.{Gives, NativeAnswer}
 use Rattle.jc_machine.specs.Natives.{IsUnchanged}
 use Rattle.jc_machine.specs.Runtime.{apdu_buffer, apdu_exception, iso_exception}
-use Rattle.jc_natives.proofs.Guarding.{ArePlaced, AreUses, IsPlaced, IsUse, Refuses, all_both, allowed_both}
+use Rattle.jc_natives.proofs.Guarding.{ArePlaced, IsPlaced, IsUse, Refuses, all_both, allowed_both}
 use Rattle.jc_natives.proofs.Guarding.{changes_accessed, got_front, keeps_itself, keeps_new, keeps_written, made_within}
 use Rattle.jc_natives.proofs.Guarding.{natives_of, own_allowed, own_natives, same_found, tested_uses, written_as_large}
 use Rattle.jc_natives.proofs.Reaching.{row_reaches}

@@ -1,14 +1,11 @@
 -- The law of the runtime's name: a member accesses no plain object in it, and what the runtime keeps names applets.
-use Rattle.std.proofs.Common.{◌≡◌, ◌≢◌, ◌⊎◌, inl, inr, ℕ, zero, suc, ◌==◌, ◌&&◌, ◌-◌, ◌<◌, ◌≤◌, not, Bool, true, false}
-use Rattle.std.proofs.Common.{cond, List, [], ◌∷◌, ◌++◌, get_or, length, slice_get, Option, Some, None, refl, sym, ap}
-use Rattle.std.proofs.Common.{subst, ◌∙◌, arith}
+use Rattle.std.proofs.Common.{◌≡◌, ◌≢◌, inl, inr, ℕ, ◌==◌, ◌&&◌, ◌-◌, not, Bool, true, false}
+use Rattle.std.proofs.Common.{cond, List, [], ◌∷◌, length, Option, Some, None, refl, sym, ap}
+use Rattle.std.proofs.Common.{subst, ◌∙◌}
 use Rattle.std.proofs.lemmas.Bool.{eq-eqb, eqb-true}
-use Rattle.std.proofs.lemmas.Option.{none-some, same_Some, slice_get_cases, slice_get_past}
 use Rattle.std.specs.List.{AllByRecursion, list_all}
 use Rattle.std.specs.Option.{option_map, option_map_or}
-use Rattle.jc_api.specs.Member.{ApiMember, member_of}
 use Rattle.jc_api.specs.Numbered.{numbered}
-use Rattle.jc_api.specs.declared.class.ApiClass.TheVariants.{Applet}
 use Rattle.jc_firewall.specs.Verdict.{runtime, runtime_context}
 use Rattle.jc_link.specs.Linked.{World}
 use Rattle.std.specs.Prelude.{⊤}
@@ -34,18 +31,18 @@ use Rattle.jc_natives.proofs.Spared.{IsApartWork, SparesOwn, all_throw_own, room
 use Rattle.jc_natives.specs.Apart.{installs_applet, names_applets}
 use Rattle.jc_natives.specs.Applets.{aid_object, owner_of}
 use Rattle.jc_natives.specs.declared.kept.Installing.{Installing}
-use Rattle.jc_natives.specs.Cells.{Write, bare, bared, written}
+use Rattle.jc_natives.specs.Cells.{bare, bared}
 use Rattle.jc_natives.specs.Kept.{Kept, after_install, has_registered, is_instance_number, kept_instances, with_install}
 use Rattle.jc_natives.specs.Meaning.{answer_of, begun, done, ended, meaning, registering, unchanged, with_room, work_of}
 use Rattle.jc_natives.specs.Rows.{natives, row_of}
 use Rattle.jc_natives.specs.Seen.{Seen, arguments_of, seen_of}
 use Rattle.jc_natives.specs.Tests.{tested}
-use Rattle.jc_natives.specs.Work.{Asks, Does, Ending, Makes, NewArray, Work}
+use Rattle.jc_natives.specs.Work.{Asks, Does, Makes, Work}
 use Rattle.jc_natives.specs.declared.kept.Instance.{Instance}
 use Rattle.jc_natives.specs.declared.native.Native.{Native}
-use Rattle.jc_store.specs.Heap.{Heap, Object, object_at, with_new}
+use Rattle.jc_store.specs.Heap.{Heap, Object, object_at}
 use Rattle.jc_store.specs.declared.kind.Mark.TheVariants.{GlobalArray, PermanentEntryPoint, Plain, TemporaryEntryPoint}
-use Rattle.jc_words.specs.Values.{TaggedValue, Word}
+use Rattle.jc_words.specs.Values.{TaggedValue}
 
 unequal : false ≡ true → ⊥
 unequal g = cc

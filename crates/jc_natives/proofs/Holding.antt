@@ -1,7 +1,7 @@
 -- What members write holds no reference that may not be stored: it is words.
 use Rattle.std.proofs.Common.{◌≡◌, ◌≢◌, ◌⊎◌, inl, inr, ℕ, zero, suc, ◌+◌, true, List, [], ◌∷◌, map, replicate, set}
 use Rattle.std.proofs.Common.{Option, Some, None, refl, sym, ap, subst, ◌∙◌}
-use Rattle.std.proofs.lemmas.Option.{none-some, same_Some}
+use Rattle.std.proofs.lemmas.Option.{none-some}
 use Rattle.std.specs.List.{AllByRecursion}
 use Rattle.jc_machine.specs.Natives.{KeepsObjects}
 use Rattle.jc_machine.specs.Storable.{HoldStorable, may_be_held}

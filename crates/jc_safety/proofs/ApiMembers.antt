@@ -44,7 +44,6 @@ use Rattle.jc_link.proofs.ApiTables.{IsDeclared, class_record, declared_token, e
 use Rattle.jc_link.proofs.ApiTables.{is_declared, room}
 use Rattle.jc_link.specs.Sound.{IsHeir}
 use Rattle.jc_link.specs.Sound.IsHeir.{behind, itself}
-use Rattle.jc_names.specs.Names as names
 use Rattle.jc_names.specs.Names.{api_home, home_of}
 use Rattle.jc_names.specs.declared.name.ClassName.{ClassName}
 use Rattle.jc_names.specs.declared.name.ClassName.TheVariants as classes

@@ -54,7 +54,6 @@ use Rattle.jc_machine.specs.Calls.{static_target}
 use Rattle.jc_machine.specs.Calls.{virtual_target, with_arguments, with_receiver}
 use Rattle.jc_machine.specs.Going.{Here, asking, check, judged, on_object, on_reference, on_some, require, wanting}
 use Rattle.jc_machine.specs.Lookup.{are_of_types, body_at, class_of, instruction_at, is_of_class, is_of_type}
-use Rattle.jc_machine.specs.Lookup.{is_shared_interface}
 use Rattle.jc_machine.specs.Lookup.{leads_to}
 use Rattle.jc_machine.specs.Machine.{Machine, Stepped, Surroundings}
 use Rattle.jc_machine.specs.Runtime.{class_cast_exception}

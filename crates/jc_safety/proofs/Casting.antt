@@ -21,14 +21,14 @@ use Rattle.jc_step.specs.Words.{takes}
 use Rattle.jc_step.specs.declared.row.Demand.TheVariants.{Reference}
 use Rattle.jc_step.specs.declared.row.Given.TheVariants.{Exactly}
 use Rattle.jc_store.specs.Heap as heaps
-use Rattle.jc_store.specs.Heap.{Heap, object_at}
+use Rattle.jc_store.specs.Heap.{object_at}
 use Rattle.jc_store.specs.declared.kind.ObjectType.{ObjectType}
 use Rattle.jc_store.specs.declared.kind.ObjectType.TheVariants.{BooleanArray, ByteArray, Instance, ReferenceArray, ShortArray}
 use Rattle.jc_types.specs.State.{Types}
 use Rattle.jc_types.specs.declared.ty.Ty.{Ty}
 use Rattle.jc_types.specs.declared.ty.Ty.TheVariants as types
 use Rattle.jc_machine.specs.Going.{Here, gives, judged, on_object, on_reference, require, wanting}
-use Rattle.jc_machine.specs.Lookup.{class_of, component_class, is_instance, is_of_class, is_shared_interface, leads_to}
+use Rattle.jc_machine.specs.Lookup.{class_of, component_class, is_instance, is_of_class, leads_to}
 use Rattle.jc_machine.specs.Machine.{Machine, Stepped, Surroundings}
 use Rattle.jc_machine.specs.Objects.{Test, act_check_cast, act_instance_of, bit, is_array_of_words, on_test, tested}
 use Rattle.jc_machine.specs.Runtime.{class_cast_exception}

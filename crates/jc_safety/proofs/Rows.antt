@@ -1,6 +1,6 @@
 -- What the rows of instructions on objects share: a place of the code, and what their operands are.
 use Rattle.std.proofs.Common.{◌≡◌, ℕ, ℤ, zero, suc, List, [], ◌∷◌, length, take, drop, reverse, set, slice_get}
-use Rattle.std.proofs.Common.{Bool, true, false, Option, Some, None, map, refl, sym, ap, ◌∙◌, subst}
+use Rattle.std.proofs.Common.{Bool, true, Option, Some, None, map, refl, sym, ap, ◌∙◌, subst}
 use Rattle.std.specs.Option.{option_and_then, option_map}
 use Rattle.jc_cap_desc.specs.Shape.{Shape}
 use Rattle.jc_check.specs.Typing.{BranchLeads, Leads}
@@ -18,8 +18,7 @@ use Rattle.jc_step.specs.Words.{takes}
 use Rattle.jc_step.specs.declared.row.Demand.{Demand}
 use Rattle.jc_step.specs.declared.row.Given.TheVariants.{Exactly, Nothing}
 use Rattle.jc_store.specs.Heap as heaps
-use Rattle.jc_store.specs.Heap.{Heap, object_at}
-use Rattle.jc_store.specs.declared.kind.Mark.{Mark}
+use Rattle.jc_store.specs.Heap.{object_at}
 use Rattle.jc_types.specs.State.{Types}
 use Rattle.jc_types.specs.declared.ty.Ty.{Ty}
 use Rattle.jc_machine.specs.Accepted.{linked_as}

@@ -1,8 +1,6 @@
 -- What a rule of the machine comes to is safe: one lemma for each way to go on.
 use Rattle.std.proofs.Common.{◌≡◌, ℕ, List, Option, Some, None, Bool, true, false}
 use Rattle.std.proofs.Common.{refl, sym, subst}
-use Rattle.jc_firewall.specs.declared.access.Access.{Access}
-use Rattle.jc_firewall.specs.declared.access.Facts.{Facts}
 use Rattle.jc_firewall.specs.declared.access.Verdict.{Verdict}
 use Rattle.jc_firewall.specs.declared.access.Verdict.TheVariants.{Allowed, AllowedSwitch, Denied}
 use Rattle.jc_firewall.specs.Verdict.{verdict_of}

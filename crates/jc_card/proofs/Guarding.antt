@@ -1,7 +1,6 @@
 -- Each command of a card is guarded, part by part.
 use Rattle.std.proofs.Common.{◌≡◌, ℕ, Bool, true, false, cond, List, [], ◌++◌, Option, Some, None, IfSome, refl, sym}
-use Rattle.std.proofs.Common.{◌∙◌}
-use Rattle.std.proofs.Common.{subst, is_some, length, ◌∷◌, zero, suc, Result, Ok, Err}
+use Rattle.std.proofs.Common.{◌∙◌, subst, is_some, length, ◌∷◌, zero, suc, Result, Ok, Err}
 use Rattle.std.specs.Option.{option_and_then, option_map, option_map_or}
 use Rattle.jc_link.specs.Linked.{World}
 use Rattle.jc_names.specs.declared.name.MethodName.{MethodName}
@@ -28,8 +27,7 @@ use Rattle.jc_card.specs.Commands as commands
 use Rattle.jc_card.specs.Install as installs
 use Rattle.jc_card.specs.Load.{IsLoad}
 use Rattle.jc_card.specs.Parts.{Ended, Left, Normally, and_then, arguments_of, behind, call_applet, call_method}
-use Rattle.jc_card.specs.Parts.{call_on}
-use Rattle.jc_card.specs.Parts.{call_selected, clear, gives, member_called, write}
+use Rattle.jc_card.specs.Parts.{call_on, call_selected, clear, gives, member_called, write}
 use Rattle.jc_card.specs.declared.calls.AppletCall.{AppletCall}
 use Rattle.jc_card.specs.declared.calls.AppletCall.TheVariants as calls
 use Rattle.jc_card.specs.declared.fault.InstallFault.TheVariants as faults

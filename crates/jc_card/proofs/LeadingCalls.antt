@@ -1,7 +1,6 @@
 -- Where the accesses of a call of the runtime's lead.
-use Rattle.std.proofs.Common.{◌≡◌, ℕ, zero, suc, ◌+◌, List, [], ◌∷◌, ◌++◌, length}
-use Rattle.std.proofs.Common.{Option, Some, None, Bool, true, false}
-use Rattle.std.proofs.Common.{cond, refl, ap, ◌∙◌, ◌&&◌, IfSome}
+use Rattle.std.proofs.Common.{◌≡◌, ℕ, zero, suc, ◌+◌, List, [], ◌∷◌, ◌++◌, length, Option, Some, None, Bool, true}
+use Rattle.std.proofs.Common.{false, cond, refl, ap, ◌∙◌, ◌&&◌, IfSome}
 use Rattle.jc_cap_desc.specs.Shape.{Shape}
 use Rattle.jc_link.specs.Built.{IsBuilt}
 use Rattle.jc_machine.specs.Apart.{AreNativesApart, HaveApiMembers, IsApart, IsApartAnswer, IsSetApart}
@@ -10,8 +9,8 @@ use Rattle.jc_natives.specs.Apart.{names_applets}
 use Rattle.std.proofs.Common.{append-nil, sym, subst}
 use Rattle.jc_card.proofs.Leading.{left_at_end}
 use Rattle.jc_card.proofs.Sparing.{spared}
-use Rattle.jc_card.specs.Accesses.{Claims, IsApartCard, IsLawfulStep, IsRunning, RunsAs, Steps, call_as, law_of_accesses}
-use Rattle.jc_card.specs.Accesses.{law_of_plain_objects, machine_at_end, machine_with}
+use Rattle.jc_card.specs.Accesses.{Claims, IsApartCard, IsLawfulStep, IsRunning, RunsAs, Steps, call_as}
+use Rattle.jc_card.specs.Accesses.{law_of_accesses, law_of_plain_objects, machine_at_end, machine_with}
 use Rattle.jc_card.specs.Accesses.RunsAs.{by_method, by_native, by_none}
 use Rattle.jc_card.specs.Accesses.Steps.{last, onward, spent}
 use Rattle.jc_card.specs.Card.{left_by}

@@ -1,8 +1,7 @@
 -- Where the runtime's own accesses lead: what it writes, and what it clears.
-use Rattle.std.proofs.Common.{◌≡◌, ℕ, zero, suc, ◌+◌, List, [], ◌∷◌, ◌++◌, map, set, length, Option, Some, None}
-use Rattle.std.proofs.Common.{Bool, true, false, cond, refl, sym, ap, subst, ◌∙◌, inl, inr, ◌⊎◌, slice_get, IfSome}
-use Rattle.std.proofs.Common.{◌≢◌, IsSome}
-use Rattle.std.proofs.Common.{◌&&◌}
+use Rattle.std.proofs.Common.{◌≡◌, ℕ, zero, suc, ◌+◌, List, [], ◌∷◌, ◌++◌, map, set, length, Option, Some, None, Bool}
+use Rattle.std.proofs.Common.{true, false, cond, refl, sym, ap, subst, ◌∙◌, inl, inr, ◌⊎◌, slice_get, IfSome, ◌≢◌}
+use Rattle.std.proofs.Common.{IsSome, ◌&&◌}
 use Rattle.std.proofs.lemmas.Option.{none-some}
 use Rattle.jc_names.specs.declared.owner.Owner.{Owner}
 use Rattle.jc_store.specs.Heap.{is_same_event}

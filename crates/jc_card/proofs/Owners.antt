@@ -1,7 +1,6 @@
 -- Whose an instance is, which number it has, and that the runtime's arrays aren't plain.
-use Rattle.std.proofs.Common.{nat_lt, length, is_some}
-use Rattle.std.proofs.Common.{◌≡◌, ℕ, Bool, true, false, cond, List, [], Option, Some, None, IfSome, refl, sym, ◌∙◌}
-use Rattle.std.proofs.Common.{subst, ◌∷◌, suc}
+use Rattle.std.proofs.Common.{nat_lt, length, is_some, ◌≡◌, ℕ, Bool, true, false, cond, List, [], Option, Some, None}
+use Rattle.std.proofs.Common.{IfSome, refl, sym, ◌∙◌, subst, ◌∷◌, suc}
 use Rattle.std.specs.Option.{option_and_then, option_map, option_map_or}
 use Rattle.jc_machine.specs.Machine.{Touch}
 use Rattle.jc_names.specs.declared.name.MethodName.{MethodName}
@@ -16,8 +15,7 @@ use Rattle.jc_card.specs.Card.{CardState, selected_instance, with_selected}
 use Rattle.jc_card.specs.Commands as commands
 use Rattle.jc_card.specs.Install as installs
 use Rattle.jc_card.specs.Parts.{Ended, Left, Normally, and_then, arguments_of, behind, call_applet, call_method}
-use Rattle.jc_card.specs.Parts.{call_on}
-use Rattle.jc_card.specs.Parts.{call_selected, clear, gives, member_called}
+use Rattle.jc_card.specs.Parts.{call_on, call_selected, clear, gives, member_called}
 use Rattle.jc_card.specs.declared.calls.AppletCall.{AppletCall}
 use Rattle.jc_card.specs.declared.calls.AppletCall.TheVariants as calls
 use Rattle.jc_card.specs.declared.fault.InstallFault.{InstallFault}

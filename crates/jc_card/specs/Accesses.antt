@@ -15,8 +15,7 @@ use Rattle.jc_machine.specs.Going.{facts_for}
 use Rattle.jc_machine.specs.Guarded.{ChangesAccessed, IsGuarded, KeepsPlain, are_allowed, asked_by, is_allowed}
 use Rattle.jc_machine.specs.Guarded.{machine_of, may_change}
 use Rattle.jc_machine.specs.Machine.{ByRuntime, Ends, Frame, Machine, MethodPlace, NativeAnswer, NativeCall}
-use Rattle.jc_machine.specs.Machine.{Next, Outcome}
-use Rattle.jc_machine.specs.Machine.{Stuck, Surroundings, Throws, Touch, UsedUp}
+use Rattle.jc_machine.specs.Machine.{Next, Outcome, Stuck, Surroundings, Throws, Touch, UsedUp}
 use Rattle.jc_machine.specs.Natives.{IsGuardedAnswer, KeepsObjects}
 use Rattle.jc_machine.specs.Runtime.{apdu_buffer, install_array}
 use Rattle.jc_machine.specs.Step.{defensive_step}

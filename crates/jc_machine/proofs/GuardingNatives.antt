@@ -1,6 +1,6 @@
 -- New frames, and native members and what they call, keep the law of accesses, where native members keep theirs.
-use Rattle.std.proofs.Common.{◌≡◌, ℕ, ◌+◌, Bool, true, false, not, List, [], ◌∷◌, ◌++◌, length, Option, Some, None, cond}
-use Rattle.std.proofs.Common.{refl, sym, ap, ◌∙◌, subst, ◌&&◌, append-nil, eqb-true, nat_lt}
+use Rattle.std.proofs.Common.{◌≡◌, ℕ, ◌+◌, Bool, true, false, not, List, [], ◌∷◌, ◌++◌, length, Option, Some, None}
+use Rattle.std.proofs.Common.{cond, refl, sym, ap, ◌∙◌, subst, ◌&&◌, append-nil, eqb-true, nat_lt}
 use Rattle.std.proofs.lemmas.Bool.{and_from, and_parts}
 use Rattle.std.specs.List.{AllByRecursion}
 use Rattle.std.specs.Option.{option_and_then}

@@ -28,9 +28,8 @@ use Rattle.jc_firewall.specs.declared.access.Access.TheVariants.{InvokeVirtual}
 use Rattle.jc_firewall.specs.declared.access.Verdict.{Verdict}
 use Rattle.jc_firewall.specs.declared.access.Verdict.TheVariants.{Allowed}
 use Rattle.jc_machine.specs.Lookup.{fields_of}
-use Rattle.jc_machine.specs.Machine.{ByCode, Calls, Ends, Gives, Limits, Machine, NativeAnswer, NativeCall}
-use Rattle.jc_machine.specs.Machine.{Natives, Next}
-use Rattle.jc_machine.specs.Machine.{Outcome, Stuck, Surroundings, Throws, Touch, UsedUp}
+use Rattle.jc_machine.specs.Machine.{ByCode, Calls, Ends, Gives, Limits, Machine, NativeAnswer, NativeCall, Natives}
+use Rattle.jc_machine.specs.Machine.{Next, Outcome, Stuck, Surroundings, Throws, Touch, UsedUp}
 use Rattle.jc_machine.specs.Runtime.{RuntimeObject, runtime_objects}
 use Rattle.jc_machine.specs.Step.{defensive_step, CallEnd, Gave, RanOut, Start, Threw, WasStuck, runtime_call}
 use Rattle.jc_machine.specs.ExamplePackages.{client, probe, server}

@@ -9,9 +9,8 @@ use Rattle.jc_firewall.specs.Verdict.{runtime_context, verdict_of}
 use Rattle.jc_firewall.specs.declared.access.Access.{Access}
 use Rattle.jc_firewall.specs.declared.access.Access.TheVariants.{ArrayLength, CheckCast, GetField, InstanceOf}
 use Rattle.jc_firewall.specs.declared.access.Access.TheVariants.{InvokeInterface, InvokeVirtual, LoadComponent}
-use Rattle.jc_firewall.specs.declared.access.Access.TheVariants.{PutField}
-use Rattle.jc_firewall.specs.declared.access.Access.TheVariants.{PutReferenceField, PutStaticReference, StoreComponent}
-use Rattle.jc_firewall.specs.declared.access.Access.TheVariants.{StoreReference, Throw}
+use Rattle.jc_firewall.specs.declared.access.Access.TheVariants.{PutField, PutReferenceField, PutStaticReference}
+use Rattle.jc_firewall.specs.declared.access.Access.TheVariants.{StoreComponent, StoreReference, Throw}
 use Rattle.jc_firewall.specs.declared.access.Verdict.{Verdict}
 use Rattle.jc_firewall.specs.declared.access.Verdict.TheVariants.{Allowed, AllowedSwitch, Denied}
 use Rattle.jc_names.specs.declared.owner.Owner.{Owner}

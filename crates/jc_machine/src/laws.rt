@@ -6,7 +6,6 @@ ghost use Rattle.jc_api.specs.NoClash.{HasNoClash};
 ghost use Rattle.jc_cap_desc.specs.Shape.{MethodBody, Shape};
 ghost use Rattle.jc_classes.specs.Limits.{IsSmall};
 ghost use Rattle.jc_check.specs.Checked.{IsMethodTyped, IsPackageCarried, IsPackageTyped};
-ghost use Rattle.jc_classes.specs.Limits.{IsSmall};
 ghost use Rattle.jc_code.specs.Instructions.{instr_at};
 ghost use Rattle.jc_code.specs.Listing.{IsListing, PlacedInstr, placed_at};
 ghost use Rattle.jc_code.specs.declared.instr.Instr.{Instr};

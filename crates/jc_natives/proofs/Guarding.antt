@@ -20,17 +20,14 @@ use Rattle.jc_machine.specs.Guarded.{ChangesAccessed, IsAccessed, allowed, are_a
 use Rattle.jc_machine.specs.Guarded.{IsJudged, asked_by, is_last_denied, is_runtimes, may_change}
 use Rattle.jc_machine.specs.Lookup.{is_array}
 use Rattle.jc_machine.specs.Machine.{By, ByCode, ByRuntime, Calls, Limits, NativeCall, Touch}
-use Rattle.jc_machine.specs.Natives.{IsStill, IsWithin}
-use Rattle.jc_machine.specs.Natives.{KeepsObjects, setting_for}
+use Rattle.jc_machine.specs.Natives.{IsStill, IsWithin, KeepsObjects, setting_for}
 use Rattle.jc_machine.specs.Runtime.{security_exception}
 use Rattle.jc_natives.proofs.Bare.{bare_object, both}
 use Rattle.jc_natives.proofs.Getting.{new_object, other_object}
 use Rattle.jc_natives.proofs.Putting.{put_none, put_some, same_or_not}
 use Rattle.jc_natives.specs.Cells.{Write, bare, has_room, put, put_all, written}
 use Rattle.jc_natives.specs.Kept.{Kept}
-use Rattle.jc_natives.specs.Meaning.{has_words}
-use Rattle.jc_natives.specs.Meaning.{meaning, registering, touch_by}
-use Rattle.jc_natives.specs.Meaning.{own_touch, own_touch_of, own_touches}
+use Rattle.jc_natives.specs.Meaning.{has_words, meaning, registering, touch_by, own_touch, own_touch_of, own_touches}
 use Rattle.jc_natives.specs.Seen.{seen_of}
 use Rattle.jc_natives.specs.Tests.{Tested, access_of, by_verdict, facts_of, followed, goes_on, on_object, ranged, test}
 use Rattle.jc_natives.specs.Tests.{tested, touch_of, used}

@@ -1,7 +1,6 @@
 -- Of the refusals that apply to a load the one with the least number is told.
-use Rattle.std.proofs.Common.{◌≤◌}
-use Rattle.std.proofs.Common.{◌≡◌, ◌⊎◌, ℕ, ◌≢◌, true, List, Some, Result, Ok, Err, inl, inr}
-use Rattle.std.proofs.Common.{refl, sym, ap, ◌∙◌, subst, arith}
+use Rattle.std.proofs.Common.{◌≤◌, ◌≡◌, ◌⊎◌, ℕ, ◌≢◌, true, List, Some, Result, Ok, Err, inl, inr, refl, sym, ap, ◌∙◌}
+use Rattle.std.proofs.Common.{subst, arith}
 use Rattle.std.proofs.lemmas.Option.{none-some}
 use Rattle.jc_base.specs.Cutting.{Piece, Splits, answer}
 use Rattle.jc_base.specs.Fault.{number_of}
@@ -17,8 +16,7 @@ use Rattle.jc_link.specs.Target.{pool_targets}
 use Rattle.jc_link.specs.declared.target.PoolTarget.{PoolTarget}
 use Rattle.jc_cap_desc.specs.Package.{package_of}
 use Rattle.jc_cap_desc.specs.Shape.{Package, Shape}
-use Rattle.jc_cert.specs.Cert.{Row}
-use Rattle.jc_cert.specs.Cert.{Stated}
+use Rattle.jc_cert.specs.Cert.{Row, Stated}
 use Rattle.jc_check.specs.Carried.{Carries}
 use Rattle.jc_check.specs.Checked.{CarriesPackage, IsFirstRefusal, stated_for}
 use Rattle.jc_check.specs.Checked.IsFirstRefusal.{method, stray}

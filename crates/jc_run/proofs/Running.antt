@@ -21,8 +21,7 @@ use Rattle.jc_run.specs.Play.{answer_line}
 use Rattle.jc_run.specs.Play.EndsAt.{bad, memory, source, unwritten}
 use Rattle.jc_run.specs.Play.Plays.{ended, line, over, unread}
 use Rattle.jc_run.specs.Runs.{AreGuarded, IsCardRun, IsDone, IsGuarded, IsKeptApart, accesses_in, accesses_of}
-use Rattle.jc_run.specs.Runs.{answer_lines}
-use Rattle.jc_run.specs.Runs.{commands_in}
+use Rattle.jc_run.specs.Runs.{answer_lines, commands_in}
 use Rattle.jc_run.specs.Runs.IsCardRun.{command, nothing}
 use Rattle.jc_script.specs.Script.{Apdu, Asks, Bad, Cells, Install, Load, Objects, Reset, Script, ScriptCommand}
 use Rattle.jc_script.specs.Script.{ScriptLine, Skipped, line_at, script_from, with_line}

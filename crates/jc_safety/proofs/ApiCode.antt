@@ -1,7 +1,6 @@
 -- No code of packages is found by classes of the API: what is above them is of the API, and so are their methods.
-use Rattle.std.proofs.Common.{take, [], ◌∷◌, ◌++◌, ◌<◌}
-use Rattle.std.proofs.Common.{◌≡◌, ℕ, zero, suc, ◌-◌, Bool, true, false, cond, ◌||◌, List, Option, Some, None, is_some}
-use Rattle.std.proofs.Common.{nat_lt, slice_get, refl, sym, ap, ◌∙◌, arith}
+use Rattle.std.proofs.Common.{take, [], ◌∷◌, ◌++◌, ◌<◌, ◌≡◌, ℕ, zero, suc, ◌-◌, Bool, true, false, cond, ◌||◌, List}
+use Rattle.std.proofs.Common.{Option, Some, None, is_some, nat_lt, slice_get, refl, sym, ap, ◌∙◌, arith}
 use Rattle.std.proofs.lemmas.Bool.{le-ltb}
 use Rattle.std.specs.List.{find}
 use Rattle.std.specs.Option.{option_and_then, option_map, option_map_or}

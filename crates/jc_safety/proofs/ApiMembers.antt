@@ -1,8 +1,7 @@
 -- The members of the API in a built world are what its tables say.
-use Rattle.std.proofs.Common.{◌≡◌, ◌⊎◌, inl, inr, ℕ, zero, suc, ◌+◌, ◌-◌, ◌<◌, ◌≤◌, ◌==◌, List, [], ◌∷◌, length}
-use Rattle.std.proofs.Common.{Bool, true, false, cond, ◌&&◌, ◌||◌, Option, Some, None, nat_lt, slice_get}
-use Rattle.std.proofs.Common.{unwrap_or}
-use Rattle.std.proofs.Common.{refl, sym, ap, ◌∙◌, subst, arith, eqb-true}
+use Rattle.std.proofs.Common.{◌≡◌, ◌⊎◌, inl, inr, ℕ, zero, suc, ◌+◌, ◌-◌, ◌<◌, ◌≤◌, ◌==◌, List, [], ◌∷◌, length, Bool}
+use Rattle.std.proofs.Common.{true, false, cond, ◌&&◌, ◌||◌, Option, Some, None, nat_lt, slice_get, unwrap_or, refl}
+use Rattle.std.proofs.Common.{sym, ap, ◌∙◌, subst, arith, eqb-true}
 use Rattle.std.proofs.lemmas.Bool.{eq-eqb, lt-ltb, ltb-true}
 use Rattle.std.proofs.lemmas.List.Folds.{find_at}
 use Rattle.std.proofs.lemmas.Option.{slice_get_within}
@@ -27,13 +26,11 @@ use Rattle.jc_cap_class.specs.declared.record.RecordBody.TheVariants.{Class, Int
 use Rattle.jc_cap_class.specs.declared.record.VirtualTable.{VirtualTable}
 use Rattle.jc_cap_desc.specs.Shape.{ClassShape, Shape}
 use Rattle.jc_classes.specs.Api.{api_shape, api_world, class_in_api, each_below, is_static, last_member, method_in}
-use Rattle.jc_classes.specs.Api.{number_to}
-use Rattle.jc_classes.specs.Api.{public_table}
+use Rattle.jc_classes.specs.Api.{number_to, public_table}
 use Rattle.jc_classes.specs.Growth.{IsMethodWithin, KeepsAllLookups}
 use Rattle.jc_classes.specs.Members.{DeclaredMethod, method_at}
-use Rattle.jc_classes.specs.Methods.{declared_above, entry_visit, has_method, method_name}
-use Rattle.jc_classes.specs.Methods.{method_there, package_visible}
-use Rattle.jc_classes.specs.Methods.{record_visit, table_visit, virtual_method_of, virtual_visit}
+use Rattle.jc_classes.specs.Methods.{declared_above, entry_visit, has_method, method_name, method_there}
+use Rattle.jc_classes.specs.Methods.{package_visible, record_visit, table_visit, virtual_method_of, virtual_visit}
 use Rattle.jc_classes.specs.Subtype.{is_class_at, is_class_below}
 use Rattle.jc_classes.specs.Walk.{found_from, most_classes, walk}
 use Rattle.jc_classes.specs.World.{class_at, superclass_of}

@@ -1,7 +1,6 @@
 -- Instructions on arrays are safe.
-use Rattle.std.proofs.Common.{◌≡◌, ℕ, ◌<◌, List, [], ◌∷◌, length, drop, set, slice_get}
-use Rattle.std.proofs.Common.{Bool, true, false, ◌&&◌, not, Option, Some, nat_lt, pos}
-use Rattle.std.proofs.Common.{refl, sym, ap, ◌∙◌, subst}
+use Rattle.std.proofs.Common.{◌≡◌, ℕ, ◌<◌, List, [], ◌∷◌, length, drop, set, slice_get, Bool, true, false, ◌&&◌, not}
+use Rattle.std.proofs.Common.{Option, Some, nat_lt, pos, refl, sym, ap, ◌∙◌, subst}
 use Rattle.std.proofs.lemmas.Bool.{lt-ltb, ltb-true}
 use Rattle.std.specs.Option.{option_map_or}
 use Rattle.std.specs.Prelude.{int_lt}
@@ -20,16 +19,19 @@ use Rattle.jc_step.specs.declared.row.Given.TheVariants.{ComponentOf, Exactly, N
 use Rattle.jc_store.specs.Heap as heaps
 use Rattle.jc_store.specs.Heap.{Heap, object_at}
 use Rattle.jc_store.specs.declared.kind.ObjectType.{ObjectType}
-use Rattle.jc_store.specs.declared.kind.ObjectType.TheVariants.{BooleanArray, ByteArray, Instance, ReferenceArray, ShortArray}
+use Rattle.jc_store.specs.declared.kind.ObjectType.TheVariants.{BooleanArray, ByteArray, Instance, ReferenceArray}
+use Rattle.jc_store.specs.declared.kind.ObjectType.TheVariants.{ShortArray}
 use Rattle.jc_types.specs.State.{Types}
 use Rattle.jc_types.specs.Ty.{is_below}
 use Rattle.jc_types.specs.declared.ty.Ty.{Ty}
 use Rattle.jc_types.specs.declared.ty.Ty.TheVariants as types
-use Rattle.jc_machine.specs.Arrays.{act_length, act_load, act_store_reference, act_store_word, is_array_of, is_in_bounds, loaded_as, stored_as}
+use Rattle.jc_machine.specs.Arrays.{act_length, act_load, act_store_reference, act_store_word, is_array_of}
+use Rattle.jc_machine.specs.Arrays.{is_in_bounds, loaded_as, stored_as}
 use Rattle.jc_machine.specs.Going.{Here, accessed, check, gives, on_object, on_some, require}
-use Rattle.jc_machine.specs.Lookup.{class_of, component_class, is_array, is_byte, is_instance, is_of_class, is_short_array}
-use Rattle.jc_machine.specs.Lookup.{is_word, leads_to}
-use Rattle.jc_firewall.specs.declared.access.Access.TheVariants.{ArrayLength, LoadComponent, StoreComponent, StoreReference}
+use Rattle.jc_machine.specs.Lookup.{class_of, component_class, is_array, is_byte, is_instance, is_of_class}
+use Rattle.jc_machine.specs.Lookup.{is_short_array, is_word, leads_to}
+use Rattle.jc_firewall.specs.declared.access.Access.TheVariants.{ArrayLength, LoadComponent, StoreComponent}
+use Rattle.jc_firewall.specs.declared.access.Access.TheVariants.{StoreReference}
 use Rattle.jc_machine.specs.Machine.{Machine, Surroundings}
 use Rattle.jc_machine.specs.Runtime.{array_index_exception, array_store_exception}
 use Rattle.jc_machine.specs.Typed.{CellsTyped, HoldTypes, IsOperand, IsTyped, has_type}
@@ -43,7 +45,8 @@ use Rattle.jc_safety.proofs.Rows.{LeadsTo, below, here, gives_it, held, leaves_s
 use Rattle.jc_safety.proofs.Rows.{orders, safe_accessed, safe_null, safe_required, safe_to_store, state, world}
 use Rattle.jc_safety.proofs.Safe.{IsSafe, safe_check, safe_some}
 use Rattle.jc_safety.proofs.Goes.{room_left, safe_gives}
-use Rattle.jc_safety.proofs.Taking.{Applied, Meets, any_object, leaves_nothing, meets_value, take_one, take_three, take_two, word_case}
+use Rattle.jc_safety.proofs.Taking.{Applied, Meets, any_object, leaves_nothing, meets_value, take_one, take_three}
+use Rattle.jc_safety.proofs.Taking.{take_two, word_case}
 use Rattle.jc_safety.proofs.Thrown.{array_index, array_store}
 use Rattle.jc_safety.proofs.Upward.{holds_below, leads_up}
 use Rattle.jc_safety.proofs.Writing.{IsNumber, byte_number, ref_case, typed_at}

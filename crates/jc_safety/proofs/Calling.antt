@@ -1,8 +1,7 @@
 -- Calls are safe: each instruction that calls a method.
-use Rattle.std.proofs.Common.{◌≡◌, ℕ, zero, suc, ◌+◌, ◌-◌, ◌<◌, ◌≤◌, ◌==◌, List, [], ◌∷◌, ◌++◌, length, map, take}
-use Rattle.std.proofs.Common.{drop, reverse}
-use Rattle.std.proofs.Common.{Bool, true, false, Option, Some, None, nat_lt, slice_get}
-use Rattle.std.proofs.Common.{refl, sym, ap, ◌∙◌, subst, arith, length-drop}
+use Rattle.std.proofs.Common.{◌≡◌, ℕ, zero, suc, ◌+◌, ◌-◌, ◌<◌, ◌≤◌, ◌==◌, List, [], ◌∷◌, ◌++◌, length, map, take, drop}
+use Rattle.std.proofs.Common.{reverse, Bool, true, false, Option, Some, None, nat_lt, slice_get, refl, sym, ap, ◌∙◌}
+use Rattle.std.proofs.Common.{subst, arith, length-drop}
 use Rattle.std.proofs.lemmas.Bool.{ltb-false}
 use Rattle.std.proofs.lemmas.List.{reverse-append}
 use Rattle.std.specs.Option.{option_and_then}
@@ -13,8 +12,7 @@ use Rattle.jc_base.specs.declared.declared_type.ReturnType.TheVariants.{Value, V
 use Rattle.jc_cap_desc.specs.Shape.{Shape}
 use Rattle.jc_cap_pool.specs.declared.entry.PoolEntry.{PoolEntry}
 use Rattle.jc_classes.specs.Members.{DeclaredMethod}
-use Rattle.jc_classes.specs.Methods.{interface_method_of, interface_visit, public_method_of}
-use Rattle.jc_classes.specs.Methods.{virtual_method_of}
+use Rattle.jc_classes.specs.Methods.{interface_method_of, interface_visit, public_method_of, virtual_method_of}
 use Rattle.jc_classes.specs.Methods.{package_visible}
 use Rattle.jc_classes.specs.Walk.{found}
 use Rattle.jc_code.specs.declared.instr.Instr.{Instr}
@@ -48,13 +46,11 @@ use Rattle.jc_types.specs.Ty.{type_of_declared}
 use Rattle.jc_types.specs.declared.ty.Ty.{Ty}
 use Rattle.jc_types.specs.declared.ty.Ty.TheVariants as types
 use Rattle.jc_machine.specs.Reading.{Pointwise}
-use Rattle.jc_machine.specs.Calls.{act_call, act_interface, act_of_interface, act_special}
-use Rattle.jc_machine.specs.Calls.{act_static_call, act_virtual, found_for, has_interface, invokes, special_target}
-use Rattle.jc_machine.specs.Calls.{static_target}
-use Rattle.jc_machine.specs.Calls.{virtual_target, with_arguments, with_receiver}
+use Rattle.jc_machine.specs.Calls.{act_call, act_interface, act_of_interface, act_special, act_static_call, act_virtual}
+use Rattle.jc_machine.specs.Calls.{found_for, has_interface, invokes, special_target, static_target, virtual_target}
+use Rattle.jc_machine.specs.Calls.{with_arguments, with_receiver}
 use Rattle.jc_machine.specs.Going.{Here, asking, check, judged, on_object, on_reference, on_some, require, wanting}
-use Rattle.jc_machine.specs.Lookup.{are_of_types, body_at, class_of, instruction_at, is_of_class, is_of_type}
-use Rattle.jc_machine.specs.Lookup.{leads_to}
+use Rattle.jc_machine.specs.Lookup.{are_of_types, body_at, class_of, instruction_at, is_of_class, is_of_type, leads_to}
 use Rattle.jc_machine.specs.Machine.{Machine, Stepped, Surroundings}
 use Rattle.jc_machine.specs.Runtime.{class_cast_exception}
 use Rattle.jc_machine.specs.Typed.{HoldTypes, IsEffect, IsOperand, IsTyped, with_result_type}
@@ -66,8 +62,7 @@ use Rattle.jc_safety.proofs.Ground.{Ground}
 use Rattle.jc_safety.proofs.Lists.{and_true, drop_points, same_length}
 use Rattle.jc_safety.proofs.Members.{HaveMembers}
 use Rattle.jc_safety.proofs.Natives.{IsMade, class_made, concrete_is, found_method, gives_by, heir_below, below_heir}
-use Rattle.jc_safety.proofs.Natives.{instance_begins}
-use Rattle.jc_safety.proofs.Natives.{invokes_safe, is_object, static_begins, type_there}
+use Rattle.jc_safety.proofs.Natives.{instance_begins, invokes_safe, is_object, static_begins, type_there}
 use Rattle.jc_safety.proofs.References.{leads_reference}
 use Rattle.jc_safety.proofs.Returning.{of_declared}
 use Rattle.jc_safety.proofs.Rows as rows

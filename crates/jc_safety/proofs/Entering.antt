@@ -1,6 +1,5 @@
 -- A call that is entered: its caller waits, and the frame of the method that is called runs.
-use Rattle.std.proofs.Common.{◌≡◌, ℕ, ◌+◌, ◌≤◌, List, ◌∷◌, length}
-use Rattle.std.proofs.Common.{Bool, true, false, cond, not, ◌&&◌, Option, Some}
+use Rattle.std.proofs.Common.{◌≡◌, ℕ, ◌+◌, ◌≤◌, List, ◌∷◌, length, Bool, true, false, cond, not, ◌&&◌, Option, Some}
 use Rattle.std.proofs.Common.{sym, ap, ◌∙◌, subst}
 use Rattle.std.specs.Option.{option_and_then, option_map_or}
 use Rattle.jc_cap_desc.specs.Shape.{MethodBody, Shape}
@@ -28,7 +27,8 @@ use Rattle.jc_machine.specs.Runtime.{HasRuntimeObjects}
 use Rattle.jc_machine.specs.Typed.{HaveTypes, HeapTyped, HoldTypes, IsEffect, IsPlaced, IsTyped, IsTypedBeside}
 use Rattle.jc_machine.specs.Typed.{StaticsTyped, WaitsTyped, given_by, with_result_type}
 use Rattle.jc_words.specs.Values.{TaggedValue}
-use Rattle.jc_safety.proofs.Callees.{MayCall, abstract_is, begins_typed, its_body, its_header, not_so, runs, same_declared, the_some}
+use Rattle.jc_safety.proofs.Callees.{MayCall, abstract_is, begins_typed, its_body, its_header, not_so, runs}
+use Rattle.jc_safety.proofs.Callees.{same_declared, the_some}
 use Rattle.jc_safety.proofs.Goes.{placed}
 use Rattle.jc_safety.proofs.Ground.{Ground, MethodOf, method_of_code}
 use Rattle.jc_safety.proofs.Growing.{keeps_self, operands_still, types_still, waiting_still}

@@ -31,8 +31,8 @@ use Rattle.jc_store.specs.Heap.{Heap, object_at}
 use Rattle.jc_types.specs.State.{Types}
 use Rattle.jc_types.specs.Ty.{type_of_declared}
 use Rattle.jc_machine.specs.Arrays.{loaded_as, stored_as}
-use Rattle.jc_machine.specs.Fields.{act_field, act_get_static, act_on_target, act_put_static, field_target, of_class, of_objects}
-use Rattle.jc_machine.specs.Fields.{put_static, static_at, stored_in_static, with_static}
+use Rattle.jc_machine.specs.Fields.{act_field, act_get_static, act_on_target, act_put_static, field_target, of_class}
+use Rattle.jc_machine.specs.Fields.{of_objects, put_static, static_at, stored_in_static, with_static}
 use Rattle.jc_machine.specs.Going.{Here, check, leaves_operands, on_some, on_top}
 use Rattle.jc_machine.specs.Lookup.{fields_of, is_of_type, leads_to}
 use Rattle.jc_machine.specs.Machine.{Machine, Stepped, Surroundings}

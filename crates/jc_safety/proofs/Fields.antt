@@ -1,7 +1,6 @@
 -- Instructions on fields are safe.
-use Rattle.std.proofs.Common.{◌≡◌, ℕ, zero, suc, ◌<◌, List, [], ◌∷◌, length, set, slice_get, drop}
-use Rattle.std.proofs.Common.{Bool, true, Option, Some, nat_lt, refl, sym, ap, ◌∙◌, subst}
-use Rattle.std.proofs.Common.{arith}
+use Rattle.std.proofs.Common.{◌≡◌, ℕ, zero, suc, ◌<◌, List, [], ◌∷◌, length, set, slice_get, drop, Bool, true, Option}
+use Rattle.std.proofs.Common.{Some, nat_lt, refl, sym, ap, ◌∙◌, subst, arith}
 use Rattle.std.proofs.lemmas.Bool.{lt-ltb}
 use Rattle.jc_api.specs.declared.class.ApiClass.TheVariants as api
 use Rattle.jc_base.specs.declared.declared_type.DeclaredType.{DeclaredType}
@@ -23,7 +22,8 @@ use Rattle.jc_step.specs.declared.row.Demand.TheVariants.{Below}
 use Rattle.jc_step.specs.declared.row.Given.TheVariants.{Exactly, Nothing}
 use Rattle.jc_store.specs.Heap.{Heap, object_at}
 use Rattle.jc_store.specs.declared.kind.ObjectType.{ObjectType}
-use Rattle.jc_store.specs.declared.kind.ObjectType.TheVariants.{BooleanArray, ByteArray, Instance, ReferenceArray, ShortArray}
+use Rattle.jc_store.specs.declared.kind.ObjectType.TheVariants.{BooleanArray, ByteArray, Instance, ReferenceArray}
+use Rattle.jc_store.specs.declared.kind.ObjectType.TheVariants.{ShortArray}
 use Rattle.jc_types.specs.State.{Types}
 use Rattle.jc_types.specs.Ty.{is_below, type_of_declared}
 use Rattle.jc_types.specs.declared.ty.Ty.{Ty}

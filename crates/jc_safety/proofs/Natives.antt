@@ -1,7 +1,6 @@
 -- Native members are safe: they give what they are declared to give, throw, or make a call that may be made.
-use Rattle.std.proofs.Common.{◌≡◌, ℕ, ◌<◌, List, [], ◌∷◌, length}
-use Rattle.std.proofs.Common.{Bool, true, false, cond, not, ◌&&◌, Option, Some, None, nat_lt}
-use Rattle.std.proofs.Common.{refl, sym, ap, ◌∙◌, subst, arith}
+use Rattle.std.proofs.Common.{◌≡◌, ℕ, ◌<◌, List, [], ◌∷◌, length, Bool, true, false, cond, not, ◌&&◌, Option, Some}
+use Rattle.std.proofs.Common.{None, nat_lt, refl, sym, ap, ◌∙◌, subst, arith}
 use Rattle.std.proofs.lemmas.Bool.{eq-eqb, lt-ltb}
 use Rattle.std.specs.Option.{option_and_then, option_map_or}
 use Rattle.jc_api.specs.Class.{number_of}
@@ -42,9 +41,8 @@ use Rattle.jc_store.specs.declared.kind.ObjectType.TheVariants.{ShortArray}
 use Rattle.jc_types.specs.State.{Types, all_below}
 use Rattle.jc_types.specs.declared.ty.Ty.{Ty}
 use Rattle.jc_machine.specs.Calls.{callback_fits, called_as, calls_back, inner_native_ends, invokes, is_in_place_of}
-use Rattle.jc_machine.specs.Calls.{is_member_or_loaded}
-use Rattle.jc_machine.specs.Calls.{native_ends, native_gives, native_may_begin, native_type, on_native}
-use Rattle.jc_machine.specs.Calls.{type_of_member, virtual_member, with_given}
+use Rattle.jc_machine.specs.Calls.{is_member_or_loaded, native_ends, native_gives, native_may_begin, native_type}
+use Rattle.jc_machine.specs.Calls.{on_native, type_of_member, virtual_member, with_given}
 use Rattle.jc_machine.specs.Going.{Here, leaves_operands, moved}
 use Rattle.jc_machine.specs.Lookup.{are_of_instance, are_of_types, class_of, is_given, is_object_of, is_of_class}
 use Rattle.jc_machine.specs.Lookup.{is_of_type, may_begin_with}

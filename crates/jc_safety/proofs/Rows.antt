@@ -23,8 +23,8 @@ use Rattle.jc_types.specs.State.{Types}
 use Rattle.jc_types.specs.declared.ty.Ty.{Ty}
 use Rattle.jc_machine.specs.Accepted.{linked_as}
 use Rattle.jc_machine.specs.Reading.{Pointwise}
-use Rattle.jc_machine.specs.Going.{Here, accessed, accessed_to_store, asking, branches, gives, leaves_operands, on_target, throws}
-use Rattle.jc_machine.specs.Going.{require, stored_in, storing}
+use Rattle.jc_machine.specs.Going.{Here, accessed, accessed_to_store, asking, branches, gives, leaves_operands}
+use Rattle.jc_machine.specs.Going.{on_target, throws, require, stored_in, storing}
 use Rattle.jc_machine.specs.Lookup.{body_at, target_at}
 use Rattle.jc_machine.specs.Machine.{Machine, Stepped, Surroundings}
 use Rattle.jc_machine.specs.Natives.{IsThrown}

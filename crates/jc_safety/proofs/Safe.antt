@@ -1,6 +1,5 @@
 -- What a rule of the machine comes to is safe: one lemma for each way to go on.
-use Rattle.std.proofs.Common.{◌≡◌, ℕ, List, Option, Some, None, Bool, true, false}
-use Rattle.std.proofs.Common.{refl, sym, subst}
+use Rattle.std.proofs.Common.{◌≡◌, ℕ, List, Option, Some, None, Bool, true, false, refl, sym, subst}
 use Rattle.jc_firewall.specs.declared.access.Verdict.{Verdict}
 use Rattle.jc_firewall.specs.declared.access.Verdict.TheVariants.{Allowed, AllowedSwitch, Denied}
 use Rattle.jc_firewall.specs.Verdict.{verdict_of}
@@ -8,7 +7,8 @@ use Rattle.jc_names.specs.declared.owner.Owner.{Owner}
 use Rattle.jc_words.specs.Values.{TaggedValue}
 use Rattle.jc_store.specs.Heap.{Object}
 use Rattle.jc_machine.specs.Going.{Here, by_verdict, check, facts_of, judged, on_some, require, touched}
-use Rattle.jc_machine.specs.Machine.{Asked, Ends, Machine, Next, Outcome, Stepped, Stuck, Surroundings, Throws, Touch, UsedUp}
+use Rattle.jc_machine.specs.Machine.{Asked, Ends, Machine, Next, Outcome, Stepped, Stuck, Surroundings, Throws, Touch}
+use Rattle.jc_machine.specs.Machine.{UsedUp}
 use Rattle.jc_machine.specs.Natives.{IsThrown}
 use Rattle.jc_machine.specs.Runtime.{security_exception}
 use Rattle.jc_machine.specs.Typed.{IsPlaced, IsTyped, IsTypedBeside, WaitTyped, given_by}

@@ -9,18 +9,18 @@ use Rattle.jc_card.specs.Card.{CardState}
 use Rattle.jc_card.specs.Reads.{CardWords, Holds}
 use Rattle.jc_packages.specs.Source.{HoldSame}
 use Rattle.jc_run.proofs.Ending.{command_done, command_unwritten, none_more}
-use Rattle.jc_run.proofs.Playing.{line_as}
+use Rattle.jc_run.proofs.Playing.{answered_as, line_as}
 use Rattle.jc_run.specs.Answer.{Answered}
 use Rattle.jc_run.specs.Performs.{Answers, AsksSource}
-use Rattle.jc_run.specs.Play.{BadLimits, BadLine, EndsAt, IsLinePlayed, IsPart, NoMemory, NotRead, NotWritten, Over}
-use Rattle.jc_run.specs.Play.{ScriptEnd, SourceFailed, answer_line}
-use Rattle.jc_run.specs.Play.EndsAt.{bad as bad_line, memory, source, unwritten as cut_short}
-use Rattle.jc_run.specs.PrivatePlay.{AppendsPart}
-use Rattle.jc_run.specs.PrivateSession.{EndsLine, HasConversed, IsDoneOrRefused, IsLineHeld, IsLineUnwritten}
-use Rattle.jc_run.specs.PrivateSession.{IsSessionTurn}
+use Rattle.jc_run.specs.Play.{BadLimits, BadLine, NoMemory, NotRead, NotWritten, Over, ScriptEnd, SourceFailed}
+use Rattle.jc_run.specs.Play.{answer_line}
+use Rattle.jc_run.specs.PrivatePlay.{AppendsPart, EndsAt, IsLinePlayed}
+use Rattle.jc_run.specs.PrivatePlay.EndsAt.{bad as bad_line, memory, source, unwritten as cut_short}
+use Rattle.jc_run.specs.PrivateSession.{Converses, ConversesFrom, EndsLine, HasConversed, IsDoneOrRefused, IsLineHeld}
+use Rattle.jc_run.specs.PrivateSession.{IsLineUnwritten, IsSessionTurn}
+use Rattle.jc_run.specs.PrivateSession.Converses.{line as one_done, over, refused as one_refused, unread, unwritten}
 use Rattle.jc_run.specs.PrivateSession.IsDoneOrRefused.{left_out, played}
-use Rattle.jc_run.specs.Session.{Converses, ConversesOn, MayRefuse}
-use Rattle.jc_run.specs.Session.Converses.{line as one_done, over, refused as one_refused, unread, unwritten}
+use Rattle.jc_run.specs.Session.{MayRefuse}
 use Rattle.jc_script.specs.Reading.{SkipsLine, TakesShortLine, TellsInSession}
 use Rattle.jc_script.specs.declared.reader.NextLine.TheVariants as next
 use Rattle.jc_script.specs.Script.{Apdu, Asks, Bad, Cells, Install, Load, Objects, Reset, ScriptCommand, ScriptLine}
@@ -78,8 +78,16 @@ module _ (images certificates : List ℕ → List ℕ → Type 0) (c : CardState
   unwritten_by is before now known bad_line = absurd cc
   unwritten_by is before now known (source folder certificate) = absurd cc
   unwritten_by is before now known (memory folder certificate) = absurd cc
-  unwritten_by is before now known (cut_short said written whole after done part) =
-      record { written = written; whole = whole; card = after; played = done; part = part; now_is = known }
+  unwritten_by is before now known (cut_short command written answer after answered part) = record {
+    written = written;
+    command = command;
+    is = refl;
+    answer = answer;
+    card = after;
+    answered = answered;
+    part = part;
+    now_is = known;
+  }
 
   pub command_not_written : (command : ScriptCommand) (answer : Answered) (after : CardWords)
       (old now : Option (List ℕ)) (before : List ℕ) → Answers images certificates c command answer after
@@ -155,24 +163,24 @@ module _ (images certificates : List ℕ → List ℕ → Type 0) (c : CardState
   }
 
   pub none_left : (before : List ℕ) (now : Option (List ℕ)) → lines_of bytes ≡ [] → now ≡ Some before
-      → ConversesOn images certificates bytes c before now Over
+      → ConversesFrom images certificates bytes c before now Over
   none_left before now none known = record { written = []; converses = rw none (over c); now_is = none_more known }
 
   pub not_read : (before : List ℕ) (now : Option (List ℕ)) → now ≡ Some before
-      → ConversesOn images certificates bytes c before now NotRead
+      → ConversesFrom images certificates bytes c before now NotRead
   not_read before now known = record { written = []; converses = unread (lines_of bytes) c; now_is = none_more known }
 
   pub line_ends : (line rest before : List ℕ) (now : Option (List ℕ)) (end : ScriptEnd)
       → TakesShortLine line bytes rest → EndsLine images certificates c (said_in_session line) before now end
-      → ConversesOn images certificates bytes c before now end
+      → ConversesFrom images certificates bytes c before now end
   line_ends line rest before now Over t e = elim e [ ]
   line_ends line rest before now (BadLine number) t e = elim e [ ]
   line_ends line rest before now (SourceFailed number) t e = elim e [ ]
   line_ends line rest before now NotRead t e = not_read before now e
   line_ends line rest before now NotWritten t e = record {
     written = e.written;
-    converses = rw t.lines (unwritten line (lines_of rest) c e.card e.written e.whole
-        (rw (short_line line t.short) e.played) e.part);
+    converses = rw t.lines (unwritten line (lines_of rest) c e.card e.command e.written e.answer
+        (short_line line t.short ∙ e.is) e.answered e.part);
     now_is = e.now_is;
   }
   line_ends line rest before now NoMemory t e = elim e [ ]
@@ -229,8 +237,8 @@ module _ (images certificates : List ℕ → List ℕ → Type 0) (c : CardState
 
   pub at_end : {card : CardWords} {left now last : Option (List ℕ)} {end : ScriptEnd}
       → (h : HasConversed images certificates c input before card left now)
-      → ConversesOn images certificates h.rest h.card (before ++ h.written) last end
-      → ConversesOn images certificates input c before last end
+      → ConversesFrom images certificates h.rest h.card (before ++ h.written) last end
+      → ConversesFrom images certificates input c before last end
   at_end {end = end} h p = record {
     written = h.written ++ p.written;
     converses = h.leads p.written end p.converses;
@@ -255,14 +263,14 @@ module _ (images certificates older old : List ℕ → List ℕ → Type 0) (sam
       (line_as images certificates older old same_images same_certificates c _ written after p) (converses_as rest)
   converses_as (one_refused first lines c behind end may rest) =
       one_refused first lines c behind end may (converses_as rest)
-  converses_as (unwritten first lines c after written whole p part) =
-      unwritten first lines c after written whole
-      (line_as images certificates older old same_images same_certificates c _ whole after p) part
+  converses_as (unwritten first lines c after asked written answer is answered part) =
+      unwritten first lines c after asked written answer is
+      (answered_as images certificates older old same_images same_certificates c asked answer after answered) part
   converses_as (unread lines c) = unread lines c
 
-  pub converses_on_as : {bytes : List ℕ} {c : CardState} {before : List ℕ} {now : Option (List ℕ)} {end : ScriptEnd}
-      → ConversesOn images certificates bytes c before now end → ConversesOn older old bytes c before now end
-  converses_on_as p = record { written = p.written; converses = converses_as p.converses; now_is = p.now_is }
+  pub converses_from_as : {bytes : List ℕ} {c : CardState} {before : List ℕ} {now : Option (List ℕ)} {end : ScriptEnd}
+      → ConversesFrom images certificates bytes c before now end → ConversesFrom older old bytes c before now end
+  converses_from_as p = record { written = p.written; converses = converses_as p.converses; now_is = p.now_is }
 
   pub turn_as : {bytes : List ℕ} {c : CardState} {after : CardWords} {left : Option (List ℕ)} {before : List ℕ}
       {now : Option (List ℕ)} → IsSessionTurn images certificates bytes c after left before now

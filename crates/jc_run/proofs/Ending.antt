@@ -7,16 +7,15 @@ use Rattle.std.specs.Prelude.{IsErrAnd}
 use Rattle.jc_card.specs.Card.{CardState}
 use Rattle.jc_card.specs.Reads.{CardWords}
 use Rattle.jc_run.specs.Answer.{Answered}
-use Rattle.jc_run.specs.Performs.{Answers, AsksSource, PlaysOn}
+use Rattle.jc_run.specs.Performs.{Answers, AsksSource}
 use Rattle.jc_run.specs.Play.{BadLimits, BadLine, IsPart, NoMemory, NotRead, NotWritten, Over, ScriptEnd}
 use Rattle.jc_run.specs.Play.{SourceFailed, answer_line}
-use Rattle.jc_run.specs.Play.EndsAt.{bad, memory, source, unwritten}
-use Rattle.jc_run.specs.Play.Plays.{ended, over, unread}
-use Rattle.jc_run.specs.PrivatePlay.{AppendsPart, IsEnd, IsLineDone, IsLineEnd, IsTaken, IsUnread}
+use Rattle.jc_run.specs.PrivatePlay.{AppendsPart, IsEnd, IsLineDone, IsLineEnd, IsTaken, IsUnread, PlaysFrom}
+use Rattle.jc_run.specs.PrivatePlay.EndsAt.{bad, memory, source, unwritten}
+use Rattle.jc_run.specs.PrivatePlay.Plays.{ended, over, unread}
 use Rattle.jc_script.specs.Reading.{BeginsBad}
 use Rattle.jc_script.specs.Script.{Apdu, Asks, Bad, Cells, Install, Load, Objects, Reset, ScriptCommand, ScriptLine}
-use Rattle.jc_script.specs.Script.{line_at}
-use Rattle.jc_script.specs.Script.{lines_of, most_in_line, most_lines, said_by}
+use Rattle.jc_script.specs.Script.{line_at, lines_of, most_in_line, most_lines, said_by}
 
 -- ---- what is known to be written
 
@@ -91,8 +90,7 @@ module _ (images certificates : List ℕ → List ℕ → Type 0) (c : CardState
       let p = parted old now before _ is h in
       record {
         written = p.bytes;
-        ends = unwritten (Asks command) p.bytes (answer_line answer) a.card
-            (record { answer = answer; answered = a.answered; written_is = refl }) p.part;
+        ends = unwritten command p.bytes answer a.card a.answered p.part;
         now_is = p.now_is;
       }
 
@@ -116,22 +114,22 @@ as_said number line few short = rw (few_enough, short_enough) refl
 module _ (images certificates : List ℕ → List ℕ → Type 0) (number : ℕ) (bytes : List ℕ) (c : CardState)
     (before : List ℕ) (now : Option (List ℕ)) where
   pub none_left : lines_of bytes ≡ [] → now ≡ Some before
-      → PlaysOn images certificates number bytes c before now Over
+      → PlaysFrom images certificates number bytes c before now Over
   none_left none known = record { written = []; plays = rw none (over number c); now_is = none_more known }
 
   bad_first : BeginsBad number (lines_of bytes) → now ≡ Some before
-      → PlaysOn images certificates number bytes c before now (BadLine number)
+      → PlaysFrom images certificates number bytes c before now (BadLine number)
   bad_first b known = record {
     written = [];
     plays = rw b.are (ended number b.first b.others c [] (BadLine number) (rw b.bad bad));
     now_is = none_more known;
   }
 
-  not_read : now ≡ Some before → PlaysOn images certificates number bytes c before now NotRead
+  not_read : now ≡ Some before → PlaysFrom images certificates number bytes c before now NotRead
   not_read known = record { written = []; plays = unread number (lines_of bytes) c; now_is = none_more known }
 
   pub unread_plays : (end : ScriptEnd) → IsUnread number bytes end → now ≡ Some before
-      → PlaysOn images certificates number bytes c before now end
+      → PlaysFrom images certificates number bytes c before now end
   unread_plays Over u known = elim u [ ]
   unread_plays (BadLine n) u known = rw u.0 (bad_first u.1 known)
   unread_plays (SourceFailed n) u known = elim u [ ]
@@ -141,7 +139,7 @@ module _ (images certificates : List ℕ → List ℕ → Type 0) (number : ℕ)
   unread_plays BadLimits u known = elim u [ ]
 
   pub end_plays : (end : ScriptEnd) → IsEnd number bytes end → now ≡ Some before
-      → PlaysOn images certificates number bytes c before now end
+      → PlaysFrom images certificates number bytes c before now end
   end_plays Over u known = none_left u known
   end_plays (BadLine n) u known = rw u.0 (bad_first u.1 known)
   end_plays (SourceFailed n) u known = elim u [ ]
@@ -152,7 +150,7 @@ module _ (images certificates : List ℕ → List ℕ → Type 0) (number : ℕ)
 
   pub line_ends : (line : List ℕ) (left : Option (List ℕ)) (end : ScriptEnd) → IsTaken number line bytes left
       → IsLineEnd images certificates c number (said_by line) before now end
-      → PlaysOn images certificates number bytes c before now end
+      → PlaysFrom images certificates number bytes c before now end
   line_ends line left end t e = record {
     written = e.written;
     plays = rw t.takes.lines (ended number line (lines_of t.rest) c e.written end

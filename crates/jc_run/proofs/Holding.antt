@@ -1,5 +1,5 @@
 -- What a session comes to is a run of the card.
-use Rattle.std.proofs.Common.{◌≡◌, ℕ, List, [], ◌∷◌, ◌++◌, Option, Some, Bool, true, false, Result, Ok, Err, ◌↔◌, rules}
+use Rattle.std.proofs.Common.{◌≡◌, ℕ, List, [], ◌∷◌, ◌++◌, Option, Some, false, Result, Ok, Err, ◌↔◌, rules}
 use Rattle.std.proofs.Common.{refl, sym, ap, ◌∙◌, append_assoc}
 use Rattle.jc_api.specs.Bound.{Bound}
 use Rattle.jc_api.specs.NoClash.{HasNoClash}
@@ -13,34 +13,38 @@ use Rattle.jc_run.proofs.Running.{Laws, all_guarded}
 use Rattle.jc_run.proofs.Starting.{limits_fit}
 use Rattle.jc_run.specs.Answer.{Answered}
 use Rattle.jc_run.specs.End.{card_fault, end_of_fault}
-use Rattle.jc_run.specs.Play.{BadLimits, IsAnswered, IsLinePlayed, NoMemory, NotWritten, Over, ScriptEnd, answer_line}
-use Rattle.jc_run.specs.Runs.{IsCardRun, accesses_of, answer_lines}
+use Rattle.jc_run.specs.Play.{BadLimits, IsAnswered, NoMemory, ScriptEnd, answer_line}
+use Rattle.jc_run.specs.PrivatePlay.{IsLinePlayed}
+use Rattle.jc_run.specs.PrivateSession.{Converses, ConversesFrom}
+use Rattle.jc_run.specs.PrivateSession.Converses.{line as line_held, over, refused as line_refused, unread, unwritten}
+use Rattle.jc_run.specs.Runs.{accesses_of, answer_lines}
 use Rattle.jc_run.specs.Runs.IsCardRun.{command, nothing}
-use Rattle.jc_run.specs.Session.{Converses, ConversesOn, HasHeld, IsHeld, IsSessionSimulated, MayRefuse}
+use Rattle.jc_run.specs.Session.{ConversesOn, HasHeld, IsHeld, IsSessionSimulated, MayRefuse, SessionEndsWith}
+use Rattle.jc_run.specs.Session.{SessionRunsTo}
 use Rattle.jc_run.specs.Session.AreAnswered.{answered as one_answered, none as none_answered}
 use Rattle.jc_run.specs.Session.AreAnswered.{refused as one_left_out, skipped as one_passed}
-use Rattle.jc_run.specs.Session.Converses.{line as line_held, over, refused as line_refused, unread, unwritten}
+use Rattle.jc_run.specs.Session.SessionEndsWith.{over as over_left, unread as unread_left}
+use Rattle.jc_run.specs.Session.SessionEndsWith.{unwritten as unwritten_left}
 use Rattle.jc_run.specs.Session.SessionRunsTo.{held, no_card, unfit}
-use Rattle.jc_script.specs.Script.{Asks, Bad, ScriptCommand, ScriptLine, Skipped, lines_of, session_line}
+use Rattle.jc_script.specs.Script.{Asks, Bad, ScriptCommand, ScriptLine, Skipped, session_line}
 
 module _ (images certificates : List ℕ → List ℕ → Type 0) where
   abbrev Is : List (List ℕ) → CardState → List ℕ → ScriptEnd → Type 0
   Is lines c written end = IsHeld images certificates lines c written end
 
-  pub none_done : (lines : List (List ℕ)) (c : CardState) (part : List ℕ) (end : ScriptEnd)
-      → (end ≡ Over → lines ≡ []) → ((end ≡ NotWritten → ⊥) → part ≡ []) → Is lines c part end
-  none_done lines c part end all whole = record {
+  none_done : (lines : List (List ℕ)) (c : CardState) (part : List ℕ) (end : ScriptEnd)
+      → SessionEndsWith images certificates c lines part end → Is lines c part end
+  none_done lines c part end ends = record {
     done = [];
     left = lines;
     in_order = none_answered lines;
-    all = all;
     answers = [];
     touches = [];
     card = c;
     run = nothing c;
     part = part;
     written_is = refl;
-    whole = whole;
+    ends = ends;
   }
 
   one_more : (first : List ℕ) (lines : List (List ℕ)) (asked : ScriptCommand) (c between : CardState)
@@ -51,7 +55,6 @@ module _ (images certificates : List ℕ → List ℕ → Type 0) where
     done = asked ∷ d.done;
     left = d.left;
     in_order = one_answered first lines d.left asked d.done is d.in_order;
-    all = d.all;
     answers = answer ∷ d.answers;
     touches = accesses_of c asked ++ d.touches;
     card = d.card;
@@ -60,7 +63,7 @@ module _ (images certificates : List ℕ → List ℕ → Type 0) where
     written_is =
         ap (λ (bytes : List ℕ). answer_line answer ++ bytes) d.written_is
         ∙ sym (append_assoc (answer_line answer) (answer_lines d.answers) d.part);
-    whole = d.whole;
+    ends = d.ends;
   }
 
   one_skipped : (first : List ℕ) (lines : List (List ℕ)) (c : CardState) (behind : List ℕ) (end : ScriptEnd)
@@ -69,14 +72,13 @@ module _ (images certificates : List ℕ → List ℕ → Type 0) where
     done = d.done;
     left = d.left;
     in_order = one_passed first lines d.left d.done is d.in_order;
-    all = d.all;
     answers = d.answers;
     touches = d.touches;
     card = d.card;
     run = d.run;
     part = d.part;
     written_is = d.written_is;
-    whole = d.whole;
+    ends = d.ends;
   }
 
   one_refused : (first : List ℕ) (lines : List (List ℕ)) (c : CardState) (behind : List ℕ) (end : ScriptEnd)
@@ -85,14 +87,13 @@ module _ (images certificates : List ℕ → List ℕ → Type 0) where
     done = d.done;
     left = d.left;
     in_order = one_left_out first lines d.left d.done may d.in_order;
-    all = d.all;
     answers = d.answers;
     touches = d.touches;
     card = d.card;
     run = d.run;
     part = d.part;
     written_is = d.written_is;
-    whole = d.whole;
+    ends = d.ends;
   }
 
   line_done : (first : List ℕ) (lines : List (List ℕ)) (said : ScriptLine) (c after : CardState)
@@ -105,57 +106,52 @@ module _ (images certificates : List ℕ → List ℕ → Type 0) where
       rw p.written_is (one_more first lines asked c after p.answer behind end is p.answered d)
   line_done first lines Bad c after written behind end is p d = elim p [ ]
 
-  pub held_of : {lines : List (List ℕ)} {c : CardState} {written : List ℕ} {end : ScriptEnd}
+  held_of : {lines : List (List ℕ)} {c : CardState} {written : List ℕ} {end : ScriptEnd}
       → Converses images certificates lines c written end → Is lines c written end
-  held_of (over c) = none_done [] c [] _ (λ e. refl) (λ other. refl)
+  held_of (over c) = none_done [] c [] _ over_left
   held_of (line_held first more c after written behind end p rest) =
       line_done first more (session_line first) c after written behind end refl p (held_of rest)
   held_of (line_refused first more c behind end may rest) = one_refused first more c behind end may (held_of rest)
-  held_of (unwritten first more c after written whole p part) =
-      none_done (first ∷ more) c written _ (λ e. absurd cc) (λ other. absurd (other refl))
-  held_of (unread more c) = none_done more c [] _ (λ e. absurd cc) (λ other. refl)
+  held_of (unwritten first more c after asked written answer is answered part) =
+      none_done (first ∷ more) c written _ (unwritten_left first more asked written answer after is answered part)
+  held_of (unread more c) = none_done more c [] _ (unread_left more)
+
+  pub held_on : {input : List ℕ} {c : CardState} {before : List ℕ} {now : Option (List ℕ)} {end : ScriptEnd}
+      → ConversesFrom images certificates input c before now end
+      → ConversesOn images certificates input c before now end
+  held_on p = record { written = p.written; held = held_of p.converses; now_is = p.now_is }
 
 -- ---- a session on a new card
 
 module _ (laws : Laws) (images certificates : List ℕ → List ℕ → Type 0) (limits : Limits) (binding : Bound)
     (input before : List ℕ) (now : Option (List ℕ)) {A : Type 0} (result : Result A CardFault)
     (told : (result ≡ Err cards.BadLimits) ↔ (are_limits limits ≡ false)) (clear : HasNoClash binding) where
+  simulated : (written : List ℕ) (end : ScriptEnd)
+      → SessionRunsTo images certificates limits binding input written end
+      → IsSessionSimulated images certificates limits binding input written end
+  simulated written end runs = record {
+    responses = runs;
+    accesses = all_guarded laws images certificates;
+    apart = laws.new limits binding clear;
+  }
+
   pub made_holds : (card : A) (end : ScriptEnd) → result ≡ Ok card
       → ConversesOn images certificates input (new_card limits binding) before now end
       → HasHeld images certificates limits binding input before now end
   made_holds card end is p = record {
     written = p.written;
-    runs = held p.written end (limits_fit (are_limits limits) result (Ok card) told.1 is (λ e. search rules))
-        p.converses;
-    simulated = record {
-      responses = held_of images certificates p.converses;
-      accesses = all_guarded laws images certificates;
-      apart = laws.new limits binding clear;
-    };
+    simulated = simulated p.written end (held p.written end
+        (limits_fit (are_limits limits) result (Ok card) told.1 is (λ e. search rules)) p.held);
     now_is = p.now_is;
-  }
-
-  nothing_done : (end : ScriptEnd) → (end ≡ Over → ⊥)
-      → IsSessionSimulated images certificates limits binding input [] end
-  nothing_done end other = record {
-    responses =
-        none_done images certificates (lines_of input) (new_card limits binding) [] end (λ e. absurd (other e))
-        (λ e. refl);
-    accesses = all_guarded laws images certificates;
-    apart = laws.new limits binding clear;
   }
 
   pub not_made : (fault : CardFault) → result ≡ Err fault → now ≡ Some before
       → HasHeld images certificates limits binding input before now (end_of_fault (card_fault fault))
-  not_made cards.BadLimits is known = record {
-    written = [];
-    runs = unfit (told.0 is);
-    simulated = nothing_done BadLimits (λ e. absurd cc);
-    now_is = none_more known;
-  }
+  not_made cards.BadLimits is known =
+      record { written = []; simulated = simulated [] BadLimits (unfit (told.0 is)); now_is = none_more known }
   not_made cards.Memory is known = record {
     written = [];
-    runs = no_card (limits_fit (are_limits limits) result (Err cards.Memory) told.1 is (λ e. search rules));
-    simulated = nothing_done NoMemory (λ e. absurd cc);
+    simulated = simulated [] NoMemory (no_card
+        (limits_fit (are_limits limits) result (Err cards.Memory) told.1 is (λ e. search rules)));
     now_is = none_more known;
   }

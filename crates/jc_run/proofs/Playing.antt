@@ -8,12 +8,11 @@ use Rattle.jc_packages.specs.Source.{HoldSame}
 use Rattle.jc_run.proofs.Ending.{none_more}
 use Rattle.jc_run.specs.Answer.{Answered}
 use Rattle.jc_run.specs.End.{end_of, end_of_fault}
-use Rattle.jc_run.specs.Performs.{PlaysOn}
-use Rattle.jc_run.specs.Play.{EndsAt, IsAnswered, IsLinePlayed, Plays, ScriptEnd}
-use Rattle.jc_run.specs.Play.EndsAt.{bad, memory, source, unwritten}
-use Rattle.jc_run.specs.Play.Plays.{ended, line, over, unread}
+use Rattle.jc_run.specs.Play.{IsAnswered, ScriptEnd}
+use Rattle.jc_run.specs.PrivatePlay.{EndsAt, HasPlayed, IsLinePlayed, IsTurn, Plays, PlaysFrom}
+use Rattle.jc_run.specs.PrivatePlay.EndsAt.{bad, memory, source, unwritten}
+use Rattle.jc_run.specs.PrivatePlay.Plays.{ended, line, over, unread}
 use Rattle.jc_run.specs.declared.fault.ScriptFault.{ScriptFault}
-use Rattle.jc_run.specs.PrivatePlay.{HasPlayed, IsTurn}
 use Rattle.jc_script.specs.Script.{Apdu, Asks, Bad, Cells, Install, Load, Objects, Reset, ScriptCommand, ScriptLine}
 use Rattle.jc_script.specs.Script.{Skipped, lines_of}
 
@@ -28,7 +27,7 @@ same_through first second third a b = record {
 
 module _ (images certificates older old : List ℕ → List ℕ → Type 0) (same_images : HoldSame older images)
     (same_certificates : HoldSame old certificates) where
-  answered_as : (c : CardState) (command : ScriptCommand) (answer : Answered) (after : CardState)
+  pub answered_as : (c : CardState) (command : ScriptCommand) (answer : Answered) (after : CardState)
       → IsAnswered images certificates c command answer after → IsAnswered older old c command answer after
   answered_as c (Load folder certificate) answer after h = record {
     image = h.image;
@@ -57,8 +56,8 @@ module _ (images certificates older old : List ℕ → List ℕ → Type 0) (sam
   ends_as bad = bad
   ends_as (source folder certificate) = source folder certificate
   ends_as (memory folder certificate) = memory folder certificate
-  ends_as {c = c} (unwritten said written whole after played part) =
-      unwritten said written whole after (line_as c said whole after played) part
+  ends_as {c = c} (unwritten command written answer after answered part) =
+      unwritten command written answer after (answered_as c command answer after answered) part
 
   plays_as : {number : ℕ} {lines : List (List ℕ)} {c : CardState} {written : List ℕ} {end : ScriptEnd}
       → Plays images certificates number lines c written end → Plays older old number lines c written end
@@ -68,10 +67,10 @@ module _ (images certificates older old : List ℕ → List ℕ → Type 0) (sam
   plays_as (ended number first lines c written end e) = ended number first lines c written end (ends_as e)
   plays_as (unread number lines c) = unread number lines c
 
-  pub plays_on_as : {number : ℕ} {bytes : List ℕ} {c : CardState} {before : List ℕ} {now : Option (List ℕ)}
-      {end : ScriptEnd} → PlaysOn images certificates number bytes c before now end
-      → PlaysOn older old number bytes c before now end
-  plays_on_as p = record { written = p.written; plays = plays_as p.plays; now_is = p.now_is }
+  pub plays_from_as : {number : ℕ} {bytes : List ℕ} {c : CardState} {before : List ℕ} {now : Option (List ℕ)}
+      {end : ScriptEnd} → PlaysFrom images certificates number bytes c before now end
+      → PlaysFrom older old number bytes c before now end
+  plays_from_as p = record { written = p.written; plays = plays_as p.plays; now_is = p.now_is }
 
   pub turn_as : {number : ℕ} {bytes : List ℕ} {c : CardState} {after : CardWords} {left : Option (List ℕ)}
       {before : List ℕ} {now : Option (List ℕ)} → IsTurn images certificates number bytes c after left before now
@@ -124,8 +123,8 @@ module _ (images certificates : List ℕ → List ℕ → Type 0) (c : CardState
 
   pub at_end : {number : ℕ} {card : CardWords} {left now last : Option (List ℕ)} {end : ScriptEnd}
       → (h : HasPlayed images certificates c script before number card left now)
-      → PlaysOn images certificates number h.rest h.card (before ++ h.written) last end
-      → PlaysOn images certificates 1 script c before last end
+      → PlaysFrom images certificates number h.rest h.card (before ++ h.written) last end
+      → PlaysFrom images certificates 1 script c before last end
   at_end {end = end} h p = record {
     written = h.written ++ p.written;
     plays = h.leads p.written end p.plays;

@@ -16,92 +16,102 @@ use Rattle.jc_machine.specs.Machine.{Touch}
 use Rattle.jc_store.specs.Heap.{Heap}
 use Rattle.jc_words.specs.Values.{TaggedValue}
 use Rattle.jc_run.specs.Answer.{Answered}
-use Rattle.jc_run.specs.Play.{EndsAt, IsAnswered, IsGiven, IsLinePlayed, NotWritten, Over, Plays, ScriptEnd}
-use Rattle.jc_run.specs.Play.{answer_line}
-use Rattle.jc_run.specs.Play.EndsAt.{bad, memory, source, unwritten}
-use Rattle.jc_run.specs.Play.Plays.{ended, line, over, unread}
-use Rattle.jc_run.specs.Runs.{AreGuarded, IsCardRun, IsDone, IsGuarded, IsKeptApart, accesses_in, accesses_of}
-use Rattle.jc_run.specs.Runs.{answer_lines, commands_in}
+use Rattle.jc_run.specs.Performs.{PlaysOn}
+use Rattle.jc_run.specs.Play.{IsAnswered, IsGiven, ScriptEnd, answer_line}
+use Rattle.jc_run.specs.PrivatePlay.{EndsAt, IsLinePlayed, Plays, PlaysFrom}
+use Rattle.jc_run.specs.PrivatePlay.EndsAt.{bad, memory, source, unwritten}
+use Rattle.jc_run.specs.PrivatePlay.Plays.{ended, line, over, unread}
+use Rattle.jc_run.specs.Runs.{AreGuarded, EndsWith, IsCardRun, IsGuarded, IsKeptApart, IsPlayed, accesses_in}
+use Rattle.jc_run.specs.Runs.{accesses_of, answer_lines, commands_of}
+use Rattle.jc_run.specs.Runs.EndsWith.{bad_line, memory as memory_left, over as over_left, source as source_left}
+use Rattle.jc_run.specs.Runs.EndsWith.{unread as unread_left, unwritten as unwritten_left}
 use Rattle.jc_run.specs.Runs.IsCardRun.{command, nothing}
-use Rattle.jc_script.specs.Script.{Apdu, Asks, Bad, Cells, Install, Load, Objects, Reset, Script, ScriptCommand}
-use Rattle.jc_script.specs.Script.{ScriptLine, Skipped, line_at, script_from, with_line}
+use Rattle.jc_script.specs.Script.{Apdu, Asks, Bad, Cells, Install, Load, Numbered, Objects, Reset, Script}
+use Rattle.jc_script.specs.Script.{ScriptCommand, ScriptLine, Skipped, line_at, script_from, with_line}
 
 module _ (images certificates : List ℕ → List ℕ → Type 0) where
-  abbrev Done : List ScriptCommand → CardState → List ℕ → ScriptEnd → Type 0
-  Done commands c written end = IsDone images certificates commands c written end
+  abbrev Is : Script → CardState → List ℕ → ScriptEnd → Type 0
+  Is script c written end = IsPlayed images certificates script c written end
 
   -- ---- no command is done
 
-  pub none_done : (commands : List ScriptCommand) (c : CardState) (part : List ℕ) (end : ScriptEnd)
-      → (end ≡ Over → commands ≡ []) → ((end ≡ NotWritten → ⊥) → part ≡ []) → Done commands c part end
-  none_done commands c part end all whole = record {
+  none_done : (script : Script) (c : CardState) (part : List ℕ) (end : ScriptEnd)
+      → EndsWith images certificates c script.bad script.commands part end → Is script c part end
+  none_done script c part end ends = record {
     done = [];
-    left = commands;
+    left = script.commands;
     in_order = refl;
-    all = all;
     answers = [];
     touches = [];
     card = c;
     run = nothing c;
     part = part;
     lines = refl;
-    whole = whole;
+    ends = ends;
   }
 
   -- ---- a command more
 
-  one_more : (first : ScriptCommand) (commands : List ScriptCommand) (c between : CardState) (answer : Answered)
+  one_more : (number : ℕ) (first : ScriptCommand) (script : Script) (c between : CardState) (answer : Answered)
       (behind : List ℕ) (end : ScriptEnd) → IsAnswered images certificates c first answer between
-      → Done commands between behind end → Done (first ∷ commands) c (answer_line answer ++ behind) end
-  one_more first commands c between answer behind end answered d = record {
-    done = first ∷ d.done;
-    left = d.left;
-    in_order = ap (λ (more : List ScriptCommand). first ∷ more) d.in_order;
-    all = d.all;
-    answers = answer ∷ d.answers;
-    touches = accesses_of c first ++ d.touches;
-    card = d.card;
-    run = command first d.done c between d.card answer d.answers d.touches answered d.run;
-    part = d.part;
-    lines =
-        ap (λ (bytes : List ℕ). answer_line answer ++ bytes) d.lines
-        ∙ sym (append_assoc (answer_line answer) (answer_lines d.answers) d.part);
-    whole = d.whole;
-  }
+      → Is script between behind end → Is (with_line number (Asks first) script) c (answer_line answer ++ behind) end
+  one_more number first script c between answer behind end answered d =
+      let asked : Numbered = record { number = number; command = first } in
+      record {
+        done = asked ∷ d.done;
+        left = d.left;
+        in_order = ap (λ (more : List Numbered). asked ∷ more) d.in_order;
+        answers = answer ∷ d.answers;
+        touches = accesses_of c first ++ d.touches;
+        card = d.card;
+        run = command first (commands_of d.done) c between d.card answer d.answers d.touches answered d.run;
+        part = d.part;
+        lines =
+            ap (λ (bytes : List ℕ). answer_line answer ++ bytes) d.lines
+            ∙ sym (append_assoc (answer_line answer) (answer_lines d.answers) d.part);
+        ends = d.ends;
+      }
 
   line_done : (number : ℕ) (said : ScriptLine) (script : Script) (c after : CardState) (written behind : List ℕ)
-      (end : ScriptEnd) → IsLinePlayed images certificates c said written after
-      → Done (commands_in script) after behind end
-      → Done (commands_in (with_line number said script)) c (written ++ behind) end
-  line_done number Skipped script c after written behind end played d =
-      rw (played.0, ← played.1) d
+      (end : ScriptEnd) → IsLinePlayed images certificates c said written after → Is script after behind end
+      → Is (with_line number said script) c (written ++ behind) end
+  line_done number Skipped script c after written behind end played d = rw (played.0, ← played.1) d
   line_done number (Asks first) script c after written behind end played d =
-      rw played.written_is (one_more first (commands_in script) c after played.answer behind end played.answered d)
+      rw played.written_is (one_more number first script c after played.answer behind end played.answered d)
   line_done number Bad script c after written behind end played d = elim played [ ]
 
   -- ---- a line that ends it
 
   line_ends : {number : ℕ} {c : CardState} {said : ScriptLine} {written : List ℕ} {end : ScriptEnd}
       (script : Script) → EndsAt images certificates c number said written end
-      → Done (commands_in (with_line number said script)) c written end
-  line_ends {c = c} script bad = none_done [] c [] _ (λ e. refl) (λ other. refl)
-  line_ends {c = c} script (source folder certificate) = none_done _ c [] _ (λ e. absurd cc) (λ other. refl)
-  line_ends {c = c} script (memory folder certificate) = none_done _ c [] _ (λ e. absurd cc) (λ other. refl)
-  line_ends {c = c} script (unwritten told part whole after played first) =
-      none_done _ c part _ (λ e. absurd cc) (λ other. absurd (other refl))
+      → Is (with_line number said script) c written end
+  line_ends {number = number} {c = c} script bad = none_done _ c [] _ (bad_line number refl)
+  line_ends {number = number} {c = c} script (source folder certificate) =
+      none_done _ c [] _ (source_left (record { number = number; command = Load folder certificate }) script.commands
+      folder certificate refl)
+  line_ends {number = number} {c = c} script (memory folder certificate) =
+      none_done _ c [] _ (memory_left (record { number = number; command = Load folder certificate }) script.commands
+      folder certificate refl)
+  line_ends {number = number} {c = c} script (unwritten asked part answer after answered first) =
+      none_done _ c part _ (unwritten_left (record { number = number; command = asked }) script.commands part answer
+      after answered first)
 
   -- ---- all lines
 
-  pub run_of : {number : ℕ} {lines : List (List ℕ)} {c : CardState} {written : List ℕ} {end : ScriptEnd}
-      → Plays images certificates number lines c written end
-      → Done (commands_in (script_from number lines)) c written end
+  run_of : {number : ℕ} {lines : List (List ℕ)} {c : CardState} {written : List ℕ} {end : ScriptEnd}
+      → Plays images certificates number lines c written end → Is (script_from number lines) c written end
   unfolding script_from
-  run_of (over number c) = none_done [] c [] _ (λ e. refl) (λ other. refl)
+  run_of (over number c) = none_done _ c [] _ (over_left refl)
   run_of (line number first more c after part behind end played rest) =
       line_done number (line_at number first) (script_from (suc number) more) c after part behind end played
       (run_of rest)
   run_of (ended number first more c part end e) = line_ends (script_from (suc number) more) e
-  run_of (unread number more c) = none_done _ c [] _ (λ e. absurd cc) (λ other. refl)
+  run_of (unread number more c) = none_done _ c [] _ (unread_left _)
+
+  pub played_on : {script : List ℕ} {c : CardState} {before : List ℕ} {now : Option (List ℕ)} {end : ScriptEnd}
+      → PlaysFrom images certificates 1 script c before now end
+      → PlaysOn images certificates script c before now end
+  played_on p = record { written = p.written; played = run_of p.plays; now_is = p.now_is }
 
 -- ---- what it accesses
 

@@ -8,13 +8,12 @@ use Rattle.jc_card.specs.declared.fault.CardFault.{CardFault}
 use Rattle.jc_card.specs.declared.fault.CardFault.TheVariants as cards
 use Rattle.jc_card.specs.declared.limits.Limits.{Limits}
 use Rattle.jc_run.proofs.Ending.{none_more}
-use Rattle.jc_run.proofs.Running.{Laws, all_guarded, none_done, run_of}
+use Rattle.jc_run.proofs.Running.{Laws, all_guarded}
 use Rattle.jc_run.specs.End.{card_fault, end_of_fault}
 use Rattle.jc_run.specs.Performs.{HasRun, PlaysOn}
-use Rattle.jc_run.specs.Play.{BadLimits, NoMemory, Over, ScriptEnd}
-use Rattle.jc_run.specs.Play.RunsTo.{no_card, played, unfit}
-use Rattle.jc_run.specs.Runs.{IsSimulated, commands_in}
-use Rattle.jc_script.specs.Script.{script_commands}
+use Rattle.jc_run.specs.Play.{BadLimits, NoMemory, ScriptEnd}
+use Rattle.jc_run.specs.Runs.{IsSimulated, RunsTo}
+use Rattle.jc_run.specs.Runs.RunsTo.{no_card, played, unfit}
 
 -- where a card is made, or memory is out, its limits are such as it may have
 pub limits_fit : {A : Type 0} (fit : Bool) (result made : Result A CardFault)
@@ -26,42 +25,31 @@ limits_fit false result made told is other = absurd (other (sym is ∙ told refl
 module _ (laws : Laws) (images certificates : List ℕ → List ℕ → Type 0) (limits : Limits) (binding : Bound)
     (script before : List ℕ) (now : Option (List ℕ)) {A : Type 0} (result : Result A CardFault)
     (told : (result ≡ Err cards.BadLimits) ↔ (are_limits limits ≡ false)) (clear : HasNoClash binding) where
-  pub made_runs : (card : A) (end : ScriptEnd) → result ≡ Ok card
-      → PlaysOn images certificates 1 script (new_card limits binding) before now end
-      → HasRun images certificates limits binding script before now end
-  made_runs card end is p = record {
-    written = p.written;
-    runs = played p.written end (limits_fit (are_limits limits) result (Ok card) told.1 is (λ e. search rules)) p.plays;
-    simulated = record {
-      responses =
-          run_of images certificates p.plays;
-      accesses = all_guarded laws images certificates;
-      apart = laws.new limits binding clear;
-    };
-    now_is = p.now_is;
-  }
-
-  nothing_done : (end : ScriptEnd) → (end ≡ Over → ⊥)
-      → IsSimulated images certificates limits binding script [] end
-  nothing_done end other = record {
-    responses =
-        none_done images certificates (commands_in (script_commands script)) (new_card limits binding) [] end
-        (λ e. absurd (other e)) (λ e. refl);
+  simulated : (written : List ℕ) (end : ScriptEnd) → RunsTo images certificates limits binding script written end
+      → IsSimulated images certificates limits binding script written end
+  simulated written end runs = record {
+    responses = runs;
     accesses = all_guarded laws images certificates;
     apart = laws.new limits binding clear;
   }
 
+  pub made_runs : (card : A) (end : ScriptEnd) → result ≡ Ok card
+      → PlaysOn images certificates script (new_card limits binding) before now end
+      → HasRun images certificates limits binding script before now end
+  made_runs card end is p = record {
+    written = p.written;
+    simulated = simulated p.written end (played p.written end
+        (limits_fit (are_limits limits) result (Ok card) told.1 is (λ e. search rules)) p.played);
+    now_is = p.now_is;
+  }
+
   pub not_made : (fault : CardFault) → result ≡ Err fault → now ≡ Some before
       → HasRun images certificates limits binding script before now (end_of_fault (card_fault fault))
-  not_made cards.BadLimits is known = record {
-    written = [];
-    runs = unfit (told.0 is);
-    simulated = nothing_done BadLimits (λ e. absurd cc);
-    now_is = none_more known;
-  }
+  not_made cards.BadLimits is known =
+      record { written = []; simulated = simulated [] BadLimits (unfit (told.0 is)); now_is = none_more known }
   not_made cards.Memory is known = record {
     written = [];
-    runs = no_card (limits_fit (are_limits limits) result (Err cards.Memory) told.1 is (λ e. search rules));
-    simulated = nothing_done NoMemory (λ e. absurd cc);
+    simulated = simulated [] NoMemory (no_card
+        (limits_fit (are_limits limits) result (Err cards.Memory) told.1 is (λ e. search rules)));
     now_is = none_more known;
   }

@@ -6,9 +6,9 @@ use Rattle.jc_card.specs.Reads.{CardWords, Holds}
 use Rattle.jc_card.specs.declared.limits.Limits.{Limits}
 use Rattle.jc_packages.specs.Source.{Asked, Certificate, Image}
 use Rattle.jc_run.specs.Answer.{Answered}
-use Rattle.jc_run.specs.Play.{IsAnswered, Plays, RunsTo, ScriptEnd}
-use Rattle.jc_run.specs.Runs.{IsSimulated}
-use Rattle.jc_script.specs.Script.{Apdu, Cells, Install, Load, Objects, Reset, ScriptCommand, lines_of}
+use Rattle.jc_run.specs.Play.{IsAnswered, ScriptEnd}
+use Rattle.jc_run.specs.Runs.{IsPlayed, IsSimulated}
+use Rattle.jc_script.specs.Script.{Apdu, Cells, Install, Load, Objects, Reset, ScriptCommand, script_commands}
 
 -- it leaves words that hold the card which it leaves on the machine's card, and is answered as there
 pub record Answers (images certificates : List ℕ → List ℕ → Type 0) (c : CardState) (command : ScriptCommand)
@@ -35,17 +35,16 @@ asked_by Reset = []
 asked_by Cells = []
 asked_by Objects = []
 
--- what was written behind what was there, and how it ended, is what these lines come to; the first has a number
-pub record PlaysOn (images certificates : List ℕ → List ℕ → Type 0) (number : ℕ) (bytes : List ℕ) (c : CardState)
+-- what was written behind what was there, and how it ended, is what a script comes to on a card
+pub record PlaysOn (images certificates : List ℕ → List ℕ → Type 0) (script : List ℕ) (c : CardState)
     (before : List ℕ) (now : Option (List ℕ)) (end : ScriptEnd) : Type 0 where
   pub written : List ℕ
-  pub plays : Plays images certificates number (lines_of bytes) c written end
+  pub played : IsPlayed images certificates (script_commands script) c written end
   pub now_is : now ≡ Some (before ++ written)
 
--- it is what a script comes to on a new card, where the simulation theorem holds of it
+-- it is what a script comes to on a new card: the simulation theorem holds of it
 pub record HasRun (images certificates : List ℕ → List ℕ → Type 0) (limits : Limits) (binding : Bound)
     (script before : List ℕ) (now : Option (List ℕ)) (end : ScriptEnd) : Type 0 where
   pub written : List ℕ
-  pub runs : RunsTo images certificates limits binding script written end
   pub simulated : IsSimulated images certificates limits binding script written end
   pub now_is : now ≡ Some (before ++ written)

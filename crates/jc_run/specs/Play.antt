@@ -1,21 +1,16 @@
--- What a script comes to on the card of the defensive machine: what is written, and how it ends. What the source of
+-- What a command is answered by the card of the defensive machine, and how a script may end. What the source of
 -- packages holds is two relations: the image of a package under a name, and the bytes of a certificate.
-use Rattle.std.specs.Prelude.{◌≡◌, ◌+◌, ℕ, suc, nat_lt, true, false}
-use Rattle.std.specs.Prelude.{List, [], ◌∷◌, ◌++◌, length, Option, Some, Result, Ok, Err}
+use Rattle.std.specs.Prelude.{◌≡◌, ◌+◌, ℕ, nat_lt, List, [], ◌∷◌, ◌++◌, length, Option, Some, Result, Ok, Err}
 use Rattle.std.specs.Prelude.{if◌then◌else◌}
-use Rattle.jc_api.specs.Bound.{Bound}
 use Rattle.jc_base.specs.declared.fault.LoadFault.{LoadFault}
 use Rattle.jc_card.specs.Card.{CardState}
 use Rattle.jc_card.specs.Commands.{apdu_command, reset_command}
 use Rattle.jc_card.specs.Install.{HasNumber, Installed as Outcome, Refused, install_command}
 use Rattle.jc_card.specs.Load.{IsLoad}
-use Rattle.jc_card.specs.New.{are_limits, new_card}
 use Rattle.jc_card.specs.Parts.{Left}
-use Rattle.jc_card.specs.declared.limits.Limits.{Limits}
 use Rattle.jc_run.specs.Answer as answers
 use Rattle.jc_run.specs.Answer.{Answered, Installed, Loaded, NotInstalled, NotLoaded, Responds, WasReset, line_of}
-use Rattle.jc_script.specs.Script.{Apdu, Asks, Bad, Cells, Install, Load, Objects, Reset, ScriptCommand, ScriptLine}
-use Rattle.jc_script.specs.Script.{Skipped, line_at, lines_of, most_in_line, most_lines}
+use Rattle.jc_script.specs.Script.{Apdu, Cells, Install, Load, Objects, Reset, ScriptCommand, most_in_line, most_lines}
 use Rattle.jc_script.specs.Faults.{fault_at}
 use Rattle.jc_script.specs.declared.fault.LineCause.TheVariants.{TooLong, TooMany}
 use Rattle.jc_script.specs.declared.fault.LineFault.{LineFault}
@@ -64,26 +59,11 @@ IsAnswered images certificates c Cells answer after =
 IsAnswered images certificates c Objects answer after =
     (answer ≡ answers.Objects (length c.heap) c.limits.objects) × (after ≡ c)
 
--- ---- a line
+-- ---- an answer
 
 -- the line of an answer ends with a line feed
 abbrev pub answer_line : Answered → List ℕ
 answer_line answer = line_of answer ++ 10 ∷ []
-
--- a command is done, and the line of its answer is written
-pub record IsCommandPlayed (images certificates : List ℕ → List ℕ → Type 0) (c : CardState) (command : ScriptCommand)
-    (written : List ℕ) (after : CardState) : Type 0 where
-  pub answer : Answered
-  pub answered : IsAnswered images certificates c command answer after
-  pub written_is : written ≡ answer_line answer
-
--- what is written to a line, and the card behind it. A line that says nothing changes nothing
-abbrev pub IsLinePlayed : (images certificates : List ℕ → List ℕ → Type 0) → CardState → ScriptLine → List ℕ
-    → CardState → Type 0
-IsLinePlayed images certificates c Skipped written after = (written ≡ []) × (after ≡ c)
-IsLinePlayed images certificates c (Asks command) written after =
-    IsCommandPlayed images certificates c command written after
-IsLinePlayed images certificates c Bad written after = ⊥
 
 -- ---- how a script ends
 
@@ -107,44 +87,6 @@ unread_fault number =
 pub record IsPart (bytes whole : List ℕ) : Type 0 where
   pub rest : List ℕ
   pub whole_is : whole ≡ bytes ++ rest
-
--- what is written to a line that ends the script, and how
-pub data EndsAt (images certificates : List ℕ → List ℕ → Type 0) (c : CardState) (number : ℕ)
-    : ScriptLine → List ℕ → ScriptEnd → Type 0 where
-  bad : EndsAt images certificates c number Bad [] (BadLine number)
-  source : (folder certificate : List ℕ)
-      → EndsAt images certificates c number (Asks (Load folder certificate)) [] (SourceFailed number)
-  memory : (folder certificate : List ℕ)
-      → EndsAt images certificates c number (Asks (Load folder certificate)) [] NoMemory
-  unwritten : (line : ScriptLine) (written whole : List ℕ) (after : CardState)
-      → IsLinePlayed images certificates c line whole after → IsPart written whole
-      → EndsAt images certificates c number line written NotWritten
-
--- ---- a script
-
--- what lines come to, of which the first has a number: the bytes that are written, and how it ends. The lines are done
--- in their order, each on the card that the one before it left
-pub data Plays (images certificates : List ℕ → List ℕ → Type 0)
-    : ℕ → List (List ℕ) → CardState → List ℕ → ScriptEnd → Type 0 where
-  over : (number : ℕ) (c : CardState) → Plays images certificates number [] c [] Over
-  line : (number : ℕ) (first : List ℕ) (lines : List (List ℕ)) (c after : CardState) (written behind : List ℕ)
-      (end : ScriptEnd) → IsLinePlayed images certificates c (line_at number first) written after
-      → Plays images certificates (suc number) lines after behind end
-      → Plays images certificates number (first ∷ lines) c (written ++ behind) end
-  ended : (number : ℕ) (first : List ℕ) (lines : List (List ℕ)) (c : CardState) (written : List ℕ) (end : ScriptEnd)
-      → EndsAt images certificates c number (line_at number first) written end
-      → Plays images certificates number (first ∷ lines) c written end
-  unread : (number : ℕ) (lines : List (List ℕ)) (c : CardState)
-      → Plays images certificates number lines c [] NotRead
-
--- a script on a new card, which is made first
-pub data RunsTo (images certificates : List ℕ → List ℕ → Type 0) (limits : Limits) (binding : Bound) (script : List ℕ)
-    : List ℕ → ScriptEnd → Type 0 where
-  unfit : are_limits limits ≡ false → RunsTo images certificates limits binding script [] BadLimits
-  no_card : are_limits limits ≡ true → RunsTo images certificates limits binding script [] NoMemory
-  played : (written : List ℕ) (end : ScriptEnd) → are_limits limits ≡ true
-      → Plays images certificates 1 (lines_of script) (new_card limits binding) written end
-      → RunsTo images certificates limits binding script written end
 
 -- how many readings of the source failed: one, where it ended the script
 abbrev pub failures_at : ScriptEnd → ℕ

@@ -1,15 +1,67 @@
 -- Private. The parts of playing a script.
-use Rattle.std.specs.Prelude.{⊤, ◌≡◌, ℕ, Bool, true, false, List, [], ◌∷◌, ◌++◌, Option, Some, None, Result}
+use Rattle.std.specs.Prelude.{⊤, ◌≡◌, ℕ, suc, Bool, true, false, List, [], ◌∷◌, ◌++◌, Option, Some, None, Result}
 use Rattle.jc_base.specs.declared.fault.LoadFault.{LoadFault}
 use Rattle.jc_card.specs.Card.{CardState}
 use Rattle.jc_card.specs.Load.{IsLoad}
 use Rattle.jc_card.specs.Reads.{CardWords, Holds}
 use Rattle.jc_run.specs.Answer.{Answered}
-use Rattle.jc_run.specs.Play.{BadLimits, BadLine, EndsAt, IsLinePlayed, IsPart, NoMemory, NotRead, NotWritten, Over}
-use Rattle.jc_run.specs.Play.{Plays, ScriptEnd, SourceFailed, load_answer}
-use Rattle.jc_run.specs.Performs.{PlaysOn}
+use Rattle.jc_run.specs.Play.{BadLimits, BadLine, IsAnswered, IsPart, NoMemory, NotRead, NotWritten, Over, ScriptEnd}
+use Rattle.jc_run.specs.Play.{SourceFailed, answer_line, load_answer}
 use Rattle.jc_script.specs.Reading.{BeginsBad, TakesLine}
-use Rattle.jc_script.specs.Script.{ScriptLine, line_at, lines_of}
+use Rattle.jc_script.specs.Script.{Asks, Bad, Load, ScriptCommand, ScriptLine, Skipped, line_at, lines_of}
+
+-- ---- lines
+
+-- a command is done, and the line of its answer is written
+pub record IsCommandPlayed (images certificates : List ℕ → List ℕ → Type 0) (c : CardState) (command : ScriptCommand)
+    (written : List ℕ) (after : CardState) : Type 0 where
+  pub answer : Answered
+  pub answered : IsAnswered images certificates c command answer after
+  pub written_is : written ≡ answer_line answer
+
+-- what is written to a line, and the card behind it. A line that says nothing changes nothing
+abbrev pub IsLinePlayed : (images certificates : List ℕ → List ℕ → Type 0) → CardState → ScriptLine → List ℕ
+    → CardState → Type 0
+IsLinePlayed images certificates c Skipped written after = (written ≡ []) × (after ≡ c)
+IsLinePlayed images certificates c (Asks command) written after =
+    IsCommandPlayed images certificates c command written after
+IsLinePlayed images certificates c Bad written after = ⊥
+
+-- what is written to a line that ends the script, and how
+pub data EndsAt (images certificates : List ℕ → List ℕ → Type 0) (c : CardState) (number : ℕ)
+    : ScriptLine → List ℕ → ScriptEnd → Type 0 where
+  bad : EndsAt images certificates c number Bad [] (BadLine number)
+  source : (folder certificate : List ℕ)
+      → EndsAt images certificates c number (Asks (Load folder certificate)) [] (SourceFailed number)
+  memory : (folder certificate : List ℕ)
+      → EndsAt images certificates c number (Asks (Load folder certificate)) [] NoMemory
+  unwritten : (command : ScriptCommand) (written : List ℕ) (answer : Answered) (after : CardState)
+      → IsAnswered images certificates c command answer after → IsPart written (answer_line answer)
+      → EndsAt images certificates c number (Asks command) written NotWritten
+
+-- what lines come to, of which the first has a number: the bytes that are written, and how it ends. The lines are done
+-- in their order, each on the card that the one before it left
+pub data Plays (images certificates : List ℕ → List ℕ → Type 0)
+    : ℕ → List (List ℕ) → CardState → List ℕ → ScriptEnd → Type 0 where
+  over : (number : ℕ) (c : CardState) → Plays images certificates number [] c [] Over
+  line : (number : ℕ) (first : List ℕ) (lines : List (List ℕ)) (c after : CardState) (written behind : List ℕ)
+      (end : ScriptEnd) → IsLinePlayed images certificates c (line_at number first) written after
+      → Plays images certificates (suc number) lines after behind end
+      → Plays images certificates number (first ∷ lines) c (written ++ behind) end
+  ended : (number : ℕ) (first : List ℕ) (lines : List (List ℕ)) (c : CardState) (written : List ℕ) (end : ScriptEnd)
+      → EndsAt images certificates c number (line_at number first) written end
+      → Plays images certificates number (first ∷ lines) c written end
+  unread : (number : ℕ) (lines : List (List ℕ)) (c : CardState)
+      → Plays images certificates number lines c [] NotRead
+
+-- what was written behind what was there, and how it ended, is what these lines come to; the first has a number
+pub record PlaysFrom (images certificates : List ℕ → List ℕ → Type 0) (number : ℕ) (bytes : List ℕ) (c : CardState)
+    (before : List ℕ) (now : Option (List ℕ)) (end : ScriptEnd) : Type 0 where
+  pub written : List ℕ
+  pub plays : Plays images certificates number (lines_of bytes) c written end
+  pub now_is : now ≡ Some (before ++ written)
+
+-- ---- parts
 
 -- known bytes grow by the first of some
 pub record GrowsByPart (before after whole : List ℕ) : Type 0 where
@@ -90,7 +142,7 @@ abbrev pub Turns : (images certificates : List ℕ → List ℕ → Type 0) → 
 Turns images certificates number bytes c after left before now true =
     IsTurn images certificates number bytes c after left before now
 Turns images certificates number bytes c after left before now false =
-    PlaysOn images certificates number bytes c before now Over
+    PlaysFrom images certificates number bytes c before now Over
 
 -- lines are done: whatever those that are left come to, all of them come to that behind what is written
 pub record HasPlayed (images certificates : List ℕ → List ℕ → Type 0) (c : CardState) (script before : List ℕ)

@@ -1,11 +1,38 @@
 -- Private. The parts of a session.
-use Rattle.std.specs.Prelude.{⊤, ◌≡◌, ℕ, Bool, true, false, List, [], ◌∷◌, ◌++◌, Option, Some}
+use Rattle.std.specs.Prelude.{◌≡◌, ℕ, Bool, true, false, List, [], ◌∷◌, ◌++◌, Option, Some}
 use Rattle.jc_card.specs.Card.{CardState}
 use Rattle.jc_card.specs.Reads.{CardWords, Holds}
-use Rattle.jc_run.specs.Play.{BadLimits, BadLine, IsLinePlayed, IsPart, NoMemory, NotRead, NotWritten, Over, ScriptEnd}
-use Rattle.jc_run.specs.Play.{SourceFailed}
-use Rattle.jc_run.specs.Session.{Converses, ConversesOn, MayRefuse}
-use Rattle.jc_script.specs.Script.{ScriptLine, lines_of, session_line}
+use Rattle.jc_run.specs.Answer.{Answered}
+use Rattle.jc_run.specs.Play.{BadLimits, BadLine, IsAnswered, IsPart, NoMemory, NotRead, NotWritten, Over, ScriptEnd}
+use Rattle.jc_run.specs.Play.{SourceFailed, answer_line}
+use Rattle.jc_run.specs.PrivatePlay.{IsLinePlayed}
+use Rattle.jc_run.specs.Session.{MayRefuse}
+use Rattle.jc_script.specs.Script.{Asks, ScriptCommand, ScriptLine, lines_of, session_line}
+
+-- what lines come to: the bytes that are written, and how it ends. The lines are done in their order, each on the card
+-- that the one before it left. A line that is refused writes nothing and changes nothing
+pub data Converses (images certificates : List ℕ → List ℕ → Type 0)
+    : List (List ℕ) → CardState → List ℕ → ScriptEnd → Type 0 where
+  over : (c : CardState) → Converses images certificates [] c [] Over
+  line : (first : List ℕ) (lines : List (List ℕ)) (c after : CardState) (written behind : List ℕ) (end : ScriptEnd)
+      → IsLinePlayed images certificates c (session_line first) written after
+      → Converses images certificates lines after behind end
+      → Converses images certificates (first ∷ lines) c (written ++ behind) end
+  refused : (first : List ℕ) (lines : List (List ℕ)) (c : CardState) (behind : List ℕ) (end : ScriptEnd)
+      → MayRefuse (session_line first) → Converses images certificates lines c behind end
+      → Converses images certificates (first ∷ lines) c behind end
+  unwritten : (first : List ℕ) (lines : List (List ℕ)) (c after : CardState) (command : ScriptCommand)
+      (written : List ℕ) (answer : Answered) → session_line first ≡ Asks command
+      → IsAnswered images certificates c command answer after → IsPart written (answer_line answer)
+      → Converses images certificates (first ∷ lines) c written NotWritten
+  unread : (lines : List (List ℕ)) (c : CardState) → Converses images certificates lines c [] NotRead
+
+-- what was written behind what was there, and how it ended, is what these lines come to
+pub record ConversesFrom (images certificates : List ℕ → List ℕ → Type 0) (bytes : List ℕ) (c : CardState)
+    (before : List ℕ) (now : Option (List ℕ)) (end : ScriptEnd) : Type 0 where
+  pub written : List ℕ
+  pub converses : Converses images certificates (lines_of bytes) c written end
+  pub now_is : now ≡ Some (before ++ written)
 
 -- a line is done, or refused
 pub data IsDoneOrRefused (images certificates : List ℕ → List ℕ → Type 0) (c : CardState) (said : ScriptLine)
@@ -26,10 +53,12 @@ pub record IsLineHeld (images certificates : List ℕ → List ℕ → Type 0) (
 pub record IsLineUnwritten (images certificates : List ℕ → List ℕ → Type 0) (c : CardState) (said : ScriptLine)
     (before : List ℕ) (now : Option (List ℕ)) : Type 0 where
   pub written : List ℕ
-  pub whole : List ℕ
+  pub command : ScriptCommand
+  pub is : said ≡ Asks command
+  pub answer : Answered
   pub card : CardState
-  pub played : IsLinePlayed images certificates c said whole card
-  pub part : IsPart written whole
+  pub answered : IsAnswered images certificates c command answer card
+  pub part : IsPart written (answer_line answer)
   pub now_is : now ≡ Some (before ++ written)
 
 -- no line ends a session otherwise
@@ -58,7 +87,7 @@ abbrev pub SessionTurns : (images certificates : List ℕ → List ℕ → Type 
 SessionTurns images certificates bytes c after left before now true =
     IsSessionTurn images certificates bytes c after left before now
 SessionTurns images certificates bytes c after left before now false =
-    ConversesOn images certificates bytes c before now Over
+    ConversesFrom images certificates bytes c before now Over
 
 -- lines are done: whatever those that are left come to, all of them come to that behind what is written
 pub record HasConversed (images certificates : List ℕ → List ℕ → Type 0) (c : CardState) (input before : List ℕ)

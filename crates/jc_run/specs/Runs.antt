@@ -1,20 +1,22 @@
 -- The simulation theorem, of a whole script: which commands were done, what the defensive machine answers to them,
 -- which objects it accessed, and what changed by that (Java Card Runtime Environment Specification, Applet Isolation
 -- and Object Sharing).
-use Rattle.std.specs.Prelude.{◌≡◌, List, [], ◌∷◌, ◌++◌, ℕ, Option, IfSome, map}
+use Rattle.std.specs.Prelude.{◌≡◌, ℕ, true, false, List, [], ◌∷◌, ◌++◌, Option, Some, None, IfSome, map}
 use Rattle.std.specs.Option.{option_map_or}
 use Rattle.jc_api.specs.Bound.{Bound}
 use Rattle.jc_card.specs.Accesses.{ChangesBy, IsApartCard, IsGuardedCommand, KeepsApart, LeavesObjects}
 use Rattle.jc_card.specs.Card.{CardState}
 use Rattle.jc_card.specs.Commands.{apdu_command, reset_command}
 use Rattle.jc_card.specs.Install.{install_command}
-use Rattle.jc_card.specs.New.{new_card}
+use Rattle.jc_card.specs.New.{are_limits, new_card}
 use Rattle.jc_card.specs.Parts.{Left}
 use Rattle.jc_card.specs.declared.limits.Limits.{Limits}
 use Rattle.jc_machine.specs.Machine.{Touch}
 use Rattle.jc_run.specs.Answer.{Answered}
-use Rattle.jc_run.specs.Play.{IsAnswered, NotWritten, Over, ScriptEnd, answer_line}
-use Rattle.jc_script.specs.Script.{Apdu, Cells, Install, Load, Objects, Reset, Script, ScriptCommand, script_commands}
+use Rattle.jc_run.specs.Play.{BadLimits, BadLine, IsAnswered, IsPart, NoMemory, NotRead, NotWritten, Over, ScriptEnd}
+use Rattle.jc_run.specs.Play.{SourceFailed, answer_line}
+use Rattle.jc_script.specs.Script.{Apdu, Cells, Install, Load, Numbered, Objects, Reset, Script, ScriptCommand}
+use Rattle.jc_script.specs.Script.{script_commands}
 
 -- ---- a run of the card
 
@@ -79,37 +81,60 @@ pub record AreGuarded (images certificates : List ℕ → List ℕ → Type 0) :
 
 -- ---- a script
 
--- its commands, in the order of their lines
-abbrev pub commands_in : Script → List ScriptCommand
-commands_in script = map (λ n. n.command) script.commands
+-- the commands of lines, in their order
+abbrev pub commands_of : List Numbered → List ScriptCommand
+commands_of lines = map (λ n. n.command) lines
 
 -- the lines of answers, one behind the other
 abbrev pub answer_lines : List Answered → List ℕ
 answer_lines [] = []
 answer_lines (answer ∷ answers) = answer_line answer ++ answer_lines answers
 
--- the first of these commands were done, on a card: what they are answered is what is written, each answer in a line of
--- its own. Only where an answer can't be written a part of its line may stand there. Where nothing ended it early all
--- were done
-pub record IsDone (images certificates : List ℕ → List ℕ → Type 0) (commands : List ScriptCommand) (c : CardState)
+-- how a script ends, on the card behind the commands that were done: which commands are left, what is written behind
+-- the answers, and the end. All are done; or all up to a line that is none; the files of the next one, which is a load,
+-- can't be read, or memory is out for them; the script can't be read; or of the next one's answer a part is written
+pub data EndsWith (images certificates : List ℕ → List ℕ → Type 0) (c : CardState) (bad : Option ℕ)
+    : List Numbered → List ℕ → ScriptEnd → Type 0 where
+  over : bad ≡ None → EndsWith images certificates c bad [] [] Over
+  bad_line : (number : ℕ) → bad ≡ Some number → EndsWith images certificates c bad [] [] (BadLine number)
+  source : (next : Numbered) (left : List Numbered) (folder certificate : List ℕ)
+      → next.command ≡ Load folder certificate
+      → EndsWith images certificates c bad (next ∷ left) [] (SourceFailed next.number)
+  memory : (next : Numbered) (left : List Numbered) (folder certificate : List ℕ)
+      → next.command ≡ Load folder certificate → EndsWith images certificates c bad (next ∷ left) [] NoMemory
+  unread : (left : List Numbered) → EndsWith images certificates c bad left [] NotRead
+  unwritten : (next : Numbered) (left : List Numbered) (part : List ℕ) (answer : Answered) (after : CardState)
+      → IsAnswered images certificates c next.command answer after → IsPart part (answer_line answer)
+      → EndsWith images certificates c bad (next ∷ left) part NotWritten
+
+-- a script on a card: its commands are done in their order, up to an end. What they are answered is what is written,
+-- each answer in a line of its own
+pub record IsPlayed (images certificates : List ℕ → List ℕ → Type 0) (script : Script) (c : CardState)
     (written : List ℕ) (end : ScriptEnd) : Type 0 where
-  pub done : List ScriptCommand
-  pub left : List ScriptCommand
-  pub in_order : commands ≡ done ++ left
-  pub all : end ≡ Over → left ≡ []
+  pub done : List Numbered
+  pub left : List Numbered
+  pub in_order : script.commands ≡ done ++ left
   pub answers : List Answered
   pub touches : List Touch
   pub card : CardState
-  pub run : IsCardRun images certificates done c answers touches card
+  pub run : IsCardRun images certificates (commands_of done) c answers touches card
   pub part : List ℕ
   pub lines : written ≡ answer_lines answers ++ part
-  pub whole : (end ≡ NotWritten → ⊥) → part ≡ []
+  pub ends : EndsWith images certificates card script.bad left part end
+
+-- a script on a new card, which is made first: its limits don't fit, or memory is out for it, and then nothing is read
+pub data RunsTo (images certificates : List ℕ → List ℕ → Type 0) (limits : Limits) (binding : Bound) (script : List ℕ)
+    : List ℕ → ScriptEnd → Type 0 where
+  unfit : are_limits limits ≡ false → RunsTo images certificates limits binding script [] BadLimits
+  no_card : are_limits limits ≡ true → RunsTo images certificates limits binding script [] NoMemory
+  played : (written : List ℕ) (end : ScriptEnd) → are_limits limits ≡ true
+      → IsPlayed images certificates (script_commands script) (new_card limits binding) written end
+      → RunsTo images certificates limits binding script written end
 
 -- the theorem: the responses are those of the defensive machine on a new card; each access is one that the firewall
 -- allows, or is denied, throws and changes nothing; and on that card the runtime's name is its own
 pub record IsSimulated (images certificates : List ℕ → List ℕ → Type 0) (limits : Limits) (binding : Bound)
     (script written : List ℕ) (end : ScriptEnd) : Type 0 where
-  pub responses : IsDone images certificates (commands_in (script_commands script)) (new_card limits binding) written
-      end
+  pub responses : RunsTo images certificates limits binding script written end
   pub accesses : AreGuarded images certificates
   pub apart : IsApartCard (new_card limits binding)

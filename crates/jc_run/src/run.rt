@@ -8,7 +8,7 @@ ghost use Rattle.jc_packages.specs.Source.{HoldSame};
 ghost use Rattle.jc_run.specs.End.{end_of, end_of_fault};
 ghost use Rattle.jc_run.specs.Performs.{HasRun, PlaysOn};
 ghost use Rattle.jc_run.specs.Play.{BadLimits, failures_at, unread_fault};
-ghost use Rattle.jc_run.specs.PrivatePlay.{IsLineDone, IsEnd, IsLineEnd, IsRead, IsUnread, Turns};
+ghost use Rattle.jc_run.specs.PrivatePlay.{IsLineDone, IsEnd, IsLineEnd, IsRead, IsUnread, PlaysFrom, Turns};
 ghost use Rattle.jc_script.specs.Reading.{pending};
 ghost use Rattle.jc_script.specs.Script as script;
 ghost use Rattle.jc_script.specs.Shown.{shown_command};
@@ -159,7 +159,7 @@ fn play_next<R: Read, W: Write, S: PackageSource, T: Teller<S>>(
         (pending lines.new.unread (R.remaining reader.new)) before (W.contents writer.new) is_line) }
     ensures ended { IfErr result (λ fault. (c : CardState) (bytes before : List ℕ) → Holds card.old c
         → pending lines.old.unread (R.remaining reader.old) ≡ Some bytes → W.contents writer.old ≡ Some before
-        → PlaysOn (S.holds_image source.old) (S.holds_certificate source.old) number bytes c before
+        → PlaysFrom (S.holds_image source.old) (S.holds_certificate source.old) number bytes c before
         (W.contents writer.new) (end_of_fault fault)) }
     ensures none_failed { IfOk result (λ is_line. S.failed source.new ≡ S.failed source.old) }
     ensures counted { IfErr result (λ fault.
@@ -209,7 +209,7 @@ pub fn play<R: Read, W: Write, S: PackageSource, T: Teller<S>>(
     requires { S.failed source.old < 2 ^ 31 }
     ensures played { (c : CardState) (bytes before : List ℕ) → Holds card.old c
         → R.remaining reader.old ≡ Some bytes → W.contents writer.old ≡ Some before
-        → PlaysOn (S.holds_image source.old) (S.holds_certificate source.old) 1 bytes c before
+        → PlaysOn (S.holds_image source.old) (S.holds_certificate source.old) bytes c before
         (W.contents writer.new) (end_of result) }
     ensures counted { S.failed source.new ≡ S.failed source.old + failures_at (end_of result) }
     ensures same_images { HoldSame (S.holds_image source.old) (S.holds_image source.new) }

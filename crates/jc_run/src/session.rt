@@ -7,7 +7,7 @@ ghost use Rattle.jc_card.specs.Reads.{Holds};
 ghost use Rattle.jc_packages.specs.Source.{HoldSame};
 ghost use Rattle.jc_run.specs.End.{end_of, end_of_fault};
 ghost use Rattle.jc_run.specs.Play.{BadLimits};
-ghost use Rattle.jc_run.specs.PrivateSession.{EndsLine, IsLineHeld, SessionTurns};
+ghost use Rattle.jc_run.specs.PrivateSession.{ConversesFrom, EndsLine, IsLineHeld, SessionTurns};
 ghost use Rattle.jc_run.specs.Session.{ConversesOn, HasHeld};
 ghost use Rattle.jc_script.specs.Reading.{pending};
 ghost use Rattle.jc_script.specs.Script as script;
@@ -136,7 +136,7 @@ fn converse_next<R: Read, W: Write, S: PackageSource, T: Teller<S>>(
         (pending lines.new.unread (R.remaining reader.new)) before (W.contents writer.new) is_line) }
     ensures ended { IfErr result (λ fault. (c : CardState) (bytes before : List ℕ) → Holds card.old c
         → pending lines.old.unread (R.remaining reader.old) ≡ Some bytes → W.contents writer.old ≡ Some before
-        → ConversesOn (S.holds_image source.old) (S.holds_certificate source.old) bytes c before
+        → ConversesFrom (S.holds_image source.old) (S.holds_certificate source.old) bytes c before
         (W.contents writer.new) (end_of_fault fault)) }
     ensures same_images { HoldSame (S.holds_image source.old) (S.holds_image source.new) }
     ensures same_certificates { HoldSame (S.holds_certificate source.old) (S.holds_certificate source.new) }

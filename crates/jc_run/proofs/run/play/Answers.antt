@@ -1,6 +1,7 @@
 use Rattle.std.proofs.Common.{arith, refl, ◌∙◌, ◌++◌}
 use Rattle.jc_run.proofs.Ending.{end_plays}
-use Rattle.jc_run.proofs.Playing.{at_end, begun, handed_end, one_more, plays_on_as, same_self, same_through, turn_as}
+use Rattle.jc_run.proofs.Playing.{at_end, begun, handed_end, one_more, plays_from_as, same_self, same_through, turn_as}
+use Rattle.jc_run.proofs.Running.{played_on}
 use Rattle.jc_run.specs.Performs.{PlaysOn}
 use Rattle.jc_script.specs.Reading.{pending}
 use Rattle.jc_run.proofs.run.play.Goals as goal
@@ -35,20 +36,20 @@ pub returns-then-not-branch-clause-played : goal.returns-then-not-branch-clause-
 returns-then-not-branch-clause-played g c = λ t bytes before h is known.
     let v = c.loop-number.invariant in
     let so_far = v.4 t bytes before h is known in
-    at_end _ _ t bytes before so_far (plays_on_as _ _ _ _ v.2 v.3
+    played_on _ _ (at_end _ _ t bytes before so_far (plays_from_as _ _ _ _ v.2 v.3
     ((rw c.if-not-branch.true at c.in_ok-play_next.ensures.done)
-    so_far.card so_far.rest (before ++ so_far.written) so_far.holds so_far.left_is so_far.now_is))
+    so_far.card so_far.rest (before ++ so_far.written) so_far.holds so_far.left_is so_far.now_is)))
 
 pub returns-in_err-play_next-clause-played : goal.returns-in_err-play_next-clause-played
 returns-in_err-play_next-clause-played g c = λ t bytes before h is known.
     let v = c.loop-number.invariant in
     let so_far = v.4 t bytes before h is known in
-    handed_end _ _ (PlaysOn _ _ 1 bytes t before _) c.from_residual.ensures.1
-    (at_end _ _ t bytes before so_far (plays_on_as _ _ _ _ v.2 v.3 (c.in_err-play_next.ensures.ended
-    so_far.card so_far.rest (before ++ so_far.written) so_far.holds so_far.left_is so_far.now_is)))
+    handed_end _ _ (PlaysOn _ _ bytes t before _) c.from_residual.ensures.1
+    (played_on _ _ (at_end _ _ t bytes before so_far (plays_from_as _ _ _ _ v.2 v.3 (c.in_err-play_next.ensures.ended
+    so_far.card so_far.rest (before ++ so_far.written) so_far.holds so_far.left_is so_far.now_is))))
 
 pub returns-clause-played : goal.returns-clause-played
 returns-clause-played g c = λ t bytes before h is known.
     let so_far = c.loop-number.invariant.4 t bytes before h is known in
-    at_end _ _ t bytes before so_far (end_plays _ _ _ so_far.rest so_far.card _ _ _
-    (c.play_end.ensures.ended so_far.rest so_far.left_is) so_far.now_is)
+    played_on _ _ (at_end _ _ t bytes before so_far (end_plays _ _ _ so_far.rest so_far.card _ _ _
+    (c.play_end.ensures.ended so_far.rest so_far.left_is) so_far.now_is))

@@ -1,5 +1,6 @@
 use Rattle.std.proofs.Common.{refl, ◌++◌}
-use Rattle.jc_run.proofs.Conversing.{at_end, begun, converses_on_as, not_read, one_more, turn_as}
+use Rattle.jc_run.proofs.Conversing.{at_end, begun, converses_from_as, not_read, one_more, turn_as}
+use Rattle.jc_run.proofs.Holding.{held_on}
 use Rattle.jc_run.proofs.Playing.{handed_end, same_self, same_through}
 use Rattle.jc_run.specs.Session.{ConversesOn}
 use Rattle.jc_script.specs.Reading.{pending}
@@ -29,7 +30,7 @@ loop-number-preserved g c =
 pub returns-then-failures-gt-MOST_FAILURES-clause-held : goal.returns-then-failures-gt-MOST_FAILURES-clause-held
 returns-then-failures-gt-MOST_FAILURES-clause-held g c = λ t bytes before h is known.
     let so_far = c.loop-number.invariant.2 t bytes before h is known in
-    at_end _ _ t bytes before so_far (not_read _ _ so_far.card so_far.rest _ _ so_far.now_is)
+    held_on _ _ (at_end _ _ t bytes before so_far (not_read _ _ so_far.card so_far.rest _ _ so_far.now_is))
 
 pub returns-then-failures-gt-MOST_FAILURES-clause-same_images :
     goal.returns-then-failures-gt-MOST_FAILURES-clause-same_images
@@ -43,19 +44,20 @@ pub returns-then-not-branch-clause-held : goal.returns-then-not-branch-clause-he
 returns-then-not-branch-clause-held g c = λ t bytes before h is known.
     let v = c.loop-number.invariant in
     let so_far = v.2 t bytes before h is known in
-    at_end _ _ t bytes before so_far (converses_on_as _ _ _ _ v.0 v.1
+    held_on _ _ (at_end _ _ t bytes before so_far (converses_from_as _ _ _ _ v.0 v.1
     ((rw c.if-not-branch.true at c.in_ok-converse_next.ensures.done)
-    so_far.card so_far.rest (before ++ so_far.written) so_far.holds so_far.left_is so_far.now_is))
+    so_far.card so_far.rest (before ++ so_far.written) so_far.holds so_far.left_is so_far.now_is)))
 
 pub returns-in_err-converse_next-clause-held : goal.returns-in_err-converse_next-clause-held
 returns-in_err-converse_next-clause-held g c = λ t bytes before h is known.
     let v = c.loop-number.invariant in
     let so_far = v.2 t bytes before h is known in
     handed_end _ _ (ConversesOn _ _ bytes t before _) c.from_residual.ensures.1
-    (at_end _ _ t bytes before so_far (converses_on_as _ _ _ _ v.0 v.1 (c.in_err-converse_next.ensures.ended
-    so_far.card so_far.rest (before ++ so_far.written) so_far.holds so_far.left_is so_far.now_is)))
+    (held_on _ _ (at_end _ _ t bytes before so_far (converses_from_as _ _ _ _ v.0 v.1
+    (c.in_err-converse_next.ensures.ended
+    so_far.card so_far.rest (before ++ so_far.written) so_far.holds so_far.left_is so_far.now_is))))
 
 pub returns-clause-held : goal.returns-clause-held
 returns-clause-held g c = λ t bytes before h is known.
     let so_far = c.loop-number.invariant.2 t bytes before h is known in
-    at_end _ _ t bytes before so_far (not_read _ _ so_far.card so_far.rest _ _ so_far.now_is)
+    held_on _ _ (at_end _ _ t bytes before so_far (not_read _ _ so_far.card so_far.rest _ _ so_far.now_is))

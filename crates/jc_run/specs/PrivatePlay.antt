@@ -105,14 +105,14 @@ pub record IsTaken (number : ℕ) (line bytes : List ℕ) (left : Option (List �
   pub takes : TakesLine number line bytes rest
 
 abbrev pub IsRead : ℕ → List ℕ → List ℕ → Option (List ℕ) → Bool → Type 0
-IsRead number line bytes left true = IsTaken number line bytes left
-IsRead number line bytes left false = lines_of bytes ≡ []
+IsRead number taken bytes left true = IsTaken number taken bytes left
+IsRead number taken bytes left false = lines_of bytes ≡ []
 
 -- nothing is read: the first line is bad, or the reader fails
 abbrev pub IsUnread : ℕ → List ℕ → ScriptEnd → Type 0
 IsUnread number bytes Over = ⊥
-IsUnread number bytes (BadLine bad) = (bad ≡ number) × BeginsBad number (lines_of bytes)
-IsUnread number bytes (SourceFailed bad) = ⊥
+IsUnread number bytes (BadLine told) = (told ≡ number) × BeginsBad number (lines_of bytes)
+IsUnread number bytes (SourceFailed told) = ⊥
 IsUnread number bytes NotRead = ⊤
 IsUnread number bytes NotWritten = ⊥
 IsUnread number bytes NoMemory = ⊥
@@ -121,8 +121,8 @@ IsUnread number bytes BadLimits = ⊥
 -- or none is left
 abbrev pub IsEnd : ℕ → List ℕ → ScriptEnd → Type 0
 IsEnd number bytes Over = lines_of bytes ≡ []
-IsEnd number bytes (BadLine bad) = (bad ≡ number) × BeginsBad number (lines_of bytes)
-IsEnd number bytes (SourceFailed bad) = ⊥
+IsEnd number bytes (BadLine told) = (told ≡ number) × BeginsBad number (lines_of bytes)
+IsEnd number bytes (SourceFailed told) = ⊥
 IsEnd number bytes NotRead = ⊤
 IsEnd number bytes NotWritten = ⊥
 IsEnd number bytes NoMemory = ⊥

@@ -4,5 +4,6 @@ pub mod Runs
 pub mod End
 pub mod Performs
 pub mod Session
+pub mod Texts
 pub mod PrivatePlay
 pub mod PrivateSession

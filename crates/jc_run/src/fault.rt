@@ -4,32 +4,50 @@ ghost use Rattle.std.specs.Prelude.{◌≡◌};
 
 use jc_card::CardFault;
 use jc_script::{LineFault, ReadFault};
-use std::io;
-use thiserror::Error;
+use std::error::Error;
+use std::{fmt, io};
 
 /// Why a script ends before its last line.
-#[derive(Debug, Drop, Error)]
+#[derive(Debug, Drop)]
 pub enum ScriptFault {
     /// The line with this number, from 1 on, is no command, for this reason: it says something else, is too long, or is
     /// one too many.
-    #[error("line {number}, {fault}")]
     BadLine { number: u32, fault: LineFault },
     /// A package or a certificate that the line with this number names can't be read.
-    #[error("line {0}: the package or its certificate can't be read")]
     Source(u32),
     /// The script can't be read.
-    #[error("the script can't be read: {0}")]
     Read(ReadFault),
     /// An answer can't be written.
-    #[error("an answer can't be written: {0}")]
     Write(io::Error),
     /// One of the card's limits is too small or too large.
-    #[error("the limits are too small or too large")]
     BadLimits,
     /// No memory was left for the card, or for what a line names.
-    #[error("out of memory")]
     Memory,
 }
+
+impl fmt::Display for ScriptFault {
+    ghost use Rattle.jc_run.specs.Texts.{script_fault_text};
+
+    ghost output = { script_fault_text };
+
+    fn fmt<W: fmt::Write>(&self, f: &mut fmt::Formatter<W>) -> fmt::Result {
+        match self {
+            ScriptFault::BadLine { number, fault } => write!(f, "line {number}, {fault}"),
+            ScriptFault::Source(number) => {
+                write!(
+                    f,
+                    "line {number}: the package or its certificate can't be read"
+                )
+            }
+            ScriptFault::Read(fault) => write!(f, "the script can't be read: {fault}"),
+            ScriptFault::Write(error) => write!(f, "an answer can't be written: {error}"),
+            ScriptFault::BadLimits => write!(f, "the limits are too small or too large"),
+            ScriptFault::Memory => write!(f, "out of memory"),
+        }
+    }
+}
+
+impl Error for ScriptFault {}
 
 /// Why there is no card.
 impl From<CardFault> for ScriptFault {

@@ -11,6 +11,7 @@ use Rattle.clap.specs.declared.error.kind.ErrorKind.TheVariants.{DisplayHelp, Di
 use Rattle.jc_base.specs.Reason.{name_of}
 use Rattle.jc_packages.specs.Answer.{verify_line_of}
 use Rattle.jcard.specs.Answer.{line_of}
+use Rattle.jc_run.specs.Texts.{script_fault_text}
 use Rattle.jcard.specs.Files.{Entry, Written, file_line}
 use Rattle.jcard.specs.Line.{IsJobFor, IsLineError}
 use Rattle.jcard.specs.Texts.{AnswersTexts, IsTextFault, fault_line_of}
@@ -53,15 +54,15 @@ line_feed = codes "\n"
 abbrev pub load_line : ℕ → List ℕ → List ℕ
 load_line number line = (((codes "error: line " ++ decimal number) ++ codes ": ") ++ line) ++ line_feed
 
--- the bytes that are written, but for the words of clap, of the system, of the reader of hexadecimal, and of a script's
--- fault
+-- the bytes that are written, but for the words of clap, of the system, of the reader of hexadecimal, and of a script
+-- that can't be read
 abbrev pub text_of : Message → Option (List ℕ)
 text_of (Answer answer) = Some (line_of answer ++ line_feed)
 text_of (Fault fault) = option_map (λ line. (codes "error: " ++ line) ++ line_feed) (fault_line_of fault)
 text_of (Verified answer) = Some (verify_line_of answer ++ line_feed)
 text_of (File fault) = option_map (λ line. (codes "error: " ++ line) ++ line_feed) (file_line fault)
 text_of (Load number fault) = option_map (load_line number) (file_line fault)
-text_of (Script fault) = None
+text_of (Script fault) = option_map (λ line. (codes "error: " ++ line) ++ line_feed) (script_fault_text fault)
 text_of (Line error) = None
 text_of NotText = Some (codes "error: an argument isn't UTF-8" ++ line_feed)
 

@@ -4,7 +4,7 @@ use Rattle.std.proofs.lemmas.List.{append-nil}
 use Rattle.std.specs.List.{AllZip}
 use Rattle.jc_api.specs.Bound.{Bound}
 use Rattle.jcard.specs.Binding.{IsBindingFor}
-use Rattle.jcard.specs.Files.{Entry, IsWritten, OfFile, Written}
+use Rattle.jcard.specs.Files.{Entry, IsWritten, OfFile, WritesAlone, Written}
 use Rattle.jcard.specs.Folders.{FailsFirst, IsFolderFault, IsImage}
 use Rattle.jcard.specs.Saying.{IsSaidOfFiles, IsSaidOfJob}
 use Rattle.jcard.specs.Saying.IsSaidOfJob.{memory, undone}
@@ -20,6 +20,9 @@ use Rattle.jcard.proofs.Reading.{of_file}
 -- nothing is written where nothing is done
 pub none_written : (has : List Written → Type 0) → IsWritten has has []
 none_written has before h = subst has (sym (append-nil before)) h
+
+pub none_beside : (has : List Written → Type 0) (path : List ℕ) → WritesAlone has has path
+none_beside has path before h = record { files = []; alone = tt; wrote = none_written has before h }
 
 -- one of the earlier folders is at fault
 pub earlier_unread : (holds : List ℕ → Entry → Type 0) (job : VerifyJob) (bound : Bound) (fault : ReadFault)

@@ -4,6 +4,7 @@ use Rattle.std.specs.Prelude.{Option, Some, None, is_some, option_map, position,
 use Rattle.std.specs.Char.{is_ascii_control}
 use Rattle.std.specs.Fmt.{decimal}
 use Rattle.std.specs.IoError.{error_kind}
+use Rattle.std.specs.List.{AllByRecursion}
 use Rattle.std.specs.Option.{option_and_then}
 use Rattle.std.specs.String.{string_bytes}
 use Rattle.std.specs.declared.io.Error.{Error}
@@ -32,6 +33,15 @@ pub record Written : Type 0 where
 -- these files were written, in their order, behind whatever was written before
 abbrev pub IsWritten : (List Written → Type 0) → (List Written → Type 0) → List Written → Type 0
 IsWritten before after files = (earlier : List Written) → before earlier → after (earlier ++ files)
+
+-- behind what was written before, the file under a path was written, and no other
+pub record WroteAlone (path : List ℕ) (after : List Written → Type 0) (earlier : List Written) : Type 0 where
+  pub files : List Written
+  pub alone : AllByRecursion (λ (w : Written). w.path ≡ path) files
+  pub wrote : after (earlier ++ files)
+
+abbrev pub WritesAlone : (before after : List Written → Type 0) → List ℕ → Type 0
+WritesAlone before after path = (earlier : List Written) → before earlier → WroteAlone path after earlier
 
 -- something that isn't a folder
 abbrev pub is_file : Entry → Bool

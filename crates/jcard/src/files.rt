@@ -1,8 +1,8 @@
 //! The files of a system as the program sees them, and why one can't be read or written.
 
-ghost use Rattle.std.specs.Prelude.{◌≡◌, ℕ, true, false, [], ◌∷◌, List, IfOk, IfErr};
-ghost use Rattle.jcard.specs.Files.{Entry, IsContent, IsFaultAt, IsFile, IsIrregular, IsUnread, IsWritten};
-ghost use Rattle.jcard.specs.Files.{OfFile, Written};
+ghost use Rattle.std.specs.Prelude.{◌≡◌, ◌↔◌, ℕ, true, false, [], ◌∷◌, List, IfOk, IfErr};
+ghost use Rattle.jcard.specs.Files.{Entry, IsContent, IsFaultAt, IsFile, IsIrregular, IsOutOfMemory, IsUnread};
+ghost use Rattle.jcard.specs.Files.{IsWritten, OfFile, WritesAlone, Written};
 ghost use Rattle.jcard.specs.Files.Entry.{failing, folder};
 
 use crate::shown::ShownName;
@@ -123,22 +123,36 @@ pub trait Files {
         ensures read { IfOk result (λ bytes. IsContent (holds self.now path.now) most bytes.items) }
         ensures unread { IfErr result (IsUnread (holds self.now path.now) most) };
 
-    /// Writes all of these bytes to the file under a path, and nothing else.
+    /// Writes all of these bytes to the file under a path, and nothing else. Where it fails the first of them may stand
+    /// there, and no other file was written.
     fn write(&mut self, path: &str, bytes: &[u8]) -> io::Result<()>
         ensures written { IfOk result
             (λ u. IsWritten (has_written self.old) (has_written self.new)
             (record { path = path.now; bytes = bytes.now } ∷ [])) }
+        ensures alone { WritesAlone (has_written self.old) (has_written self.new) path.now }
         ensures failing { IfErr result (λ error. holds self.old path.now (failing error)) };
+}
+
+/// Whether the system tells that it is out of memory.
+fn is_memory(cause: &FileCause) -> bool
+    ensures { (result ≡ true) ↔ IsOutOfMemory cause.now }
+{
+    match cause {
+        FileCause::System(error) => error.kind() == io::ErrorKind::OutOfMemory,
+        FileCause::NoFolder
+        | FileCause::NotRegular
+        | FileCause::TooLong(_)
+        | FileCause::NotText
+        | FileCause::NoBinding(_) => false,
+    }
 }
 
 /// The fault of the file under a path, or out of memory where that is the cause.
 pub fn fault_of(alloc: Global, path: &str, cause: FileCause) -> ReadFault
     ensures { OfFile (IsFaultAt path.now (λ told. told ≡ cause)) result }
 {
-    if let FileCause::System(error) = &cause {
-        if error.kind() == io::ErrorKind::OutOfMemory {
-            return ReadFault::Memory;
-        }
+    if is_memory(&cause) {
+        return ReadFault::Memory;
     }
     match String::from_str(alloc, path) {
         Ok(name) => ReadFault::File(FileFault { name, cause }),

@@ -1,7 +1,7 @@
 //! The verification of packages in folders.
 
 ghost use Rattle.std.specs.Prelude.{◌≡◌, true, false, IfOk, IfErr};
-ghost use Rattle.jcard.specs.Files.{IsFile, IsWritten, OfFile};
+ghost use Rattle.jcard.specs.Files.{IsFile, IsWritten, OfFile, WritesAlone};
 ghost use Rattle.jcard.specs.Saying.{IsSaidOfJob, may_be_written};
 ghost use Rattle.jcard.specs.Verify.{IsAnswerOf, IsDone, IsUndone, IsUnreadOf, IsUnwrittenOf, written_of};
 
@@ -13,10 +13,12 @@ use crate::saying::{Said, may_be_written, said_of_files, said_of_verified};
 use jc_packages::{VerifyAnswer, verify};
 use std::alloc::Global;
 
-/// What is said of a package. Its certificate is written first, if it gets one.
+/// What is said of a package. Its certificate is written first, if it gets one. Whatever comes of it, no other file than
+/// the certificate's is written.
 pub fn said_of_job<F: Files>(files: &mut F, alloc: Global, job: &VerifyJob) -> Said
-    ensures { IsSaidOfJob (F.holds files.old) (IsWritten (F.has_written files.old) (F.has_written files.new)) job.now
-        result }
+    ensures said { IsSaidOfJob (F.holds files.old) (IsWritten (F.has_written files.old) (F.has_written files.new))
+        job.now result }
+    ensures alone { WritesAlone (F.has_written files.old) (F.has_written files.new) job.now.cert.now }
 {
     match answer_to(files, alloc, job) {
         Ok(answer) => said_of_verified(job.strict, answer),
@@ -49,6 +51,7 @@ fn answer_to<F: Files>(
     ensures faults { IfErr result
         (OfFile (IsUndone (F.holds files.old) (IsWritten (F.has_written files.old) (F.has_written files.new))
         job.now)) }
+    ensures alone { WritesAlone (F.has_written files.old) (F.has_written files.new) job.now.cert.now }
 {
     let answer = worked_out(&*files, alloc, job)?;
     write_answer(files, alloc, job.cert, &answer)?;
@@ -81,6 +84,7 @@ fn write_answer<F: Files>(
     ensures written { IfOk result
         (λ u. IsWritten (F.has_written files.old) (F.has_written files.new) (written_of path.now answer.now)) }
     ensures faults { IfErr result (OfFile (IsUnwrittenOf (F.holds files.old) path.now answer.now)) }
+    ensures alone { WritesAlone (F.has_written files.old) (F.has_written files.new) path.now }
 {
     match answer {
         VerifyAnswer::Certificate(bytes) => match files.write(path, bytes) {

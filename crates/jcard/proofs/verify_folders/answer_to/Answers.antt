@@ -2,7 +2,7 @@ use Rattle.std.proofs.lemmas.Result.{err_from_is_err_and}
 use Rattle.jcard.specs.Files.{IsWritten}
 use Rattle.jcard.specs.Verify.{IsUndone, IsUnwrittenOf}
 use Rattle.jcard.specs.Verify.IsUndone.{unwritten}
-use Rattle.jcard.proofs.Jobs.{unread_undone}
+use Rattle.jcard.proofs.Jobs.{none_beside, unread_undone}
 use Rattle.jcard.proofs.Reading.{of_file}
 use Rattle.jcard.proofs.verify_folders.answer_to.Goals as goal
 
@@ -12,6 +12,9 @@ returns-in_err-answer-clause-faults g c =
     let undone = unread_undone (g.F.Files.holds c.args.files.now) (g.F.Files.has_written c.args.files.now)
     c.args.job.now c.in_err-answer.field-0.0 c.in_err-answer.ensures.faults in
     rw (told.1, told.2) undone
+
+pub returns-in_err-answer-clause-alone : goal.returns-in_err-answer-clause-alone
+returns-in_err-answer-clause-alone g c = none_beside (g.F.Files.has_written c.args.files.now) c.args.job.now.cert.now
 
 pub returns-in_err-write_answer-clause-faults : goal.returns-in_err-write_answer-clause-faults
 returns-in_err-write_answer-clause-faults g c =

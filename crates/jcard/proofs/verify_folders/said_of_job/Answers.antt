@@ -2,8 +2,8 @@ use Rattle.jcard.specs.Saying.IsSaidOfJob.{done}
 use Rattle.jcard.proofs.Jobs.{said_undone}
 use Rattle.jcard.proofs.verify_folders.said_of_job.Goals as goal
 
-pub returns-in-Ok : goal.returns-in-Ok
-returns-in-Ok g c = done c.in-Ok.answer c.in-Ok.ensures.done c.said_of_verified.ensures
+pub returns-in-Ok-clause-said : goal.returns-in-Ok-clause-said
+returns-in-Ok-clause-said g c = done c.in-Ok.answer c.in-Ok.ensures.done c.said_of_verified.ensures
 
-pub returns-in-Err : goal.returns-in-Err
-returns-in-Err g c = said_undone _ _ _ _ c.in-Err.fault c.in-Err.ensures.faults c.said_of_files.ensures
+pub returns-in-Err-clause-said : goal.returns-in-Err-clause-said
+returns-in-Err-clause-said g c = said_undone _ _ _ _ c.in-Err.fault c.in-Err.ensures.faults c.said_of_files.ensures

@@ -10,11 +10,8 @@ use Rattle.jc_loaded.specs.Called.{called_of}
 use Rattle.jc_loaded.specs.Program.{IsProgramOf}
 use Rattle.jc_loaded.specs.declared.program.Program.{Program}
 use Rattle.jc_machine.specs.Machine.{Machine, Surroundings, Touch}
-use Rattle.jc_machine.specs.Natives.{IsLawful}
 use Rattle.jc_machine.specs.Reading.{Pointwise, Reads}
-use Rattle.jc_machine.specs.Running.{MayRun}
-use Rattle.jc_machine.specs.Step.{CallEnd, Called, Gave, RanOut, Start, Threw, WasStuck, no_frame, runtime_call}
-use Rattle.jc_machine.specs.Step.{standing}
+use Rattle.jc_machine.specs.Step.{CallEnd, Called, Gave, RanOut, Start, Threw, WasStuck, runtime_call}
 use Rattle.jc_machine.specs.Typed.{IsTypedBeside}
 use Rattle.jc_names.specs.declared.name.MethodName.{MethodName}
 use Rattle.jc_names.specs.declared.owner.Owner.{Owner}
@@ -23,15 +20,11 @@ use Rattle.jc_natives.specs.Meaning.{meaning}
 use Rattle.jc_safety.specs.Safety.{EndsTyped}
 use Rattle.jc_safety.specs.Starting.{CanBegin, IsTypedStart}
 use Rattle.jc_words.specs.Values.{TaggedValue}
+use Rattle.jc_card.proofs.TypedCalls.{CallLaws, ends_typed, start_on, typed_start}
+use Rattle.jc_card.proofs.TypedCards.{left_typed}
 use Rattle.jc_card.specs.Card.{CardState, around, at_rest, left_by}
 use Rattle.jc_card.specs.Parts.{Normally, OutOfBudget, Uncaught, call_method, ended_call}
 use Rattle.jc_card.specs.Reads.{CardWords, Holds, IsDone, ReadsEnded}
-
--- the laws that each call stands on
-pub record CallLaws : Type 0 where
-  pub lawful : IsLawful meaning
-  pub calls : (s : Surroundings Kept) → MayRun s → (steps : ℕ) (start : Start Kept) → IsTypedStart s start
-      → EndsTyped s (runtime_call s steps start).ends
 
 module _ (laws : CallLaws) (k : CardWords) (c : CardState) (h : Holds k c) (selected : ℕ) (owner : Owner)
     (method : MethodName) (arguments : List TaggedValue) where
@@ -39,22 +32,7 @@ module _ (laws : CallLaws) (k : CardWords) (c : CardState) (h : Holds k c) (sele
   s = around c (Some selected)
 
   abbrev pub start : Start Kept
-  start = record {
-    heap = c.heap;
-    statics = c.statics;
-    runtime = c.kept;
-    owner = owner;
-    method = method;
-    arguments = arguments;
-  }
-
-  pub may_run : MayRun s
-  may_run = record { accepted = h.typed.accepted; natives = laws.lawful }
-
-  pub beside : IsTypedBeside s (standing start (no_frame owner))
-  beside =
-      let b = h.typed.beside in
-      record { heap = b.heap; statics = b.statics; runtime_objects = b.runtime_objects; fits = b.fits }
+  start = start_on c owner method arguments
 
   module _ (can_begin : CanBegin s start method) (first : FirstCall)
       (called_is : first.called ≡ called_of k.program.methods (Some method)) (owner_is : first.owner ≡ owner)
@@ -63,7 +41,7 @@ module _ (laws : CallLaws) (k : CardWords) (c : CardState) (h : Holds k c) (sele
     before = record { machine = k.machine; kept = k.kept }
 
     typed : IsTypedStart s start
-    typed = record { beside = beside; can_begin = can_begin }
+    typed = typed_start laws c h.typed selected owner method arguments can_begin
 
     program_of : IsProgramOf c.world k.program
     program_of = subst (λ (w : World). IsProgramOf w k.program) h.world h.program
@@ -120,22 +98,10 @@ module _ (laws : CallLaws) (k : CardWords) (c : CardState) (h : Holds k c) (sele
           h.steps in_world in
           in_steps c.limits start h.typed.accepted program_of reads typed
 
-      ends_typed : EndsTyped s ran.ends
-      ends_typed = laws.calls s may_run c.steps start typed
-
       holds : (m : Machine Kept) → AgreeBeside s k.program after.machine after.kept m → IsTypedBeside s m
           → Holds after (left_by c m)
       holds m b t = record {
-        typed = record {
-          accepted = h.typed.accepted;
-          beside = record {
-            heap = t.heap;
-            statics = t.statics;
-            runtime_objects = t.runtime_objects;
-            fits = t.fits;
-          };
-          numbers = h.typed.numbers;
-        };
+        typed = left_typed c h.typed (Some selected) m t;
         world = same_world ∙ h.world;
         program =
             subst (λ (w : World). IsProgramOf w after.program) (sym same_world)
@@ -175,4 +141,5 @@ module _ (laws : CallLaws) (k : CardWords) (c : CardState) (h : Holds k c) (sele
       by_end touches WasStuck x t = absurd x
 
       pub method_called : IsDone after (ReadsEnded end) (call_method c selected owner method arguments)
-      method_called = by_end ran.touches ran.ends ends ends_typed
+      method_called =
+          by_end ran.touches ran.ends ends (ends_typed laws c h.typed selected owner method arguments can_begin)

@@ -1,7 +1,6 @@
 -- Why calls didn't end by themselves, on words.
-use Rattle.std.proofs.Common.{◌≡◌, ℕ, Option, Some, None, option_map, refl, sym, ap, ◌∙◌, subst}
+use Rattle.std.proofs.Common.{◌≡◌, ℕ, Option, Some, None, option_map, refl, sym, ap, ◌∙◌}
 use Rattle.jc_interp.specs.declared.ends.RunEnd.TheVariants as runs
-use Rattle.jc_machine.specs.Reading.{ReadsObject}
 use Rattle.jc_machine.specs.declared.stop.Budget.{Budget}
 use Rattle.jc_machine.specs.declared.stop.CodePoint.{CodePoint}
 use Rattle.jc_store.specs.Heap.{Object, object_at}

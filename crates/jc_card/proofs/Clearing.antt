@@ -1,26 +1,22 @@
 -- Arrays that are cleared on words are zero or null on the defensive machine's card.
 use Rattle.std.proofs.Common.{◌≡◌, ◌==◌, ◌&&◌, ℕ, zero, suc, List, [], ◌∷◌, map, Bool, true, false, cond, Option}
-use Rattle.std.proofs.Common.{Some, None}
-use Rattle.std.proofs.Common.{slice_get, refl, sym, ap, ◌∙◌, subst}
+use Rattle.std.proofs.Common.{Some, slice_get, refl, sym, ap, ◌∙◌, subst}
 use Rattle.std.specs.Option.{option_map_or}
 use Rattle.jc_interp.specs.Agree.{AreNumbered, IsNumbered}
 use Rattle.jc_machine.specs.Lookup.{class_of}
-use Rattle.jc_machine.specs.Machine.{Machine, Surroundings}
 use Rattle.jc_machine.specs.Natives.{IsLawful}
 use Rattle.jc_machine.specs.Reading.{HeapReads, Pointwise, Reads, ReadsObject}
-use Rattle.jc_machine.specs.Running.{MayRun}
-use Rattle.jc_machine.specs.Typed.{IsTypedBeside}
 use Rattle.jc_names.specs.declared.name.ClassName.{ClassName}
 use Rattle.jc_names.specs.declared.owner.Owner.{Owner}
-use Rattle.jc_natives.specs.Kept.{Kept}
 use Rattle.jc_natives.specs.Meaning.{meaning}
-use Rattle.jc_safety.specs.Zeroing.{with_heap, zero_or_null, zeroed, zeroed_where}
+use Rattle.jc_safety.specs.Zeroing.{zero_or_null, zeroed, zeroed_where}
 use Rattle.jc_store.specs.Heap.{Heap, Object, blanked, cleared, is_cleared_by, is_same_event}
 use Rattle.jc_store.specs.Store.{Store, with_objects}
 use Rattle.jc_store.specs.declared.kind.ClearingEvent.{ClearingEvent}
 use Rattle.jc_store.specs.declared.kind.Kind.{Kind}
 use Rattle.jc_words.specs.Values.{Null, Ref, TaggedValue, Unset, Word}
-use Rattle.jc_card.specs.Card.{CardState, around, at_rest}
+use Rattle.jc_card.proofs.TypedCards.{ZeroedTyped, cleared_typed}
+use Rattle.jc_card.specs.Card.{CardState}
 use Rattle.jc_card.specs.Parts.{clear}
 use Rattle.jc_card.specs.Reads.{CardWords, GivesNothing, Holds, IsDone}
 
@@ -101,10 +97,7 @@ module _ (event : ClearingEvent) (context : Option ℕ) where
 
   -- ---- the card
 
-  module _ (lawful : IsLawful meaning)
-      (stays : (s : Surroundings Kept) → MayRun s → (m : Machine Kept) → IsTypedBeside s m
-      → (test : Object TaggedValue → Bool) → IsTypedBeside s (with_heap m (zeroed_where test m.heap)))
-      (k : CardWords) (c : CardState) (h : Holds k c) where
+  module _ (lawful : IsLawful meaning) (stays : ZeroedTyped) (k : CardWords) (c : CardState) (h : Holds k c) where
     abbrev after : CardWords
     after = record k {
       machine = record {
@@ -116,21 +109,9 @@ module _ (event : ClearingEvent) (context : Option ℕ) where
 
     pub clear_done : IsDone after GivesNothing (clear event context c)
     clear_done =
-        let s = around c None in
-        let may : MayRun s = record { accepted = h.typed.accepted; natives = lawful } in
-        let t = stays s may (at_rest c) h.typed.beside test in
         let b = h.beside in (
           record {
-            typed = record {
-              accepted = h.typed.accepted;
-              beside = record {
-                heap = t.heap;
-                statics = t.statics;
-                runtime_objects = t.runtime_objects;
-                fits = t.fits;
-              };
-              numbers = h.typed.numbers;
-            };
+            typed = cleared_typed lawful stays c h.typed event context;
             world = h.world;
             program = h.program;
             beside = record {

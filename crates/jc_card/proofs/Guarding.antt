@@ -2,12 +2,10 @@
 use Rattle.std.proofs.Common.{◌≡◌, ℕ, Bool, true, false, cond, List, [], ◌++◌, Option, Some, None, IfSome, refl, sym}
 use Rattle.std.proofs.Common.{◌∙◌, subst, is_some, length, ◌∷◌, zero, suc, Result, Ok, Err}
 use Rattle.std.specs.Option.{option_and_then, option_map, option_map_or}
-use Rattle.jc_link.specs.Linked.{World}
-use Rattle.jc_names.specs.declared.name.MethodName.{MethodName}
 use Rattle.jc_names.specs.declared.name.MethodName.TheVariants.{Loaded}
 use Rattle.jc_names.specs.declared.owner.Owner.{Owner}
 use Rattle.jc_machine.specs.Runtime.{apdu_buffer, install_array}
-use Rattle.jc_natives.specs.Kept.{after_install, with_command, with_install, without_command}
+use Rattle.jc_natives.specs.Kept.{Kept, after_install, with_command, with_install}
 use Rattle.jc_natives.specs.declared.kept.Installing.{Installing}
 use Rattle.jc_natives.specs.declared.kept.Instance.{Instance}
 use Rattle.jc_safety.specs.Starting.{method_for}
@@ -16,11 +14,15 @@ use Rattle.jc_store.specs.declared.kind.ClearingEvent.TheVariants as events
 use Rattle.jc_words.specs.Values.{Ref, TaggedValue, Word}
 use Rattle.jc_card.proofs.Leading.{IsPart, got_first, part_guarded}
 use Rattle.jc_card.proofs.LeadingCalls.{StepsGuarded, call_part}
-use Rattle.jc_card.proofs.LeadingWrites.{clear_part, write_part}
+use Rattle.jc_card.proofs.LeadingWrites.{clear_part, reset_part, write_part}
 use Rattle.jc_base.specs.declared.fault.LoadFault.{LoadFault}
 use Rattle.jc_safety.specs.Loading.{loaded_arrays, next_package}
-use Rattle.jc_card.specs.Accesses.{IsGuardedCommand, IsRunning, IsSameBeside, LeavesObjects}
-use Rattle.jc_card.specs.Accesses.Leads.{nowhere, onward}
+use Rattle.jc_card.specs.Accesses.{IsGuardedCommand, LeavesObjects, law_of_accesses, law_of_plain_objects}
+use Rattle.jc_card.specs.Order.{Claims, Installs, Leads, Order, Performs, Refuses, Resets}
+use Rattle.jc_card.specs.Order.{apdu_order, calls_member, install_order}
+use Rattle.jc_card.specs.Order.IsCallOf.{of_installed, of_selected}
+use Rattle.jc_card.specs.Order.Leads.{by_beginning, by_buffer, by_closing, by_opening, by_parameters, by_selecting}
+use Rattle.jc_card.specs.Order.Leads.{by_settling, by_unselecting, nowhere, onward}
 use Rattle.jc_card.specs.Card.{CardState, selected_instance, with_kept, with_selected}
 use Rattle.jc_card.specs.Command.{Command, buffer_of, command_of, not_selected, wrong_length}
 use Rattle.jc_card.specs.Commands as commands
@@ -32,322 +34,380 @@ use Rattle.jc_card.specs.declared.calls.AppletCall.{AppletCall}
 use Rattle.jc_card.specs.declared.calls.AppletCall.TheVariants as calls
 use Rattle.jc_card.specs.declared.fault.InstallFault.TheVariants as faults
 use Rattle.jc_card.specs.declared.places.AppletPlace.{AppletPlace}
-use Rattle.std.proofs.Common.{ap, inl, inr, not, nat_le, ◌==◌}
-use Rattle.jc_link.specs.Built.{IsBuilt}
-use Rattle.jc_machine.specs.Apart.{IsSetApart, is_applets}
-use Rattle.jc_machine.specs.Machine.{StaticValue}
-use Rattle.jc_machine.specs.Storable.{FieldsHoldStorable}
+use Rattle.std.proofs.Common.{ap, not, nat_le, ◌==◌}
+use Rattle.jc_machine.specs.Apart.{is_applets}
 use Rattle.jc_machine.specs.Runtime.{most_instances}
 use Rattle.jc_natives.specs.Apart.{names_applets}
 use Rattle.jc_natives.specs.Kept.{is_instance_number}
-use Rattle.jc_card.proofs.Owners.{buffer_is_global, deselect_keeps_numbers, install_is_global, next_number_fits}
-use Rattle.jc_card.proofs.Owners.{not_refused_few, place_has_number, selected_is, selected_owner}
+use Rattle.jc_card.proofs.Owners.{buffer_is_global, deselect_keeps_numbers, deselect_selects_none, install_is_global}
+use Rattle.jc_card.proofs.Owners.{next_number_fits, not_refused_few, place_has_number, selected_is, selected_owner}
 use Rattle.jc_card.specs.Accesses.{IsApartCard, KeepsApart}
 
 -- ---- one part after the other
 
+-- what the runtime keeps, who is selected and the last number are others
+abbrev with_others : CardState → Kept → Option Owner → ℕ → CardState
+with_others c kept selected numbers = record c { kept = kept; selected = selected; numbers = numbers }
+
 -- whatever a part comes to on this card
-abbrev Fine : {A : Type 0} → CardState → Option (Left A) → Type 0
-Fine c done = IfSome done (IsPart c)
+abbrev Fine : {A : Type 0} → Order → CardState → Option (Left A) → Type 0
+Fine order c done = IfSome done (IsPart order c)
 
-gives_part : {A : Type 0} (c : CardState) (value : A) → Fine c (gives c value)
-gives_part c value = record {
-  accesses = nowhere c c still;
-  packages = refl;
-  apart = λ p. record { card = p; plain = nowhere c c still };
-}
-  where
-    still : IsSameBeside c c
-    still = record { packages = refl; objects = refl; statics = refl; limits = refl; steps = refl }
+module _ (order : Order) where
+  gives_part : {A : Type 0} (c : CardState) (value : A) → Fine order c (gives c value)
+  gives_part c value = record {
+    accesses = nowhere order c;
+    packages = refl;
+    apart = λ p. record { card = p; plain = nowhere order c };
+  }
 
-joined : {A B : Type 0} (c : CardState) (l : Left A) (next : Option (Left B)) → IsPart c l → Fine l.card next
-    → Fine c (option_map (behind l.touches) next)
-joined c l None first h = tt
-joined c l (Some m) first h = record {
-  accesses = onward c l.card m.card l.touches m.touches first.accesses h.accesses;
-  packages = h.packages ∙ first.packages;
-  apart = λ p.
-      let f = first.apart p in
-      let n = h.apart f.card in record {
-        card = n.card;
-        plain = onward c l.card m.card l.touches m.touches f.plain n.plain;
-      };
-}
+  joined : {A B : Type 0} (c : CardState) (l : Left A) (next : Option (Left B)) → IsPart order c l
+      → Fine order l.card next → Fine order c (option_map (behind l.touches) next)
+  joined c l None first h = tt
+  joined c l (Some m) first h = record {
+    accesses = onward order c l.card m.card l.touches m.touches first.accesses h.accesses;
+    packages = h.packages ∙ first.packages;
+    apart = λ p.
+        let f = first.apart p in
+        let n = h.apart f.card in record {
+          card = n.card;
+          plain = onward order c l.card m.card l.touches m.touches f.plain n.plain;
+        };
+  }
 
-then_part : {A B : Type 0} (c : CardState) (done : Option (Left A)) (next : CardState → A → Option (Left B))
-    → Fine c done
-    → ((d : CardState) (value : A) → Fine d (next d value)) → Fine c (and_then done next)
-then_part c None next h each = tt
-then_part c (Some l) next h each = joined c l (next l.card l.value) h (each l.card l.value)
+  then_part : {A B : Type 0} (c : CardState) (done : Option (Left A)) (next : CardState → A → Option (Left B))
+      → Fine order c done
+      → ((d : CardState) (value : A) → Fine order d (next d value)) → Fine order c (and_then done next)
+  then_part c None next h each = tt
+  then_part c (Some l) next h each = joined c l (next l.card l.value) h (each l.card l.value)
 
--- the same, where something is known of the card behind the first part
-then_known : {A B : Type 0} (c : CardState) (done : Option (Left A)) (next : CardState → A → Option (Left B))
-    (Known : CardState → Type 0) → Fine c done → IfSome done (λ l. Known l.card)
-    → ((d : CardState) (value : A) → Known d → Fine d (next d value)) → Fine c (and_then done next)
-then_known c None next Known h k each = tt
-then_known c (Some l) next Known h k each = joined c l (next l.card l.value) h (each l.card l.value k)
+  -- the same, where something is known of the card behind the first part
+  then_known : {A B : Type 0} (c : CardState) (done : Option (Left A)) (next : CardState → A → Option (Left B))
+      (Known : CardState → Type 0) → Fine order c done → IfSome done (λ l. Known l.card)
+      → ((d : CardState) (value : A) → Known d → Fine order d (next d value)) → Fine order c (and_then done next)
+  then_known c None next Known h k each = tt
+  then_known c (Some l) next Known h k each = joined c l (next l.card l.value) h (each l.card l.value k)
 
--- a card that is the same but for what the runtime keeps and which instance is selected; and it keeps applets'
--- instances if it did before
-moved : {A : Type 0} (c d : CardState) (done : Option (Left A)) → IsSameBeside c d
-    → (names_applets c.kept ≡ true → names_applets d.kept ≡ true) → Fine d done → Fine c done
-moved c d None same instances h = tt
-moved c d (Some l) same instances h = record {
-  accesses = onward c d l.card [] l.touches (nowhere c d same) h.accesses;
-  packages = h.packages ∙ same.packages;
-  apart = λ p.
-      let k = h.apart (record {
-        packages = subst (λ (w : World). IsBuilt w.shapes) (sym same.packages) p.packages;
-        objects = subst IsSetApart (sym same.objects) p.objects;
-        statics =
-            subst (λ (heap : Heap TaggedValue). FieldsHoldStorable heap d.statics) (sym same.objects)
-            (subst (λ (statics : List (List StaticValue)). FieldsHoldStorable c.heap statics) (sym same.statics)
-            p.statics);
-        instances = instances p.instances;
-      }) in record { card = k.card; plain = onward c d l.card [] l.touches (nowhere c d same) k.plain };
-}
+  -- behind what the runtime keeps and who is selected became another, and with it the number that is used last; it
+  -- keeps applets' instances if it did before
+  module _ (c : CardState) (kept : Kept) (selected : Option Owner) (numbers : ℕ)
+      (leads : (claims : Claims) → Leads claims order c [] (with_others c kept selected numbers))
+      (names : names_applets c.kept ≡ true → names_applets kept ≡ true) where
+    apart_with : IsApartCard c → IsApartCard (with_others c kept selected numbers)
+    apart_with p =
+        record {
+          packages = p.packages;
+          objects = p.objects;
+          statics = p.statics;
+          instances = names p.instances;
+        }
 
-either : {A : Type 0} (c : CardState) (b : Bool) (x y : Option (Left A)) → Fine c x → Fine c y → Fine c (cond b x y)
-either c true x y h k = h
-either c false x y h k = k
+    moved : {A : Type 0} (done : Option (Left A)) → Fine order (with_others c kept selected numbers) done
+        → Fine order c done
+    moved None h = tt
+    moved (Some l) h =
+        let d = with_others c kept selected numbers in record {
+          accesses = onward order c d l.card [] l.touches (leads law_of_accesses) h.accesses;
+          packages = h.packages;
+          apart = λ p.
+              let k = h.apart (apart_with p) in record {
+                card = k.card;
+                plain = onward order c d l.card [] l.touches (leads law_of_plain_objects) k.plain;
+              };
+        }
 
-if_some : {A B : Type 0} (c : CardState) (o : Option B) (go : B → Option (Left A)) → ((x : B) → Fine c (go x))
-    → Fine c (option_and_then go o)
-if_some c None go each = tt
-if_some c (Some x) go each = each x
+  either : {A : Type 0} (c : CardState) (b : Bool) (x y : Option (Left A)) → Fine order c x → Fine order c y
+      → Fine order c (cond b x y)
+  either c true x y h k = h
+  either c false x y h k = k
 
-or_else : {A B : Type 0} (c : CardState) (o : Option B) (go : B → Option (Left A)) (other : Option (Left A))
-    → ((x : B) → o ≡ Some x → Fine c (go x)) → (o ≡ None → Fine c other) → Fine c (option_map_or go o other)
-or_else c None go other each h = h refl
-or_else c (Some x) go other each h = each x refl
+  if_some : {A B : Type 0} (c : CardState) (o : Option B) (go : B → Option (Left A))
+      → ((x : B) → o ≡ Some x → Fine order c (go x)) → Fine order c (option_and_then go o)
+  if_some c None go each = tt
+  if_some c (Some x) go each = each x refl
+
+  or_else : {A B : Type 0} (c : CardState) (o : Option B) (go : B → Option (Left A)) (other : Option (Left A))
+      → ((x : B) → o ≡ Some x → Fine order c (go x)) → (o ≡ None → Fine order c other)
+      → Fine order c (option_map_or go o other)
+  or_else c None go other each h = h refl
+  or_else c (Some x) go other each h = each x refl
 
 module _ (laws : StepsGuarded) where
-  -- ---- calls
+  -- ---- calls of applets
 
-  method_part : (c : CardState) (owner : Owner) (method : MethodName) (arguments : List TaggedValue)
-      → IsRunning c owner → (IsApartCard c → is_applets owner ≡ true)
-      → Fine c (call_method c owner.context owner method arguments)
-  method_part c owner method arguments running whose = call_part laws c owner method arguments running whose
+  module _ (order : Order) (call : AppletCall) (calls : calls_member order call ≡ true) (c : CardState) where
+    on_part : (i : Instance) (object : Object TaggedValue) → selected_instance c ≡ Some i
+        → object_at c.heap i.object ≡ Some object → Fine order c (call_on c i call object)
+    on_part i object is there =
+        if_some order c (method_for c.world.shapes object (member_called call))
+        (λ method. call_method c i.owner.context i.owner method (Ref i.object ∷ arguments_of call))
+        (λ method found. call_part laws c i.owner method (Ref i.object ∷ arguments_of call) order
+        (of_selected order call i object method calls is (selected_is c.kept c.selected i is) there found)
+        (λ p. selected_owner c.kept c.selected i p.instances is))
 
-  on_part : (c : CardState) (i : Instance) (call : AppletCall) (object : Object TaggedValue)
-      → IsRunning c i.owner → (IsApartCard c → is_applets i.owner ≡ true) → Fine c (call_on c i call object)
-  on_part c i call object running whose =
-      if_some c (method_for c.world.shapes object (member_called call))
-      (λ method. call_method c i.owner.context i.owner method (Ref i.object ∷ arguments_of call))
-      (λ method. method_part c i.owner method (Ref i.object ∷ arguments_of call) running whose)
+    applet_part : (i : Instance) → selected_instance c ≡ Some i → Fine order c (call_applet c i call)
+    applet_part i is =
+        if_some order c (object_at c.heap i.object) (call_on c i call) (λ object there. on_part i object is there)
 
-  applet_part : (c : CardState) (i : Instance) (call : AppletCall) → IsRunning c i.owner
-      → (IsApartCard c → is_applets i.owner ≡ true) → Fine c (call_applet c i call)
-  applet_part c i call running whose =
-      if_some c (object_at c.heap i.object) (call_on c i call) (λ object. on_part c i call object running whose)
-
-  selected_part : (call : AppletCall) (c : CardState) → Fine c (call_selected c call)
-  selected_part call c =
-      or_else c (selected_instance c) (λ i. call_applet c i call) (gives c (Normally None))
-      (λ i e. applet_part c i call (inl (selected_is c.kept c.selected i e))
-      (λ p. selected_owner c.kept c.selected i p.instances e))
-      (λ e. gives_part c (Normally None))
+    selected_part : Fine order c (call_selected c call)
+    selected_part =
+        or_else order c (selected_instance c) (λ i. call_applet c i call) (gives c (Normally None))
+        (λ i is. applet_part i is) (λ none. gives_part order c (Normally None))
 
   -- ---- selection
 
-  unselect_part : (c : CardState) → Fine c (commands.unselect c)
-  unselect_part c =
-      or_else c c.selected
+  unselect_part : (order : Order) (c : CardState) → Fine order c (commands.unselect c)
+  unselect_part order c =
+      or_else order c c.selected
       (λ (owner : Owner). clear events.Deselect (Some owner.context) (with_selected c None)) (gives c tt)
-      (λ owner e. moved c (with_selected c None)
-      (clear events.Deselect (Some owner.context) (with_selected c None))
-      (record { packages = refl; objects = refl; statics = refl; limits = refl; steps = refl }) (λ names. names)
-      (clear_part laws events.Deselect (Some owner.context) (with_selected c None))) (λ e. gives_part c tt)
+      (λ owner is. clear_part laws events.Deselect (Some owner.context) c c.kept None order
+      (λ claims clearing. by_unselecting order c owner _ _ is clearing) (λ names. names))
+      (λ none. gives_part order c tt)
 
-  deselect_part : (c : CardState) → Fine c (commands.deselect c)
-  deselect_part c =
-      then_part c (call_selected c calls.Deselect) (λ c ended. commands.unselect c) (selected_part calls.Deselect c)
-      (λ d ended. unselect_part d)
+  deselect_part : (order : Order) → calls_member order calls.Deselect ≡ true → (c : CardState)
+      → Fine order c (commands.deselect c)
+  deselect_part order deselects c =
+      then_part order c (call_selected c calls.Deselect) (λ c ended. commands.unselect c)
+      (selected_part order calls.Deselect deselects c) (λ d ended. unselect_part order d)
 
   -- ---- a command
 
-  answered_part : (c : CardState) (ended : Ended) → Fine c (commands.answered c ended)
-  answered_part c ended = record {
-    accesses = nowhere c (with_kept c (without_command c.kept)) closed;
-    packages = refl;
-    apart = λ p. record {
-      card = record {
-        packages = p.packages;
-        objects = p.objects;
-        statics = p.statics;
-        instances = laws.closed c.kept p.instances;
+  module _ (k : Command) (selects : Option Owner) where
+    abbrev performs : Order
+    performs = Performs k selects
+
+    answered_part : (c : CardState) (ended : Ended) → Fine performs c (commands.answered c ended)
+    answered_part c ended = record {
+      accesses = by_closing k selects c;
+      packages = refl;
+      apart = λ p. record {
+        card = record {
+          packages = p.packages;
+          objects = p.objects;
+          statics = p.statics;
+          instances = laws.closed c.kept p.instances;
+        };
+        plain = by_closing k selects c;
       };
-      plain = nowhere c (with_kept c (without_command c.kept)) closed;
-    };
-  }
-    where
-      closed : IsSameBeside c (with_kept c (without_command c.kept))
-      closed = record { packages = refl; objects = refl; statics = refl; limits = refl; steps = refl }
+    }
 
-  process_part : (c : CardState) (k : Command) (selecting : Bool) → Fine c (commands.process c k selecting)
-  process_part c k selecting =
-      let d = with_kept c (with_command c.kept k.incoming k.expected selecting) in
-      moved c d (and_then (call_selected d calls.Process) commands.answered)
-      (record { packages = refl; objects = refl; statics = refl; limits = refl; steps = refl })
-      (λ names. laws.opened c.kept names k.incoming k.expected selecting)
-      (then_part d (call_selected d calls.Process) commands.answered (selected_part calls.Process d) answered_part)
+    process_part : (c : CardState) (selecting : Bool) → Fine performs c (commands.process c k selecting)
+    process_part c selecting =
+        let kept = with_command c.kept k.incoming k.expected selecting in
+        let d = with_kept c kept in
+        moved performs c kept c.selected c.numbers (λ claims. by_opening k selects c selecting)
+        (λ names. laws.opened c.kept names k.incoming k.expected selecting)
+        (and_then (call_selected d calls.Process) commands.answered)
+        (then_part performs d (call_selected d calls.Process) commands.answered
+        (selected_part performs calls.Process refl d) answered_part)
 
-  refused_part : (c : CardState) → Fine c (commands.refused c)
-  refused_part c =
-      then_part c (commands.unselect c) (λ c u. gives c (commands.status_alone not_selected)) (unselect_part c)
-      (λ d u. gives_part d (commands.status_alone not_selected))
+    refused_part : (c : CardState) → Fine performs c (commands.refused c)
+    refused_part c =
+        then_part performs c (commands.unselect c) (λ c u. gives c (commands.status_alone not_selected))
+        (unselect_part performs c) (λ d u. gives_part performs d (commands.status_alone not_selected))
 
-  asked_part : (k : Command) (c : CardState) (ended : Ended) → Fine c (commands.asked c k ended)
-  asked_part k c ended =
-      either c (commands.agrees ended) (commands.process c k true) (commands.refused c) (process_part c k true)
-      (refused_part c)
+    asked_part : (c : CardState) (ended : Ended) → Fine performs c (commands.asked c k ended)
+    asked_part c ended =
+        either performs c (commands.agrees ended) (commands.process c k true) (commands.refused c)
+        (process_part c true) (refused_part c)
 
-  ask_part : (k : Command) (c : CardState) → Fine c (commands.ask c k)
-  ask_part k c =
-      then_part c (call_selected c calls.Select) (λ c ended. commands.asked c k ended) (selected_part calls.Select c)
-      (asked_part k)
+    dispatch_part : (c : CardState) → Fine performs c (commands.dispatch c k)
+    dispatch_part c =
+        either performs c (is_some (selected_instance c)) (commands.process c k false)
+        (gives c (commands.status_alone not_selected)) (process_part c false)
+        (gives_part performs c (commands.status_alone not_selected))
 
-  choose_part : (owner : Owner) (k : Command) (c : CardState) → Fine c (commands.choose c owner k)
-  choose_part owner k c =
-      let d = with_selected c (Some owner) in
-      moved c d (commands.ask d k)
-      (record { packages = refl; objects = refl; statics = refl; limits = refl; steps = refl }) (λ names. names) (ask_part k d)
+  -- a command that selects an instance
+  module _ (k : Command) (owner : Owner) where
+    abbrev selecting : Order
+    selecting = Performs k (Some owner)
 
-  select_part : (c : CardState) (owner : Owner) (k : Command) → Fine c (commands.select c owner k)
-  select_part c owner k =
-      then_part c (commands.deselect c) (λ c u. commands.choose c owner k) (deselect_part c)
-      (λ d u. choose_part owner k d)
+    ask_part : (c : CardState) → Fine selecting c (commands.ask c k)
+    ask_part c =
+        then_part selecting c (call_selected c calls.Select) (λ c ended. commands.asked c k ended)
+        (selected_part selecting calls.Select refl c) (asked_part k (Some owner))
 
-  dispatch_part : (c : CardState) (k : Command) → Fine c (commands.dispatch c k)
-  dispatch_part c k =
-      either c (is_some (selected_instance c)) (commands.process c k false)
-      (gives c (commands.status_alone not_selected)) (process_part c k false)
-      (gives_part c (commands.status_alone not_selected))
+    choose_part : (c : CardState) → c.selected ≡ None → Fine selecting c (commands.choose c owner k)
+    choose_part c none =
+        moved selecting c c.kept (Some owner) c.numbers (λ claims. by_selecting k owner c none) (λ names. names)
+        (commands.ask (with_selected c (Some owner)) k) (ask_part (with_selected c (Some owner)))
 
-  perform_part : (k : Command) (c : CardState) → Fine c (commands.perform c k)
-  perform_part k c =
-      or_else c (commands.selected_by c k) (λ (i : Instance). commands.select c i.owner k) (commands.dispatch c k)
-      (λ i e. select_part c i.owner k) (λ e. dispatch_part c k)
+    select_part : (c : CardState) → Fine selecting c (commands.select c owner k)
+    select_part c =
+        then_known selecting c (commands.deselect c) (λ c u. commands.choose c owner k) (λ d. d.selected ≡ None)
+        (deselect_part selecting refl c) (deselect_selects_none c) (λ d u none. choose_part d none)
 
-  receive_part : (c : CardState) (k : Command) → Fine c (commands.receive c k)
+  abbrev owner_of : Instance → Owner
+  owner_of i = i.owner
+
+  perform_part : (k : Command) (c : CardState) (found : Option Instance)
+      → Fine (Performs k (option_map owner_of found)) c
+      (option_map_or (λ (i : Instance). commands.select c i.owner k) found (commands.dispatch c k))
+  perform_part k c None = dispatch_part k None c
+  perform_part k c (Some i) = select_part k i.owner c
+
+  receive_part : (c : CardState) (k : Command)
+      → Fine (Performs k (option_map owner_of (commands.selected_by c k))) c (commands.receive c k)
   receive_part c k =
-      then_part c (write apdu_buffer (buffer_of k) c) (λ c u. commands.perform c k)
-      (write_part laws apdu_buffer (buffer_of k) c (inl refl) (buffer_is_global c)) (λ d u. perform_part k d)
+      let selects = option_map owner_of (commands.selected_by c k) in
+      then_known (Performs k selects) c (write apdu_buffer (buffer_of k) c) (λ c u. commands.perform c k)
+      (λ d. d.kept ≡ c.kept)
+      (write_part laws apdu_buffer (buffer_of k) c (Performs k selects)
+      (λ claims own. by_buffer k selects c _ own) (buffer_is_global c)) refl
+      (λ d u same.
+      subst (λ (kept : Kept). Fine (Performs k (option_map owner_of (commands.selected_by (with_kept c kept) k))) d
+      (commands.perform d k)) same (perform_part k d (commands.selected_by d k)))
 
-  apdu_part : (c : CardState) (bytes : List ℕ) → Fine c (commands.apdu_command c bytes)
-  apdu_part c bytes =
-      or_else c (command_of bytes) (commands.receive c) (gives c (commands.status_alone wrong_length))
-      (λ k e. receive_part c k) (λ e. gives_part c (commands.status_alone wrong_length))
+  command_part : (c : CardState) (command : Option Command)
+      → Fine (option_map_or (λ (k : Command). Performs k (option_map owner_of (commands.selected_by c k))) command
+      Refuses) c (option_map_or (commands.receive c) command (gives c (commands.status_alone wrong_length)))
+  command_part c None = gives_part Refuses c (commands.status_alone wrong_length)
+  command_part c (Some k) = receive_part c k
 
-  reset_part : (c : CardState) → Fine c (commands.reset_command c)
-  reset_part c =
-      let d = with_selected c None in
-      moved c d (and_then (clear events.Reset None d) (λ c u. clear events.Deselect None c))
-      (record { packages = refl; objects = refl; statics = refl; limits = refl; steps = refl })
-      (λ names. names)
-      (then_part d (clear events.Reset None d) (λ c u. clear events.Deselect None c)
-      (clear_part laws events.Reset None d) (λ e u. clear_part laws events.Deselect None e))
+  apdu_part : (c : CardState) (bytes : List ℕ) → Fine (apdu_order c bytes) c (commands.apdu_command c bytes)
+  apdu_part c bytes = command_part c (command_of bytes)
 
   -- ---- an installation
 
-  settle_part : (owner : Owner) (c : CardState) (ended : Ended) → Fine c (installs.settle c owner ended)
-  settle_part owner c ended =
-      let d = with_kept c (after_install c.kept (installs.succeeds c ended)) in
-      let says = λ (after : CardState) (u : Unit {0}). gives after (installs.installed c owner ended) in
-      moved c d (and_then (clear events.Deselect (Some owner.context) d) says)
-      (record { packages = refl; objects = refl; statics = refl; limits = refl; steps = refl })
-      (λ names. laws.over c.kept names (installs.succeeds c ended))
-      (then_part d (clear events.Deselect (Some owner.context) d) says
-      (clear_part laws events.Deselect (Some owner.context) d)
-      (λ e u. gives_part e (installs.installed c owner ended)))
+  module _ (applet : List ℕ) (place : AppletPlace) (owner : Owner) (whose : is_applets owner ≡ true) where
+    abbrev installing : Order
+    installing = Installs applet place owner
 
-  module _ (place : AppletPlace) (owner : Owner) (whose : is_applets owner ≡ true) where
+    settle_part : (c : CardState) (ended : Ended) → Fine installing c (installs.settle c owner ended)
+    settle_part c ended =
+        let done = installs.succeeds c ended in
+        let kept = after_install c.kept done in
+        let says = λ (after : CardState) (u : Unit {0}). gives after (installs.installed c owner ended) in
+        then_part installing c (clear events.Deselect (Some owner.context) (with_kept c kept)) says
+        (clear_part laws events.Deselect (Some owner.context) c kept c.selected installing
+        (λ claims clearing. by_settling applet place owner c done _ _ clearing)
+        (λ names. laws.over c.kept names done)) (λ e u. gives_part installing e (installs.installed c owner ended))
+
     -- the instance that is being installed is this owner's
     abbrev IsInstalling : CardState → Type 0
     IsInstalling c = option_map (λ (i : Installing). i.owner) c.kept.installing ≡ Some owner
 
     called_part : (size : ℕ) (c : CardState) → IsInstalling c
-        → Fine c (and_then (installs.call_install c place owner size) (λ c ended. installs.settle c owner ended))
-    called_part size c installing =
-        then_part c (installs.call_install c place owner size) (λ c ended. installs.settle c owner ended)
-        (method_part c owner (Loaded place.number place.install)
-        (Ref install_array ∷ Word 0 ∷ Word size ∷ []) (inr installing) (λ p. whose)) (settle_part owner)
+        → Fine installing c (and_then (installs.call_install c place owner size)
+        (λ c ended. installs.settle c owner ended))
+    called_part size c is =
+        then_part installing c (installs.call_install c place owner size)
+        (λ c ended. installs.settle c owner ended)
+        (call_part laws c owner (Loaded place.number place.install) (Ref install_array ∷ Word 0 ∷ Word size ∷ [])
+        installing (of_installed applet place owner size is) (λ p. whose)) settle_part
 
-    install_as_part : is_instance_number owner.instance ≡ true → (c : CardState) (applet instance incoming : List ℕ)
-        → Fine c (installs.install_as c place owner applet instance incoming)
-    install_as_part numbered c applet instance incoming =
+    install_as_part : is_instance_number owner.instance ≡ true → (c : CardState) → c.selected ≡ None
+        → owner ≡ installs.next_owner c place → (instance incoming : List ℕ)
+        → Fine installing c (installs.install_as c place owner applet instance incoming)
+    install_as_part numbered c none is_next instance incoming =
         let parameters = installs.parameters_of instance incoming in
-        let d = record c { numbers = owner.instance; kept = with_install c.kept owner applet } in
+        let kept = with_install c.kept owner applet in
+        let d = record c { numbers = owner.instance; kept = kept } in
         let words = installs.padded installs.install_size parameters in
         let next = λ (c : CardState) (u : Unit {0}). and_then
         (installs.call_install c place owner (length parameters))
         (λ (c : CardState) (ended : Ended). installs.settle c owner ended) in
-        moved c d (and_then (write install_array words d) next)
-        (record { packages = refl; objects = refl; statics = refl; limits = refl; steps = refl })
+        moved installing c kept c.selected owner.instance
+        (λ claims. by_beginning applet place owner c none is_next)
         (λ names. laws.begun c.kept names owner applet whose numbered)
-        (then_known d (write install_array words d) next IsInstalling
-        (write_part laws install_array words d (inr refl) (install_is_global d)) refl
-        (λ e u installing. called_part (length parameters) e installing))
+        (and_then (write install_array words d) next)
+        (then_known installing d (write install_array words d) next IsInstalling
+        (write_part laws install_array words d installing
+        (λ claims own. by_parameters applet place owner d _ own) (install_is_global d)) refl
+        (λ e u is. called_part (length parameters) e is))
+
+  -- what is known behind the deselection
+  record IsFree (c d : CardState) : Type 0 where
+    numbers : d.numbers ≡ c.numbers
+    selected : d.selected ≡ None
+
+  both_free : (c : CardState) (done : Option (Left (Unit {0}))) → IfSome done (λ l. l.card.numbers ≡ c.numbers)
+      → IfSome done (λ l. l.card.selected ≡ None) → IfSome done (λ l. IsFree c l.card)
+  both_free c None h k = tt
+  both_free c (Some l) h k = record { numbers = h; selected = k }
 
   -- an applet's package has a number from one on, and an instance that isn't refused one to 32
   accepted_part : (c : CardState) (place : AppletPlace) (applet instance incoming : List ℕ)
       → (place.number == 0) ≡ false → nat_le most_instances c.numbers ≡ false
-      → Fine c (installs.accepted c place applet instance incoming)
+      → Fine (Installs applet place (installs.next_owner c place)) c
+      (installs.accepted c place applet instance incoming)
   accepted_part c place applet instance incoming some few =
-      then_known c (commands.deselect c) (λ c u. installs.begin c place applet instance incoming)
-      (λ d. d.numbers ≡ c.numbers) (deselect_part c) (deselect_keeps_numbers c)
-      (λ d u same. install_as_part place (installs.next_owner d place) (ap not some)
-      (next_number_fits d.numbers (ap (nat_le most_instances) same ∙ few)) d applet instance incoming)
+      let order = Installs applet place (installs.next_owner c place) in
+      then_known order c (commands.deselect c) (λ c u. installs.begin c place applet instance incoming) (IsFree c)
+      (deselect_part order refl c)
+      (both_free c (commands.deselect c) (deselect_keeps_numbers c) (deselect_selects_none c))
+      (λ d u free.
+      let same : installs.next_owner d place ≡ installs.next_owner c place =
+      ap (λ (n : ℕ). record { context = place.number; instance = suc n }) free.numbers in
+      subst (λ (owner : Owner). Fine (Installs applet place owner) d
+      (installs.begin d place applet instance incoming)) same
+      (install_as_part applet place (installs.next_owner d place) (ap not some)
+      (next_number_fits d.numbers (ap (nat_le most_instances) free.numbers ∙ few)) d free.selected refl instance
+      incoming))
 
   install_at_part : (c : CardState) (applet instance incoming : List ℕ) (place : AppletPlace)
-      → (place.number == 0) ≡ false → Fine c (installs.install_at c applet instance incoming place)
+      → (place.number == 0) ≡ false
+      → Fine (Installs applet place (installs.next_owner c place)) c
+      (installs.install_at c applet instance incoming place)
   install_at_part c applet instance incoming place some =
-      or_else c (installs.refusal_of c instance incoming) (λ fault. gives c (installs.Refused fault))
-      (installs.accepted c place applet instance incoming) (λ fault e. gives_part c (installs.Refused fault))
+      let order = Installs applet place (installs.next_owner c place) in
+      or_else order c (installs.refusal_of c instance incoming) (λ fault. gives c (installs.Refused fault))
+      (installs.accepted c place applet instance incoming) (λ fault e. gives_part order c (installs.Refused fault))
       (λ e. accepted_part c place applet instance incoming some (not_refused_few c instance incoming e))
 
+  found_part : (c : CardState) (applet instance incoming : List ℕ) (found : Option AppletPlace)
+      → installs.applet_of c applet ≡ found
+      → Fine (option_map_or (λ place. Installs applet place (installs.next_owner c place)) found Refuses) c
+      (option_map_or (installs.install_at c applet instance incoming) found
+      (gives c (installs.Refused faults.UnknownApplet)))
+  found_part c applet instance incoming None e = gives_part Refuses c (installs.Refused faults.UnknownApplet)
+  found_part c applet instance incoming (Some place) e =
+      install_at_part c applet instance incoming place (place_has_number 0 c.world.bodies applet place e)
+
   install_part : (c : CardState) (applet instance incoming : List ℕ)
-      → Fine c (installs.install_command c applet instance incoming)
-  install_part c applet instance incoming =
-      or_else c (installs.applet_of c applet) (installs.install_at c applet instance incoming)
-      (gives c (installs.Refused faults.UnknownApplet))
-      (λ place e. install_at_part c applet instance incoming place (place_has_number 0 c.world.bodies applet place e))
-      (λ e. gives_part c (installs.Refused faults.UnknownApplet))
+      → Fine (install_order c applet) c (installs.install_command c applet instance incoming)
+  install_part c applet instance incoming = found_part c applet instance incoming (installs.applet_of c applet) refl
 
   -- ---- whole commands
 
-  kept_apart : {A : Type 0} (c : CardState) (done : Option (Left A)) → Fine c done → IsApartCard c
-      → IfSome done (λ l. KeepsApart c l.touches l.card)
-  kept_apart c None h p = tt
-  kept_apart c (Some l) h p = h.apart p
+  kept_apart : {A : Type 0} (order : Order) (c : CardState) (done : Option (Left A)) → Fine order c done
+      → IsApartCard c → IfSome done (λ l. KeepsApart order c l.touches l.card)
+  kept_apart order c None h p = tt
+  kept_apart order c (Some l) h p = h.apart p
 
   pub apdus_stay_apart : (c : CardState) → IsApartCard c → (bytes : List ℕ)
-      → IfSome (commands.apdu_command c bytes) (λ l. KeepsApart c l.touches l.card)
-  apdus_stay_apart c p bytes = kept_apart c (commands.apdu_command c bytes) (apdu_part c bytes) p
+      → IfSome (commands.apdu_command c bytes) (λ l. KeepsApart (apdu_order c bytes) c l.touches l.card)
+  apdus_stay_apart c p bytes =
+      kept_apart (apdu_order c bytes) c (commands.apdu_command c bytes) (apdu_part c bytes) p
 
   pub installs_stay_apart : (c : CardState) → IsApartCard c → (applet instance incoming : List ℕ)
-      → IfSome (installs.install_command c applet instance incoming) (λ l. KeepsApart c l.touches l.card)
+      → IfSome (installs.install_command c applet instance incoming)
+      (λ l. KeepsApart (install_order c applet) c l.touches l.card)
   installs_stay_apart c p applet instance incoming =
-      kept_apart c (installs.install_command c applet instance incoming) (install_part c applet instance incoming) p
+      kept_apart (install_order c applet) c (installs.install_command c applet instance incoming)
+      (install_part c applet instance incoming) p
 
   pub resets_stay_apart : (c : CardState) → IsApartCard c
-      → IfSome (commands.reset_command c) (λ l. KeepsApart c l.touches l.card)
-  resets_stay_apart c p = kept_apart c (commands.reset_command c) (reset_part c) p
+      → IfSome (commands.reset_command c) (λ l. KeepsApart Resets c l.touches l.card)
+  resets_stay_apart c p = kept_apart Resets c (commands.reset_command c) (reset_part laws c) p
 
-  whole : {A : Type 0} (c : CardState) (done : Option (Left A)) → Fine c done → IfSome done (IsGuardedCommand c)
-  whole c None h = tt
-  whole c (Some l) h = part_guarded c l h
+  whole : {A : Type 0} (order : Order) (c : CardState) (done : Option (Left A)) → Fine order c done
+      → IfSome done (IsGuardedCommand order c)
+  whole order c None h = tt
+  whole order c (Some l) h = part_guarded order c l h
 
-  pub apdus_guarded : (c : CardState) (bytes : List ℕ) → IfSome (commands.apdu_command c bytes) (IsGuardedCommand c)
-  apdus_guarded c bytes = whole c (commands.apdu_command c bytes) (apdu_part c bytes)
+  pub apdus_guarded : (c : CardState) (bytes : List ℕ)
+      → IfSome (commands.apdu_command c bytes) (IsGuardedCommand (apdu_order c bytes) c)
+  apdus_guarded c bytes = whole (apdu_order c bytes) c (commands.apdu_command c bytes) (apdu_part c bytes)
 
   pub installs_guarded : (c : CardState) (applet instance incoming : List ℕ)
-      → IfSome (installs.install_command c applet instance incoming) (IsGuardedCommand c)
+      → IfSome (installs.install_command c applet instance incoming) (IsGuardedCommand (install_order c applet) c)
   installs_guarded c applet instance incoming =
-      whole c (installs.install_command c applet instance incoming) (install_part c applet instance incoming)
+      whole (install_order c applet) c (installs.install_command c applet instance incoming)
+      (install_part c applet instance incoming)
 
-  pub resets_guarded : (c : CardState) → IfSome (commands.reset_command c) (IsGuardedCommand c)
-  resets_guarded c = whole c (commands.reset_command c) (reset_part c)
+  pub resets_guarded : (c : CardState) → IfSome (commands.reset_command c) (IsGuardedCommand Resets c)
+  resets_guarded c = whole Resets c (commands.reset_command c) (reset_part laws c)
 
 -- ---- loads
 

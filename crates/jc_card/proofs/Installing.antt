@@ -36,7 +36,8 @@ use Rattle.jc_card.specs.Card.{CardState, around}
 use Rattle.jc_card.specs.Install.{HasNumber, Refused, failure_of, installed, succeeds}
 use Rattle.jc_card.specs.Parts.{Ended}
 use Rattle.jc_card.specs.PrivateWords.{IsInstallPlace, install_words}
-use Rattle.jc_card.specs.Reads.{CardWords, Holds, ReadsInstalled}
+use Rattle.jc_card.specs.Reads.{ReadsInstalled}
+use Rattle.jc_card.specs.Typed.{IsTypedCard}
 use Rattle.jc_card.specs.declared.fault.Failure.{Failure}
 use Rattle.jc_card.specs.declared.fault.InstallFault.TheVariants.{InstallFailed}
 use Rattle.jc_card.specs.declared.places.AppletPlace.{AppletPlace}
@@ -162,7 +163,7 @@ is_install w (suc n) install body e known h =
 
 -- ---- it can begin
 
-module _ (k : CardWords) (c : CardState) (h : Holds k c) (place : AppletPlace) (owner : Owner) (size : ℕ)
+module _ (c : CardState) (t : IsTypedCard c) (place : AppletPlace) (owner : Owner) (size : ℕ)
     (short : size < 65536) (known : IsInstallPlace c.world place) where
   abbrev pub arguments : List TaggedValue
   arguments = Ref 13 ∷ Word 0 ∷ Word size ∷ []
@@ -172,7 +173,7 @@ module _ (k : CardWords) (c : CardState) (h : Holds k c) (place : AppletPlace) (
 
   array_leads : leads_to c.heap is_byte_array (Ref 13) ≡ true
   array_leads =
-      let o = h.typed.beside.runtime_objects.1.1.1.1.1.1.1.1.1.1.1.1.0 in
+      let o = t.beside.runtime_objects.1.1.1.1.1.1.1.1.1.1.1.1.0 in
       ap (λ (x : Option (Object TaggedValue)). option_map_or (λ (y : Object TaggedValue). is_byte_array y.kind.object) x
       false) o.found
       ∙ ap is_byte_array o.type

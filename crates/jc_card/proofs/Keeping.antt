@@ -9,6 +9,7 @@ use Rattle.jc_natives.specs.Kept.{Kept, are_bytes, is_aid, is_instance_number, w
 use Rattle.jc_natives.specs.Meaning.{meaning}
 use Rattle.jc_store.specs.Heap.{Heap}
 use Rattle.jc_words.specs.Values.{TaggedValue}
+use Rattle.jc_card.proofs.TypedCards.{kept_typed}
 use Rattle.jc_card.specs.Card.{CardState, with_kept}
 use Rattle.jc_card.specs.Parts.{gives}
 use Rattle.jc_card.specs.Reads.{CardWords, GivesNothing, Holds, IsDone}
@@ -33,16 +34,7 @@ pub kept_done : (k : CardWords) (c : CardState) (h : Holds k c) (change : Kept â
     (gives (record c { kept = change c.kept; numbers = numbers }) tt)
 kept_done k c h change numbers fits few = (
   record {
-    typed = record {
-      accepted = h.typed.accepted;
-      beside = record {
-        heap = h.typed.beside.heap;
-        statics = h.typed.beside.statics;
-        runtime_objects = h.typed.beside.runtime_objects;
-        fits = fits;
-      };
-      numbers = few;
-    };
+    typed = kept_typed c h.typed (change c.kept) numbers fits few;
     world = h.world;
     program = h.program;
     beside = record {

@@ -1,6 +1,6 @@
 -- Accesses, one after the other: what was accessed then, and which objects change.
 use Rattle.std.proofs.Common.{◌≡◌, ◌⊎◌, ℕ, zero, suc, List, [], ◌∷◌, ◌++◌, Some, inl, inr, refl, sym}
-use Rattle.std.proofs.Common.{ap, ◌∙◌, slice_get, subst}
+use Rattle.std.proofs.Common.{ap, ◌∙◌, slice_get}
 use Rattle.std.proofs.lemmas.Option.{same_Some}
 use Rattle.jc_firewall.specs.Verdict.{runtime_context}
 use Rattle.jc_machine.specs.Guarded as steps
@@ -8,17 +8,21 @@ use Rattle.jc_machine.specs.Guarded.{ChangesAccessed, machine_of}
 use Rattle.jc_machine.specs.Machine.{Ends, Machine, Next, Outcome, Stuck, Surroundings, Throws, Touch, UsedUp}
 use Rattle.jc_machine.specs.Natives.{KeepsObjects}
 use Rattle.jc_machine.specs.Step.{defensive_step}
+use Rattle.jc_names.specs.declared.name.MethodName.{MethodName}
 use Rattle.jc_names.specs.declared.owner.Owner.{Owner}
 use Rattle.jc_natives.specs.Kept.{Kept}
 use Rattle.jc_store.specs.Heap.{Heap, Object}
 use Rattle.jc_store.specs.declared.kind.Kind.{Kind}
 use Rattle.jc_words.specs.Values.{TaggedValue}
-use Rattle.jc_card.specs.Accesses.{ChangesBy, IsAccessed, IsApartCard, IsGuardedCommand, KeepsApart, Leads}
-use Rattle.jc_card.specs.Accesses.{LeavesObjects, RunsAs, Steps, law_of_accesses, machine_at_end}
-use Rattle.jc_card.specs.Accesses.Leads.{by_call, by_clearing, by_write, nowhere, onward as led_onward}
-use Rattle.jc_card.specs.Accesses.RunsAs.{by_method, by_native, by_none}
-use Rattle.jc_card.specs.Accesses.Steps.{last, onward, spent}
-use Rattle.jc_card.specs.Card.{CardState}
+use Rattle.jc_card.specs.Accesses.{ChangesBy, IsAccessed, IsApartCard, IsGuardedCommand, KeepsApart, LeavesObjects}
+use Rattle.jc_card.specs.Accesses.{law_of_accesses}
+use Rattle.jc_card.specs.Card.{CardState, with_heap}
+use Rattle.jc_card.specs.Order.{IsOwnWork, Leads, Order, RunsAs, Steps, machine_at_end}
+use Rattle.jc_card.specs.Order.Leads.{by_beginning, by_buffer, by_call, by_closing, by_opening, by_parameters}
+use Rattle.jc_card.specs.Order.Leads.{by_reset, by_selecting, by_settling, by_unselecting, nowhere}
+use Rattle.jc_card.specs.Order.Leads.{onward as led_onward}
+use Rattle.jc_card.specs.Order.RunsAs.{by_method, by_native, by_none}
+use Rattle.jc_card.specs.Order.Steps.{last, onward, spent}
 use Rattle.jc_card.specs.Parts.{Left}
 
 -- ---- objects stay
@@ -165,33 +169,46 @@ led_steps {s = s} (onward n m next after more lawful e rest) =
     (changes_in m.top.active.context (defensive_step s m).touches m.heap next.heap (lawful.kept next left)
     (lawful.guarded.changes next left)) (led_steps rest)
 
-led_call : {c : CardState} {owner : Owner} {xs : List Touch} {after : Machine Kept}
-    → RunsAs law_of_accesses c owner xs after → ChangesBy xs c.heap after.heap
-led_call (by_method place header arguments touches after run) = led_steps run
-led_call {c = c} (by_none f is) = nothing_changes c.heap
-led_call {c = c} {owner = owner} (by_native member arguments f is lawful) =
+led_call : {c : CardState} {owner : Owner} {arguments : List TaggedValue} {method : MethodName} {xs : List Touch}
+    {after : Machine Kept} → RunsAs law_of_accesses c owner arguments method xs after → ChangesBy xs c.heap after.heap
+led_call (by_method place declared header touches after there has_header run) = led_steps run
+led_call {c = c} (by_none method f is) = nothing_changes c.heap
+led_call {c = c} {owner = owner} (by_native member f is lawful) =
     changes_in owner.context _ c.heap _ lawful.kept lawful.changes
 
 -- ---- a command
 
-pub led : {c d : CardState} {xs : List Touch} → Leads law_of_accesses c xs d → ChangesBy xs c.heap d.heap
-led (nowhere c d same) =
-    subst (λ (heap : Heap TaggedValue). ChangesBy [] c.heap heap) (sym same.objects) (nothing_changes c.heap)
-led (by_call c owner touches after running run) = led_call run
-led (by_write c number heap which work others claim) = changes_in runtime_context _ c.heap heap work.kept work.changes
-led (by_clearing c event context touches heap work clears) =
-    changes_in runtime_context touches c.heap heap work.kept work.changes
-led (led_onward c between after touches more first next) =
+worked : (c : CardState) (xs : List Touch) (heap : Heap TaggedValue) → IsOwnWork c.world c.heap xs heap
+    → ChangesBy xs c.heap heap
+worked c xs heap work = changes_in runtime_context xs c.heap heap work.kept work.changes
+
+pub led : {order : Order} {c d : CardState} {xs : List Touch} → Leads law_of_accesses order c xs d
+    → ChangesBy xs c.heap d.heap
+led (nowhere order c) = nothing_changes c.heap
+led (led_onward order c between after touches more first next) =
     added_up c.heap between.heap after.heap touches more (led first) (led next)
+led (by_call order c owner method arguments touches after called run) = led_call run
+led (by_buffer k selects c heap write) = worked c _ heap write.work
+led (by_opening k selects c selecting) = nothing_changes c.heap
+led (by_closing k selects c) = nothing_changes c.heap
+led (by_selecting k owner c none) = nothing_changes c.heap
+led (by_unselecting order c owner touches heap is clearing) = worked c touches heap clearing.work
+led (by_beginning applet place owner c none next) = nothing_changes c.heap
+led (by_parameters applet place owner c heap write) = worked c _ heap write.work
+led (by_settling applet place owner c succeeds touches heap clearing) = worked c touches heap clearing.work
+led (by_reset c between heap touches more first next) =
+    added_up c.heap between heap touches more (worked c touches between first.work)
+    (worked (with_heap c between) more heap next.work)
 
 -- a part of a command: where its accesses lead, that the packages stay, and that it keeps a card apart
-pub record IsPart {A : Type 0} (c : CardState) (l : Left A) : Type 0 where
-  pub accesses : Leads law_of_accesses c l.touches l.card
+pub record IsPart {A : Type 0} (order : Order) (c : CardState) (l : Left A) : Type 0 where
+  pub accesses : Leads law_of_accesses order c l.touches l.card
   pub packages : l.card.world ≡ c.world
-  pub apart : IsApartCard c → KeepsApart c l.touches l.card
+  pub apart : IsApartCard c → KeepsApart order c l.touches l.card
 
-pub part_guarded : {A : Type 0} (c : CardState) (l : Left A) → IsPart c l → IsGuardedCommand c l
-part_guarded c l p =
+pub part_guarded : {A : Type 0} (order : Order) (c : CardState) (l : Left A) → IsPart order c l
+    → IsGuardedCommand order c l
+part_guarded order c l p =
     record { accesses = p.accesses; packages = p.packages; changes = led p.accesses }
 
 -- ---- a load

@@ -9,10 +9,10 @@ use Rattle.jc_natives.specs.Apart.{names_applets}
 use Rattle.std.proofs.Common.{append-nil, sym, subst}
 use Rattle.jc_card.proofs.Leading.{left_at_end}
 use Rattle.jc_card.proofs.Sparing.{spared}
-use Rattle.jc_card.specs.Accesses.{Claims, IsApartCard, IsLawfulStep, IsRunning, RunsAs, Steps, call_as}
-use Rattle.jc_card.specs.Accesses.{law_of_accesses, law_of_plain_objects, machine_at_end, machine_with}
-use Rattle.jc_card.specs.Accesses.RunsAs.{by_method, by_native, by_none}
-use Rattle.jc_card.specs.Accesses.Steps.{last, onward, spent}
+use Rattle.jc_card.specs.Accesses.{IsApartCard, IsLawfulStep, law_of_accesses, law_of_plain_objects}
+use Rattle.jc_card.specs.Order.{Claims, IsCallOf, Order, RunsAs, Steps, call_as, machine_at_end, machine_with}
+use Rattle.jc_card.specs.Order.RunsAs.{by_method, by_native, by_none}
+use Rattle.jc_card.specs.Order.Steps.{last, onward, spent}
 use Rattle.jc_card.specs.Card.{left_by}
 use Rattle.jc_card.specs.Parts.{Normally, OutOfBudget, Uncaught}
 use Rattle.jc_base.specs.Signature.{Signature}
@@ -45,7 +45,7 @@ use Rattle.jc_natives.specs.Meaning.{meaning}
 use Rattle.jc_store.specs.Heap.{Heap, Object, object_at}
 use Rattle.jc_words.specs.Values.{TaggedValue, Word}
 use Rattle.jc_card.proofs.Leading.{IsPart}
-use Rattle.jc_card.specs.Accesses.Leads.{by_call}
+use Rattle.jc_card.specs.Order.Leads.{by_call}
 use Rattle.jc_card.specs.Card.{CardState, around}
 use Rattle.jc_card.specs.Parts.{Ended, ended, ended_call}
 
@@ -179,23 +179,11 @@ module _ (laws : StepsGuarded) (c : CardState) (owner : Owner) where
     instances : names_applets c.kept ≡ true
     applets : is_applets owner ≡ true
 
-  record IsCallLed (touches : List Touch) (after : Machine Kept) : Type 0 where
-    runs : RunsAs law_of_accesses c owner touches after
+  record IsCallLed (arguments : List TaggedValue) (method : MethodName) (touches : List Touch) (after : Machine Kept)
+      : Type 0 where
+    runs : RunsAs law_of_accesses c owner arguments method touches after
     fit : IsFitStart → IsFit after
-    plain : IsFitStart → RunsAs law_of_plain_objects c owner touches after
-
-  abbrev call_end : List Touch → CallEnd Kept → Type 0
-  call_end touches (Gave after value) = IsCallLed touches after
-  call_end touches (Threw after object at) = IsCallLed touches after
-  call_end touches (RanOut after lack at) = IsCallLed touches after
-  call_end touches WasStuck = Unit {0}
-
-  abbrev from : Called Kept → Type 0
-  from called = call_end called.touches called.ends
-
-  either : (b : Bool) (x y : Called Kept) → from x → from y → from (cond b x y)
-  either true x y h k = h
-  either false x y h k = k
+    plain : IsFitStart → RunsAs law_of_plain_objects c owner arguments method touches after
 
   begin_fit : (f : Frame) → f.active ≡ owner → IsFitStart → IsFit (machine_with c f)
   begin_fit f is p = record {
@@ -208,9 +196,23 @@ module _ (laws : StepsGuarded) (c : CardState) (owner : Owner) where
     };
   }
 
-  -- no step
-  none_led : (f : Frame) → f.active ≡ owner → IsCallLed [] (machine_with c f)
-  none_led f is = record { runs = by_none f is; fit = begin_fit f is; plain = λ p. by_none f is }
+  module _ (arguments : List TaggedValue) (name : MethodName) where
+    abbrev call_end : List Touch → CallEnd Kept → Type 0
+    call_end touches (Gave after value) = IsCallLed arguments name touches after
+    call_end touches (Threw after object at) = IsCallLed arguments name touches after
+    call_end touches (RanOut after lack at) = IsCallLed arguments name touches after
+    call_end touches WasStuck = Unit {0}
+
+    abbrev from : Called Kept → Type 0
+    from called = call_end called.touches called.ends
+
+    either : (b : Bool) (x y : Called Kept) → from x → from y → from (cond b x y)
+    either true x y h k = h
+    either false x y h k = k
+
+    -- no step
+    none_led : (f : Frame) → f.active ≡ owner → IsCallLed arguments name [] (machine_with c f)
+    none_led f is = record { runs = by_none name f is; fit = begin_fit f is; plain = λ p. by_none name f is }
 
   module _ (method : MethodName) (arguments : List TaggedValue) where
     abbrev start : Start Kept
@@ -225,65 +227,72 @@ module _ (laws : StepsGuarded) (c : CardState) (owner : Owner) where
 
     -- ---- the first frame
 
-    module _ (place : MethodPlace) (header : MethodHeader) where
-      abbrev first : Frame
-      first = frame_of place header arguments owner None
+    module _ (place : MethodPlace) where
+      abbrev name : MethodName
+      name = Loaded place.number place.offset
 
-      of_steps : (touches : List Touch) (after : Machine Kept) → AreLed c.steps (machine_with c first) touches after
-          → IsCallLed touches after
-      of_steps touches after h = record {
-        runs = by_method place header arguments touches after h.steps;
-        fit = λ p. h.fit (begin_fit first refl p);
-        plain = λ p. by_method place header arguments touches after (h.plain (begin_fit first refl p));
-      }
+      module _ (d : DeclaredMethod) (header : MethodHeader) (there : declared_at w place ≡ Some d)
+          (has_header : d.method.header ≡ Some header) where
+        abbrev first : Frame
+        first = frame_of place header arguments owner None
 
-      of_end : (touches : List Touch) (ends : CallEnd Kept) → led_end c.steps (machine_with c first) touches ends
-          → call_end touches ends
-      of_end touches (Gave after value) h = of_steps touches after h
-      of_end touches (Threw after object at) h = of_steps touches after h
-      of_end touches (RanOut after lack at) h = of_steps touches after h
-      of_end touches WasStuck h = tt
+        of_steps : (touches : List Touch) (after : Machine Kept) → AreLed c.steps (machine_with c first) touches after
+            → IsCallLed arguments name touches after
+        of_steps touches after h = record {
+          runs = by_method place d header touches after there has_header h.steps;
+          fit = λ p. h.fit (begin_fit first refl p);
+          plain = λ p. by_method place d header touches after there has_header (h.plain (begin_fit first refl p));
+        }
 
-      begun_leads : from (begun s c.steps start place header)
-      begun_leads =
-          either (has_room s [] (length first.locals + header.max_stack)) (steps_of s c.steps (standing start first))
-          (ended_by (RanOut (standing start first) (room_lacking s []) None))
-          (of_end (steps_of s c.steps (machine_with c first)).touches (steps_of s c.steps (machine_with c first)).ends
-          (steps_lead c.steps (machine_with c first)))
-          (none_led first refl)
+        of_end : (touches : List Touch) (ends : CallEnd Kept) → led_end c.steps (machine_with c first) touches ends
+            → call_end arguments name touches ends
+        of_end touches (Gave after value) h = of_steps touches after h
+        of_end touches (Threw after object at) h = of_steps touches after h
+        of_end touches (RanOut after lack at) h = of_steps touches after h
+        of_end touches WasStuck h = tt
 
-    begun_by_leads : (place : MethodPlace) (d : DeclaredMethod) (header : Option MethodHeader)
-        → from (begun_by s c.steps start place d header)
-    begun_by_leads place d None = tt
-    begun_by_leads place d (Some header) =
-        either (may_begin s start d header) (begun s c.steps start place header) (ended_by WasStuck)
-        (begun_leads place header) tt
+        begun_leads : from arguments name (begun s c.steps start place header)
+        begun_leads =
+            either arguments name (has_room s [] (length first.locals + header.max_stack))
+            (steps_of s c.steps (standing start first))
+            (ended_by (RanOut (standing start first) (room_lacking s []) None))
+            (of_end (steps_of s c.steps (machine_with c first)).touches
+            (steps_of s c.steps (machine_with c first)).ends (steps_lead c.steps (machine_with c first)))
+            (none_led arguments name first refl)
 
-    started_leads : (place : MethodPlace) (found : Option DeclaredMethod)
-        → from (started s c.steps start place found)
-    started_leads place None = tt
-    started_leads place (Some d) = begun_by_leads place d d.method.header
+      begun_by_leads : (d : DeclaredMethod) → declared_at w place ≡ Some d → (header : Option MethodHeader)
+          → d.method.header ≡ header → from arguments name (begun_by s c.steps start place d header)
+      begun_by_leads d there None has_header = tt
+      begun_by_leads d there (Some header) has_header =
+          either arguments name (may_begin s start d header) (begun s c.steps start place header) (ended_by WasStuck)
+          (begun_leads d header there has_header) tt
+
+      started_leads : (found : Option DeclaredMethod) → declared_at w place ≡ found
+          → from arguments name (started s c.steps start place found)
+      started_leads None there = tt
+      started_leads (Some d) there = begun_by_leads d there d.method.header refl
 
     -- ---- a native member
 
-    gave_leads : (touches : List Touch) (m : Machine Kept) (value : Option TaggedValue) (b : Bool)
-        → IsCallLed touches m → call_end touches (cond b (Gave m value) WasStuck)
-    gave_leads touches m value true h = h
-    gave_leads touches m value false h = tt
+    gave_leads : (called : MethodName) (touches : List Touch) (m : Machine Kept) (value : Option TaggedValue) (b : Bool)
+        → IsCallLed arguments called touches m → call_end arguments called touches (cond b (Gave m value) WasStuck)
+    gave_leads called touches m value true h = h
+    gave_leads called touches m value false h = tt
 
-    threw_leads : (touches : List Touch) (m : Machine Kept) (object : ℕ) (b : Bool)
-        → IsCallLed touches m → call_end touches (cond b (Threw m object None) WasStuck)
-    threw_leads touches m object true h = h
-    threw_leads touches m object false h = tt
+    threw_leads : (called : MethodName) (touches : List Touch) (m : Machine Kept) (object : ℕ) (b : Bool)
+        → IsCallLed arguments called touches m → call_end arguments called touches (cond b (Threw m object None) WasStuck)
+    threw_leads called touches m object true h = h
+    threw_leads called touches m object false h = tt
 
     native_ended_leads : (touches : List Touch) (m : Machine Kept) (member : ℕ) (ends : NativeEnd)
-        → IsCallLed touches m → call_end touches (native_ended s m member ends)
+        → IsCallLed arguments (Api member) touches m
+        → call_end arguments (Api member) touches (native_ended s m member ends)
     native_ended_leads touches m member (Gives value) h =
         let fits = λ (signature : Signature ClassName).
         is_given s.world.shapes m.heap signature.result value in
-        gave_leads touches m value (option_map_or fits (native_type s.world.shapes member) false) h
+        gave_leads (Api member) touches m value (option_map_or fits (native_type s.world.shapes member) false) h
     native_ended_leads touches m member (ThrowsObject object) h =
-        threw_leads touches m object
+        threw_leads (Api member) touches m object
         (option_map_or (λ (o : Object TaggedValue). is_throwable s.world.shapes o.kind.object)
         (object_at m.heap object) false) h
     native_ended_leads touches m member (Calls callback) h = tt
@@ -303,9 +312,9 @@ module _ (laws : StepsGuarded) (c : CardState) (owner : Owner) where
       answer_apart : IsFitStart → IsApartAnswer names_applets call a
       answer_apart p = laws.apart_members w call p.objects p.applets p.instances
 
-      member_led : IsCallLed a.touches (after_first_native start a)
+      member_led : IsCallLed arguments (Api member) a.touches (after_first_native start a)
       member_led = record {
-        runs = by_native member arguments (no_frame owner) refl answer_guarded;
+        runs = by_native member (no_frame owner) refl answer_guarded;
         fit = λ p. record {
           built = p.built;
           apart = record {
@@ -318,34 +327,35 @@ module _ (laws : StepsGuarded) (c : CardState) (owner : Owner) where
           };
         };
         plain = λ p.
-            by_native member arguments (no_frame owner) refl
+            by_native member (no_frame owner) refl
             (spared owner.context a.touches c.heap a.heap answer_guarded.changes (answer_apart p).spares);
       }
 
-      native_leads : from (native_called s start member a)
+      native_leads : from arguments (Api member) (native_called s start member a)
       native_leads = native_ended_leads a.touches (after_first_native start a) member a.ends member_led
 
-    native_started_leads : (steps member : ℕ) → from (native_started s steps start member)
-    native_started_leads zero member = none_led (no_frame owner) refl
+    native_started_leads : (steps member : ℕ) → from arguments (Api member) (native_started s steps start member)
+    native_started_leads zero member = none_led arguments (Api member) (no_frame owner) refl
     native_started_leads (suc n) member =
-        either (native_may_begin s.world.shapes c.heap member arguments)
+        either arguments (Api member) (native_may_begin s.world.shapes c.heap member arguments)
         (native_called s start member (first_answer s start member)) (ended_by WasStuck) (native_leads member) tt
 
     -- ---- whatever is called
 
-    started_by_leads : (name : MethodName) → from (started_by s c.steps start name)
+    started_by_leads : (name : MethodName) → from arguments name (started_by s c.steps start name)
     started_by_leads (Loaded number offset) =
         let place : MethodPlace = record { number = number; offset = offset } in
-        started_leads place (declared_at s.world place)
+        started_leads place (declared_at s.world place) refl
     started_by_leads (Api member) = native_started_leads c.steps member
 
-    call_leads : from (runtime_call s c.steps start)
+    call_leads : from arguments method (runtime_call s c.steps start)
     unfolding runtime_call
     call_leads = started_by_leads method
 
     -- ---- as a part of a command
 
-    module _ (running : IsRunning c owner) (is_owner : IsApartCard c → is_applets owner ≡ true) where
+    module _ (order : Order) (called : IsCallOf c order owner method arguments)
+        (is_owner : IsApartCard c → is_applets owner ≡ true) where
       fit_start : IsApartCard c → IsFitStart
       fit_start p =
           record {
@@ -356,10 +366,11 @@ module _ (laws : StepsGuarded) (c : CardState) (owner : Owner) where
             applets = is_owner p;
           }
 
-      left_apart : (touches : List Touch) (m : Machine Kept) (ends : Ended) → IsCallLed touches m
-          → IsPart c (record { touches = touches; card = left_by c m; value = ends })
+      left_apart : (touches : List Touch) (m : Machine Kept) (ends : Ended)
+          → IsCallLed arguments method touches m
+          → IsPart order c (record { touches = touches; card = left_by c m; value = ends })
       left_apart touches m ends h = record {
-        accesses = by_call c owner touches m running h.runs;
+        accesses = by_call order c owner method arguments touches m called h.runs;
         packages = refl;
         apart = λ p. record {
           card = record {
@@ -368,18 +379,18 @@ module _ (laws : StepsGuarded) (c : CardState) (owner : Owner) where
             statics = (h.fit (fit_start p)).apart.statics;
             instances = (h.fit (fit_start p)).apart.kept;
           };
-          plain = by_call c owner touches m running (h.plain (fit_start p));
+          plain = by_call order c owner method arguments touches m called (h.plain (fit_start p));
         };
       }
 
-      ended_part : (touches : List Touch) (ends : CallEnd Kept) → call_end touches ends
-          → IfSome (ended_call c touches ends) (IsPart c)
+      ended_part : (touches : List Touch) (ends : CallEnd Kept) → call_end arguments method touches ends
+          → IfSome (ended_call c touches ends) (IsPart order c)
       ended_part touches (Gave m value) h = left_apart touches m (Normally value) h
       ended_part touches (Threw m object at) h = left_apart touches m (Uncaught object at) h
       ended_part touches (RanOut m lack at) h = left_apart touches m (OutOfBudget lack at) h
       ended_part touches WasStuck h = tt
 
-      pub call_part : IfSome (ended c (runtime_call s c.steps start)) (IsPart c)
+      pub call_part : IfSome (ended c (runtime_call s c.steps start)) (IsPart order c)
       call_part =
-          let called = runtime_call s c.steps start in
-          ended_part called.touches called.ends call_leads
+          let ran = runtime_call s c.steps start in
+          ended_part ran.touches ran.ends call_leads

@@ -8,7 +8,7 @@ use Rattle.jc_store.specs.Heap.{is_same_event}
 use Rattle.jc_store.specs.declared.kind.Mark.TheVariants.{Plain}
 use Rattle.jc_card.proofs.Leading.{keeps_self}
 use Rattle.jc_card.proofs.LeadingCalls.{StepsGuarded}
-use Rattle.jc_card.specs.Accesses.{AllCleared, Clears, IsApartCard, IsOwnWork, LeavesOthers}
+use Rattle.jc_card.specs.Accesses.{AllCleared, IsApartCard, law_of_accesses, law_of_plain_objects}
 use Rattle.std.proofs.Common.{arith}
 use Rattle.std.proofs.Math.Seq.{length-sets, sets}
 use Rattle.std.proofs.lemmas.Option.{same_Some}
@@ -21,12 +21,13 @@ use Rattle.jc_firewall.specs.declared.access.Verdict.TheVariants.{Allowed}
 use Rattle.jc_link.specs.Linked.{World}
 use Rattle.jc_machine.specs.Going.{facts_in}
 use Rattle.jc_machine.specs.Guarded.{AddsFor, ChangesAccessed, IsAccessed, are_allowed, may_change}
-use Rattle.jc_machine.specs.Runtime.{apdu_buffer, install_array}
 use Rattle.jc_machine.specs.Lookup.{is_array}
 use Rattle.jc_machine.specs.Machine.{Touch}
 use Rattle.jc_machine.specs.Natives.{KeepsObjects}
 use Rattle.jc_machine.specs.Storable.{HoldStorable, may_be_held}
-use Rattle.jc_natives.specs.Cells.{put, put_all}
+use Rattle.jc_natives.specs.Apart.{names_applets}
+use Rattle.jc_natives.specs.Cells.{put as put_one, put_all}
+use Rattle.jc_natives.specs.Kept.{Kept}
 use Rattle.jc_natives.specs.Meaning.{own_touch}
 use Rattle.jc_safety.specs.Zeroing.{zero_or_null, zeroed, zeroed_where}
 use Rattle.jc_store.specs.Heap.{Heap, Object, is_cleared_by, object_at, with_cell, with_object}
@@ -35,11 +36,12 @@ use Rattle.jc_store.specs.declared.kind.ClearingEvent.TheVariants as events
 use Rattle.jc_words.specs.Values.{Null, Ref, TaggedValue, Unset, Word}
 use Rattle.jc_card.proofs.Heaps.{all_put}
 use Rattle.jc_card.proofs.Leading.{IsPart}
-use Rattle.jc_card.specs.Accesses.{IsOwnAccess}
-use Rattle.jc_card.specs.Accesses.Leads.{by_clearing, by_write}
 use Rattle.jc_card.specs.Commands.{reset_command}
-use Rattle.jc_card.specs.Card.{CardState}
-use Rattle.jc_card.specs.Parts.{clear, clearing_touches, write}
+use Rattle.jc_card.specs.Card.{CardState, with_heap}
+use Rattle.jc_card.specs.Order.{Claims, Clears, IsClearing, IsOwnAccess, IsOwnWork, IsOwnWrite, Leads, LeavesOthers}
+use Rattle.jc_card.specs.Order.{Order, Resets}
+use Rattle.jc_card.specs.Order.Leads.{by_reset}
+use Rattle.jc_card.specs.Parts.{clear, clearing_touches, runtime_touch, write}
 
 -- ---- the runtime's own access
 
@@ -123,7 +125,7 @@ nothing_put : (heap : Heap TaggedValue) (number from : ℕ) (values : List Tagge
     → put_all heap number from values ≡ heap
 nothing_put heap number from [] e = refl
 nothing_put heap number from (v ∷ values) e =
-    let same : put heap number from v ≡ heap =
+    let same : put_one heap number from v ≡ heap =
     ap (λ o. option_map_or (λ object. with_object heap number (with_cell object from v)) o heap) e in
     ap (λ h. put_all h number (from + 1) values) same ∙ nothing_put heap number (from + 1) values e
 
@@ -205,32 +207,42 @@ none_put heap number values (Some o) e n f =
 abbrev any_owner : Owner
 any_owner = record { context = 1; instance = 1 }
 
-module _ (laws : StepsGuarded) where
-  pub write_part : (number : ℕ) (words : List ℕ) (c : CardState)
-      → (number ≡ apdu_buffer) ⊎ (number ≡ install_array)
-      → (IsApartCard c → (o : Object TaggedValue) → object_at c.heap number ≡ Some o → o.kind.mark ≢ Plain)
-      → IfSome (write number words c) (IsPart c)
-  write_part number words c which other =
-      let values = map Word words in
-      let after = put_all c.heap number 0 values in
-      let work = put_work c.world c.heap number values (object_at c.heap number) refl in
-      let others = put_others c.world c.heap number values (object_at c.heap number) refl in
-      record {
-        accesses = by_write c number after which work others tt;
-        packages = refl;
-        apart = λ p. record {
-          card = record {
-            packages = p.packages;
-            objects = laws.apart_objects c.heap after any_owner p.objects work.kept refl
-                (none_added any_owner c.heap after
-                (none_put c.heap number values (object_at c.heap number) refl))
-                (laws.words c.heap p.objects.stored number 0 words);
-            statics = laws.fields c.heap after work.kept c.statics p.statics;
-            instances = p.instances;
-          };
-          plain = by_write c number after which work others (other p);
-        };
+module _ (laws : StepsGuarded) (number : ℕ) (words : List ℕ) (c : CardState) where
+  abbrev put : Heap TaggedValue
+  put = put_all c.heap number 0 (map Word words)
+
+  own_write : (claims : Claims) → claims.write c.heap number → IsOwnWrite claims c number put
+  own_write claims claim = record {
+    work = put_work c.world c.heap number (map Word words) (object_at c.heap number) refl;
+    others = put_others c.world c.heap number (map Word words) (object_at c.heap number) refl;
+    claimed = claim;
+  }
+
+  put_apart : IsApartCard c → IsApartCard (with_heap c put)
+  put_apart p =
+      let kept = (own_write law_of_accesses tt).work.kept in record {
+        packages = p.packages;
+        objects =
+            laws.apart_objects c.heap put any_owner p.objects kept refl
+            (none_added any_owner c.heap put
+            (none_put c.heap number (map Word words) (object_at c.heap number) refl))
+            (laws.words c.heap p.objects.stored number 0 words);
+        statics = laws.fields c.heap put kept c.statics p.statics;
+        instances = p.instances;
       }
+
+  pub write_part : (order : Order) → ((claims : Claims) → IsOwnWrite claims c number put
+      → Leads claims order c (runtime_touch c.heap number) (with_heap c put))
+      → (IsApartCard c → (o : Object TaggedValue) → object_at c.heap number ≡ Some o → o.kind.mark ≢ Plain)
+      → IfSome (write number words c) (IsPart order c)
+  write_part order leads other = record {
+    accesses = leads law_of_accesses (own_write law_of_accesses tt);
+    packages = refl;
+    apart = λ p. record {
+      card = put_apart p;
+      plain = leads law_of_plain_objects (own_write law_of_plain_objects (other p));
+    };
+  }
 
 -- ---- what is cleared
 
@@ -433,27 +445,44 @@ module _ (w : World) (event : ClearingEvent) (context : Option ℕ) where
   none_cleared_at heap zero e = refl
   none_cleared_at heap (suc n) e = none_cleared heap n e
 
-pub clear_part : (laws : StepsGuarded) (event : ClearingEvent) (context : Option ℕ) (c : CardState)
-    → IfSome (clear event context c) (IsPart c)
-clear_part laws event context c =
-    let after = zeroed_where (is_cleared_by event context) c.heap in
-    let touches = clearing_touches event context 1 c.heap in
-    let work = clear_work c.world event context c.heap in
-    let exact = clears_exactly c.world event context c.heap in
-    record {
-      accesses = by_clearing c event context touches after work exact;
+-- what the runtime keeps and who is selected may become another in the same part
+abbrev pub changed : CardState → Kept → Option Owner → CardState
+changed c kept selected = record c { kept = kept; selected = selected }
+
+module _ (laws : StepsGuarded) (event : ClearingEvent) (context : Option ℕ) (c : CardState) where
+  abbrev cleared : Heap TaggedValue
+  cleared = zeroed_where (is_cleared_by event context) c.heap
+
+  abbrev clearing : List Touch
+  clearing = clearing_touches event context 1 c.heap
+
+  pub is_clearing : IsClearing c event context clearing cleared
+  is_clearing = record {
+    work = clear_work c.world event context c.heap;
+    clears = clears_exactly c.world event context c.heap;
+  }
+
+  module _ (kept : Kept) (selected : Option Owner) where
+    pub clear_apart : (names_applets c.kept ≡ true → names_applets kept ≡ true) → IsApartCard c
+        → IsApartCard (with_heap (changed c kept selected) cleared)
+    clear_apart names p = record {
+      packages = p.packages;
+      objects =
+          laws.apart_objects c.heap cleared any_owner p.objects is_clearing.work.kept refl
+          (none_added any_owner c.heap cleared (none_cleared_at c.world event context c.heap))
+          (cleared_holds c.world event context laws.held c.heap p.objects.stored);
+      statics = laws.fields c.heap cleared is_clearing.work.kept c.statics p.statics;
+      instances = names p.instances;
+    }
+
+    pub clear_part : (order : Order) → ((claims : Claims) → IsClearing c event context clearing cleared
+        → Leads claims order c clearing (with_heap (changed c kept selected) cleared))
+        → (names_applets c.kept ≡ true → names_applets kept ≡ true)
+        → IfSome (clear event context (changed c kept selected)) (IsPart order c)
+    clear_part order leads names = record {
+      accesses = leads law_of_accesses is_clearing;
       packages = refl;
-      apart = λ p. record {
-        card = record {
-          packages = p.packages;
-          objects = laws.apart_objects c.heap after any_owner p.objects work.kept refl
-              (none_added any_owner c.heap after (none_cleared_at c.world event context c.heap))
-              (cleared_holds c.world event context laws.held c.heap p.objects.stored);
-          statics = laws.fields c.heap after work.kept c.statics p.statics;
-          instances = p.instances;
-        };
-        plain = by_clearing c event context touches after work exact;
-      };
+      apart = λ p. record { card = clear_apart names p; plain = leads law_of_plain_objects is_clearing };
     }
 
 -- ---- a reset
@@ -486,6 +515,25 @@ module _ (w : World) (heap : Heap TaggedValue) (number : ℕ) (o : Object Tagged
       by_tests o false true
       (ap (λ (x : Option ClearingEvent). option_map_or (is_same_event events.Reset) x false && true) e) refl
       (ap (λ (x : Option ClearingEvent). option_map_or (is_same_event events.Deselect) x false && true) e)
+
+pub reset_part : (laws : StepsGuarded) (c : CardState) → IfSome (reset_command c) (IsPart Resets c)
+reset_part laws c =
+    let between = zeroed_where (is_cleared_by events.Reset None) c.heap in
+    let first = is_clearing laws events.Reset None c in
+    let next = is_clearing laws events.Deselect None (with_heap c between) in
+    let heap = zeroed_where (is_cleared_by events.Deselect None) between in
+    let touches = clearing_touches events.Reset None 1 c.heap in
+    let more = clearing_touches events.Deselect None 1 between in
+    record {
+      accesses = by_reset c between heap touches more first next;
+      packages = refl;
+      apart = λ p. record {
+        card =
+            clear_apart laws events.Deselect None (with_heap c between) c.kept None (λ names. names)
+            (clear_apart laws events.Reset None c c.kept c.selected (λ names. names) p);
+        plain = by_reset c between heap touches more first next;
+      };
+    }
 
 pub all_cleared : (c : CardState) → IfSome (reset_command c) (λ l. AllCleared c.heap l.card.heap)
 all_cleared c number o there some = by_event c.world c.heap number o there o.kind.clears refl some

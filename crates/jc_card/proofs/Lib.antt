@@ -1,4 +1,6 @@
 mod Heaps
+mod TypedCards
+mod TypedCalls
 mod Calling
 mod AppletCalls
 mod Doing
@@ -17,6 +19,8 @@ mod Written
 mod Keeping
 mod Finding
 mod Installing
+mod Bytes
+mod TypedCommands
 mod Worlds
 mod Checked
 mod NewCards

@@ -1,84 +1,50 @@
 -- A card behind a load.
-use Rattle.std.proofs.Common.{◌≡◌, ℕ, suc, ◌+◌, ◌<◌, ◌&&◌, List, ◌++◌, length, Bool, true, false, None}
-use Rattle.std.proofs.Common.{nat_le, nat_lt}
-use Rattle.std.proofs.lemmas.Bool.{leb-true}
+use Rattle.std.proofs.Common.{◌≡◌, ℕ, suc, ◌+◌, ◌<◌, List, ◌++◌, length, nat_le, true, None}
+use Rattle.std.proofs.lemmas.Bool.{and_parts, leb-true}
 use Rattle.std.proofs.lemmas.List.{length-append, length-map}
-use Rattle.std.proofs.Common.{arith, refl, sym, ap, ◌∙◌, subst}
+use Rattle.std.proofs.Common.{arith, sym, ap, ◌∙◌, subst}
 use Rattle.jc_interp.specs.Agree.{AgreeBeside, HoldsFields}
 use Rattle.jc_interp.specs.Loading.{LoadsWords, with_package as with_words}
 use Rattle.jc_interp.specs.declared.machine.WordMachine.{WordMachine}
-use Rattle.jc_link.specs.Linked.{IsBoundTo, Linked, World, most_in_world, with_linked}
+use Rattle.jc_link.specs.Linked.{IsBoundTo, Linked, World, with_linked}
 use Rattle.jc_machine.specs.Reading.{ReadsObject}
 use Rattle.jc_loaded.specs.Program.{IsProgramOf}
 use Rattle.jc_loaded.specs.declared.program.Program.{Program}
 use Rattle.jc_machine.specs.Accepted.{IsAccepted}
 use Rattle.jc_machine.specs.Machine.{Machine, Surroundings}
-use Rattle.jc_machine.specs.Typed.{IsTypedBeside}
 use Rattle.jc_natives.specs.Kept.{Kept}
-use Rattle.jc_natives.specs.Meaning.{meaning}
 use Rattle.jc_safety.specs.Loading.{MayLoad, around_behind, has_room_for, heap_behind, loaded_array, loaded_arrays}
 use Rattle.jc_safety.specs.Loading.{loaded_statics, machine_behind, next_package}
 use Rattle.jc_store.specs.Heap.{Heap, cells_in, next_number}
 use Rattle.jc_words.specs.Values.{TaggedValue}
 use Rattle.jc_card.specs.Card.{CardState, around, at_rest}
 use Rattle.jc_card.proofs.Counting.{as_many}
+use Rattle.jc_card.proofs.TypedCards.{LoadsFitting, LoadsTyped, may_load, package_typed, room_behind}
 use Rattle.jc_card.specs.Load.{has_room, with_package}
 use Rattle.jc_card.specs.PrivateLoad.{Grows}
 use Rattle.jc_card.specs.Reads.{CardWords, Holds}
 
 -- the laws of a load
-abbrev StaysTyped : Type 0
-StaysTyped = (s : Surroundings Kept) (m : Machine Kept) (l : Linked) → MayLoad s m l
-    → IsTypedBeside (around_behind s l) (machine_behind s m l)
-
 abbrev StaysInAgreement : Type 0
 StaysInAgreement = (s : Surroundings Kept) (p q : Program) (u : WordMachine) (kept : Kept) (m : Machine Kept)
     (l : Linked) (image : List ℕ) → LoadsWords s p q u kept m l image
     → AgreeBeside (around_behind s l) q (with_words u (next_package s.world) l.body image) kept (machine_behind s m l)
 
-abbrev StaysFit : Type 0
-StaysFit = (w : World) (l : Linked) → IsBoundTo w l → (heap more : Heap TaggedValue) (k : Kept)
-    → meaning.fits w heap k ≡ true → meaning.fits (with_linked w l) (heap ++ more) k ≡ true
-
--- the parts of what has room
-both : (a b : Bool) → (a && b) ≡ true → (a ≡ true) × (b ≡ true)
-both true b e = (refl, e)
-both false b e = absurd cc
-
-module _ (typed : StaysTyped) (agree : StaysInAgreement) (fit : StaysFit) (k : CardWords) (c : CardState)
+module _ (typed : LoadsTyped) (agree : StaysInAgreement) (fit : LoadsFitting) (k : CardWords) (c : CardState)
     (h : Holds k c) (l : Linked) (bound : IsBoundTo k.world l) (accepted : IsAccepted (with_linked k.world l))
-    (room : has_room c l ≡ true) (few_objects : k.most_objects < 65536) (few_cells : k.most_cells < 65536) where
+    (room : has_room c l ≡ true) (few_objects : k.most_objects < 65536) where
   abbrev behind : Heap TaggedValue
   behind = heap_behind c.world c.heap l
 
-  room_behind : has_room_for c.limits behind ≡ true
-  room_behind = (both (nat_lt (length c.world.shapes) most_in_world) (has_room_for c.limits behind) room).1
-
-  parts : (nat_le (length behind) c.limits.objects ≡ true) × (nat_le (cells_in behind) c.limits.cells ≡ true)
-  parts = both (nat_le (length behind) c.limits.objects) (nat_le (cells_in behind) c.limits.cells) room_behind
-
-  few : cells_in behind < 65536
-  few =
-      let fits = leb-true (cells_in behind) c.limits.cells parts.1 in
-      let most = h.most_cells in
-      omega (arith, fits, most, few_cells)
-
-  accepted_after : IsAccepted (with_linked c.world l)
-  accepted_after = subst (λ (w : World). IsAccepted (with_linked w l)) h.world accepted
-
   may : MayLoad (around c None) (at_rest c) l
   may =
-      let to_world = subst (λ (w : World). IsBoundTo w l) h.world bound in record {
-        before = h.typed.accepted;
-        bound = to_world;
-        after = accepted_after;
-        beside = h.typed.beside;
-        few = few;
-        fits = fit c.world l to_world c.heap (loaded_arrays (next_package c.world) l.body) c.kept h.typed.beside.fits;
-      }
+      may_load fit c h.typed l (subst (λ (w : World). IsBoundTo w l) h.world bound)
+      (subst (λ (w : World). IsAccepted (with_linked w l)) h.world accepted) room
 
   few_behind : length k.machine.store.objects + length l.body.kept.statics.arrays < 65536
   few_behind =
+      let parts = and_parts (nat_le (length behind) c.limits.objects) (nat_le (cells_in behind) c.limits.cells)
+      (room_behind c l room) in
       let fits = leb-true (length behind) c.limits.objects parts.0 in
       let most = h.most_objects in
       let joined = length-append c.heap (loaded_arrays (next_package c.world) l.body) in
@@ -95,7 +61,8 @@ module _ (typed : StaysTyped) (agree : StaysInAgreement) (fit : StaysFit) (k : C
     grown_is : machine ≡ grown
     grown_is =
         g.is c.limits c.heap (sym h.beside.most_objects) (sym h.beside.most_cells) h.beside.heap
-        (subst (λ (n : ℕ). has_room_for c.limits (c.heap ++ loaded_arrays n l.body) ≡ true) (sym number_is) room_behind)
+        (subst (λ (n : ℕ). has_room_for c.limits (c.heap ++ loaded_arrays n l.body) ≡ true) (sym number_is)
+        (room_behind c l room))
         ∙ ap (λ (n : ℕ). with_words k.machine n l.body g.words) number_is
 
     same_world : world ≡ with_linked c.world l
@@ -116,11 +83,7 @@ module _ (typed : StaysTyped) (agree : StaysInAgreement) (fit : StaysFit) (k : C
 
     pub holds_behind : Holds (record k { world = world; program = q; machine = machine }) (with_package c l)
     holds_behind = record {
-      typed = record {
-        accepted = accepted_after;
-        beside = typed (around c None) (at_rest c) l may;
-        numbers = h.typed.numbers;
-      };
+      typed = package_typed typed c h.typed l may;
       world = same_world;
       program = of;
       beside =

@@ -1,5 +1,5 @@
 -- A card that is new holds the new card of the defensive machine.
-use Rattle.std.proofs.Common.{◌≡◌, ℕ, List, [], None, true, sym, ap, ◌∙◌, subst, arith}
+use Rattle.std.proofs.Common.{◌≡◌, ◌<◌, ℕ, List, [], None, true, sym, ap, ◌∙◌, subst}
 use Rattle.jc_api.specs.Bound.{Bound}
 use Rattle.jc_frames.specs.Frames.{Frames}
 use Rattle.jc_interp.specs.Agree.{HoldsFields}
@@ -17,6 +17,7 @@ use Rattle.jc_card.specs.PrivateNew.{HasOwn}
 use Rattle.jc_card.specs.Reads.{CardWords, Holds}
 use Rattle.jc_card.specs.declared.limits.Limits.{Limits}
 use Rattle.jc_card.proofs.Making.{own_read}
+use Rattle.jc_card.proofs.TypedCards.{new_typed}
 
 -- what is known of it
 pub record IsNew (l : Limits) (bound : Bound) (before : Store) (k : CardWords) : Type 0 where
@@ -34,21 +35,12 @@ pub record IsNew (l : Limits) (bound : Bound) (before : Store) (k : CardWords) :
   pub most_cells : k.most_cells ≡ l.cells
   pub steps : k.steps ≡ l.steps
 
-pub holds_new : (l : Limits) (bound : Bound) (before : Store) (k : CardWords) → IsNew l bound before k
-    → IsAccepted (api_alone bound) → (frame : Frame)
+pub holds_new : (l : Limits) → l.cells < 65536 → (bound : Bound) (before : Store) (k : CardWords)
+    → IsNew l bound before k → IsAccepted (api_alone bound) → (frame : Frame)
     → IsTypedBeside (idle_in (api_alone bound)) (new_machine [] frame)
     → meaning.fits (api_alone bound) new_heap nothing_kept ≡ true → Holds k (new_card l bound)
-holds_new l bound before k n accepted frame typed fits = record {
-  typed = record {
-    accepted = accepted;
-    beside = record {
-      heap = typed.heap;
-      statics = typed.statics;
-      runtime_objects = typed.runtime_objects;
-      fits = fits;
-    };
-    numbers = omega arith;
-  };
+holds_new l cells bound before k n accepted frame typed fits = record {
+  typed = new_typed l cells bound accepted frame typed fits;
   world = n.world;
   program = n.program;
   beside = record {

@@ -188,3 +188,27 @@ then_numbers c (Some l) h = behind_numbers (commands.unselect l.card) (unselecte
 pub deselect_keeps_numbers : (c : CardState) → SameNumbers c (commands.deselect c)
 deselect_keeps_numbers c =
     then_numbers c (call_selected c calls.Deselect) (called_numbers c calls.Deselect (selected_instance c))
+
+-- ---- behind a deselection no one is selected
+
+abbrev NoneSelected : {A : Type 0} → Option (Left A) → Type 0
+NoneSelected done = IfSome done (λ l. l.card.selected ≡ None)
+
+none_unselected : (c : CardState) (selected : Option Owner) → c.selected ≡ selected → NoneSelected (option_map_or
+    (λ (owner : Owner). clear events.Deselect (Some owner.context) (with_selected c None)) selected (gives c tt))
+none_unselected c None e = e
+none_unselected c (Some owner) e = refl
+
+none_behind : {A B : Type 0} (done : Option (Left A)) (next : CardState → A → Option (Left B))
+    → ((c : CardState) (value : A) → NoneSelected (next c value)) → NoneSelected (and_then done next)
+none_behind None next each = tt
+none_behind {A} {B} (Some l) next each = behind_none (next l.card l.value) (each l.card l.value)
+  where
+    behind_none : (later : Option (Left B)) → NoneSelected later → NoneSelected (option_map (behind l.touches) later)
+    behind_none None h = tt
+    behind_none (Some m) h = h
+
+pub deselect_selects_none : (c : CardState) → NoneSelected (commands.deselect c)
+deselect_selects_none c =
+    none_behind (call_selected c calls.Deselect) (λ c ended. commands.unselect c)
+    (λ d ended. none_unselected d d.selected refl)

@@ -1,6 +1,6 @@
 -- What the card does to a command of a reader, and to a reset (Java Card Runtime Environment Specification, Selection,
 -- Applet Lifetime: select, deselect and process; Transient Objects; Card Reset Behavior).
-use Rattle.std.specs.Prelude.{ℕ, ◌==◌, Bool, true, false, not, List, [], Option, Some, None, get_or, is_some}
+use Rattle.std.specs.Prelude.{ℕ, ◌==◌, Bool, true, false, not, List, [], Option, Some, None, is_some}
 use Rattle.std.specs.Prelude.{if◌then◌else◌}
 use Rattle.std.specs.Option.{option_map_or}
 use Rattle.jc_api.specs.declared.class.ApiClass.TheVariants.{IsoException}
@@ -13,7 +13,7 @@ use Rattle.jc_natives.specs.declared.kept.Instance.{Instance}
 use Rattle.jc_store.specs.Heap.{Object, object_at}
 use Rattle.jc_store.specs.declared.kind.ClearingEvent.TheVariants.{Deselect, Reset}
 use Rattle.jc_names.specs.declared.owner.Owner.{Owner}
-use Rattle.jc_words.specs.Values.{TaggedValue, Word}
+use Rattle.jc_words.specs.Values.{TaggedValue}
 use Rattle.jc_card.specs.Card.{CardState, selected_instance, with_kept, with_selected}
 use Rattle.jc_card.specs.Causes.{cause_of, reason_of}
 use Rattle.jc_card.specs.declared.cause.Cause.{Cause}

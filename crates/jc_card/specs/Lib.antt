@@ -4,7 +4,9 @@ pub mod Causes
 pub mod Command
 pub mod Commands
 pub mod Install
+pub mod Order
 pub mod Accesses
+pub mod Typed
 pub mod Reads
 pub mod PrivateWords
 pub mod New

@@ -1,19 +1,20 @@
 -- A card that is new, and what its limits may be (Java Card Runtime Environment Specification, Lifetime of the Java
 -- Card Virtual Machine, JCRE Entry Point Objects, Global Arrays).
-use Rattle.std.specs.Prelude.{ℕ, ◌&&◌, nat_le, nat_lt, Bool, [], None}
+use Rattle.std.specs.Prelude.{ℕ, ◌&&◌, nat_le, nat_lt, Bool, [], None, length}
 use Rattle.jc_api.specs.Bound.{Bound}
 use Rattle.jc_machine.specs.Accepted.{api_alone}
 use Rattle.jc_machine.specs.TypedExamples.{new_heap}
 use Rattle.jc_natives.specs.Kept.{nothing_kept}
+use Rattle.jc_store.specs.Heap.{cells_in}
 use Rattle.jc_card.specs.Card.{CardState}
 use Rattle.jc_card.specs.declared.limits.Limits.{Limits}
 
--- the runtime's own objects, and the cells that they take
+-- how many the runtime's own objects are, and how many cells they take: 45, and 980
 abbrev pub own_objects : ℕ
-own_objects = 45
+own_objects = length new_heap
 
 abbrev pub own_cells : ℕ
-own_cells = 980
+own_cells = cells_in new_heap
 
 -- a number of an object isn't negative as a short
 abbrev pub most_objects : ℕ

@@ -1,5 +1,5 @@
 -- When a card on words is the card of the defensive machine without its tags, and what its commands do.
-use Rattle.std.specs.Prelude.{⊤, ◌≡◌, ℕ, ◌≤◌, true, List, [], Option, Some, None, Result, Ok, Err}
+use Rattle.std.specs.Prelude.{⊤, ◌≡◌, ℕ, true, List, [], Option, Some, None, Result, Ok, Err}
 use Rattle.std.specs.Option.{option_map_or}
 use Rattle.jc_base.specs.declared.fault.LoadFault.{LoadFault}
 use Rattle.jc_interp.specs.Agree.{AgreeBeside}
@@ -9,10 +9,7 @@ use Rattle.jc_interp.specs.declared.machine.WordMachine.{WordMachine}
 use Rattle.jc_link.specs.Linked.{World}
 use Rattle.jc_loaded.specs.Program.{IsProgramOf}
 use Rattle.jc_loaded.specs.declared.program.Program.{Program}
-use Rattle.jc_machine.specs.Accepted.{IsAccepted}
 use Rattle.jc_machine.specs.Reading.{ReadsResult}
-use Rattle.jc_machine.specs.Runtime.{most_instances}
-use Rattle.jc_machine.specs.Typed.{IsTypedBeside}
 use Rattle.jc_names.specs.declared.owner.Owner.{Owner}
 use Rattle.jc_natives.specs.Kept.{Kept}
 use Rattle.jc_words.specs.Values.{TaggedValue, is_written}
@@ -21,6 +18,7 @@ use Rattle.jc_card.specs.Commands.{Response}
 use Rattle.jc_card.specs.Load.{IsLoad}
 use Rattle.jc_card.specs.Install.{HasNumber, Installed, Refused}
 use Rattle.jc_card.specs.Parts.{Ended, Left, Normally, OutOfBudget, Uncaught}
+use Rattle.jc_card.specs.Typed.{IsTypedCard}
 use Rattle.jc_card.specs.declared.answer.Answer.{Answer}
 use Rattle.jc_card.specs.declared.fault.InstallFault.{InstallFault}
 
@@ -35,14 +33,6 @@ pub record CardWords : Type 0 where
   pub most_objects : ℕ
   pub most_cells : ℕ
   pub steps : ℕ
-
--- ---- a card that is as it should be
-
--- its packages were accepted; what it holds is typed; and no more numbers are used than there are
-pub record IsTypedCard (c : CardState) : Type 0 where
-  pub accepted : IsAccepted c.world
-  pub beside : IsTypedBeside (around c None) (at_rest c)
-  pub numbers : c.numbers ≤ most_instances
 
 -- ---- agreement
 

@@ -12,6 +12,7 @@ ghost use Rattle.jc_card.specs.Commands.{apdu_command, reset_command};
 ghost use Rattle.jc_card.specs.Install.{install_command};
 ghost use Rattle.jc_card.specs.Load.{IsLoad};
 ghost use Rattle.jc_card.specs.New.{new_card};
+ghost use Rattle.jc_card.specs.Order.{Resets, apdu_order, install_order};
 ghost use Rattle.jc_card.specs.declared.limits.Limits.{Limits};
 ghost use Rattle.jc_machine.specs.Machine.{Touch};
 ghost use Rattle.jc_store.specs.Heap.{Heap};
@@ -32,10 +33,11 @@ use jc_safety::api_runs_its_own_code;
 /// Components change only of objects of which an allowed access is listed. Behind a reset each transient array is zero
 /// or null. A load makes no access, and leaves each object as it was. It does nothing.
 pub fn commands_are_guarded()
-    ensures apdu { (c : CardState) (bytes : List ℕ) → IfSome (apdu_command c bytes) (IsGuardedCommand c) }
+    ensures apdu { (c : CardState) (bytes : List ℕ) → IfSome (apdu_command c bytes)
+        (IsGuardedCommand (apdu_order c bytes) c) }
     ensures install { (c : CardState) (applet instance incoming : List ℕ)
-        → IfSome (install_command c applet instance incoming) (IsGuardedCommand c) }
-    ensures reset { (c : CardState) → IfSome (reset_command c) (IsGuardedCommand c) }
+        → IfSome (install_command c applet instance incoming) (IsGuardedCommand (install_order c applet) c) }
+    ensures reset { (c : CardState) → IfSome (reset_command c) (IsGuardedCommand Resets c) }
     ensures cleared { (c : CardState) → IfSome (reset_command c) (λ l. AllCleared c.heap l.card.heap) }
     ensures load { (c after : CardState) (image certificate : List ℕ) (result : Result ℕ LoadFault)
         → IsLoad c image certificate result after → LeavesObjects c.heap after.heap }
@@ -56,11 +58,12 @@ pub fn commands_are_guarded()
 pub fn commands_stay_apart()
     ensures new { (limits : Limits) (binding : Bound) → HasNoClash binding → IsApartCard (new_card limits binding) }
     ensures apdu { (c : CardState) → IsApartCard c → (bytes : List ℕ)
-        → IfSome (apdu_command c bytes) (λ l. KeepsApart c l.touches l.card) }
+        → IfSome (apdu_command c bytes) (λ l. KeepsApart (apdu_order c bytes) c l.touches l.card) }
     ensures install { (c : CardState) → IsApartCard c → (applet instance incoming : List ℕ)
-        → IfSome (install_command c applet instance incoming) (λ l. KeepsApart c l.touches l.card) }
+        → IfSome (install_command c applet instance incoming)
+        (λ l. KeepsApart (install_order c applet) c l.touches l.card) }
     ensures reset { (c : CardState) → IsApartCard c
-        → IfSome (reset_command c) (λ l. KeepsApart c l.touches l.card) }
+        → IfSome (reset_command c) (λ l. KeepsApart Resets c l.touches l.card) }
     ensures load { (c after : CardState) (image certificate : List ℕ) (result : Result ℕ LoadFault) → IsApartCard c
         → IsLoad c image certificate result after → IsApartCard after }
 {

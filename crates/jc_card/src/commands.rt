@@ -7,6 +7,7 @@ ghost use Rattle.jc_card.specs.Card.{CardState};
 ghost use Rattle.jc_card.specs.Command.{buffer_of, buffer_size};
 ghost use Rattle.jc_card.specs.Commands.{apdu_command, ask, choose, dispatch, perform, process, receive};
 ghost use Rattle.jc_card.specs.Commands.{refused, select, selected_by};
+ghost use Rattle.jc_card.specs.Order.{apdu_order};
 ghost use Rattle.jc_card.specs.Parts.{write};
 ghost use Rattle.jc_card.specs.Reads.{Does, GivesNothing, Holds, ReadsResponse};
 ghost use Rattle.jc_machine.specs.Runtime.{apdu_buffer};
@@ -140,7 +141,7 @@ impl Card {
     pub fn apdu(&mut self, bytes: &[u8]) -> Answer
         ensures done { Does self.old self.new (ReadsResponse result) (λ c. apdu_command c bytes.now) }
         ensures guarded { (c : CardState) → Holds self.old c
-            → IfSome (apdu_command c bytes.now) (IsGuardedCommand c) }
+            → IfSome (apdu_command c bytes.now) (IsGuardedCommand (apdu_order c bytes.now) c) }
     {
         commands_are_guarded();
         match Command::parse(bytes) {

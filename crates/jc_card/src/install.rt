@@ -7,6 +7,7 @@ ghost use Rattle.jc_card.specs.Card.{CardState, with_kept};
 ghost use Rattle.jc_card.specs.Install.{accepted, begin, call_install, failure_of, failure_status, install_as};
 ghost use Rattle.jc_card.specs.Install.{install_command, install_size, most_data, padded, parameters_of};
 ghost use Rattle.jc_card.specs.Install.{refusal_of, settle, succeeds};
+ghost use Rattle.jc_card.specs.Order.{install_order};
 ghost use Rattle.jc_card.specs.Parts.{Ended, gives};
 ghost use Rattle.jc_card.specs.PrivateWords.{IsInstallPlace, install_words};
 ghost use Rattle.jc_card.specs.Reads.{Does, GivesNothing, Holds, IsDone, ReadsEnded, ReadsInstalled};
@@ -276,7 +277,8 @@ impl Card {
         ensures done { Does self.old self.new (ReadsInstalled result)
             (λ c. install_command c applet.now instance.now incoming.now) }
         ensures guarded { (c : CardState) → Holds self.old c
-            → IfSome (install_command c applet.now instance.now incoming.now) (IsGuardedCommand c) }
+            → IfSome (install_command c applet.now instance.now incoming.now)
+            (IsGuardedCommand (install_order c applet.now) c) }
     {
         commands_are_guarded();
         let Some(place) = applet_of(&self.world, applet) else {

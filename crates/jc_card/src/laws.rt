@@ -1,9 +1,16 @@
-//! What bytes and AIDs keep to, by their types.
+//! What words, bytes and AIDs keep to, by their types.
 
-ghost use Rattle.std.specs.Prelude.{◌≡◌, true};
+ghost use Rattle.std.specs.Prelude.{◌≡◌, ◌<◌, true};
 ghost use Rattle.jc_natives.specs.Kept.{are_bytes, is_aid};
 
 use jc_base::Aid;
+
+/// A word is below 65,536. It does nothing.
+pub(crate) fn is_word(word: u16)
+    ensures { word < 65536 }
+{
+    let _ = word;
+}
 
 /// Bytes have 8 bits. It does nothing.
 pub(crate) fn bytes_are_low(bytes: &[u8])

@@ -23,6 +23,7 @@ mod places;
 mod runtime_objects;
 mod selection;
 mod status;
+mod typed;
 mod writing;
 
 pub use accesses::{accesses_add_up, commands_are_guarded, commands_stay_apart};
@@ -32,3 +33,4 @@ pub use cause::Cause;
 pub use examples::{applets_are_installed, applets_are_selected};
 pub use fault::{CardFault, Failure, InstallFault};
 pub use limits::Limits;
+pub use typed::commands_are_never_stuck;

@@ -1,6 +1,6 @@
 //! Loading packages (Java Card Virtual Machine Specification, Linking, Verification of CAP files).
 
-ghost use Rattle.std.specs.Prelude.{◌≡◌, ◌<◌, ℕ, length, true, Result, Ok, IfErr, IfOk};
+ghost use Rattle.std.specs.Prelude.{◌≡◌, ℕ, true, Result, Ok, IfErr, IfOk};
 ghost use Rattle.jc_card.specs.Accesses.{LeavesObjects};
 ghost use Rattle.jc_card.specs.Card.{CardState};
 ghost use Rattle.jc_card.specs.Load.{IsLoad, has_room, with_package};
@@ -13,19 +13,13 @@ use crate::accesses::commands_are_guarded;
 use crate::card::Card;
 use crate::checking::checked;
 use crate::growing::grow;
+use crate::laws::is_word;
 use jc_base::LoadFault;
 use jc_interp::{has_room_for, loads_stay_in_agreement};
 use jc_link::Linked;
 use jc_natives::loads_keep_fitting;
 use jc_safety::loads_stay_typed;
 use std::alloc::{AllocError, Global};
-
-/// A word is below 65,536. It does nothing.
-fn is_word(word: u16)
-    ensures { word < 65536 }
-{
-    let _ = word;
-}
 
 impl Card {
     // Whether there is room for a package more, and for its arrays.
@@ -54,7 +48,6 @@ impl Card {
         loads_stay_typed(&self.runtime);
         loads_stay_in_agreement(&self.runtime);
         is_word(self.most_objects);
-        is_word(self.most_cells);
         let number = self.world.bodies().len() as u8 + 1;
         self.program = grow(alloc, &mut self.world, &mut self.machine, linked, number)?;
         Ok(number)

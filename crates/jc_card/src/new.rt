@@ -7,6 +7,7 @@ ghost use Rattle.jc_card.specs.declared.fault.CardFault.TheVariants.{BadLimits};
 
 use crate::card::Card;
 use crate::fault::CardFault;
+use crate::laws::is_word;
 use crate::limits::Limits;
 use crate::runtime_objects::make_own_objects;
 use jc_api::Binding;
@@ -30,6 +31,7 @@ impl Card {
             return Err(CardFault::BadLimits);
         }
         binding.has_no_clash();
+        is_word(limits.cells);
         new_machines_are_typed();
         accepted_worlds_grow();
         calls_keep_fitting();

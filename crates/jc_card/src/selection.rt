@@ -5,6 +5,7 @@ ghost use Rattle.std.specs.Prelude.{IfSome};
 ghost use Rattle.jc_card.specs.Accesses.{AllCleared, IsGuardedCommand};
 ghost use Rattle.jc_card.specs.Card.{CardState, with_selected};
 ghost use Rattle.jc_card.specs.Commands.{deselect, reset_command, unselect};
+ghost use Rattle.jc_card.specs.Order.{Resets};
 ghost use Rattle.jc_card.specs.Parts.{clear, gives};
 ghost use Rattle.jc_card.specs.Reads.{Does, GivesNothing, Holds};
 
@@ -54,7 +55,7 @@ impl Card {
     /// A reset: no applet is selected, and all transient arrays are zero or null. No method is called.
     pub fn reset(&mut self)
         ensures done { Does self.old self.new GivesNothing reset_command }
-        ensures guarded { (c : CardState) → Holds self.old c → IfSome (reset_command c) (IsGuardedCommand c) }
+        ensures guarded { (c : CardState) → Holds self.old c → IfSome (reset_command c) (IsGuardedCommand Resets c) }
         ensures cleared { (c : CardState) → Holds self.old c
             → IfSome (reset_command c) (λ l. AllCleared c.heap l.card.heap) }
     {

@@ -1,5 +1,6 @@
 -- Packages and certificates in memory, by their names.
-use Rattle.std.specs.Prelude.{◌≡◌, ◌++◌, ◌∷◌, [], ℕ, List, Option, Some, None, find, option_map, bytes_eq}
+use Rattle.std.specs.Prelude.{◌≡◌, ◌<◌, ◌++◌, ◌∷◌, [], ℕ, List, Option, Some, None, find, option_map, bytes_eq}
+use Rattle.jc_packages.specs.Source.{Asked, Certificate, Image}
 use Rattle.jc_packages.specs.declared.source.SourceFault.{SourceFault}
 use Rattle.jc_packages.specs.declared.source.SourceFault.TheVariants.{Failed, Memory}
 
@@ -39,3 +40,12 @@ pub record IsHeld (stored : List Stored) (name : List ℕ) : Type 0 where
 abbrev pub IsUnread : List Stored → List ℕ → SourceFault → Type 0
 IsUnread stored name Failed = stored_under name stored ≡ None
 IsUnread stored name Memory = IsHeld stored name
+
+-- nothing is under the name that is asked for
+abbrev pub IsMissing : Store → Asked → Type 0
+IsMissing s (Image name) = stored_under name s.images ≡ None
+IsMissing s (Certificate name) = stored_under name s.certificates ≡ None
+
+-- what a source in memory knows of its last reading that failed: there was one, and nothing is under what it asked for
+abbrev pub MayHaveFailedAt : Store → Asked → Type 0
+MayHaveFailedAt s asked = (0 < s.failures) × IsMissing s asked

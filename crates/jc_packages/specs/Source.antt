@@ -13,6 +13,15 @@ abbrev pub failures_in : {A : Type 0} → Result A SourceFault → ℕ
 failures_in (Ok bytes) = 0
 failures_in (Err fault) = failures_of fault
 
+-- a fact that holds where a reading failed. Of want of memory nothing is said
+abbrev pub OfFailed : SourceFault → Type 0 → Type 0
+OfFailed Failed fact = fact
+OfFailed Memory fact = ⊤
+
+abbrev pub IfFailed : {A : Type 0} → Result A SourceFault → Type 0 → Type 0
+IfFailed (Ok read) fact = ⊤
+IfFailed (Err fault) fact = OfFailed fault fact
+
 -- the same bytes are held under the same names, before and after
 pub record HoldSame (before after : List ℕ → List ℕ → Type 0) : Type 0 where
   pub still : (name bytes : List ℕ) → before name bytes → after name bytes

@@ -1,8 +1,8 @@
 //! Packages and certificates in memory.
 
 ghost use Rattle.std.specs.Prelude.{◌≡◌, ◌+◌, ◌<◌, ◌≤◌, ◌^◌, IfOk, IfErr, find, option_map, bytes_eq};
-ghost use Rattle.jc_packages.specs.Memory.{Holds, IsUnread, empty_store, with_stored};
-ghost use Rattle.jc_packages.specs.Source.{HoldSame, failures_in};
+ghost use Rattle.jc_packages.specs.Memory.{Holds, IsUnread, MayHaveFailedAt, empty_store, with_stored};
+ghost use Rattle.jc_packages.specs.Source.{Certificate, HoldSame, IfFailed, Image, failures_in};
 
 use crate::source::{PackageSource, SourceFault};
 use std::alloc::{AllocError, Global};
@@ -124,9 +124,12 @@ impl PackageSource for MemorySource {
 
     ghost holds_certificate = { λ s. Holds s.certificates };
 
+    ghost failed_at = { MayHaveFailedAt };
+
     fn image(&mut self, alloc: Global, name: &str) -> Result<Vec<u8>, SourceFault>
         requires { self.old.failures < 2 ^ 31 }
         ensures counted { self.new.failures ≡ self.old.failures + failures_in result }
+        ensures failing { IfFailed result (MayHaveFailedAt self.new (Image name.now)) }
         ensures held { IfOk result (λ image. Holds self.old.images name.now image.items) }
         ensures same_images { HoldSame (Holds self.old.images) (Holds self.new.images) }
         ensures same_certificates { HoldSame (Holds self.old.certificates) (Holds self.new.certificates) }
@@ -140,6 +143,7 @@ impl PackageSource for MemorySource {
     fn certificate(&mut self, alloc: Global, name: &str) -> Result<Vec<u8>, SourceFault>
         requires { self.old.failures < 2 ^ 31 }
         ensures counted { self.new.failures ≡ self.old.failures + failures_in result }
+        ensures failing { IfFailed result (MayHaveFailedAt self.new (Certificate name.now)) }
         ensures held { IfOk result (λ certificate. Holds self.old.certificates name.now certificate.items) }
         ensures same_images { HoldSame (Holds self.old.images) (Holds self.new.images) }
         ensures same_certificates { HoldSame (Holds self.old.certificates) (Holds self.new.certificates) }

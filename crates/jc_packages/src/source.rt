@@ -1,7 +1,7 @@
 //! Where packages and certificates are read.
 
 ghost use Rattle.std.specs.Prelude.{◌≡◌, ◌+◌, ◌<◌, ◌^◌, ℕ, List, [], ◌∷◌, Option, None, IfOk};
-ghost use Rattle.jc_packages.specs.Source.{Asked, Asks, Certificate, HoldSame, Image, failures_in};
+ghost use Rattle.jc_packages.specs.Source.{Asked, Asks, Certificate, HoldSame, IfFailed, Image, failures_in};
 
 use std::alloc::Global;
 
@@ -28,11 +28,15 @@ pub trait PackageSource {
     // What it was asked for, in order, where it tells.
     ghost asked: { Self → Option (List Asked) } = { λ _. None };
 
+    // The last reading that failed asked for this.
+    ghost failed_at: { Self → Asked → Type 0 };
+
     /// The image of a package.
     fn image(&mut self, alloc: Global, name: &str) -> Result<Vec<u8>, SourceFault>
         requires { failed self.now < 2 ^ 31 }
         ensures counted { failed self.new ≡ failed self.old + failures_in result }
         ensures asks { Asks (asked self.old) (asked self.new) (Image name.now ∷ []) }
+        ensures failing { IfFailed result (failed_at self.new (Image name.now)) }
         ensures held { IfOk result (λ image. holds_image self.old name.now image.items) }
         ensures same_images { HoldSame (holds_image self.old) (holds_image self.new) }
         ensures same_certificates { HoldSame (holds_certificate self.old) (holds_certificate self.new) };
@@ -42,6 +46,7 @@ pub trait PackageSource {
         requires { failed self.now < 2 ^ 31 }
         ensures counted { failed self.new ≡ failed self.old + failures_in result }
         ensures asks { Asks (asked self.old) (asked self.new) (Certificate name.now ∷ []) }
+        ensures failing { IfFailed result (failed_at self.new (Certificate name.now)) }
         ensures held { IfOk result (λ certificate. holds_certificate self.old name.now certificate.items) }
         ensures same_images { HoldSame (holds_image self.old) (holds_image self.new) }
         ensures same_certificates { HoldSame (holds_certificate self.old) (holds_certificate self.new) };

@@ -8,9 +8,10 @@ use Rattle.jc_card.specs.Install.{call_install}
 use Rattle.jc_card.specs.PrivateWords.{IsInstallPlace}
 use Rattle.jc_card.specs.contracts.card.Card.{the_view}
 use Rattle.jc_card.specs.Reads.{CardWords, Holds, ReadsEnded}
-use Rattle.jc_card.proofs.Calling.{CallLaws, may_call, method_called}
+use Rattle.jc_card.proofs.Calling.{may_call, method_called}
 use Rattle.jc_card.proofs.Doing.{left_card}
 use Rattle.jc_card.proofs.Installing.{can_begin, words_read}
+use Rattle.jc_card.proofs.TypedCalls.{CallLaws}
 use Rattle.jc_card.proofs.card.Card.call_install.Goals as goal
 
 pub call-requires : goal.call-requires
@@ -30,7 +31,7 @@ call-requires c =
     let h = c.self.invariant.holds in
     let known = subst (λ (w : World). IsInstallPlace w a.place) (subst (λ (x : CardWords). Holds x card)
     c.self.view_is h).world c.requires.place in
-    let can = can_begin k card h a.place a.owner a.size (omega (arith, c.ranges.size)) known in
+    let can = can_begin card h.typed a.place a.owner a.size (omega (arith, c.ranges.size)) known in
     record {
       may_call =
           may_call laws k card h a.owner.context a.owner name values can first c.called_at-called.ensures refl read few;
@@ -53,7 +54,7 @@ invariant_of-self c =
     let h = c.self.invariant.holds in
     let known = subst (λ (w : World). IsInstallPlace w a.place) (subst (λ (x : CardWords). Holds x card)
     c.self.view_is h).world c.requires.place in
-    let can = can_begin k card h a.place a.owner a.size (omega (arith, c.ranges.size)) known in
+    let can = can_begin card h.typed a.place a.owner a.size (omega (arith, c.ranges.size)) known in
     let after : CardWords = record k { machine = c.call.new.self; kept = c.call.new.natives } in
     left_card after (ReadsEnded c.call.result) (call_install card a.place a.owner a.size)
     (method_called laws k card h a.owner.context a.owner name values can first c.called_at-called.ensures refl read few
@@ -75,6 +76,6 @@ returns c card holds =
     let after : CardWords = record k { machine = c.call.new.self; kept = c.call.new.natives } in
     let h = subst (λ (x : CardWords). Holds x card) (sym c.self.view_is) holds in
     let known = subst (λ (w : World). IsInstallPlace w a.place) holds.world c.requires.place in
-    let can = can_begin k card h a.place a.owner a.size (omega (arith, c.ranges.size)) known in
+    let can = can_begin card h.typed a.place a.owner a.size (omega (arith, c.ranges.size)) known in
     method_called laws k card h a.owner.context a.owner name values can first c.called_at-called.ensures refl read few
     after c.call.result c.call.ensures.call c.call.ensures.dropped refl refl refl refl refl refl refl

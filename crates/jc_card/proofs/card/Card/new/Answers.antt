@@ -13,7 +13,7 @@ invariant_of-result c =
     let bound = c.args.binding.now in
     let clash = c.has_no_clash.ensures in record {
       card = new_card c.args.limits bound;
-      holds = holds_new c.args.limits bound c.in_ok-store.store _ (record {
+      holds = holds_new c.args.limits c.is_word.ensures bound c.in_ok-store.store _ (record {
         world = c.in_ok-world.ensures;
         program = c.in_ok-program.ensures;
         own = c.if-not-make_own_objects.ensures.made;
@@ -36,7 +36,7 @@ pub returns-clause-new : goal.returns-clause-new
 returns-clause-new c =
     let bound = c.args.binding.now in
     let clash = c.has_no_clash.ensures in
-    holds_new c.args.limits bound c.in_ok-store.store _ (record {
+    holds_new c.args.limits c.is_word.ensures bound c.in_ok-store.store _ (record {
       world = c.in_ok-world.ensures;
       program = c.in_ok-program.ensures;
       own = c.if-not-make_own_objects.ensures.made;

@@ -21,7 +21,7 @@ invariant_of-self-2 c =
     let number : length c.bodies.result.now + 1 ≡ next_package card.world = omega (arith, many) in record {
       card = with_package card c.args.linked;
       holds = holds_behind c.loads_stay_typed.ensures c.loads_stay_in_agreement.ensures c.loads_keep_fitting.ensures k
-          card h c.args.linked bound accepted room c.is_word.ensures c.is_word-2.ensures
+          card h c.args.linked bound accepted room c.is_word.ensures
           (length c.bodies.result.now + 1) number c.grow.new.world c.in_ok-self-inside.ensures.world
           c.in_ok-self-inside.field-0 c.in_ok-self-inside.ensures.program c.grow.new.machine
           c.in_ok-self-inside.ensures.machine;
@@ -39,7 +39,7 @@ returns-clause-done c card holds =
     let number : length c.bodies.result.now + 1 ≡ next_package card.world = omega (arith, many) in (
       number,
       holds_behind c.loads_stay_typed.ensures c.loads_stay_in_agreement.ensures c.loads_keep_fitting.ensures k
-          card h c.args.linked bound accepted room c.is_word.ensures c.is_word-2.ensures
+          card h c.args.linked bound accepted room c.is_word.ensures
           (length c.bodies.result.now + 1) number c.grow.new.world c.in_ok-self-inside.ensures.world
           c.in_ok-self-inside.field-0 c.in_ok-self-inside.ensures.program c.grow.new.machine
           c.in_ok-self-inside.ensures.machine,

@@ -1,0 +1,51 @@
+//! The defensive machine's card alone: no command is stuck (Java Card Virtual Machine Specification, Verification of
+//! CAP files).
+
+ghost use Rattle.std.specs.Prelude.{◌≡◌, ◌<◌, ℕ, List, Result, true};
+ghost use Rattle.jc_api.specs.Bound.{Bound};
+ghost use Rattle.jc_api.specs.NoClash.{HasNoClash};
+ghost use Rattle.jc_base.specs.declared.fault.LoadFault.{LoadFault};
+ghost use Rattle.jc_card.specs.Card.{CardState};
+ghost use Rattle.jc_card.specs.Commands.{apdu_command, reset_command};
+ghost use Rattle.jc_card.specs.Install.{install_command};
+ghost use Rattle.jc_card.specs.Load.{IsLoad};
+ghost use Rattle.jc_card.specs.New.{new_card};
+ghost use Rattle.jc_card.specs.Typed.{GivesTyped, IsTypedCard};
+ghost use Rattle.jc_card.specs.declared.limits.Limits.{Limits};
+ghost use Rattle.jc_machine.specs.Accepted.{IsAccepted};
+ghost use Rattle.jc_natives.specs.Kept.{are_bytes, is_aid};
+
+use jc_classes::superclass_laws;
+use jc_link::built_worlds_are_sound;
+use jc_machine::{Natives, accepted_worlds_grow, new_machines_are_typed};
+use jc_natives::{Runtime, calls_keep_fitting, loads_keep_fitting, members_are_declared};
+use jc_safety::{accepted_packages_are_type_safe, loads_stay_typed, objects_stay_typed};
+
+/// No command on a card of the defensive machine is stuck, whatever was done to the card before. A card that is new is
+/// typed. On a typed card each command gives an answer, and leaves a typed card: bytes of a reader, whatever they are;
+/// an install of whichever applet, with whichever AID and data; and a reset. So does a load behind which the packages
+/// are accepted. It does nothing.
+pub fn commands_are_never_stuck()
+    ensures new { (limits : Limits) (binding : Bound) → limits.cells < 65536 → HasNoClash binding
+        → IsTypedCard (new_card limits binding) }
+    ensures apdu { (c : CardState) → IsTypedCard c → (bytes : List ℕ) → are_bytes bytes ≡ true
+        → GivesTyped (apdu_command c bytes) }
+    ensures install { (c : CardState) → IsTypedCard c → (applet instance incoming : List ℕ) → is_aid applet ≡ true
+        → is_aid instance ≡ true → are_bytes incoming ≡ true
+        → GivesTyped (install_command c applet instance incoming) }
+    ensures reset { (c : CardState) → IsTypedCard c → GivesTyped (reset_command c) }
+    ensures load { (c after : CardState) (image certificate : List ℕ) (result : Result ℕ LoadFault) → IsTypedCard c
+        → IsLoad c image certificate result after → IsAccepted after.world → IsTypedCard after }
+{
+    built_worlds_are_sound();
+    superclass_laws();
+    members_are_declared();
+    Runtime::new().law();
+    accepted_packages_are_type_safe(&Runtime::new());
+    objects_stay_typed(&Runtime::new());
+    loads_stay_typed(&Runtime::new());
+    calls_keep_fitting();
+    loads_keep_fitting();
+    new_machines_are_typed();
+    accepted_worlds_grow();
+}

@@ -7,7 +7,7 @@ use Rattle.std.specs.Io.KnownBytes.{Appends}
 use Rattle.std.specs.Prelude.{IsErrAnd}
 use Rattle.jc_card.specs.Card.{CardState}
 use Rattle.jc_card.specs.Reads.{CardWords, Holds}
-use Rattle.jc_packages.specs.Source.{HoldSame}
+use Rattle.jc_packages.specs.Source.{Asked, HoldSame}
 use Rattle.jc_run.proofs.Ending.{command_done, command_unwritten, none_more}
 use Rattle.jc_run.proofs.Playing.{answered_as, line_as}
 use Rattle.jc_run.specs.Answer.{Answered}
@@ -63,7 +63,7 @@ module _ (images certificates : List ℕ → List ℕ → Type 0) (c : CardState
       (before : List ℕ) → Answers images certificates c command answer after → old ≡ Some before
       → Appends old now (answer_line answer) → IsLineHeld images certificates c (Asks command) after before now
   command_held command answer after old now before a is h =
-      let d = command_done images certificates c 0 command answer after old now before a is h in record {
+      let d = command_done images certificates c command answer after old now before a is h in record {
         card = d.card;
         written = d.written;
         done = played d.written d.card d.played;
@@ -71,12 +71,12 @@ module _ (images certificates : List ℕ → List ℕ → Type 0) (c : CardState
         now_is = d.now_is;
       }
 
-  unwritten_by : {number : ℕ} {said : ScriptLine} {written : List ℕ} {end : ScriptEnd} → end ≡ NotWritten
-      → (before : List ℕ) (now : Option (List ℕ)) → now ≡ Some (before ++ written)
-      → EndsAt images certificates c number said written end
+  unwritten_by : {failed_at : Asked → Type 0} {number : ℕ} {said : ScriptLine} {written : List ℕ} {end : ScriptEnd}
+      → end ≡ NotWritten → (before : List ℕ) (now : Option (List ℕ)) → now ≡ Some (before ++ written)
+      → EndsAt images certificates failed_at c number said written end
       → IsLineUnwritten images certificates c said before now
   unwritten_by is before now known bad_line = absurd cc
-  unwritten_by is before now known (source folder certificate) = absurd cc
+  unwritten_by is before now known (source folder certificate failing) = absurd cc
   unwritten_by is before now known (memory folder certificate) = absurd cc
   unwritten_by is before now known (cut_short command written answer after answered part) = record {
     written = written;
@@ -94,7 +94,7 @@ module _ (images certificates : List ℕ → List ℕ → Type 0) (c : CardState
       → old ≡ Some before → AppendsPart old now (answer_line answer)
       → EndsLine images certificates c (Asks command) before now NotWritten
   command_not_written command answer after old now before a is h =
-      let e = command_unwritten images certificates c 0 command answer after old now before a is h in
+      let e = command_unwritten images certificates (λ asked. ⊥) c 0 command answer after old now before a is h in
       unwritten_by refl before now e.now_is e.ends
 
 -- ---- what is told of known bytes

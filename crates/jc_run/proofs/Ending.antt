@@ -6,8 +6,9 @@ use Rattle.std.specs.Io.KnownBytes.{Appends}
 use Rattle.std.specs.Prelude.{IsErrAnd}
 use Rattle.jc_card.specs.Card.{CardState}
 use Rattle.jc_card.specs.Reads.{CardWords}
+use Rattle.jc_packages.specs.Source.{Asked}
 use Rattle.jc_run.specs.Answer.{Answered}
-use Rattle.jc_run.specs.Performs.{Answers, AsksSource}
+use Rattle.jc_run.specs.Performs.{Answers, AsksSource, IsFailingOf}
 use Rattle.jc_run.specs.Play.{BadLimits, BadLine, IsPart, NoMemory, NotRead, NotWritten, Over, ScriptEnd}
 use Rattle.jc_run.specs.Play.{SourceFailed, answer_line}
 use Rattle.jc_run.specs.PrivatePlay.{AppendsPart, IsEnd, IsLineDone, IsLineEnd, IsTaken, IsUnread, PlaysFrom}
@@ -48,20 +49,33 @@ parted old now before whole is h = parted_known before now whole (rw is at h)
 
 -- ---- commands
 
-module _ (images certificates : List ℕ → List ℕ → Type 0) (c : CardState) (number : ℕ) where
-  pub source_end : (command : ScriptCommand) (before : List ℕ) (now : Option (List ℕ)) → AsksSource command
-      → now ≡ Some before
-      → IsLineEnd images certificates c number (Asks command) before now (SourceFailed number)
-  source_end (Load folder certificate) before now asks is =
-      record { written = []; ends = source folder certificate; now_is = none_more is }
-  source_end (Install applet instance incoming) before now asks is = elim asks [ ]
-  source_end (Apdu bytes) before now asks is = elim asks [ ]
-  source_end Reset before now asks is = elim asks [ ]
-  source_end Cells before now asks is = elim asks [ ]
-  source_end Objects before now asks is = elim asks [ ]
+pub command_done : (images certificates : List ℕ → List ℕ → Type 0) (c : CardState) (command : ScriptCommand)
+    (answer : Answered) (after : CardWords) (old now : Option (List ℕ)) (before : List ℕ)
+    → Answers images certificates c command answer after → old ≡ Some before → Appends old now (answer_line answer)
+    → IsLineDone images certificates c (Asks command) after before now
+command_done images certificates c command answer after old now before a is h = record {
+  card = a.card;
+  written = answer_line answer;
+  played = record { answer = answer; answered = a.answered; written_is = refl };
+  holds = a.holds;
+  now_is = grown old now before _ is h;
+}
+
+module _ (images certificates : List ℕ → List ℕ → Type 0) (failed_at : Asked → Type 0) (c : CardState)
+    (number : ℕ) where
+  pub source_end : (command : ScriptCommand) (before : List ℕ) (now : Option (List ℕ))
+      → IsFailingOf failed_at command → now ≡ Some before
+      → IsLineEnd images certificates failed_at c number (Asks command) before now (SourceFailed number)
+  source_end (Load folder certificate) before now failing is =
+      record { written = []; ends = source folder certificate failing; now_is = none_more is }
+  source_end (Install applet instance incoming) before now failing is = elim failing [ ]
+  source_end (Apdu bytes) before now failing is = elim failing [ ]
+  source_end Reset before now failing is = elim failing [ ]
+  source_end Cells before now failing is = elim failing [ ]
+  source_end Objects before now failing is = elim failing [ ]
 
   pub memory_end : (command : ScriptCommand) (before : List ℕ) (now : Option (List ℕ)) → AsksSource command
-      → now ≡ Some before → IsLineEnd images certificates c number (Asks command) before now NoMemory
+      → now ≡ Some before → IsLineEnd images certificates failed_at c number (Asks command) before now NoMemory
   memory_end (Load folder certificate) before now asks is =
       record { written = []; ends = memory folder certificate; now_is = none_more is }
   memory_end (Install applet instance incoming) before now asks is = elim asks [ ]
@@ -70,22 +84,10 @@ module _ (images certificates : List ℕ → List ℕ → Type 0) (c : CardState
   memory_end Cells before now asks is = elim asks [ ]
   memory_end Objects before now asks is = elim asks [ ]
 
-  pub command_done : (command : ScriptCommand) (answer : Answered) (after : CardWords) (old now : Option (List ℕ))
-      (before : List ℕ) → Answers images certificates c command answer after → old ≡ Some before
-      → Appends old now (answer_line answer)
-      → IsLineDone images certificates c (Asks command) after before now
-  command_done command answer after old now before a is h = record {
-    card = a.card;
-    written = answer_line answer;
-    played = record { answer = answer; answered = a.answered; written_is = refl };
-    holds = a.holds;
-    now_is = grown old now before _ is h;
-  }
-
   pub command_unwritten : (command : ScriptCommand) (answer : Answered) (after : CardWords)
       (old now : Option (List ℕ)) (before : List ℕ) → Answers images certificates c command answer after
       → old ≡ Some before → AppendsPart old now (answer_line answer)
-      → IsLineEnd images certificates c number (Asks command) before now NotWritten
+      → IsLineEnd images certificates failed_at c number (Asks command) before now NotWritten
   command_unwritten command answer after old now before a is h =
       let p = parted old now before _ is h in
       record {
@@ -95,7 +97,7 @@ module _ (images certificates : List ℕ → List ℕ → Type 0) (c : CardState
       }
 
   pub bad_end : (said : ScriptLine) (before : List ℕ) (now : Option (List ℕ)) → Bad ≡ said → now ≡ Some before
-      → IsLineEnd images certificates c number said before now (BadLine number)
+      → IsLineEnd images certificates failed_at c number said before now (BadLine number)
   bad_end said before now is known = record { written = []; ends = rw (← is) bad; now_is = none_more known }
 
 -- ---- lines
@@ -111,25 +113,25 @@ as_said number line few short = rw (few_enough, short_enough) refl
     short_enough : nat_lt most_in_line (length line) ≡ false
     short_enough = search (rules, short)
 
-module _ (images certificates : List ℕ → List ℕ → Type 0) (number : ℕ) (bytes : List ℕ) (c : CardState)
-    (before : List ℕ) (now : Option (List ℕ)) where
+module _ (images certificates : List ℕ → List ℕ → Type 0) (failed_at : Asked → Type 0) (number : ℕ) (bytes : List ℕ)
+    (c : CardState) (before : List ℕ) (now : Option (List ℕ)) where
   pub none_left : lines_of bytes ≡ [] → now ≡ Some before
-      → PlaysFrom images certificates number bytes c before now Over
+      → PlaysFrom images certificates failed_at number bytes c before now Over
   none_left none known = record { written = []; plays = rw none (over number c); now_is = none_more known }
 
   bad_first : BeginsBad number (lines_of bytes) → now ≡ Some before
-      → PlaysFrom images certificates number bytes c before now (BadLine number)
+      → PlaysFrom images certificates failed_at number bytes c before now (BadLine number)
   bad_first b known = record {
     written = [];
     plays = rw b.are (ended number b.first b.others c [] (BadLine number) (rw b.bad bad));
     now_is = none_more known;
   }
 
-  not_read : now ≡ Some before → PlaysFrom images certificates number bytes c before now NotRead
+  not_read : now ≡ Some before → PlaysFrom images certificates failed_at number bytes c before now NotRead
   not_read known = record { written = []; plays = unread number (lines_of bytes) c; now_is = none_more known }
 
   pub unread_plays : (end : ScriptEnd) → IsUnread number bytes end → now ≡ Some before
-      → PlaysFrom images certificates number bytes c before now end
+      → PlaysFrom images certificates failed_at number bytes c before now end
   unread_plays Over u known = elim u [ ]
   unread_plays (BadLine n) u known = rw u.0 (bad_first u.1 known)
   unread_plays (SourceFailed n) u known = elim u [ ]
@@ -139,7 +141,7 @@ module _ (images certificates : List ℕ → List ℕ → Type 0) (number : ℕ)
   unread_plays BadLimits u known = elim u [ ]
 
   pub end_plays : (end : ScriptEnd) → IsEnd number bytes end → now ≡ Some before
-      → PlaysFrom images certificates number bytes c before now end
+      → PlaysFrom images certificates failed_at number bytes c before now end
   end_plays Over u known = none_left u known
   end_plays (BadLine n) u known = rw u.0 (bad_first u.1 known)
   end_plays (SourceFailed n) u known = elim u [ ]
@@ -149,8 +151,8 @@ module _ (images certificates : List ℕ → List ℕ → Type 0) (number : ℕ)
   end_plays BadLimits u known = elim u [ ]
 
   pub line_ends : (line : List ℕ) (left : Option (List ℕ)) (end : ScriptEnd) → IsTaken number line bytes left
-      → IsLineEnd images certificates c number (said_by line) before now end
-      → PlaysFrom images certificates number bytes c before now end
+      → IsLineEnd images certificates failed_at c number (said_by line) before now end
+      → PlaysFrom images certificates failed_at number bytes c before now end
   line_ends line left end t e = record {
     written = e.written;
     plays = rw t.takes.lines (ended number line (lines_of t.rest) c e.written end

@@ -2,15 +2,13 @@
 use Rattle.std.proofs.Common.{◌≡◌, ℕ, List, [], ◌∷◌, ◌++◌, Option, Some, false, Result, Ok, Err, ◌↔◌, rules}
 use Rattle.std.proofs.Common.{refl, sym, ap, ◌∙◌, append_assoc}
 use Rattle.jc_api.specs.Bound.{Bound}
-use Rattle.jc_api.specs.NoClash.{HasNoClash}
 use Rattle.jc_card.specs.Card.{CardState}
 use Rattle.jc_card.specs.New.{are_limits, new_card}
 use Rattle.jc_card.specs.declared.fault.CardFault.{CardFault}
 use Rattle.jc_card.specs.declared.fault.CardFault.TheVariants as cards
 use Rattle.jc_card.specs.declared.limits.Limits.{Limits}
 use Rattle.jc_run.proofs.Ending.{none_more}
-use Rattle.jc_run.proofs.Running.{Laws, all_guarded}
-use Rattle.jc_run.proofs.Starting.{limits_fit}
+use Rattle.jc_run.proofs.Starting.{AreLawful, limits_fit}
 use Rattle.jc_run.specs.Answer.{Answered}
 use Rattle.jc_run.specs.End.{card_fault, end_of_fault}
 use Rattle.jc_run.specs.Play.{BadLimits, IsAnswered, NoMemory, ScriptEnd, answer_line}
@@ -123,16 +121,18 @@ module _ (images certificates : List ℕ → List ℕ → Type 0) where
 
 -- ---- a session on a new card
 
-module _ (laws : Laws) (images certificates : List ℕ → List ℕ → Type 0) (limits : Limits) (binding : Bound)
-    (input before : List ℕ) (now : Option (List ℕ)) {A : Type 0} (result : Result A CardFault)
-    (told : (result ≡ Err cards.BadLimits) ↔ (are_limits limits ≡ false)) (clear : HasNoClash binding) where
+module _ (images certificates : List ℕ → List ℕ → Type 0) (limits : Limits) (binding : Bound)
+    (lawful : AreLawful images certificates limits binding) (input before : List ℕ) (now : Option (List ℕ)) {A : Type 0}
+    (result : Result A CardFault)
+    (told : (result ≡ Err cards.BadLimits) ↔ (are_limits limits ≡ false)) where
   simulated : (written : List ℕ) (end : ScriptEnd)
       → SessionRunsTo images certificates limits binding input written end
       → IsSessionSimulated images certificates limits binding input written end
   simulated written end runs = record {
     responses = runs;
-    accesses = all_guarded laws images certificates;
-    apart = laws.new limits binding clear;
+    accesses = lawful.accesses;
+    apart = lawful.apart;
+    never_stuck = lawful.never_stuck;
   }
 
   pub made_holds : (card : A) (end : ScriptEnd) → result ≡ Ok card

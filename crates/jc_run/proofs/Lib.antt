@@ -4,5 +4,6 @@ pub mod Ending
 pub mod Playing
 pub mod Starting
 pub mod Running
+mod NeverStuck
 pub mod Conversing
 pub mod Holding

@@ -4,7 +4,7 @@ use Rattle.std.proofs.lemmas.Result.{err_from_is_err_and}
 use Rattle.std.specs.Prelude.{IsErrAnd}
 use Rattle.jc_card.specs.Card.{CardState}
 use Rattle.jc_card.specs.Reads.{CardWords, Holds}
-use Rattle.jc_packages.specs.Source.{HoldSame}
+use Rattle.jc_packages.specs.Source.{Asked, HoldSame}
 use Rattle.jc_run.proofs.Ending.{none_more}
 use Rattle.jc_run.specs.Answer.{Answered}
 use Rattle.jc_run.specs.End.{end_of, end_of_fault}
@@ -51,25 +51,28 @@ module _ (images certificates older old : List ℕ → List ℕ → Type 0) (sam
       record { answer = h.answer; answered = answered_as c command _ after h.answered; written_is = h.written_is }
   line_as c Bad written after h = h
 
-  ends_as : {c : CardState} {number : ℕ} {said : ScriptLine} {written : List ℕ} {end : ScriptEnd}
-      → EndsAt images certificates c number said written end → EndsAt older old c number said written end
+  ends_as : {failed_at : Asked → Type 0} {c : CardState} {number : ℕ} {said : ScriptLine} {written : List ℕ}
+      {end : ScriptEnd} → EndsAt images certificates failed_at c number said written end
+      → EndsAt older old failed_at c number said written end
   ends_as bad = bad
-  ends_as (source folder certificate) = source folder certificate
+  ends_as (source folder certificate failing) = source folder certificate failing
   ends_as (memory folder certificate) = memory folder certificate
   ends_as {c = c} (unwritten command written answer after answered part) =
       unwritten command written answer after (answered_as c command answer after answered) part
 
-  plays_as : {number : ℕ} {lines : List (List ℕ)} {c : CardState} {written : List ℕ} {end : ScriptEnd}
-      → Plays images certificates number lines c written end → Plays older old number lines c written end
+  plays_as : {failed_at : Asked → Type 0} {number : ℕ} {lines : List (List ℕ)} {c : CardState} {written : List ℕ}
+      {end : ScriptEnd} → Plays images certificates failed_at number lines c written end
+      → Plays older old failed_at number lines c written end
   plays_as (over number c) = over number c
   plays_as (line number first lines c after written behind end played rest) =
       line number first lines c after written behind end (line_as c _ written after played) (plays_as rest)
   plays_as (ended number first lines c written end e) = ended number first lines c written end (ends_as e)
   plays_as (unread number lines c) = unread number lines c
 
-  pub plays_from_as : {number : ℕ} {bytes : List ℕ} {c : CardState} {before : List ℕ} {now : Option (List ℕ)}
-      {end : ScriptEnd} → PlaysFrom images certificates number bytes c before now end
-      → PlaysFrom older old number bytes c before now end
+  pub plays_from_as : {failed_at : Asked → Type 0} {number : ℕ} {bytes : List ℕ} {c : CardState} {before : List ℕ}
+      {now : Option (List ℕ)} {end : ScriptEnd}
+      → PlaysFrom images certificates failed_at number bytes c before now end
+      → PlaysFrom older old failed_at number bytes c before now end
   plays_from_as p = record { written = p.written; plays = plays_as p.plays; now_is = p.now_is }
 
   pub turn_as : {number : ℕ} {bytes : List ℕ} {c : CardState} {after : CardWords} {left : Option (List ℕ)}
@@ -91,9 +94,10 @@ module _ (images certificates older old : List ℕ → List ℕ → Type 0) (sam
 
 -- ---- lines that are done
 
-module _ (images certificates : List ℕ → List ℕ → Type 0) (c : CardState) (script before : List ℕ) where
+module _ {S : Type 0} (images certificates : List ℕ → List ℕ → Type 0) (failed_at : S → Asked → Type 0)
+    (c : CardState) (script before : List ℕ) where
   pub begun : (after : CardWords) (left now : Option (List ℕ)) → Holds after c → left ≡ Some script
-      → now ≡ Some before → HasPlayed images certificates c script before 1 after left now
+      → now ≡ Some before → HasPlayed images certificates failed_at c script before 1 after left now
   begun after left now holds is known = record {
     card = c;
     holds = holds;
@@ -101,13 +105,13 @@ module _ (images certificates : List ℕ → List ℕ → Type 0) (c : CardState
     left_is = is;
     written = [];
     now_is = none_more known;
-    leads = λ behind end p. p;
+    leads = λ s behind end p. p;
   }
 
   pub one_more : {number : ℕ} {card after : CardWords} {left rest now further : Option (List ℕ)}
-      → (h : HasPlayed images certificates c script before number card left now)
+      → (h : HasPlayed images certificates failed_at c script before number card left now)
       → IsTurn images certificates number h.rest h.card after rest (before ++ h.written) further
-      → HasPlayed images certificates c script before (number + 1) after rest further
+      → HasPlayed images certificates failed_at c script before (number + 1) after rest further
   one_more {number = number} h t = record {
     card = t.done.card;
     holds = t.done.holds;
@@ -115,19 +119,19 @@ module _ (images certificates : List ℕ → List ℕ → Type 0) (c : CardState
     left_is = t.left_is;
     written = h.written ++ t.done.written;
     now_is = t.done.now_is ∙ ap (λ (bs : List ℕ). Some bs) (append_assoc before h.written t.done.written);
-    leads = λ behind end p.
-        rw (append_assoc h.written t.done.written behind) (h.leads (t.done.written ++ behind) end
+    leads = λ s behind end p.
+        rw (append_assoc h.written t.done.written behind) (h.leads s (t.done.written ++ behind) end
         (rw t.lines (line number t.first (lines_of t.rest) h.card t.done.card t.done.written behind end t.done.played
         (rw (add-one number) at p))));
   }
 
-  pub at_end : {number : ℕ} {card : CardWords} {left now last : Option (List ℕ)} {end : ScriptEnd}
-      → (h : HasPlayed images certificates c script before number card left now)
-      → PlaysFrom images certificates number h.rest h.card (before ++ h.written) last end
-      → PlaysFrom images certificates 1 script c before last end
-  at_end {end = end} h p = record {
+  pub at_end : (s : S) {number : ℕ} {card : CardWords} {left now last : Option (List ℕ)} {end : ScriptEnd}
+      → (h : HasPlayed images certificates failed_at c script before number card left now)
+      → PlaysFrom images certificates (failed_at s) number h.rest h.card (before ++ h.written) last end
+      → PlaysFrom images certificates (failed_at s) 1 script c before last end
+  at_end s {end = end} h p = record {
     written = h.written ++ p.written;
-    plays = h.leads p.written end p.plays;
+    plays = h.leads s p.written end p.plays;
     now_is = p.now_is ∙ ap (λ (bs : List ℕ). Some bs) (append_assoc before h.written p.written);
   }
 

@@ -1,18 +1,16 @@
 -- What a script comes to is a run of the card.
 use Rattle.std.proofs.Common.{◌≡◌, ℕ, suc, List, [], ◌∷◌, ◌++◌, Option, Some, None, IfSome, refl, sym, ap, ◌∙◌}
 use Rattle.std.proofs.Common.{append_assoc, Result}
-use Rattle.jc_api.specs.Bound.{Bound}
-use Rattle.jc_api.specs.NoClash.{HasNoClash}
 use Rattle.jc_base.specs.declared.fault.LoadFault.{LoadFault}
 use Rattle.jc_card.specs.Accesses.{ChangesBy, IsApartCard, IsGuardedCommand, KeepsApart, LeavesObjects}
 use Rattle.jc_card.specs.Card.{CardState}
 use Rattle.jc_card.specs.Commands.{apdu_command, reset_command}
 use Rattle.jc_card.specs.Install.{install_command}
 use Rattle.jc_card.specs.Load.{IsLoad}
-use Rattle.jc_card.specs.New.{new_card}
-use Rattle.jc_card.specs.declared.limits.Limits.{Limits}
+use Rattle.jc_card.specs.Order.{Order, Resets, apdu_order, install_order}
 use Rattle.jc_card.specs.Parts.{Left}
 use Rattle.jc_machine.specs.Machine.{Touch}
+use Rattle.jc_packages.specs.Source.{Asked}
 use Rattle.jc_store.specs.Heap.{Heap}
 use Rattle.jc_words.specs.Values.{TaggedValue}
 use Rattle.jc_run.specs.Answer.{Answered}
@@ -29,14 +27,14 @@ use Rattle.jc_run.specs.Runs.IsCardRun.{command, nothing}
 use Rattle.jc_script.specs.Script.{Apdu, Asks, Bad, Cells, Install, Load, Numbered, Objects, Reset, Script}
 use Rattle.jc_script.specs.Script.{ScriptCommand, ScriptLine, Skipped, line_at, script_from, with_line}
 
-module _ (images certificates : List ℕ → List ℕ → Type 0) where
+module _ (images certificates : List ℕ → List ℕ → Type 0) (failed_at : Asked → Type 0) where
   abbrev Is : Script → CardState → List ℕ → ScriptEnd → Type 0
-  Is script c written end = IsPlayed images certificates script c written end
+  Is script c written end = IsPlayed images certificates failed_at script c written end
 
   -- ---- no command is done
 
   none_done : (script : Script) (c : CardState) (part : List ℕ) (end : ScriptEnd)
-      → EndsWith images certificates c script.bad script.commands part end → Is script c part end
+      → EndsWith images certificates failed_at c script.bad script.commands part end → Is script c part end
   none_done script c part end ends = record {
     done = [];
     left = script.commands;
@@ -83,12 +81,12 @@ module _ (images certificates : List ℕ → List ℕ → Type 0) where
   -- ---- a line that ends it
 
   line_ends : {number : ℕ} {c : CardState} {said : ScriptLine} {written : List ℕ} {end : ScriptEnd}
-      (script : Script) → EndsAt images certificates c number said written end
+      (script : Script) → EndsAt images certificates failed_at c number said written end
       → Is (with_line number said script) c written end
   line_ends {number = number} {c = c} script bad = none_done _ c [] _ (bad_line number refl)
-  line_ends {number = number} {c = c} script (source folder certificate) =
+  line_ends {number = number} {c = c} script (source folder certificate failing) =
       none_done _ c [] _ (source_left (record { number = number; command = Load folder certificate }) script.commands
-      folder certificate refl)
+      folder certificate refl failing)
   line_ends {number = number} {c = c} script (memory folder certificate) =
       none_done _ c [] _ (memory_left (record { number = number; command = Load folder certificate }) script.commands
       folder certificate refl)
@@ -99,7 +97,7 @@ module _ (images certificates : List ℕ → List ℕ → Type 0) where
   -- ---- all lines
 
   run_of : {number : ℕ} {lines : List (List ℕ)} {c : CardState} {written : List ℕ} {end : ScriptEnd}
-      → Plays images certificates number lines c written end → Is (script_from number lines) c written end
+      → Plays images certificates failed_at number lines c written end → Is (script_from number lines) c written end
   unfolding script_from
   run_of (over number c) = none_done _ c [] _ (over_left refl)
   run_of (line number first more c after part behind end played rest) =
@@ -109,25 +107,26 @@ module _ (images certificates : List ℕ → List ℕ → Type 0) where
   run_of (unread number more c) = none_done _ c [] _ (unread_left _)
 
   pub played_on : {script : List ℕ} {c : CardState} {before : List ℕ} {now : Option (List ℕ)} {end : ScriptEnd}
-      → PlaysFrom images certificates 1 script c before now end
-      → PlaysOn images certificates script c before now end
+      → PlaysFrom images certificates failed_at 1 script c before now end
+      → PlaysOn images certificates failed_at script c before now end
   played_on p = record { written = p.written; played = run_of p.plays; now_is = p.now_is }
 
 -- ---- what it accesses
 
 pub record Laws : Type 0 where
-  pub apdu : (c : CardState) (bytes : List ℕ) → IfSome (apdu_command c bytes) (IsGuardedCommand c)
+  pub apdu : (c : CardState) (bytes : List ℕ) → IfSome (apdu_command c bytes) (IsGuardedCommand (apdu_order c bytes) c)
   pub install : (c : CardState) (applet instance incoming : List ℕ)
-      → IfSome (install_command c applet instance incoming) (IsGuardedCommand c)
-  pub reset : (c : CardState) → IfSome (reset_command c) (IsGuardedCommand c)
+      → IfSome (install_command c applet instance incoming) (IsGuardedCommand (install_order c applet) c)
+  pub reset : (c : CardState) → IfSome (reset_command c) (IsGuardedCommand Resets c)
   pub load : (c after : CardState) (image certificate : List ℕ) (result : Result ℕ LoadFault)
       → IsLoad c image certificate result after → LeavesObjects c.heap after.heap
-  pub new : (limits : Limits) (binding : Bound) → HasNoClash binding → IsApartCard (new_card limits binding)
   pub apart_apdu : (c : CardState) → IsApartCard c → (bytes : List ℕ)
-      → IfSome (apdu_command c bytes) (λ l. KeepsApart c l.touches l.card)
+      → IfSome (apdu_command c bytes) (λ l. KeepsApart (apdu_order c bytes) c l.touches l.card)
   pub apart_install : (c : CardState) → IsApartCard c → (applet instance incoming : List ℕ)
-      → IfSome (install_command c applet instance incoming) (λ l. KeepsApart c l.touches l.card)
-  pub apart_reset : (c : CardState) → IsApartCard c → IfSome (reset_command c) (λ l. KeepsApart c l.touches l.card)
+      → IfSome (install_command c applet instance incoming)
+      (λ l. KeepsApart (install_order c applet) c l.touches l.card)
+  pub apart_reset : (c : CardState) → IsApartCard c
+      → IfSome (reset_command c) (λ l. KeepsApart Resets c l.touches l.card)
   pub apart_load : (c after : CardState) (image certificate : List ℕ) (result : Result ℕ LoadFault) → IsApartCard c
       → IsLoad c image certificate result after → IsApartCard after
   pub none : (before after : Heap TaggedValue) → LeavesObjects before after → ChangesBy [] before after
@@ -144,11 +143,11 @@ module _ (laws : Laws) (images certificates : List ℕ → List ℕ → Type 0) 
   guarded c Cells answer after h = h.1
   guarded c Objects answer after h = h.1
 
-  given_changes : {A : Type 0} (c : CardState) (done : Option (Left A)) (said : A → Answered) (answer : Answered)
-      (after : CardState) → IfSome done (IsGuardedCommand c) → IsGiven done said answer after
+  given_changes : {A : Type 0} (order : Order) (c : CardState) (done : Option (Left A)) (said : A → Answered)
+      (answer : Answered) (after : CardState) → IfSome done (IsGuardedCommand order c) → IsGiven done said answer after
       → ChangesBy (accesses_in done) c.heap after.heap
-  given_changes c None said answer after h given = absurd cc
-  given_changes c (Some l) said answer after h given =
+  given_changes order c None said answer after h given = absurd cc
+  given_changes order c (Some l) said answer after h given =
       let same : given.left ≡ l = cc in
       rw (given.after_is, same) h.changes
 
@@ -157,10 +156,12 @@ module _ (laws : Laws) (images certificates : List ℕ → List ℕ → Type 0) 
   changes c (Load folder certificate) answer after h =
       laws.none c.heap after.heap (laws.load c after h.image h.bytes h.result h.load)
   changes c (Install applet instance incoming) answer after h =
-      given_changes c (install_command c applet instance incoming) _ answer after
+      given_changes (install_order c applet) c (install_command c applet instance incoming) _ answer after
       (laws.install c applet instance incoming) h
-  changes c (Apdu bytes) answer after h = given_changes c (apdu_command c bytes) _ answer after (laws.apdu c bytes) h
-  changes c Reset answer after h = given_changes c (reset_command c) _ answer after (laws.reset c) h
+  changes c (Apdu bytes) answer after h =
+      given_changes (apdu_order c bytes) c (apdu_command c bytes) _ answer after (laws.apdu c bytes) h
+  changes c Reset answer after h =
+      given_changes Resets c (reset_command c) _ answer after (laws.reset c) h
   changes c Cells answer after h = rw h.1 (laws.none c.heap c.heap (λ number o e. e))
   changes c Objects answer after h = rw h.1 (laws.none c.heap c.heap (λ number o e. e))
 
@@ -174,11 +175,12 @@ module _ (laws : Laws) (images certificates : List ℕ → List ℕ → Type 0) 
 
   -- ---- the runtime's name
 
-  given_apart : {A : Type 0} (c : CardState) (done : Option (Left A)) (said : A → Answered) (answer : Answered)
-      (after : CardState) → IfSome done (λ l. KeepsApart c l.touches l.card) → IsGiven done said answer after
+  given_apart : {A : Type 0} (order : Order) (c : CardState) (done : Option (Left A)) (said : A → Answered)
+      (answer : Answered) (after : CardState) → IfSome done (λ l. KeepsApart order c l.touches l.card)
+      → IsGiven done said answer after
       → IsApartCard after
-  given_apart c None said answer after h given = absurd cc
-  given_apart c (Some l) said answer after h given =
+  given_apart order c None said answer after h given = absurd cc
+  given_apart order c (Some l) said answer after h given =
       let same : given.left ≡ l = cc in
       rw (given.after_is, same) h.card
 
@@ -195,11 +197,12 @@ module _ (laws : Laws) (images certificates : List ℕ → List ℕ → Type 0) 
       → IsAnswered images certificates c command answer after → IsApartCard after
   stays_apart c (Load folder certificate) answer after p h = laws.apart_load c after h.image h.bytes h.result p h.load
   stays_apart c (Install applet instance incoming) answer after p h =
-      given_apart c (install_command c applet instance incoming) _ answer after
+      given_apart (install_order c applet) c (install_command c applet instance incoming) _ answer after
       (laws.apart_install c p applet instance incoming) h
   stays_apart c (Apdu bytes) answer after p h =
-      given_apart c (apdu_command c bytes) _ answer after (laws.apart_apdu c p bytes) h
-  stays_apart c Reset answer after p h = given_apart c (reset_command c) _ answer after (laws.apart_reset c p) h
+      given_apart (apdu_order c bytes) c (apdu_command c bytes) _ answer after (laws.apart_apdu c p bytes) h
+  stays_apart c Reset answer after p h =
+      given_apart Resets c (reset_command c) _ answer after (laws.apart_reset c p) h
   stays_apart c Cells answer after p h = rw h.1 p
   stays_apart c Objects answer after p h = rw h.1 p
 

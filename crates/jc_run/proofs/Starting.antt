@@ -2,18 +2,25 @@
 use Rattle.std.proofs.Common.{◌≡◌, ℕ, List, [], Option, Some, Bool, true, false, Result, Ok, Err, ◌↔◌, rules, refl}
 use Rattle.std.proofs.Common.{sym, ◌∙◌}
 use Rattle.jc_api.specs.Bound.{Bound}
-use Rattle.jc_api.specs.NoClash.{HasNoClash}
+use Rattle.jc_card.specs.Accesses.{IsApartCard}
 use Rattle.jc_card.specs.New.{are_limits, new_card}
 use Rattle.jc_card.specs.declared.fault.CardFault.{CardFault}
 use Rattle.jc_card.specs.declared.fault.CardFault.TheVariants as cards
 use Rattle.jc_card.specs.declared.limits.Limits.{Limits}
+use Rattle.jc_packages.specs.Source.{Asked}
 use Rattle.jc_run.proofs.Ending.{none_more}
-use Rattle.jc_run.proofs.Running.{Laws, all_guarded}
+use Rattle.jc_run.specs.NeverStuck.{IsNeverStuck}
 use Rattle.jc_run.specs.End.{card_fault, end_of_fault}
 use Rattle.jc_run.specs.Performs.{HasRun, PlaysOn}
 use Rattle.jc_run.specs.Play.{BadLimits, NoMemory, ScriptEnd}
-use Rattle.jc_run.specs.Runs.{IsSimulated, RunsTo}
+use Rattle.jc_run.specs.Runs.{AreGuarded, IsSimulated, RunsTo}
 use Rattle.jc_run.specs.Runs.RunsTo.{no_card, played, unfit}
+
+-- what is known of all commands, and of a new card
+pub record AreLawful (images certificates : List ℕ → List ℕ → Type 0) (limits : Limits) (binding : Bound) : Type 0 where
+  pub accesses : AreGuarded images certificates
+  pub apart : IsApartCard (new_card limits binding)
+  pub never_stuck : IsNeverStuck images certificates (new_card limits binding)
 
 -- where a card is made, or memory is out, its limits are such as it may have
 pub limits_fit : {A : Type 0} (fit : Bool) (result made : Result A CardFault)
@@ -22,20 +29,23 @@ pub limits_fit : {A : Type 0} (fit : Bool) (result made : Result A CardFault)
 limits_fit true result made told is other = refl
 limits_fit false result made told is other = absurd (other (sym is ∙ told refl))
 
-module _ (laws : Laws) (images certificates : List ℕ → List ℕ → Type 0) (limits : Limits) (binding : Bound)
-    (script before : List ℕ) (now : Option (List ℕ)) {A : Type 0} (result : Result A CardFault)
-    (told : (result ≡ Err cards.BadLimits) ↔ (are_limits limits ≡ false)) (clear : HasNoClash binding) where
-  simulated : (written : List ℕ) (end : ScriptEnd) → RunsTo images certificates limits binding script written end
-      → IsSimulated images certificates limits binding script written end
+module _ (images certificates : List ℕ → List ℕ → Type 0) (failed_at : Asked → Type 0) (limits : Limits)
+    (binding : Bound) (lawful : AreLawful images certificates limits binding) (script before : List ℕ)
+    (now : Option (List ℕ)) {A : Type 0} (result : Result A CardFault)
+    (told : (result ≡ Err cards.BadLimits) ↔ (are_limits limits ≡ false)) where
+  simulated : (written : List ℕ) (end : ScriptEnd)
+      → RunsTo images certificates failed_at limits binding script written end
+      → IsSimulated images certificates failed_at limits binding script written end
   simulated written end runs = record {
     responses = runs;
-    accesses = all_guarded laws images certificates;
-    apart = laws.new limits binding clear;
+    accesses = lawful.accesses;
+    apart = lawful.apart;
+    never_stuck = lawful.never_stuck;
   }
 
   pub made_runs : (card : A) (end : ScriptEnd) → result ≡ Ok card
-      → PlaysOn images certificates script (new_card limits binding) before now end
-      → HasRun images certificates limits binding script before now end
+      → PlaysOn images certificates failed_at script (new_card limits binding) before now end
+      → HasRun images certificates failed_at limits binding script before now end
   made_runs card end is p = record {
     written = p.written;
     simulated = simulated p.written end (played p.written end
@@ -44,7 +54,7 @@ module _ (laws : Laws) (images certificates : List ℕ → List ℕ → Type 0) 
   }
 
   pub not_made : (fault : CardFault) → result ≡ Err fault → now ≡ Some before
-      → HasRun images certificates limits binding script before now (end_of_fault (card_fault fault))
+      → HasRun images certificates failed_at limits binding script before now (end_of_fault (card_fault fault))
   not_made cards.BadLimits is known =
       record { written = []; simulated = simulated [] BadLimits (unfit (told.0 is)); now_is = none_more known }
   not_made cards.Memory is known = record {

@@ -1,5 +1,6 @@
 pub mod Answer
 pub mod Play
+pub mod NeverStuck
 pub mod Runs
 pub mod End
 pub mod Performs

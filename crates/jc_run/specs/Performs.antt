@@ -6,7 +6,7 @@ use Rattle.jc_card.specs.Reads.{CardWords, Holds}
 use Rattle.jc_card.specs.declared.limits.Limits.{Limits}
 use Rattle.jc_packages.specs.Source.{Asked, Certificate, Image}
 use Rattle.jc_run.specs.Answer.{Answered}
-use Rattle.jc_run.specs.Play.{IsAnswered, ScriptEnd}
+use Rattle.jc_run.specs.Play.{IsAnswered, IsFailing, ScriptEnd}
 use Rattle.jc_run.specs.Runs.{IsPlayed, IsSimulated}
 use Rattle.jc_script.specs.Script.{Apdu, Cells, Install, Load, Objects, Reset, ScriptCommand, script_commands}
 
@@ -35,16 +35,26 @@ asked_by Reset = []
 asked_by Cells = []
 asked_by Objects = []
 
--- what was written behind what was there, and how it ended, is what a script comes to on a card
-pub record PlaysOn (images certificates : List ℕ → List ℕ → Type 0) (script : List ℕ) (c : CardState)
-    (before : List ℕ) (now : Option (List ℕ)) (end : ScriptEnd) : Type 0 where
+-- the last reading that failed was of one of the files that a command names
+abbrev pub IsFailingOf : (Asked → Type 0) → ScriptCommand → Type 0
+IsFailingOf failed_at (Load folder certificate) = IsFailing failed_at folder certificate
+IsFailingOf failed_at (Install applet instance incoming) = ⊥
+IsFailingOf failed_at (Apdu bytes) = ⊥
+IsFailingOf failed_at Reset = ⊥
+IsFailingOf failed_at Cells = ⊥
+IsFailingOf failed_at Objects = ⊥
+
+-- what was written behind what was there, and how it ended, is what a script comes to on a card. Of the source behind
+-- it is known what its last reading that failed asked for
+pub record PlaysOn (images certificates : List ℕ → List ℕ → Type 0) (failed_at : Asked → Type 0) (script : List ℕ)
+    (c : CardState) (before : List ℕ) (now : Option (List ℕ)) (end : ScriptEnd) : Type 0 where
   pub written : List ℕ
-  pub played : IsPlayed images certificates (script_commands script) c written end
+  pub played : IsPlayed images certificates failed_at (script_commands script) c written end
   pub now_is : now ≡ Some (before ++ written)
 
 -- it is what a script comes to on a new card: the simulation theorem holds of it
-pub record HasRun (images certificates : List ℕ → List ℕ → Type 0) (limits : Limits) (binding : Bound)
-    (script before : List ℕ) (now : Option (List ℕ)) (end : ScriptEnd) : Type 0 where
+pub record HasRun (images certificates : List ℕ → List ℕ → Type 0) (failed_at : Asked → Type 0) (limits : Limits)
+    (binding : Bound) (script before : List ℕ) (now : Option (List ℕ)) (end : ScriptEnd) : Type 0 where
   pub written : List ℕ
-  pub simulated : IsSimulated images certificates limits binding script written end
+  pub simulated : IsSimulated images certificates failed_at limits binding script written end
   pub now_is : now ≡ Some (before ++ written)

@@ -8,6 +8,7 @@ use Rattle.jc_card.specs.Commands.{apdu_command, reset_command}
 use Rattle.jc_card.specs.Install.{HasNumber, Installed as Outcome, Refused, install_command}
 use Rattle.jc_card.specs.Load.{IsLoad}
 use Rattle.jc_card.specs.Parts.{Left}
+use Rattle.jc_packages.specs.Source.{Asked, Certificate, Image}
 use Rattle.jc_run.specs.Answer as answers
 use Rattle.jc_run.specs.Answer.{Answered, Installed, Loaded, NotInstalled, NotLoaded, Responds, WasReset, line_of}
 use Rattle.jc_script.specs.Script.{Apdu, Cells, Install, Load, Objects, Reset, ScriptCommand, most_in_line, most_lines}
@@ -77,6 +78,11 @@ pub data ScriptEnd : Type 0 where
   NotWritten : ScriptEnd
   NoMemory : ScriptEnd
   BadLimits : ScriptEnd
+
+-- the last reading that failed was of one of a load's files: of its image or of its certificate
+pub data IsFailing (failed_at : Asked → Type 0) (folder certificate : List ℕ) : Type 0 where
+  image : failed_at (Image folder) → IsFailing failed_at folder certificate
+  certificate : failed_at (Certificate certificate) → IsFailing failed_at folder certificate
 
 -- what is wrong with a line that isn't read whole: it stands behind the last that a script may have, or is too long
 abbrev pub unread_fault : ℕ → LineFault

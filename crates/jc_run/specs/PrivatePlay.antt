@@ -4,9 +4,10 @@ use Rattle.jc_base.specs.declared.fault.LoadFault.{LoadFault}
 use Rattle.jc_card.specs.Card.{CardState}
 use Rattle.jc_card.specs.Load.{IsLoad}
 use Rattle.jc_card.specs.Reads.{CardWords, Holds}
+use Rattle.jc_packages.specs.Source.{Asked}
 use Rattle.jc_run.specs.Answer.{Answered}
-use Rattle.jc_run.specs.Play.{BadLimits, BadLine, IsAnswered, IsPart, NoMemory, NotRead, NotWritten, Over, ScriptEnd}
-use Rattle.jc_run.specs.Play.{SourceFailed, answer_line, load_answer}
+use Rattle.jc_run.specs.Play.{BadLimits, BadLine, IsAnswered, IsFailing, IsPart, NoMemory, NotRead, NotWritten, Over}
+use Rattle.jc_run.specs.Play.{ScriptEnd, SourceFailed, answer_line, load_answer}
 use Rattle.jc_script.specs.Reading.{BeginsBad, TakesLine}
 use Rattle.jc_script.specs.Script.{Asks, Bad, Load, ScriptCommand, ScriptLine, Skipped, line_at, lines_of}
 
@@ -28,37 +29,37 @@ IsLinePlayed images certificates c (Asks command) written after =
 IsLinePlayed images certificates c Bad written after = ⊥
 
 -- what is written to a line that ends the script, and how
-pub data EndsAt (images certificates : List ℕ → List ℕ → Type 0) (c : CardState) (number : ℕ)
-    : ScriptLine → List ℕ → ScriptEnd → Type 0 where
-  bad : EndsAt images certificates c number Bad [] (BadLine number)
-  source : (folder certificate : List ℕ)
-      → EndsAt images certificates c number (Asks (Load folder certificate)) [] (SourceFailed number)
+pub data EndsAt (images certificates : List ℕ → List ℕ → Type 0) (failed_at : Asked → Type 0) (c : CardState)
+    (number : ℕ) : ScriptLine → List ℕ → ScriptEnd → Type 0 where
+  bad : EndsAt images certificates failed_at c number Bad [] (BadLine number)
+  source : (folder certificate : List ℕ) → IsFailing failed_at folder certificate
+      → EndsAt images certificates failed_at c number (Asks (Load folder certificate)) [] (SourceFailed number)
   memory : (folder certificate : List ℕ)
-      → EndsAt images certificates c number (Asks (Load folder certificate)) [] NoMemory
+      → EndsAt images certificates failed_at c number (Asks (Load folder certificate)) [] NoMemory
   unwritten : (command : ScriptCommand) (written : List ℕ) (answer : Answered) (after : CardState)
       → IsAnswered images certificates c command answer after → IsPart written (answer_line answer)
-      → EndsAt images certificates c number (Asks command) written NotWritten
+      → EndsAt images certificates failed_at c number (Asks command) written NotWritten
 
 -- what lines come to, of which the first has a number: the bytes that are written, and how it ends. The lines are done
 -- in their order, each on the card that the one before it left
-pub data Plays (images certificates : List ℕ → List ℕ → Type 0)
+pub data Plays (images certificates : List ℕ → List ℕ → Type 0) (failed_at : Asked → Type 0)
     : ℕ → List (List ℕ) → CardState → List ℕ → ScriptEnd → Type 0 where
-  over : (number : ℕ) (c : CardState) → Plays images certificates number [] c [] Over
+  over : (number : ℕ) (c : CardState) → Plays images certificates failed_at number [] c [] Over
   line : (number : ℕ) (first : List ℕ) (lines : List (List ℕ)) (c after : CardState) (written behind : List ℕ)
       (end : ScriptEnd) → IsLinePlayed images certificates c (line_at number first) written after
-      → Plays images certificates (suc number) lines after behind end
-      → Plays images certificates number (first ∷ lines) c (written ++ behind) end
+      → Plays images certificates failed_at (suc number) lines after behind end
+      → Plays images certificates failed_at number (first ∷ lines) c (written ++ behind) end
   ended : (number : ℕ) (first : List ℕ) (lines : List (List ℕ)) (c : CardState) (written : List ℕ) (end : ScriptEnd)
-      → EndsAt images certificates c number (line_at number first) written end
-      → Plays images certificates number (first ∷ lines) c written end
+      → EndsAt images certificates failed_at c number (line_at number first) written end
+      → Plays images certificates failed_at number (first ∷ lines) c written end
   unread : (number : ℕ) (lines : List (List ℕ)) (c : CardState)
-      → Plays images certificates number lines c [] NotRead
+      → Plays images certificates failed_at number lines c [] NotRead
 
 -- what was written behind what was there, and how it ended, is what these lines come to; the first has a number
-pub record PlaysFrom (images certificates : List ℕ → List ℕ → Type 0) (number : ℕ) (bytes : List ℕ) (c : CardState)
-    (before : List ℕ) (now : Option (List ℕ)) (end : ScriptEnd) : Type 0 where
+pub record PlaysFrom (images certificates : List ℕ → List ℕ → Type 0) (failed_at : Asked → Type 0) (number : ℕ)
+    (bytes : List ℕ) (c : CardState) (before : List ℕ) (now : Option (List ℕ)) (end : ScriptEnd) : Type 0 where
   pub written : List ℕ
-  pub plays : Plays images certificates number (lines_of bytes) c written end
+  pub plays : Plays images certificates failed_at number (lines_of bytes) c written end
   pub now_is : now ≡ Some (before ++ written)
 
 -- ---- parts
@@ -92,10 +93,10 @@ pub record IsLineDone (images certificates : List ℕ → List ℕ → Type 0) (
   pub now_is : now ≡ Some (before ++ written)
 
 -- a line ends the script
-pub record IsLineEnd (images certificates : List ℕ → List ℕ → Type 0) (c : CardState) (number : ℕ) (said : ScriptLine)
-    (before : List ℕ) (now : Option (List ℕ)) (end : ScriptEnd) : Type 0 where
+pub record IsLineEnd (images certificates : List ℕ → List ℕ → Type 0) (failed_at : Asked → Type 0) (c : CardState)
+    (number : ℕ) (said : ScriptLine) (before : List ℕ) (now : Option (List ℕ)) (end : ScriptEnd) : Type 0 where
   pub written : List ℕ
-  pub ends : EndsAt images certificates c number said written end
+  pub ends : EndsAt images certificates failed_at c number said written end
   pub now_is : now ≡ Some (before ++ written)
 
 -- what is read: a line was taken off, or none is left
@@ -137,21 +138,24 @@ pub record IsTurn (images certificates : List ℕ → List ℕ → Type 0) (numb
   pub lines : lines_of bytes ≡ first ∷ lines_of rest
   pub done : IsLineDone images certificates c (line_at number first) after before now
 
-abbrev pub Turns : (images certificates : List ℕ → List ℕ → Type 0) → ℕ → List ℕ → CardState → CardWords
-    → Option (List ℕ) → List ℕ → Option (List ℕ) → Bool → Type 0
-Turns images certificates number bytes c after left before now true =
+abbrev pub Turns : (images certificates : List ℕ → List ℕ → Type 0) → (failed_at : Asked → Type 0) → ℕ → List ℕ
+    → CardState → CardWords → Option (List ℕ) → List ℕ → Option (List ℕ) → Bool → Type 0
+Turns images certificates failed_at number bytes c after left before now true =
     IsTurn images certificates number bytes c after left before now
-Turns images certificates number bytes c after left before now false =
-    PlaysFrom images certificates number bytes c before now Over
+Turns images certificates failed_at number bytes c after left before now false =
+    PlaysFrom images certificates failed_at number bytes c before now Over
 
--- lines are done: whatever those that are left come to, all of them come to that behind what is written
-pub record HasPlayed (images certificates : List ℕ → List ℕ → Type 0) (c : CardState) (script before : List ℕ)
-    (number : ℕ) (after : CardWords) (left now : Option (List ℕ)) : Type 0 where
+-- lines are done: whatever those that are left come to, all of them come to that behind what is written, whichever the
+-- source is that is left at the end
+pub record HasPlayed {S : Type 0} (images certificates : List ℕ → List ℕ → Type 0) (failed_at : S → Asked → Type 0)
+    (c : CardState) (script before : List ℕ) (number : ℕ) (after : CardWords) (left now : Option (List ℕ))
+    : Type 0 where
   pub card : CardState
   pub holds : Holds after card
   pub rest : List ℕ
   pub left_is : left ≡ Some rest
   pub written : List ℕ
   pub now_is : now ≡ Some (before ++ written)
-  pub leads : (behind : List ℕ) (end : ScriptEnd) → Plays images certificates number (lines_of rest) card behind end
-      → Plays images certificates 1 (lines_of script) c (written ++ behind) end
+  pub leads : (s : S) (behind : List ℕ) (end : ScriptEnd)
+      → Plays images certificates (failed_at s) number (lines_of rest) card behind end
+      → Plays images certificates (failed_at s) 1 (lines_of script) c (written ++ behind) end

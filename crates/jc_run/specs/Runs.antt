@@ -9,12 +9,15 @@ use Rattle.jc_card.specs.Card.{CardState}
 use Rattle.jc_card.specs.Commands.{apdu_command, reset_command}
 use Rattle.jc_card.specs.Install.{install_command}
 use Rattle.jc_card.specs.New.{are_limits, new_card}
+use Rattle.jc_card.specs.Order.{Resets, apdu_order, install_order}
 use Rattle.jc_card.specs.Parts.{Left}
 use Rattle.jc_card.specs.declared.limits.Limits.{Limits}
 use Rattle.jc_machine.specs.Machine.{Touch}
+use Rattle.jc_packages.specs.Source.{Asked}
 use Rattle.jc_run.specs.Answer.{Answered}
-use Rattle.jc_run.specs.Play.{BadLimits, BadLine, IsAnswered, IsPart, NoMemory, NotRead, NotWritten, Over, ScriptEnd}
-use Rattle.jc_run.specs.Play.{SourceFailed, answer_line}
+use Rattle.jc_run.specs.NeverStuck.{IsNeverStuck}
+use Rattle.jc_run.specs.Play.{BadLimits, BadLine, IsAnswered, IsFailing, IsPart, NoMemory, NotRead, NotWritten, Over}
+use Rattle.jc_run.specs.Play.{ScriptEnd, SourceFailed, answer_line}
 use Rattle.jc_script.specs.Script.{Apdu, Cells, Install, Load, Numbered, Objects, Reset, Script, ScriptCommand}
 use Rattle.jc_script.specs.Script.{script_commands}
 
@@ -48,9 +51,9 @@ pub data IsCardRun (images certificates : List ℕ → List ℕ → Type 0)
 abbrev pub IsGuarded : CardState → ScriptCommand → CardState → Type 0
 IsGuarded c (Load folder certificate) after = LeavesObjects c.heap after.heap
 IsGuarded c (Install applet instance incoming) after =
-    IfSome (install_command c applet instance incoming) (IsGuardedCommand c)
-IsGuarded c (Apdu bytes) after = IfSome (apdu_command c bytes) (IsGuardedCommand c)
-IsGuarded c Reset after = IfSome (reset_command c) (IsGuardedCommand c)
+    IfSome (install_command c applet instance incoming) (IsGuardedCommand (install_order c applet) c)
+IsGuarded c (Apdu bytes) after = IfSome (apdu_command c bytes) (IsGuardedCommand (apdu_order c bytes) c)
+IsGuarded c Reset after = IfSome (reset_command c) (IsGuardedCommand Resets c)
 IsGuarded c Cells after = after ≡ c
 IsGuarded c Objects after = after ≡ c
 
@@ -59,9 +62,10 @@ IsGuarded c Objects after = after ≡ c
 abbrev pub IsKeptApart : CardState → ScriptCommand → CardState → Type 0
 IsKeptApart c (Load folder certificate) after = IsApartCard after
 IsKeptApart c (Install applet instance incoming) after =
-    IfSome (install_command c applet instance incoming) (λ l. KeepsApart c l.touches l.card)
-IsKeptApart c (Apdu bytes) after = IfSome (apdu_command c bytes) (λ l. KeepsApart c l.touches l.card)
-IsKeptApart c Reset after = IfSome (reset_command c) (λ l. KeepsApart c l.touches l.card)
+    IfSome (install_command c applet instance incoming) (λ l. KeepsApart (install_order c applet) c l.touches l.card)
+IsKeptApart c (Apdu bytes) after =
+    IfSome (apdu_command c bytes) (λ l. KeepsApart (apdu_order c bytes) c l.touches l.card)
+IsKeptApart c Reset after = IfSome (reset_command c) (λ l. KeepsApart Resets c l.touches l.card)
 IsKeptApart c Cells after = after ≡ c
 IsKeptApart c Objects after = after ≡ c
 
@@ -91,26 +95,28 @@ answer_lines [] = []
 answer_lines (answer ∷ answers) = answer_line answer ++ answer_lines answers
 
 -- how a script ends, on the card behind the commands that were done: which commands are left, what is written behind
--- the answers, and the end. All are done; or all up to a line that is none; the files of the next one, which is a load,
--- can't be read, or memory is out for them; the script can't be read; or of the next one's answer a part is written
-pub data EndsWith (images certificates : List ℕ → List ℕ → Type 0) (c : CardState) (bad : Option ℕ)
-    : List Numbered → List ℕ → ScriptEnd → Type 0 where
-  over : bad ≡ None → EndsWith images certificates c bad [] [] Over
-  bad_line : (number : ℕ) → bad ≡ Some number → EndsWith images certificates c bad [] [] (BadLine number)
+-- the answers, and the end. All are done; or all up to a line that is none; a file of the next one, which is a load,
+-- can't be read, and the last reading that failed was of it, or memory is out for its files; the script can't be read;
+-- or of the next one's answer a part is written
+pub data EndsWith (images certificates : List ℕ → List ℕ → Type 0) (failed_at : Asked → Type 0) (c : CardState)
+    (bad : Option ℕ) : List Numbered → List ℕ → ScriptEnd → Type 0 where
+  over : bad ≡ None → EndsWith images certificates failed_at c bad [] [] Over
+  bad_line : (number : ℕ) → bad ≡ Some number → EndsWith images certificates failed_at c bad [] [] (BadLine number)
   source : (next : Numbered) (left : List Numbered) (folder certificate : List ℕ)
-      → next.command ≡ Load folder certificate
-      → EndsWith images certificates c bad (next ∷ left) [] (SourceFailed next.number)
+      → next.command ≡ Load folder certificate → IsFailing failed_at folder certificate
+      → EndsWith images certificates failed_at c bad (next ∷ left) [] (SourceFailed next.number)
   memory : (next : Numbered) (left : List Numbered) (folder certificate : List ℕ)
-      → next.command ≡ Load folder certificate → EndsWith images certificates c bad (next ∷ left) [] NoMemory
-  unread : (left : List Numbered) → EndsWith images certificates c bad left [] NotRead
+      → next.command ≡ Load folder certificate
+      → EndsWith images certificates failed_at c bad (next ∷ left) [] NoMemory
+  unread : (left : List Numbered) → EndsWith images certificates failed_at c bad left [] NotRead
   unwritten : (next : Numbered) (left : List Numbered) (part : List ℕ) (answer : Answered) (after : CardState)
       → IsAnswered images certificates c next.command answer after → IsPart part (answer_line answer)
-      → EndsWith images certificates c bad (next ∷ left) part NotWritten
+      → EndsWith images certificates failed_at c bad (next ∷ left) part NotWritten
 
 -- a script on a card: its commands are done in their order, up to an end. What they are answered is what is written,
 -- each answer in a line of its own
-pub record IsPlayed (images certificates : List ℕ → List ℕ → Type 0) (script : Script) (c : CardState)
-    (written : List ℕ) (end : ScriptEnd) : Type 0 where
+pub record IsPlayed (images certificates : List ℕ → List ℕ → Type 0) (failed_at : Asked → Type 0) (script : Script)
+    (c : CardState) (written : List ℕ) (end : ScriptEnd) : Type 0 where
   pub done : List Numbered
   pub left : List Numbered
   pub in_order : script.commands ≡ done ++ left
@@ -120,21 +126,23 @@ pub record IsPlayed (images certificates : List ℕ → List ℕ → Type 0) (sc
   pub run : IsCardRun images certificates (commands_of done) c answers touches card
   pub part : List ℕ
   pub lines : written ≡ answer_lines answers ++ part
-  pub ends : EndsWith images certificates card script.bad left part end
+  pub ends : EndsWith images certificates failed_at card script.bad left part end
 
 -- a script on a new card, which is made first: its limits don't fit, or memory is out for it, and then nothing is read
-pub data RunsTo (images certificates : List ℕ → List ℕ → Type 0) (limits : Limits) (binding : Bound) (script : List ℕ)
-    : List ℕ → ScriptEnd → Type 0 where
-  unfit : are_limits limits ≡ false → RunsTo images certificates limits binding script [] BadLimits
-  no_card : are_limits limits ≡ true → RunsTo images certificates limits binding script [] NoMemory
+pub data RunsTo (images certificates : List ℕ → List ℕ → Type 0) (failed_at : Asked → Type 0) (limits : Limits)
+    (binding : Bound) (script : List ℕ) : List ℕ → ScriptEnd → Type 0 where
+  unfit : are_limits limits ≡ false → RunsTo images certificates failed_at limits binding script [] BadLimits
+  no_card : are_limits limits ≡ true → RunsTo images certificates failed_at limits binding script [] NoMemory
   played : (written : List ℕ) (end : ScriptEnd) → are_limits limits ≡ true
-      → IsPlayed images certificates (script_commands script) (new_card limits binding) written end
-      → RunsTo images certificates limits binding script written end
+      → IsPlayed images certificates failed_at (script_commands script) (new_card limits binding) written end
+      → RunsTo images certificates failed_at limits binding script written end
 
 -- the theorem: the responses are those of the defensive machine on a new card; each access is one that the firewall
--- allows, or is denied, throws and changes nothing; and on that card the runtime's name is its own
-pub record IsSimulated (images certificates : List ℕ → List ℕ → Type 0) (limits : Limits) (binding : Bound)
-    (script written : List ℕ) (end : ScriptEnd) : Type 0 where
-  pub responses : RunsTo images certificates limits binding script written end
+-- allows, or is denied, throws and changes nothing; on that card the runtime's name is its own; and no list of commands
+-- is stuck there
+pub record IsSimulated (images certificates : List ℕ → List ℕ → Type 0) (failed_at : Asked → Type 0) (limits : Limits)
+    (binding : Bound) (script written : List ℕ) (end : ScriptEnd) : Type 0 where
+  pub responses : RunsTo images certificates failed_at limits binding script written end
   pub accesses : AreGuarded images certificates
   pub apart : IsApartCard (new_card limits binding)
+  pub never_stuck : IsNeverStuck images certificates (new_card limits binding)

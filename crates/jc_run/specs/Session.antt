@@ -8,6 +8,7 @@ use Rattle.jc_card.specs.New.{are_limits, new_card}
 use Rattle.jc_card.specs.declared.limits.Limits.{Limits}
 use Rattle.jc_machine.specs.Machine.{Touch}
 use Rattle.jc_run.specs.Answer.{Answered}
+use Rattle.jc_run.specs.NeverStuck.{IsNeverStuck}
 use Rattle.jc_run.specs.Play.{BadLimits, IsAnswered, IsPart, NoMemory, NotRead, NotWritten, Over, ScriptEnd}
 use Rattle.jc_run.specs.Play.{answer_line}
 use Rattle.jc_run.specs.Runs.{AreGuarded, IsCardRun, answer_lines}
@@ -73,13 +74,14 @@ pub data SessionRunsTo (images certificates : List ℕ → List ℕ → Type 0) 
       → SessionRunsTo images certificates limits binding input written end
 
 -- the theorem: the responses are those of the defensive machine on a new card, with the lines left out that were
--- refused; each access is one that the firewall allows, or is denied, throws and changes nothing; and on that card the
--- runtime's name is its own
+-- refused; each access is one that the firewall allows, or is denied, throws and changes nothing; on that card the
+-- runtime's name is its own; and no list of commands is stuck there
 pub record IsSessionSimulated (images certificates : List ℕ → List ℕ → Type 0) (limits : Limits) (binding : Bound)
     (input written : List ℕ) (end : ScriptEnd) : Type 0 where
   pub responses : SessionRunsTo images certificates limits binding input written end
   pub accesses : AreGuarded images certificates
   pub apart : IsApartCard (new_card limits binding)
+  pub never_stuck : IsNeverStuck images certificates (new_card limits binding)
 
 -- what was written behind what was there, and how it ended, is what the session comes to on a new card: the theorem
 -- holds of it

@@ -7,10 +7,10 @@ ghost use Rattle.jc_card.specs.Card.{CardState};
 ghost use Rattle.jc_card.specs.Commands.{apdu_command};
 ghost use Rattle.jc_card.specs.Install.{install_command};
 ghost use Rattle.jc_card.specs.Reads.{Does, Holds};
-ghost use Rattle.jc_packages.specs.Source.{Asks, Certificate, HoldSame, Image, failures_in};
+ghost use Rattle.jc_packages.specs.Source.{Asks, Certificate, HoldSame, IfFailed, Image, failures_in};
 ghost use Rattle.jc_run.specs.Answer.{Responds, shown};
-ghost use Rattle.jc_run.specs.Play.{install_answer};
-ghost use Rattle.jc_run.specs.Performs.{Answers, AsksSource, asked_by};
+ghost use Rattle.jc_run.specs.Play.{IsFailing, install_answer};
+ghost use Rattle.jc_run.specs.Performs.{Answers, AsksSource, IsFailingOf, asked_by};
 ghost use Rattle.jc_run.specs.PrivatePlay.{LoadsAs};
 ghost use Rattle.jc_script.specs.Shown.{shown_command};
 
@@ -41,6 +41,7 @@ fn files_of<S: PackageSource>(
         S.holds_certificate source.old certificate.now files.certificate.items) }
     ensures asks { OnOk result (Asks (S.asked source.old) (S.asked source.new)
         (Image folder.now ∷ Certificate certificate.now ∷ [])) }
+    ensures failing { IfFailed result (IsFailing (S.failed_at source.new) folder.now certificate.now) }
     ensures counted { S.failed source.new ≡ S.failed source.old + failures_in result }
     ensures same_images { HoldSame (S.holds_image source.old) (S.holds_image source.new) }
     ensures same_certificates { HoldSame (S.holds_certificate source.old) (S.holds_certificate source.new) }
@@ -99,8 +100,8 @@ fn objects(card: &Card) -> CommandAnswer
     }
 }
 
-/// Does a command on a card. Only a load can fail, and only for what the source says. It asks for the image before the
-/// certificate, and for both before anything is loaded.
+/// Does a command on a card. Only a load can fail, and only for what the source says of one of its files. It asks for
+/// the image before the certificate, and for both before anything is loaded.
 pub fn perform<S: PackageSource>(
     card: &mut Card,
     alloc: Global,
@@ -112,6 +113,7 @@ pub fn perform<S: PackageSource>(
         → Answers (S.holds_image source.old) (S.holds_certificate source.old) c (shown_command command.now)
         (shown answer) card.new) }
     ensures failed { IfErr result (λ fault. AsksSource (shown_command command.now)) }
+    ensures failing { IfFailed result (IsFailingOf (S.failed_at source.new) (shown_command command.now)) }
     ensures kept { OnErr result (card.new ≡ card.old) }
     ensures asks { OnOk result (Asks (S.asked source.old) (S.asked source.new) (asked_by (shown_command command.now))) }
     ensures counted { S.failed source.new ≡ S.failed source.old + failures_in result }

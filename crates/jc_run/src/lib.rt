@@ -4,6 +4,7 @@
 mod answer;
 mod command;
 mod fault;
+mod laws;
 mod run;
 mod session;
 mod telling;

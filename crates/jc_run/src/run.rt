@@ -15,10 +15,11 @@ ghost use Rattle.jc_script.specs.Shown.{shown_command};
 
 use crate::command::perform;
 use crate::fault::ScriptFault;
+use crate::laws::commands_are_lawful;
 use crate::telling::Teller;
 use crate::writing::write_answer;
 use jc_api::Binding;
-use jc_card::{Card, Limits, accesses_add_up, commands_are_guarded, commands_stay_apart};
+use jc_card::{Card, Limits};
 use jc_packages::{PackageSource, SourceFault};
 use jc_script::{
     Dialect, LineCause, LineFault, MOST_IN_LINE, MOST_LINES, NextLine, ScriptCommand, ScriptLine,
@@ -44,7 +45,7 @@ fn play_command<W: Write, S: PackageSource, T: Teller<S>>(
         (script.Asks (shown_command command.now)) card.new before (W.contents writer.new)) }
     ensures ended { IfErr result (λ fault. (c : CardState) (before : List ℕ) → Holds card.old c
         → W.contents writer.old ≡ Some before
-        → IsLineEnd (S.holds_image source.old) (S.holds_certificate source.old) c number
+        → IsLineEnd (S.holds_image source.old) (S.holds_certificate source.old) (S.failed_at source.new) c number
         (script.Asks (shown_command command.now)) before (W.contents writer.new) (end_of_fault fault)) }
     ensures counted { S.failed source.new ≡ S.failed source.old + failures_at (end_of result) }
     ensures same_images { HoldSame (S.holds_image source.old) (S.holds_image source.new) }
@@ -82,7 +83,7 @@ fn play_line<W: Write, S: PackageSource, T: Teller<S>>(
         (script.said_by line.now) card.new before (W.contents writer.new)) }
     ensures ended { IfErr result (λ fault. (c : CardState) (before : List ℕ) → Holds card.old c
         → W.contents writer.old ≡ Some before
-        → IsLineEnd (S.holds_image source.old) (S.holds_certificate source.old) c number
+        → IsLineEnd (S.holds_image source.old) (S.holds_certificate source.old) (S.failed_at source.new) c number
         (script.said_by line.now) before (W.contents writer.new) (end_of_fault fault)) }
     ensures counted { S.failed source.new ≡ S.failed source.old + failures_at (end_of result) }
     ensures same_images { HoldSame (S.holds_image source.old) (S.holds_image source.new) }
@@ -155,12 +156,12 @@ fn play_next<R: Read, W: Write, S: PackageSource, T: Teller<S>>(
     requires { S.failed source.old < 2 ^ 31 }
     ensures done { IfOk result (λ is_line. (c : CardState) (bytes before : List ℕ) → Holds card.old c
         → pending lines.old.unread (R.remaining reader.old) ≡ Some bytes → W.contents writer.old ≡ Some before
-        → Turns (S.holds_image source.old) (S.holds_certificate source.old) number bytes c card.new
-        (pending lines.new.unread (R.remaining reader.new)) before (W.contents writer.new) is_line) }
+        → Turns (S.holds_image source.old) (S.holds_certificate source.old) (S.failed_at source.new) number bytes c
+        card.new (pending lines.new.unread (R.remaining reader.new)) before (W.contents writer.new) is_line) }
     ensures ended { IfErr result (λ fault. (c : CardState) (bytes before : List ℕ) → Holds card.old c
         → pending lines.old.unread (R.remaining reader.old) ≡ Some bytes → W.contents writer.old ≡ Some before
-        → PlaysFrom (S.holds_image source.old) (S.holds_certificate source.old) number bytes c before
-        (W.contents writer.new) (end_of_fault fault)) }
+        → PlaysFrom (S.holds_image source.old) (S.holds_certificate source.old) (S.failed_at source.new) number bytes
+        c before (W.contents writer.new) (end_of_fault fault)) }
     ensures none_failed { IfOk result (λ is_line. S.failed source.new ≡ S.failed source.old) }
     ensures counted { IfErr result (λ fault.
         S.failed source.new ≡ S.failed source.old + failures_at (end_of_fault fault)) }
@@ -209,7 +210,7 @@ pub fn play<R: Read, W: Write, S: PackageSource, T: Teller<S>>(
     requires { S.failed source.old < 2 ^ 31 }
     ensures played { (c : CardState) (bytes before : List ℕ) → Holds card.old c
         → R.remaining reader.old ≡ Some bytes → W.contents writer.old ≡ Some before
-        → PlaysOn (S.holds_image source.old) (S.holds_certificate source.old) bytes c before
+        → PlaysOn (S.holds_image source.old) (S.holds_certificate source.old) (S.failed_at source.new) bytes c before
         (W.contents writer.new) (end_of result) }
     ensures counted { S.failed source.new ≡ S.failed source.old + failures_at (end_of result) }
     ensures same_images { HoldSame (S.holds_image source.old) (S.holds_image source.new) }
@@ -241,17 +242,15 @@ pub fn run_script<R: Read, W: Write, S: PackageSource, T: Teller<S>>(
 ) -> Result<(), ScriptFault>
     requires { S.failed source.old < 2 ^ 31 }
     ensures run { (bytes before : List ℕ) → R.remaining reader.old ≡ Some bytes → W.contents writer.old ≡ Some before
-        → HasRun (S.holds_image source.old) (S.holds_certificate source.old) limits binding.now bytes before
-        (W.contents writer.new) (end_of result) }
+        → HasRun (S.holds_image source.old) (S.holds_certificate source.old) (S.failed_at source.new) limits
+        binding.now bytes before (W.contents writer.new) (end_of result) }
     ensures limits { are_limits limits ≡ false → (end_of result ≡ BadLimits)
         × (R.remaining reader.new ≡ R.remaining reader.old) × (W.contents writer.new ≡ W.contents writer.old) }
     ensures counted { S.failed source.new ≡ S.failed source.old + failures_at (end_of result) }
     ensures same_images { HoldSame (S.holds_image source.old) (S.holds_image source.new) }
     ensures same_certificates { HoldSame (S.holds_certificate source.old) (S.holds_certificate source.new) }
 {
-    commands_are_guarded();
-    commands_stay_apart();
-    accesses_add_up();
+    commands_are_lawful(&*source);
     binding.has_no_clash();
     let mut card = Card::new(alloc, limits, binding)?;
     play(alloc, reader, writer, source, &mut card, teller)

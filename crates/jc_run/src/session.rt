@@ -15,10 +15,11 @@ ghost use Rattle.jc_script.specs.Shown.{shown_command};
 
 use crate::command::perform;
 use crate::fault::ScriptFault;
+use crate::laws::commands_are_lawful;
 use crate::telling::{LineRefusal, Teller};
 use crate::writing::write_answer;
 use jc_api::Binding;
-use jc_card::{Card, Limits, accesses_add_up, commands_are_guarded, commands_stay_apart};
+use jc_card::{Card, Limits};
 use jc_packages::{PackageSource, SourceFault};
 use jc_script::{
     Dialect, LineCause, LineFault, MOST_IN_LINE, NextLine, ReadFault, ScriptCommand, ScriptLine,
@@ -206,9 +207,7 @@ pub fn run_session<R: Read, W: Write, S: PackageSource, T: Teller<S>>(
     ensures same_images { HoldSame (S.holds_image source.old) (S.holds_image source.new) }
     ensures same_certificates { HoldSame (S.holds_certificate source.old) (S.holds_certificate source.new) }
 {
-    commands_are_guarded();
-    commands_stay_apart();
-    accesses_add_up();
+    commands_are_lawful(&*source);
     binding.has_no_clash();
     let mut card = Card::new(alloc, limits, binding)?;
     converse(alloc, reader, writer, source, &mut card, teller)

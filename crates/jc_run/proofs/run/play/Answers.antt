@@ -13,7 +13,7 @@ loop-number-init g c = (
   same_self _,
   same_self _,
   λ t bytes before h is known.
-      begun _ _ t bytes before _ _ _ h (rw (c.new-lines.ensures.unread, is) refl) known,
+      begun _ _ g.S.PackageSource.failed_at t bytes before _ _ _ h (rw (c.new-lines.ensures.unread, is) refl) known,
 )
 
 pub loop-number-preserved : goal.loop-number-preserved
@@ -26,7 +26,7 @@ loop-number-preserved g c =
       same_through _ _ _ v.3 p.same_certificates,
       λ t bytes before h is known.
           let so_far = v.4 t bytes before h is known in
-          one_more _ _ t bytes before
+          one_more _ _ g.S.PackageSource.failed_at t bytes before
           {rest = pending c.play_next.new.lines.unread (g.R.Read.remaining c.play_next.new.reader)} so_far
           (turn_as _ _ _ _ v.2 v.3 ((rw c.if-not-branch.false at p.done)
           so_far.card so_far.rest (before ++ so_far.written) so_far.holds so_far.left_is so_far.now_is)),
@@ -36,20 +36,22 @@ pub returns-then-not-branch-clause-played : goal.returns-then-not-branch-clause-
 returns-then-not-branch-clause-played g c = λ t bytes before h is known.
     let v = c.loop-number.invariant in
     let so_far = v.4 t bytes before h is known in
-    played_on _ _ (at_end _ _ t bytes before so_far (plays_from_as _ _ _ _ v.2 v.3
-    ((rw c.if-not-branch.true at c.in_ok-play_next.ensures.done)
+    played_on _ _ _ (at_end _ _ g.S.PackageSource.failed_at t bytes before c.play_next.new.source so_far
+    (plays_from_as _ _ _ _ v.2 v.3 ((rw c.if-not-branch.true at c.in_ok-play_next.ensures.done)
     so_far.card so_far.rest (before ++ so_far.written) so_far.holds so_far.left_is so_far.now_is)))
 
 pub returns-in_err-play_next-clause-played : goal.returns-in_err-play_next-clause-played
 returns-in_err-play_next-clause-played g c = λ t bytes before h is known.
     let v = c.loop-number.invariant in
     let so_far = v.4 t bytes before h is known in
-    handed_end _ _ (PlaysOn _ _ bytes t before _) c.from_residual.ensures.1
-    (played_on _ _ (at_end _ _ t bytes before so_far (plays_from_as _ _ _ _ v.2 v.3 (c.in_err-play_next.ensures.ended
+    handed_end _ _ (PlaysOn _ _ _ bytes t before _) c.from_residual.ensures.1
+    (played_on _ _ _ (at_end _ _ g.S.PackageSource.failed_at t bytes before c.play_next.new.source so_far
+    (plays_from_as _ _ _ _ v.2 v.3 (c.in_err-play_next.ensures.ended
     so_far.card so_far.rest (before ++ so_far.written) so_far.holds so_far.left_is so_far.now_is))))
 
 pub returns-clause-played : goal.returns-clause-played
 returns-clause-played g c = λ t bytes before h is known.
     let so_far = c.loop-number.invariant.4 t bytes before h is known in
-    played_on _ _ (at_end _ _ t bytes before so_far (end_plays _ _ _ so_far.rest so_far.card _ _ _
+    played_on _ _ _ (at_end _ _ g.S.PackageSource.failed_at t bytes before c.loop-number.source so_far
+    (end_plays _ _ _ _ so_far.rest so_far.card _ _ _
     (c.play_end.ensures.ended so_far.rest so_far.left_is) so_far.now_is))

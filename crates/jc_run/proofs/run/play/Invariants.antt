@@ -14,8 +14,9 @@ invariant-loop-number g l =
     × HoldSame (g.S.PackageSource.holds_certificate l.fn.source) (g.S.PackageSource.holds_certificate l.source)
     × ((c : CardState) (bytes before : List ℕ) → Holds l.fn.card c → g.R.Read.remaining l.fn.reader ≡ Some bytes
     → g.W.Write.contents l.fn.writer ≡ Some before
-    → HasPlayed (g.S.PackageSource.holds_image l.fn.source) (g.S.PackageSource.holds_certificate l.fn.source) c bytes
-    before l.number l.card (pending l.lines.unread (g.R.Read.remaining l.reader)) (g.W.Write.contents l.writer))
+    → HasPlayed (g.S.PackageSource.holds_image l.fn.source) (g.S.PackageSource.holds_certificate l.fn.source)
+    g.S.PackageSource.failed_at c bytes before l.number l.card (pending l.lines.unread (g.R.Read.remaining l.reader))
+    (g.W.Write.contents l.writer))
 
 abbrev pub decreases-loop-number : goal.decreases-loop-number
 decreases-loop-number g l = 100001 - l.number

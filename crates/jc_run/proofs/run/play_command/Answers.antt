@@ -3,17 +3,17 @@ use Rattle.jc_run.proofs.run.play_command.Goals as goal
 
 pub returns-in-Err-Failed-clause-ended : goal.returns-in-Err-Failed-clause-ended
 returns-in-Err-Failed-clause-ended g c = λ t before h known.
-    source_end _ _ t c.args.number _ before _ c.in-Err-Failed.ensures.failed known
+    source_end _ _ _ t c.args.number _ before _ (rw c.in-Err-Failed.field-0-is at c.in-Err-Failed.ensures.failing) known
 
 pub returns-in-Err-Memory-clause-ended : goal.returns-in-Err-Memory-clause-ended
 returns-in-Err-Memory-clause-ended g c = λ t before h known.
-    memory_end _ _ t c.args.number _ before _ c.in-Err-Memory.ensures.failed known
+    memory_end _ _ _ t c.args.number _ before _ c.in-Err-Memory.ensures.failed known
 
 pub returns-in-Ok-write_answer-clause-done : goal.returns-in-Ok-write_answer-clause-done
 returns-in-Ok-write_answer-clause-done g c = λ t before h known.
-    command_done _ _ t c.args.number _ _ _ _ _ before (c.in-Ok.ensures.done t h) known
+    command_done _ _ t _ _ _ _ _ before (c.in-Ok.ensures.done t h) known
     c.in-Ok-write_answer.ensures.written
 
 pub returns-in-Err-clause-ended : goal.returns-in-Err-clause-ended
 returns-in-Err-clause-ended g c = λ t before h known.
-    command_unwritten _ _ t c.args.number _ _ _ _ _ before (c.in-Ok.ensures.done t h) known c.in-Err.ensures.part
+    command_unwritten _ _ _ t c.args.number _ _ _ _ _ before (c.in-Ok.ensures.done t h) known c.in-Err.ensures.part

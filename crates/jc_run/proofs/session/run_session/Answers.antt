@@ -1,3 +1,4 @@
+use Rattle.std.proofs.Common.{rules}
 use Rattle.jc_card.specs.New.{new_card}
 use Rattle.jc_run.proofs.Playing.{handed_end}
 use Rattle.jc_run.proofs.Holding.{made_holds, not_made}
@@ -7,36 +8,21 @@ use Rattle.jc_run.proofs.session.run_session.Goals as goal
 pub returns-clause-held : goal.returns-clause-held
 returns-clause-held g c = λ bytes before is known.
     let card = new_card c.args.limits c.args.binding.now in
-    made_holds (record {
-      apdu = c.commands_are_guarded.ensures.apdu;
-      install = c.commands_are_guarded.ensures.install;
-      reset = c.commands_are_guarded.ensures.reset;
-      load = c.commands_are_guarded.ensures.load;
-      new = c.commands_stay_apart.ensures.new;
-      apart_apdu = c.commands_stay_apart.ensures.apdu;
-      apart_install = c.commands_stay_apart.ensures.install;
-      apart_reset = c.commands_stay_apart.ensures.reset;
-      apart_load = c.commands_stay_apart.ensures.load;
-      none = c.accesses_add_up.ensures.none;
-      more = c.accesses_add_up.ensures.more;
-    }) _ _ c.args.limits c.args.binding.now bytes before _ c.new.result c.new.ensures.limits c.has_no_clash.ensures
-    c.in_ok-card.card _
-    c.in_ok-card.was (c.converse.ensures.held card bytes before c.in_ok-card.ensures.new is known)
+    made_holds _ _ c.args.limits c.args.binding.now (record {
+      accesses = c.commands_are_lawful.ensures.guarded;
+      apart = c.commands_are_lawful.ensures.apart c.args.limits c.args.binding.now c.has_no_clash.ensures;
+      never_stuck = c.commands_are_lawful.ensures.never_stuck c.args.limits c.args.binding.now (search rules)
+          c.has_no_clash.ensures;
+    }) bytes before _ c.new.result c.new.ensures.limits
+    c.in_ok-card.card _ c.in_ok-card.was (c.converse.ensures.held card bytes before c.in_ok-card.ensures.new is known)
 
 pub returns-in_err-card-clause-held : goal.returns-in_err-card-clause-held
 returns-in_err-card-clause-held g c = λ bytes before is known.
     handed_end _ _ (HasHeld _ _ c.args.limits c.args.binding.now bytes before _) c.from_residual.ensures.1
-    (not_made (record {
-      apdu = c.commands_are_guarded.ensures.apdu;
-      install = c.commands_are_guarded.ensures.install;
-      reset = c.commands_are_guarded.ensures.reset;
-      load = c.commands_are_guarded.ensures.load;
-      new = c.commands_stay_apart.ensures.new;
-      apart_apdu = c.commands_stay_apart.ensures.apdu;
-      apart_install = c.commands_stay_apart.ensures.install;
-      apart_reset = c.commands_stay_apart.ensures.reset;
-      apart_load = c.commands_stay_apart.ensures.load;
-      none = c.accesses_add_up.ensures.none;
-      more = c.accesses_add_up.ensures.more;
-    }) _ _ c.args.limits c.args.binding.now bytes before _ c.new.result c.new.ensures.limits c.has_no_clash.ensures
+    (not_made _ _ c.args.limits c.args.binding.now (record {
+      accesses = c.commands_are_lawful.ensures.guarded;
+      apart = c.commands_are_lawful.ensures.apart c.args.limits c.args.binding.now c.has_no_clash.ensures;
+      never_stuck = c.commands_are_lawful.ensures.never_stuck c.args.limits c.args.binding.now (search rules)
+          c.has_no_clash.ensures;
+    }) bytes before _ c.new.result c.new.ensures.limits
     c.in_err-card.field-0.0 c.in_err-card.was known)

@@ -1,0 +1,83 @@
+-- No list of commands is stuck on a typed card.
+use Rattle.std.proofs.Common.{◌≡◌, ℕ, List, [], ◌∷◌, ◌&&◌, true, Option, Some, None, IsSome, Result, refl}
+use Rattle.std.proofs.lemmas.Bool.{and_parts}
+use Rattle.std.specs.List.{list_all}
+use Rattle.jc_base.specs.declared.fault.LoadFault.{LoadFault}
+use Rattle.jc_card.specs.Card.{CardState}
+use Rattle.jc_card.specs.Commands.{apdu_command, reset_command}
+use Rattle.jc_card.specs.Install.{install_command}
+use Rattle.jc_card.specs.Load.{IsLoad}
+use Rattle.jc_card.specs.Parts.{Left}
+use Rattle.jc_card.specs.Typed.{GivesTyped, IsTypedCard}
+use Rattle.jc_machine.specs.Accepted.{IsAccepted}
+use Rattle.jc_natives.specs.Kept.{are_bytes, is_aid}
+use Rattle.jc_run.specs.Answer.{Answered}
+use Rattle.jc_run.specs.NeverStuck.{GoesOn, LeavesAccepted, NeverStuck, is_of_bytes}
+use Rattle.jc_run.specs.Play.{IsAnswered, IsGiven}
+use Rattle.jc_script.specs.Script.{Apdu, Cells, Install, Load, Objects, Reset, ScriptCommand}
+
+-- what is known of each command on a typed card
+pub record TypedLaws : Type 0 where
+  pub apdu : (c : CardState) → IsTypedCard c → (bytes : List ℕ) → are_bytes bytes ≡ true
+      → GivesTyped (apdu_command c bytes)
+  pub install : (c : CardState) → IsTypedCard c → (applet instance incoming : List ℕ) → is_aid applet ≡ true
+      → is_aid instance ≡ true → are_bytes incoming ≡ true
+      → GivesTyped (install_command c applet instance incoming)
+  pub reset : (c : CardState) → IsTypedCard c → GivesTyped (reset_command c)
+  pub load : (c after : CardState) (image certificate : List ℕ) (result : Result ℕ LoadFault) → IsTypedCard c
+      → IsLoad c image certificate result after → IsAccepted after.world → IsTypedCard after
+
+gives_some : {A : Type 0} (done : Option (Left A)) → GivesTyped done → IsSome done
+gives_some None h = absurd h
+gives_some (Some l) h = refl
+
+given_typed : {A : Type 0} (done : Option (Left A)) (said : A → Answered) (answer : Answered) (after : CardState)
+    → GivesTyped done → IsGiven done said answer after → IsTypedCard after
+given_typed None said answer after h given = absurd h
+given_typed (Some l) said answer after h given =
+    let same : given.left ≡ l = cc in
+    rw (given.after_is, same) h
+
+module _ (laws : TypedLaws) (images certificates : List ℕ → List ℕ → Type 0) where
+  installed : (c : CardState) → IsTypedCard c → (applet instance incoming : List ℕ)
+      → (is_aid applet && is_aid instance && are_bytes incoming) ≡ true
+      → GivesTyped (install_command c applet instance incoming)
+  installed c t applet instance incoming e =
+      let first = and_parts (is_aid applet && is_aid instance) (are_bytes incoming) e in
+      let aids = and_parts (is_aid applet) (is_aid instance) first.0 in
+      laws.install c t applet instance incoming aids.0 aids.1 first.1
+
+  goes_on : (c : CardState) → IsTypedCard c → (command : ScriptCommand) → is_of_bytes command ≡ true
+      → GoesOn c command
+  goes_on c t (Load folder certificate) e = tt
+  goes_on c t (Install applet instance incoming) e =
+      gives_some (install_command c applet instance incoming) (installed c t applet instance incoming e)
+  goes_on c t (Apdu bytes) e = gives_some (apdu_command c bytes) (laws.apdu c t bytes e)
+  goes_on c t Reset e = gives_some (reset_command c) (laws.reset c t)
+  goes_on c t Cells e = tt
+  goes_on c t Objects e = tt
+
+  stays_typed : (c : CardState) → IsTypedCard c → (command : ScriptCommand) → is_of_bytes command ≡ true
+      → (answer : Answered) (after : CardState) → IsAnswered images certificates c command answer after
+      → LeavesAccepted command after → IsTypedCard after
+  stays_typed c t (Load folder certificate) e answer after h accepted =
+      laws.load c after h.image h.bytes h.result t h.load accepted
+  stays_typed c t (Install applet instance incoming) e answer after h accepted =
+      given_typed (install_command c applet instance incoming) _ answer after
+      (installed c t applet instance incoming e) h
+  stays_typed c t (Apdu bytes) e answer after h accepted =
+      given_typed (apdu_command c bytes) _ answer after (laws.apdu c t bytes e) h
+  stays_typed c t Reset e answer after h accepted =
+      given_typed (reset_command c) _ answer after (laws.reset c t) h
+  stays_typed c t Cells e answer after h accepted = rw h.1 t
+  stays_typed c t Objects e answer after h accepted = rw h.1 t
+
+  pub never_stuck : (commands : List ScriptCommand) → list_all is_of_bytes commands ≡ true → (c : CardState)
+      → IsTypedCard c → NeverStuck images certificates commands c
+  never_stuck [] e c t = tt
+  never_stuck (command ∷ commands) e c t =
+      let parts = and_parts (is_of_bytes command) (list_all is_of_bytes commands) e in (
+        goes_on c t command parts.0,
+        λ answer after h accepted.
+            never_stuck commands parts.1 after (stays_typed c t command parts.0 answer after h accepted),
+      )

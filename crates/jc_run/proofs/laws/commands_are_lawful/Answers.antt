@@ -1,0 +1,28 @@
+use Rattle.jc_card.specs.New.{new_card}
+use Rattle.jc_run.proofs.NeverStuck.{never_stuck}
+use Rattle.jc_run.proofs.Running.{all_guarded}
+use Rattle.jc_run.proofs.laws.commands_are_lawful.Goals as goal
+
+pub returns-clause-guarded : goal.returns-clause-guarded
+returns-clause-guarded g c = all_guarded (record {
+  apdu = c.commands_are_guarded.ensures.apdu;
+  install = c.commands_are_guarded.ensures.install;
+  reset = c.commands_are_guarded.ensures.reset;
+  load = c.commands_are_guarded.ensures.load;
+  apart_apdu = c.commands_stay_apart.ensures.apdu;
+  apart_install = c.commands_stay_apart.ensures.install;
+  apart_reset = c.commands_stay_apart.ensures.reset;
+  apart_load = c.commands_stay_apart.ensures.load;
+  none = c.accesses_add_up.ensures.none;
+  more = c.accesses_add_up.ensures.more;
+}) _ _
+
+pub returns-clause-never_stuck : goal.returns-clause-never_stuck
+returns-clause-never_stuck g c = λ limits binding few clear commands fit.
+    never_stuck (record {
+      apdu = c.commands_are_never_stuck.ensures.apdu;
+      install = c.commands_are_never_stuck.ensures.install;
+      reset = c.commands_are_never_stuck.ensures.reset;
+      load = c.commands_are_never_stuck.ensures.load;
+    }) _ _ commands fit (new_card limits binding)
+    (c.commands_are_never_stuck.ensures.new limits binding few clear)

@@ -1,0 +1,53 @@
+-- That no command of the defensive machine's card is stuck, of any list of commands (Java Card Virtual Machine
+-- Specification, Verification of CAP files; Java Card Runtime Environment Specification, Applet Lifetime).
+use Rattle.std.specs.Prelude.{⊤, ◌≡◌, ℕ, ◌&&◌, Bool, true, List, [], ◌∷◌, IsSome}
+use Rattle.std.specs.List.{list_all}
+use Rattle.jc_card.specs.Card.{CardState}
+use Rattle.jc_card.specs.Commands.{apdu_command, reset_command}
+use Rattle.jc_card.specs.Install.{install_command}
+use Rattle.jc_machine.specs.Accepted.{IsAccepted}
+use Rattle.jc_natives.specs.Kept.{are_bytes, is_aid}
+use Rattle.jc_run.specs.Answer.{Answered}
+use Rattle.jc_run.specs.Play.{IsAnswered}
+use Rattle.jc_script.specs.Script.{Apdu, Cells, Install, Load, Objects, Reset, ScriptCommand}
+
+-- what a command is handed is bytes, and AIDs of 5 to 16 of them
+abbrev pub is_of_bytes : ScriptCommand → Bool
+is_of_bytes (Load folder certificate) = true
+is_of_bytes (Install applet instance incoming) = is_aid applet && is_aid instance && are_bytes incoming
+is_of_bytes (Apdu bytes) = are_bytes bytes
+is_of_bytes Reset = true
+is_of_bytes Cells = true
+is_of_bytes Objects = true
+
+-- it isn't stuck on a card: it is answered. A load, and a count, call no method
+abbrev pub GoesOn : CardState → ScriptCommand → Type 0
+GoesOn c (Load folder certificate) = ⊤
+GoesOn c (Install applet instance incoming) = IsSome (install_command c applet instance incoming)
+GoesOn c (Apdu bytes) = IsSome (apdu_command c bytes)
+GoesOn c Reset = IsSome (reset_command c)
+GoesOn c Cells = ⊤
+GoesOn c Objects = ⊤
+
+-- behind a load the packages of the card are accepted; each other command leaves them
+abbrev pub LeavesAccepted : ScriptCommand → CardState → Type 0
+LeavesAccepted (Load folder certificate) after = IsAccepted after.world
+LeavesAccepted (Install applet instance incoming) after = ⊤
+LeavesAccepted (Apdu bytes) after = ⊤
+LeavesAccepted Reset after = ⊤
+LeavesAccepted Cells after = ⊤
+LeavesAccepted Objects after = ⊤
+
+-- commands one behind the other: none is stuck, on whatever card those before it may leave
+abbrev pub NeverStuck : (images certificates : List ℕ → List ℕ → Type 0) → List ScriptCommand → CardState → Type 0
+NeverStuck images certificates [] c = ⊤
+NeverStuck images certificates (command ∷ commands) c =
+    GoesOn c command × ((answer : Answered) (after : CardState)
+    → IsAnswered images certificates c command answer after → LeavesAccepted command after
+    → NeverStuck images certificates commands after)
+
+-- so is any list of commands on a card
+abbrev pub IsNeverStuck : (images certificates : List ℕ → List ℕ → Type 0) → CardState → Type 0
+IsNeverStuck images certificates c =
+    (commands : List ScriptCommand) → list_all is_of_bytes commands ≡ true
+    → NeverStuck images certificates commands c

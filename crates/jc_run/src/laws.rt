@@ -1,0 +1,30 @@
+//! What is known of all commands of the defensive machine's card (Java Card Runtime Environment Specification, Applet
+//! Isolation and Object Sharing).
+
+ghost use Rattle.std.specs.Prelude.{◌<◌};
+ghost use Rattle.jc_api.specs.Bound.{Bound};
+ghost use Rattle.jc_api.specs.NoClash.{HasNoClash};
+ghost use Rattle.jc_card.specs.Accesses.{IsApartCard};
+ghost use Rattle.jc_card.specs.New.{new_card};
+ghost use Rattle.jc_card.specs.declared.limits.Limits.{Limits};
+ghost use Rattle.jc_run.specs.NeverStuck.{IsNeverStuck};
+ghost use Rattle.jc_run.specs.Runs.{AreGuarded};
+
+use jc_card::{
+    accesses_add_up, commands_are_guarded, commands_are_never_stuck, commands_stay_apart,
+};
+use jc_packages::PackageSource;
+
+/// The accesses of each command on each card are guarded, and each run leaves a card apart that was; a new card is one,
+/// and no list of commands is stuck there. What a source holds says what loads come to. It does nothing.
+pub(crate) fn commands_are_lawful<S: PackageSource>(source: &S)
+    ensures guarded { AreGuarded (S.holds_image source.now) (S.holds_certificate source.now) }
+    ensures apart { (limits : Limits) (binding : Bound) → HasNoClash binding → IsApartCard (new_card limits binding) }
+    ensures never_stuck { (limits : Limits) (binding : Bound) → limits.cells < 65536 → HasNoClash binding
+        → IsNeverStuck (S.holds_image source.now) (S.holds_certificate source.now) (new_card limits binding) }
+{
+    commands_are_guarded();
+    commands_stay_apart();
+    commands_are_never_stuck();
+    accesses_add_up();
+}

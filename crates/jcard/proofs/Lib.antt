@@ -3,3 +3,4 @@ mod Lines
 mod Reading
 mod Jobs
 mod Sources
+mod Ends

@@ -1,5 +1,6 @@
 -- Packages in folders and certificates in files: what such a source holds, and the fault of a reading that failed.
-use Rattle.std.specs.Prelude.{◌≡◌, ◌⊎◌, ℕ, List}
+use Rattle.std.specs.Prelude.{◌≡◌, ℕ, List}
+use Rattle.jc_packages.specs.Source.{Asked, Certificate, Image}
 use Rattle.jcard.specs.Files.{Entry, IsContent, IsFaultAt, IsIrregular, IsLonger}
 use Rattle.jcard.specs.Files.Entry.{failing}
 use Rattle.jcard.specs.Folders.{IsFolderFault}
@@ -29,7 +30,12 @@ IsNoCertificate holds (NoBinding fault) = ⊥
 abbrev pub IsCertificateFault : (List ℕ → Entry → Type 0) → List ℕ → FileFault → Type 0
 IsCertificateFault holds name fault = IsFaultAt name (IsNoCertificate (holds name)) fault
 
--- the fault of a reading: a folder holds no image, or a file no certificate
+-- why what was asked for can't be read: a folder holds no image, or a file no certificate
+abbrev pub IsFaultOf : (List ℕ → Entry → Type 0) → Asked → FileFault → Type 0
+IsFaultOf holds (Image name) = IsFolderFault holds name
+IsFaultOf holds (Certificate name) = IsCertificateFault holds name
+
+-- the fault of a reading, whatever was asked for
 pub record IsSourceFault (holds : List ℕ → Entry → Type 0) (fault : FileFault) : Type 0 where
-  pub name : List ℕ
-  pub is : IsFolderFault holds name fault ⊎ IsCertificateFault holds name fault
+  pub asked : Asked
+  pub is : IsFaultOf holds asked fault

@@ -12,5 +12,6 @@ pub mod Files
 pub mod FileSource
 pub mod PrivateFileSource
 pub mod Play
+pub mod PrivatePlay
 pub mod Saying
 pub mod PrivateSaying

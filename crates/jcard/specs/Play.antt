@@ -1,6 +1,7 @@
 -- What a script comes to on a new card, whose packages lie in folders and whose certificates lie in files, and what is
 -- told where it ends early.
 use Rattle.std.specs.Prelude.{⊤, ℕ, Result, Ok, Err}
+use Rattle.jc_packages.specs.Source.{Asked}
 use Rattle.jc_run.specs.End.{end_of_fault}
 use Rattle.jc_run.specs.Play.{NoMemory, NotRead, Over, ScriptEnd, SourceFailed}
 use Rattle.jc_run.specs.declared.fault.ScriptFault.{ScriptFault}
@@ -26,6 +27,18 @@ end_of_told Memory = NoMemory
 abbrev pub end_of_play : Result (Unit {0}) PlayFault → ScriptEnd
 end_of_play (Ok u) = Over
 end_of_play (Err fault) = end_of_told fault
+
+-- what the last reading that failed may have asked for, by what is told: something of which the fault of a load is
+-- told, and nothing where no such fault is told
+abbrev pub fault_of_told : (Asked → FileFault → Type 0) → PlayFault → Asked → Type 0
+fault_of_told IsFault (File fault) asked = ⊥
+fault_of_told IsFault (Load number fault) asked = IsFault asked fault
+fault_of_told IsFault (Script fault) asked = ⊥
+fault_of_told IsFault Memory asked = ⊥
+
+abbrev pub fault_of_end : (Asked → FileFault → Type 0) → Result (Unit {0}) PlayFault → Asked → Type 0
+fault_of_end IsFault (Ok u) asked = ⊥
+fault_of_end IsFault (Err fault) asked = fault_of_told IsFault fault asked
 
 -- a script's fault has no fault of a file behind it, and isn't want of memory
 abbrev pub IsOfScript : ScriptFault → Type 0

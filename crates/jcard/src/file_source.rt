@@ -1,11 +1,11 @@
 //! Packages in folders, and certificates in files.
 
 ghost use Rattle.std.specs.Prelude.{⊤, ◌≡◌, ◌+◌, ◌<◌, ◌^◌, IfOk, IfErr};
-ghost use Rattle.jc_packages.specs.Source.{failures_of};
+ghost use Rattle.jc_packages.specs.Source.{Asked, OfFailed, failures_of};
 ghost use Rattle.jcard.specs.Files.{OfFile};
-ghost use Rattle.jcard.specs.FileSource.{HoldsCertificate, IsCertificateFault, IsSourceFault};
+ghost use Rattle.jcard.specs.FileSource.{HoldsCertificate, IsCertificateFault, IsFaultOf, IsSourceFault};
 ghost use Rattle.jcard.specs.Folders.{IsImage};
-ghost use Rattle.jcard.specs.PrivateFileSource.{IsKept, TellsAll};
+ghost use Rattle.jcard.specs.PrivateFileSource.{IsKept, IsKeptOf, TellsAll};
 
 use crate::files::{FileCause, FileFault, Files, ReadFault, fault_of};
 use crate::folders::image_in;
@@ -16,15 +16,17 @@ use std::marker::{Brand, Model, PhantomData};
 /// The most bytes of the file of a certificate.
 const MOST_CERTIFICATE: usize = 1048576;
 
-/// Which faults a source may tell: a name for proofs alone, which outlasts what is done with the source.
+/// Which faults a source may tell, and of what was asked for: a name for proofs alone, which outlasts what is done with
+/// the source.
 pub trait Faults {
+    ghost use Rattle.jc_packages.specs.Source.{Asked};
     ghost use Rattle.jcard.specs.declared.files.FileFault.{FileFault};
 
-    ghost tells: { FileFault → Type 0 };
+    ghost tells: { Asked → FileFault → Type 0 };
 }
 
 impl Faults for Brand {
-    ghost tells = { λ fault. ⊤ };
+    ghost tells = { λ asked fault. ⊤ };
 }
 
 /// Packages in folders of component files, and certificates in files. It counts the readings that failed, and keeps the
@@ -42,7 +44,7 @@ impl<'a, F: Files, T: Faults> Model for FileSource<'a, F, T> {
 
     ghost Value = { Readings F };
 
-    ghost view = { λ s. record { files = s.files.now; failures = s.failures } };
+    ghost view = { λ s. record { files = s.files.now; failures = s.failures; fault = s.fault } };
 
     ghost invariant = { λ s. TellsAll (F.holds s.files.now) T.tells × IsKept T.tells s.failures s.fault };
 }
@@ -64,7 +66,8 @@ impl<'a, F: Files, T: Faults> FileSource<'a, F, T> {
 
     /// The fault of the reading that failed last, if one did.
     pub fn into_fault(self) -> Option<FileFault>
-        ensures { IsKept T.tells self.entry.failures result }
+        ensures kept { IsKept T.tells self.entry.failures result }
+        ensures fault { result ≡ self.entry.fault }
     {
         self.fault
     }
@@ -80,6 +83,8 @@ impl<'a, F: Files, T: Faults> FileSource<'a, F, T> {
         requires fault { OfFile (IsSourceFault (F.holds self.old.files)) fault }
         ensures files { self.new.files ≡ self.old.files }
         ensures counted { self.new.failures ≡ self.old.failures + failures_of result }
+        ensures failing { (asked : Asked) → OfFile (IsFaultOf (F.holds self.old.files) asked) fault
+            → OfFailed result (IsKeptOf T.tells self.new.fault asked) }
     {
         match fault {
             ReadFault::File(fault) => {
@@ -98,6 +103,8 @@ impl<'a, F: Files, T: Faults> PackageSource for FileSource<'a, F, T> {
     ghost holds_image = { λ s. IsImage (F.holds s.files) };
 
     ghost holds_certificate = { λ s. HoldsCertificate (F.holds s.files) };
+
+    ghost failed_at = { λ s. IsKeptOf T.tells s.fault };
 
     fn image(&mut self, alloc: Global, name: &str) -> Result<Vec<u8>, SourceFault> {
         match image_in(self.files, alloc, name) {

@@ -5,10 +5,11 @@ ghost use Rattle.jc_run.specs.End.{end_of_fault};
 ghost use Rattle.jc_run.specs.Performs.{HasRun};
 ghost use Rattle.jc_run.specs.Play.{failures_at};
 ghost use Rattle.jc_run.specs.Session.{HasHeld};
-ghost use Rattle.jcard.specs.FileSource.{HoldsCertificate, IsSourceFault};
+ghost use Rattle.jcard.specs.FileSource.{HoldsCertificate, IsFaultOf, IsSourceFault};
 ghost use Rattle.jcard.specs.Folders.{IsImage};
-ghost use Rattle.jcard.specs.Play.{IsTold, end_of_play, end_of_told};
-ghost use Rattle.jcard.specs.PrivateFileSource.{TellsAll};
+ghost use Rattle.jcard.specs.Play.{IsTold, end_of_play, end_of_told, fault_of_end, fault_of_told};
+ghost use Rattle.jcard.specs.PrivateFileSource.{IsKeptOf, IsToldOfSome, TellsAll};
+ghost use Rattle.jcard.specs.PrivatePlay.{IsToldAt};
 
 use crate::file_source::{Faults, FileSource};
 use crate::files::{FileFault, Files, ReadFault};
@@ -58,8 +59,9 @@ pub fn play_script<F: Files, R: Read, W: Write, E: Write>(
 ) -> Result<(), PlayFault>
     ensures played { (bytes before : List ℕ) → R.remaining reader.old ≡ Some bytes
         → W.contents writer.old ≡ Some before
-        → HasRun (IsImage (F.holds files.now)) (HoldsCertificate (F.holds files.now)) limits binding.now
-        bytes before (W.contents writer.new) (end_of_play result) }
+        → HasRun (IsImage (F.holds files.now)) (HoldsCertificate (F.holds files.now))
+        (fault_of_end (IsFaultOf (F.holds files.now)) result) limits binding.now bytes before (W.contents writer.new)
+        (end_of_play result) }
     ensures told { IfErr result (IsTold (IsSourceFault (F.holds files.now))) }
 {
     play_telling::<F, R, W, E, Brand>(files, alloc, reader, writer, teller, limits, binding)
@@ -78,9 +80,10 @@ fn play_telling<F: Files, R: Read, W: Write, E: Write, T: Faults>(
     requires { TellsAll (F.holds files.now) T.tells }
     ensures played { (bytes before : List ℕ) → R.remaining reader.old ≡ Some bytes
         → W.contents writer.old ≡ Some before
-        → HasRun (IsImage (F.holds files.now)) (HoldsCertificate (F.holds files.now)) limits binding.now
-        bytes before (W.contents writer.new) (end_of_play result) }
-    ensures told { IfErr result (IsTold T.tells) }
+        → HasRun (IsImage (F.holds files.now)) (HoldsCertificate (F.holds files.now))
+        (fault_of_end T.tells result) limits binding.now bytes before (W.contents writer.new)
+        (end_of_play result) }
+    ensures told { IfErr result (IsTold (IsToldOfSome T.tells)) }
 {
     let mut source: FileSource<'_, F, T> = FileSource::new(files);
     match run_script(alloc, reader, writer, &mut source, teller, limits, binding) {
@@ -114,7 +117,9 @@ pub fn hold_session<F: Files, R: Read, W: Write, E: Write>(
 fn told_of<'a, F: Files, T: Faults>(source: FileSource<'a, F, T>, fault: ScriptFault) -> PlayFault
     requires { source.failures ≡ failures_at (end_of_fault fault) }
     ensures end { end_of_told result ≡ end_of_fault fault }
-    ensures told { IsTold T.tells result }
+    ensures told { IsTold (IsToldOfSome T.tells) result }
+    ensures known { IsToldAt (end_of_fault fault) (IsKeptOf T.tells source.entry.fault)
+        (fault_of_told T.tells result) }
 {
     match fault {
         ScriptFault::Source(number) => match source.into_fault() {

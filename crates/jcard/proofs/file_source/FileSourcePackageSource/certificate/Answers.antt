@@ -1,11 +1,12 @@
 use Rattle.std.proofs.Common.{subst}
+use Rattle.jc_packages.specs.Source.{Certificate}
 use Rattle.jcard.specs.Files.{OfFile}
 use Rattle.jcard.specs.FileSource.{IsSourceFault}
-use Rattle.jcard.proofs.Sources.{certificate_failed}
+use Rattle.jcard.proofs.Sources.{reading_failed}
 use Rattle.jcard.proofs.file_source.FileSourcePackageSource.certificate.Goals as goal
 
 pub fail-requires-clause-fault : goal.fail-requires-clause-fault
 fail-requires-clause-fault g c =
     subst (λ s. OfFile (IsSourceFault (g.F.Files.holds s.files)) c.in-Err.fault) c.self.view_is
-    (certificate_failed (g.F.Files.holds c.self.inside.files.now) c.args.name.now c.in-Err.fault
+    (reading_failed (g.F.Files.holds c.self.inside.files.now) (Certificate c.args.name.now) c.in-Err.fault
     c.in-Err.ensures.faults)

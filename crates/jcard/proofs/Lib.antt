@@ -4,3 +4,4 @@ mod Reading
 mod Jobs
 mod Sources
 mod Ends
+mod Runs

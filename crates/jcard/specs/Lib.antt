@@ -14,4 +14,7 @@ pub mod PrivateFileSource
 pub mod Play
 pub mod PrivatePlay
 pub mod Saying
+pub mod Scripts
+pub mod Ran
+pub mod Ending
 pub mod PrivateSaying

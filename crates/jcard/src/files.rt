@@ -4,10 +4,13 @@ ghost use Rattle.std.specs.Prelude.{◌≡◌, ◌↔◌, ℕ, true, false, [], 
 ghost use Rattle.jcard.specs.Files.{Entry, IsContent, IsFaultAt, IsFile, IsIrregular, IsOutOfMemory, IsUnread};
 ghost use Rattle.jcard.specs.Files.{IsWritten, OfFile, WritesAlone, Written};
 ghost use Rattle.jcard.specs.Files.Entry.{failing, folder};
+ghost use Rattle.jcard.specs.Scripts.{AreAsked, Opening};
+ghost use Rattle.jcard.specs.Scripts.Opening.{readable, refused};
 
 use crate::shown::ShownName;
 use jc_api::BindingFault;
 use std::alloc::{AllocError, AllocFailed, Global};
+use std::io::Read;
 use std::{fmt, io};
 
 /// What is wrong with a file.
@@ -131,6 +134,25 @@ pub trait Files {
             (record { path = path.now; bytes = bytes.now } ∷ [])) }
         ensures alone { WritesAlone (has_written self.old) (has_written self.new) path.now }
         ensures failing { IfErr result (λ error. holds self.old path.now (failing error)) };
+}
+
+/// The files of scripts, which are opened to be played.
+pub trait Scripts {
+    /// What a script is read by.
+    type Reader: Read + Drop;
+
+    // What the system tells where the script under a path is opened: which bytes are to be read of it, or an error.
+    ghost tells: { Self → List ℕ → Opening → Type 0 };
+
+    // Which scripts were to be opened, by their paths, in their order.
+    ghost has_asked: { Self → List (List ℕ) → Type 0 };
+
+    /// Opens the script under a path.
+    fn open(&mut self, path: &str) -> io::Result<Self::Reader>
+        ensures opened { IfOk result
+            (λ reader. tells self.old path.now (readable (Self.Reader.remaining reader))) }
+        ensures refused { IfErr result (λ error. tells self.old path.now (refused error)) }
+        ensures asked { AreAsked (has_asked self.old) (has_asked self.new) (path.now ∷ []) };
 }
 
 /// Whether the system tells that it is out of memory.

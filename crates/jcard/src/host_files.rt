@@ -2,7 +2,7 @@
 
 ghost use Rattle.std.specs.Prelude.{⊤, ◌≡◌, ◌≤◌, length, IfOk, IfErr};
 
-use crate::files::{FileCause, Files};
+use crate::files::{FileCause, Files, Scripts};
 use std::alloc::Global;
 use std::fs::File;
 use std::io::Read;
@@ -43,6 +43,30 @@ impl<'a> Files for HostFiles<'a> {
 
     fn write(&mut self, path: &str, bytes: &[u8]) -> io::Result<()> {
         fs::write(self.rt, path, bytes)
+    }
+}
+
+/// The system's files, opened as scripts. Nothing is known of them, nor of which were opened.
+#[derive(Drop)]
+pub struct HostScripts<'a> {
+    rt: &'a HostRuntime,
+}
+
+impl<'a> HostScripts<'a> {
+    pub fn new(rt: &'a HostRuntime) -> HostScripts<'a> {
+        HostScripts { rt }
+    }
+}
+
+impl<'a> Scripts for HostScripts<'a> {
+    type Reader = File;
+
+    ghost tells = { λ s path opening. ⊤ };
+
+    ghost has_asked = { λ s paths. ⊤ };
+
+    fn open(&mut self, path: &str) -> io::Result<File> {
+        File::open(self.rt, path)
     }
 }
 

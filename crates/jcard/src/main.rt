@@ -3,6 +3,7 @@
 
 mod answer;
 mod binding;
+mod ending;
 mod eval;
 mod file_source;
 mod files;
@@ -11,30 +12,27 @@ mod host_files;
 mod job;
 mod line;
 mod play;
+mod ran;
 mod saying;
 mod shown;
 mod telling;
 mod texts;
 mod verify_folders;
 
-use binding::binding_for;
-use files::{FileCause, ReadFault, fault_of};
-use host_files::HostFiles;
+use ending::end_with;
+use host_files::{HostFiles, HostScripts};
 use job::{CardJob, RunJob, VerifyJob};
-use play::{PlayFault, hold_session, play_script};
-use saying::{Reply, Said, Status, Stream, remark_of, said_of_play, said_to, said_without_words};
+use ran::{said_of_run, said_of_session};
+use saying::{Reply, Said, said_to, said_without_words};
 use shown::ShownName;
-use std::fs::File;
 use std::process::ExitCode;
-use std::rt::Stderr;
 use std::{env, io};
-use telling::LineTeller;
 use verify_folders::{older_stays, said_of_job};
 
 fn main(rt: HostRuntime) -> ExitCode {
     match words_of(&rt) {
         Ok(words) => reply_to(&rt, &words),
-        Err(error) => say(&rt, &said_without_words(&error)),
+        Err(error) => end(&rt, &Some(said_without_words(&error))),
     }
 }
 
@@ -46,18 +44,10 @@ fn words_of(rt: &HostRuntime) -> io::Result<Vec<String>> {
 // Does what the words of a command line ask for, and says what comes of it.
 fn reply_to(rt: &HostRuntime, words: &[String]) -> ExitCode {
     match said_to(rt.alloc(), words) {
-        Reply::Said(said) => say(rt, &said),
+        Reply::Said(said) => end(rt, &Some(said)),
         Reply::Verify(job) => verify_job(rt, &job),
-        Reply::Run(job) => said_of_played(rt, play_job(rt, &job)),
-        Reply::Session(job) => said_of_played(rt, session_job(rt, &job)),
-    }
-}
-
-// How the program ends behind a script or a session.
-fn said_of_played(rt: &HostRuntime, played: Result<(), PlayFault>) -> ExitCode {
-    match played {
-        Ok(()) => ExitCode::from(Status::Success.number()),
-        Err(fault) => say(rt, &said_of_play(fault)),
+        Reply::Run(job) => end(rt, &run_job(rt, &job)),
+        Reply::Session(job) => end(rt, &session_job(rt, &job)),
     }
 }
 
@@ -66,83 +56,40 @@ fn said_of_played(rt: &HostRuntime, played: Result<(), PlayFault>) -> ExitCode {
 fn verify_job(rt: &HostRuntime, job: &VerifyJob) -> ExitCode {
     let mut files = HostFiles::new(rt);
     let said = said_of_job(&mut files, rt.alloc(), job);
-    let code = say(rt, &said);
-    if older_stays(&files, job, &said) {
+    let stays = older_stays(&files, job, &said);
+    let code = end(rt, &Some(said));
+    if stays {
         let cert = ShownName { name: job.cert };
         let _told = eprintln!(rt; "{cert}: not written, an older file stays");
     }
     code
 }
 
-// Who tells of lines, on standard error.
-fn teller_of(rt: &HostRuntime, card: &CardJob) -> LineTeller<Stderr> {
-    LineTeller::new(rt.stderr(), card.limits, card.explains)
+// Hands over what a script is played with: the system's files, standard output for its answers, and standard error.
+fn run_job(rt: &HostRuntime, job: &RunJob) -> Option<Said> {
+    said_of_run(
+        &HostFiles::new(rt),
+        &mut HostScripts::new(rt),
+        rt.alloc(),
+        &mut io::writer(rt),
+        rt.stderr(),
+        job,
+    )
 }
 
-// Answers the lines of standard input on a new card. The binding is read first.
-fn session_job(rt: &HostRuntime, job: &CardJob) -> Result<(), PlayFault> {
-    let files = HostFiles::new(rt);
-    let binding = binding_for(&files, rt.alloc(), job.binding)?;
-    hold_session(
-        &files,
+// The same for a session, whose lines are those of standard input.
+fn session_job(rt: &HostRuntime, job: &CardJob) -> Option<Said> {
+    said_of_session(
+        &HostFiles::new(rt),
         rt.alloc(),
         &mut rt.stdin(),
         &mut io::writer(rt),
-        &mut teller_of(rt, job),
-        job.limits,
-        &binding,
+        rt.stderr(),
+        job,
     )
 }
 
-// Plays a script on a new card. Its answers are written to standard output. The binding is read first.
-fn play_job(rt: &HostRuntime, job: &RunJob) -> Result<(), PlayFault> {
-    let files = HostFiles::new(rt);
-    let binding = binding_for(&files, rt.alloc(), job.card.binding)?;
-    let mut script = open(rt, job.script)?;
-    play_script(
-        &files,
-        rt.alloc(),
-        &mut script,
-        &mut io::writer(rt),
-        &mut teller_of(rt, &job.card),
-        job.card.limits,
-        &binding,
-    )
-}
-
-// Opens the file of a script.
-fn open(rt: &HostRuntime, path: &str) -> Result<File, ReadFault> {
-    match File::open(rt, path) {
-        Ok(file) => Ok(file),
-        Err(error) => Err(fault_of(rt.alloc(), path, FileCause::System(error))),
-    }
-}
-
-// Writes what is said, and says how the program ends.
-fn say(rt: &HostRuntime, said: &Said) -> ExitCode {
-    match write(rt, said) {
-        Ok(()) => ended(rt, said),
-        Err(error) => unwritten(rt, &error),
-    }
-}
-
-fn write(rt: &HostRuntime, said: &Said) -> io::Result<()> {
-    match said.stream {
-        Stream::Output => print!(rt; "{}", said.message),
-        Stream::Errors => eprint!(rt; "{}", said.message),
-    }
-}
-
-// The message is written. What is said beside it is told, if it can be.
-fn ended(rt: &HostRuntime, said: &Said) -> ExitCode {
-    if let Some(remark) = remark_of(&said.message) {
-        let _told = eprint!(rt; "{remark}");
-    }
-    ExitCode::from(said.status.number())
-}
-
-// What was to be said can't be written. That is told, if it can be.
-fn unwritten(rt: &HostRuntime, error: &io::Error) -> ExitCode {
-    let _told = eprintln!(rt; "error: the answer can't be written: {error}");
-    ExitCode::from(Status::Failure.number())
+// Hands over the streams that what is said is written to.
+fn end(rt: &HostRuntime, said: &Option<Said>) -> ExitCode {
+    ExitCode::from(end_with(&mut io::writer(rt), &mut rt.stderr(), said))
 }

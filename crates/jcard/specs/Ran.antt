@@ -1,0 +1,115 @@
+-- What `run` and `session` come to: which binding, which limits and which script, what is written, and what is said at
+-- the end.
+use Rattle.std.specs.Prelude.{⊤, ◌≡◌, ◌⊎◌, ◌∷◌, [], ℕ, List, Option, Some, None, Result, Ok, Err, IfErr}
+use Rattle.jc_api.specs.Bound.{Bound}
+use Rattle.jc_card.specs.declared.limits.Limits.{Limits}
+use Rattle.jc_run.specs.Performs.{HasRun}
+use Rattle.jc_run.specs.Session.{HasHeld}
+use Rattle.jcard.specs.Binding.{IsBindingFault, IsBindingFor}
+use Rattle.jcard.specs.Files.{Entry, IsFaultAt}
+use Rattle.jcard.specs.FileSource.{HoldsCertificate, IsSourceFault}
+use Rattle.jcard.specs.Folders.{IsImage}
+use Rattle.jcard.specs.Play.{IsTold, end_of_play}
+use Rattle.jcard.specs.Saying.{IsSaidOfPlay}
+use Rattle.jcard.specs.Scripts.{IsUnopened, Opening}
+use Rattle.jcard.specs.Scripts.Opening.{readable}
+use Rattle.jcard.specs.declared.files.FileFault.{FileFault}
+use Rattle.jcard.specs.declared.job.CardJob.{CardJob}
+use Rattle.jcard.specs.declared.job.RunJob.{RunJob}
+use Rattle.jcard.specs.declared.play.PlayFault.{PlayFault}
+use Rattle.jcard.specs.declared.play.PlayFault.TheVariants.{File, Memory}
+use Rattle.jcard.specs.declared.saying.Said.{Said}
+
+-- how a play ends: to its end, or for this fault
+abbrev pub Played : Type 0
+Played = Result (Unit {0}) PlayFault
+
+-- ---- a script
+
+-- what is written behind what stood there, and how it ends, is what a script comes to on a new card with these limits,
+-- under this binding
+abbrev pub ScriptComesTo : (List ℕ → Entry → Type 0) → Limits → Bound → (bytes before : List ℕ) → Option (List ℕ)
+    → Played → Type 0
+ScriptComesTo holds limits binding bytes before now result =
+    HasRun (IsImage holds) (HoldsCertificate holds) limits binding bytes before now (end_of_play result)
+
+-- the binding that the job names was read, the script that it names was opened, and it was played with its limits. What
+-- it comes to is known where its bytes are, and what stood before
+pub record PlaysJob (holds : List ℕ → Entry → Type 0) (tells : List ℕ → Opening → Type 0) (job : RunJob)
+    (before now : Option (List ℕ)) (result : Played) : Type 0 where
+  pub binding : Bound
+  pub bound : IsBindingFor holds job.card.binding binding
+  pub content : Option (List ℕ)
+  pub opened : tells job.script.now (readable content)
+  pub runs : (bytes earlier : List ℕ) → content ≡ Some bytes → before ≡ Some earlier
+      → ScriptComesTo holds job.card.limits binding bytes earlier now result
+  pub told : IfErr result (IsTold (IsSourceFault holds))
+
+-- the binding that the job names was read, and then the script that it names can't be opened
+pub record FailsToOpen (holds : List ℕ → Entry → Type 0) (tells : List ℕ → Opening → Type 0) (job : RunJob)
+    (fault : FileFault) : Type 0 where
+  pub binding : Bound
+  pub bound : IsBindingFor holds job.card.binding binding
+  pub faulty : IsFaultAt job.script.now (IsUnopened (tells job.script.now)) fault
+
+-- what comes of a job of `run`, over a writer with these contents. Which scripts were asked for is said by their paths
+pub data ComesOfRun {W : Type 0} (holds : List ℕ → Entry → Type 0) (tells : List ℕ → Opening → Type 0)
+    (asked : List (List ℕ) → Type 0) (contents : W → Option (List ℕ)) (old new : W) (job : RunJob) : Played → Type 0
+  where
+    -- the file of the binding is at fault: no script is opened, and nothing is written
+    unbound : (fault : FileFault) → IsBindingFault holds job.card.binding fault → asked [] → new ≡ old
+        → ComesOfRun holds tells asked contents old new job (Err (File fault))
+    -- the file of the script is at fault: nothing is written
+    unopened : (fault : FileFault) → FailsToOpen holds tells job fault → asked (job.script.now ∷ []) → new ≡ old
+        → ComesOfRun holds tells asked contents old new job (Err (File fault))
+    -- memory is out before the script is played: nothing is written
+    memory : asked [] ⊎ asked (job.script.now ∷ []) → new ≡ old
+        → ComesOfRun holds tells asked contents old new job (Err Memory)
+    -- the script is played
+    played : (result : Played) → PlaysJob holds tells job (contents old) (contents new) result
+        → asked (job.script.now ∷ []) → ComesOfRun holds tells asked contents old new job result
+
+-- ---- a session
+
+-- what is written behind what stood there, and how it ends, is what the lines of a session come to on a new card with
+-- these limits, under this binding
+abbrev pub SessionComesTo : (List ℕ → Entry → Type 0) → Limits → Bound → (bytes before : List ℕ) → Option (List ℕ)
+    → Played → Type 0
+SessionComesTo holds limits binding bytes before now result =
+    HasHeld (IsImage holds) (HoldsCertificate holds) limits binding bytes before now (end_of_play result)
+
+-- the binding that the job names was read, and the lines of a reader were answered with its limits. What they come to
+-- is known where their bytes are, and what stood before
+pub record HoldsSession (holds : List ℕ → Entry → Type 0) (job : CardJob) (lines before now : Option (List ℕ))
+    (result : Played) : Type 0 where
+  pub binding : Bound
+  pub bound : IsBindingFor holds job.binding binding
+  pub held : (bytes earlier : List ℕ) → lines ≡ Some bytes → before ≡ Some earlier
+      → SessionComesTo holds job.limits binding bytes earlier now result
+
+-- what comes of a job of `session`, over a reader with these bytes left and a writer with these contents
+pub data ComesOfSession {R W : Type 0} (holds : List ℕ → Entry → Type 0) (remaining : R → Option (List ℕ))
+    (from to : R) (contents : W → Option (List ℕ)) (old new : W) (job : CardJob) : Played → Type 0 where
+  -- the file of the binding is at fault: nothing is read, and nothing is written
+  unbound : (fault : FileFault) → IsBindingFault holds job.binding fault → to ≡ from → new ≡ old
+      → ComesOfSession holds remaining from to contents old new job (Err (File fault))
+  -- memory is out before a line is read: nothing is read, and nothing is written
+  memory : to ≡ from → new ≡ old → ComesOfSession holds remaining from to contents old new job (Err Memory)
+  -- the session is held
+  held : (result : Played) → HoldsSession holds job (remaining from) (contents old) (contents new) result
+      → ComesOfSession holds remaining from to contents old new job result
+
+-- ---- what is said
+
+-- nothing is said of a play to its end
+abbrev pub IsSaidAtEnd : Played → Option Said → Type 0
+IsSaidAtEnd (Ok u) None = ⊤
+IsSaidAtEnd (Ok u) (Some said) = ⊥
+IsSaidAtEnd (Err fault) None = ⊥
+IsSaidAtEnd (Err fault) (Some said) = IsSaidOfPlay fault said
+
+-- it is said of a play of which this comes
+pub record IsSaidOf (comes : Played → Type 0) (said : Option Said) : Type 0 where
+  pub result : Played
+  pub is : comes result
+  pub told : IsSaidAtEnd result said

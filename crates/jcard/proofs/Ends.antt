@@ -69,6 +69,7 @@ module _ (images certificates : List ℕ → List ℕ → Type 0) (failed_at tol
       responses = runs_as told r.simulated.responses;
       accesses = r.simulated.accesses;
       apart = r.simulated.apart;
+      never_stuck = r.simulated.never_stuck;
     };
     now_is = r.now_is;
   }

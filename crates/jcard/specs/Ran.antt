@@ -7,9 +7,9 @@ use Rattle.jc_run.specs.Performs.{HasRun}
 use Rattle.jc_run.specs.Session.{HasHeld}
 use Rattle.jcard.specs.Binding.{IsBindingFault, IsBindingFor}
 use Rattle.jcard.specs.Files.{Entry, IsFaultAt}
-use Rattle.jcard.specs.FileSource.{HoldsCertificate, IsSourceFault}
+use Rattle.jcard.specs.FileSource.{HoldsCertificate, IsFaultOf, IsSourceFault}
 use Rattle.jcard.specs.Folders.{IsImage}
-use Rattle.jcard.specs.Play.{IsTold, end_of_play}
+use Rattle.jcard.specs.Play.{IsTold, end_of_play, fault_of_end}
 use Rattle.jcard.specs.Saying.{IsSaidOfPlay}
 use Rattle.jcard.specs.Scripts.{IsUnopened, Opening}
 use Rattle.jcard.specs.Scripts.Opening.{readable}
@@ -31,7 +31,8 @@ Played = Result (Unit {0}) PlayFault
 abbrev pub ScriptComesTo : (List ℕ → Entry → Type 0) → Limits → Bound → (bytes before : List ℕ) → Option (List ℕ)
     → Played → Type 0
 ScriptComesTo holds limits binding bytes before now result =
-    HasRun (IsImage holds) (HoldsCertificate holds) limits binding bytes before now (end_of_play result)
+    HasRun (IsImage holds) (HoldsCertificate holds) (fault_of_end (IsFaultOf holds) result) limits binding bytes before
+    now (end_of_play result)
 
 -- the binding that the job names was read, the script that it names was opened, and it was played with its limits. What
 -- it comes to is known where its bytes are, and what stood before

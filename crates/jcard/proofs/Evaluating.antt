@@ -28,8 +28,10 @@ Means Memory code bytes steps = ⊤
 -- an answer that comes only when it may is one for each of the directions
 is_answer : (answer : EvalAnswer) (code bytes : List ℕ) (steps : ℕ) → Means answer code bytes steps
     → (SpellsNone bytes → answer ≢ Memory → answer ≡ BadCertificate)
-    → ((rows : List Row) → SpellsCert bytes rows → (CertCarriesCode code rows → ⊥) → answer ≢ Memory → tells_fault answer ≡ true)
-    → ((rows : List Row) → SpellsCert bytes rows → CertCarriesCode code rows → answer ≢ Memory → tells_end answer ≡ true)
+    → ((rows : List Row) → SpellsCert bytes rows → (CertCarriesCode code rows → ⊥) → answer ≢ Memory
+    → tells_fault answer ≡ true)
+    → ((rows : List Row) → SpellsCert bytes rows → CertCarriesCode code rows → answer ≢ Memory
+    → tells_end answer ≡ true)
     → IsAnswer answer code bytes steps
 is_answer answer code bytes steps means unspelled uncarried carried =
     let M : EvalAnswer → Type 0 = λ a. Means a code bytes steps in

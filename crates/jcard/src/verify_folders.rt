@@ -13,8 +13,8 @@ use crate::saying::{Said, may_be_written, said_of_files, said_of_verified};
 use jc_packages::{VerifyAnswer, verify};
 use std::alloc::Global;
 
-/// What is said of a package. Its certificate is written first, if it gets one. Whatever comes of it, no other file than
-/// the certificate's is written.
+/// What is said of a package. Its certificate is written first, if it gets one. Whatever comes of it, no other file
+/// than the certificate's is written.
 pub fn said_of_job<F: Files>(files: &mut F, alloc: Global, job: &VerifyJob) -> Said
     ensures said { IsSaidOfJob (F.holds files.old) (IsWritten (F.has_written files.old) (F.has_written files.new))
         job.now result }

@@ -49,6 +49,14 @@ IsOfScript (scripts.Write error) = ⊤
 IsOfScript scripts.BadLimits = ⊤
 IsOfScript scripts.Memory = ⊥
 
+-- what is told of a session that ends: a fault of its own, and never a file's. A line whose files can't be read doesn't
+-- end it
+abbrev pub IsToldOfSession : PlayFault → Type 0
+IsToldOfSession (File fault) = ⊥
+IsToldOfSession (Load number fault) = ⊥
+IsToldOfSession (Script fault) = ⊤
+IsToldOfSession Memory = ⊥
+
 -- what is told of a script that is open, where a line names a package or a certificate that can't be read for one of
 -- these faults
 abbrev pub IsTold : (FileFault → Type 0) → PlayFault → Type 0

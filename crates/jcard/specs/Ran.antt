@@ -9,7 +9,7 @@ use Rattle.jcard.specs.Binding.{IsBindingFault, IsBindingFor}
 use Rattle.jcard.specs.Files.{Entry, IsFaultAt}
 use Rattle.jcard.specs.FileSource.{HoldsCertificate, IsFaultOf, IsSourceFault}
 use Rattle.jcard.specs.Folders.{IsImage}
-use Rattle.jcard.specs.Play.{IsTold, end_of_play, fault_of_end}
+use Rattle.jcard.specs.Play.{IsTold, IsToldOfSession, end_of_play, fault_of_end}
 use Rattle.jcard.specs.Saying.{IsSaidOfPlay}
 use Rattle.jcard.specs.Scripts.{IsUnopened, Opening}
 use Rattle.jcard.specs.Scripts.Opening.{readable}
@@ -87,6 +87,7 @@ pub record HoldsSession (holds : List ℕ → Entry → Type 0) (job : CardJob) 
   pub bound : IsBindingFor holds job.binding binding
   pub held : (bytes earlier : List ℕ) → lines ≡ Some bytes → before ≡ Some earlier
       → SessionComesTo holds job.limits binding bytes earlier now result
+  pub told : IfErr result IsToldOfSession
 
 -- what comes of a job of `session`, over a reader with these bytes left and a writer with these contents
 pub data ComesOfSession {R W : Type 0} (holds : List ℕ → Entry → Type 0) (remaining : R → Option (List ℕ))

@@ -7,7 +7,7 @@ ghost use Rattle.jc_run.specs.Play.{failures_at};
 ghost use Rattle.jc_run.specs.Session.{HasHeld};
 ghost use Rattle.jcard.specs.FileSource.{HoldsCertificate, IsFaultOf, IsSourceFault};
 ghost use Rattle.jcard.specs.Folders.{IsImage};
-ghost use Rattle.jcard.specs.Play.{IsTold, end_of_play, end_of_told, fault_of_end, fault_of_told};
+ghost use Rattle.jcard.specs.Play.{IsTold, IsToldOfSession, end_of_play, end_of_told, fault_of_end, fault_of_told};
 ghost use Rattle.jcard.specs.PrivateFileSource.{IsKeptOf, IsToldOfSome, TellsAll};
 ghost use Rattle.jcard.specs.PrivatePlay.{IsToldAt};
 
@@ -102,9 +102,10 @@ pub fn hold_session<F: Files, R: Read, W: Write, E: Write>(
     limits: Limits,
     binding: &Binding,
 ) -> Result<(), PlayFault>
-    ensures { (bytes before : List ℕ) → R.remaining reader.old ≡ Some bytes → W.contents writer.old ≡ Some before
+    ensures held { (bytes before : List ℕ) → R.remaining reader.old ≡ Some bytes → W.contents writer.old ≡ Some before
         → HasHeld (IsImage (F.holds files.now)) (HoldsCertificate (F.holds files.now)) limits binding.now
         bytes before (W.contents writer.new) (end_of_play result) }
+    ensures told { IfErr result IsToldOfSession }
 {
     let mut source: FileSource<'_, F, Brand> = FileSource::new(files);
     match run_session(alloc, reader, writer, &mut source, teller, limits, binding) {

@@ -13,5 +13,6 @@ pub returns : goal.returns
 returns g c = held c.hold_session.result (record {
   binding = c.in_ok-binding.binding;
   bound = c.in_ok-binding.ensures.bound;
-  held = c.hold_session.ensures;
+  held = c.hold_session.ensures.held;
+  told = c.hold_session.ensures.told;
 })

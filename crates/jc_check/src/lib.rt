@@ -25,6 +25,6 @@ pub use handler::Handler;
 pub use known::types_name_classes;
 pub use law::first_fault_laws;
 pub use method::{Method, WORD_LOCALS, WORD_MAX_STACK};
-pub use package::{Checked, check};
+pub use package::{Checked, carried_packages_are_typed, check};
 pub use package_method::method_of;
 pub use words::{CheckedWords, check_words};

@@ -6,6 +6,9 @@ ghost use Rattle.std.specs.Option.{option_map_or};
 ghost use Rattle.jc_cert.specs.Cert.{IsCert, Row, rows};
 ghost use Rattle.jc_check.specs.Checked.{CarriesPackage, IsMethodCarried, IsPackageCarried, IsPackageTyped, IsRefusal};
 ghost use Rattle.jc_check.specs.PrivateFirst.{IsUncarried, LeastOf};
+ghost use Rattle.jc_classes.specs.Limits.{IsSmall};
+ghost use Rattle.jc_link.specs.Built.{IsBuilt};
+ghost use Rattle.jc_link.specs.Linked.{Linked as LinkedPackage};
 
 use crate::fault::{Fault, MethodFault, WordFault};
 use crate::law::first_fault_laws;
@@ -173,16 +176,25 @@ fn first_refusal(alloc: Global, linked: &Linked, cert: &Cert) -> Result<(), Load
     package_refusal(alloc, linked, cert)
 }
 
-/// Each method with code of a linked package that is carried is well typed. It does nothing.
+/// A package of a world that was built is well typed where a certificate carries it: each of its methods with code is.
+/// It does nothing.
+pub fn carried_packages_are_typed()
+    ensures { (l : LinkedPackage) → IsBuilt l.world → IsSmall l.world → (of : List Row) → CarriesPackage l of
+        → IsPackageTyped l }
+{
+    built_worlds_are_sound();
+    order_laws();
+    listing_laws();
+    effects_keep_shapes();
+}
+
+/// So is a linked package that is carried. It does nothing.
 fn carried_is_typed(linked: &Linked)
     ensures { (of : List Row) → CarriesPackage linked.now of → IsPackageTyped linked.now }
 {
     // Only its contract counts: what always holds of a table.
     let _count = linked.table().len();
-    built_worlds_are_sound();
-    order_laws();
-    listing_laws();
-    effects_keep_shapes();
+    carried_packages_are_typed();
 }
 
 /// Checks that a certificate carries a linked package. The first refusal is told: of rows of the certificate for

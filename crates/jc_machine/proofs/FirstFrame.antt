@@ -40,7 +40,8 @@ use Rattle.jc_machine.specs.Accepted.{linked_as}
 use Rattle.jc_machine.specs.Lookup.{of_package}
 use Rattle.jc_machine.specs.Machine.{StaticValue}
 use Rattle.jc_machine.specs.Typed.{IsTyped, RunsTyped, StaticTyped, StaticsTyped}
-use Rattle.jc_machine.specs.TypedExamples.{applet_body, applet_world, idle_in, install_frame, new_heap, new_machine}
+use Rattle.jc_machine.specs.TypedExamples.{applet_body, applet_world, idle_in, install_frame, new_machine}
+use Rattle.jc_machine.specs.Runtime.{new_heap}
 use Rattle.jc_machine.proofs.NewMachines.{all_fit_in, computed_heap_typed, new_heap_has_them}
 
 pub applet_resolved : IsResolved applet_world.shapes 2 applet_body

@@ -5,6 +5,7 @@ use Rattle.std.proofs.lemmas.Option.{none-some, same_Some}
 use Rattle.std.specs.List.{AllByRecursion}
 use Rattle.std.specs.Option.{option_and_then}
 use Rattle.jc_code.specs.Targets.{target_of}
+use Rattle.jc_code.specs.declared.object.Form.{Form}
 use Rattle.jc_firewall.specs.Verdict.{verdict_of}
 use Rattle.jc_firewall.specs.declared.access.Access.{Access}
 use Rattle.jc_firewall.specs.declared.access.Verdict.{Verdict}
@@ -13,6 +14,7 @@ use Rattle.jc_link.specs.declared.target.PoolTarget.{PoolTarget}
 use Rattle.jc_store.specs.Heap.{Heap, Object, object_at}
 use Rattle.jc_names.specs.declared.owner.Owner.{Owner}
 use Rattle.jc_machine.specs.Apart.{SparesPlain, IsApart}
+use Rattle.jc_machine.specs.Arrays.{loaded_as, loads}
 use Rattle.jc_machine.specs.Going.{Here, accessed, accessed_to_store, asking, branches, by_verdict, check, facts_of}
 use Rattle.jc_machine.specs.Going.{gives, goes_on, goes_to, judged, jumps, leaves_operands, on_object, on_operands}
 use Rattle.jc_machine.specs.Going.{on_reference, on_reference_local, on_some, on_target, on_top, on_word, on_word_local}
@@ -144,6 +146,10 @@ at_pushed h v operands go k = at_check (nat_lt (length operands) h.max_stack) (g
 pub gives_still : {C : Type 0} {before : List Touch} (h : Here C) (v : TaggedValue) (operands : List TaggedValue)
     → KeepsLaw h.around h.machine before (gives h v operands)
 gives_still h v operands = at_pushed h v operands (leaves_operands h) (leaves_still h (v ∷ operands))
+
+pub loads_still : {C : Type 0} {before : List Touch} (h : Here C) (form : Form) (held : TaggedValue)
+    (operands : List TaggedValue) → KeepsLaw h.around h.machine before (loads h form held operands)
+loads_still h form held operands = at_some (loaded_as form held) _ (λ v e. gives_still h v operands)
 
 pub gives_changed : {C : Type 0} {around : Surroundings C} {m : Machine C} {before : List Touch} (h : Here C)
     (v : TaggedValue)

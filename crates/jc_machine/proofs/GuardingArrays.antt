@@ -5,13 +5,13 @@ use Rattle.jc_code.specs.declared.object.Form.TheVariants as Forms
 use Rattle.jc_firewall.specs.declared.access.Access.TheVariants.{ArrayLength, LoadComponent, StoreComponent}
 use Rattle.jc_firewall.specs.declared.access.Access.TheVariants.{StoreReference}
 use Rattle.jc_machine.specs.Arrays.{act_length, act_load, act_store, act_store_reference, act_store_word}
-use Rattle.jc_machine.specs.Arrays.{is_array_of, is_in_bounds, is_there, loaded_as, stored_as}
+use Rattle.jc_machine.specs.Arrays.{is_array_of, is_in_bounds, is_there, stored_as}
 use Rattle.jc_machine.specs.Going.{Here, asking, storing}
 use Rattle.jc_machine.specs.Lookup.{component_class, is_array, is_instance, leads_to}
 use Rattle.jc_machine.specs.Runtime.{array_index_exception, array_store_exception}
 use Rattle.jc_words.specs.Values.{Word}
 use Rattle.jc_machine.proofs.Guarding.{KeepsLaw, at_accessed, at_check, at_checked, at_object, at_reference}
-use Rattle.jc_machine.proofs.Guarding.{at_require, at_some, at_stored, at_word, gives_still}
+use Rattle.jc_machine.proofs.Guarding.{at_require, at_some, at_stored, at_word, gives_still, loads_still}
 use Rattle.jc_machine.proofs.StayingApart.{top_isnt_runtime}
 use Rattle.jc_machine.proofs.Storing.{asked_held, held_as}
 use Rattle.jc_machine.proofs.GuardingWrites.{stores}
@@ -21,7 +21,7 @@ load_keeps h form =
     at_word h.machine.top.operands _ (λ index us. at_reference us _ (λ array vs. at_object h array _ (λ number o there.
     at_check (is_array_of form o.kind.object) _ (at_accessed h LoadComponent number o there _ (λ fine.
     at_require h array_index_exception (is_in_bounds index o) _ (at_some (slice_get o.cells index) _ (λ v e.
-    gives_still h (loaded_as form v) vs)))))))
+    loads_still h form v vs)))))))
 
 store_word_keeps : {C : Type 0} (h : Here C) (form : Form) → KeepsLaw h.around h.machine [] (act_store_word h form)
 store_word_keeps h form =

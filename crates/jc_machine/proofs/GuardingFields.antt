@@ -14,7 +14,7 @@ use Rattle.jc_firewall.specs.declared.access.Facts.{Facts}
 use Rattle.jc_link.specs.declared.named.StaticPlace.{StaticPlace}
 use Rattle.jc_names.specs.declared.name.ClassName.{ClassName}
 use Rattle.jc_step.specs.Objects.{is_form_of}
-use Rattle.jc_machine.specs.Arrays.{loaded_as, stored_as}
+use Rattle.jc_machine.specs.Arrays.{stored_as}
 use Rattle.jc_machine.specs.Fields.{FieldTarget, InstanceField, act_field, act_get_static, act_instance, act_on_target}
 use Rattle.jc_machine.specs.Fields.{act_put_static, act_static, field_target, gets, of_class, of_objects, on_holder}
 use Rattle.jc_machine.specs.Fields.{put_static, puts, putting, static_at, stored_in_static}
@@ -26,8 +26,8 @@ use Rattle.jc_machine.specs.Lookup.{is_of_class, is_of_type}
 use Rattle.jc_machine.specs.Machine.{Machine, Stepped, Surroundings, Touch}
 use Rattle.jc_words.specs.Values.{Null, Ref, TaggedValue, Unset, Word}
 use Rattle.jc_machine.proofs.Guarding.{KeepsLaw, at_accessed, at_check, at_checked, at_object, at_reference}
-use Rattle.jc_machine.proofs.Guarding.{at_reference_local, at_some, at_stored, at_target, at_top, gives_still, goes}
-use Rattle.jc_machine.proofs.Guarding.{is_stuck, verdict_in}
+use Rattle.jc_machine.proofs.Guarding.{at_reference_local, at_some, at_stored, at_target, at_top, goes, is_stuck}
+use Rattle.jc_machine.proofs.Guarding.{loads_still, verdict_in}
 use Rattle.jc_machine.proofs.Storing.{any_type, asked_held, held_as, held_static, put_holds, short_held, typed_leads}
 use Rattle.jc_machine.proofs.GuardingHeaps.{nothing_changes}
 use Rattle.jc_machine.proofs.GuardingWrites.{stores}
@@ -39,7 +39,7 @@ get_static_keeps : {C : Type 0} (h : Here C) (form : Form) (place : StaticPlace)
     → KeepsLaw h.around h.machine [] (act_get_static h form place)
 get_static_keeps h form place =
     at_some (static_at h.machine.statics place.home place.offset) _ (λ s e.
-    gives_still h (loaded_as form s.value) h.machine.top.operands)
+    loads_still h form s.value h.machine.top.operands)
 
 -- what is stored has been accessed, if it is an object
 at_stored_value : {C : Type 0} (h : Here C) (v : TaggedValue) (s : Stepped C)
@@ -94,7 +94,7 @@ gets_keeps : {C : Type 0} (h : Here C) (form : Form) (field : InstanceField) (v 
 gets_keeps h form field v vs =
     at_object h v _ (λ number o there. at_check (is_of_class h.around.world.shapes field.class o.kind.object) _
     (at_accessed h GetField number o there _ (λ fine. at_some (slice_get o.cells field.cell) _ (λ value e.
-    gives_still h (loaded_as form value) vs))))
+    loads_still h form value vs))))
 
 putting_row : (form : Form) (f : Facts) → row_of (putting form) f ≡ fields
 putting_row Forms.Reference f = refl

@@ -17,7 +17,7 @@ use Rattle.jc_machine.specs.Apart.{IsApartAnswer, IsSetApart, SparesPlain, is_ap
 use Rattle.jc_machine.specs.Calls.{VirtualMember, active_in, after_native, called_as, callback_fits, calls_back}
 use Rattle.jc_machine.specs.Calls.{entered, enters, frame_of, has_room, inner_native_ends, is_in_place_of}
 use Rattle.jc_machine.specs.Calls.{accepts, is_member_or_loaded, native_answer, native_call, native_ends, native_gives}
-use Rattle.jc_machine.specs.Calls.{native_may_begin, native_type, on_native, previous_in, type_of_member}
+use Rattle.jc_machine.specs.Calls.{native_may_begin, native_type, on_native, previous_in, takes, type_of_member}
 use Rattle.jc_machine.specs.Calls.{virtual_member, with_given}
 use Rattle.jc_machine.specs.Going.{Here, check, moved, plain, stuck, throws, touched, with_machine}
 use Rattle.jc_machine.specs.Guarded.{AreGuarded, AreMade, IsCalledBack, IsJudged, as_owner, by_callback, by_frame}
@@ -81,7 +81,7 @@ pub enters_keeps : {C : Type 0} {before : List Touch} (h : Here C) (switch : Opt
     → KeepsLaw h.around h.machine before (enters h switch place arguments operands)
 enters_keeps h switch place arguments operands runs =
     at_some (option_and_then (λ d. d.method.header) (declared_at h.around.world place)) _ (λ (header : MethodHeader) e.
-    at_check (not header.is_abstract && accepts h place arguments) _
+    at_check (takes header arguments && accepts h place arguments) _
     (entered_keeps h
     (frame_of place header arguments (active_in h.machine.top switch) (previous_in h.machine.top switch))
     header.max_stack operands runs))

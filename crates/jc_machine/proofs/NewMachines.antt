@@ -31,9 +31,10 @@ use Rattle.jc_machine.specs.Accepted.{api_alone}
 use Rattle.jc_machine.specs.Reading.{Pointwise}
 use Rattle.jc_machine.specs.Lookup.{fields_of, fields_within, is_byte, of_package, own_fields}
 use Rattle.jc_machine.specs.Machine.{Frame, StaticValue}
-use Rattle.jc_machine.specs.Runtime.{HasRuntimeObject, HasRuntimeObjects, RuntimeObject, runtime_objects}
+use Rattle.jc_machine.specs.Runtime.{HasRuntimeObject, HasRuntimeObjects, RuntimeObject, made, new_heap}
+use Rattle.jc_machine.specs.Runtime.{runtime_objects}
 use Rattle.jc_machine.specs.Typed.{HeapTyped, IsTypedBeside, ObjectTyped, StaticsTyped, is_cell}
-use Rattle.jc_machine.specs.TypedExamples.{idle_in, made, new_heap, new_machine}
+use Rattle.jc_machine.specs.TypedExamples.{idle_in, new_machine}
 use Rattle.jc_words.specs.Values.{TaggedValue, Word}
 
 both : (a b : Bool) → (a && b) ≡ true → (a ≡ true) × (b ≡ true)

@@ -1,6 +1,6 @@
 -- The runtime's own objects, which it makes when a card is new, and keeps (Java Card Runtime Environment
 -- Specification, JCRE Entry Point Objects, Global Arrays; Java Card API Specification, AID, APDU, Applet.install).
-use Rattle.std.specs.Prelude.{◌≡◌, ℕ, List, ◌∷◌, length, map, Some, None}
+use Rattle.std.specs.Prelude.{◌≡◌, ℕ, List, ◌∷◌, length, map, replicate, Some, None}
 use Rattle.std.specs.List.{AllByRecursion, range_with_len}
 use Rattle.jc_api.specs.declared.class.ApiClass.{ApiClass}
 use Rattle.jc_api.specs.declared.class.ApiClass.TheVariants.{ArithmeticException, ArrayStoreException}
@@ -15,7 +15,7 @@ use Rattle.jc_store.specs.declared.kind.Mark.{Mark}
 use Rattle.jc_store.specs.declared.kind.Mark.TheVariants.{GlobalArray, PermanentEntryPoint, TemporaryEntryPoint}
 use Rattle.jc_store.specs.declared.kind.ObjectType.{ObjectType}
 use Rattle.jc_store.specs.declared.kind.ObjectType.TheVariants.{ByteArray, Instance}
-use Rattle.jc_words.specs.Values.{TaggedValue}
+use Rattle.jc_words.specs.Values.{TaggedValue, Word}
 
 -- ---- their numbers
 
@@ -99,6 +99,20 @@ runtime_objects =
     ∷ temporary apdu_exception ApduException 1 ∷ temporary apdu_object Apdu 0
     ∷ global_bytes apdu_buffer 261 ∷ global_bytes install_array 127
     ∷ map aid_object (range_with_len first_aid_object most_instances)
+
+-- one of them as it is made: it is the runtime's, and all its components are 0
+abbrev pub made : RuntimeObject → Object TaggedValue
+made wanted = record {
+  kind = record { object = wanted.type; mark = wanted.mark; clears = None };
+  owner = firewall.runtime;
+  cells = replicate wanted.size (Word 0);
+}
+
+-- the objects of a new card: these, and no others
+abbrev pub new_heap : Heap TaggedValue
+new_heap = map made runtime_objects
+
+-- ---- that they are there
 
 -- such an object is there: it is the runtime's, and no event clears it
 pub record HasRuntimeObject (heap : Heap TaggedValue) (wanted : RuntimeObject) : Type 0 where

@@ -1,35 +1,21 @@
 -- Machines that are well typed, as examples: one that was just made, and one that begins an applet's install.
-use Rattle.std.specs.Prelude.{[], ◌∷◌, List, map, replicate, None}
+use Rattle.std.specs.Prelude.{[], ◌∷◌, List, None}
 use Rattle.jc_api.specs.Bound.{default_binding}
 use Rattle.jc_base.specs.declared.declared_type.ReturnType.TheVariants.{Void}
 use Rattle.jc_classes.specs.Api.{api_world}
 use Rattle.jc_classes.specs.Growth.{grown}
-use Rattle.jc_firewall.specs.Verdict.{runtime}
 use Rattle.jc_link.specs.Applet.{applet}
 use Rattle.jc_link.specs.Kept.{kept_of}
 use Rattle.jc_link.specs.Linked.{LinkedBody, World}
 use Rattle.jc_link.specs.declared.target.PoolTarget.TheVariants.{Class, VirtualMethod}
 use Rattle.jc_names.specs.declared.name.ClassName.TheVariants.{Loaded}
-use Rattle.jc_store.specs.Heap.{Heap, Object}
 use Rattle.jc_machine.specs.Examples.{bounds, owner}
 use Rattle.jc_machine.specs.Idle.{idle}
 use Rattle.jc_machine.specs.Machine.{Frame, Machine, StaticValue, Surroundings}
-use Rattle.jc_machine.specs.Runtime.{RuntimeObject, install_array, runtime_objects}
-use Rattle.jc_words.specs.Values.{Ref, TaggedValue, Word}
+use Rattle.jc_machine.specs.Runtime.{install_array, new_heap}
+use Rattle.jc_words.specs.Values.{Ref, Word}
 
 -- ---- a machine that was just made
-
--- one of the runtime's own objects, as it is made: all its components are 0
-abbrev pub made : RuntimeObject → Object TaggedValue
-made wanted = record {
-  kind = record { object = wanted.type; mark = wanted.mark; clears = None };
-  owner = runtime;
-  cells = replicate wanted.size (Word 0);
-}
-
--- these objects, and nothing else
-abbrev pub new_heap : Heap TaggedValue
-new_heap = map made runtime_objects
 
 -- a machine with these objects, static fields and one frame
 abbrev pub new_machine : List (List StaticValue) → Frame → Machine (Unit {0})

@@ -25,10 +25,10 @@ ghost use Rattle.jc_link.specs.Built.{IsBuilt};
 ghost use Rattle.jc_machine.specs.Accepted.{api_alone};
 ghost use Rattle.jc_machine.specs.Running.{MayRun};
 ghost use Rattle.jc_machine.specs.Machine.{Frame};
-ghost use Rattle.jc_machine.specs.Runtime.{HasRuntimeObjects};
+ghost use Rattle.jc_machine.specs.Runtime.{HasRuntimeObjects, new_heap};
 ghost use Rattle.jc_machine.specs.Typed.{HeapTyped, IsTyped, IsTypedBeside};
 ghost use Rattle.jc_machine.specs.TypedExamples.{applet_body, applet_world, idle_in, install_frame};
-ghost use Rattle.jc_machine.specs.TypedExamples.{new_heap, new_machine};
+ghost use Rattle.jc_machine.specs.TypedExamples.{new_machine};
 ghost use Rattle.jc_link.specs.Linked.{IsResolved};
 
 use jc_link::{an_applet_is_well_formed, built_worlds_have_the_api};

@@ -20,7 +20,8 @@ use Rattle.jc_natives.specs.Meaning.{meaning}
 use Rattle.jc_safety.specs.Safety.{EndsTyped}
 use Rattle.jc_safety.specs.Starting.{CanBegin, IsTypedStart}
 use Rattle.jc_words.specs.Values.{TaggedValue}
-use Rattle.jc_card.proofs.TypedCalls.{CallLaws, ends_typed, start_on, typed_start}
+use Rattle.jc_card.proofs.TypedCalls.{ends_typed, start_on, typed_start}
+use Rattle.jc_card.specs.PrivateTyped.{CallLaws}
 use Rattle.jc_card.proofs.TypedCards.{left_typed}
 use Rattle.jc_card.specs.Card.{CardState, around, at_rest, left_by}
 use Rattle.jc_card.specs.Parts.{Normally, OutOfBudget, Uncaught, call_method, ended_call}

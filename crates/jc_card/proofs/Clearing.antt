@@ -15,7 +15,8 @@ use Rattle.jc_store.specs.Store.{Store, with_objects}
 use Rattle.jc_store.specs.declared.kind.ClearingEvent.{ClearingEvent}
 use Rattle.jc_store.specs.declared.kind.Kind.{Kind}
 use Rattle.jc_words.specs.Values.{Null, Ref, TaggedValue, Unset, Word}
-use Rattle.jc_card.proofs.TypedCards.{ZeroedTyped, cleared_typed}
+use Rattle.jc_card.proofs.TypedCards.{cleared_typed}
+use Rattle.jc_card.specs.PrivateTyped.{ZeroedTyped}
 use Rattle.jc_card.specs.Card.{CardState}
 use Rattle.jc_card.specs.Parts.{clear}
 use Rattle.jc_card.specs.Reads.{CardWords, GivesNothing, Holds, IsDone}

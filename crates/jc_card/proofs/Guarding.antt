@@ -13,7 +13,7 @@ use Rattle.jc_store.specs.Heap.{Heap, Object, object_at}
 use Rattle.jc_store.specs.declared.kind.ClearingEvent.TheVariants as events
 use Rattle.jc_words.specs.Values.{Ref, TaggedValue, Word}
 use Rattle.jc_card.proofs.Leading.{IsPart, got_first, part_guarded}
-use Rattle.jc_card.proofs.LeadingCalls.{StepsGuarded, call_part}
+use Rattle.jc_card.proofs.LeadingCalls.{call_part}
 use Rattle.jc_card.proofs.LeadingWrites.{clear_part, reset_part, write_part}
 use Rattle.jc_base.specs.declared.fault.LoadFault.{LoadFault}
 use Rattle.jc_safety.specs.Loading.{loaded_arrays, next_package}
@@ -30,6 +30,7 @@ use Rattle.jc_card.specs.Install as installs
 use Rattle.jc_card.specs.Load.{IsLoad}
 use Rattle.jc_card.specs.Parts.{Ended, Left, Normally, and_then, arguments_of, behind, call_applet, call_method}
 use Rattle.jc_card.specs.Parts.{call_on, call_selected, clear, gives, member_called, write}
+use Rattle.jc_card.specs.PrivateGuarded.{StepsGuarded}
 use Rattle.jc_card.specs.declared.calls.AppletCall.{AppletCall}
 use Rattle.jc_card.specs.declared.calls.AppletCall.TheVariants as calls
 use Rattle.jc_card.specs.declared.fault.InstallFault.TheVariants as faults
@@ -156,19 +157,20 @@ module _ (laws : StepsGuarded) where
 
   -- ---- selection
 
-  unselect_part : (order : Order) (c : CardState) → Fine order c (commands.unselect c)
-  unselect_part order c =
+  unselect_part : (order : Order) → calls_member order calls.Deselect ≡ true → (c : CardState)
+      → Fine order c (commands.unselect c)
+  unselect_part order deselects c =
       or_else order c c.selected
       (λ (owner : Owner). clear events.Deselect (Some owner.context) (with_selected c None)) (gives c tt)
       (λ owner is. clear_part laws events.Deselect (Some owner.context) c c.kept None order
-      (λ claims clearing. by_unselecting order c owner _ _ is clearing) (λ names. names))
+      (λ claims clearing. by_unselecting order c owner _ _ deselects is clearing) (λ names. names))
       (λ none. gives_part order c tt)
 
   deselect_part : (order : Order) → calls_member order calls.Deselect ≡ true → (c : CardState)
       → Fine order c (commands.deselect c)
   deselect_part order deselects c =
       then_part order c (call_selected c calls.Deselect) (λ c ended. commands.unselect c)
-      (selected_part order calls.Deselect deselects c) (λ d ended. unselect_part order d)
+      (selected_part order calls.Deselect deselects c) (λ d ended. unselect_part order deselects d)
 
   -- ---- a command
 
@@ -201,16 +203,6 @@ module _ (laws : StepsGuarded) where
         (then_part performs d (call_selected d calls.Process) commands.answered
         (selected_part performs calls.Process refl d) answered_part)
 
-    refused_part : (c : CardState) → Fine performs c (commands.refused c)
-    refused_part c =
-        then_part performs c (commands.unselect c) (λ c u. gives c (commands.status_alone not_selected))
-        (unselect_part performs c) (λ d u. gives_part performs d (commands.status_alone not_selected))
-
-    asked_part : (c : CardState) (ended : Ended) → Fine performs c (commands.asked c k ended)
-    asked_part c ended =
-        either performs c (commands.agrees ended) (commands.process c k true) (commands.refused c)
-        (process_part c true) (refused_part c)
-
     dispatch_part : (c : CardState) → Fine performs c (commands.dispatch c k)
     dispatch_part c =
         either performs c (is_some (selected_instance c)) (commands.process c k false)
@@ -222,10 +214,20 @@ module _ (laws : StepsGuarded) where
     abbrev selecting : Order
     selecting = Performs k (Some owner)
 
+    refused_part : (c : CardState) → Fine selecting c (commands.refused c)
+    refused_part c =
+        then_part selecting c (commands.unselect c) (λ c u. gives c (commands.status_alone not_selected))
+        (unselect_part selecting refl c) (λ d u. gives_part selecting d (commands.status_alone not_selected))
+
+    asked_part : (c : CardState) (ended : Ended) → Fine selecting c (commands.asked c k ended)
+    asked_part c ended =
+        either selecting c (commands.agrees ended) (commands.process c k true) (commands.refused c)
+        (process_part k (Some owner) c true) (refused_part c)
+
     ask_part : (c : CardState) → Fine selecting c (commands.ask c k)
     ask_part c =
         then_part selecting c (call_selected c calls.Select) (λ c ended. commands.asked c k ended)
-        (selected_part selecting calls.Select refl c) (asked_part k (Some owner))
+        (selected_part selecting calls.Select refl c) asked_part
 
     choose_part : (c : CardState) → c.selected ≡ None → Fine selecting c (commands.choose c owner k)
     choose_part c none =

@@ -1,7 +1,7 @@
 -- The install method of an applet can begin, and is called on words.
-use Rattle.std.proofs.Common.{◌≡◌, ◌<◌, ℕ, zero, suc, ◌-◌, List, [], ◌∷◌, ◌++◌, length, drop, replicate, cond, Bool}
+use Rattle.std.proofs.Common.{◌≡◌, ◌<◌, ℕ, zero, suc, ◌+◌, ◌-◌, ◌==◌, List, [], ◌∷◌, ◌++◌, length, drop, replicate, cond, Bool}
 use Rattle.std.proofs.Common.{true, false, not, ◌&&◌, nat_lt, Option, Some, Ok, Err, refl, sym, ap, ◌∙◌, subst, arith}
-use Rattle.std.proofs.lemmas.Bool.{le-ltb, lt-ltb}
+use Rattle.std.proofs.lemmas.Bool.{eq-eqb, le-ltb, lt-ltb}
 use Rattle.std.proofs.lemmas.List.{drop-replicate}
 use Rattle.std.specs.Option.{option_map_or}
 use Rattle.jc_base.specs.Signature.{Signature}
@@ -13,13 +13,16 @@ use Rattle.jc_base.specs.declared.declared_type.DeclaredType.TheVariants.{ShortA
 use Rattle.jc_base.specs.declared.declared_type.ReturnType.{ReturnType}
 use Rattle.jc_base.specs.declared.declared_type.ReturnType.TheVariants.{Value, Void}
 use Rattle.jc_cap_desc.specs.Across.{is_install_signature}
-use Rattle.jc_cap_desc.specs.Shape.{IsConcrete}
+use Rattle.jc_cap_desc.specs.Shape.{IsConcrete, Shape}
 use Rattle.jc_cap_method.specs.declared.header.MethodHeader.{MethodHeader}
+use Rattle.jc_classes.specs.Limits.{IsSmall}
 use Rattle.jc_classes.specs.Members.{DeclaredMethod, method_at}
 use Rattle.jc_classes.specs.Methods.{method_name}
+use Rattle.jc_link.specs.Built.{IsBuilt}
 use Rattle.jc_link.specs.Found.{signature_found}
 use Rattle.jc_link.specs.Linked.{HasInstall, IsKnown, LinkedBody, World}
 use Rattle.jc_link.specs.MemberType.{declared_type_of, type_class}
+use Rattle.jc_link.specs.Sound.{IsSound}
 use Rattle.jc_machine.specs.Lookup.{are_of_instance, are_of_types, body_at, is_byte_array, leads_to, may_begin_with}
 use Rattle.jc_machine.specs.Machine.{Surroundings}
 use Rattle.jc_machine.specs.Reading.{Pointwise, Reads}
@@ -66,21 +69,26 @@ module _ (find : ClassRef → Option ClassName) where
   abbrev signature : List (DeclaredType ClassRef) → ReturnType ClassRef → Signature ClassRef
   signature parameters result = record { parameters = parameters; result = result }
 
+  -- such a signature takes three values, of these types
+  record Installs (parameters : List (DeclaredType ClassRef)) (result : ReturnType ClassRef) : Type 0 where
+    found : signature_found find (signature parameters result) ≡ Some install_type
+    three : length parameters ≡ 3
+
   by_result : (result : ReturnType ClassRef) → is_install_signature (signature (ByteArray ∷ Short ∷ Byte ∷ [])
       result) ≡ true
-      → signature_found find (signature (ByteArray ∷ Short ∷ Byte ∷ []) result) ≡ Some install_type
-  by_result Void e = refl
+      → Installs (ByteArray ∷ Short ∷ Byte ∷ []) result
+  by_result Void e = record { found = refl; three = refl }
   by_result (Value type) e = never e
 
   by_fourth : (types : List (DeclaredType ClassRef)) (result : ReturnType ClassRef)
       → is_install_signature (signature (ByteArray ∷ Short ∷ Byte ∷ types) result) ≡ true
-      → signature_found find (signature (ByteArray ∷ Short ∷ Byte ∷ types) result) ≡ Some install_type
+      → Installs (ByteArray ∷ Short ∷ Byte ∷ types) result
   by_fourth [] result e = by_result result e
   by_fourth (t ∷ types) result e = never e
 
   by_third : (types : List (DeclaredType ClassRef)) (result : ReturnType ClassRef)
       → is_install_signature (signature (ByteArray ∷ Short ∷ types) result) ≡ true
-      → signature_found find (signature (ByteArray ∷ Short ∷ types) result) ≡ Some install_type
+      → Installs (ByteArray ∷ Short ∷ types) result
   by_third [] result e = never e
   by_third (Boolean ∷ types) result e = never e
   by_third (Byte ∷ types) result e = by_fourth types result e
@@ -93,7 +101,7 @@ module _ (find : ClassRef → Option ClassName) where
 
   by_second : (types : List (DeclaredType ClassRef)) (result : ReturnType ClassRef)
       → is_install_signature (signature (ByteArray ∷ types) result) ≡ true
-      → signature_found find (signature (ByteArray ∷ types) result) ≡ Some install_type
+      → Installs (ByteArray ∷ types) result
   by_second [] result e = never e
   by_second (Boolean ∷ types) result e = never e
   by_second (Byte ∷ types) result e = never e
@@ -106,7 +114,7 @@ module _ (find : ClassRef → Option ClassName) where
 
   install_found : (types : List (DeclaredType ClassRef)) (result : ReturnType ClassRef)
       → is_install_signature (signature types result) ≡ true
-      → signature_found find (signature types result) ≡ Some install_type
+      → Installs types result
   install_found [] result e = never e
   install_found (Boolean ∷ types) result e = never e
   install_found (Byte ∷ types) result e = never e
@@ -128,6 +136,7 @@ record IsInstall (w : World) (number install : ℕ) : Type 0 where
   header_is : declared.method.header ≡ Some header
   concrete : header.is_abstract ≡ false
   type : declared_type_of w.shapes declared ≡ Some install_type
+  three : length declared.method.signature.parameters ≡ 3
 
 named : (n offset : ℕ) → method_name (suc (suc n)) offset ≡ Loaded (suc n) offset
 named n offset =
@@ -149,19 +158,24 @@ is_install w (suc n) install body e known h =
     let same : x.declared ≡ h.declared = same_declared x.declared h.declared
     (sym x.there ∙ ap (λ o. method_at w.shapes (method_name (home_at (suc n)) o)) coded.offset_is ∙ h.there) in
     let concrete = subst (λ (d : DeclaredMethod). IsConcrete d.method) same x.concrete in
-    let m = h.declared.method in record {
+    let m = h.declared.method in
+    let its = install_found (type_class w.shapes (home_of h.declared.class)) m.signature.parameters m.signature.result
+    h.installs in
+    record {
       declared = h.declared;
       found = found;
       static = h.static;
       header = concrete.header;
       header_is = concrete.there;
       concrete = concrete.concrete;
-      type =
-          install_found (type_class w.shapes (home_of h.declared.class)) m.signature.parameters m.signature.result
-          h.installs;
+      type = its.found;
+      three = its.three;
     }
 
 -- ---- it can begin
+
+abbrev AreSound : Type 0
+AreSound = (world : List Shape) → IsSmall world → IsBuilt world → IsSound world
 
 module _ (c : CardState) (t : IsTypedCard c) (place : AppletPlace) (owner : Owner) (size : ℕ)
     (short : size < 65536) (known : IsInstallPlace c.world place) where
@@ -210,14 +224,27 @@ module _ (c : CardState) (t : IsTypedCard c) (place : AppletPlace) (owner : Owne
     arguments = arguments;
   }
 
-  pub can_begin : MethodCanBegin around_it its_start (record { number = place.number; offset = place.install })
-  can_begin = record {
+  -- its header counts them
+  counted : AreSound → (length arguments == (its.header).nargs) ≡ true
+  counted sound =
+      let have = (sound c.world.shapes t.accepted.small t.accepted.world.built).methods in
+      eq-eqb (length arguments) (its.header).nargs
+      (sym (have.words (Loaded place.number place.install) its.declared its.header its.found its.header_is
+      ∙ ap (λ (b : Bool). cond b (length its.declared.method.signature.parameters) (length
+      its.declared.method.signature.parameters + 1)) its.static
+      ∙ its.three))
+
+  pub can_begin : AreSound
+      → MethodCanBegin around_it its_start (record { number = place.number; offset = place.install })
+  can_begin sound = record {
     declared = its.declared;
     found = its.found;
     header = its.header;
     header_is = its.header_is;
     begins =
-        ap (λ (b : Bool). not b && may_begin_with c.world.shapes c.heap its.declared arguments) its.concrete ∙ fits;
+        ap (λ (b : Bool). (not b && length arguments == (its.header).nargs) && may_begin_with c.world.shapes c.heap
+        its.declared arguments) its.concrete
+        ∙ ap (λ (b : Bool). b && may_begin_with c.world.shapes c.heap its.declared arguments) (counted sound) ∙ fits;
   }
 
 -- ---- and is called on words

@@ -12,6 +12,7 @@ use Rattle.jc_words.specs.Values.{TaggedValue}
 use Rattle.jc_card.proofs.TypedCards.{kept_typed}
 use Rattle.jc_card.specs.Card.{CardState, with_kept}
 use Rattle.jc_card.specs.Parts.{gives}
+use Rattle.jc_card.specs.PrivateTyped.{BeginsFitting}
 use Rattle.jc_card.specs.Reads.{CardWords, GivesNothing, Holds, IsDone}
 
 -- bytes by their places are bytes
@@ -84,12 +85,6 @@ kept_changed k c h change fits =
 pub is_number : (number used : ℕ) → number ≡ suc used → number ≤ 32 → is_instance_number number ≡ true
 is_number number used next most =
     ap (λ (b : Bool). b && nat_le number 32) (le-leb 1 number (omega (arith, next))) ∙ le-leb number 32 most
-
--- an instance with the next number is being installed
-abbrev pub BeginsFitting : Type 0
-BeginsFitting = (w : World) (heap : Heap TaggedValue) (kept : Kept) → meaning.fits w heap kept ≡ true
-    → (owner : Owner) (aid : List ℕ) → is_aid aid ≡ true → is_instance_number owner.instance ≡ true
-    → meaning.fits w heap (with_install kept owner aid) ≡ true
 
 pub number_taken : (k : CardWords) (c : CardState) (h : Holds k c) → BeginsFitting → (owner : Owner) (aid : List ℕ)
     → is_aid aid ≡ true → owner.instance ≡ suc k.numbers → owner.instance ≤ 32

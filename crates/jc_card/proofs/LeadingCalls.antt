@@ -48,33 +48,7 @@ use Rattle.jc_card.proofs.Leading.{IsPart}
 use Rattle.jc_card.specs.Order.Leads.{by_call}
 use Rattle.jc_card.specs.Card.{CardState, around}
 use Rattle.jc_card.specs.Parts.{Ended, ended, ended_call}
-
--- what is known of each step, and of each native member
-pub record StepsGuarded : Type 0 where
-  pub members : AreNativesGuarded meaning
-  pub steps : (s : Surroundings Kept) → AreNativesGuarded s.natives → (m : Machine Kept) → IsGuarded s m
-  pub kept : (s : Surroundings Kept) → AreNativesGuarded s.natives → (m after : Machine Kept)
-      → machine_of (defensive_step s m).outcome ≡ Some after → KeepsObjects m.heap after.heap
-  pub apart_members : AreNativesApart names_applets meaning
-  pub apart_steps : (s : Surroundings Kept) → AreNativesGuarded s.natives → AreNativesApart names_applets s.natives
-      → HaveApiMembers s.world.shapes → (m : Machine Kept) → IsApart names_applets m → StaysApart names_applets s m
-  pub apart_objects : (before after : Heap TaggedValue) (owner : Owner) → IsSetApart before
-      → KeepsObjects before after → is_applets owner ≡ true → AddsFor owner before after → HoldStorable after
-      → IsSetApart after
-  pub held : (before after : Heap TaggedValue) → KeepsObjects before after → (v : TaggedValue)
-      → may_be_held before v ≡ true → may_be_held after v ≡ true
-  pub fields : (before after : Heap TaggedValue) → KeepsObjects before after → (statics : List (List StaticValue))
-      → FieldsHoldStorable before statics → FieldsHoldStorable after statics
-  pub words : (heap : Heap TaggedValue) → HoldStorable heap → (number from : ℕ) (words : List ℕ)
-      → HoldStorable (put_all heap number from (map Word words))
-  pub api : (world : List Shape) → IsBuilt world → HaveApiMembers world
-  pub begun : (k : Kept) → names_applets k ≡ true → (owner : Owner) (aid : List ℕ) → is_applets owner ≡ true
-      → is_instance_number owner.instance ≡ true → names_applets (with_install k owner aid) ≡ true
-  pub over : (k : Kept) → names_applets k ≡ true → (succeeds : Bool)
-      → names_applets (after_install k succeeds) ≡ true
-  pub opened : (k : Kept) → names_applets k ≡ true → (incoming : List ℕ) (expected : ℕ) (selecting : Bool)
-      → names_applets (with_command k incoming expected selecting) ≡ true
-  pub closed : (k : Kept) → names_applets k ≡ true → names_applets (without_command k) ≡ true
+use Rattle.jc_card.specs.PrivateGuarded.{StepsGuarded}
 
 module _ (laws : StepsGuarded) (c : CardState) (owner : Owner) where
   abbrev s : Surroundings Kept

@@ -7,7 +7,7 @@ use Rattle.jc_names.specs.declared.owner.Owner.{Owner}
 use Rattle.jc_store.specs.Heap.{is_same_event}
 use Rattle.jc_store.specs.declared.kind.Mark.TheVariants.{Plain}
 use Rattle.jc_card.proofs.Leading.{keeps_self}
-use Rattle.jc_card.proofs.LeadingCalls.{StepsGuarded}
+use Rattle.jc_card.specs.PrivateGuarded.{StepsGuarded}
 use Rattle.jc_card.specs.Accesses.{AllCleared, IsApartCard, law_of_accesses, law_of_plain_objects}
 use Rattle.std.proofs.Common.{arith}
 use Rattle.std.proofs.Math.Seq.{length-sets, sets}

@@ -7,7 +7,7 @@ use Rattle.jc_interp.specs.Agree.{AreNumbered, IsNumbered}
 use Rattle.jc_loaded.specs.Classes.{HasNumber, class_number}
 use Rattle.jc_machine.specs.Lookup.{class_of}
 use Rattle.jc_machine.specs.Reading.{HeapReads, Pointwise, Reads}
-use Rattle.jc_machine.specs.TypedExamples.{new_heap}
+use Rattle.jc_machine.specs.Runtime.{new_heap}
 use Rattle.jc_names.specs.declared.name.ClassName.{ClassName}
 use Rattle.jc_store.specs.Heap.{Heap, Object, object_at}
 use Rattle.jc_store.specs.Store.{Store, with_made}

@@ -8,7 +8,8 @@ use Rattle.jc_machine.specs.Accepted.{IsAccepted, api_alone}
 use Rattle.jc_machine.specs.Machine.{Frame}
 use Rattle.jc_machine.specs.Reading.{Pointwise}
 use Rattle.jc_machine.specs.Typed.{IsTypedBeside}
-use Rattle.jc_machine.specs.TypedExamples.{idle_in, new_heap, new_machine}
+use Rattle.jc_machine.specs.Runtime.{new_heap}
+use Rattle.jc_machine.specs.TypedExamples.{idle_in, new_machine}
 use Rattle.jc_natives.specs.Kept.{nothing_kept}
 use Rattle.jc_natives.specs.Meaning.{meaning}
 use Rattle.jc_store.specs.Store.{Store}

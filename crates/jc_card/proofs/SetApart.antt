@@ -17,9 +17,8 @@ use Rattle.jc_link.specs.Built.{IsBuilt, api, loaded}
 use Rattle.jc_link.specs.Linked.{IsLinkedFrom, Linked, LinkedBody}
 use Rattle.jc_machine.specs.Apart.{IsRuntimes, IsSetApart, has_no_code}
 use Rattle.jc_machine.specs.Natives.{KeepsObjects}
-use Rattle.jc_machine.specs.Runtime.{HasRuntimeObjects, RuntimeObject, aid_object, first_aid_object, most_instances}
+use Rattle.jc_machine.specs.Runtime.{HasRuntimeObjects, RuntimeObject, aid_object, first_aid_object, made, most_instances, new_heap}
 use Rattle.jc_machine.specs.Runtime.{runtime_objects}
-use Rattle.jc_machine.specs.TypedExamples.{made, new_heap}
 use Rattle.jc_safety.specs.Loading.{loaded_array, loaded_arrays, mark_of_arrays, next_package, owner_of_arrays}
 use Rattle.jc_safety.specs.Loading.{type_of_array}
 use Rattle.jc_store.specs.Heap.{Heap, Object, object_at}

@@ -41,17 +41,12 @@ use Rattle.jc_words.specs.Values.{Ref, TaggedValue}
 use Rattle.jc_card.proofs.TypedCards.{left_typed}
 use Rattle.jc_card.specs.Card.{CardState, around}
 use Rattle.jc_card.specs.Parts.{arguments_of, call_applet, call_method, call_on, ended_call, member_called}
+use Rattle.jc_card.specs.PrivateTyped.{CallLaws, Laws}
 use Rattle.jc_card.specs.Typed.{GivesTyped, IsTypedCard}
 use Rattle.jc_card.specs.declared.calls.AppletCall.{AppletCall}
 use Rattle.jc_card.specs.declared.calls.AppletCall.TheVariants.{Select, Deselect, Process}
 
 -- ---- calls of methods
-
--- the laws that each call stands on
-pub record CallLaws : Type 0 where
-  pub lawful : IsLawful meaning
-  pub calls : (s : Surroundings Kept) → MayRun s → (steps : ℕ) (start : Start Kept) → IsTypedStart s start
-      → EndsTyped s (runtime_call s steps start).ends
 
 -- how a call is begun on a card
 abbrev pub start_on : CardState → Owner → MethodName → List TaggedValue → Start Kept
@@ -169,18 +164,6 @@ of_applet Deselect = of_number 37 [] refl refl refl refl
 of_applet Process = of_number 38 (Reference (Api Apdu) ∷ []) refl refl refl refl
 
 -- ---- calls of applets
-
--- the laws that a call of an applet stands on
-pub record Laws : Type 0 where
-  pub sound : (world : List Shape) → IsSmall world → IsBuilt world → IsSound world
-  pub order : (world : List Shape) → IsOrderly world → superclass_of world (Api ObjectClass) ≡ None
-      → IsOrder (is_class_below world)
-  pub call : CallLaws
-  pub declared : (world : List Shape) → IsBuilt world → (number : ℕ) (member : ApiMember)
-      → member_of number ≡ Some member → type_of_member world number ≡ Some (declared_signature member)
-  pub members : (s : Surroundings Kept) → MayRun s → (start : Start Kept)
-      → IsTypedBeside s (standing start (no_frame start.owner)) → (member : ℕ) (object : Object TaggedValue)
-      → IsMemberCall s start member object → FindsMethod s start member object
 
 module _ (laws : Laws) (c : CardState) (t : IsTypedCard c) (i : Instance) (call : AppletCall)
     (fits : fits_instance c.world.shapes c.heap i ≡ true) where

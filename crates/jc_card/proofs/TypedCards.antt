@@ -12,9 +12,9 @@ use Rattle.jc_machine.specs.Accepted.{IsAccepted, api_alone}
 use Rattle.jc_machine.specs.Machine.{Frame, Machine, Surroundings}
 use Rattle.jc_machine.specs.Natives.{IsLawful}
 use Rattle.jc_machine.specs.Running.{MayRun}
-use Rattle.jc_machine.specs.Runtime.{most_instances}
+use Rattle.jc_machine.specs.Runtime.{most_instances, new_heap}
 use Rattle.jc_machine.specs.Typed.{IsTypedBeside}
-use Rattle.jc_machine.specs.TypedExamples.{idle_in, new_heap, new_machine}
+use Rattle.jc_machine.specs.TypedExamples.{idle_in, new_machine}
 use Rattle.jc_names.specs.declared.owner.Owner.{Owner}
 use Rattle.jc_natives.specs.Cells.{put_all}
 use Rattle.jc_natives.specs.Kept.{Kept, instance_of, is_same_owner, nothing_kept}
@@ -31,6 +31,7 @@ use Rattle.jc_card.proofs.Heaps.{new_object, put_some}
 use Rattle.jc_card.specs.Card.{CardState, around, at_rest, left_by, selected_instance, with_heap, with_selected}
 use Rattle.jc_card.specs.Load.{IsLoad, has_room, with_package}
 use Rattle.jc_card.specs.New.{new_card}
+use Rattle.jc_card.specs.PrivateTyped.{KeepsTyped, ZeroedTyped}
 use Rattle.jc_card.specs.Typed.{IsTypedCard}
 use Rattle.jc_card.specs.declared.limits.Limits.{Limits}
 
@@ -121,13 +122,6 @@ selected_fits c t i e = by_owner c.selected e
 
 -- ---- what the runtime writes
 
--- a byte that is written to an array of bytes leaves all typed
-abbrev pub KeepsTyped : Type 0
-KeepsTyped = (s : Surroundings Kept) → MayRun s → (m : Machine Kept) → IsTypedBeside s m
-    → (number index byte : ℕ) (object : Object TaggedValue) → object_at m.heap number ≡ Some object
-    → object.kind.object ≡ ByteArray → byte < 256
-    → IsTypedBeside s (machine_with_heap m (with_object m.heap number (with_cell object index (Word byte))))
-
 module _ (stays : KeepsTyped) (s : Surroundings Kept) (may : MayRun s) (number : ℕ) where
   all_typed : (bytes : List ℕ) → ((n : ℕ) → get_or bytes n 0 < 256) → (m : Machine Kept) → IsTypedBeside s m
       → (from : ℕ) (object : Object TaggedValue) → object_at m.heap number ≡ Some object
@@ -149,39 +143,17 @@ pub written_typed : IsLawful meaning → KeepsTyped → (c : CardState) → IsTy
     → object.kind.object ≡ ByteArray → IsTypedCard (with_heap c (put_all c.heap number 0 (map Word bytes)))
 written_typed lawful stays c t number bytes are object there kind =
     let may : MayRun (around c None) = record { accepted = t.accepted; natives = lawful } in
-    let b = all_typed stays (around c None) may number bytes are (at_rest c) t.beside 0 object there kind in record {
-      accepted = t.accepted;
-      beside = record {
-        heap = b.heap;
-        statics = b.statics;
-        runtime_objects = b.runtime_objects;
-        fits = b.fits;
-      };
-      numbers = t.numbers;
-      cells = t.cells;
-    }
+    left_typed c t None (machine_with_heap (at_rest c) (put_all c.heap number 0 (map Word bytes)))
+    (all_typed stays (around c None) may number bytes are (at_rest c) t.beside 0 object there kind)
 
 -- ---- clearing
-
-abbrev pub ZeroedTyped : Type 0
-ZeroedTyped = (s : Surroundings Kept) → MayRun s → (m : Machine Kept) → IsTypedBeside s m
-    → (test : Object TaggedValue → Bool) → IsTypedBeside s (machine_with_heap m (zeroed_where test m.heap))
 
 pub cleared_typed : IsLawful meaning → ZeroedTyped → (c : CardState) → IsTypedCard c → (event : ClearingEvent)
     (context : Option ℕ) → IsTypedCard (with_heap c (zeroed_where (is_cleared_by event context) c.heap))
 cleared_typed lawful stays c t event context =
     let may : MayRun (around c None) = record { accepted = t.accepted; natives = lawful } in
-    let b = stays (around c None) may (at_rest c) t.beside (is_cleared_by event context) in record {
-      accepted = t.accepted;
-      beside = record {
-        heap = b.heap;
-        statics = b.statics;
-        runtime_objects = b.runtime_objects;
-        fits = b.fits;
-      };
-      numbers = t.numbers;
-      cells = t.cells;
-    }
+    left_typed c t None (machine_with_heap (at_rest c) (zeroed_where (is_cleared_by event context) c.heap))
+    (stays (around c None) may (at_rest c) t.beside (is_cleared_by event context))
 
 -- ---- loads, and new cards
 

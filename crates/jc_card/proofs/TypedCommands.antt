@@ -20,10 +20,10 @@ use Rattle.jc_card.proofs.Bytes.{AreLow, IsCommand, buffer_low, bytes_low, comma
 use Rattle.jc_card.proofs.Bytes.{parameters_short}
 use Rattle.jc_card.proofs.Finding.{place_known}
 use Rattle.jc_card.proofs.Installing.{arguments, can_begin}
-use Rattle.jc_card.proofs.Keeping.{BeginsFitting, bytes_are}
+use Rattle.jc_card.proofs.Keeping.{bytes_are}
 use Rattle.jc_card.proofs.Owners.{next_number_fits, not_refused_few}
-use Rattle.jc_card.proofs.TypedCalls.{Laws, applet_typed, method_typed}
-use Rattle.jc_card.proofs.TypedCards.{KeepsTyped, ZeroedTyped, cleared_typed, kept_typed, selected_fits}
+use Rattle.jc_card.proofs.TypedCalls.{applet_typed, method_typed}
+use Rattle.jc_card.proofs.TypedCards.{cleared_typed, kept_typed, selected_fits}
 use Rattle.jc_card.proofs.TypedCards.{selected_typed, written_typed}
 use Rattle.jc_card.proofs.Worlds.{Stays, StaysIn, deselect_stays}
 use Rattle.jc_card.proofs.Written.{has_buffer, has_parameters}
@@ -34,6 +34,7 @@ use Rattle.jc_card.specs.Install as installs
 use Rattle.jc_card.specs.Parts.{Ended, Left, Normally, and_then, behind, call_applet, call_selected, clear, gives}
 use Rattle.jc_card.specs.Parts.{write}
 use Rattle.jc_card.specs.PrivateWords.{HasBytes, IsInstallPlace}
+use Rattle.jc_card.specs.PrivateTyped.{CommandLaws}
 use Rattle.jc_card.specs.Typed.{GivesTyped, IsTypedCard}
 use Rattle.jc_card.specs.declared.calls.AppletCall.{AppletCall}
 use Rattle.jc_card.specs.declared.calls.AppletCall.TheVariants as calls
@@ -88,20 +89,6 @@ not_long c instance incoming e =
     (installs.refused_if (nat_le most_instances c.numbers) faults.NoInstance None)) e)
 
 -- ---- laws
-
--- the laws that each command stands on: of calls, of what the runtime does to objects, and of what it keeps
-pub record CommandLaws : Type 0 where
-  pub applets : Laws
-  pub byte : KeepsTyped
-  pub zeroed : ZeroedTyped
-  pub begun : BeginsFitting
-  pub over : (w : World) (heap : Heap TaggedValue) (k : Kept) → meaning.fits w heap k ≡ true → (succeeds : Bool)
-      → meaning.fits w heap (after_install k succeeds) ≡ true
-  pub opened : (w : World) (heap : Heap TaggedValue) (k : Kept) → meaning.fits w heap k ≡ true
-      → (incoming : List ℕ) (expected : ℕ) (selecting : Bool) → are_bytes incoming ≡ true → length incoming ≤ 255
-      → expected < 256 → meaning.fits w heap (with_command k incoming expected selecting) ≡ true
-  pub closed : (w : World) (heap : Heap TaggedValue) (k : Kept) → meaning.fits w heap k ≡ true
-      → meaning.fits w heap (without_command k) ≡ true
 
 module _ (laws : CommandLaws) where
   -- ---- calls, clearing and writing
@@ -218,7 +205,7 @@ module _ (laws : CommandLaws) where
       → IsInstallPlace c.world place → GivesTyped (installs.call_install c place owner size)
   begun_typed c t place owner size short known =
       method_typed laws.applets.call c t owner.context owner (Loaded place.number place.install)
-      (arguments c t place owner size short known) (can_begin c t place owner size short known)
+      (arguments c t place owner size short known) (can_begin c t place owner size short known laws.applets.sound)
 
   module _ (applet instance incoming : List ℕ) (aid : is_aid applet ≡ true) (whose : is_aid instance ≡ true)
       (bytes : are_bytes incoming ≡ true) (few : length incoming ≤ 108) where

@@ -10,7 +10,8 @@ use Rattle.jc_store.specs.Store.{Store, with_objects}
 use Rattle.jc_store.specs.declared.kind.Kind.{Kind}
 use Rattle.jc_card.proofs.Heaps.{read_length, was, written_reads}
 use Rattle.jc_card.proofs.Thrown.{Across, across}
-use Rattle.jc_card.proofs.TypedCards.{KeepsTyped, written_typed}
+use Rattle.jc_card.proofs.TypedCards.{written_typed}
+use Rattle.jc_card.specs.PrivateTyped.{KeepsTyped}
 use Rattle.jc_card.specs.Card.{CardState}
 use Rattle.jc_card.specs.Parts.{write}
 use Rattle.jc_card.specs.PrivateWords.{HasBytes}

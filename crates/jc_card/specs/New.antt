@@ -3,7 +3,7 @@
 use Rattle.std.specs.Prelude.{ℕ, ◌&&◌, nat_le, nat_lt, Bool, [], None, length}
 use Rattle.jc_api.specs.Bound.{Bound}
 use Rattle.jc_machine.specs.Accepted.{api_alone}
-use Rattle.jc_machine.specs.TypedExamples.{new_heap}
+use Rattle.jc_machine.specs.Runtime.{new_heap}
 use Rattle.jc_natives.specs.Kept.{nothing_kept}
 use Rattle.jc_store.specs.Heap.{cells_in}
 use Rattle.jc_card.specs.Card.{CardState}

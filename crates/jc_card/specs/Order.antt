@@ -199,11 +199,12 @@ pub record IsClearing (c : CardState) (event : ClearingEvent) (context : Option 
 -- ---- one part after the other
 
 -- what is asked for, a card, the accesses that are made then, and the card behind them. Nothing is done, or one part
--- after the other. Of any order: a method is called; and who is selected isn't any more, once the arrays of that context
--- which are cleared on deselect are. A command writes words into the APDU buffer, it is kept what it brought and what it
--- was answered, and it selects the instance that it names, where none is selected. An installation begins where none is,
--- with the next number; it writes words into the array of an install; and it settles, with the arrays of its own context
--- cleared. Behind a reset all arrays are, and none is selected
+-- after the other. Whatever is asked for may call methods (IsCallOf). What may call deselect may select nobody any more,
+-- once the arrays of that context which are cleared on deselect are. A command writes words into the APDU buffer, it is
+-- kept what it brought and what it was answered, and it selects the instance that it names, where none is selected. An
+-- installation begins where none is, with the next number; it writes words into the array of an install; and it settles,
+-- with the arrays of its own context cleared. Behind a reset all arrays are, and none is selected. What is refused at
+-- once has no part
 pub data Leads (claims : Claims) : Order → CardState → List Touch → CardState → Type 0 where
   nowhere : (order : Order) (c : CardState) → Leads claims order c [] c
   onward : (order : Order) (c between after : CardState) (touches more : List Touch)
@@ -223,7 +224,8 @@ pub data Leads (claims : Claims) : Order → CardState → List Touch → CardSt
   by_selecting : (k : Command) (owner : Owner) (c : CardState) → c.selected ≡ None
       → Leads claims (Performs k (Some owner)) c [] (with_selected c (Some owner))
   by_unselecting : (order : Order) (c : CardState) (owner : Owner) (touches : List Touch) (heap : Heap TaggedValue)
-      → c.selected ≡ Some owner → IsClearing c events.Deselect (Some owner.context) touches heap
+      → calls_member order calls.Deselect ≡ true → c.selected ≡ Some owner
+      → IsClearing c events.Deselect (Some owner.context) touches heap
       → Leads claims order c touches (with_heap (with_selected c None) heap)
   by_beginning : (applet : List ℕ) (place : AppletPlace) (owner : Owner) (c : CardState) → c.selected ≡ None
       → owner ≡ next_owner c place → Leads claims (Installs applet place owner) c []

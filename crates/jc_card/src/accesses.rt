@@ -13,6 +13,7 @@ ghost use Rattle.jc_card.specs.Install.{install_command};
 ghost use Rattle.jc_card.specs.Load.{IsLoad};
 ghost use Rattle.jc_card.specs.New.{new_card};
 ghost use Rattle.jc_card.specs.Order.{Resets, apdu_order, install_order};
+ghost use Rattle.jc_card.specs.PrivateGuarded.{StepsGuarded};
 ghost use Rattle.jc_card.specs.declared.limits.Limits.{Limits};
 ghost use Rattle.jc_machine.specs.Machine.{Touch};
 ghost use Rattle.jc_store.specs.Heap.{Heap};
@@ -24,6 +25,19 @@ use jc_machine::{
 };
 use jc_natives::{Runtime, members_are_guarded, members_stay_apart, written_words_are_held};
 use jc_safety::api_runs_its_own_code;
+
+/// What is known of each step and of each native member, in one record. It does nothing.
+fn steps_are_guarded()
+    ensures { StepsGuarded }
+{
+    members_are_guarded();
+    members_stay_apart();
+    held_values_stay();
+    written_words_are_held();
+    accesses_are_guarded(&Runtime::new());
+    steps_stay_apart(&Runtime::new());
+    api_runs_its_own_code();
+}
 
 /// The law of accesses, of each command on each card. What a command does to objects is done part by part: by calls of
 /// the instance that is selected or installed, whose context counts as the selected one; by words that the runtime
@@ -42,13 +56,7 @@ pub fn commands_are_guarded()
     ensures load { (c after : CardState) (image certificate : List ℕ) (result : Result ℕ LoadFault)
         → IsLoad c image certificate result after → LeavesObjects c.heap after.heap }
 {
-    members_are_guarded();
-    members_stay_apart();
-    held_values_stay();
-    written_words_are_held();
-    accesses_are_guarded(&Runtime::new());
-    steps_stay_apart(&Runtime::new());
-    api_runs_its_own_code();
+    steps_are_guarded();
 }
 
 /// The runtime's name is its own, on a card that is new and behind each command: no code of packages runs as the
@@ -67,13 +75,8 @@ pub fn commands_stay_apart()
     ensures load { (c after : CardState) (image certificate : List ℕ) (result : Result ℕ LoadFault) → IsApartCard c
         → IsLoad c image certificate result after → IsApartCard after }
 {
-    members_are_guarded();
-    members_stay_apart();
+    steps_are_guarded();
     held_values_stay();
-    written_words_are_held();
-    accesses_are_guarded(&Runtime::new());
-    steps_stay_apart(&Runtime::new());
-    api_runs_its_own_code();
     runtime_objects_stay();
     new_machines_are_typed();
 }

@@ -26,6 +26,7 @@ use crate::writing::{INSTALL_ARRAY, INSTALL_SIZE};
 use arrayvec::ArrayVec;
 use jc_base::Aid;
 use jc_interp::{FirstCall, RunEnd};
+use jc_link::built_worlds_are_sound;
 use jc_loaded::{Called, Program};
 use jc_machine::Natives;
 use jc_names::Owner;
@@ -124,6 +125,7 @@ impl Card {
         requires place { IsInstallPlace self.old.world place }
         ensures { Does self.old self.new (ReadsEnded result) (λ c. call_install c place owner size) }
     {
+        built_worlds_are_sound();
         self.runtime.law();
         accepted_packages_are_type_safe(&self.runtime);
         let called = called_at(&self.program, place);

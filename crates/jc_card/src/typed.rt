@@ -10,6 +10,7 @@ ghost use Rattle.jc_card.specs.Commands.{apdu_command, reset_command};
 ghost use Rattle.jc_card.specs.Install.{install_command};
 ghost use Rattle.jc_card.specs.Load.{IsLoad};
 ghost use Rattle.jc_card.specs.New.{new_card};
+ghost use Rattle.jc_card.specs.PrivateTyped.{CommandLaws};
 ghost use Rattle.jc_card.specs.Typed.{GivesTyped, IsTypedCard};
 ghost use Rattle.jc_card.specs.declared.limits.Limits.{Limits};
 ghost use Rattle.jc_machine.specs.Accepted.{IsAccepted};
@@ -20,6 +21,19 @@ use jc_link::built_worlds_are_sound;
 use jc_machine::{Natives, accepted_worlds_grow, new_machines_are_typed};
 use jc_natives::{Runtime, calls_keep_fitting, loads_keep_fitting, members_are_declared};
 use jc_safety::{accepted_packages_are_type_safe, loads_stay_typed, objects_stay_typed};
+
+/// The laws by which the parts of commands leave cards typed, in one record. It does nothing.
+fn parts_stay_typed()
+    ensures { CommandLaws }
+{
+    built_worlds_are_sound();
+    superclass_laws();
+    members_are_declared();
+    Runtime::new().law();
+    accepted_packages_are_type_safe(&Runtime::new());
+    objects_stay_typed(&Runtime::new());
+    calls_keep_fitting();
+}
 
 /// No command on a card of the defensive machine is stuck, whatever was done to the card before. A card that is new is
 /// typed. On a typed card each command gives an answer, and leaves a typed card: bytes of a reader, whatever they are;
@@ -37,12 +51,7 @@ pub fn commands_are_never_stuck()
     ensures load { (c after : CardState) (image certificate : List ℕ) (result : Result ℕ LoadFault) → IsTypedCard c
         → IsLoad c image certificate result after → IsAccepted after.world → IsTypedCard after }
 {
-    built_worlds_are_sound();
-    superclass_laws();
-    members_are_declared();
-    Runtime::new().law();
-    accepted_packages_are_type_safe(&Runtime::new());
-    objects_stay_typed(&Runtime::new());
+    parts_stay_typed();
     loads_stay_typed(&Runtime::new());
     calls_keep_fitting();
     loads_keep_fitting();

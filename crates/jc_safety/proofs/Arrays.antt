@@ -26,21 +26,22 @@ use Rattle.jc_types.specs.Ty.{is_below}
 use Rattle.jc_types.specs.declared.ty.Ty.{Ty}
 use Rattle.jc_types.specs.declared.ty.Ty.TheVariants as types
 use Rattle.jc_machine.specs.Arrays.{act_length, act_load, act_store_reference, act_store_word, is_array_of}
-use Rattle.jc_machine.specs.Arrays.{is_in_bounds, loaded_as, stored_as}
-use Rattle.jc_machine.specs.Going.{Here, accessed, check, gives, on_object, on_some, require}
+use Rattle.jc_machine.specs.Arrays.{is_in_bounds, loads, stored_as}
+use Rattle.jc_machine.specs.Going.{Here, accessed, check, on_object, on_some, require}
 use Rattle.jc_machine.specs.Lookup.{class_of, component_class, is_array, is_byte, is_instance, is_of_class}
 use Rattle.jc_machine.specs.Lookup.{is_short_array, is_word, leads_to}
 use Rattle.jc_firewall.specs.declared.access.Access.TheVariants.{ArrayLength, LoadComponent, StoreComponent}
 use Rattle.jc_firewall.specs.declared.access.Access.TheVariants.{StoreReference}
 use Rattle.jc_machine.specs.Machine.{Machine, Surroundings}
 use Rattle.jc_machine.specs.Runtime.{array_index_exception, array_store_exception}
-use Rattle.jc_machine.specs.Typed.{CellsTyped, HoldTypes, IsOperand, IsTyped, has_type}
-use Rattle.jc_words.specs.Shorts.{low_byte, short, signed_byte}
-use Rattle.jc_words.specs.Values.{Null, Ref, TaggedValue, Unset, Word, is_reference, is_written}
+use Rattle.jc_machine.specs.Typed.{CellsTyped, HoldTypes, IsTyped, has_type}
+use Rattle.jc_words.specs.Shorts.{low_byte, short}
+use Rattle.jc_words.specs.Values.{Null, Ref, TaggedValue, Unset, Word, is_reference}
 use Rattle.jc_safety.proofs.Below.{instance_below}
-use Rattle.jc_safety.proofs.Bounds.{byte_bound, low_bound}
+use Rattle.jc_safety.proofs.Bounds.{low_bound}
 use Rattle.jc_safety.proofs.Ground.{Ground}
 use Rattle.jc_safety.proofs.Lists.{both, each_at, each_set, get_within}
+use Rattle.jc_safety.proofs.Loads.{IsLoaded, byte_loaded, reference_loaded, safe_loads, short_loaded}
 use Rattle.jc_safety.proofs.Rows.{LeadsTo, below, here, gives_it, held, leaves_stored, locals_still, met_by, most}
 use Rattle.jc_safety.proofs.Rows.{orders, safe_accessed, safe_null, safe_required, safe_to_store, state, world}
 use Rattle.jc_safety.proofs.Safe.{IsSafe, safe_check, safe_some}
@@ -49,7 +50,7 @@ use Rattle.jc_safety.proofs.Taking.{Applied, Meets, any_object, leaves_nothing, 
 use Rattle.jc_safety.proofs.Taking.{take_two, word_case}
 use Rattle.jc_safety.proofs.Thrown.{array_index, array_store}
 use Rattle.jc_safety.proofs.Upward.{holds_below, leads_up}
-use Rattle.jc_safety.proofs.Writing.{IsNumber, byte_number, ref_case, typed_at}
+use Rattle.jc_safety.proofs.Writing.{byte_number, ref_case, typed_at, word_number}
 
 -- an index within an array
 in_bounds : (index : ℕ) (o : heaps.Object TaggedValue) → is_in_bounds index o ≡ true → index < length o.cells
@@ -57,51 +58,26 @@ in_bounds index o e =
     let b = both (not (int_lt (short index) (pos 0))) (nat_lt index (length o.cells)) e in
     ltb-true index (length o.cells) b.1
 
--- a reference was written
-leads_written : (heap : Heap TaggedValue) (test : ObjectType → Bool) (v : TaggedValue) → leads_to heap test v ≡ true
-    → is_written v ≡ true
-leads_written heap test (Word n) e = refl
-leads_written heap test (Ref n) e = refl
-leads_written heap test Null e = refl
-leads_written heap test Unset e = absurd cc
-
 -- ---- what arrays of a form hold
 
 -- what a component of an array of bytes or shorts is loaded as
 loaded_number : (world : List Shape) (heap : Heap TaggedValue) (form : Form) (cells : List TaggedValue) (o : ObjectType)
     → (v : TaggedValue) (n : ℕ) → CellsTyped world heap cells o → is_array_of form o ≡ true
     → component_loaded form ≡ Exactly types.Word → slice_get cells n ≡ Some v
-    → IsOperand world heap (loaded_as form v) types.Word
+    → IsLoaded world heap form v types.Word
 loaded_number world heap Forms.Reference cells o v n h is word e = absurd cc
 loaded_number world heap Forms.Byte cells (Instance c) v n h is word e = absurd cc
 loaded_number world heap Forms.Byte cells BooleanArray v n h is word e =
-    as_loaded v (byte_number v (each_at (λ v. is_byte v ≡ true) cells n v h e))
-  where
-    as_loaded : (v : TaggedValue) → IsNumber 256 v → IsOperand world heap (loaded_as Forms.Byte v) types.Word
-    as_loaded v k =
-        subst (λ (x : TaggedValue). IsOperand world heap (loaded_as Forms.Byte x) types.Word) (sym k.is)
-        (record { type = lt-ltb (signed_byte k.number) 65536 (byte_bound k.number); written = refl })
+    byte_loaded world heap v (byte_number v (each_at (λ v. is_byte v ≡ true) cells n v h e))
 loaded_number world heap Forms.Byte cells ByteArray v n h is word e =
-    as_loaded v (byte_number v (each_at (λ v. is_byte v ≡ true) cells n v h e))
-  where
-    as_loaded : (v : TaggedValue) → IsNumber 256 v → IsOperand world heap (loaded_as Forms.Byte v) types.Word
-    as_loaded v k =
-        subst (λ (x : TaggedValue). IsOperand world heap (loaded_as Forms.Byte x) types.Word) (sym k.is)
-        (record { type = lt-ltb (signed_byte k.number) 65536 (byte_bound k.number); written = refl })
+    byte_loaded world heap v (byte_number v (each_at (λ v. is_byte v ≡ true) cells n v h e))
 loaded_number world heap Forms.Byte cells ShortArray v n h is word e = absurd cc
 loaded_number world heap Forms.Byte cells (ReferenceArray c) v n h is word e = absurd cc
 loaded_number world heap Forms.Short cells (Instance c) v n h is word e = absurd cc
 loaded_number world heap Forms.Short cells BooleanArray v n h is word e = absurd cc
 loaded_number world heap Forms.Short cells ByteArray v n h is word e = absurd cc
 loaded_number world heap Forms.Short cells ShortArray v n h is word e =
-    let has = each_at (λ v. is_word v ≡ true) cells n v h e in
-    record { type = has; written = word_written v has }
-  where
-    word_written : (v : TaggedValue) → is_word v ≡ true → is_written v ≡ true
-    word_written (Word n) e = refl
-    word_written (Ref n) e = refl
-    word_written Null e = refl
-    word_written Unset e = absurd cc
+    short_loaded world heap v (word_number v (each_at (λ v. is_word v ≡ true) cells n v h e))
 loaded_number world heap Forms.Short cells (ReferenceArray c) v n h is word e = absurd cc
 
 -- a low byte is a byte, and is stored as one
@@ -177,12 +153,12 @@ module _ {C : Type 0} (s : Surroundings C) (ground : Ground s) (m : Machine C) (
   -- from an array that is there
   from_array : (form : Form) (us vs : List TaggedValue) (index n : ℕ) (o : heaps.Object TaggedValue)
       → object_at m.heap n ≡ Some o → is_array_of form o.kind.object ≡ true
-      → ((v : TaggedValue) → slice_get o.cells index ≡ Some v → IsSafe s (gives (at us) (loaded_as form v) vs))
+      → ((v : TaggedValue) → slice_get o.cells index ≡ Some v → IsSafe s (loads (at us) form v vs))
       → IsSafe s (on_object (at us) (Ref n) (λ number object.
       check (is_array_of form object.kind.object)
       (accessed (at us) LoadComponent number object
       (require (at us) array_index_exception (is_in_bounds index object)
-      (on_some (slice_get object.cells index) (λ v. gives (at us) (loaded_as form v) vs))))))
+      (on_some (slice_get object.cells index) (λ v. loads (at us) form v vs))))))
   from_array form us vs index n o found is go =
       safe_some s (object_at m.heap n) o _ found
       (safe_check s (is_array_of form o.kind.object) _ is
@@ -209,10 +185,11 @@ module _ {C : Type 0} (s : Surroundings C) (ground : Ground s) (m : Machine C) (
       (safe_null s ground m t d next (Word index ∷ Null ∷ vs))
       (λ n o found is.
       from_array form (Word index ∷ Ref n ∷ vs) vs index n o found is (λ v there.
-      gives_it s ground m t d next (array_of form ∷ word ∷ []) (Word index ∷ Ref n ∷ vs) vs (loaded_as form v)
-      types.Word after a
-      (loaded_number shapes m.heap form o.cells o.kind.object v index (object_typed n o found) is numbers there)
-      rest leads))))
+      let l = loaded_number shapes m.heap form o.cells o.kind.object v index (object_typed n o found) is numbers there
+      in
+      safe_loads s (at (Word index ∷ Ref n ∷ vs)) form v vs shapes m.heap types.Word l
+      (gives_it s ground m t d next (array_of form ∷ word ∷ []) (Word index ∷ Ref n ∷ vs) vs l.value types.Word after a
+      l.operand rest leads)))))
 
   -- of references
   abbrev pub references : Row
@@ -248,7 +225,7 @@ module _ {C : Type 0} (s : Surroundings C) (ground : Ground s) (m : Machine C) (
   component_typed : (tu : Ty) (n : ℕ) (o : heaps.Object TaggedValue) (index : ℕ) (v : TaggedValue)
       → is_below (below s ground m t) tu (types.ReferenceArray (Api api.Object)) ≡ true
       → has_type shapes m.heap (Ref n) tu ≡ true → object_at m.heap n ≡ Some o → slice_get o.cells index ≡ Some v
-      → IsOperand shapes m.heap v (component_of tu)
+      → IsLoaded shapes m.heap Forms.Reference v (component_of tu)
   component_typed types.Top n o index v b h found e = absurd cc
   component_typed types.Word n o index v b h found e = absurd cc
   component_typed types.Null n o index v b h found e = absurd cc
@@ -258,7 +235,7 @@ module _ {C : Type 0} (s : Surroundings C) (ground : Ground s) (m : Machine C) (
   component_typed types.ShortArray n o index v b h found e = absurd cc
   component_typed (types.ReferenceArray c) n o index v b h found e =
       let has = component_has c o.kind.object o.cells index v (ref_holds c n o found h) (object_typed n o found) e in
-      record { type = has; written = leads_written m.heap (is_of_class shapes c) v has }
+      reference_loaded shapes m.heap (is_of_class shapes c) (component_of (types.ReferenceArray c)) v has has
 
   pub load_reference : (vs : List TaggedValue) (us : List Ty) (after_it : Types) → HoldTypes shapes m.heap vs us
       → Applied (below s ground m t) (most s ground m t) references (record { locals = (state s ground m t).locals; operands = us }) after_it
@@ -284,12 +261,14 @@ module _ {C : Type 0} (s : Surroundings C) (ground : Ground s) (m : Machine C) (
       (λ has. safe_null s ground m t d next (Word index ∷ Null ∷ vs))
       (λ n o found is has.
       from_array Forms.Reference (Word index ∷ Ref n ∷ vs) vs index n o found is (λ v there.
-      safe_gives s ground m t d (most s ground m t) next (Word index ∷ Ref n ∷ vs) after_it v vs
+      let l = component_typed tu n o index v array_met.0 has found there in
+      safe_loads s (at (Word index ∷ Ref n ∷ vs)) Forms.Reference v vs shapes m.heap (component_of tu) l
+      (safe_gives s ground m t d (most s ground m t) next (Word index ∷ Ref n ∷ vs) after_it l.value vs
       (room_left shapes m.heap (most s ground m t) 2 (ti ∷ tu ∷ us) vs a.enough a.room h.1.1)
       (locals_still s ground m t after_it.locals (ap (λ (x : Types). x.locals) left))
-      (held s ground m t (component_of tu ∷ us) after_it.operands (v ∷ vs) (ap (λ (x : Types). x.operands) left)
-      (component_typed tu n o index v array_met.0 has found there, h.1.1))
-      leads))
+      (held s ground m t (component_of tu ∷ us) after_it.operands (l.value ∷ vs) (ap (λ (x : Types). x.operands) left)
+      (l.operand, h.1.1))
+      leads)))
       h.1.0.type)
 
   -- ---- a component is stored

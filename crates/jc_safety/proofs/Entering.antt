@@ -18,7 +18,7 @@ use Rattle.jc_store.specs.Heap.{Heap}
 use Rattle.jc_types.specs.State.{Types}
 use Rattle.jc_types.specs.declared.ty.Ty.{Ty}
 use Rattle.jc_machine.specs.Accepted.{linked_as}
-use Rattle.jc_machine.specs.Calls.{accepts, active_in, entered, enters, frame_of, has_room, previous_in}
+use Rattle.jc_machine.specs.Calls.{accepts, active_in, entered, enters, frame_of, has_room, previous_in, takes}
 use Rattle.jc_machine.specs.Going.{Here, check, moved, plain, throws}
 use Rattle.jc_machine.specs.Lookup.{body_at, code_at, declared_at, instruction_at, may_begin_with}
 use Rattle.jc_machine.specs.Machine.{Frame, Machine, MethodPlace, Next, Stepped, Surroundings, UsedUp}
@@ -27,8 +27,9 @@ use Rattle.jc_machine.specs.Runtime.{HasRuntimeObjects}
 use Rattle.jc_machine.specs.Typed.{HaveTypes, HeapTyped, HoldTypes, IsEffect, IsPlaced, IsTyped, IsTypedBeside}
 use Rattle.jc_machine.specs.Typed.{StaticsTyped, WaitsTyped, given_by, with_result_type}
 use Rattle.jc_words.specs.Values.{TaggedValue}
-use Rattle.jc_safety.proofs.Callees.{MayCall, abstract_is, begins_typed, its_body, its_header, not_so, runs}
-use Rattle.jc_safety.proofs.Callees.{same_declared, the_some}
+use Rattle.jc_safety.proofs.Callees.{MayCall, abstract_is, begins_typed, its_body, its_header, runs, same_declared}
+use Rattle.jc_safety.proofs.Callees.{the_some}
+use Rattle.jc_safety.proofs.Counted.{takes_them}
 use Rattle.jc_safety.proofs.Goes.{placed}
 use Rattle.jc_safety.proofs.Ground.{Ground, MethodOf, method_of_code}
 use Rattle.jc_safety.proofs.Growing.{keeps_self, operands_still, types_still, waiting_still}
@@ -192,17 +193,19 @@ module _ {C : Type 0} (s : Surroundings C) (ground : Ground s) (m : Machine C) (
         of.found in
         let fit = subst (λ (x : DeclaredMethod). HaveTypes shapes heap arguments (arguments_of shapes x)) same
         (begins_typed shapes heap may.declared arguments may.begins) in
+        let begins = subst (λ (x : DeclaredMethod). may_begin_with shapes heap x arguments ≡ true) same may.begins in
         let given = sym (ap (result_of shapes) same) ∙ may.given in
         safe_some s (option_and_then (λ (x : DeclaredMethod). x.method.header) (declared_at s.world place)) of.header
         (λ header.
-        check (not header.is_abstract && accepts (at us) place arguments) (entered (at us) (frame_of place header arguments
+        check (takes header arguments && accepts (at us) place arguments) (entered (at us) (frame_of place header arguments
         (active_in (still us) switch) (previous_in (still us) switch)) header.max_stack vs))
         (ap (option_and_then (λ (x : DeclaredMethod). x.method.header)) of.found ∙ of.header_is)
-        (safe_check s (not of.header.is_abstract && accepts (at us) place arguments)
+        (safe_check s (takes of.header arguments && accepts (at us) place arguments)
         (entered (at us) (frame_of place of.header arguments (active_in (still us) switch) (previous_in
         (still us) switch)) of.header.max_stack vs)
-        (and_true (not of.header.is_abstract) (accepts (at us) place arguments)
-        (not_so of.header.is_abstract of.concrete)
+        (and_true (takes of.header arguments) (accepts (at us) place arguments)
+        (takes_them shapes heap ground.sound.methods (Loaded number offset) of.declared of.header arguments of.found
+        of.header_is of.concrete begins)
         (ap (λ (o : Option DeclaredMethod). option_map_or (λ (d : DeclaredMethod). may_begin_with shapes heap d arguments)
         o false) may.there ∙ may.begins))
         (entered_safe place l.0 l.1 c.0 c.1 typed of arguments fit result given us vs site

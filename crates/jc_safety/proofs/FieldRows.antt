@@ -30,7 +30,7 @@ use Rattle.jc_store.specs.Heap as heaps
 use Rattle.jc_store.specs.Heap.{Heap, object_at}
 use Rattle.jc_types.specs.State.{Types}
 use Rattle.jc_types.specs.Ty.{type_of_declared}
-use Rattle.jc_machine.specs.Arrays.{loaded_as, stored_as}
+use Rattle.jc_machine.specs.Arrays.{stored_as}
 use Rattle.jc_machine.specs.Fields.{act_field, act_get_static, act_on_target, act_put_static, field_target, of_class}
 use Rattle.jc_machine.specs.Fields.{of_objects, put_static, static_at, stored_in_static, with_static}
 use Rattle.jc_machine.specs.Going.{Here, check, leaves_operands, on_some, on_top}
@@ -43,6 +43,7 @@ use Rattle.jc_safety.proofs.Goes.{arrives, placed}
 use Rattle.jc_safety.proofs.Ground.{Ground}
 use Rattle.jc_safety.proofs.Growing.{keeps_self}
 use Rattle.jc_safety.proofs.Returning.{of_declared}
+use Rattle.jc_safety.proofs.Loads.{safe_loads}
 use Rattle.jc_safety.proofs.Rows as rows
 use Rattle.jc_safety.proofs.Safe.{IsSafe, safe_check, safe_some}
 use Rattle.jc_safety.proofs.StaticWrites.{put_typed}
@@ -103,10 +104,11 @@ module _ {C : Type 0} (s : Surroundings C) (ground : Ground s) (m : Machine C) (
     get_static form after_it of_form a leads =
         let x = value_there s.world m.heap m.statics t.beside.statics place declared said in
         let kept = value_typed s.world m.heap m.statics t.beside.statics place declared said x.0 x.1 in
+        let l = loaded_typed shapes m.heap form declared (x.0).value of_form kept in
         safe_some s (static_at m.statics place.home place.offset) x.0 _ x.1
-        (rows.gives_it s ground m t d next [] m.top.operands m.top.operands (loaded_as form (x.0).value)
-        (type_of_declared declared) after_it a (loaded_typed shapes m.heap form declared (x.0).value of_form kept)
-        t.top.operands_typed leads)
+        (safe_loads s (at m.top.operands) form (x.0).value m.top.operands shapes m.heap (type_of_declared declared) l
+        (rows.gives_it s ground m t d next [] m.top.operands m.top.operands l.value (type_of_declared declared) after_it a
+        l.operand t.top.operands_typed leads))
 
     -- the field is put, and the frame goes on
     put_it : (form : Form) (us vs : List TaggedValue) (v : TaggedValue) (after_it : Types)

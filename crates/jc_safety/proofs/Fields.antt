@@ -28,22 +28,22 @@ use Rattle.jc_types.specs.State.{Types}
 use Rattle.jc_types.specs.Ty.{is_below, type_of_declared}
 use Rattle.jc_types.specs.declared.ty.Ty.{Ty}
 use Rattle.jc_types.specs.declared.ty.Ty.TheVariants as types
-use Rattle.jc_machine.specs.Arrays.{loaded_as, stored_as}
+use Rattle.jc_machine.specs.Arrays.{loads, stored_as}
 use Rattle.jc_machine.specs.Fields.{InstanceField, gets, puts, putting}
 use Rattle.jc_machine.specs.Going.{Here, check, gives, on_reference, on_reference_local, on_top}
 use Rattle.jc_machine.specs.Lookup.{fields_of, is_byte, is_kept_as, is_of_class, is_of_type, is_word, leads_to}
 use Rattle.jc_machine.specs.Machine.{Machine, Surroundings}
-use Rattle.jc_machine.specs.Typed.{CellsTyped, HaveTypes, HoldTypes, IsOperand, IsTyped, has_type, is_cell}
-use Rattle.jc_words.specs.Shorts.{low_byte, signed_byte}
+use Rattle.jc_machine.specs.Typed.{CellsTyped, HaveTypes, HoldTypes, IsTyped, has_type, is_cell}
+use Rattle.jc_words.specs.Shorts.{low_byte}
 use Rattle.jc_words.specs.Values.{Null, Ref, TaggedValue, Unset, Word, is_reference}
 use Rattle.jc_safety.proofs.Blank.{no_field}
-use Rattle.jc_safety.proofs.Bounds.{byte_bound, low_bound}
+use Rattle.jc_safety.proofs.Bounds.{low_bound}
 use Rattle.jc_safety.proofs.Goes.{placed, room_left, safe_gives}
 use Rattle.jc_safety.proofs.Locals.{local_there, local_type, reads_nothing, reads_one}
 use Rattle.jc_safety.proofs.Upward.{type_up}
 use Rattle.jc_safety.proofs.Ground.{Ground}
 use Rattle.jc_safety.proofs.Lists.{across, put_points}
-use Rattle.jc_safety.proofs.References.{leads_written}
+use Rattle.jc_safety.proofs.Loads.{IsLoaded, byte_loaded, reference_loaded, safe_loads, short_loaded}
 use Rattle.jc_safety.proofs.Returning.{of_declared}
 use Rattle.jc_safety.proofs.Rows as rows
 use Rattle.jc_safety.proofs.Safe.{IsSafe, safe_check, safe_some}
@@ -53,35 +53,20 @@ use Rattle.jc_safety.proofs.Writing.{IsNumber, byte_number, ref_case, typed_at, 
 -- ---- what a field holds, as it is loaded and stored
 
 module _ (world : List Shape) (heap : Heap TaggedValue) where
-  number_typed : (v : TaggedValue) → IsNumber 65536 v → IsOperand world heap v types.Word
-  number_typed v k =
-      subst (λ (x : TaggedValue). IsOperand world heap x types.Word) (sym k.is)
-      (record { type = lt-ltb k.number 65536 k.small; written = refl })
-
-  byte_typed : (v : TaggedValue) → IsNumber 256 v → IsOperand world heap (loaded_as Forms.Byte v) types.Word
-  byte_typed v k =
-      subst (λ (x : TaggedValue). IsOperand world heap (loaded_as Forms.Byte x) types.Word) (sym k.is)
-      (record { type = lt-ltb (signed_byte k.number) 65536 (byte_bound k.number); written = refl })
-
-  reference_typed : (test : ObjectType → Bool) (u : Ty) (v : TaggedValue) → leads_to heap test v ≡ true
-      → has_type world heap v u ≡ true → IsOperand world heap v u
-  reference_typed test u v h k = record { type = k; written = leads_written heap test v h }
-
   -- of a form's fields
   pub loaded_typed : (form : Form) (declared : DeclaredType ClassName) (v : TaggedValue)
       → is_form_of form declared ≡ true → is_kept_as world heap declared v ≡ true
-      → IsOperand world heap (loaded_as form v) (type_of_declared declared)
+      → IsLoaded world heap form v (type_of_declared declared)
   loaded_typed Forms.Reference Declared.Boolean v f h = absurd cc
   loaded_typed Forms.Reference Declared.Byte v f h = absurd cc
   loaded_typed Forms.Reference Declared.Short v f h = absurd cc
-  loaded_typed Forms.Reference (Declared.Reference c) v f h = record { type = h; written = leads_written heap _ v h }
-  loaded_typed Forms.Reference Declared.BooleanArray v f h = record { type = h; written = leads_written heap _ v h }
-  loaded_typed Forms.Reference Declared.ByteArray v f h = record { type = h; written = leads_written heap _ v h }
-  loaded_typed Forms.Reference Declared.ShortArray v f h = record { type = h; written = leads_written heap _ v h }
-  loaded_typed Forms.Reference (Declared.ReferenceArray c) v f h =
-      record { type = h; written = leads_written heap _ v h }
-  loaded_typed Forms.Byte Declared.Boolean v f h = byte_typed v (byte_number v h)
-  loaded_typed Forms.Byte Declared.Byte v f h = byte_typed v (byte_number v h)
+  loaded_typed Forms.Reference (Declared.Reference c) v f h = reference_loaded world heap _ _ v h h
+  loaded_typed Forms.Reference Declared.BooleanArray v f h = reference_loaded world heap _ _ v h h
+  loaded_typed Forms.Reference Declared.ByteArray v f h = reference_loaded world heap _ _ v h h
+  loaded_typed Forms.Reference Declared.ShortArray v f h = reference_loaded world heap _ _ v h h
+  loaded_typed Forms.Reference (Declared.ReferenceArray c) v f h = reference_loaded world heap _ _ v h h
+  loaded_typed Forms.Byte Declared.Boolean v f h = byte_loaded world heap v (byte_number v h)
+  loaded_typed Forms.Byte Declared.Byte v f h = byte_loaded world heap v (byte_number v h)
   loaded_typed Forms.Byte Declared.Short v f h = absurd cc
   loaded_typed Forms.Byte (Declared.Reference c) v f h = absurd cc
   loaded_typed Forms.Byte Declared.BooleanArray v f h = absurd cc
@@ -90,7 +75,7 @@ module _ (world : List Shape) (heap : Heap TaggedValue) where
   loaded_typed Forms.Byte (Declared.ReferenceArray c) v f h = absurd cc
   loaded_typed Forms.Short Declared.Boolean v f h = absurd cc
   loaded_typed Forms.Short Declared.Byte v f h = absurd cc
-  loaded_typed Forms.Short Declared.Short v f h = number_typed v (word_number v h)
+  loaded_typed Forms.Short Declared.Short v f h = short_loaded world heap v (word_number v h)
   loaded_typed Forms.Short (Declared.Reference c) v f h = absurd cc
   loaded_typed Forms.Short Declared.BooleanArray v f h = absurd cc
   loaded_typed Forms.Short Declared.ByteArray v f h = absurd cc
@@ -229,7 +214,7 @@ module _ {C : Type 0} (s : Surroundings C) (ground : Ground s) (m : Machine C) (
     gets_safe : (form : Form) (us vs : List TaggedValue) (v : TaggedValue)
         → leads_to m.heap (is_of_class shapes class) v ≡ true
         → ((x : TaggedValue) → is_kept_as shapes m.heap declared x ≡ true
-        → IsSafe s (gives (at us) (loaded_as form x) vs))
+        → IsSafe s (loads (at us) form x vs))
         → IsSafe s (gets (at us) form field v vs)
     gets_safe form us vs v leads go =
         ref_case m.heap (is_of_class shapes class) (λ x. IsSafe s (gets (at us) form field x vs)) v leads
@@ -274,8 +259,10 @@ module _ {C : Type 0} (s : Surroundings C) (ground : Ground s) (m : Machine C) (
         (λ v vs is rest.
         safe_check s (is_reference v) _ (leads_is_reference m.heap (is_of_class shapes class) v is.type)
         (gets_safe form m.top.operands vs v is.type (λ x kept.
-        rows.gives_it s ground m t d next (Below (types.Class class) ∷ []) m.top.operands vs (loaded_as form x)
-        (type_of_declared declared) after_it a (loaded_typed shapes m.heap form declared x of_form kept) rest leads)))
+        let l = loaded_typed shapes m.heap form declared x of_form kept in
+        safe_loads s (at m.top.operands) form x vs shapes m.heap (type_of_declared declared) l
+        (rows.gives_it s ground m t d next (Below (types.Class class) ∷ []) m.top.operands vs l.value
+        (type_of_declared declared) after_it a l.operand rest leads))))
 
     pub put_operand : (form : Form) (after_it : Types) → is_form_of form declared ≡ true
         → Applied below most (takes (Below (types.Class class) ∷ Below (type_of_declared declared) ∷ []) Nothing) state after_it
@@ -324,13 +311,14 @@ module _ {C : Type 0} (s : Surroundings C) (ground : Ground s) (m : Machine C) (
         subst P (sym l.1)
         (safe_check s (is_reference l.0) _ (leads_is_reference m.heap (is_of_class shapes class) l.0 l.2)
         (gets_safe form m.top.operands m.top.operands l.0 l.2 (λ x kept.
-        safe_gives s ground m t d most next m.top.operands after_it (loaded_as form x) m.top.operands
+        let l = loaded_typed shapes m.heap form declared x of_form kept in
+        safe_loads s (at m.top.operands) form x m.top.operands shapes m.heap (type_of_declared declared) l
+        (safe_gives s ground m t d most next m.top.operands after_it l.value m.top.operands
         (room_left shapes m.heap most 0 state.operands m.top.operands a.enough a.room t.top.operands_typed)
         (rows.locals_still s ground m t after_it.locals r.locals_are)
         (rows.held s ground m t (type_of_declared declared ∷ state.operands) after_it.operands
-        (loaded_as form x ∷ m.top.operands) r.operands_are
-        (loaded_typed shapes m.heap form declared x of_form kept, t.top.operands_typed))
-        leads)))
+        (l.value ∷ m.top.operands) r.operands_are (l.operand, t.top.operands_typed))
+        leads))))
 
     pub put_this : (form : Form) (after_it : Types) → is_form_of form declared ≡ true
         → Applied below most (reads 0 (Below (types.Class class)) (Below (type_of_declared declared) ∷ []) Nothing) state after_it

@@ -20,7 +20,7 @@ use Rattle.jc_names.specs.declared.name.MethodName.TheVariants.{Api, Loaded}
 use Rattle.jc_step.specs.Method.{returned_type}
 use Rattle.jc_store.specs.Heap.{Object}
 use Rattle.jc_types.specs.declared.ty.Ty.{Ty}
-use Rattle.jc_machine.specs.Calls.{VirtualMember, has_room, native_may_begin, native_type}
+use Rattle.jc_machine.specs.Calls.{VirtualMember, has_room, native_may_begin, native_type, takes}
 use Rattle.jc_machine.specs.Lookup.{class_of, code_at, declared_at, is_given, is_throwable, may_begin_with}
 use Rattle.jc_machine.specs.Machine.{Calls, Frame, Gives, IsStuck, Machine, MethodPlace, NativeAnswer, NativeCall}
 use Rattle.jc_machine.specs.Machine.{NativeEnd, Surroundings, ThrowsObject}
@@ -34,9 +34,9 @@ use Rattle.jc_words.specs.Values.{Ref, TaggedValue}
 use Rattle.jc_safety.specs.Safety.{EndsTyped}
 use Rattle.jc_safety.specs.Starting.{CanBegin, FindsMethod, IsMemberCall, IsTypedStart, MemberCanBegin, MethodCanBegin}
 use Rattle.jc_safety.specs.Starting.{first_frame}
-use Rattle.jc_safety.proofs.Callees.{MayCall, abstract_is, begins_typed, its_body, its_header, not_so, runs}
-use Rattle.jc_safety.proofs.Callees.{same_declared}
+use Rattle.jc_safety.proofs.Callees.{MayCall, abstract_is, begins_typed, its_body, its_header, runs, same_declared}
 use Rattle.jc_safety.proofs.Callees.{the_some}
+use Rattle.jc_safety.proofs.Counted.{isnt_abstract, takes_them}
 use Rattle.jc_safety.proofs.Ground.{Ground, method_of_code}
 use Rattle.jc_safety.proofs.Growing.{statics_still}
 use Rattle.jc_safety.proofs.Lists.{and_true, both}
@@ -71,9 +71,9 @@ module _ {C : Type 0} (s : Surroundings C) (ground : Ground s) (members : HaveMe
   first_typed place k beside =
       let l = its_body s.world ground.accepted.world place.number place.offset k.declared k.found in
       let stands = ground.packages place.number l.0 l.1 in
-      let parts = both (not (k.header).is_abstract) (may_begin_with shapes start.heap k.declared start.arguments)
-      k.begins in
-      let no = not_true (k.header).is_abstract parts.0 in
+      let parts = both (takes k.header start.arguments)
+      (may_begin_with shapes start.heap k.declared start.arguments) k.begins in
+      let no = not_true (k.header).is_abstract (isnt_abstract k.header start.arguments parts.0) in
       let c = the_some (code_at s.world place) (ground.code place k.declared k.header k.found k.header_is no) in
       let typed = ground.typed_methods place l.0 c.0 l.1 c.1 in
       let of = method_of_code s.world place.offset l.0 c.0 place.number l.1 stands c.1 in
@@ -209,10 +209,11 @@ module _ {C : Type 0} (s : Surroundings C) (ground : Ground s) (members : HaveMe
         header = h.0;
         header_is = h.1;
         begins =
-            and_true (not (h.0).is_abstract) (may_begin_with shapes start.heap k.declared start.arguments)
-            (not_so (h.0).is_abstract no)
-            (subst (λ (us : List TaggedValue). may_begin_with shapes start.heap k.declared us ≡ true) (sym is)
-            k.begins);
+            let begins = subst (λ (us : List TaggedValue). may_begin_with shapes start.heap k.declared us ≡ true)
+            (sym is) k.begins in
+            and_true (takes h.0 start.arguments) (may_begin_with shapes start.heap k.declared start.arguments)
+            (takes_them shapes start.heap ground.sound.methods (Loaded number offset) k.declared h.0 start.arguments
+            k.there h.1 no begins) begins;
       }
   can_begin (Api member) result vs is k instance = record {
     declared = k.declared;

@@ -21,7 +21,7 @@ use Rattle.jc_machine.specs.Step.{Start, may_begin, no_frame, standing}
 use Rattle.jc_machine.specs.Typed.{IsTypedBeside}
 use Rattle.jc_words.specs.Values.{Ref, TaggedValue}
 
--- a method of a loaded package that isn't abstract, on arguments of its types
+-- a method of a loaded package that isn't abstract, on arguments of its types, as many as its header says
 pub record MethodCanBegin {C : Type 0} (s : Surroundings C) (start : Start C) (place : MethodPlace) : Type 0 where
   pub declared : DeclaredMethod
   pub found : declared_at s.world place ≡ Some declared

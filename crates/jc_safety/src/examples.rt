@@ -1,6 +1,6 @@
 //! Examples, which the prover computes.
 
-ghost use Rattle.std.specs.Prelude.{◌≡◌, [], ◌∷◌};
+ghost use Rattle.std.specs.Prelude.{◌≡◌, [], ◌∷◌, Some};
 ghost use Rattle.jc_base.specs.declared.declared_type.DeclaredType.TheVariants.{Boolean, Byte, ByteArray, Short};
 ghost use Rattle.jc_base.specs.declared.declared_type.DeclaredType.TheVariants.{ShortArray};
 ghost use Rattle.jc_code.specs.declared.object.Form.TheVariants as Forms;
@@ -17,7 +17,7 @@ pub fn images_are_read()
     ensures default { value_at 46 small_image 4 Boolean ≡ Word 0 }
     ensures short { value_at 46 small_image 5 Short ≡ Word 0x1234 }
     ensures byte { value_at 46 small_image 7 Byte ≡ Word 0x80 }
-    ensures signed { loaded_as Forms.Byte (value_at 46 small_image 7 Byte) ≡ Word 0xFF80 }
+    ensures signed { loaded_as Forms.Byte (value_at 46 small_image 7 Byte) ≡ Some (Word 0xFF80) }
     ensures bytes { words_of_array two_bytes ≡ 0xFF ∷ 2 ∷ [] }
     ensures shorts { words_of_array one_short ≡ 0xFFFE ∷ [] }
 {}

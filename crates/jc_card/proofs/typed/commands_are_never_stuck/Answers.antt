@@ -1,7 +1,7 @@
 use Rattle.jc_firewall.specs.Verdict.{runtime}
 use Rattle.jc_machine.specs.Accepted.{api_alone}
 use Rattle.jc_machine.specs.Step.{no_frame}
-use Rattle.jc_machine.specs.TypedExamples.{new_heap}
+use Rattle.jc_machine.specs.Runtime.{new_heap}
 use Rattle.jc_card.proofs.TypedCards.{load_typed, new_typed}
 use Rattle.jc_card.proofs.TypedCommands.{apdu_typed, install_typed, reset_typed}
 use Rattle.jc_card.proofs.typed.commands_are_never_stuck.Goals as goal
@@ -13,55 +13,13 @@ returns-clause-new c limits binding cells clash =
     (c.calls_keep_fitting.ensures.new (api_alone binding) new_heap)
 
 pub returns-clause-apdu : goal.returns-clause-apdu
-returns-clause-apdu c = apdu_typed (record {
-  applets = record {
-    sound = c.built_worlds_are_sound.ensures;
-    order = c.superclass_laws.ensures.order;
-    call = record { lawful = c.law.ensures; calls = c.accepted_packages_are_type_safe.ensures.calls };
-    declared = c.members_are_declared.ensures;
-    members = c.accepted_packages_are_type_safe.ensures.members;
-  };
-  byte = c.objects_stay_typed.ensures.byte;
-  zeroed = c.objects_stay_typed.ensures.zeroed;
-  begun = c.calls_keep_fitting.ensures.begun;
-  over = c.calls_keep_fitting.ensures.over;
-  opened = c.calls_keep_fitting.ensures.opened;
-  closed = c.calls_keep_fitting.ensures.closed;
-})
+returns-clause-apdu c = apdu_typed c.parts_stay_typed.ensures
 
 pub returns-clause-install : goal.returns-clause-install
-returns-clause-install c = install_typed (record {
-  applets = record {
-    sound = c.built_worlds_are_sound.ensures;
-    order = c.superclass_laws.ensures.order;
-    call = record { lawful = c.law.ensures; calls = c.accepted_packages_are_type_safe.ensures.calls };
-    declared = c.members_are_declared.ensures;
-    members = c.accepted_packages_are_type_safe.ensures.members;
-  };
-  byte = c.objects_stay_typed.ensures.byte;
-  zeroed = c.objects_stay_typed.ensures.zeroed;
-  begun = c.calls_keep_fitting.ensures.begun;
-  over = c.calls_keep_fitting.ensures.over;
-  opened = c.calls_keep_fitting.ensures.opened;
-  closed = c.calls_keep_fitting.ensures.closed;
-})
+returns-clause-install c = install_typed c.parts_stay_typed.ensures
 
 pub returns-clause-reset : goal.returns-clause-reset
-returns-clause-reset c = reset_typed (record {
-  applets = record {
-    sound = c.built_worlds_are_sound.ensures;
-    order = c.superclass_laws.ensures.order;
-    call = record { lawful = c.law.ensures; calls = c.accepted_packages_are_type_safe.ensures.calls };
-    declared = c.members_are_declared.ensures;
-    members = c.accepted_packages_are_type_safe.ensures.members;
-  };
-  byte = c.objects_stay_typed.ensures.byte;
-  zeroed = c.objects_stay_typed.ensures.zeroed;
-  begun = c.calls_keep_fitting.ensures.begun;
-  over = c.calls_keep_fitting.ensures.over;
-  opened = c.calls_keep_fitting.ensures.opened;
-  closed = c.calls_keep_fitting.ensures.closed;
-})
+returns-clause-reset c = reset_typed c.parts_stay_typed.ensures
 
 pub returns-clause-load : goal.returns-clause-load
 returns-clause-load c = load_typed c.loads_stay_typed.ensures c.loads_keep_fitting.ensures

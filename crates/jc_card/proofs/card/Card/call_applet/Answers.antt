@@ -6,7 +6,7 @@ use Rattle.jc_card.specs.contracts.card.Card.{the_view}
 use Rattle.jc_card.specs.Reads.{CardWords, Holds, ReadsEnded}
 use Rattle.jc_card.proofs.AppletCalls.{applet_called, may_call}
 use Rattle.jc_card.proofs.Doing.{left_card}
-use Rattle.jc_card.proofs.TypedCalls.{Laws}
+use Rattle.jc_card.specs.PrivateTyped.{Laws}
 use Rattle.jc_card.proofs.card.Card.call_applet.Goals as goal
 
 pub call-requires : goal.call-requires

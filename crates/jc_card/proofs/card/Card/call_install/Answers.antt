@@ -11,7 +11,7 @@ use Rattle.jc_card.specs.Reads.{CardWords, Holds, ReadsEnded}
 use Rattle.jc_card.proofs.Calling.{may_call, method_called}
 use Rattle.jc_card.proofs.Doing.{left_card}
 use Rattle.jc_card.proofs.Installing.{can_begin, words_read}
-use Rattle.jc_card.proofs.TypedCalls.{CallLaws}
+use Rattle.jc_card.specs.PrivateTyped.{CallLaws}
 use Rattle.jc_card.proofs.card.Card.call_install.Goals as goal
 
 pub call-requires : goal.call-requires
@@ -31,7 +31,8 @@ call-requires c =
     let h = c.self.invariant.holds in
     let known = subst (λ (w : World). IsInstallPlace w a.place) (subst (λ (x : CardWords). Holds x card)
     c.self.view_is h).world c.requires.place in
-    let can = can_begin card h.typed a.place a.owner a.size (omega (arith, c.ranges.size)) known in
+    let can = can_begin card h.typed a.place a.owner a.size (omega (arith, c.ranges.size)) known
+    c.built_worlds_are_sound.ensures in
     record {
       may_call =
           may_call laws k card h a.owner.context a.owner name values can first c.called_at-called.ensures refl read few;
@@ -54,7 +55,8 @@ invariant_of-self c =
     let h = c.self.invariant.holds in
     let known = subst (λ (w : World). IsInstallPlace w a.place) (subst (λ (x : CardWords). Holds x card)
     c.self.view_is h).world c.requires.place in
-    let can = can_begin card h.typed a.place a.owner a.size (omega (arith, c.ranges.size)) known in
+    let can = can_begin card h.typed a.place a.owner a.size (omega (arith, c.ranges.size)) known
+    c.built_worlds_are_sound.ensures in
     let after : CardWords = record k { machine = c.call.new.self; kept = c.call.new.natives } in
     left_card after (ReadsEnded c.call.result) (call_install card a.place a.owner a.size)
     (method_called laws k card h a.owner.context a.owner name values can first c.called_at-called.ensures refl read few
@@ -76,6 +78,7 @@ returns c card holds =
     let after : CardWords = record k { machine = c.call.new.self; kept = c.call.new.natives } in
     let h = subst (λ (x : CardWords). Holds x card) (sym c.self.view_is) holds in
     let known = subst (λ (w : World). IsInstallPlace w a.place) holds.world c.requires.place in
-    let can = can_begin card h.typed a.place a.owner a.size (omega (arith, c.ranges.size)) known in
+    let can = can_begin card h.typed a.place a.owner a.size (omega (arith, c.ranges.size)) known
+    c.built_worlds_are_sound.ensures in
     method_called laws k card h a.owner.context a.owner name values can first c.called_at-called.ensures refl read few
     after c.call.result c.call.ensures.call c.call.ensures.dropped refl refl refl refl refl refl refl

@@ -2,7 +2,7 @@ use Rattle.std.proofs.Common.{ap, refl}
 use Rattle.jc_firewall.specs.Verdict.{runtime}
 use Rattle.jc_machine.specs.Accepted.{api_alone}
 use Rattle.jc_machine.specs.Step.{no_frame}
-use Rattle.jc_machine.specs.TypedExamples.{new_heap}
+use Rattle.jc_machine.specs.Runtime.{new_heap}
 use Rattle.jc_store.specs.Store.{Store}
 use Rattle.jc_card.specs.New.{new_card}
 use Rattle.jc_card.proofs.NewCards.{holds_new}

@@ -1,0 +1,44 @@
+-- The laws by which the parts of commands are guarded, as one record.
+use Rattle.std.specs.Prelude.{◌≡◌, ◌∷◌, ℕ, Bool, List, Some, map, true}
+use Rattle.jc_cap_desc.specs.Shape.{Shape}
+use Rattle.jc_link.specs.Built.{IsBuilt}
+use Rattle.jc_machine.specs.Apart.{AreNativesApart, HaveApiMembers, IsApart, IsSetApart, StaysApart, is_applets}
+use Rattle.jc_machine.specs.Guarded.{AddsFor, IsGuarded, machine_of}
+use Rattle.jc_machine.specs.Machine.{Machine, StaticValue, Surroundings}
+use Rattle.jc_machine.specs.Natives.{AreNativesGuarded, KeepsObjects}
+use Rattle.jc_machine.specs.Step.{defensive_step}
+use Rattle.jc_machine.specs.Storable.{FieldsHoldStorable, HoldStorable, may_be_held}
+use Rattle.jc_names.specs.declared.owner.Owner.{Owner}
+use Rattle.jc_natives.specs.Apart.{names_applets}
+use Rattle.jc_natives.specs.Cells.{put_all}
+use Rattle.jc_natives.specs.Kept.{Kept, after_install, is_instance_number, with_command, with_install, without_command}
+use Rattle.jc_natives.specs.Meaning.{meaning}
+use Rattle.jc_store.specs.Heap.{Heap}
+use Rattle.jc_words.specs.Values.{TaggedValue, Word}
+
+-- what is known of each step, and of each native member
+pub record StepsGuarded : Type 0 where
+  pub members : AreNativesGuarded meaning
+  pub steps : (s : Surroundings Kept) → AreNativesGuarded s.natives → (m : Machine Kept) → IsGuarded s m
+  pub kept : (s : Surroundings Kept) → AreNativesGuarded s.natives → (m after : Machine Kept)
+      → machine_of (defensive_step s m).outcome ≡ Some after → KeepsObjects m.heap after.heap
+  pub apart_members : AreNativesApart names_applets meaning
+  pub apart_steps : (s : Surroundings Kept) → AreNativesGuarded s.natives → AreNativesApart names_applets s.natives
+      → HaveApiMembers s.world.shapes → (m : Machine Kept) → IsApart names_applets m → StaysApart names_applets s m
+  pub apart_objects : (before after : Heap TaggedValue) (owner : Owner) → IsSetApart before
+      → KeepsObjects before after → is_applets owner ≡ true → AddsFor owner before after → HoldStorable after
+      → IsSetApart after
+  pub held : (before after : Heap TaggedValue) → KeepsObjects before after → (v : TaggedValue)
+      → may_be_held before v ≡ true → may_be_held after v ≡ true
+  pub fields : (before after : Heap TaggedValue) → KeepsObjects before after → (statics : List (List StaticValue))
+      → FieldsHoldStorable before statics → FieldsHoldStorable after statics
+  pub words : (heap : Heap TaggedValue) → HoldStorable heap → (number from : ℕ) (words : List ℕ)
+      → HoldStorable (put_all heap number from (map Word words))
+  pub api : (world : List Shape) → IsBuilt world → HaveApiMembers world
+  pub begun : (k : Kept) → names_applets k ≡ true → (owner : Owner) (aid : List ℕ) → is_applets owner ≡ true
+      → is_instance_number owner.instance ≡ true → names_applets (with_install k owner aid) ≡ true
+  pub over : (k : Kept) → names_applets k ≡ true → (succeeds : Bool)
+      → names_applets (after_install k succeeds) ≡ true
+  pub opened : (k : Kept) → names_applets k ≡ true → (incoming : List ℕ) (expected : ℕ) (selecting : Bool)
+      → names_applets (with_command k incoming expected selecting) ≡ true
+  pub closed : (k : Kept) → names_applets k ≡ true → names_applets (without_command k) ≡ true

@@ -1,3 +1,4 @@
+pub mod Counting
 pub mod Few
 pub mod Passing
 pub mod Indexing

@@ -1,6 +1,6 @@
 -- A package that was read leaves nothing out of what its components say of classes, fields, methods and code (Java Card
 -- Virtual Machine Specification, CAP file format: Class component; Descriptor component; Method component).
-use Rattle.std.specs.Prelude.{◌≡◌, ℕ, true, List, map, Option, Some, Ok, slice_get}
+use Rattle.std.specs.Prelude.{◌≡◌, ◌≤◌, ℕ, true, List, length, map, Option, Some, Ok, slice_get}
 use Rattle.std.specs.List.{filter, find}
 use Rattle.jc_base.specs.Parts.{Infos}
 use Rattle.jc_base.specs.declared.placed_rows.Placed.{Placed}
@@ -47,3 +47,9 @@ pub record HasWholeOf (infos : Infos) (p : Package) : Type 0 where
   pub is_info : descriptor_of infos.descriptor ≡ Ok info
   pub are_methods : methods_of infos.method ≡ Ok methods
   pub whole : IsWhole records info methods p
+
+-- each class has a row: there are no more classes than rows
+pub record HasRows (infos : Infos) (p : Package) : Type 0 where
+  pub info : DescriptorInfo
+  pub its_info : descriptor_of infos.descriptor ≡ Ok info
+  pub few : length p.shape.classes ≤ length info.classes

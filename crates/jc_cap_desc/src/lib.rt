@@ -10,6 +10,7 @@ mod component;
 mod faults;
 mod fields;
 mod interfaces;
+mod laws;
 mod methods;
 mod offsets;
 mod package;
@@ -25,6 +26,7 @@ pub use class_row::{
 pub use classes::{Class, Classes};
 pub use component::{DescriptorInfo, descriptor_layout, read_descriptor};
 pub use fields::{Field, Fields};
+pub use laws::read_packages_are_whole;
 pub use methods::{ClassMethod, ClassMethods};
 pub use package::{Package, read_package};
 pub use type_descriptors::TypeDescriptors;

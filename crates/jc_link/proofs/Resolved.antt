@@ -11,9 +11,10 @@ use Rattle.jc_link.proofs.GrownHeirs.{length_more}
 use Rattle.jc_link.proofs.GrownParts.{the_some, none_some, get_before}
 use Rattle.jc_link.proofs.OwnMethods.{all_named, coded_at, declared_at, headed_at, installable_at}
 use Rattle.jc_link.specs.Built.{IsBuilt}
+use Rattle.jc_link.specs.Built.IsBuilt.{loaded as built_behind}
 use Rattle.jc_link.specs.Growth.{HasApi, KeepsLinking}
-use Rattle.jc_link.specs.Kept.{kept_of}
-use Rattle.jc_link.specs.Linked.{IsBoundTo, IsKnown, IsLast, IsResolved, IsWorld, Linked, LinkedBody, World}
+use Rattle.jc_link.specs.Kept.{Kept, kept_of}
+use Rattle.jc_link.specs.Linked.{IsBoundTo, IsKnown, IsLast, IsLinked, IsResolved, IsWorld, Linked, LinkedBody, World}
 use Rattle.jc_link.specs.Linked.{with_linked}
 use Rattle.jc_link.specs.WellFormed.{IsWellFormed}
 use Rattle.jc_link.specs.Target.{pool_targets}
@@ -67,6 +68,17 @@ is_last before world p b built is fine kept targets apart api have bodies instal
     let targets_there = targets ∙ ap (λ w. pool_targets w (length before) p.body.pool) is in
     let known = known_at_end before p b api fine kept targets_there apart have bodies installs in
     record { built = built; known = subst (λ h. IsKnown world h b) home (subst (λ w. IsKnown w (length before) b) (sym is) known) }
+
+-- so is one that is linked behind others
+pub linked_last : ((world : List Shape) → IsBuilt world → HasApi world) → (before : List Shape) (p : Package)
+    (l : Linked) → IsBuilt before → IsLinked before p l → StandApart p.body.methods → HaveHeaders p.shape → HaveBodies p
+    → InstallMethods p → IsLast l
+linked_last has before p l built linked apart have bodies installs =
+    let now = subst IsBuilt (sym linked.world) (built_behind before p built linked.fine) in
+    let targets = subst (λ pool. map Some l.body.targets ≡ pool_targets l.world (length before) pool)
+    (ap (λ (k : Kept). k.pool) linked.kept) linked.targets in
+    is_last before l.world p l.body now linked.world linked.fine linked.kept targets apart (has before built) have bodies
+    installs
 
 -- a pool that is resolved in a world is in the world with a package more
 still_resolved : (world : List Shape) (more : Shape) (home : ℕ) (b : LinkedBody) → KeepsLinking world more → HasApi world → home < length world

@@ -1,7 +1,7 @@
 //! What holds of worlds.
 
 ghost use Rattle.std.specs.Prelude.{ℕ, ◌≤◌, List, take};
-ghost use Rattle.jc_cap_desc.specs.Shape.{Shape};
+ghost use Rattle.jc_cap_desc.specs.Shape.{HaveBodies, HaveHeaders, InstallMethods, Package, Shape, StandApart};
 ghost use Rattle.jc_api.specs.Bound.{default_binding};
 ghost use Rattle.jc_api.specs.declared.class.ApiClass.{ApiClass};
 ghost use Rattle.jc_classes.specs.Api.{api_world};
@@ -12,6 +12,7 @@ ghost use Rattle.jc_link.specs.Applet.{applet};
 ghost use Rattle.jc_link.specs.Built.{IsBuilt};
 ghost use Rattle.jc_link.specs.Growth.{HasApi, KeepsAllLinking, KeepsLinking};
 ghost use Rattle.jc_link.specs.KnownTypes.{NameClasses};
+ghost use Rattle.jc_link.specs.Linked.{IsLast, IsLinked, Linked};
 ghost use Rattle.jc_link.specs.Sound.{IsSound};
 ghost use Rattle.jc_link.specs.WellFormed.{IsWellFormed};
 
@@ -34,6 +35,15 @@ pub fn growing_keeps_linking()
     ensures first { (world : List Shape) (count : ℕ) → IsBuilt world → 2 ≤ count → IsBuilt (take count world) }
 {
     adding_keeps_lookups();
+}
+
+/// A package that is linked behind a world that is built is the last of one that is built, and what is known of linked
+/// packages is known of it. The package is as each is that was read. It does nothing.
+pub fn linked_packages_are_known()
+    ensures { (before : List Shape) (p : Package) (l : Linked) → IsBuilt before → IsLinked before p l
+        → StandApart p.body.methods → HaveHeaders p.shape → HaveBodies p → InstallMethods p → IsLast l }
+{
+    growing_keeps_linking();
 }
 
 /// In a world that is built of well-formed packages, whatever a machine relies on holds.

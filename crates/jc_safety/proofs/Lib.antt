@@ -9,6 +9,7 @@ mod CallTargets
 mod Calling
 mod Casting
 mod Constants
+mod Counted
 mod Creating
 mod Enlarged
 mod Entering
@@ -21,6 +22,7 @@ mod Growing
 mod Images
 mod Lists
 mod Loading
+mod Loads
 mod Locals
 mod Making
 mod Members

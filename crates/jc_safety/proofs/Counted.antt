@@ -1,5 +1,5 @@
 -- A method that may begin with values takes as many as its header says.
-use Rattle.std.proofs.Common.{◌≡◌, ℕ, ◌+◌, ◌==◌, List, [], ◌∷◌, length, Bool, true, false, cond, not, ◌&&◌, Option, Some}
+use Rattle.std.proofs.Common.{◌≡◌, ℕ, suc, ◌+◌, ◌==◌, List, [], ◌∷◌, length, Bool, true, false, cond, not, ◌&&◌, Option, Some}
 use Rattle.std.proofs.Common.{None, refl, sym, ap, ◌∙◌, arith}
 use Rattle.std.proofs.lemmas.Bool.{eq-eqb}
 use Rattle.std.specs.Option.{option_map, option_map_or}
@@ -30,7 +30,7 @@ types_count find [] us e = cc
 types_count find (t ∷ ts) us e =
     let a = and_then (λ u. option_map (λ us. u ∷ us) (types_found find ts)) (type_found find t) us e in
     let b = mapped_from (λ us. a.0 ∷ us) (types_found find ts) us a.2 in
-    ap (λ us. length us) (sym b.2) ∙ ap (λ n. 1 + n) (types_count find ts b.0 b.1)
+    ap (λ us. length us) (sym b.2) ∙ ap suc (types_count find ts b.0 b.1)
 
 parameters_count : (world : List Shape) (d : DeclaredMethod) (x : Signature ClassName)
     → declared_type_of world d ≡ Some x → length x.parameters ≡ length d.method.signature.parameters
@@ -52,7 +52,7 @@ module _ (world : List Shape) (heap : Heap TaggedValue) where
   values_count [] (v ∷ vs) e = absurd cc
   values_count (t ∷ ts) [] e = absurd cc
   values_count (t ∷ ts) (v ∷ vs) e =
-      ap (λ n. 1 + n) (values_count ts vs (both (is_of_type world heap t v) (are_of_types world heap ts vs) e).1)
+      ap suc (values_count ts vs (both (is_of_type world heap t v) (are_of_types world heap ts vs) e).1)
 
   instance_count : (c : ClassName) (ts : List (DeclaredType ClassName)) (vs : List TaggedValue)
       → are_of_instance world heap c ts vs ≡ true → length vs ≡ length ts + 1

@@ -25,7 +25,7 @@ use Rattle.jc_machine.specs.Lookup.{target_at}
 use Rattle.jc_machine.specs.Machine.{Asked, Machine, Next, Outcome, Stepped, Surroundings, Throws, Touch}
 use Rattle.jc_machine.specs.Runtime.{security_exception}
 use Rattle.jc_words.specs.Values.{Null, Ref, TaggedValue, Unset, Word, is_reference}
-use Rattle.jc_machine.proofs.StayingApart.{IsApartIn, IsApartPart, LeadsApart, is_apart_itself, moved_apart, own_spares}
+use Rattle.jc_machine.proofs.StayingApart.{IsApartIn, IsApartPart, IsKeptIn, LeadsApart, is_apart_itself, moved_apart, own_spares}
 use Rattle.jc_machine.proofs.Switching.{switched_by}
 use Rattle.jc_machine.proofs.GuardingHeaps.{KeepsHeap, all_joined, changes_first, guarded_behind, nothing_changes}
 
@@ -40,6 +40,9 @@ pub record KeepsLaw {C : Type 0} (around : Surroundings C) (m : Machine C) (befo
       → KeepsHeap m.top.active (before ++ s.touches) m.heap after.heap
   -- what is apart stays so
   pub apart : (keeps : C → Bool) → IsApartIn keeps around m → IsApartPart keeps m s
+  -- and what native members keep holds of what the runtime keeps
+  pub kept : (keeps : C → Bool) → IsKeptIn keeps around m → (after : Machine C) → machine_of s.outcome ≡ Some after
+      → keeps after.runtime ≡ true
 
 -- ---- ends
 
@@ -61,8 +64,10 @@ leaves {C = C} {m = m} {before = before} o x e h a = record {
       (changes_first m.top.active before [] m.heap x.heap h);
   apart = λ keeps p. record {
     spares = tt;
-    after = λ after f. subst (IsApart keeps) (same_Some x after (sym e ∙ f)) (a keeps p);
+    after = λ after f. subst (IsApart keeps) (same_Some x after (sym e ∙ f)) (a.apart keeps p);
   };
+  kept = λ keeps q after f.
+      subst (λ (y : Machine C). keeps y.runtime ≡ true) (same_Some x after (sym e ∙ f)) (a.kept keeps q);
 }
 
 pub stays : {C : Type 0} {around : Surroundings C} {m : Machine C} {before : List Touch} (o : Outcome C) (x : Machine C)
@@ -79,6 +84,7 @@ is_stuck {before = before} = record {
   accesses = allowed refl;
   changes = λ after f. absurd (none-some after f);
   apart = λ keeps p. record { spares = tt; after = λ after f. absurd (none-some after f) };
+  kept = λ keeps q after f. absurd (none-some after f);
 }
 
 pub goes : {C : Type 0} {around : Surroundings C} {m : Machine C} {before : List Touch} (h : Here C) (pc : ℕ)
@@ -86,7 +92,8 @@ pub goes : {C : Type 0} {around : Surroundings C} {m : Machine C} {before : List
     → KeepsHeap m.top.active before m.heap h.machine.heap → LeadsApart around m h.machine
     → KeepsLaw around m before (goes_to h pc locals operands)
 goes h pc locals operands changes a =
-    leaves (Next _) _ refl changes (λ keeps p. moved_apart keeps h.machine pc locals operands (a keeps p))
+    leaves (Next _) _ refl changes
+    (record { apart = λ keeps p. moved_apart keeps h.machine pc locals operands (a.apart keeps p); kept = a.kept })
 
 pub goes_still : {C : Type 0} {before : List Touch} (h : Here C) (pc : ℕ) (locals operands : List TaggedValue)
     → KeepsLaw h.around h.machine before (goes_to h pc locals operands)
@@ -256,6 +263,7 @@ module _ {C : Type 0} {around : Surroundings C} {m : Machine C} (before ts : Lis
       spares = all_joined (SparesPlain m.heap) ts s.touches (spares keeps p) (k.apart keeps p).spares;
       after = λ after e. (k.apart keeps p).after after e;
     };
+    kept = k.kept;
   }
 
   -- by the frame

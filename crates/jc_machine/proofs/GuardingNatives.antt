@@ -33,7 +33,7 @@ use Rattle.jc_words.specs.Values.{Ref, TaggedValue}
 use Rattle.jc_machine.proofs.Guarding.{KeepsLaw, at_check, at_checked, at_some, behind, behind_made, gives_changed}
 use Rattle.jc_machine.proofs.Guarding.{goes, is_stuck, leaves, stays}
 use Rattle.jc_machine.proofs.GuardingHeaps.{KeepsHeap, all_joined, changes_later, mapped, nothing_changes}
-use Rattle.jc_machine.proofs.StayingApart.{IsApartIn, LeadsApart, RunsApplets, are_applets, is_apart_itself}
+use Rattle.jc_machine.proofs.StayingApart.{IsApartIn, IsKeptIn, LeadsApart, RunsApplets, are_applets, is_apart_itself}
 use Rattle.jc_machine.proofs.StayingApart.{objects_stay_apart, top_runs}
 use Rattle.jc_machine.proofs.Storing.{fields_still}
 use Rattle.jc_machine.proofs.Switching.{called_runs}
@@ -52,13 +52,16 @@ above h f operands = record {
 -- a frame that is active as an applet
 above_apart : {C : Type 0} (h : Here C) (f : Frame) (operands : List TaggedValue)
     → RunsApplets h.around h.machine f.active → LeadsApart h.around h.machine (above h f operands)
-above_apart h f operands runs keeps p = record {
-  objects = p.machine.objects;
-  statics = p.machine.statics;
-  frames =
-      and_from (is_applets f.active) (are_applets (h.machine.top ∷ h.machine.waiting)) (runs keeps p)
-      p.machine.frames;
-  kept = p.machine.kept;
+above_apart h f operands runs = record {
+  apart = λ keeps p. record {
+      objects = p.machine.objects;
+      statics = p.machine.statics;
+      frames =
+          and_from (is_applets f.active) (are_applets (h.machine.top ∷ h.machine.waiting)) (runs keeps p)
+          p.machine.frames;
+      kept = p.machine.kept;
+  };
+  kept = λ keeps q. q.now;
 }
 
 by_room : {C : Type 0} {before : List Touch} (h : Here C) (f : Frame) (operands : List TaggedValue) (room : Bool)
@@ -109,6 +112,7 @@ record IsFineAnswer {C : Type 0} (around : Surroundings C) (m : Machine C) (befo
   guarded : AreGuarded a.touches (IsRefusal m a)
   changes : KeepsHeap m.top.active a.touches m.heap a.heap
   apart : (keeps : C → Bool) → IsApartIn keeps around m → IsFineApart keeps m a
+  remembers : (keeps : C → Bool) → IsKeptIn keeps around m → keeps a.runtime ≡ true
 
 abbrev answer_to : {C : Type 0} → Here C → NativeCall C → NativeAnswer C
 answer_to h call = h.around.natives.answer h.around.world call
@@ -160,6 +164,8 @@ frame_fine {C = C} h natives before member arguments =
       guarded = refused_as h active previous member arguments g;
       changes = record { changes = g.changes; kept = g.kept; adds = g.adds };
       apart = λ keeps p. apart_as h active previous member arguments (top_runs h.around h.machine) g keeps p;
+      remembers = λ keeps q.
+          q.natives h.around.world (native_call h.around h.machine active previous member arguments) q.now;
     }
 
 -- the frame's call of one that makes this call, with its accesses behind others
@@ -213,16 +219,21 @@ callee_fine {C = C} h natives before callback calling object there runs member i
           subst (λ (x : Heap TaggedValue). KeepsHeap h.machine.top.active b.touches h.machine.heap x)
           (sym modest.unchanged.heap) (nothing_changes h.machine.top.active b.touches h.machine.heap);
       apart = λ keeps p. apart_as h object.owner previous member arguments runs g keeps p;
+      remembers = λ keeps q.
+          q.natives h.around.world (native_call h.around h.machine object.owner previous member arguments) q.now;
     }
 
 -- the machine behind it
 answer_apart : {C : Type 0} {before : List Touch} (h : Here C) (a : NativeAnswer C)
     → IsFineAnswer h.around h.machine before a → LeadsApart h.around h.machine (after_native h a).machine
-answer_apart h a fine keeps p = record {
-  objects = (fine.apart keeps p).objects;
-  statics = fields_still h.machine.heap a.heap fine.changes.kept h.machine.statics p.machine.statics;
-  frames = p.machine.frames;
-  kept = (fine.apart keeps p).kept;
+answer_apart h a fine = record {
+  apart = λ keeps p. record {
+      objects = (fine.apart keeps p).objects;
+      statics = fields_still h.machine.heap a.heap fine.changes.kept h.machine.statics p.machine.statics;
+      frames = p.machine.frames;
+      kept = (fine.apart keeps p).kept;
+  };
+  kept = λ keeps q. fine.remembers keeps q;
 }
 
 same_place : {C : Type 0} (h : Here C) (a : NativeAnswer C) → IsAsWas h.machine a → after_native h a ≡ h

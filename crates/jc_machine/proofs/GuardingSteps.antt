@@ -17,6 +17,7 @@ use Rattle.jc_machine.specs.Apart.{AreNativesApart, HaveApiMembers, IsApart, Spa
 use Rattle.jc_machine.specs.Going.{Here, moved}
 use Rattle.jc_machine.specs.Guarded.{AreGuarded, ChangesAccessed, IsAccessed, IsGuarded, IsRefused, KeepsPlain}
 use Rattle.jc_machine.specs.Guarded.{allowed, are_allowed, denied, machine_of}
+use Rattle.jc_machine.specs.Keeping.{MembersKeep}
 use Rattle.jc_machine.specs.Lookup.{class_of, code_at, declared_at, instruction_at, is_throwable}
 use Rattle.jc_machine.specs.Machine.{Ends, Frame, Machine, Next, Outcome, Stuck, Surroundings, Throws, Touch, UsedUp}
 use Rattle.jc_machine.specs.Natives.{AreNativesGuarded, KeepsObjects}
@@ -53,18 +54,22 @@ record LeavesHeap {C : Type 0} (m : Machine C) (o : Outcome C) : Type 0 where
   same : (after : Machine C) → machine_of o ≡ Some after → m.heap ≡ after.heap
   apart : (keeps : C → Bool) → IsApart keeps m → (after : Machine C) → machine_of o ≡ Some after
       → IsApart keeps after
+  kept : (after : Machine C) → machine_of o ≡ Some after → m.runtime ≡ after.runtime
 
 of_machine : {C : Type 0} (m : Machine C) (o : Outcome C) (x : Machine C) → machine_of o ≡ Some x
-    → m.heap ≡ x.heap → ((keeps : C → Bool) → IsApart keeps m → IsApart keeps x) → LeavesHeap m o
-of_machine {C = C} m o x e same a = record {
+    → m.heap ≡ x.heap → m.runtime ≡ x.runtime → ((keeps : C → Bool) → IsApart keeps m → IsApart keeps x)
+    → LeavesHeap m o
+of_machine {C = C} m o x e same kept a = record {
   same = λ after f. same ∙ ap (λ (y : Machine C). y.heap) (same_Some x after (sym e ∙ f));
   apart = λ keeps p after f. subst (IsApart keeps) (same_Some x after (sym e ∙ f)) (a keeps p);
+  kept = λ after f. kept ∙ ap (λ (y : Machine C). y.runtime) (same_Some x after (sym e ∙ f));
 }
 
 of_stuck : {C : Type 0} (m : Machine C) → LeavesHeap m Stuck
 of_stuck m = record {
   same = λ after f. absurd (none-some after f);
   apart = λ keeps p after f. absurd (none-some after f);
+  kept = λ after f. absurd (none-some after f);
 }
 
 either : {C : Type 0} (m : Machine C) (b : Bool) (o p : Outcome C) → LeavesHeap m o → LeavesHeap m p
@@ -92,7 +97,7 @@ caught_leaves {C = C} m object f waiting body room outward (Some handler) are h 
       waiting = waiting;
     } in
     either m (option_map_or (nat_lt 0) room false) (Next caught) Stuck
-    (of_machine m (Next caught) caught refl refl (λ keeps p. record {
+    (of_machine m (Next caught) caught refl refl refl (λ keeps p. record {
       objects = p.objects;
       statics = p.statics;
       frames = are keeps p;
@@ -111,7 +116,7 @@ through_leaves s m object class f waiting outward (Some body) are h =
 
 unwound_leaves : {C : Type 0} (s : Surroundings C) (m : Machine C) (object : ℕ) (class : ClassName)
     (waiting : List Frame) → AreOf m waiting → LeavesHeap m (unwound s m object class waiting)
-unwound_leaves s m object class [] are = of_machine m (Throws m object) m refl refl (λ keeps p. p)
+unwound_leaves s m object class [] are = of_machine m (Throws m object) m refl refl refl (λ keeps p. p)
 unwound_leaves s m object class (f ∷ waiting) are =
     through_leaves s m object class f waiting (unwound s m object class waiting) (code_at s.world f.method) are
     (unwound_leaves s m object class waiting (outer_are m f waiting are))
@@ -147,6 +152,17 @@ settled_apart s keeps (Throws m object) h after e =
 settled_apart s keeps (Ends m value) h after e = h after e
 settled_apart s keeps (UsedUp m) h after e = h after e
 settled_apart s keeps Stuck h after e = absurd (none-some after e)
+
+-- a test that holds of what an outcome keeps holds of it behind what is caught
+settled_kept : {C : Type 0} (s : Surroundings C) (keeps : C → Bool) (o : Outcome C)
+    → ((x : Machine C) → machine_of o ≡ Some x → keeps x.runtime ≡ true) → (after : Machine C)
+    → machine_of (settled s o) ≡ Some after → keeps after.runtime ≡ true
+settled_kept s keeps (Next m) h after e = h after e
+settled_kept s keeps (Throws m object) h after e =
+    subst (λ k. keeps k ≡ true) ((object_leaves s m object (object_at m.heap object)).kept after e) (h m refl)
+settled_kept s keeps (Ends m value) h after e = h after e
+settled_kept s keeps (UsedUp m) h after e = h after e
+settled_kept s keeps Stuck h after e = absurd (none-some after e)
 
 -- ---- a step
 
@@ -204,6 +220,15 @@ steps_stay_apart {C = C} keeps s natives apart members m a =
           (steps_keep_heap s natives m after e).changes;
       after = λ after e. settled_apart s keeps (act_at s m).outcome p.after after e;
     }
+
+-- a test that native members keep holds of what a step keeps
+pub steps_keep_kept : {C : Type 0} (keeps : C → Bool) (s : Surroundings C) → AreNativesGuarded s.natives
+    → MembersKeep keeps s.natives → (m : Machine C) → keeps m.runtime ≡ true → (after : Machine C)
+    → machine_of (defensive_step s m).outcome ≡ Some after → keeps after.runtime ≡ true
+unfolding defensive_step
+steps_keep_kept keeps s natives members m now after e =
+    settled_kept s keeps (act_at s m).outcome
+    ((at_keeps s natives m).kept keeps (record { natives = members; now = now })) after e
 
 -- ---- what follows
 

@@ -21,6 +21,7 @@ mod GuardingWrites
 mod HavingCode
 mod IdleLaw
 mod NewMachines
+mod Remembering
 mod SmallWorlds
 mod Staying
 mod StayingApart

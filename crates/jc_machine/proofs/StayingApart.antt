@@ -13,6 +13,7 @@ use Rattle.jc_machine.specs.Apart.{AreNativesApart, HaveApiMembers, IsApart, IsR
 use Rattle.jc_machine.specs.Apart.{has_no_code, is_applets}
 use Rattle.jc_machine.specs.Going.{moved, with_top}
 use Rattle.jc_machine.specs.Guarded.{AddsFor, IsPlainOf, machine_of}
+use Rattle.jc_machine.specs.Keeping.{MembersKeep}
 use Rattle.jc_machine.specs.Machine.{Frame, Machine, Stepped, Surroundings, Touch}
 use Rattle.jc_machine.specs.Natives.{KeepsObjects}
 use Rattle.jc_machine.specs.Storable.{HoldStorable, may_be_held}
@@ -135,14 +136,21 @@ pub record IsApartIn {C : Type 0} (keeps : C → Bool) (around : Surroundings C)
   pub natives : AreNativesApart keeps around.natives
   pub machine : IsApart keeps m
 
+-- a test that native members keep holds of what it keeps
+pub record IsKeptIn {C : Type 0} (keeps : C → Bool) (around : Surroundings C) (m : Machine C) : Type 0 where
+  pub natives : MembersKeep keeps around.natives
+  pub now : keeps m.runtime ≡ true
+
 -- what it comes to then
 pub record IsApartPart {C : Type 0} (keeps : C → Bool) (m : Machine C) (s : Stepped C) : Type 0 where
   pub spares : AllByRecursion (SparesPlain m.heap) s.touches
   pub after : (after : Machine C) → machine_of s.outcome ≡ Some after → IsApart keeps after
 
 -- one machine is apart where a step begins in another one that is
-abbrev pub LeadsApart : {C : Type 0} → Surroundings C → Machine C → Machine C → Type 0
-LeadsApart {C} around m x = (keeps : C → Bool) → IsApartIn keeps around m → IsApart keeps x
+pub record LeadsApart {C : Type 0} (around : Surroundings C) (m x : Machine C) : Type 0 where
+  pub apart : (keeps : C → Bool) → IsApartIn keeps around m → IsApart keeps x
+  -- and a test that native members keep holds of what it keeps
+  pub kept : (keeps : C → Bool) → IsKeptIn keeps around m → keeps x.runtime ≡ true
 
 -- an owner is an applet's there
 abbrev pub RunsApplets : {C : Type 0} → Surroundings C → Machine C → Owner → Type 0
@@ -163,7 +171,7 @@ pub top_runs : {C : Type 0} (around : Surroundings C) (m : Machine C) → RunsAp
 top_runs around m keeps p = top_is_applets keeps m p.machine
 
 pub is_apart_itself : {C : Type 0} (around : Surroundings C) (m : Machine C) → LeadsApart around m m
-is_apart_itself around m keeps p = p.machine
+is_apart_itself around m = record { apart = λ keeps p. p.machine; kept = λ keeps q. q.now }
 
 -- its frame goes on
 pub moved_apart : {C : Type 0} (keeps : C → Bool) (m : Machine C) (pc : ℕ) (locals operands : List TaggedValue)

@@ -16,6 +16,7 @@ pub mod Storable
 pub mod Guarded
 pub mod Natives
 pub mod Apart
+pub mod Keeping
 pub mod Running
 pub mod Uncounted
 pub mod WordNatives

@@ -14,11 +14,12 @@ ghost use Rattle.jc_machine.specs.Accepted.{HaveByteTokens, HaveCode, IsAccepted
 ghost use Rattle.jc_machine.specs.Apart.{AreNativesApart, HaveApiMembers, IsApart, IsSetApart, StaysApart};
 ghost use Rattle.jc_machine.specs.Apart.{is_applets};
 ghost use Rattle.jc_machine.specs.Guarded.{AddsFor, IsGuarded, IsRefused, are_allowed, machine_of};
+ghost use Rattle.jc_machine.specs.Keeping.{LeavesKept, MembersKeep};
 ghost use Rattle.jc_machine.specs.Lookup.{body_at, code_at, instruction_at};
 ghost use Rattle.jc_machine.specs.Machine.{Machine, MethodPlace, StaticValue, Surroundings};
 ghost use Rattle.jc_machine.specs.Natives.{AreNativesGuarded, KeepsObjects};
 ghost use Rattle.jc_machine.specs.Runtime.{HasRuntimeObjects};
-ghost use Rattle.jc_machine.specs.Step.{defensive_step};
+ghost use Rattle.jc_machine.specs.Step.{Start, defensive_step, runtime_call};
 ghost use Rattle.jc_machine.specs.Storable.{FieldsHoldStorable, HoldStorable, may_be_held};
 ghost use Rattle.jc_machine.specs.Uncounted.{HaveCells, IsInstructionAt};
 ghost use Rattle.jc_link.specs.Linked.{IsBoundTo, IsLast, IsWorld, Linked, LinkedBody, World, with_linked};
@@ -92,6 +93,14 @@ pub fn steps_stay_apart<N: Natives>(_natives: &N)
         → StaysApart keeps s m }
     ensures objects { (before after : Heap TaggedValue) (owner : Owner) → IsSetApart before → KeepsObjects before after
         → is_applets owner ≡ true → AddsFor owner before after → HoldStorable after → IsSetApart after }
+{}
+
+/// A test that native members keep, and that holds of what the runtime keeps, holds of it behind each call of the
+/// runtime's: nothing else changes what it keeps. It does nothing.
+pub fn calls_keep_what_members_keep<N: Natives>(_natives: &N)
+    ensures { (keeps : N.Kept → Bool) (s : Surroundings N.Kept) → AreNativesGuarded s.natives
+        → MembersKeep keeps s.natives → (steps : ℕ) (start : Start N.Kept) → keeps start.runtime ≡ true
+        → LeavesKept keeps (runtime_call s steps start).ends }
 {}
 
 /// What a component or a static field may hold it may hold as long as objects stay. It does nothing.

@@ -60,12 +60,12 @@ static_apart : {C : Type 0} (h : Here C) (place : StaticPlace) (v : TaggedValue)
     → LeadsApart h.around h.machine (put_static h place v).machine
 static_apart h place v held = record {
   apart = λ keeps p. record {
-      objects = p.machine.objects;
-      statics =
-          put_holds h.machine.heap place.offset v (held_static h.machine.heap v (held keeps p)) h.machine.statics place.home
-          p.machine.statics;
-      frames = p.machine.frames;
-      kept = p.machine.kept;
+    objects = p.machine.objects;
+    statics =
+        put_holds h.machine.heap place.offset v (held_static h.machine.heap v (held keeps p)) h.machine.statics place.home
+        p.machine.statics;
+    frames = p.machine.frames;
+    kept = p.machine.kept;
   };
   kept = λ keeps q. q.now;
 }

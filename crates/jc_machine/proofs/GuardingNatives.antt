@@ -1,5 +1,5 @@
 -- New frames, and native members and what they call, keep the law of accesses, where native members keep theirs.
-use Rattle.std.proofs.Common.{◌≡◌, ℕ, ◌+◌, Bool, true, false, not, List, [], ◌∷◌, ◌++◌, length, Option, Some, None}
+use Rattle.std.proofs.Common.{◌≡◌, ℕ, ◌+◌, Bool, true, false, List, [], ◌∷◌, ◌++◌, length, Option, Some, None}
 use Rattle.std.proofs.Common.{cond, refl, sym, ap, ◌∙◌, subst, ◌&&◌, append-nil, eqb-true, nat_lt}
 use Rattle.std.proofs.lemmas.Bool.{and_from, and_parts}
 use Rattle.std.specs.List.{AllByRecursion}
@@ -54,12 +54,12 @@ above_apart : {C : Type 0} (h : Here C) (f : Frame) (operands : List TaggedValue
     → RunsApplets h.around h.machine f.active → LeadsApart h.around h.machine (above h f operands)
 above_apart h f operands runs = record {
   apart = λ keeps p. record {
-      objects = p.machine.objects;
-      statics = p.machine.statics;
-      frames =
-          and_from (is_applets f.active) (are_applets (h.machine.top ∷ h.machine.waiting)) (runs keeps p)
-          p.machine.frames;
-      kept = p.machine.kept;
+    objects = p.machine.objects;
+    statics = p.machine.statics;
+    frames =
+        and_from (is_applets f.active) (are_applets (h.machine.top ∷ h.machine.waiting)) (runs keeps p)
+        p.machine.frames;
+    kept = p.machine.kept;
   };
   kept = λ keeps q. q.now;
 }
@@ -228,10 +228,10 @@ answer_apart : {C : Type 0} {before : List Touch} (h : Here C) (a : NativeAnswer
     → IsFineAnswer h.around h.machine before a → LeadsApart h.around h.machine (after_native h a).machine
 answer_apart h a fine = record {
   apart = λ keeps p. record {
-      objects = (fine.apart keeps p).objects;
-      statics = fields_still h.machine.heap a.heap fine.changes.kept h.machine.statics p.machine.statics;
-      frames = p.machine.frames;
-      kept = (fine.apart keeps p).kept;
+    objects = (fine.apart keeps p).objects;
+    statics = fields_still h.machine.heap a.heap fine.changes.kept h.machine.statics p.machine.statics;
+    frames = p.machine.frames;
+    kept = (fine.apart keeps p).kept;
   };
   kept = λ keeps q. fine.remembers keeps q;
 }

@@ -22,12 +22,12 @@ resumed_apart : {C : Type 0} (h : Here C) (f : Frame) (waiting : List Frame) (pc
     → h.machine.waiting ≡ f ∷ waiting → LeadsApart h.around h.machine (resumed h.machine f waiting pc operands)
 resumed_apart h f waiting pc operands there = record {
   apart = λ keeps p. record {
-      objects = p.machine.objects;
-      statics = p.machine.statics;
-      frames =
-          subst (λ (frames : List Frame). are_applets frames ≡ true) there
-          (waiting_are_applets keeps h.machine p.machine);
-      kept = p.machine.kept;
+    objects = p.machine.objects;
+    statics = p.machine.statics;
+    frames =
+        subst (λ (frames : List Frame). are_applets frames ≡ true) there
+        (waiting_are_applets keeps h.machine p.machine);
+    kept = p.machine.kept;
   };
   kept = λ keeps q. q.now;
 }

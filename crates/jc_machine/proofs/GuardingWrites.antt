@@ -184,20 +184,20 @@ pub stored_apart : {C : Type 0} (h : Here C) (number : ℕ) (object : Object Tag
     → LeadsApart h.around h.machine (stored_in h number object index v).machine
 stored_apart h number object index v there held = record {
   apart = λ keeps p. record {
-      objects =
-          objects_stay_apart h.machine.heap (with_object h.machine.heap number (with_cell object index v))
-          h.machine.top.active p.machine.objects
-          (each_stays h.machine.top.active [] h.machine.heap object index v number there)
-          (top_is_applets keeps h.machine p.machine)
-          (adds_none h.machine.top.active h.machine.heap number (with_cell object index v))
-          (stored_holds h.machine.heap p.machine.objects.stored number object index v there (held keeps p)
-          (each_stays h.machine.top.active [] h.machine.heap object index v number there));
-      statics =
-          fields_still h.machine.heap (with_object h.machine.heap number (with_cell object index v))
-          (each_stays h.machine.top.active [] h.machine.heap object index v number there) h.machine.statics
-          p.machine.statics;
-      frames = p.machine.frames;
-      kept = p.machine.kept;
+    objects =
+        objects_stay_apart h.machine.heap (with_object h.machine.heap number (with_cell object index v))
+        h.machine.top.active p.machine.objects
+        (each_stays h.machine.top.active [] h.machine.heap object index v number there)
+        (top_is_applets keeps h.machine p.machine)
+        (adds_none h.machine.top.active h.machine.heap number (with_cell object index v))
+        (stored_holds h.machine.heap p.machine.objects.stored number object index v there (held keeps p)
+        (each_stays h.machine.top.active [] h.machine.heap object index v number there));
+    statics =
+        fields_still h.machine.heap (with_object h.machine.heap number (with_cell object index v))
+        (each_stays h.machine.top.active [] h.machine.heap object index v number there) h.machine.statics
+        p.machine.statics;
+    frames = p.machine.frames;
+    kept = p.machine.kept;
   };
   kept = λ keeps q. q.now;
 }
@@ -208,16 +208,16 @@ pub new_apart : {C : Type 0} (h : Here C) (new : Object TaggedValue) → IsPlain
     → LeadsApart h.around h.machine (with_heap h.machine (with_new h.machine.heap new))
 new_apart h new plain held = record {
   apart = λ keeps p. record {
-      objects =
-          objects_stay_apart h.machine.heap (with_new h.machine.heap new) h.machine.top.active p.machine.objects
-          (all_stay h.machine.heap new) (top_is_applets keeps h.machine p.machine)
-          (adds_one h.machine.top.active h.machine.heap new plain)
-          (new_holds h.machine.heap p.machine.objects.stored new (all_stay h.machine.heap new) held);
-      statics =
-          fields_still h.machine.heap (with_new h.machine.heap new) (all_stay h.machine.heap new) h.machine.statics
-          p.machine.statics;
-      frames = p.machine.frames;
-      kept = p.machine.kept;
+    objects =
+        objects_stay_apart h.machine.heap (with_new h.machine.heap new) h.machine.top.active p.machine.objects
+        (all_stay h.machine.heap new) (top_is_applets keeps h.machine p.machine)
+        (adds_one h.machine.top.active h.machine.heap new plain)
+        (new_holds h.machine.heap p.machine.objects.stored new (all_stay h.machine.heap new) held);
+    statics =
+        fields_still h.machine.heap (with_new h.machine.heap new) (all_stay h.machine.heap new) h.machine.statics
+        p.machine.statics;
+    frames = p.machine.frames;
+    kept = p.machine.kept;
   };
   kept = λ keeps q. q.now;
 }

@@ -1,5 +1,5 @@
 -- Instructions on arrays are safe.
-use Rattle.std.proofs.Common.{◌≡◌, ℕ, ◌<◌, List, [], ◌∷◌, length, drop, set, slice_get, Bool, true, false, ◌&&◌, not}
+use Rattle.std.proofs.Common.{◌≡◌, ℕ, ◌<◌, List, [], ◌∷◌, length, drop, set, slice_get, true, false, ◌&&◌, not}
 use Rattle.std.proofs.Common.{Option, Some, nat_lt, pos, refl, sym, ap, ◌∙◌, subst}
 use Rattle.std.proofs.lemmas.Bool.{lt-ltb, ltb-true}
 use Rattle.std.specs.Option.{option_map_or}

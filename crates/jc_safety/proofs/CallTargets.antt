@@ -1,5 +1,5 @@
 -- What the entries of a constant pool lead to that calls are for: the method is there, and of the type that they name.
-use Rattle.std.proofs.Common.{◌≡◌, ℕ, ◌-◌, ◌==◌, List}
+use Rattle.std.proofs.Common.{◌≡◌, ℕ, ◌==◌, List}
 use Rattle.std.proofs.Common.{Bool, true, false, cond, Option, Some, None, slice_get}
 use Rattle.std.proofs.Common.{refl, sym, ap, ◌∙◌, subst, eqb-true}
 use Rattle.std.specs.List.{find}

@@ -1,5 +1,5 @@
 -- A method that may begin with values takes as many as its header says.
-use Rattle.std.proofs.Common.{◌≡◌, ℕ, suc, ◌+◌, ◌==◌, List, [], ◌∷◌, length, Bool, true, false, cond, not, ◌&&◌, Option, Some}
+use Rattle.std.proofs.Common.{◌≡◌, suc, ◌+◌, ◌==◌, List, [], ◌∷◌, length, Bool, true, false, cond, not, Option, Some}
 use Rattle.std.proofs.Common.{None, refl, sym, ap, ◌∙◌, arith}
 use Rattle.std.proofs.lemmas.Bool.{eq-eqb}
 use Rattle.std.specs.Option.{option_map, option_map_or}

@@ -30,7 +30,7 @@ use Rattle.jc_types.specs.declared.ty.Ty.{Ty}
 use Rattle.jc_types.specs.declared.ty.Ty.TheVariants as types
 use Rattle.jc_machine.specs.Arrays.{loads, stored_as}
 use Rattle.jc_machine.specs.Fields.{InstanceField, gets, puts, putting}
-use Rattle.jc_machine.specs.Going.{Here, check, gives, on_reference, on_reference_local, on_top}
+use Rattle.jc_machine.specs.Going.{Here, check, on_reference, on_reference_local, on_top}
 use Rattle.jc_machine.specs.Lookup.{fields_of, is_byte, is_kept_as, is_of_class, is_of_type, is_word, leads_to}
 use Rattle.jc_machine.specs.Machine.{Machine, Surroundings}
 use Rattle.jc_machine.specs.Typed.{CellsTyped, HaveTypes, HoldTypes, IsTyped, has_type, is_cell}
@@ -48,7 +48,7 @@ use Rattle.jc_safety.proofs.Returning.{of_declared}
 use Rattle.jc_safety.proofs.Rows as rows
 use Rattle.jc_safety.proofs.Safe.{IsSafe, safe_check, safe_some}
 use Rattle.jc_safety.proofs.Taking.{Applied, leaves_nothing, take_one, take_two}
-use Rattle.jc_safety.proofs.Writing.{IsNumber, byte_number, ref_case, typed_at, word_number}
+use Rattle.jc_safety.proofs.Writing.{byte_number, ref_case, typed_at, word_number}
 
 -- ---- what a field holds, as it is loaded and stored
 

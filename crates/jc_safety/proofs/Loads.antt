@@ -1,5 +1,5 @@
 -- What is held under the tag of its type is loaded, as an operand of a type.
-use Rattle.std.proofs.Common.{◌≡◌, List, Bool, true, false, Option, Some, refl, ap}
+use Rattle.std.proofs.Common.{◌≡◌, List, Bool, true, Some, refl, ap}
 use Rattle.std.proofs.lemmas.Bool.{lt-ltb}
 use Rattle.jc_cap_desc.specs.Shape.{Shape}
 use Rattle.jc_code.specs.declared.object.Form.{Form}

@@ -25,7 +25,8 @@ use Rattle.jc_machine.specs.Lookup.{target_at}
 use Rattle.jc_machine.specs.Machine.{Asked, Machine, Next, Outcome, Stepped, Surroundings, Throws, Touch}
 use Rattle.jc_machine.specs.Runtime.{security_exception}
 use Rattle.jc_words.specs.Values.{Null, Ref, TaggedValue, Unset, Word, is_reference}
-use Rattle.jc_machine.proofs.StayingApart.{IsApartIn, IsApartPart, IsKeptIn, LeadsApart, is_apart_itself, moved_apart, own_spares}
+use Rattle.jc_machine.proofs.StayingApart.{IsApartIn, IsApartPart, IsKeptIn, LeadsApart, is_apart_itself}
+use Rattle.jc_machine.proofs.StayingApart.{moved_apart, own_spares}
 use Rattle.jc_machine.proofs.Switching.{switched_by}
 use Rattle.jc_machine.proofs.GuardingHeaps.{KeepsHeap, all_joined, changes_first, guarded_behind, nothing_changes}
 

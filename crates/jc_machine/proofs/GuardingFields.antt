@@ -62,8 +62,8 @@ static_apart h place v held = record {
   apart = λ keeps p. record {
     objects = p.machine.objects;
     statics =
-        put_holds h.machine.heap place.offset v (held_static h.machine.heap v (held keeps p)) h.machine.statics place.home
-        p.machine.statics;
+        put_holds h.machine.heap place.offset v (held_static h.machine.heap v (held keeps p)) h.machine.statics
+        place.home p.machine.statics;
     frames = p.machine.frames;
     kept = p.machine.kept;
   };

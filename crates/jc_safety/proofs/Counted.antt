@@ -74,8 +74,8 @@ module _ (world : List Shape) (heap : Heap TaggedValue) where
       by_static x same false f = instance_count d.class x.parameters vs f ∙ ap (λ n. n + 1) same
 
       by_type : (o : Option (Signature ClassName)) → declared_type_of world d ≡ o
-          → option_map_or (λ (x : Signature ClassName). cond d.method.is_static (are_of_types world heap x.parameters vs)
-          (are_of_instance world heap d.class x.parameters vs)) o false ≡ true
+          → option_map_or (λ (x : Signature ClassName). cond d.method.is_static
+          (are_of_types world heap x.parameters vs) (are_of_instance world heap d.class x.parameters vs)) o false ≡ true
           → length vs ≡ words_of d.method
       by_type None is f = absurd cc
       by_type (Some x) is f = by_static x (parameters_count world d x is) d.method.is_static f

@@ -197,8 +197,10 @@ module _ {C : Type 0} (s : Surroundings C) (ground : Ground s) (m : Machine C) (
         let given = sym (ap (result_of shapes) same) ∙ may.given in
         safe_some s (option_and_then (λ (x : DeclaredMethod). x.method.header) (declared_at s.world place)) of.header
         (λ header.
-        check (takes header arguments && accepts (at us) place arguments) (entered (at us) (frame_of place header arguments
-        (active_in (still us) switch) (previous_in (still us) switch)) header.max_stack vs))
+        check (takes header arguments && accepts (at us) place arguments)
+        (entered (at us)
+        (frame_of place header arguments (active_in (still us) switch) (previous_in (still us) switch))
+        header.max_stack vs))
         (ap (option_and_then (λ (x : DeclaredMethod). x.method.header)) of.found ∙ of.header_is)
         (safe_check s (takes of.header arguments && accepts (at us) place arguments)
         (entered (at us) (frame_of place of.header arguments (active_in (still us) switch) (previous_in

@@ -107,8 +107,8 @@ module _ {C : Type 0} (s : Surroundings C) (ground : Ground s) (m : Machine C) (
         let l = loaded_typed shapes m.heap form declared (x.0).value of_form kept in
         safe_some s (static_at m.statics place.home place.offset) x.0 _ x.1
         (safe_loads s (at m.top.operands) form (x.0).value m.top.operands shapes m.heap (type_of_declared declared) l
-        (rows.gives_it s ground m t d next [] m.top.operands m.top.operands l.value (type_of_declared declared) after_it a
-        l.operand t.top.operands_typed leads))
+        (rows.gives_it s ground m t d next [] m.top.operands m.top.operands l.value (type_of_declared declared)
+        after_it a l.operand t.top.operands_typed leads))
 
     -- the field is put, and the frame goes on
     put_it : (form : Form) (us vs : List TaggedValue) (v : TaggedValue) (after_it : Types)

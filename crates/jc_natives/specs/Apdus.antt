@@ -15,37 +15,6 @@ use Rattle.jc_natives.specs.declared.native.ApduNative.TheVariants.{GetBuffer, S
 use Rattle.jc_natives.specs.declared.native.ApduNative.TheVariants.{SetIncomingAndReceive, SetOutgoing}
 use Rattle.jc_natives.specs.declared.native.ApduNative.TheVariants.{SetOutgoingAndSend, SetOutgoingLength}
 
--- ---- states
-
-abbrev pub is_fresh : ApduState → Bool
-is_fresh Closed = false
-is_fresh Fresh = true
-is_fresh Received = false
-is_fresh Outgoing = false
-is_fresh LengthSet = false
-
--- the direction wasn't turned yet
-abbrev pub is_incoming : ApduState → Bool
-is_incoming Closed = false
-is_incoming Fresh = true
-is_incoming Received = true
-is_incoming Outgoing = false
-is_incoming LengthSet = false
-
-abbrev pub is_outgoing : ApduState → Bool
-is_outgoing Closed = false
-is_outgoing Fresh = false
-is_outgoing Received = false
-is_outgoing Outgoing = true
-is_outgoing LengthSet = false
-
-abbrev pub is_length_set : ApduState → Bool
-is_length_set Closed = false
-is_length_set Fresh = false
-is_length_set Received = false
-is_length_set Outgoing = false
-is_length_set LengthSet = true
-
 -- ---- what is sent
 
 -- the data of a command stand behind its header in the buffer

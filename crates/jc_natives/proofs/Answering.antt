@@ -18,14 +18,18 @@ use Rattle.jc_machine.specs.Machine.{ByRuntime, Callback, Calls, IsStuck, Native
 use Rattle.jc_machine.specs.Natives.{IsGuardedAnswer, IsModest, IsOfReceiver, IsRefusedAnswer, IsWithin}
 use Rattle.jc_machine.specs.Natives.{KeepsObjects, setting_for, shareable_member}
 use Rattle.jc_machine.specs.Runtime.{security_exception, system_exception}
-use Rattle.jc_natives.specs.Cells.{Write, has_room, written}
-use Rattle.jc_natives.specs.Kept.{Kept}
-use Rattle.jc_natives.specs.Meaning.{answer_of, array_or_refusal, begun, did, done, end_of, ended, made, meaning}
-use Rattle.jc_natives.specs.Meaning.{registering, new_array, own_touches, unchanged, with_room, work_of}
-use Rattle.jc_natives.specs.Rows.{natives, row_of}
-use Rattle.jc_natives.specs.Seen.{arguments_of, seen_of}
-use Rattle.jc_natives.specs.Tests.{Tested, access_of, by_verdict, facts_of, followed, goes_on, on_object, ranged, test}
-use Rattle.jc_natives.specs.Tests.{tested, used}
+use Rattle.jc_natives.specs.Cells.{Write, bits, has_room, written}
+use Rattle.jc_natives.specs.Checks.{access_of}
+use Rattle.jc_natives.specs.Kept.{Kept, aid_object}
+use Rattle.jc_natives.specs.Meaning.{answer_of, array_or_refusal, did, done, end_of, made, meaning, new_array}
+use Rattle.jc_natives.specs.Meaning.{own_touches, registering, unchanged, with_room}
+use Rattle.jc_natives.specs.Members.{natives}
+use Rattle.jc_natives.specs.PrivateCells.{argument}
+use Rattle.jc_natives.specs.PrivateMeaning.{begun_on_words, ended_on_words, work_of}
+use Rattle.jc_natives.specs.PrivateRows.{row_of}
+use Rattle.jc_natives.specs.PrivateSeen.{Seen, arguments_of, seen_of}
+use Rattle.jc_natives.specs.PrivateTests.{Tested, by_verdict, facts_of, followed, goes_on, on_object, ranged, test}
+use Rattle.jc_natives.specs.PrivateTests.{tested, used}
 use Rattle.jc_natives.specs.Work.{Asks, Does, Ending, GivesReference, GivesWord, Makes, NewArray, NoResult, Throws}
 use Rattle.jc_natives.specs.Work.{Work, no_transient_space}
 use Rattle.jc_natives.specs.declared.native.Native.{Native}
@@ -44,9 +48,6 @@ use Rattle.jc_natives.proofs.Guarding.{changes_accessed, got_front, keeps_itself
 use Rattle.jc_natives.proofs.Guarding.{natives_of, own_allowed, own_natives, same_found, tested_uses, written_as_large}
 use Rattle.jc_natives.proofs.Reaching.{row_reaches}
 use Rattle.jc_natives.proofs.Spared.{IsApartWork, SparesOwn, all_throw_own, throws_own, work_apart}
-use Rattle.jc_natives.specs.Applets.{aid_object}
-use Rattle.jc_natives.specs.Cells.{argument, bits}
-use Rattle.jc_natives.specs.Seen.{Seen}
 use Rattle.jc_natives.specs.declared.kept.Installing.{Installing}
 use Rattle.jc_natives.specs.declared.native.AppletNative.TheVariants as applets
 use Rattle.jc_natives.specs.declared.native.Native.TheVariants.{OfApplet}

@@ -28,14 +28,17 @@ use Rattle.jc_machine.specs.Storable.{HoldStorable}
 use Rattle.jc_natives.proofs.Keeping.{both_are}
 use Rattle.jc_natives.proofs.Spared.{IsApartWork, SparesOwn, all_throw_own, roomy_apart, work_apart}
 use Rattle.jc_natives.specs.Apart.{installs_applet, names_applets}
-use Rattle.jc_natives.specs.Applets.{aid_object, owner_of}
+use Rattle.jc_natives.specs.Kept.{Kept, after_install, aid_object, has_registered, is_instance_number, kept_instances}
+use Rattle.jc_natives.specs.Kept.{with_install}
+use Rattle.jc_natives.specs.Meaning.{answer_of, done, meaning, registering, unchanged, with_room}
+use Rattle.jc_natives.specs.Members.{natives}
+use Rattle.jc_natives.specs.PrivateApplets.{owner_of}
+use Rattle.jc_natives.specs.PrivateCells.{bare, bared}
+use Rattle.jc_natives.specs.PrivateMeaning.{begun_on_words, ended_on_words, work_of}
+use Rattle.jc_natives.specs.PrivateRows.{row_of}
+use Rattle.jc_natives.specs.PrivateSeen.{Seen, arguments_of, seen_of}
+use Rattle.jc_natives.specs.PrivateTests.{tested}
 use Rattle.jc_natives.specs.declared.kept.Installing.{Installing}
-use Rattle.jc_natives.specs.Cells.{bare, bared}
-use Rattle.jc_natives.specs.Kept.{Kept, after_install, has_registered, is_instance_number, kept_instances, with_install}
-use Rattle.jc_natives.specs.Meaning.{answer_of, begun, done, ended, meaning, registering, unchanged, with_room, work_of}
-use Rattle.jc_natives.specs.Rows.{natives, row_of}
-use Rattle.jc_natives.specs.Seen.{Seen, arguments_of, seen_of}
-use Rattle.jc_natives.specs.Tests.{tested}
 use Rattle.jc_natives.specs.Work.{Asks, Does, Makes, Work}
 use Rattle.jc_natives.specs.declared.kept.Instance.{Instance}
 use Rattle.jc_natives.specs.declared.native.Native.{Native}

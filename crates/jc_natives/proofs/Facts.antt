@@ -22,9 +22,10 @@ use Rattle.jc_natives.specs.MemberTypes.{counted_name}
 use Rattle.jc_natives.proofs.Bare.{both}
 use Rattle.jc_natives.proofs.Simulation.{passed_some}
 use Rattle.jc_natives.proofs.Suits.{IsBytes}
-use Rattle.jc_natives.specs.Cells.{argument, bits}
+use Rattle.jc_natives.specs.Cells.{bits}
 use Rattle.jc_natives.specs.Kept.{is_instance_number}
 use Rattle.jc_natives.specs.Meaning.{fits_instance}
+use Rattle.jc_natives.specs.PrivateCells.{argument}
 use Rattle.jc_natives.specs.declared.kept.Instance.{Instance}
 use Rattle.jc_store.specs.Heap.{Heap, Object, object_at}
 use Rattle.jc_store.specs.declared.kind.ObjectType.{ObjectType}

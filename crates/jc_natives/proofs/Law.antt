@@ -36,8 +36,9 @@ use Rattle.jc_natives.proofs.Keeping.{kept_fits_still}
 use Rattle.jc_natives.proofs.Simulation.{Begins, begins_of}
 use Rattle.jc_natives.proofs.Suits.{suits}
 use Rattle.jc_natives.specs.Kept.{Kept}
-use Rattle.jc_natives.specs.Meaning.{answer_of, begun, meaning, unchanged}
-use Rattle.jc_natives.specs.Rows.{natives}
+use Rattle.jc_natives.specs.Meaning.{answer_of, meaning, unchanged}
+use Rattle.jc_natives.specs.Members.{natives}
+use Rattle.jc_natives.specs.PrivateMeaning.{begun_on_words}
 use Rattle.jc_natives.specs.declared.native.Native.{Native}
 
 -- the member that answers questions for shareable objects

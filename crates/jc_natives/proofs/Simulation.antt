@@ -28,15 +28,18 @@ use Rattle.jc_names.specs.declared.name.MethodName.TheVariants.{Api}
 use Rattle.jc_names.specs.declared.owner.Owner.{Owner}
 use Rattle.jc_natives.proofs.Bare.{argument_bits, bare_laid, bare_length, bare_new, bare_room, both, heap_bits}
 use Rattle.jc_natives.proofs.Bare.{reads_heap, receiver_bits}
-use Rattle.jc_natives.specs.Cells.{bare, bared, bits, has_room, written}
+use Rattle.jc_natives.specs.Cells.{bits, has_room, written}
 use Rattle.jc_natives.specs.Kept.{Kept}
-use Rattle.jc_natives.specs.Meaning.{answer_of, array_or_refusal, begun, blank_of, done, end_of, ended, meaning}
-use Rattle.jc_natives.specs.Meaning.{new_array, reference, unchanged, with_room, work_of}
+use Rattle.jc_natives.specs.Meaning.{answer_of, array_or_refusal, blank_of, done, end_of, meaning, new_array, reference}
+use Rattle.jc_natives.specs.Meaning.{unchanged, with_room}
+use Rattle.jc_natives.specs.Members.{natives}
+use Rattle.jc_natives.specs.PrivateCells.{bare, bared}
+use Rattle.jc_natives.specs.PrivateMeaning.{begun_on_words, ended_on_words, work_of}
+use Rattle.jc_natives.specs.PrivateRows.{row_of}
+use Rattle.jc_natives.specs.PrivateSeen.{arguments_of, seen_of}
+use Rattle.jc_natives.specs.PrivateTests.{tested}
 use Rattle.jc_natives.specs.PrivateWords.{Done, TellsEnd, did_on_words, done_of, ended_of, kind_of, laid, native_work}
 use Rattle.jc_natives.specs.PrivateWords.{seen_in, tested_work, word_work}
-use Rattle.jc_natives.specs.Rows.{natives, row_of}
-use Rattle.jc_natives.specs.Seen.{arguments_of, seen_of}
-use Rattle.jc_natives.specs.Tests.{tested}
 use Rattle.jc_natives.specs.Work.{Asks, Does, Ending, GivesReference, GivesWord, Makes, NewArray, NoResult, Throws}
 use Rattle.jc_natives.specs.Work.{Work}
 use Rattle.jc_natives.specs.declared.ended.Ended.TheVariants as ends

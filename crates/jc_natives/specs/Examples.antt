@@ -7,10 +7,11 @@ use Rattle.jc_names.specs.declared.name.ClassName.TheVariants.{Api}
 use Rattle.jc_names.specs.declared.owner.Owner.{Owner}
 use Rattle.jc_natives.specs.Cells.{Write, put_all}
 use Rattle.jc_natives.specs.Kept.{Kept, nothing_kept}
-use Rattle.jc_natives.specs.Meaning.{work_of}
-use Rattle.jc_natives.specs.Rows.{natives, row_of}
-use Rattle.jc_natives.specs.Seen.{Seen}
-use Rattle.jc_natives.specs.Tests.{tested}
+use Rattle.jc_natives.specs.Members.{natives}
+use Rattle.jc_natives.specs.PrivateMeaning.{work_of}
+use Rattle.jc_natives.specs.PrivateRows.{row_of}
+use Rattle.jc_natives.specs.PrivateSeen.{Seen}
+use Rattle.jc_natives.specs.PrivateTests.{tested}
 use Rattle.jc_natives.specs.Work.{Asks, Does, Makes, Work}
 use Rattle.jc_store.specs.Heap.{Heap, Object}
 use Rattle.jc_store.specs.declared.kind.Mark.TheVariants.{Plain}

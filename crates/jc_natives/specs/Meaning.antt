@@ -18,10 +18,10 @@ use Rattle.jc_machine.specs.Natives.{shareable_member}
 use Rattle.jc_names.specs.declared.name.ClassName.TheVariants.{Api}
 use Rattle.jc_names.specs.declared.owner.Owner.{Owner}
 use Rattle.jc_natives.specs.Cells.{Write, has_room, written}
-use Rattle.jc_natives.specs.Checks.{Passed, Refused, TestEnd, Unfit, tested}
 use Rattle.jc_natives.specs.Kept.{Kept, aid_object, are_bytes, is_aid, is_instance_number, is_same_owner}
+use Rattle.jc_natives.specs.Checks.{Passed, Refused, TestEnd, Unfit, tested}
 use Rattle.jc_natives.specs.Members.{Member, member_of_native, natives}
-use Rattle.jc_natives.specs.Taking.{Called}
+use Rattle.jc_natives.specs.Taking.{Called, called}
 use Rattle.jc_natives.specs.Work.{Asks, Does, Ending, GivesReference, GivesWord, Makes, NewArray, NoResult, Throws}
 use Rattle.jc_natives.specs.Work.{Work, array_type, no_transient_space, throws_system}
 use Rattle.jc_natives.specs.declared.ended.Question.{Question}
@@ -144,9 +144,6 @@ ended call touches Unfit work = unchanged call touches IsStuck
 
 abbrev pub answer_by : Called → Member → NativeAnswer Kept
 answer_by h m = let t = tested h m.tests in ended h.call t.touches t.ends (m.does h)
-
-abbrev pub called : World → NativeCall Kept → Called
-called w call = record { shapes = w.shapes; call = call }
 
 abbrev pub begun : World → NativeCall Kept → Option Native → NativeAnswer Kept
 begun w call None = unchanged call [] IsStuck

@@ -6,10 +6,10 @@ use Rattle.jc_machine.specs.Runtime.{apdu_buffer, apdu_exception, iso_exception,
 use Rattle.jc_machine.specs.Runtime.{system_exception}
 use Rattle.jc_names.specs.declared.owner.Owner.{Owner}
 use Rattle.jc_natives.specs.Cells.{bit, extended, high, is_count, is_within, low, order_of, word, word_of_bytes}
-use Rattle.jc_natives.specs.Checks.{CallsOtherAid, Check, HasRange, Uses, UsesUnlessNull, are_aids}
 use Rattle.jc_natives.specs.Kept.{Kept, aid_object, expected_of, has_aid_length, instance_of, instance_with, is_fresh}
 use Rattle.jc_natives.specs.Kept.{is_incoming, is_length_set, is_outgoing, most_sent, with_announced, with_instance}
 use Rattle.jc_natives.specs.Kept.{with_sent, with_state}
+use Rattle.jc_natives.specs.Checks.{CallsOtherAid, Check, HasRange, Uses, UsesUnlessNull, are_aids}
 use Rattle.jc_natives.specs.Taking.{Called, on_aid, on_bytes, on_component, on_object, on_range, on_reference, on_word}
 use Rattle.jc_natives.specs.Taking.{on_words}
 use Rattle.jc_natives.specs.Work.{Asks, Ending, GivesReference, GivesWord, Makes, NoResult, Work, bad_length}

@@ -4,6 +4,7 @@ use Rattle.std.specs.Prelude.{ℕ, zero, suc, ◌+◌, List, [], ◌∷◌, leng
 use Rattle.std.specs.Prelude.{if◌then◌else◌}
 use Rattle.std.specs.Option.{option_and_then, option_map, option_map_or}
 use Rattle.jc_cap_desc.specs.Shape.{Shape}
+use Rattle.jc_link.specs.Linked.{World}
 use Rattle.jc_machine.specs.Machine.{NativeCall}
 use Rattle.jc_natives.specs.Cells.{extended, low}
 use Rattle.jc_natives.specs.Kept.{Kept}
@@ -16,6 +17,9 @@ use Rattle.jc_words.specs.Values.{Null, Ref, TaggedValue, Unset, Word}
 pub record Called : Type 0 where
   pub shapes : List Shape
   pub call : NativeCall Kept
+
+abbrev pub called : World → NativeCall Kept → Called
+called w call = record { shapes = w.shapes; call = call }
 
 -- ---- values
 

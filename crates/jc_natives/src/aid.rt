@@ -1,9 +1,10 @@
 //! Members of AID (Java Card API Specification, AID).
 
 ghost use Rattle.std.specs.Prelude.{◌≡◌, ◌∷◌};
-ghost use Rattle.jc_natives.specs.Aids.{aid_work, is_range};
-ghost use Rattle.jc_natives.specs.Cells.{argument, bytes_of, extended, put_all};
+ghost use Rattle.jc_natives.specs.Cells.{extended, put_all};
 ghost use Rattle.jc_natives.specs.Kept.{has_aid_length};
+ghost use Rattle.jc_natives.specs.PrivateAids.{aid_work, is_range};
+ghost use Rattle.jc_natives.specs.PrivateCells.{argument, bytes_of};
 ghost use Rattle.jc_natives.specs.PrivateWords.{done_of, native_work, seen_in};
 ghost use Rattle.jc_natives.specs.declared.native.AidNative.TheVariants as natives;
 ghost use Rattle.jc_natives.specs.declared.native.Native.TheVariants.{OfAid};

@@ -1,8 +1,8 @@
 //! The components of objects, as members read and write them: whatever number and index they are handed.
 
 ghost use Rattle.std.specs.Prelude.{◌≡◌, ◌+◌, ◌≤◌, ◌<◌, true, false, None, IfNone, IfSome, length, map};
-ghost use Rattle.jc_natives.specs.Cells.{argument, bit, byte_of, bytes_of, cell_of, extended, high, is_count};
-ghost use Rattle.jc_natives.specs.Cells.{is_within, low, put, size_of, word, word_of_bytes};
+ghost use Rattle.jc_natives.specs.Cells.{bit, extended, high, is_count, is_within, low, put, word, word_of_bytes};
+ghost use Rattle.jc_natives.specs.PrivateCells.{argument, byte_of, bytes_of, cell_of, size_of};
 ghost use Rattle.jc_store.specs.Blocks.{HasCells};
 ghost use Rattle.jc_store.specs.Heap.{object_at};
 ghost use Rattle.jc_store.specs.Store.{IsThere, with_objects};

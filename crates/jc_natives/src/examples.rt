@@ -2,9 +2,9 @@
 
 ghost use Rattle.std.specs.Prelude.{◌≡◌, [], ◌∷◌, None, Some, false, true};
 ghost use Rattle.jc_natives.specs.Cells.{extended, is_within, order_of};
-ghost use Rattle.jc_natives.specs.Examples.{bytes_after, thrown_by, work_by};
 ghost use Rattle.jc_natives.specs.Kept.{nothing_kept, with_command};
-ghost use Rattle.jc_natives.specs.System.{event_of};
+ghost use Rattle.jc_natives.specs.Members.{event_of};
+ghost use Rattle.jc_natives.specs.Examples.{bytes_after, thrown_by, work_by};
 ghost use Rattle.jc_natives.specs.Work.{throws, throws_apdu, throws_system};
 ghost use Rattle.jc_store.specs.declared.kind.ClearingEvent.TheVariants.{Deselect, Reset};
 

@@ -3,7 +3,7 @@
 ghost use Rattle.std.specs.Prelude.{◌≡◌};
 ghost use Rattle.jc_api.specs.Numbered.{numbered};
 ghost use Rattle.jc_natives.specs.PrivateWords.{AsksSo, TellsEnd, done_of, native_work, seen_in, word_work};
-ghost use Rattle.jc_natives.specs.Rows.{natives};
+ghost use Rattle.jc_natives.specs.Members.{natives};
 
 use crate::aid::aid_native;
 use crate::apdu::apdu_native;

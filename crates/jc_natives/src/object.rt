@@ -2,7 +2,7 @@
 //! subclasses).
 
 ghost use Rattle.std.specs.Prelude.{◌≡◌};
-ghost use Rattle.jc_natives.specs.Objects.{are_same_aids, equals, have_same_aid, object_work};
+ghost use Rattle.jc_natives.specs.PrivateObjects.{are_same_aids, equals, have_same_aid, object_work};
 ghost use Rattle.jc_natives.specs.PrivateWords.{done_of, native_work, seen_in};
 ghost use Rattle.jc_natives.specs.declared.native.Native.TheVariants.{OfObject};
 

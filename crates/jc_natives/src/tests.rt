@@ -2,9 +2,10 @@
 
 ghost use Rattle.std.specs.Prelude.{◌≡◌, ℕ, true, Some};
 ghost use Rattle.jc_natives.specs.PrivateWords.{seen_in};
-ghost use Rattle.jc_natives.specs.Seen.{is_aid_object};
-ghost use Rattle.jc_natives.specs.Tests.{access_of, by_verdict, facts_of, is_in_range, length_of, ranged, test, tested};
-ghost use Rattle.jc_natives.specs.Tests.{used};
+ghost use Rattle.jc_natives.specs.Checks.{access_of};
+ghost use Rattle.jc_natives.specs.PrivateSeen.{is_aid_object};
+ghost use Rattle.jc_natives.specs.PrivateTests.{by_verdict, facts_of, is_in_range, length_of, ranged, test, tested};
+ghost use Rattle.jc_natives.specs.PrivateTests.{used};
 ghost use Rattle.jc_natives.specs.declared.row.Test.TheVariants.{BesideAid};
 ghost use Rattle.jc_link.specs.Linked as linked;
 ghost use Rattle.jc_machine.specs.Lookup.{class_of, is_array};

@@ -4,7 +4,7 @@ use Rattle.jc_natives.proofs.Numbers.{keeps_limits, numbers_arrays}
 use Rattle.jc_natives.proofs.Simulation.{answered}
 use Rattle.jc_natives.proofs.members.RuntimeNatives.call.Goals as goal
 use Rattle.jc_natives.specs.PrivateWords.{seen_in, word_work}
-use Rattle.jc_natives.specs.Rows.{natives}
+use Rattle.jc_natives.specs.Members.{natives}
 
 pub returns-clause-answered : goal.returns-clause-answered
 returns-clause-answered c = λ call agrees accepted fit.

@@ -1,6 +1,5 @@
--- The native members by their numbers, and what each tests, as data (Java Card API Specification).
-use Rattle.std.specs.Prelude.{ℕ, List, [], ◌∷◌, Option, Some, None}
-use Rattle.jc_machine.specs.Runtime.{apdu_exception, iso_exception, system_exception}
+-- What native members test, as rows of the code.
+use Rattle.std.specs.Prelude.{ℕ, Option, Some, None}
 use Rattle.jc_natives.specs.declared.native.AidNative.{AidNative}
 use Rattle.jc_natives.specs.declared.native.AidNative.TheVariants as aids
 use Rattle.jc_natives.specs.declared.native.ApduNative.{ApduNative}

@@ -218,7 +218,7 @@ module _ (known : Known) where
       (range_thrown s arguments row.first_range) (range_thrown s arguments row.second_range)))
 
   pub ended_fits : (touches : List _) (thrown : Option ℕ) (work : Work) → Thrown thrown → Fits work
-      → Answers (ended call touches thrown work)
+      → Answers (ended_on_words call touches thrown work)
   ended_fits touches (Some object) work thrown fits = (fit.heap, (fit.fits, thrown))
   ended_fits touches None work thrown fits = roomy_fits touches work fits
 

@@ -254,7 +254,7 @@ module _ (known : Known) where
 
   -- ---- cells of AIDs and of exceptions
 
-  no_array : (c : ApiClass) → is_same_name (Api api.Object) (Api c) ≡ false → above_in most_classes c api.Object ≡ false
+  pub no_array : (c : ApiClass) → is_same_name (Api api.Object) (Api c) ≡ false → above_in most_classes c api.Object ≡ false
       → is_class_below w.shapes (Api api.Object) (Api c) ≡ true → ⊥
   no_array c other none e =
       let one = ap (λ b. b || is_at_or_above w.shapes most_classes (Api c) (Api api.Object)) (sym other) ∙ e in

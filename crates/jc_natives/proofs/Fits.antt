@@ -389,7 +389,7 @@ module _ (known : Known) where
       work_fits (OfSystem native) g = system_fits native g
       work_fits (OfUtility native) g = utility_fits native g
 
-      pub begun_fits : (native : Native) → Suits native m → Answers known (begun w call (Some native))
+      pub begun_fits : (native : Native) → Suits native m → Answers known (begun_on_words w call (Some native))
       begun_fits native g =
           ended_fits known (tested s args (row_of native)).touches (tested s args (row_of native)).thrown
           (work_of s k args native)

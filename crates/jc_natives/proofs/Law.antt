@@ -67,7 +67,7 @@ arguments_typed w call b d =
         (are_of_instance w.shapes call.heap c s.parameters call.arguments)
 
 abbrev answers : World → NativeCall Kept → Bool → Option Native → NativeAnswer Kept
-answers w call b o = cond b (begun w call o) (unchanged call [] IsStuck)
+answers w call b o = cond b (begun_on_words w call o) (unchanged call [] IsStuck)
 
 module _ (lookups : (before after : List Shape) → LiesWithin before after → KeepsAllLookups before after)
     (linking : (before after : List Shape) → LiesWithin before after → KeepsAllLinking before after)
@@ -92,8 +92,9 @@ module _ (lookups : (before after : List Shape) → LiesWithin before after → 
       let done = begun_fits known b.member b.is refl
       (arguments_typed w call b d) asking refl a.type refl refl refl b.native
       (suits call.member b.native b.member b.numbered b.is) in
-      let same : answer_of w call ≡ begun w call (Some b.native) =
-      ap (λ x. answers w call x (numbered natives call.member)) fit.begins
+      let same : answer_of w call ≡ begun_on_words w call (Some b.native) = same_answer known
+      b.member b.native b.is b.numbered (arguments_typed w call b d)
+      ∙ ap (λ x. answers w call x (numbered natives call.member)) fit.begins
       ∙ ap (λ o. answers w call true o) b.numbered in
       subst (IsFitAnswer meaning w call) (sym same) (record {
         heap = done.0;

@@ -60,13 +60,13 @@ reference_of_value (Ref n) = just refl
 reference_of_value Null = just refl
 reference_of_value Unset = nothing refl
 
-word_among : (vs : List TaggedValue) (place : ℕ)
+pub word_among : (vs : List TaggedValue) (place : ℕ)
     → Only (option_and_then as_word (slice_get vs place)) (argument (map bits vs) place)
 word_among [] place = nothing refl
 word_among (v ∷ vs) zero = word_of_value v
 word_among (v ∷ vs) (suc place) = word_among vs place
 
-reference_among : (vs : List TaggedValue) (place : ℕ)
+pub reference_among : (vs : List TaggedValue) (place : ℕ)
     → Only (option_and_then as_reference (slice_get vs place)) (argument (map bits vs) place)
 reference_among [] place = nothing refl
 reference_among (v ∷ vs) zero = reference_of_value v
@@ -80,7 +80,7 @@ component_among (v ∷ cells) (suc index) = component_among cells index
 
 -- ---- components
 
-component_of : (heap : Heap TaggedValue) (number index : ℕ)
+pub component_of : (heap : Heap TaggedValue) (number index : ℕ)
     → Only (word_at heap number index) (cell_of (bared heap) number index)
 component_of heap number index =
     subst (λ o. Only (word_at heap number index) (option_map_or (λ (x : Object ℕ). get_or x.cells index 0) o 0))
@@ -92,7 +92,7 @@ component_of heap number index =
     by_object None = nothing refl
     by_object (Some o) = component_among o.cells index
 
-words_among : (heap : Heap TaggedValue) (number from count : ℕ)
+pub words_among : (heap : Heap TaggedValue) (number from count : ℕ)
     → Only (words_in heap number from count) (words_of (bared heap) number from count)
 words_among heap number from zero = just refl
 words_among heap number from (suc count) =
@@ -100,11 +100,11 @@ words_among heap number from (suc count) =
     (component_of heap number from)
     (mapped (λ words. cell_of (bared heap) number from ∷ words) _ _ (words_among heap number (from + 1) count))
 
-bytes_among : (heap : Heap TaggedValue) (number from count : ℕ)
+pub bytes_among : (heap : Heap TaggedValue) (number from count : ℕ)
     → Only (bytes_in heap number from count) (bytes_of (bared heap) number from count)
 bytes_among heap number from count = mapped (λ words. map low words) _ _ (words_among heap number from count)
 
-aid_among : (heap : Heap TaggedValue) (number : ℕ) → Only (aid_in heap number) (aid_bytes (bared heap) number)
+pub aid_among : (heap : Heap TaggedValue) (number : ℕ) → Only (aid_in heap number) (aid_bytes (bared heap) number)
 aid_among heap number =
     goes_with _ _ _ _ (component_of heap number 0) (bytes_among heap number 1 (aid_count (bared heap) number))
 
@@ -200,7 +200,7 @@ module _ (w : World) (call : NativeCall Kept) where
   aid_of_value Null = just refl
   aid_of_value Unset = nothing refl
 
-  aid_of_argument : (place : ℕ) → Only (is_aid_at h place) (is_aid_object s (argument args place))
+  pub aid_of_argument : (place : ℕ) → Only (is_aid_at h place) (is_aid_object s (argument args place))
   aid_of_argument place = among call.arguments place
     where
       among : (vs : List TaggedValue) (i : ℕ)

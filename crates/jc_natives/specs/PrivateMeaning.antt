@@ -1,9 +1,12 @@
 -- What native members mean on words without tags: what the code is proved against.
-use Rattle.std.specs.Prelude.{ℕ, List, [], Option, Some, None}
+use Rattle.std.specs.Prelude.{ℕ, List, [], Option, Some, None, if◌then◌else◌}
+use Rattle.jc_api.specs.Numbered.{numbered}
 use Rattle.jc_link.specs.Linked.{World}
+use Rattle.jc_machine.specs.Calls.{native_may_begin}
 use Rattle.jc_machine.specs.Machine.{IsStuck, NativeAnswer, NativeCall, ThrowsObject, Touch}
 use Rattle.jc_natives.specs.Kept.{Kept}
 use Rattle.jc_natives.specs.Meaning.{done, unchanged, with_room}
+use Rattle.jc_natives.specs.Members.{natives}
 use Rattle.jc_natives.specs.PrivateAids.{aid_work}
 use Rattle.jc_natives.specs.PrivateApdus.{apdu_work}
 use Rattle.jc_natives.specs.PrivateApplets.{applet_work}
@@ -40,3 +43,8 @@ begun_on_words w call None = unchanged call [] IsStuck
 begun_on_words w call (Some native) =
     let t = tested (seen_of w call) (arguments_of call) (row_of native) in
     ended_on_words call t.touches t.thrown (work_of (seen_of w call) call.runtime (arguments_of call) native)
+
+abbrev pub answer_on_words : World → NativeCall Kept → NativeAnswer Kept
+answer_on_words w call =
+    if native_may_begin w.shapes call.heap call.member call.arguments
+    then begun_on_words w call (numbered natives call.member) else unchanged call [] IsStuck

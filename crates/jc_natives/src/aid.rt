@@ -11,7 +11,7 @@ ghost use Rattle.jc_natives.specs.declared.native.Native.TheVariants.{OfAid};
 ghost use Rattle.jc_store.specs.Store.{with_objects};
 
 use crate::bytes::{copy_bytes, same_bytes};
-use crate::cells::{argument, bit, cell, extended, put};
+use crate::cells::{aid_count, argument, bit, extended, put};
 use crate::ended::{Ended, throw_system};
 use crate::kept::Runtime;
 use crate::native::AidNative;
@@ -71,7 +71,7 @@ fn is_range(
     if array == 0 {
         return false;
     }
-    cell(store, aid, 0) == count && same_bytes(store, aid, 1, array, usize::from(offset), count)
+    aid_count(store, aid) == count && same_bytes(store, aid, 1, array, usize::from(offset), count)
 }
 
 fn equals(world: &World, store: &Store, call: &WordCall<'_>) -> bool
@@ -94,7 +94,7 @@ fn get_bytes(world: &World, store: &mut Store, call: &WordCall<'_>, runtime: &Ru
     let aid = argument(call.arguments, 0);
     let array = argument(call.arguments, 1);
     let offset = argument(call.arguments, 2);
-    let count = cell(store, aid, 0);
+    let count = aid_count(store, aid);
     copy_bytes(store, aid, 1, array, usize::from(offset), count);
     Ended::Returned(Some(count))
 }

@@ -97,9 +97,3 @@ pub fn members_are_declared()
     growing_keeps_lookups();
     growing_keeps_linking();
 }
-
-/// Scratch. It does nothing.
-#[tactic(auto, using(crate::proofs::Same::same_answer))]
-pub fn scratch()
-    ensures { true ≡ true }
-{}

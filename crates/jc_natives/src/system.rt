@@ -13,7 +13,7 @@ ghost use Rattle.jc_natives.specs.declared.native.Native.TheVariants.{OfSystem};
 
 use crate::aid::ILLEGAL_VALUE;
 use crate::applet::aid_object;
-use crate::cells::{argument, cell, extended, is_count};
+use crate::cells::{aid_count, argument, extended, is_count};
 use crate::ended::{Ended, Question, throw_system};
 use crate::kept::{Instance, Runtime};
 use crate::native::{Elements, SystemNative};
@@ -103,7 +103,7 @@ fn ask_for_shareable(
 {
     let aid = argument(call.arguments, 0);
     let word = argument(call.arguments, 1);
-    let count = cell(store, aid, 0);
+    let count = aid_count(store, aid);
     let instance = runtime.instance_in(store, aid, 1, count);
     ask(world, store, call, runtime, word, instance)
 }

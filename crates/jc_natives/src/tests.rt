@@ -15,7 +15,7 @@ ghost use Rattle.jc_store.specs.Heap.{object_at};
 ghost use Rattle.jc_store.specs.Store as stores;
 ghost use Rattle.jc_store.specs.Store.{IsOwn, IsThere};
 
-use crate::cells::{argument, cell, extended, is_within, size};
+use crate::cells::{aid_count, argument, extended, is_within, size};
 use crate::row::{Length, Range, Row, Test, Way};
 use jc_api::ApiClass;
 use jc_firewall::{Access, Facts, Verdict, decide, own_is_allowed};
@@ -193,7 +193,7 @@ fn length_of(world: &World, store: &Store, call: &WordCall<'_>, length: Length) 
         Length::ShortAt(place) => argument(call.arguments, place),
         Length::ByteAt(place) => extended(argument(call.arguments, place)),
         Length::Fixed(count) => count,
-        Length::OfAid(place) => cell(store, argument(call.arguments, place), 0),
+        Length::OfAid(place) => aid_count(store, argument(call.arguments, place)),
     }
 }
 

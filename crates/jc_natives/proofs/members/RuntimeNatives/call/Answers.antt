@@ -11,6 +11,7 @@ returns-clause-answered c = λ call agrees accepted fit.
     answered c.args.world.now c.args.store.now c.args.self.now c.args.call.now
     (record { store = c.call_member.new.store; kept = c.call_member.new.runtime; ended = c.call_member.result })
     c.outcome_of.result c.call_member.ensures c.outcome_of.ensures call agrees fit
+    (c.members_mean_the_same.ensures c.args.world.now call accepted fit)
 
 pub returns-clause-classes : goal.returns-clause-classes
 returns-clause-classes c =

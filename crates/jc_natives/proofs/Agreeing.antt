@@ -1,8 +1,7 @@
 -- What tests come to on tagged values they come to on words without tags, or they are stuck.
-use Rattle.std.proofs.Common.{◌≡◌, ℕ, zero, suc, ◌==◌, ◌&&◌, ◌||◌, Bool, true, false, cond, List, [], ◌∷◌, ◌++◌, length}
+use Rattle.std.proofs.Common.{◌≡◌, ℕ, zero, suc, ◌==◌, ◌&&◌, ◌||◌, Bool, true, false, cond, List, [], ◌∷◌, ◌++◌}
 use Rattle.std.proofs.Common.{append_assoc, map, slice_get, Option, Some, None, refl, sym, ap, subst, ◌∙◌, arith}
 use Rattle.std.proofs.lemmas.Bool.{eqb-true}
-use Rattle.std.proofs.lemmas.Option.{none-some}
 use Rattle.std.specs.Option.{option_map, option_map_or}
 use Rattle.jc_firewall.specs.Verdict.{verdict_of}
 use Rattle.jc_firewall.specs.declared.access.Verdict.{Verdict}
@@ -12,7 +11,7 @@ use Rattle.jc_machine.specs.Going.{facts_in}
 use Rattle.jc_machine.specs.Guarded.{are_allowed, is_allowed}
 use Rattle.jc_machine.specs.Machine.{NativeCall, Touch}
 use Rattle.jc_natives.proofs.Bare.{bare_object}
-use Rattle.jc_natives.proofs.Matching.{Only, at_length, at_object, at_reference, at_word, both_aids, either, just, nothing}
+use Rattle.jc_natives.proofs.Matching.{Only, at_length, at_object, at_reference, at_word, both_aids, just, nothing}
 use Rattle.jc_natives.proofs.Matching.{size_is}
 use Rattle.jc_natives.specs.Cells.{bits, is_within}
 use Rattle.jc_natives.specs.Checks as checks
@@ -21,7 +20,7 @@ use Rattle.jc_natives.specs.Checks.{UsesUnlessNull, access_of, are_aids, calls_o
 use Rattle.jc_natives.specs.Checks.{uses_value}
 use Rattle.jc_natives.specs.Kept.{Kept}
 use Rattle.jc_natives.specs.PrivateCells.{argument, bare, bared, size_of}
-use Rattle.jc_natives.specs.PrivateSeen.{Seen, arguments_of, is_aid_object, seen_of}
+use Rattle.jc_natives.specs.PrivateSeen.{Seen, arguments_of, seen_of}
 use Rattle.jc_natives.specs.PrivateTests.{Tested, by_verdict, facts_of, fails, followed, goes_on, is_in_range, length_of}
 use Rattle.jc_natives.specs.PrivateTests.{on_object, passes, ranged, test, tested, used}
 use Rattle.jc_natives.specs.Taking.{Called, called}

@@ -1,6 +1,6 @@
 -- What a member answers on tagged values is what it answers on words without tags, or it is stuck behind some of the
 -- accesses, all of which were allowed.
-use Rattle.std.proofs.Common.{◌≡◌, ℕ, Bool, true, false, cond, List, [], ◌∷◌, ◌++◌, Option, Some, None, refl, sym, ap}
+use Rattle.std.proofs.Common.{◌≡◌, ℕ, Bool, true, false, cond, List, [], ◌++◌, Option, Some, None, refl, sym, ap}
 use Rattle.std.proofs.Common.{append_assoc, subst, ◌∙◌}
 use Rattle.std.proofs.lemmas.List.{append-nil}
 use Rattle.jc_api.specs.Numbered.{numbered}
@@ -8,18 +8,18 @@ use Rattle.jc_link.specs.Linked.{World}
 use Rattle.jc_machine.specs.Calls.{native_may_begin}
 use Rattle.jc_machine.specs.Guarded.{are_allowed}
 use Rattle.jc_machine.specs.Machine.{IsStuck, NativeAnswer, NativeCall, ThrowsObject, Touch}
-use Rattle.jc_natives.proofs.Agreeing.{Agrees, end_by, same, stuck, tests_agree}
+use Rattle.jc_natives.proofs.Agreeing.{Agrees, same, stuck, tests_agree}
 use Rattle.jc_natives.proofs.Matching.{Only, just, nothing}
 use Rattle.jc_natives.proofs.Working.{member_does, same_tests}
 use Rattle.jc_natives.specs.Checks as checks
 use Rattle.jc_natives.specs.Checks.{Check, Checked, Passed, Refused, TestEnd, Unfit}
 use Rattle.jc_natives.specs.Kept.{Kept}
-use Rattle.jc_natives.specs.Meaning.{answer_of, begun, did, done, ended, own_touches, unchanged, with_room}
+use Rattle.jc_natives.specs.Meaning.{answer_of, begun, done, ended, own_touches, unchanged, with_room}
 use Rattle.jc_natives.specs.Members.{member_of_native, natives}
 use Rattle.jc_natives.specs.PrivateMeaning.{answer_on_words, begun_on_words, ended_on_words, work_of}
 use Rattle.jc_natives.specs.PrivateRows.{row_of}
 use Rattle.jc_natives.specs.PrivateSeen.{Seen, arguments_of, seen_of}
-use Rattle.jc_natives.specs.PrivateTests.{Tested, tested}
+use Rattle.jc_natives.specs.PrivateTests.{tested}
 use Rattle.jc_natives.specs.Taking.{Called, called}
 use Rattle.jc_natives.specs.Work.{Asks, Does, Makes, Work}
 use Rattle.jc_natives.specs.declared.native.Native.{Native}

@@ -16,10 +16,10 @@ use Rattle.jc_firewall.specs.declared.access.Verdict.{Verdict}
 use Rattle.jc_firewall.specs.declared.access.Verdict.TheVariants.{Allowed, AllowedSwitch, Denied}
 use Rattle.jc_link.specs.Linked.{World}
 use Rattle.jc_machine.specs.Going.{facts_for, facts_in}
-use Rattle.jc_machine.specs.Guarded.{ChangesAccessed, IsAccessed, allowed, are_allowed, is_allowed}
+use Rattle.jc_machine.specs.Guarded.{ChangesAccessed, IsAccessed, are_allowed, is_allowed}
 use Rattle.jc_machine.specs.Guarded.{IsJudged, asked_by, is_last_denied, is_runtimes, may_change}
 use Rattle.jc_machine.specs.Lookup.{is_array}
-use Rattle.jc_machine.specs.Machine.{By, ByCode, ByRuntime, Calls, Limits, NativeCall, Touch}
+use Rattle.jc_machine.specs.Machine.{By, ByCode, ByRuntime, Limits, NativeCall, Touch}
 use Rattle.jc_machine.specs.Natives.{IsStill, IsWithin, KeepsObjects, setting_for}
 use Rattle.jc_machine.specs.Runtime.{security_exception}
 use Rattle.jc_natives.proofs.Bare.{bare_object, both}

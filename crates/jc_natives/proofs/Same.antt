@@ -1,5 +1,5 @@
 -- A call that fits answers on tagged values what it answers on words without tags.
-use Rattle.std.proofs.Common.{◌≡◌, ℕ, ◌+◌, ◌==◌, ◌&&◌, Bool, true, false, cond, List, [], ◌∷◌, length, nat_le, is_some}
+use Rattle.std.proofs.Common.{◌≡◌, ℕ, ◌+◌, ◌==◌, ◌&&◌, Bool, true, false, cond, List, [], length, nat_le}
 use Rattle.std.proofs.Common.{Option, Some, None, refl, sym, ap, subst, ◌∙◌}
 use Rattle.std.specs.List.{AllByRecursion, list_all}
 use Rattle.std.specs.Option.{option_and_then, option_map, option_map_or}
@@ -7,32 +7,29 @@ use Rattle.jc_api.specs.Member.{ApiMember, member_of}
 use Rattle.jc_api.specs.Numbered.{numbered}
 use Rattle.jc_api.specs.declared.class.ApiClass.{ApiClass}
 use Rattle.jc_api.specs.declared.class.ApiClass.TheVariants as api
-use Rattle.jc_link.specs.Linked.{World}
-use Rattle.jc_machine.specs.Calls.{native_may_begin}
 use Rattle.jc_machine.specs.Lookup.{is_of_class}
 use Rattle.jc_machine.specs.Machine.{Calls, Gives, IsStuck, NativeAnswer, NativeCall, NativeEnd, ThrowsObject}
 use Rattle.jc_machine.specs.Runtime.{apdu_buffer}
 use Rattle.jc_names.specs.declared.name.ClassName.TheVariants.{Api}
-use Rattle.jc_names.specs.declared.owner.Owner.{Owner}
 use Rattle.jc_natives.proofs.Alike.{IsLike, alike, begun_alike, stops}
 use Rattle.jc_natives.proofs.Bare.{bare_object, both}
 use Rattle.jc_natives.proofs.Facts.{AreTyped, LeadsToClass, own_object}
 use Rattle.jc_natives.proofs.FitWrites.{Known, buffer_leads}
 use Rattle.jc_natives.proofs.Matching.{both_aids}
-use Rattle.jc_natives.proofs.Takes.{AreOfKinds, kinds_of, of_kinds, takes, takes_so}
+use Rattle.jc_natives.proofs.Takes.{AreOfKinds, of_kinds, takes, takes_so}
 use Rattle.jc_natives.proofs.TypedCells.{Has, has_and_goes}
 use Rattle.jc_natives.proofs.Unstuck.{IsShown, There, aid_at, aids_have, bytes_at, fits_kinds, has_aid, has_bytes}
 use Rattle.jc_natives.proofs.Unstuck.{has_component, has_object, has_range, has_reason, has_reference, has_word}
 use Rattle.jc_natives.proofs.Unstuck.{has_words, is_fit, object_leads, of_leads, tests_fit, tests_show}
 use Rattle.jc_natives.proofs.Unstuck.{there_unless_null}
-use Rattle.jc_natives.specs.Checks.{Check, Passed, Refused, TestEnd, Unfit, are_aids, tested}
+use Rattle.jc_natives.specs.Checks.{Passed, Refused, TestEnd, Unfit, are_aids, tested}
 use Rattle.jc_natives.specs.Cells.{is_within}
 use Rattle.jc_natives.specs.Kept.{Kept, has_aid_length, is_fresh, is_incoming, is_length_set, is_outgoing, most_sent}
 use Rattle.jc_natives.specs.Meaning.{answer_of, begun, done, end_of, ended, unchanged, with_room}
 use Rattle.jc_natives.specs.Members as members
 use Rattle.jc_natives.specs.Members.{ends_with, in_buffer, makes_array, member_of_native, natives, on_allowed}
 use Rattle.jc_natives.specs.Members.{on_installing, sends_at_once, sets_reason}
-use Rattle.jc_natives.specs.PrivateCells.{argument, bare, bared}
+use Rattle.jc_natives.specs.PrivateCells.{argument, bare}
 use Rattle.jc_natives.specs.PrivateMeaning.{answer_on_words, begun_on_words}
 use Rattle.jc_natives.specs.PrivateSeen.{Seen, arguments_of, is_aid_object, seen_of}
 use Rattle.jc_natives.specs.Taking.{Called, called, on_range}
@@ -45,7 +42,6 @@ use Rattle.jc_natives.specs.declared.native.ApduNative.{ApduNative}
 use Rattle.jc_natives.specs.declared.native.ApduNative.TheVariants as apdus
 use Rattle.jc_natives.specs.declared.native.AppletNative.{AppletNative}
 use Rattle.jc_natives.specs.declared.native.AppletNative.TheVariants as applets
-use Rattle.jc_natives.specs.declared.native.Elements.{Elements}
 use Rattle.jc_natives.specs.declared.native.Native.{Native}
 use Rattle.jc_natives.specs.declared.native.Native.TheVariants.{OfAid, OfApdu, OfApplet, OfObject, OfSystem, OfUtility}
 use Rattle.jc_natives.specs.declared.native.ObjectNative.{ObjectNative}

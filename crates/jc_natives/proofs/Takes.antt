@@ -1,8 +1,7 @@
 -- The kinds of the arguments that native members take: words, arrays of bytes, references to objects of a class.
-use Rattle.std.proofs.Common.{◌≡◌, ℕ, zero, suc, ◌&&◌, Bool, true, false, cond, List, [], ◌∷◌, map, slice_get, Option}
-use Rattle.std.proofs.Common.{Some, None, refl, sym, ap, subst, ◌∙◌}
+use Rattle.std.proofs.Common.{◌≡◌, ℕ, zero, suc, Bool, true, false, cond, List, [], ◌∷◌, map, slice_get}
+use Rattle.std.proofs.Common.{Some, refl, ap, subst}
 use Rattle.std.proofs.lemmas.Option.{none-some, same_Some}
-use Rattle.std.specs.Option.{option_map_or}
 use Rattle.jc_api.specs.Member.{ApiMember, member_of, members}
 use Rattle.jc_api.specs.Numbered.{numbered}
 use Rattle.jc_api.specs.declared.class.ApiClass.{ApiClass}
@@ -12,8 +11,8 @@ use Rattle.jc_base.specs.declared.declared_type.DeclaredType.{DeclaredType}
 use Rattle.jc_base.specs.declared.declared_type.DeclaredType.TheVariants as types
 use Rattle.jc_cap_desc.specs.Shape.{Shape}
 use Rattle.jc_classes.specs.Api.{is_static}
-use Rattle.jc_machine.specs.Lookup.{are_of_instance, are_of_types, is_boolean_array, is_byte_array, is_object_of}
-use Rattle.jc_machine.specs.Lookup.{is_of_class, is_of_type, is_short_array, is_word, leads_to}
+use Rattle.jc_machine.specs.Lookup.{are_of_instance, are_of_types, is_byte_array, is_object_of}
+use Rattle.jc_machine.specs.Lookup.{is_of_class, is_of_type, is_word, leads_to}
 use Rattle.jc_machine.specs.Reading.{Pointwise}
 use Rattle.jc_names.specs.declared.name.ClassName.{ClassName}
 use Rattle.jc_names.specs.declared.name.ClassName.TheVariants.{Api}

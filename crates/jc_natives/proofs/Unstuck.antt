@@ -1,68 +1,41 @@
 -- Of a call that fits no member is stuck: so it answers what it answers on words without tags.
 use Rattle.std.specs.Prelude.{⊤}
-use Rattle.std.proofs.Common.{◌≡◌, ℕ, zero, suc, ◌+◌, ◌<◌, ◌≤◌, ◌==◌, ◌&&◌, Bool, true, false, cond, List, [], ◌∷◌, ◌++◌}
-use Rattle.std.proofs.Common.{is_some, length, map, nat_le, slice_get, Option, Some, None, refl, sym, ap, subst, ◌∙◌}
-use Rattle.std.proofs.Common.{arith}
+use Rattle.std.proofs.Common.{◌≡◌, ℕ, zero, suc, ◌==◌, ◌&&◌, Bool, true, false, cond, List, [], ◌∷◌}
+use Rattle.std.proofs.Common.{is_some, map, slice_get, Option, Some, None, refl, sym, ap, subst, ◌∙◌}
 use Rattle.std.proofs.lemmas.Bool.{eq-eqb}
 use Rattle.std.proofs.lemmas.Option.{none-some, same_Some}
 use Rattle.std.specs.List.{AllByRecursion, list_all}
 use Rattle.std.specs.Option.{option_and_then, option_map, option_map_or}
-use Rattle.jc_api.specs.Member.{ApiMember, member_of}
-use Rattle.jc_api.specs.Numbered.{numbered}
 use Rattle.jc_api.specs.declared.class.ApiClass.TheVariants as api
 use Rattle.jc_firewall.specs.Verdict.{verdict_of}
 use Rattle.jc_firewall.specs.declared.access.Verdict.{Verdict}
 use Rattle.jc_firewall.specs.declared.access.Verdict.TheVariants.{Allowed, AllowedSwitch, Denied}
-use Rattle.jc_link.specs.Linked.{World}
-use Rattle.jc_machine.specs.Calls.{native_may_begin}
 use Rattle.jc_machine.specs.Going.{facts_in}
-use Rattle.jc_machine.specs.Lookup.{is_of_class, is_word, leads_to}
-use Rattle.jc_machine.specs.Machine.{IsStuck, NativeAnswer, NativeCall, NativeEnd}
-use Rattle.jc_machine.specs.Runtime.{apdu_buffer}
+use Rattle.jc_machine.specs.Lookup.{is_of_class, leads_to}
 use Rattle.jc_link.proofs.SameNames.{same_name}
 use Rattle.jc_names.specs.Names.{is_same_name}
 use Rattle.jc_names.specs.declared.name.ClassName.{ClassName}
 use Rattle.jc_names.specs.declared.name.ClassName.TheVariants.{Api}
-use Rattle.jc_names.specs.declared.owner.Owner.{Owner}
-use Rattle.jc_natives.proofs.Alike.{IsLike, alike, begun_alike, stops}
-use Rattle.jc_natives.proofs.Bare.{bare_object, both}
-use Rattle.jc_natives.proofs.Facts.{AreTyped, LeadsToBytes, LeadsToClass, bytes_lead, object_lead, own_object}
-use Rattle.jc_natives.proofs.FitWrites.{Known, buffer_leads}
-use Rattle.jc_natives.proofs.Matching.{Only, aid_among, aid_of_argument, both_aids, bytes_among, component_of, just}
-use Rattle.jc_natives.proofs.Matching.{nothing, reference_among, word_among, words_among}
+use Rattle.jc_natives.proofs.Bare.{both}
+use Rattle.jc_natives.proofs.Facts.{LeadsToBytes, LeadsToClass, bytes_lead, object_lead}
+use Rattle.jc_natives.proofs.FitWrites.{Known}
+use Rattle.jc_natives.proofs.Matching.{aid_among, aid_of_argument, bytes_among, component_of}
+use Rattle.jc_natives.proofs.Matching.{reference_among, word_among, words_among}
 use Rattle.jc_natives.proofs.Simulation.{passed_some}
-use Rattle.jc_natives.proofs.Takes.{AreOfKinds, IsOfKind, Kind, array as other_array, bytes, kind_at, kinds_of}
-use Rattle.jc_natives.proofs.Takes.{object as an_object, of, of_kinds, takes, takes_so, word}
-use Rattle.jc_natives.proofs.TypedCells.{Has, IsWordAt, aid_there, byte_word, bytes_there, has_and_goes, has_mapped}
-use Rattle.jc_natives.proofs.TypedCells.{reason_word, what_it_has, word_there, word_value, words_there}
-use Rattle.jc_natives.specs.Cells.{bits, extended, is_within}
+use Rattle.jc_natives.proofs.Takes.{AreOfKinds, IsOfKind, Kind, array as other_array, bytes, kind_at}
+use Rattle.jc_natives.proofs.Takes.{object as an_object, of, word}
+use Rattle.jc_natives.proofs.TypedCells.{Has, aid_there, byte_word, bytes_there, has_and_goes, has_mapped}
+use Rattle.jc_natives.proofs.TypedCells.{reason_word, word_there, word_value, words_there}
+use Rattle.jc_natives.specs.Cells.{bits}
 use Rattle.jc_natives.specs.Checks as checks
 use Rattle.jc_natives.specs.Checks.{CallsOtherAid, Check, Checked, HasRange, Passed, Refused, TestEnd, Unfit, Uses}
 use Rattle.jc_natives.specs.Checks.{UsesUnlessNull, access_of, are_aids, calls_other, followed, goes_on, in_range}
 use Rattle.jc_natives.specs.Checks.{is_aid_at, is_aid_object, is_aid_value, is_in_range, is_range_in, judged, refused}
 use Rattle.jc_natives.specs.Checks.{test, tested, unfit, uses, uses_value}
-use Rattle.jc_natives.specs.Kept.{Kept}
-use Rattle.jc_natives.specs.Meaning.{begun, ended, unchanged}
-use Rattle.jc_natives.specs.Members.{Member, member_of_native, natives}
-use Rattle.jc_natives.specs.Members as members
 use Rattle.jc_natives.specs.PrivateCells.{aid_bytes, argument, bared, bytes_of, cell_of, words_of}
-use Rattle.jc_natives.specs.PrivateMeaning.{begun_on_words}
-use Rattle.jc_natives.specs.PrivateSeen as seen
 use Rattle.jc_natives.specs.PrivateSeen.{Seen, arguments_of, seen_of}
-use Rattle.jc_natives.specs.PrivateTests.{length_of}
-use Rattle.jc_natives.specs.Taking.{Called, aid_in, as_reference, as_word, called, on_aid, on_bytes, on_component}
+use Rattle.jc_natives.specs.Taking.{Called, as_reference, as_word, called, on_aid, on_bytes, on_component}
 use Rattle.jc_natives.specs.Taking.{on_length, on_object, on_range, on_reference, on_word, on_words}
-use Rattle.jc_natives.specs.Work.{Work}
-use Rattle.jc_natives.specs.declared.kept.Installing.{Installing}
-use Rattle.jc_natives.specs.declared.native.AidNative.TheVariants as aids
-use Rattle.jc_natives.specs.declared.native.ApduNative.TheVariants as apdus
-use Rattle.jc_natives.specs.declared.native.AppletNative.TheVariants as applets
-use Rattle.jc_natives.specs.declared.native.Elements.{Elements}
-use Rattle.jc_natives.specs.declared.native.Native.{Native}
-use Rattle.jc_natives.specs.declared.native.Native.TheVariants.{OfAid, OfApdu, OfApplet, OfObject, OfSystem, OfUtility}
-use Rattle.jc_natives.specs.declared.native.ObjectNative.TheVariants as objects
-use Rattle.jc_natives.specs.declared.native.SystemNative.TheVariants as system
-use Rattle.jc_natives.specs.declared.native.UtilityNative.TheVariants as utilities
 use Rattle.jc_natives.specs.declared.row.Length.{Length}
 use Rattle.jc_natives.specs.declared.row.Length.TheVariants.{ByteAt, Fixed, OfAid as AsAid, ShortAt}
 use Rattle.jc_natives.specs.declared.row.Way.{Way}

@@ -1,7 +1,7 @@
 -- What a member does on tagged values it does on words without tags, or it is stuck.
-use Rattle.std.proofs.Common.{◌≡◌, ℕ, ◌+◌, ◌<◌, ◌==◌, ◌&&◌, ◌||◌, Bool, true, false, cond, List, [], ◌∷◌, ◌++◌, bytes_eq}
+use Rattle.std.proofs.Common.{◌≡◌, ℕ, ◌+◌, ◌==◌, ◌&&◌, ◌||◌, Bool, true, false, cond, List, [], ◌∷◌, ◌++◌, bytes_eq}
 use Rattle.std.proofs.Common.{length, nat_le, nat_lt, Option, Some, None, refl, sym, ap, subst, ◌∙◌, arith}
-use Rattle.std.proofs.lemmas.Bool.{eq-eqb, eqb-true, ltb-true}
+use Rattle.std.proofs.lemmas.Bool.{eq-eqb, ltb-true}
 use Rattle.std.specs.Option.{option_and_then, option_map, option_map_or}
 use Rattle.jc_firewall.specs.Verdict.{runtime}
 use Rattle.jc_link.specs.Linked.{World}
@@ -11,17 +11,17 @@ use Rattle.jc_names.specs.declared.owner.Owner.{Owner}
 use Rattle.jc_natives.proofs.Agreeing.{checks_of}
 use Rattle.jc_natives.proofs.Bare.{bare_object}
 use Rattle.jc_natives.proofs.Matching.{Only, at_aid, at_bytes, at_component, at_object, at_range, at_reference, at_word}
-use Rattle.jc_natives.proofs.Matching.{at_words, both_aids, either, goes_with, just, nothing, size_is}
+use Rattle.jc_natives.proofs.Matching.{at_words, both_aids, either, goes_with, just, size_is}
 use Rattle.jc_natives.proofs.Ranges.{bytes_differ, length_of_bytes}
 use Rattle.jc_natives.specs.Cells as cells
 use Rattle.jc_natives.specs.Cells.{bit, extended, is_within}
-use Rattle.jc_natives.specs.Checks.{Check, are_aids}
-use Rattle.jc_natives.specs.Kept.{Kept, has_aid_length, instance_with, is_fresh, is_incoming, is_length_set}
+use Rattle.jc_natives.specs.Checks.{are_aids}
+use Rattle.jc_natives.specs.Kept.{Kept, has_aid_length, is_fresh, is_incoming, is_length_set}
 use Rattle.jc_natives.specs.Kept.{is_outgoing, most_sent, with_sent}
 use Rattle.jc_natives.specs.Members as members
 use Rattle.jc_natives.specs.Members.{Member, allowed, ends_with, in_buffer, keeps_aid, makes_array, member_of_native}
 use Rattle.jc_natives.specs.Members.{on_allowed, on_installing, sends, sends_at_once, sets_reason}
-use Rattle.jc_natives.specs.PrivateAids.{aid_work, constructs, is_range}
+use Rattle.jc_natives.specs.PrivateAids.{aid_work, constructs}
 use Rattle.jc_natives.specs.PrivateApdus.{apdu_work, is_in_buffer, unless_apdu}
 use Rattle.jc_natives.specs.PrivateApdus as apdu
 use Rattle.jc_natives.specs.PrivateApplets as applet
@@ -35,7 +35,7 @@ use Rattle.jc_natives.specs.PrivateSystem as systems
 use Rattle.jc_natives.specs.PrivateSystem.{system_work}
 use Rattle.jc_natives.specs.PrivateUtilities.{utility_work}
 use Rattle.jc_natives.specs.Taking.{Called, aid_length, called, on_bytes}
-use Rattle.jc_natives.specs.Work.{GivesWord, NoResult, Work, buffer_bounds, gives, illegal_value, throws_system}
+use Rattle.jc_natives.specs.Work.{GivesWord, NoResult, Work, buffer_bounds, gives, illegal_value}
 use Rattle.jc_natives.specs.Work.{unless_system, writes_to}
 use Rattle.jc_natives.specs.declared.kept.Installing.{Installing}
 use Rattle.jc_natives.specs.declared.native.AidNative.{AidNative}

@@ -1,5 +1,5 @@
 -- Each answer of a native member is guarded.
-use Rattle.std.proofs.Common.{◌≡◌, ◌⊎◌, inl, inr, ℕ, zero, suc, ◌+◌, ◌==◌, ◌||◌, Bool, true, false, cond, List, [], ◌∷◌}
+use Rattle.std.proofs.Common.{◌≡◌, ◌⊎◌, inl, inr, ℕ, zero, suc, ◌==◌, ◌||◌, Bool, true, false, cond, List, [], ◌∷◌}
 use Rattle.std.proofs.Common.{◌++◌, length, map, slice_get, Option, Some, None, refl, sym, ap, subst, ◌∙◌, arith}
 use Rattle.std.proofs.lemmas.Bool.{eq-eqb}
 use Rattle.std.proofs.lemmas.List.{length-replicate}
@@ -7,7 +7,7 @@ use Rattle.std.proofs.lemmas.Option.{none-some, same_Some}
 use Rattle.std.specs.List.{AllByRecursion}
 use Rattle.std.specs.Option.{option_map, option_map_or}
 use Rattle.jc_api.specs.Numbered.{numbered}
-use Rattle.jc_firewall.specs.Verdict.{runtime, verdict_of}
+use Rattle.jc_firewall.specs.Verdict.{verdict_of}
 use Rattle.jc_firewall.specs.declared.access.Verdict.{Verdict}
 use Rattle.jc_firewall.specs.declared.access.Verdict.TheVariants.{Allowed, AllowedSwitch, Denied}
 use Rattle.jc_link.specs.Linked.{World}
@@ -18,14 +18,18 @@ use Rattle.jc_machine.specs.Machine.{ByRuntime, Callback, Calls, IsStuck, Native
 use Rattle.jc_machine.specs.Natives.{IsGuardedAnswer, IsModest, IsOfReceiver, IsRefusedAnswer, IsWithin}
 use Rattle.jc_machine.specs.Natives.{KeepsObjects, setting_for, shareable_member}
 use Rattle.jc_machine.specs.Runtime.{security_exception, system_exception}
-use Rattle.jc_natives.specs.Cells.{Write, has_room, written}
-use Rattle.jc_natives.specs.Kept.{Kept}
-use Rattle.jc_natives.specs.Meaning.{answer_of, array_or_refusal, begun, did, done, end_of, ended, made, meaning}
-use Rattle.jc_natives.specs.Meaning.{registering, new_array, own_touches, unchanged, with_room, work_of}
-use Rattle.jc_natives.specs.Rows.{natives, row_of}
-use Rattle.jc_natives.specs.Seen.{arguments_of, seen_of}
-use Rattle.jc_natives.specs.Tests.{Tested, access_of, by_verdict, facts_of, followed, goes_on, on_object, ranged, test}
-use Rattle.jc_natives.specs.Tests.{tested, used}
+use Rattle.jc_natives.specs.Cells.{Write, bits, has_room, written}
+use Rattle.jc_natives.specs.Checks.{access_of}
+use Rattle.jc_natives.specs.Kept.{Kept, aid_object}
+use Rattle.jc_natives.specs.Meaning.{answer_of, array_or_refusal, did, done, end_of, made, meaning, new_array}
+use Rattle.jc_natives.specs.Meaning.{own_touches, registering, unchanged, with_room}
+use Rattle.jc_natives.specs.Members.{natives}
+use Rattle.jc_natives.specs.PrivateCells.{argument}
+use Rattle.jc_natives.specs.PrivateMeaning.{answer_on_words, begun_on_words, ended_on_words, work_of}
+use Rattle.jc_natives.specs.PrivateRows.{row_of}
+use Rattle.jc_natives.specs.PrivateSeen.{Seen, arguments_of, seen_of}
+use Rattle.jc_natives.specs.PrivateTests.{Tested, by_verdict, facts_of, followed, goes_on, on_object, ranged, test}
+use Rattle.jc_natives.specs.PrivateTests.{tested, used}
 use Rattle.jc_natives.specs.Work.{Asks, Does, Ending, GivesReference, GivesWord, Makes, NewArray, NoResult, Throws}
 use Rattle.jc_natives.specs.Work.{Work, no_transient_space}
 use Rattle.jc_natives.specs.declared.native.Native.{Native}
@@ -39,14 +43,12 @@ use Rattle.std.proofs.lemmas.Option.{slice_get_cases, slice_get_past}
 use Rattle.jc_machine.specs.Machine.{Gives, NativeAnswer}
 use Rattle.jc_machine.specs.Natives.{IsUnchanged}
 use Rattle.jc_machine.specs.Runtime.{apdu_buffer, apdu_exception, iso_exception}
+use Rattle.jc_natives.proofs.Alike.{IsLike, alike, answers_alike, stops}
 use Rattle.jc_natives.proofs.Guarding.{ArePlaced, IsPlaced, IsUse, Refuses, all_both, allowed_both}
 use Rattle.jc_natives.proofs.Guarding.{changes_accessed, got_front, keeps_itself, keeps_new, keeps_written, made_within}
 use Rattle.jc_natives.proofs.Guarding.{natives_of, own_allowed, own_natives, same_found, tested_uses, written_as_large}
 use Rattle.jc_natives.proofs.Reaching.{row_reaches}
 use Rattle.jc_natives.proofs.Spared.{IsApartWork, SparesOwn, all_throw_own, throws_own, work_apart}
-use Rattle.jc_natives.specs.Applets.{aid_object}
-use Rattle.jc_natives.specs.Cells.{argument, bits}
-use Rattle.jc_natives.specs.Seen.{Seen}
 use Rattle.jc_natives.specs.declared.kept.Installing.{Installing}
 use Rattle.jc_natives.specs.declared.native.AppletNative.TheVariants as applets
 use Rattle.jc_natives.specs.declared.native.Native.TheVariants.{OfApplet}
@@ -258,7 +260,7 @@ module _ (w : World) (call : NativeCall Kept) where
         })
 
     by_thrown : (thrown : Option ℕ) → t.thrown ≡ thrown → (are_allowed t.touches ≡ true) ⊎ Refuses t
-        → IsFine w call (ended call t.touches thrown work)
+        → IsFine w call (ended_on_words call t.touches thrown work)
     by_thrown (Some object) e (inl fine) =
         unchanged_fine t.touches (ThrowsObject object) (tested_uses w call args (row_of native)).uses (allowed fine)
         (λ callback f. absurd cc)
@@ -272,18 +274,18 @@ module _ (w : World) (call : NativeCall Kept) where
         done_fine t.touches work (tested_uses w call args (row_of native)).uses fine (placed_work e)
     by_thrown None e (inr refuses) = absurd (none-some security_exception (sym e ∙ refuses.1))
 
-    native_fine : IsFine w call (begun w call (Some native))
+    native_fine : IsFine w call (begun_on_words w call (Some native))
     native_fine = by_thrown t.thrown refl (tested_uses w call args (row_of native)).verdicts
 
-  begun_fine : (number : ℕ) (o : Option Native) → numbered natives number ≡ o → IsFine w call (begun w call o)
+  begun_fine : (number : ℕ) (o : Option Native) → numbered natives number ≡ o → IsFine w call (begun_on_words w call o)
   begun_fine number None e = unchanged_fine [] IsStuck tt (allowed refl) (λ callback f. absurd cc)
   begun_fine number (Some native) e = native_fine native (all_throw_own number native e)
 
   -- each answer
-  answer_fine : IsFine w call (answer_of w call)
+  answer_fine : IsFine w call (answer_on_words w call)
   answer_fine = by_begin (native_may_begin w.shapes call.heap call.member call.arguments)
     where
-      by_begin : (b : Bool) → IsFine w call (cond b (begun w call (numbered natives call.member))
+      by_begin : (b : Bool) → IsFine w call (cond b (begun_on_words w call (numbered natives call.member))
           (unchanged call [] IsStuck))
       by_begin true = begun_fine call.member (numbered natives call.member) refl
       by_begin false = unchanged_fine [] IsStuck tt (allowed refl) (λ callback f. absurd cc)
@@ -327,7 +329,7 @@ module _ (w : World) (call : NativeCall Kept) where
         (followed_of passed ranges tt (followed_of (ranged s args None) (ranged s args None) tt tt))
 
     modest_end : (thrown : Option ℕ)
-        → IsModest number call (ended call (tested s args (row_of shareable)).touches thrown
+        → IsModest number call (ended_on_words call (tested s args (row_of shareable)).touches thrown
         (work_of s call.runtime args shareable))
     modest_end (Some object) = record { touches = row_of_it; unchanged = record { heap = refl; runtime = refl } }
     modest_end None = record {
@@ -336,15 +338,15 @@ module _ (w : World) (call : NativeCall Kept) where
     }
 
     modest_begun : (b : Bool) → call.member ≡ shareable_member
-        → IsModest number call (cond b (begun w call (numbered natives call.member)) (unchanged call [] IsStuck))
+        → IsModest number call (cond b (begun_on_words w call (numbered natives call.member)) (unchanged call [] IsStuck))
     modest_begun true is =
-        subst (λ (o : Option Native). IsModest number call (begun w call o)) (sym (ap (numbered natives) is))
+        subst (λ (o : Option Native). IsModest number call (begun_on_words w call o)) (sym (ap (numbered natives) is))
         (modest_end (tested s args (row_of shareable)).thrown)
     modest_begun false is = record { touches = tt; unchanged = record { heap = refl; runtime = refl } }
 
--- each answer is guarded
-pub answers_guarded : (w : World) (call : NativeCall Kept) → IsGuardedAnswer meaning w call (answer_of w call)
-answers_guarded w call =
+-- each answer on words is guarded
+words_guarded : (w : World) (call : NativeCall Kept) → IsGuardedAnswer meaning w call (answer_on_words w call)
+words_guarded w call =
     let a = answer_fine w call in record {
       touches = a.touches;
       guarded = a.guarded;
@@ -358,3 +360,42 @@ answers_guarded w call =
           modest_begun w call number rest first
           (native_may_begin w.shapes call.heap call.member call.arguments) is;
     }
+
+-- and so is one that is stuck behind some of its accesses
+front_all : {A : Type 0} (P : A → Type 0) (xs ys : List A) → AllByRecursion P (xs ++ ys) → AllByRecursion P xs
+front_all P [] ys all = tt
+front_all P (x ∷ xs) ys all = (all.0, front_all P xs ys all.1)
+
+module _ (w : World) (call : NativeCall Kept) (touches rest : List Touch) (b : NativeAnswer Kept)
+    (front : b.touches ≡ touches ++ rest) where
+  front_of : (P : Touch → Type 0) → AllByRecursion P b.touches → AllByRecursion P touches
+  front_of P all = front_all P touches rest (subst (AllByRecursion P) front all)
+
+  stuck_guarded : are_allowed touches ≡ true → IsGuardedAnswer meaning w call b
+      → IsGuardedAnswer meaning w call (unchanged call touches IsStuck)
+  stuck_guarded fine g = record {
+    touches = front_of (IsJudged (setting_for meaning w call)) g.touches;
+    guarded = allowed fine;
+    kept = keeps_itself call.heap;
+    changes = λ number o p before after.
+        inl (ap (λ (x : Object TaggedValue). x.cells) (same_found (object_at call.heap number) o p before after));
+    adds = λ number o found none. absurd (none-some o (sym none ∙ found));
+    room = λ within. within;
+    calls = λ callback e. record { heap = refl; runtime = refl };
+    asks = λ callback e. absurd cc;
+    modest = λ number others is first. record {
+      touches = front_of (IsOfReceiver number) (g.modest number others is first).touches;
+      unchanged = record { heap = refl; runtime = refl };
+    };
+  }
+
+-- each answer is guarded
+pub answers_guarded : (w : World) (call : NativeCall Kept) → IsGuardedAnswer meaning w call (answer_of w call)
+answers_guarded w call = by_answer (answers_alike w call)
+  where
+    by_answer : IsLike call (answer_of w call) (answer_on_words w call)
+        → IsGuardedAnswer meaning w call (answer_of w call)
+    by_answer (alike e) = subst (IsGuardedAnswer meaning w call) (sym e) (words_guarded w call)
+    by_answer (stops touches rest front fine e) =
+        subst (IsGuardedAnswer meaning w call) (sym e)
+        (stuck_guarded w call touches rest (answer_on_words w call) front fine (words_guarded w call))

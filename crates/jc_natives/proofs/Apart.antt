@@ -13,13 +13,14 @@ use Rattle.jc_machine.specs.Apart.{AreNativesApart, IsSetApart, SparesPlain, is_
 use Rattle.jc_machine.specs.Guarded.{IsActive, IsJudged, is_runtimes}
 use Rattle.jc_machine.specs.Natives.{setting_for}
 use Rattle.jc_machine.specs.Calls.{native_may_begin}
-use Rattle.jc_machine.specs.Machine.{By, ByCode, ByRuntime, IsStuck, NativeCall, Touch}
+use Rattle.jc_machine.specs.Machine.{By, ByCode, ByRuntime, IsStuck, NativeAnswer, NativeCall, Touch}
 use Rattle.jc_machine.specs.Runtime.{HasRuntimeObject, HasRuntimeObjects, RuntimeObject, apdu_buffer, apdu_exception}
 use Rattle.jc_machine.specs.Runtime.{iso_exception, system_exception}
 use Rattle.jc_names.specs.declared.owner.Owner.{Owner}
 use Rattle.jc_natives.proofs.Bare.{bare_object, both}
 use Rattle.jc_natives.proofs.Between.{all_taken}
 use Rattle.jc_natives.proofs.Facts.{own_aid, own_object}
+use Rattle.jc_natives.proofs.Alike.{IsLike, alike, answers_alike, stops}
 use Rattle.jc_natives.proofs.Answering.{answers_guarded}
 use Rattle.jc_natives.proofs.Changed.{either_is}
 use Rattle.jc_natives.proofs.Guarding.{same_found}
@@ -28,14 +29,17 @@ use Rattle.jc_machine.specs.Storable.{HoldStorable}
 use Rattle.jc_natives.proofs.Keeping.{both_are}
 use Rattle.jc_natives.proofs.Spared.{IsApartWork, SparesOwn, all_throw_own, roomy_apart, work_apart}
 use Rattle.jc_natives.specs.Apart.{installs_applet, names_applets}
-use Rattle.jc_natives.specs.Applets.{aid_object, owner_of}
+use Rattle.jc_natives.specs.Kept.{Kept, after_install, aid_object, has_registered, is_instance_number, kept_instances}
+use Rattle.jc_natives.specs.Kept.{with_install}
+use Rattle.jc_natives.specs.Meaning.{answer_of, done, meaning, registering, unchanged, with_room}
+use Rattle.jc_natives.specs.Members.{natives}
+use Rattle.jc_natives.specs.PrivateApplets.{owner_of}
+use Rattle.jc_natives.specs.PrivateCells.{bare, bared}
+use Rattle.jc_natives.specs.PrivateMeaning.{answer_on_words, begun_on_words, ended_on_words, work_of}
+use Rattle.jc_natives.specs.PrivateRows.{row_of}
+use Rattle.jc_natives.specs.PrivateSeen.{Seen, arguments_of, seen_of}
+use Rattle.jc_natives.specs.PrivateTests.{tested}
 use Rattle.jc_natives.specs.declared.kept.Installing.{Installing}
-use Rattle.jc_natives.specs.Cells.{bare, bared}
-use Rattle.jc_natives.specs.Kept.{Kept, after_install, has_registered, is_instance_number, kept_instances, with_install}
-use Rattle.jc_natives.specs.Meaning.{answer_of, begun, done, ended, meaning, registering, unchanged, with_room, work_of}
-use Rattle.jc_natives.specs.Rows.{natives, row_of}
-use Rattle.jc_natives.specs.Seen.{Seen, arguments_of, seen_of}
-use Rattle.jc_natives.specs.Tests.{tested}
 use Rattle.jc_natives.specs.Work.{Asks, Does, Makes, Work}
 use Rattle.jc_natives.specs.declared.kept.Instance.{Instance}
 use Rattle.jc_natives.specs.declared.native.Native.{Native}
@@ -173,14 +177,14 @@ module _ (w : World) (call : NativeCall Kept) (apart : IsSetApart call.heap)
   done_kept touches (Asks question) h = kept
 
   begun_kept : (number : ℕ) (o : Option Native) → numbered natives number ≡ o
-      → names_applets (begun w call o).runtime ≡ true
+      → names_applets (begun_on_words w call o).runtime ≡ true
   begun_kept number None e = kept
   begun_kept number (Some native) e = by_thrown (tested s args (row_of native)).thrown
     where
       any_own : SparesOwn Any call.runtime
       any_own = record { iso = tt; system = tt; apdu = tt; buffer = tt; registers = λ i f. tt }
 
-      by_thrown : (o : Option ℕ) → names_applets (ended call (tested s args (row_of native)).touches o
+      by_thrown : (o : Option ℕ) → names_applets (ended_on_words call (tested s args (row_of native)).touches o
           (work_of s call.runtime args native)).runtime ≡ true
       by_thrown (Some object) = kept
       by_thrown None =
@@ -190,13 +194,21 @@ module _ (w : World) (call : NativeCall Kept) (apart : IsSetApart call.heap)
           (work_apart Any s call.runtime any_own args native (all_throw_own number native e)
           (λ place way change by. tt)))
 
-  answer_kept : names_applets (answer_of w call).runtime ≡ true
-  answer_kept = by_begin (native_may_begin w.shapes call.heap call.member call.arguments)
+  words_kept : names_applets (answer_on_words w call).runtime ≡ true
+  words_kept = by_begin (native_may_begin w.shapes call.heap call.member call.arguments)
     where
-      by_begin : (b : Bool) → names_applets (cond b (begun w call (numbered natives call.member))
+      by_begin : (b : Bool) → names_applets (cond b (begun_on_words w call (numbered natives call.member))
           (unchanged call [] IsStuck)).runtime ≡ true
       by_begin true = begun_kept call.member (numbered natives call.member) refl
       by_begin false = kept
+
+  answer_kept : names_applets (answer_of w call).runtime ≡ true
+  answer_kept = by_answer (answers_alike w call)
+    where
+      by_answer : IsLike call (answer_of w call) (answer_on_words w call)
+          → names_applets (answer_of w call).runtime ≡ true
+      by_answer (alike e) = ap (λ (a : NativeAnswer Kept). names_applets a.runtime) e ∙ words_kept
+      by_answer (stops touches rest front fine e) = ap (λ (a : NativeAnswer Kept). names_applets a.runtime) e ∙ kept
 
 -- what members leave holds what may be held
 module _ (still : HeldStays) (w : World) (call : NativeCall Kept) (holds : HoldStorable call.heap) where
@@ -205,11 +217,11 @@ module _ (still : HeldStays) (w : World) (call : NativeCall Kept) (holds : HoldS
   done_holds touches (Makes array) = made_holds still call.heap holds call.active array
   done_holds touches (Asks question) = holds
 
-  begun_holds : (o : Option Native) → HoldStorable (begun w call o).heap
+  begun_holds : (o : Option Native) → HoldStorable (begun_on_words w call o).heap
   begun_holds None = holds
   begun_holds (Some native) = by_thrown (tested (seen_of w call) (arguments_of call) (row_of native)).thrown
     where
-      by_thrown : (o : Option ℕ) → HoldStorable (ended call
+      by_thrown : (o : Option ℕ) → HoldStorable (ended_on_words call
           (tested (seen_of w call) (arguments_of call) (row_of native)).touches o
           (work_of (seen_of w call) call.runtime (arguments_of call) native)).heap
       by_thrown (Some object) = holds
@@ -218,13 +230,21 @@ module _ (still : HeldStays) (w : World) (call : NativeCall Kept) (holds : HoldS
           (with_room call.limits.objects call.limits.cells call.heap call.runtime
           (work_of (seen_of w call) call.runtime (arguments_of call) native))
 
-  answer_holds : HoldStorable (answer_of w call).heap
-  answer_holds = by_begin (native_may_begin w.shapes call.heap call.member call.arguments)
+  words_hold : HoldStorable (answer_on_words w call).heap
+  words_hold = by_begin (native_may_begin w.shapes call.heap call.member call.arguments)
     where
-      by_begin : (b : Bool) → HoldStorable (cond b (begun w call (numbered natives call.member))
+      by_begin : (b : Bool) → HoldStorable (cond b (begun_on_words w call (numbered natives call.member))
           (unchanged call [] IsStuck)).heap
       by_begin true = begun_holds (numbered natives call.member)
       by_begin false = holds
+
+  answer_holds : HoldStorable (answer_of w call).heap
+  answer_holds = by_answer (answers_alike w call)
+    where
+      by_answer : IsLike call (answer_of w call) (answer_on_words w call) → HoldStorable (answer_of w call).heap
+      by_answer (alike e) = subst (λ (a : NativeAnswer Kept). HoldStorable a.heap) (sym e) words_hold
+      by_answer (stops touches rest front fine e) =
+          subst (λ (a : NativeAnswer Kept). HoldStorable a.heap) (sym e) holds
 
 pub members_apart : HeldStays → AreNativesApart names_applets meaning
 members_apart still w call apart active kept = record {

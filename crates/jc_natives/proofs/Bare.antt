@@ -11,7 +11,8 @@ use Rattle.jc_machine.specs.Reading.{HeapReads, Pointwise, Reads, ReadsObject}
 use Rattle.jc_machine.specs.Lookup.{are_of_types, is_byte, is_instance, is_kept_as, is_of_type, is_word, leads_to}
 use Rattle.jc_machine.specs.Typed.{CellsTyped, ObjectTyped, is_cell}
 use Rattle.jc_names.specs.declared.name.ClassName.{ClassName}
-use Rattle.jc_natives.specs.Cells.{Write, bare, bared, bits, has_room, put, put_all, written}
+use Rattle.jc_natives.specs.Cells.{Write, bits, has_room, put, put_all, written}
+use Rattle.jc_natives.specs.PrivateCells.{bare, bared}
 use Rattle.jc_natives.specs.PrivateWords.{laid}
 use Rattle.jc_store.specs.Heap.{Heap, Object, cells_in, object_at, with_cell, with_object}
 use Rattle.jc_store.specs.declared.kind.ObjectType.{ObjectType}

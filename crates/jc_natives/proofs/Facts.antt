@@ -22,9 +22,10 @@ use Rattle.jc_natives.specs.MemberTypes.{counted_name}
 use Rattle.jc_natives.proofs.Bare.{both}
 use Rattle.jc_natives.proofs.Simulation.{passed_some}
 use Rattle.jc_natives.proofs.Suits.{IsBytes}
-use Rattle.jc_natives.specs.Cells.{argument, bits}
+use Rattle.jc_natives.specs.Cells.{bits}
 use Rattle.jc_natives.specs.Kept.{is_instance_number}
 use Rattle.jc_natives.specs.Meaning.{fits_instance}
+use Rattle.jc_natives.specs.PrivateCells.{argument}
 use Rattle.jc_natives.specs.declared.kept.Instance.{Instance}
 use Rattle.jc_store.specs.Heap.{Heap, Object, object_at}
 use Rattle.jc_store.specs.declared.kind.ObjectType.{ObjectType}
@@ -50,7 +51,7 @@ byte_array_is ByteArray e = refl
 byte_array_is ShortArray e = absurd cc
 byte_array_is (ReferenceArray c) e = absurd cc
 
-bytes_lead : (world : List Shape) (heap : Heap TaggedValue) (v : TaggedValue)
+pub bytes_lead : (world : List Shape) (heap : Heap TaggedValue) (v : TaggedValue)
     → is_of_type world heap types.ByteArray v ≡ true → LeadsToBytes heap (bits v)
 bytes_lead world heap (Word n) e o found = absurd cc
 bytes_lead world heap (Ref n) e o found =
@@ -77,7 +78,7 @@ typed_lead world heap (t ∷ ts) (v ∷ vs) (suc place) e f =
     (are_of_types world heap (map (type_map counted_name) ts) vs) e in
     typed_lead world heap ts vs place b.1 f
 
-object_lead : (world : List Shape) (heap : Heap TaggedValue) (c : ClassName) (v : TaggedValue)
+pub object_lead : (world : List Shape) (heap : Heap TaggedValue) (c : ClassName) (v : TaggedValue)
     → is_object_of world heap c v ≡ true → LeadsToClass world heap (bits v) c
 object_lead world heap c (Word n) e = absurd cc
 object_lead world heap c (Ref n) e =

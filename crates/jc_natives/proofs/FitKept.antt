@@ -28,15 +28,17 @@ use Rattle.jc_natives.proofs.Keeping.{both_are}
 use Rattle.jc_natives.proofs.Ranges.{length_of_bytes}
 use Rattle.jc_natives.proofs.Suits as suits
 use Rattle.jc_natives.proofs.Suits.{Gives}
-use Rattle.jc_natives.specs.Applets.{allowed, may_register, on_allowed, owner_of, registers}
-use Rattle.jc_natives.specs.Cells.{bare, bared, bytes_of, is_count}
+use Rattle.jc_natives.specs.Cells.{is_count}
 use Rattle.jc_natives.specs.Kept.{are_bytes, has_aid_length, instance_of, instance_with, is_aid, is_instance_number}
 use Rattle.jc_natives.specs.Kept.{is_same_owner, now_registered, with_instance}
 use Rattle.jc_natives.specs.Meaning.{fits_command, fits_installing, fits_instance, fits_kept, has_applet, new_array}
 use Rattle.jc_natives.specs.Meaning.{reference}
-use Rattle.jc_natives.specs.Seen.{seen_of}
-use Rattle.jc_natives.specs.System.{aid_of, aid_of_owner, makes, may_make}
-use Rattle.jc_natives.specs.Tests.{test}
+use Rattle.jc_natives.specs.Members.{aid_of, aid_of_owner}
+use Rattle.jc_natives.specs.PrivateApplets.{allowed, may_register, on_allowed, owner_of, registers}
+use Rattle.jc_natives.specs.PrivateCells.{bare, bared, bytes_of}
+use Rattle.jc_natives.specs.PrivateSeen.{seen_of}
+use Rattle.jc_natives.specs.PrivateSystem.{makes, may_make}
+use Rattle.jc_natives.specs.PrivateTests.{test}
 use Rattle.jc_natives.specs.Work.{Does, NewArray, Throws, Work, array_type}
 use Rattle.jc_natives.specs.declared.kept.Installing.{Installing}
 use Rattle.jc_natives.specs.declared.kept.Instance.{Instance}

@@ -28,13 +28,16 @@ use Rattle.jc_natives.proofs.Guarding.{keeps_new, keeps_written}
 use Rattle.jc_natives.proofs.Keeping.{array_typed, kept_fits_still, type_still, write_typed}
 use Rattle.jc_natives.proofs.Suits as suits
 use Rattle.jc_natives.proofs.Suits.{Gives, is_word_type}
-use Rattle.jc_natives.specs.Cells.{Write, argument, has_room, written}
+use Rattle.jc_natives.specs.Cells.{Write, has_room, written}
+use Rattle.jc_natives.specs.Checks.{access_of}
 use Rattle.jc_natives.specs.Kept.{Kept}
-use Rattle.jc_natives.specs.Meaning.{array_or_refusal, asked, did, done, end_of, ended, fits_kept, new_array}
-use Rattle.jc_natives.specs.Meaning.{reference, with_room}
-use Rattle.jc_natives.specs.Seen.{Seen, is_aid_object}
-use Rattle.jc_natives.specs.Tests.{Tested, access_of, by_verdict, facts_of, fails, followed, goes_on, is_in_range}
-use Rattle.jc_natives.specs.Tests.{on_object, passes, ranged, test, tested, used}
+use Rattle.jc_natives.specs.Meaning.{array_or_refusal, asked, did, done, end_of, fits_kept, new_array, reference}
+use Rattle.jc_natives.specs.Meaning.{with_room}
+use Rattle.jc_natives.specs.PrivateCells.{argument}
+use Rattle.jc_natives.specs.PrivateMeaning.{ended_on_words}
+use Rattle.jc_natives.specs.PrivateSeen.{Seen, is_aid_object}
+use Rattle.jc_natives.specs.PrivateTests.{Tested, by_verdict, facts_of, fails, followed, goes_on, is_in_range}
+use Rattle.jc_natives.specs.PrivateTests.{on_object, passes, ranged, test, tested, used}
 use Rattle.jc_natives.specs.Work.{Asks, Does, Ending, GivesReference, GivesWord, Makes, NoResult, Throws, Work}
 use Rattle.jc_natives.specs.declared.ended.Question.{Question}
 use Rattle.jc_natives.specs.declared.row.Range.{Range}
@@ -215,7 +218,7 @@ module _ (known : Known) where
       (range_thrown s arguments row.first_range) (range_thrown s arguments row.second_range)))
 
   pub ended_fits : (touches : List _) (thrown : Option ℕ) (work : Work) → Thrown thrown → Fits work
-      → Answers (ended call touches thrown work)
+      → Answers (ended_on_words call touches thrown work)
   ended_fits touches (Some object) work thrown fits = (fit.heap, (fit.fits, thrown))
   ended_fits touches None work thrown fits = roomy_fits touches work fits
 

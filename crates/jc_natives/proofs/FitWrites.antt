@@ -29,10 +29,10 @@ use Rattle.jc_natives.proofs.Facts.{LeadsToBytes, LeadsToClass, own_aid, own_obj
 use Rattle.jc_natives.proofs.Keeping.{FitsWords, FitsWrite, IsBlankAt, both_are, object_typed}
 use Rattle.jc_natives.proofs.Tables.{above_in, above_is, aid_cells, below_is, below_reason, blank_at, reason_cells}
 use Rattle.jc_natives.specs.Cells as cells
-use Rattle.jc_natives.specs.Cells.{Write, bare, bared, bit, bits, byte_of, bytes_of, cell_of, extended, low, order_of}
-use Rattle.jc_natives.specs.Cells.{word_of_bytes, words_of}
+use Rattle.jc_natives.specs.Cells.{Write, bit, bits, extended, low, order_of, word_of_bytes}
 use Rattle.jc_natives.specs.Kept.{Kept, are_bytes, is_instance_number}
 use Rattle.jc_natives.specs.Meaning.{meaning}
+use Rattle.jc_natives.specs.PrivateCells.{bare, bared, byte_of, bytes_of, cell_of, words_of}
 use Rattle.jc_store.specs.Heap.{Heap, Object, object_at}
 use Rattle.jc_store.specs.declared.kind.ObjectType.{ObjectType}
 use Rattle.jc_store.specs.declared.kind.ObjectType.TheVariants.{BooleanArray, ByteArray, Instance as OfClass}
@@ -254,7 +254,7 @@ module _ (known : Known) where
 
   -- ---- cells of AIDs and of exceptions
 
-  no_array : (c : ApiClass) → is_same_name (Api api.Object) (Api c) ≡ false → above_in most_classes c api.Object ≡ false
+  pub no_array : (c : ApiClass) → is_same_name (Api api.Object) (Api c) ≡ false → above_in most_classes c api.Object ≡ false
       → is_class_below w.shapes (Api api.Object) (Api c) ≡ true → ⊥
   no_array c other none e =
       let one = ap (λ b. b || is_at_or_above w.shapes most_classes (Api c) (Api api.Object)) (sym other) ∙ e in

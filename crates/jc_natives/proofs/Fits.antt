@@ -37,21 +37,23 @@ use Rattle.jc_natives.proofs.Ranges.{length_of_bytes}
 use Rattle.jc_natives.proofs.Simulation.{passed_some}
 use Rattle.jc_natives.proofs.Suits as suits
 use Rattle.jc_natives.proofs.Suits.{Gives, HasObject, HasReason, Suits}
-use Rattle.jc_natives.specs.Aids.{aid_work, constructs, is_range}
-use Rattle.jc_natives.specs.Apdus.{apdu_work, is_fresh, is_in_buffer, is_incoming, is_length_set, is_outgoing}
-use Rattle.jc_natives.specs.Applets.{applet_work}
+use Rattle.jc_natives.specs.Cells.{extended, high, low}
+use Rattle.jc_natives.specs.Kept.{Kept, are_bytes, expected_of, has_aid_length, instance_with, is_aid, is_fresh}
+use Rattle.jc_natives.specs.Kept.{is_incoming, is_instance_number, is_length_set, is_outgoing, is_same_owner}
+use Rattle.jc_natives.specs.Meaning.{fits_instance, has_applet, reference}
+use Rattle.jc_natives.specs.Members.{aid_of_owner, event_of}
+use Rattle.jc_natives.specs.PrivateAids.{aid_work, constructs, is_range}
+use Rattle.jc_natives.specs.PrivateApdus.{apdu_work, is_in_buffer}
+use Rattle.jc_natives.specs.PrivateApplets.{applet_work}
+use Rattle.jc_natives.specs.PrivateCells.{aid_bytes, aid_count, argument, bared, bytes_of, cell_of, words_of}
+use Rattle.jc_natives.specs.PrivateMeaning.{begun_on_words, work_of}
+use Rattle.jc_natives.specs.PrivateObjects.{equals, object_work}
+use Rattle.jc_natives.specs.PrivateRows.{row_of}
+use Rattle.jc_natives.specs.PrivateSeen.{Seen, arguments_of, seen_of}
+use Rattle.jc_natives.specs.PrivateSystem.{asks, system_work}
+use Rattle.jc_natives.specs.PrivateTests.{tested}
+use Rattle.jc_natives.specs.PrivateUtilities.{utility_work}
 use Rattle.jc_natives.specs.Cells as cells
-use Rattle.jc_natives.specs.Cells.{aid_bytes, aid_count, argument, bared, bytes_of, cell_of, extended, high, low}
-use Rattle.jc_natives.specs.Cells.{words_of}
-use Rattle.jc_natives.specs.Kept.{Kept, are_bytes, expected_of, has_aid_length, instance_with, is_aid}
-use Rattle.jc_natives.specs.Kept.{is_instance_number, is_same_owner}
-use Rattle.jc_natives.specs.Meaning.{begun, fits_instance, has_applet, reference, work_of}
-use Rattle.jc_natives.specs.Objects.{equals, object_work}
-use Rattle.jc_natives.specs.Rows.{row_of}
-use Rattle.jc_natives.specs.Seen.{Seen, arguments_of, seen_of}
-use Rattle.jc_natives.specs.System.{aid_of_owner, asks, event_of, system_work}
-use Rattle.jc_natives.specs.Tests.{tested}
-use Rattle.jc_natives.specs.Utilities.{utility_work}
 use Rattle.jc_natives.specs.Work.{Does, GivesReference, GivesWord, NoResult}
 use Rattle.jc_natives.specs.declared.kept.Instance.{Instance}
 use Rattle.jc_natives.specs.declared.native.AidNative.{AidNative}
@@ -387,7 +389,7 @@ module _ (known : Known) where
       work_fits (OfSystem native) g = system_fits native g
       work_fits (OfUtility native) g = utility_fits native g
 
-      pub begun_fits : (native : Native) → Suits native m → Answers known (begun w call (Some native))
+      pub begun_fits : (native : Native) → Suits native m → Answers known (begun_on_words w call (Some native))
       begun_fits native g =
           ended_fits known (tested s args (row_of native)).touches (tested s args (row_of native)).thrown
           (work_of s k args native)

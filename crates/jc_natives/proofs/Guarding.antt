@@ -16,21 +16,23 @@ use Rattle.jc_firewall.specs.declared.access.Verdict.{Verdict}
 use Rattle.jc_firewall.specs.declared.access.Verdict.TheVariants.{Allowed, AllowedSwitch, Denied}
 use Rattle.jc_link.specs.Linked.{World}
 use Rattle.jc_machine.specs.Going.{facts_for, facts_in}
-use Rattle.jc_machine.specs.Guarded.{ChangesAccessed, IsAccessed, allowed, are_allowed, is_allowed}
+use Rattle.jc_machine.specs.Guarded.{ChangesAccessed, IsAccessed, are_allowed, is_allowed}
 use Rattle.jc_machine.specs.Guarded.{IsJudged, asked_by, is_last_denied, is_runtimes, may_change}
 use Rattle.jc_machine.specs.Lookup.{is_array}
-use Rattle.jc_machine.specs.Machine.{By, ByCode, ByRuntime, Calls, Limits, NativeCall, Touch}
+use Rattle.jc_machine.specs.Machine.{By, ByCode, ByRuntime, Limits, NativeCall, Touch}
 use Rattle.jc_machine.specs.Natives.{IsStill, IsWithin, KeepsObjects, setting_for}
 use Rattle.jc_machine.specs.Runtime.{security_exception}
 use Rattle.jc_natives.proofs.Bare.{bare_object, both}
 use Rattle.jc_natives.proofs.Getting.{new_object, other_object}
 use Rattle.jc_natives.proofs.Putting.{put_none, put_some, same_or_not}
-use Rattle.jc_natives.specs.Cells.{Write, bare, has_room, put, put_all, written}
+use Rattle.jc_natives.specs.Cells.{Write, has_room, put, put_all, written}
+use Rattle.jc_natives.specs.Checks.{access_of}
 use Rattle.jc_natives.specs.Kept.{Kept}
-use Rattle.jc_natives.specs.Meaning.{has_words, meaning, registering, touch_by, own_touch, own_touch_of, own_touches}
-use Rattle.jc_natives.specs.Seen.{seen_of}
-use Rattle.jc_natives.specs.Tests.{Tested, access_of, by_verdict, facts_of, followed, goes_on, on_object, ranged, test}
-use Rattle.jc_natives.specs.Tests.{tested, touch_of, used}
+use Rattle.jc_natives.specs.Meaning.{has_words, meaning, own_touch, own_touch_of, own_touches, registering, touch_by}
+use Rattle.jc_natives.specs.PrivateCells.{bare}
+use Rattle.jc_natives.specs.PrivateSeen.{seen_of}
+use Rattle.jc_natives.specs.PrivateTests.{Tested, by_verdict, facts_of, followed, goes_on, on_object, ranged, test}
+use Rattle.jc_natives.specs.PrivateTests.{tested, touch_of, used}
 use Rattle.jc_natives.specs.declared.row.Range.{Range}
 use Rattle.jc_natives.specs.declared.row.Row.{Row}
 use Rattle.jc_natives.specs.declared.row.Test.{Test}

@@ -34,10 +34,12 @@ use Rattle.jc_natives.proofs.Fits.{begun_fits}
 use Rattle.jc_natives.proofs.Answering.{answers_guarded}
 use Rattle.jc_natives.proofs.Keeping.{kept_fits_still}
 use Rattle.jc_natives.proofs.Simulation.{Begins, begins_of}
+use Rattle.jc_natives.proofs.Same.{same_answer}
 use Rattle.jc_natives.proofs.Suits.{suits}
 use Rattle.jc_natives.specs.Kept.{Kept}
-use Rattle.jc_natives.specs.Meaning.{answer_of, begun, meaning, unchanged}
-use Rattle.jc_natives.specs.Rows.{natives}
+use Rattle.jc_natives.specs.Meaning.{answer_of, meaning, unchanged}
+use Rattle.jc_natives.specs.Members.{natives}
+use Rattle.jc_natives.specs.PrivateMeaning.{answer_on_words, begun_on_words}
 use Rattle.jc_natives.specs.declared.native.Native.{Native}
 
 -- the member that answers questions for shareable objects
@@ -66,41 +68,49 @@ arguments_typed w call b d =
         (are_of_instance w.shapes call.heap c s.parameters call.arguments)
 
 abbrev answers : World → NativeCall Kept → Bool → Option Native → NativeAnswer Kept
-answers w call b o = cond b (begun w call o) (unchanged call [] IsStuck)
+answers w call b o = cond b (begun_on_words w call o) (unchanged call [] IsStuck)
 
 module _ (lookups : (before after : List Shape) → LiesWithin before after → KeepsAllLookups before after)
     (linking : (before after : List Shape) → LiesWithin before after → KeepsAllLinking before after)
     (stands : (world : List Shape) → IsBuilt world → (c : ApiClass) → StandsThere world c)
     (sound : (world : List Shape) → IsSmall world → IsBuilt world → IsSound world) where
-  answers_fit : (w : World) (call : NativeCall Kept) → IsAccepted w → IsFitCall meaning w call
-      → IsFitAnswer meaning w call (answer_of w call)
-  answers_fit w call accepted fit =
-      let built = accepted.world.built in
-      let b = begins_of w call fit.begins in
-      let d = is_declared lookups linking w.shapes built call.member b.member b.is in
-      let a = is_declared lookups linking w.shapes built 40 asking refl in
-      let ends = (sound w.shapes accepted.small built).superclasses.orderly.ends in
-      let known : Known = record {
-        w = w;
-        call = call;
-        there = stands w.shapes built;
-        ends = ends;
-        fit = fit;
-        given = given_of b.member;
-      } in
-      let done = begun_fits known b.member b.is refl
-      (arguments_typed w call b d) asking refl a.type refl refl refl b.native
-      (suits call.member b.native b.member b.numbered b.is) in
-      let same : answer_of w call ≡ begun w call (Some b.native) =
-      ap (λ x. answers w call x (numbered natives call.member)) fit.begins
-      ∙ ap (λ o. answers w call true o) b.numbered in
-      subst (IsFitAnswer meaning w call) (sym same) (record {
-        heap = done.0;
-        fits = (done.1).0;
-        given = given_of b.member;
-        declared = ap (λ x. cond x (type_of_member w.shapes call.member) None) b.concrete ∙ d.type;
-        ends = (done.1).1;
-      })
+  module _ (w : World) (call : NativeCall Kept) (accepted : IsAccepted w) (fit : IsFitCall meaning w call) where
+    abbrev b : Begins w call
+    b = begins_of w call fit.begins
+
+    abbrev d : IsDeclared w.shapes call.member b.member
+    d = is_declared lookups linking w.shapes accepted.world.built call.member b.member b.is
+
+    abbrev known : Known
+    known = record {
+      w = w;
+      call = call;
+      there = stands w.shapes accepted.world.built;
+      ends = (sound w.shapes accepted.small accepted.world.built).superclasses.orderly.ends;
+      fit = fit;
+      given = given_of b.member;
+    }
+
+    -- what it answers is what it answers on words
+    pub means_the_same : answer_of w call ≡ answer_on_words w call
+    means_the_same = same_answer known b.member b.native b.is b.numbered (arguments_typed w call b d)
+
+    answers_fit : IsFitAnswer meaning w call (answer_of w call)
+    answers_fit =
+        let a = is_declared lookups linking w.shapes accepted.world.built 40 asking refl in
+        let done = begun_fits known b.member b.is refl
+        (arguments_typed w call b d) asking refl a.type refl refl refl b.native
+        (suits call.member b.native b.member b.numbered b.is) in
+        let same : answer_of w call ≡ begun_on_words w call (Some b.native) = means_the_same
+        ∙ ap (λ x. answers w call x (numbered natives call.member)) fit.begins
+        ∙ ap (λ o. answers w call true o) b.numbered in
+        subst (IsFitAnswer meaning w call) (sym same) (record {
+          heap = done.0;
+          fits = (done.1).0;
+          given = given_of b.member;
+          declared = ap (λ x. cond x (type_of_member w.shapes call.member) None) b.concrete ∙ d.type;
+          ends = (done.1).1;
+        })
 
   pub lawful : IsLawful meaning
   lawful = record { guarded = answers_guarded; fit = answers_fit; stable = kept_fits_still }

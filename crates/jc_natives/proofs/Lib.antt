@@ -27,3 +27,11 @@ mod Holding
 mod Apart
 mod Owning
 mod Passing
+mod Matching
+mod Agreeing
+mod Working
+mod Alike
+mod Takes
+mod TypedCells
+mod Unstuck
+mod Same

@@ -9,8 +9,9 @@ use Rattle.jc_firewall.specs.declared.access.Facts.{Facts}
 use Rattle.jc_firewall.specs.declared.access.Rule.TheVariants.{Storing}
 use Rattle.jc_firewall.specs.declared.access.Verdict.{Verdict}
 use Rattle.jc_firewall.specs.declared.access.Verdict.TheVariants.{Denied}
-use Rattle.jc_natives.specs.Seen.{Seen}
-use Rattle.jc_natives.specs.Tests.{access_of, by_verdict, facts_of, on_object, used}
+use Rattle.jc_natives.specs.Checks.{access_of}
+use Rattle.jc_natives.specs.PrivateSeen.{Seen}
+use Rattle.jc_natives.specs.PrivateTests.{by_verdict, facts_of, on_object, used}
 use Rattle.jc_natives.specs.declared.row.Way.{Way}
 use Rattle.jc_natives.specs.declared.row.Way.TheVariants.{Calls, Fields, Loads, Stores}
 use Rattle.jc_store.specs.Heap.{Heap, Object, object_at}

@@ -10,7 +10,8 @@ use Rattle.std.specs.Option.{option_map_or}
 use Rattle.std.specs.Slice.{IsGetRangeResult}
 use Rattle.jc_natives.proofs.Getting.{new_object}
 use Rattle.jc_natives.proofs.Putting.{cells_of_kind, put_some, same_heap, twice}
-use Rattle.jc_natives.specs.Cells.{byte_order, bytes_of, cell_of, low, order_of, put_all, size_of, words_of}
+use Rattle.jc_natives.specs.Cells.{byte_order, low, order_of, put_all}
+use Rattle.jc_natives.specs.PrivateCells.{bytes_of, cell_of, size_of, words_of}
 use Rattle.jc_store.specs.Blocks.{components_of, part_in, with_cells}
 use Rattle.jc_store.specs.Heap.{Heap, Object, object_at, with_cell, with_object}
 

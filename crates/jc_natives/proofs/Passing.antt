@@ -6,11 +6,12 @@ use Rattle.std.proofs.lemmas.Option.{none-some}
 use Rattle.std.specs.Option.{option_map_or}
 use Rattle.jc_machine.specs.Machine.{Touch}
 use Rattle.jc_machine.specs.Runtime.{array_index_exception, null_pointer_exception}
-use Rattle.jc_natives.specs.Cells.{argument, is_count, is_within, size_of}
-use Rattle.jc_natives.specs.Rows.{on_array, on_arrays}
-use Rattle.jc_natives.specs.Seen.{Seen}
-use Rattle.jc_natives.specs.Tests.{Tested, fails, followed, goes_on, is_in_range, length_of, on_object, passes, ranged}
-use Rattle.jc_natives.specs.Tests.{tested, used}
+use Rattle.jc_natives.specs.Cells.{is_count, is_within}
+use Rattle.jc_natives.specs.PrivateCells.{argument, size_of}
+use Rattle.jc_natives.specs.PrivateRows.{on_array, on_arrays}
+use Rattle.jc_natives.specs.PrivateSeen.{Seen}
+use Rattle.jc_natives.specs.PrivateTests.{Tested, fails, followed, goes_on, is_in_range, length_of, on_object, passes}
+use Rattle.jc_natives.specs.PrivateTests.{ranged, tested, used}
 use Rattle.jc_natives.specs.declared.row.Length.{Length}
 use Rattle.jc_natives.specs.declared.row.Length.TheVariants.{ShortAt}
 use Rattle.jc_natives.specs.declared.row.Range.{Range}

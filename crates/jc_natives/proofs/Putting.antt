@@ -5,7 +5,8 @@ use Rattle.std.proofs.lemmas.List.{get_or-set_other, set-set, set_comm, set_past
 use Rattle.std.proofs.lemmas.Option.{same_Some}
 use Rattle.std.specs.Option.{option_map_or}
 use Rattle.jc_natives.proofs.Getting.{new_object, other_object}
-use Rattle.jc_natives.specs.Cells.{cell_of, put, put_all, size_of, words_of}
+use Rattle.jc_natives.specs.Cells.{put, put_all}
+use Rattle.jc_natives.specs.PrivateCells.{cell_of, size_of, words_of}
 use Rattle.jc_store.specs.Heap.{Heap, Object, object_at, with_cell, with_object}
 
 -- a heap with an object that was found, and one where there is none

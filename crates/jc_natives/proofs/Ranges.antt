@@ -4,7 +4,8 @@ use Rattle.std.proofs.Common.{bytes_eq, length, map, nat_eq, refl, sym, ap, â—Œâ
 use Rattle.std.proofs.Common.{append_assoc}
 use Rattle.std.proofs.lemmas.Bool.{eq-eqb}
 use Rattle.jc_natives.proofs.Putting.{cell_before, put_before, words_stay}
-use Rattle.jc_natives.specs.Cells.{byte_of, bytes_of, cell_of, low, put, put_all, words_of}
+use Rattle.jc_natives.specs.Cells.{low, put, put_all}
+use Rattle.jc_natives.specs.PrivateCells.{byte_of, bytes_of, cell_of, words_of}
 use Rattle.jc_store.specs.Heap.{Heap}
 use Rattle.jc_store.specs.Store.{Store, with_objects}
 

@@ -9,11 +9,12 @@ use Rattle.jc_firewall.specs.declared.access.Verdict.TheVariants.{Allowed, Allow
 use Rattle.jc_machine.specs.Guarded.{may_change}
 use Rattle.jc_machine.specs.Machine.{Touch}
 use Rattle.jc_machine.specs.Runtime.{null_pointer_exception, security_exception}
-use Rattle.jc_natives.specs.Cells.{argument}
+use Rattle.jc_natives.specs.Checks.{access_of}
+use Rattle.jc_natives.specs.PrivateCells.{argument}
+use Rattle.jc_natives.specs.PrivateSeen.{Seen}
+use Rattle.jc_natives.specs.PrivateTests.{Tested, by_verdict, facts_of, followed, goes_on, on_object, ranged, test}
+use Rattle.jc_natives.specs.PrivateTests.{tested, used}
 use Rattle.jc_natives.proofs.Changed.{is_change_of, is_changed}
-use Rattle.jc_natives.specs.Seen.{Seen}
-use Rattle.jc_natives.specs.Tests.{Tested, access_of, by_verdict, facts_of, followed, goes_on, on_object, ranged, test}
-use Rattle.jc_natives.specs.Tests.{tested, used}
 use Rattle.jc_natives.specs.declared.row.Row.{Row}
 use Rattle.jc_natives.specs.declared.row.Test.{Test}
 use Rattle.jc_natives.specs.declared.row.Test.TheVariants as tests

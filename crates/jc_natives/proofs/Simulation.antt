@@ -28,15 +28,18 @@ use Rattle.jc_names.specs.declared.name.MethodName.TheVariants.{Api}
 use Rattle.jc_names.specs.declared.owner.Owner.{Owner}
 use Rattle.jc_natives.proofs.Bare.{argument_bits, bare_laid, bare_length, bare_new, bare_room, both, heap_bits}
 use Rattle.jc_natives.proofs.Bare.{reads_heap, receiver_bits}
-use Rattle.jc_natives.specs.Cells.{bare, bared, bits, has_room, written}
+use Rattle.jc_natives.specs.Cells.{bits, has_room, written}
 use Rattle.jc_natives.specs.Kept.{Kept}
-use Rattle.jc_natives.specs.Meaning.{answer_of, array_or_refusal, begun, blank_of, done, end_of, ended, meaning}
-use Rattle.jc_natives.specs.Meaning.{new_array, reference, unchanged, with_room, work_of}
+use Rattle.jc_natives.specs.Meaning.{answer_of, array_or_refusal, blank_of, done, end_of, meaning, new_array, reference}
+use Rattle.jc_natives.specs.Meaning.{unchanged, with_room}
+use Rattle.jc_natives.specs.Members.{natives}
+use Rattle.jc_natives.specs.PrivateCells.{bare, bared}
+use Rattle.jc_natives.specs.PrivateMeaning.{answer_on_words, begun_on_words, ended_on_words, work_of}
+use Rattle.jc_natives.specs.PrivateRows.{row_of}
+use Rattle.jc_natives.specs.PrivateSeen.{arguments_of, seen_of}
+use Rattle.jc_natives.specs.PrivateTests.{tested}
 use Rattle.jc_natives.specs.PrivateWords.{Done, TellsEnd, did_on_words, done_of, ended_of, kind_of, laid, native_work}
 use Rattle.jc_natives.specs.PrivateWords.{seen_in, tested_work, word_work}
-use Rattle.jc_natives.specs.Rows.{natives, row_of}
-use Rattle.jc_natives.specs.Seen.{arguments_of, seen_of}
-use Rattle.jc_natives.specs.Tests.{tested}
 use Rattle.jc_natives.specs.Work.{Asks, Does, Ending, GivesReference, GivesWord, Makes, NewArray, NoResult, Throws}
 use Rattle.jc_natives.specs.Work.{Work}
 use Rattle.jc_natives.specs.declared.ended.Ended.TheVariants as ends
@@ -214,7 +217,7 @@ ended_agrees : (call : NativeCall Kept) (touches : List _) (s : Store) (thrown :
     → s.most_objects ≡ call.limits.objects → s.most_cells ≡ call.limits.cells
     → TellsEnd outcome (done_of call.active s call.runtime (tested_work call.runtime thrown work)).ended
     → AnswerAgrees (state_of (done_of call.active s call.runtime (tested_work call.runtime thrown work))) outcome
-    (ended call touches thrown work)
+    (ended_on_words call touches thrown work)
 ended_agrees call touches s (Some object) work outcome objects most cells told =
     thrown_agrees call touches s call.runtime object outcome objects refl told
 ended_agrees call touches s None work outcome objects most cells told =
@@ -299,7 +302,7 @@ begun_agrees : (w : World) (s : Store) (call : NativeCall Kept) (native : Native
     → TellsEnd outcome (done_of call.active s call.runtime
     (native_work (seen_of w call) call.runtime (arguments_of call) native)).ended
     → AnswerAgrees (state_of (done_of call.active s call.runtime
-    (native_work (seen_of w call) call.runtime (arguments_of call) native))) outcome (begun w call (Some native))
+    (native_work (seen_of w call) call.runtime (arguments_of call) native))) outcome (begun_on_words w call (Some native))
 begun_agrees w s call native outcome objects most cells told =
     let t = tested (seen_of w call) (arguments_of call) (row_of native) in
     ended_agrees call t.touches s t.thrown (work_of (seen_of w call) call.runtime (arguments_of call) native) outcome
@@ -363,14 +366,15 @@ begins_of w call e =
     }
 
 abbrev answers : World → NativeCall Kept → Bool → Option Native → NativeAnswer Kept
-answers w call b o = cond b (begun w call o) (unchanged call [] IsStuck)
+answers w call b o = cond b (begun_on_words w call o) (unchanged call [] IsStuck)
 
 -- what the code did is what the member means
 pub answered : (w : World) (s : Store) (k : Kept) (word : WordCall) (d : Done) (outcome : WordOutcome)
     → d ≡ done_of word.active s k (word_work (seen_in w s word) k word.arguments.now (numbered natives word.member))
     → TellsEnd outcome d.ended → (call : NativeCall Kept) → CallAgrees (record { store = s; runtime = k }) word call
-    → IsFitCall meaning w call → AnswerAgrees (state_of d) outcome (answer_of w call)
-answered w s k word d outcome is told call agrees fit =
+    → IsFitCall meaning w call → answer_of w call ≡ answer_on_words w call
+    → AnswerAgrees (state_of d) outcome (answer_of w call)
+answered w s k word d outcome is told call agrees fit means =
     let objects = heap_bits w.shapes call.heap s.objects call.heap agrees.heap fit.heap in
     let arguments = arguments_are w call word.arguments.now agrees.arguments fit in
     let seen = same_seen w s word call objects agrees.active agrees.previous agrees.selected agrees.most_objects
@@ -390,9 +394,9 @@ answered w s k word d outcome is told call agrees fit =
     (word_work (seen_of w call) call.runtime (arguments_of call) (numbered natives x))) agrees.member
     ∙ ap (λ x. done_of call.active s call.runtime (word_work (seen_of w call) call.runtime (arguments_of call) x))
     b.numbered in
-    let answer : answer_of w call ≡ begun w call (Some b.native) =
-    ap (λ x. answers w call x (numbered natives call.member)) fit.begins ∙ ap (λ o. answers w call true o) b.numbered in
+    let answer : answer_of w call ≡ begun_on_words w call (Some b.native) = means
+    ∙ ap (λ x. answers w call x (numbered natives call.member)) fit.begins ∙ ap (λ o. answers w call true o) b.numbered in
     let P : Done → NativeAnswer Kept → Type 0 = λ d a. TellsEnd outcome d.ended → AnswerAgrees (state_of d) outcome a in
     subst (λ a. P d a) (sym answer)
-    (subst (λ x. P x (begun w call (Some b.native))) (sym whole)
+    (subst (λ x. P x (begun_on_words w call (Some b.native))) (sym whole)
     (begun_agrees w s call b.native outcome objects agrees.most_objects agrees.most_cells)) told

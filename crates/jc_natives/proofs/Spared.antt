@@ -16,20 +16,24 @@ use Rattle.jc_machine.specs.Runtime.{apdu_buffer, apdu_exception, iso_exception,
 use Rattle.jc_natives.proofs.Bare.{both}
 use Rattle.jc_natives.proofs.Changed.{either_is}
 use Rattle.jc_natives.proofs.Keeping.{both_are}
-use Rattle.jc_natives.specs.Aids.{aid_work}
-use Rattle.jc_natives.specs.Apdus.{apdu_work, is_fresh, is_in_buffer, is_incoming, is_length_set, is_outgoing, sends}
-use Rattle.jc_natives.specs.Apart.{installs_applet, names_applets}
-use Rattle.jc_natives.specs.Applets.{aid_object, allowed, applet_work, may_register, on_allowed, owner_of, registers}
-use Rattle.jc_natives.specs.Cells.{Write, argument, extended, has_room, is_count}
-use Rattle.jc_natives.specs.Kept.{Kept, has_aid_length, instance_with, is_instance_number, most_sent, now_registered}
+use Rattle.jc_natives.specs.Cells.{Write, extended, has_room, is_count}
+use Rattle.jc_natives.specs.Checks.{access_of}
+use Rattle.jc_natives.specs.Kept.{Kept, aid_object, has_aid_length, instance_with, is_fresh, is_incoming}
+use Rattle.jc_natives.specs.Kept.{is_instance_number, is_length_set, is_outgoing, most_sent, now_registered}
 use Rattle.jc_natives.specs.Kept.{with_instance}
-use Rattle.jc_natives.specs.Meaning.{array_or_refusal, with_room, work_of}
-use Rattle.jc_natives.specs.Objects.{object_work}
-use Rattle.jc_natives.specs.Rows.{aid_row, natives, object_row, row_of, utility_row}
-use Rattle.jc_natives.specs.Seen.{Seen}
-use Rattle.jc_natives.specs.Tests.{access_of}
-use Rattle.jc_natives.specs.System.{asks, makes, may_make, system_work}
-use Rattle.jc_natives.specs.Utilities.{utility_work}
+use Rattle.jc_natives.specs.Meaning.{array_or_refusal, with_room}
+use Rattle.jc_natives.specs.Members.{natives}
+use Rattle.jc_natives.specs.PrivateAids.{aid_work}
+use Rattle.jc_natives.specs.PrivateApdus.{apdu_work, is_in_buffer, sends}
+use Rattle.jc_natives.specs.PrivateApplets.{allowed, applet_work, may_register, on_allowed, owner_of, registers}
+use Rattle.jc_natives.specs.PrivateCells.{argument}
+use Rattle.jc_natives.specs.PrivateMeaning.{work_of}
+use Rattle.jc_natives.specs.PrivateObjects.{object_work}
+use Rattle.jc_natives.specs.PrivateRows.{aid_row, object_row, row_of, utility_row}
+use Rattle.jc_natives.specs.PrivateSeen.{Seen}
+use Rattle.jc_natives.specs.PrivateSystem.{asks, makes, may_make, system_work}
+use Rattle.jc_natives.specs.PrivateUtilities.{utility_work}
+use Rattle.jc_natives.specs.Apart.{installs_applet, names_applets}
 use Rattle.jc_natives.specs.Work.{Asks, Does, Makes, Work, bad_length, buffer_bounds, illegal_aid, illegal_transient}
 use Rattle.jc_natives.specs.Work.{illegal_use, illegal_value, no_transient_space, throws_apdu, throws_system}
 use Rattle.jc_natives.specs.declared.kept.Installing.{Installing}

@@ -1,13 +1,11 @@
--- The components of objects as members use them: as words and as bytes, in objects of words and in objects of tagged
--- values. Where there is no such component a member reads 0, and writes nothing.
-use Rattle.std.specs.Prelude.{ℕ, zero, suc, ◌+◌, ◌*◌, ◌/◌, ◌%◌, ◌&&◌, Bool, true, false, List, [], ◌∷◌, length, map}
-use Rattle.std.specs.Prelude.{Option, Some, None, get_or, nat_le, nat_lt, unwrap_or, if◌then◌else◌}
+-- Words and bytes as members reckon with them, and how components of objects are written. Where there is no such
+-- component a member writes nothing.
+use Rattle.std.specs.Prelude.{ℕ, ◌+◌, ◌*◌, ◌/◌, ◌%◌, ◌&&◌, Bool, true, false, List, [], ◌∷◌, length, map, Option, Some}
+use Rattle.std.specs.Prelude.{None, nat_le, nat_lt, unwrap_or, if◌then◌else◌}
 use Rattle.std.specs.Option.{option_map_or}
 use Rattle.jc_machine.specs.Machine.{By}
-use Rattle.jc_store.specs.Heap.{Heap, Object, cells_in, object_at, with_cell, with_object}
+use Rattle.jc_store.specs.Heap.{Heap, cells_in, object_at, with_cell, with_object}
 use Rattle.jc_words.specs.Values.{Null, Ref, TaggedValue, Unset, Word}
-
--- ---- without tags
 
 -- the bits of a value: null is 0
 abbrev pub bits : TaggedValue → ℕ
@@ -16,45 +14,11 @@ bits (Ref n) = n
 bits Null = 0
 bits Unset = 0
 
--- an object, and all objects, without tags
-abbrev pub bare : Object TaggedValue → Object ℕ
-bare object = record { kind = object.kind; owner = object.owner; cells = map bits object.cells }
-
-abbrev pub bared : Heap TaggedValue → Heap ℕ
-bared heap = map bare heap
-
--- ---- reading
-
--- the component of an object at an index
-abbrev pub cell_of : Heap ℕ → ℕ → ℕ → ℕ
-cell_of objects number index = option_map_or (λ object. get_or object.cells index 0) (object_at objects number) 0
-
--- how many components it has
-abbrev pub size_of : Heap ℕ → ℕ → ℕ
-size_of objects number = option_map_or (λ object. length object.cells) (object_at objects number) 0
+-- ---- words and bytes
 
 -- the low byte of a word
 abbrev pub low : ℕ → ℕ
 low word = word % 256
-
-abbrev pub byte_of : Heap ℕ → ℕ → ℕ → ℕ
-byte_of objects number index = low (cell_of objects number index)
-
--- so many components from an index on, as they are
-abbrev pub words_of : Heap ℕ → ℕ → ℕ → ℕ → List ℕ
-words_of objects number from zero = []
-words_of objects number from (suc count) = cell_of objects number from ∷ words_of objects number (from + 1) count
-
--- so many bytes from an index on
-abbrev pub bytes_of : Heap ℕ → ℕ → ℕ → ℕ → List ℕ
-bytes_of objects number from count = map low (words_of objects number from count)
-
--- the bytes of an AID object: their count comes first
-abbrev pub aid_count : Heap ℕ → ℕ → ℕ
-aid_count objects number = cell_of objects number 0
-
-abbrev pub aid_bytes : Heap ℕ → ℕ → List ℕ
-aid_bytes objects number = bytes_of objects number 1 (aid_count objects number)
 
 -- a word of 16 bits, and its high byte
 abbrev pub word : ℕ → ℕ
@@ -92,10 +56,6 @@ abbrev pub order_of : List ℕ → List ℕ → ℕ
 order_of [] others = 0
 order_of (b ∷ bytes) [] = 0
 order_of (b ∷ bytes) (o ∷ others) = unwrap_or (byte_order b o) (order_of bytes others)
-
--- the argument at a place
-abbrev pub argument : List ℕ → ℕ → ℕ
-argument arguments place = get_or arguments place 0
 
 -- ---- writing
 

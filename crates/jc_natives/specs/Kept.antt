@@ -1,13 +1,14 @@
 -- What the runtime keeps beside the objects: which instances of applets there are, the one that is being installed, and
 -- where the exchange of a command and its answer stands (Java Card Runtime Environment Specification, Applet Isolation
 -- and Object Sharing: Contexts; Java Card API Specification, APDU, Applet).
-use Rattle.std.specs.Prelude.{ℕ, ◌-◌, ◌==◌, ◌&&◌, Bool, true, false, not, List, [], ◌∷◌, ◌++◌, length, take, Option}
+use Rattle.std.specs.Prelude.{ℕ, ◌+◌, ◌-◌, ◌==◌, ◌&&◌, Bool, true, false, not, List, [], ◌∷◌, ◌++◌, length, take, Option}
 use Rattle.std.specs.Prelude.{Some, None, bytes_eq, nat_le, nat_lt, if◌then◌else◌}
 use Rattle.std.specs.List.{find, list_all}
 use Rattle.std.specs.Option.{option_map, option_map_or}
+use Rattle.jc_machine.specs.Runtime.{first_aid_object}
 use Rattle.jc_names.specs.declared.owner.Owner.{Owner}
 use Rattle.jc_natives.specs.declared.kept.ApduState.{ApduState}
-use Rattle.jc_natives.specs.declared.kept.ApduState.TheVariants.{Closed, Fresh}
+use Rattle.jc_natives.specs.declared.kept.ApduState.TheVariants.{Closed, Fresh, LengthSet, Outgoing, Received}
 use Rattle.jc_natives.specs.declared.kept.Installing.{Installing}
 use Rattle.jc_natives.specs.declared.kept.Instance.{Instance}
 
@@ -23,6 +24,37 @@ pub record Kept : Type 0 where
   pub announced : ℕ
   pub sent : List ℕ
   pub selecting : Bool
+
+-- ---- states of the exchange
+
+abbrev pub is_fresh : ApduState → Bool
+is_fresh Closed = false
+is_fresh Fresh = true
+is_fresh Received = false
+is_fresh Outgoing = false
+is_fresh LengthSet = false
+
+-- the direction wasn't turned yet
+abbrev pub is_incoming : ApduState → Bool
+is_incoming Closed = false
+is_incoming Fresh = true
+is_incoming Received = true
+is_incoming Outgoing = false
+is_incoming LengthSet = false
+
+abbrev pub is_outgoing : ApduState → Bool
+is_outgoing Closed = false
+is_outgoing Fresh = false
+is_outgoing Received = false
+is_outgoing Outgoing = true
+is_outgoing LengthSet = false
+
+abbrev pub is_length_set : ApduState → Bool
+is_length_set Closed = false
+is_length_set Fresh = false
+is_length_set Received = false
+is_length_set Outgoing = false
+is_length_set LengthSet = true
 
 -- ---- what it keeps, with another part
 
@@ -128,6 +160,10 @@ instance_with instances aid = find (λ (i : Instance). bytes_eq i.aid aid) insta
 
 abbrev pub instance_of : List Instance → Owner → Option Instance
 instance_of instances owner = find (λ (i : Instance). is_same_owner i.owner owner) instances
+
+-- the AID object of the instance with a number, from 1 on
+abbrev pub aid_object : ℕ → ℕ
+aid_object number = first_aid_object - 1 + number
 
 -- instances have numbers from 1 to 32
 abbrev pub is_instance_number : ℕ → Bool

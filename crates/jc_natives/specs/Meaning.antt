@@ -17,17 +17,11 @@ use Rattle.jc_machine.specs.Machine.{Natives, ThrowsObject, Touch}
 use Rattle.jc_machine.specs.Natives.{shareable_member}
 use Rattle.jc_names.specs.declared.name.ClassName.TheVariants.{Api}
 use Rattle.jc_names.specs.declared.owner.Owner.{Owner}
-use Rattle.jc_natives.specs.Aids.{aid_work}
-use Rattle.jc_natives.specs.Apdus.{apdu_work}
-use Rattle.jc_natives.specs.Applets.{aid_object, applet_work}
 use Rattle.jc_natives.specs.Cells.{Write, has_room, written}
-use Rattle.jc_natives.specs.Kept.{Kept, are_bytes, is_aid, is_instance_number, is_same_owner}
-use Rattle.jc_natives.specs.Objects.{object_work}
-use Rattle.jc_natives.specs.Rows.{natives, row_of}
-use Rattle.jc_natives.specs.Seen.{Seen, arguments_of, seen_of}
-use Rattle.jc_natives.specs.System.{system_work}
-use Rattle.jc_natives.specs.Tests.{tested}
-use Rattle.jc_natives.specs.Utilities.{utility_work}
+use Rattle.jc_natives.specs.Kept.{Kept, aid_object, are_bytes, is_aid, is_instance_number, is_same_owner}
+use Rattle.jc_natives.specs.Checks.{Passed, Refused, TestEnd, Unfit, tested}
+use Rattle.jc_natives.specs.Members.{Member, member_of_native, natives}
+use Rattle.jc_natives.specs.Taking.{Called, called}
 use Rattle.jc_natives.specs.Work.{Asks, Does, Ending, GivesReference, GivesWord, Makes, NewArray, NoResult, Throws}
 use Rattle.jc_natives.specs.Work.{Work, array_type, no_transient_space, throws_system}
 use Rattle.jc_natives.specs.declared.ended.Question.{Question}
@@ -36,20 +30,9 @@ use Rattle.jc_natives.specs.declared.kept.Instance.{Instance}
 use Rattle.jc_natives.specs.declared.native.Elements.{Elements}
 use Rattle.jc_natives.specs.declared.native.Elements.TheVariants.{Booleans, Bytes, References, Shorts}
 use Rattle.jc_natives.specs.declared.native.Native.{Native}
-use Rattle.jc_natives.specs.declared.native.Native.TheVariants.{OfAid, OfApdu, OfApplet, OfObject, OfSystem, OfUtility}
 use Rattle.jc_store.specs.Heap.{Heap, Object, next_number, object_at, with_new}
 use Rattle.jc_store.specs.declared.kind.Mark.TheVariants.{Plain}
 use Rattle.jc_words.specs.Values.{Null, Ref, TaggedValue, Word}
-
--- ---- the work of a member
-
-abbrev pub work_of : Seen → Kept → List ℕ → Native → Work
-work_of s k arguments (OfObject native) = object_work s k arguments native
-work_of s k arguments (OfAid native) = aid_work s k arguments native
-work_of s k arguments (OfApdu native) = apdu_work s k arguments native
-work_of s k arguments (OfApplet native) = applet_work s k arguments native
-work_of s k arguments (OfSystem native) = system_work s k arguments native
-work_of s k arguments (OfUtility native) = utility_work s k arguments native
 
 -- ---- values
 
@@ -147,19 +130,26 @@ done call touches (Does writes k ending) = did call touches writes k ending
 done call touches (Makes array) = made call touches array
 done call touches (Asks question) = asked call touches question
 
--- where a test fails that is the end; else the work is done
-abbrev pub ended : NativeCall Kept → List Touch → Option ℕ → Work → NativeAnswer Kept
-ended call touches (Some object) work = unchanged call touches (ThrowsObject object)
-ended call touches None work =
+-- a member without a work is stuck
+abbrev pub worked : NativeCall Kept → List Touch → Option Work → NativeAnswer Kept
+worked call touches None = unchanged call touches IsStuck
+worked call touches (Some work) =
     done call touches (with_room call.limits.objects call.limits.cells call.heap call.runtime work)
+
+-- where a test fails that is the end; else the work is done
+abbrev pub ended : NativeCall Kept → List Touch → TestEnd → Option Work → NativeAnswer Kept
+ended call touches Passed work = worked call touches work
+ended call touches (Refused object) work = unchanged call touches (ThrowsObject object)
+ended call touches Unfit work = unchanged call touches IsStuck
+
+abbrev pub answer_by : Called → Member → NativeAnswer Kept
+answer_by h m = let t = tested h m.tests in ended h.call t.touches t.ends (m.does h)
 
 abbrev pub begun : World → NativeCall Kept → Option Native → NativeAnswer Kept
 begun w call None = unchanged call [] IsStuck
-begun w call (Some native) =
-    let t = tested (seen_of w call) (arguments_of call) (row_of native) in
-    ended call t.touches t.thrown (work_of (seen_of w call) call.runtime (arguments_of call) native)
+begun w call (Some native) = answer_by (called w call) (member_of_native native)
 
--- a member is stuck only where it is none, or its arguments aren't of its types
+-- a member is stuck only where it is none, or something that it looks at isn't of its type
 abbrev pub answer_of : World → NativeCall Kept → NativeAnswer Kept
 answer_of w call =
     if native_may_begin w.shapes call.heap call.member call.arguments

@@ -8,11 +8,12 @@ use Rattle.jc_machine.specs.declared.natives.WordOutcome.TheVariants.{CallsBack,
 use Rattle.jc_names.specs.declared.owner.Owner.{Owner}
 use Rattle.jc_natives.specs.Cells.{Write, put_all}
 use Rattle.jc_natives.specs.Kept.{Kept}
-use Rattle.jc_natives.specs.Meaning.{with_room, work_of}
+use Rattle.jc_natives.specs.Meaning.{with_room}
+use Rattle.jc_natives.specs.PrivateMeaning.{work_of}
+use Rattle.jc_natives.specs.PrivateRows.{row_of}
+use Rattle.jc_natives.specs.PrivateSeen.{Seen}
+use Rattle.jc_natives.specs.PrivateTests.{tested}
 use Rattle.jc_machine.specs.Natives.{shareable_member}
-use Rattle.jc_natives.specs.Rows.{row_of}
-use Rattle.jc_natives.specs.Seen.{Seen}
-use Rattle.jc_natives.specs.Tests.{tested}
 use Rattle.jc_natives.specs.Work.{Asks, Does, Ending, GivesReference, GivesWord, Makes, NewArray, NoResult, Throws}
 use Rattle.jc_natives.specs.Work.{Work, array_type, gives, throws}
 use Rattle.jc_natives.specs.declared.ended.Ended.{Ended}

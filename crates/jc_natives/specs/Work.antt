@@ -92,6 +92,3 @@ throws_apdu k reason = throws_with k apdu_exception reason
 -- what goes on where a test passes, and what is thrown else
 abbrev pub unless_system : Kept → ℕ → Bool → Work → Work
 unless_system k reason passes work = if passes then work else throws_system k reason
-
-abbrev pub unless_apdu : Kept → ℕ → Bool → Work → Work
-unless_apdu k reason passes work = if passes then work else throws_apdu k reason

@@ -1,16 +1,17 @@
 //! Members of AID (Java Card API Specification, AID).
 
 ghost use Rattle.std.specs.Prelude.{◌≡◌, ◌∷◌};
-ghost use Rattle.jc_natives.specs.Aids.{aid_work, is_range};
-ghost use Rattle.jc_natives.specs.Cells.{argument, bytes_of, extended, put_all};
+ghost use Rattle.jc_natives.specs.Cells.{extended, put_all};
 ghost use Rattle.jc_natives.specs.Kept.{has_aid_length};
+ghost use Rattle.jc_natives.specs.PrivateAids.{aid_work, is_range};
+ghost use Rattle.jc_natives.specs.PrivateCells.{argument, bytes_of};
 ghost use Rattle.jc_natives.specs.PrivateWords.{done_of, native_work, seen_in};
 ghost use Rattle.jc_natives.specs.declared.native.AidNative.TheVariants as natives;
 ghost use Rattle.jc_natives.specs.declared.native.Native.TheVariants.{OfAid};
 ghost use Rattle.jc_store.specs.Store.{with_objects};
 
 use crate::bytes::{copy_bytes, same_bytes};
-use crate::cells::{argument, bit, cell, extended, put};
+use crate::cells::{aid_count, argument, bit, extended, put};
 use crate::ended::{Ended, throw_system};
 use crate::kept::Runtime;
 use crate::native::AidNative;
@@ -70,7 +71,7 @@ fn is_range(
     if array == 0 {
         return false;
     }
-    cell(store, aid, 0) == count && same_bytes(store, aid, 1, array, usize::from(offset), count)
+    aid_count(store, aid) == count && same_bytes(store, aid, 1, array, usize::from(offset), count)
 }
 
 fn equals(world: &World, store: &Store, call: &WordCall<'_>) -> bool
@@ -93,7 +94,7 @@ fn get_bytes(world: &World, store: &mut Store, call: &WordCall<'_>, runtime: &Ru
     let aid = argument(call.arguments, 0);
     let array = argument(call.arguments, 1);
     let offset = argument(call.arguments, 2);
-    let count = cell(store, aid, 0);
+    let count = aid_count(store, aid);
     copy_bytes(store, aid, 1, array, usize::from(offset), count);
     Ended::Returned(Some(count))
 }

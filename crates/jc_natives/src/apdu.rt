@@ -1,8 +1,8 @@
 //! Members of APDU (Java Card API Specification, APDU).
 
 ghost use Rattle.std.specs.Prelude.{◌≡◌};
-ghost use Rattle.jc_natives.specs.Apdus.{apdu_work, is_fresh, is_in_buffer, is_incoming, is_length_set, is_outgoing};
-ghost use Rattle.jc_natives.specs.Apdus.{sends, sends_at_once};
+ghost use Rattle.jc_natives.specs.Kept.{is_fresh, is_incoming, is_length_set, is_outgoing};
+ghost use Rattle.jc_natives.specs.PrivateApdus.{apdu_work, is_in_buffer, sends, sends_at_once};
 ghost use Rattle.jc_natives.specs.PrivateWords.{done_of, native_work, seen_in};
 ghost use Rattle.jc_natives.specs.declared.native.ApduNative.TheVariants as natives;
 ghost use Rattle.jc_natives.specs.declared.native.Native.TheVariants.{OfApdu};

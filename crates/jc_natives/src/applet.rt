@@ -2,10 +2,10 @@
 
 ghost use Rattle.std.specs.Prelude.{◌≡◌, ◌&&◌, None, Some, if◌then◌else◌, is_some, length, nat_lt, not};
 ghost use Rattle.jc_machine.specs.Runtime.{most_instances};
-ghost use Rattle.jc_natives.specs.Applets.{aid_object, allowed, applet_work, may_register, owner_of, registers};
-ghost use Rattle.jc_natives.specs.Applets.{registers_range};
-ghost use Rattle.jc_natives.specs.Cells.{bytes_of};
-ghost use Rattle.jc_natives.specs.Kept.{has_aid_length, instance_with};
+ghost use Rattle.jc_natives.specs.Kept.{aid_object, has_aid_length, instance_with};
+ghost use Rattle.jc_natives.specs.PrivateApplets.{allowed, applet_work, may_register, owner_of, registers};
+ghost use Rattle.jc_natives.specs.PrivateApplets.{registers_range};
+ghost use Rattle.jc_natives.specs.PrivateCells.{bytes_of};
 ghost use Rattle.jc_natives.specs.PrivateWords.{done_of, native_work, seen_in};
 ghost use Rattle.jc_natives.specs.declared.native.AppletNative.TheVariants as natives;
 ghost use Rattle.jc_natives.specs.declared.native.Native.TheVariants.{OfApplet};

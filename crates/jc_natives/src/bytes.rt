@@ -2,8 +2,8 @@
 
 ghost use Rattle.std.specs.Prelude.{◌≡◌, ◌+◌, ◌++◌, ◌≤◌, [], ◌∷◌, bytes_eq, length, replicate};
 ghost use Rattle.arrayvec.specs.ArrayVec.{array_vec_len};
-ghost use Rattle.jc_natives.specs.Cells.{byte_of, bytes_of, high, low, order_of, put_all, word_of_bytes};
-ghost use Rattle.jc_natives.specs.Cells.{words_of};
+ghost use Rattle.jc_natives.specs.Cells.{high, low, order_of, put_all, word_of_bytes};
+ghost use Rattle.jc_natives.specs.PrivateCells.{byte_of, bytes_of, words_of};
 ghost use Rattle.jc_store.specs.Blocks.{HasCells};
 ghost use Rattle.jc_store.specs.Store.{with_objects};
 

@@ -1,8 +1,8 @@
 //! The components of objects, as members read and write them: whatever number and index they are handed.
 
 ghost use Rattle.std.specs.Prelude.{◌≡◌, ◌+◌, ◌≤◌, ◌<◌, true, false, None, IfNone, IfSome, length, map};
-ghost use Rattle.jc_natives.specs.Cells.{argument, bit, byte_of, bytes_of, cell_of, extended, high, is_count};
-ghost use Rattle.jc_natives.specs.Cells.{is_within, low, put, size_of, word, word_of_bytes};
+ghost use Rattle.jc_natives.specs.Cells.{bit, extended, high, is_count, is_within, low, put, word, word_of_bytes};
+ghost use Rattle.jc_natives.specs.PrivateCells.{aid_count, argument, byte_of, bytes_of, cell_of, size_of};
 ghost use Rattle.jc_store.specs.Blocks.{HasCells};
 ghost use Rattle.jc_store.specs.Heap.{object_at};
 ghost use Rattle.jc_store.specs.Store.{IsThere, with_objects};
@@ -33,7 +33,17 @@ pub(crate) fn cell(store: &Store, number: u16, index: usize) -> u16
     }
 }
 
-/// Its low byte.
+/// How many bytes an AID has, 16 at most.
+#[inline(always)]
+pub(crate) fn aid_count(store: &Store, number: u16) -> u16
+    ensures count { result ≡ aid_count store.now.objects number }
+    ensures word { result ≡ word (aid_count store.now.objects number) }
+{
+    let count = cell(store, number, 0);
+    if count < 16 { count } else { 16 }
+}
+
+/// The low byte of a component.
 #[inline(always)]
 pub(crate) fn byte(store: &Store, number: u16, index: usize) -> u8
     ensures { result ≡ byte_of store.now.objects number index }

@@ -1,7 +1,7 @@
 //! What the firewall denies of the arguments of a member, to be told of it.
 
 ghost use Rattle.std.specs.Prelude.{◌≡◌};
-ghost use Rattle.jc_natives.specs.Rows.{row_of};
+ghost use Rattle.jc_natives.specs.PrivateRows.{row_of};
 
 use crate::cells::argument;
 use crate::native::Native;

@@ -1,12 +1,15 @@
 //! Examples of native members: what the prover computes of their definitions.
 
 ghost use Rattle.std.specs.Prelude.{◌≡◌, [], ◌∷◌, None, Some, false, true};
+ghost use Rattle.jc_machine.specs.Machine.{Gives, IsStuck, ThrowsObject};
 ghost use Rattle.jc_natives.specs.Cells.{extended, is_within, order_of};
-ghost use Rattle.jc_natives.specs.Examples.{bytes_after, thrown_by, work_by};
+ghost use Rattle.jc_natives.specs.Checks.{Passed, Refused, Unfit};
+ghost use Rattle.jc_natives.specs.Examples.{cells_after, ends_by, tests_end, the_others, work_by};
 ghost use Rattle.jc_natives.specs.Kept.{nothing_kept, with_command};
-ghost use Rattle.jc_natives.specs.System.{event_of};
+ghost use Rattle.jc_natives.specs.Members.{event_of};
 ghost use Rattle.jc_natives.specs.Work.{throws, throws_apdu, throws_system};
 ghost use Rattle.jc_store.specs.declared.kind.ClearingEvent.TheVariants.{Deselect, Reset};
+ghost use Rattle.jc_words.specs.Values.{Null, Ref, Word};
 
 /// Ranges, and bytes with their signs. It does nothing.
 pub fn ranges_and_signs()
@@ -26,34 +29,53 @@ pub fn ranges_and_signs()
 /// Tests of arguments, in their order: of arrayCopy. Object 1 is an array of the active context, 2 one of another. It
 /// does nothing.
 pub fn arguments_are_tested()
-    ensures passes { thrown_by 49 (1 ∷ 0 ∷ 1 ∷ 1 ∷ 3 ∷ []) ≡ Some None }
-    ensures past_the_end { thrown_by 49 (1 ∷ 0 ∷ 1 ∷ 1 ∷ 4 ∷ []) ≡ Some (Some 4) }
-    ensures null_source { thrown_by 49 (0 ∷ 0 ∷ 2 ∷ 9 ∷ 9 ∷ []) ≡ Some (Some 6) }
-    ensures denied_before_null { thrown_by 49 (2 ∷ 0 ∷ 0 ∷ 0 ∷ 1 ∷ []) ≡ Some (Some 7) }
-    ensures denied_before_range { thrown_by 49 (1 ∷ 9 ∷ 2 ∷ 0 ∷ 1 ∷ []) ≡ Some (Some 7) }
-    ensures null_may_be_compared { thrown_by 24 (3 ∷ 0 ∷ 9 ∷ 9 ∷ []) ≡ Some None }
+    ensures passes { tests_end 49 (Ref 1 ∷ Word 0 ∷ Ref 1 ∷ Word 1 ∷ Word 3 ∷ []) ≡ Some Passed }
+    ensures past_the_end { tests_end 49 (Ref 1 ∷ Word 0 ∷ Ref 1 ∷ Word 1 ∷ Word 4 ∷ []) ≡ Some (Refused 4) }
+    ensures null_source { tests_end 49 (Null ∷ Word 0 ∷ Ref 2 ∷ Word 9 ∷ Word 9 ∷ []) ≡ Some (Refused 6) }
+    ensures denied_before_null { tests_end 49 (Ref 2 ∷ Word 0 ∷ Null ∷ Word 0 ∷ Word 1 ∷ []) ≡ Some (Refused 7) }
+    ensures denied_before_range { tests_end 49 (Ref 1 ∷ Word 9 ∷ Ref 2 ∷ Word 0 ∷ Word 1 ∷ []) ≡ Some (Refused 7) }
+    ensures null_may_be_compared { tests_end 24 (Ref 3 ∷ Null ∷ Word 9 ∷ Word 9 ∷ []) ≡ Some Passed }
+    ensures no_reference { tests_end 49 (Word 1 ∷ Word 0 ∷ Ref 1 ∷ Word 1 ∷ Word 3 ∷ []) ≡ Some Unfit }
+    ensures no_object { tests_end 49 (Ref 9 ∷ Word 0 ∷ Ref 1 ∷ Word 1 ∷ Word 3 ∷ []) ≡ Some Unfit }
+    ensures no_word { tests_end 49 (Ref 1 ∷ Null ∷ Ref 1 ∷ Word 1 ∷ Word 3 ∷ []) ≡ Some Unfit }
 {}
 
 /// Copies as through a copy of the source, a fill, and a short. They do nothing.
 pub fn bytes_are_written()
-    ensures overlapping_up { bytes_after 49 (1 ∷ 0 ∷ 1 ∷ 1 ∷ 3 ∷ [])
-        ≡ Some ((1 ∷ 1 ∷ 2 ∷ 3 ∷ []) ∷ (9 ∷ 9 ∷ []) ∷ [] ∷ []) }
-    ensures overlapping_down { bytes_after 49 (1 ∷ 1 ∷ 1 ∷ 0 ∷ 3 ∷ [])
-        ≡ Some ((2 ∷ 3 ∷ 4 ∷ 4 ∷ []) ∷ (9 ∷ 9 ∷ []) ∷ [] ∷ []) }
-    ensures filled { bytes_after 51 (1 ∷ 1 ∷ 2 ∷ 0x0107 ∷ [])
-        ≡ Some ((1 ∷ 7 ∷ 7 ∷ 4 ∷ []) ∷ (9 ∷ 9 ∷ []) ∷ [] ∷ []) }
-    ensures short { bytes_after 54 (1 ∷ 0 ∷ 0x0A0B ∷ [])
-        ≡ Some ((10 ∷ 11 ∷ 3 ∷ 4 ∷ []) ∷ (9 ∷ 9 ∷ []) ∷ [] ∷ []) }
+    ensures overlapping_up { cells_after 49 (Ref 1 ∷ Word 0 ∷ Ref 1 ∷ Word 1 ∷ Word 3 ∷ [])
+        ≡ Some ((Word 1 ∷ Word 1 ∷ Word 2 ∷ Word 3 ∷ []) ∷ the_others) }
+    ensures overlapping_down { cells_after 49 (Ref 1 ∷ Word 1 ∷ Ref 1 ∷ Word 0 ∷ Word 3 ∷ [])
+        ≡ Some ((Word 2 ∷ Word 3 ∷ Word 4 ∷ Word 4 ∷ []) ∷ the_others) }
+    ensures filled { cells_after 51 (Ref 1 ∷ Word 1 ∷ Word 2 ∷ Word 0x0107 ∷ [])
+        ≡ Some ((Word 1 ∷ Word 7 ∷ Word 7 ∷ Word 4 ∷ []) ∷ the_others) }
+    ensures short { cells_after 54 (Ref 1 ∷ Word 0 ∷ Word 0x0A0B ∷ [])
+        ≡ Some ((Word 10 ∷ Word 11 ∷ Word 3 ∷ Word 4 ∷ []) ∷ the_others) }
+{}
+
+/// Members are stuck on an argument of another tag, and on a component that is no word: object 4 is an array of
+/// references. Nothing is written then. They do nothing.
+pub fn members_are_stuck()
+    ensures gives { ends_by 49 (Ref 1 ∷ Word 0 ∷ Ref 1 ∷ Word 1 ∷ Word 3 ∷ []) ≡ Some (Gives (Some (Word 4))) }
+    ensures throws { ends_by 49 (Ref 1 ∷ Word 0 ∷ Null ∷ Word 1 ∷ Word 3 ∷ []) ≡ Some (ThrowsObject 6) }
+    ensures argument { ends_by 49 (Ref 1 ∷ Word 0 ∷ Ref 1 ∷ Ref 1 ∷ Word 3 ∷ []) ≡ Some IsStuck }
+    ensures fewer_arguments { ends_by 55 (Word 1 ∷ []) ≡ Some IsStuck }
+    ensures component { ends_by 49 (Ref 4 ∷ Word 0 ∷ Ref 1 ∷ Word 0 ∷ Word 2 ∷ []) ≡ Some IsStuck }
+    ensures nothing_written { cells_after 49 (Ref 4 ∷ Word 0 ∷ Ref 1 ∷ Word 0 ∷ Word 2 ∷ [])
+        ≡ Some ((Word 1 ∷ Word 2 ∷ Word 3 ∷ Word 4 ∷ []) ∷ the_others) }
 {}
 
 /// Refusals, in their order. They do nothing.
 pub fn members_refuse()
-    ensures short_aid { work_by nothing_kept 23 (3 ∷ 1 ∷ 0 ∷ 4 ∷ []) ≡ Some (throws_system nothing_kept 1) }
-    ensures no_install { work_by nothing_kept 35 (3 ∷ 1 ∷ 0 ∷ 4 ∷ []) ≡ Some (throws_system nothing_kept 4) }
-    ensures closed { work_by nothing_kept 28 (3 ∷ []) ≡ Some (throws_apdu nothing_kept 1) }
-    ensures length_before_range { work_by (with_command nothing_kept [] 0 false) 32 (3 ∷ 9 ∷ 257 ∷ [])
+    ensures short_aid { work_by nothing_kept 23 (Ref 3 ∷ Ref 1 ∷ Word 0 ∷ Word 4 ∷ [])
+        ≡ Some (throws_system nothing_kept 1) }
+    ensures no_install { work_by nothing_kept 35 (Ref 3 ∷ Ref 1 ∷ Word 0 ∷ Word 4 ∷ [])
+        ≡ Some (throws_system nothing_kept 4) }
+    ensures closed { work_by nothing_kept 28 (Ref 3 ∷ []) ≡ Some (throws_apdu nothing_kept 1) }
+    ensures length_before_range { work_by (with_command nothing_kept [] 0 false) 32 (Ref 3 ∷ Word 9 ∷ Word 257 ∷ [])
         ≡ Some (throws_apdu (with_command nothing_kept [] 0 false) 3) }
-    ensures event_before_length { work_by nothing_kept 46 (0xFFFF ∷ 3 ∷ []) ≡ Some (throws_system nothing_kept 1) }
-    ensures selection_before_length { work_by nothing_kept 46 (0xFFFF ∷ 2 ∷ []) ≡ Some (throws_system nothing_kept 3) }
-    ensures negative_length { work_by nothing_kept 46 (0xFFFF ∷ 1 ∷ []) ≡ Some (throws nothing_kept 5) }
+    ensures event_before_length { work_by nothing_kept 46 (Word 0xFFFF ∷ Word 3 ∷ [])
+        ≡ Some (throws_system nothing_kept 1) }
+    ensures selection_before_length { work_by nothing_kept 46 (Word 0xFFFF ∷ Word 2 ∷ [])
+        ≡ Some (throws_system nothing_kept 3) }
+    ensures negative_length { work_by nothing_kept 46 (Word 0xFFFF ∷ Word 1 ∷ []) ≡ Some (throws nothing_kept 5) }
 {}

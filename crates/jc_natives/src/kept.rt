@@ -1,10 +1,10 @@
 //! What the runtime keeps beside the objects.
 
 ghost use Rattle.std.specs.Prelude.{◌≡◌, ◌+◌, ◌++◌, ◌≤◌, ◌<◌, [], bytes_eq, length, nat_le, nat_lt, option_map};
-ghost use Rattle.jc_natives.specs.Cells.{bytes_of};
 ghost use Rattle.jc_natives.specs.Kept.{after_install, expected_of, has_registered, instance_of, instance_with};
 ghost use Rattle.jc_natives.specs.Kept.{is_same_owner, nothing_kept, with_announced, with_command, with_install};
 ghost use Rattle.jc_natives.specs.Kept.{with_instance, with_sent, with_state, without_command};
+ghost use Rattle.jc_natives.specs.PrivateCells.{bytes_of};
 ghost use Rattle.jc_natives.specs.declared.kept.ApduState.TheVariants.{LengthSet};
 
 use crate::bytes::{append_bytes, are_bytes};

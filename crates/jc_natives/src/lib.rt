@@ -21,7 +21,9 @@ mod tests;
 mod utility;
 mod words;
 
-pub use examples::{arguments_are_tested, bytes_are_written, members_refuse, ranges_and_signs};
+pub use examples::{
+    arguments_are_tested, bytes_are_written, members_are_stuck, members_refuse, ranges_and_signs,
+};
 pub use kept::{ApduState, Installing, Instance, Runtime};
 pub use laws::{
     calls_keep_fitting, kept_stays_fit, loads_keep_fitting, members_are_declared,

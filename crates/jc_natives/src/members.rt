@@ -2,8 +2,15 @@
 
 ghost use Rattle.std.specs.Prelude.{◌≡◌};
 ghost use Rattle.jc_api.specs.Numbered.{numbered};
+ghost use Rattle.jc_link.specs.Linked as worlds;
+ghost use Rattle.jc_machine.specs.Accepted.{IsAccepted};
+ghost use Rattle.jc_machine.specs.Machine.{NativeCall};
+ghost use Rattle.jc_machine.specs.Natives.{IsFitCall};
+ghost use Rattle.jc_natives.specs.Kept.{Kept};
+ghost use Rattle.jc_natives.specs.Meaning.{meaning};
+ghost use Rattle.jc_natives.specs.Members.{natives};
+ghost use Rattle.jc_natives.specs.PrivateMeaning.{answer_on_words};
 ghost use Rattle.jc_natives.specs.PrivateWords.{AsksSo, TellsEnd, done_of, native_work, seen_in, word_work};
-ghost use Rattle.jc_natives.specs.Rows.{natives};
 
 use crate::aid::aid_native;
 use crate::apdu::apdu_native;
@@ -110,6 +117,18 @@ fn outcome_of(ended: Ended) -> WordOutcome
     }
 }
 
+// What members mean of a call that fits is what they mean on words. It does nothing.
+#[inline(always)]
+fn members_mean_the_same()
+    ensures { (w : worlds.World) (call : NativeCall Kept) → IsAccepted w → IsFitCall meaning w call
+        → meaning.answer w call ≡ answer_on_words w call }
+{
+    growing_keeps_lookups();
+    growing_keeps_linking();
+    built_worlds_have_the_api();
+    built_worlds_are_sound();
+}
+
 impl Natives for Runtime {
     ghost use Rattle.jc_natives.specs.Kept.{Kept};
     ghost use Rattle.jc_natives.specs.Meaning.{meaning};
@@ -122,6 +141,7 @@ impl Natives for Runtime {
 
     #[inline(always)]
     fn call(&mut self, world: &World, store: &mut Store, call: &WordCall<'_>) -> WordOutcome {
+        members_mean_the_same();
         // each object has a number for its class
         let _used = store.objects_used();
         outcome_of(call_member(world, store, call, self))

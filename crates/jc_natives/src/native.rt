@@ -2,7 +2,7 @@
 
 ghost use Rattle.std.specs.Prelude.{◌≡◌};
 ghost use Rattle.jc_api.specs.Numbered.{numbered};
-ghost use Rattle.jc_natives.specs.Rows.{natives};
+ghost use Rattle.jc_natives.specs.Members.{natives};
 
 /// The runtime's exceptions with a reason, by their numbers.
 pub(crate) const ISO_EXCEPTION: u16 = 8;

@@ -2,12 +2,12 @@
 //! subclasses).
 
 ghost use Rattle.std.specs.Prelude.{◌≡◌};
-ghost use Rattle.jc_natives.specs.Objects.{are_same_aids, equals, have_same_aid, object_work};
+ghost use Rattle.jc_natives.specs.PrivateObjects.{are_same_aids, equals, have_same_aid, object_work};
 ghost use Rattle.jc_natives.specs.PrivateWords.{done_of, native_work, seen_in};
 ghost use Rattle.jc_natives.specs.declared.native.Native.TheVariants.{OfObject};
 
 use crate::bytes::same_bytes;
-use crate::cells::{argument, bit, cell, put};
+use crate::cells::{aid_count, argument, bit, cell, put};
 use crate::ended::{Ended, throw_with};
 use crate::kept::Runtime;
 use crate::native::ObjectNative;
@@ -21,8 +21,8 @@ use jc_store::Store;
 fn have_same_aid(store: &Store, one: u16, other: u16) -> bool
     ensures { result ≡ have_same_aid store.now.objects one other }
 {
-    let count = cell(store, one, 0);
-    count == cell(store, other, 0) && same_bytes(store, one, 1, other, 1, count)
+    let count = aid_count(store, one);
+    count == aid_count(store, other) && same_bytes(store, one, 1, other, 1, count)
 }
 
 // Whether two objects are AIDs of the same bytes.

@@ -2,8 +2,9 @@
 //! is made.
 
 ghost use Rattle.std.specs.Prelude.{◌≡◌, Some};
-ghost use Rattle.jc_natives.specs.Rows.{aid_row, apdu_row, applet_row, called, called_on, constructed, object_row};
-ghost use Rattle.jc_natives.specs.Rows.{on_array, on_arrays, range, system_row, untested, utility_row};
+ghost use Rattle.jc_natives.specs.PrivateRows.{aid_row, apdu_row, applet_row, called, called_on, constructed};
+ghost use Rattle.jc_natives.specs.PrivateRows.{object_row, on_array, on_arrays, range, system_row, untested};
+ghost use Rattle.jc_natives.specs.PrivateRows.{utility_row};
 
 use crate::native::{
     AidNative, ApduNative, AppletNative, ObjectNative, SystemNative, UtilityNative,

@@ -1,18 +1,19 @@
 //! Members of JCSystem (Java Card API Specification, JCSystem).
 
 ghost use Rattle.std.specs.Prelude.{◌≡◌};
-ghost use Rattle.jc_natives.specs.Cells.{argument, bytes_of, extended};
+ghost use Rattle.jc_natives.specs.Cells.{extended};
 ghost use Rattle.jc_natives.specs.Kept.{instance_with};
+ghost use Rattle.jc_natives.specs.Members.{aid_of, aid_of_owner, event_of};
+ghost use Rattle.jc_natives.specs.PrivateCells.{argument, bytes_of};
+ghost use Rattle.jc_natives.specs.PrivateSystem.{asks, makes, makes_array, may_make, system_work};
 ghost use Rattle.jc_natives.specs.PrivateWords.{done_of, native_work, seen_in};
-ghost use Rattle.jc_natives.specs.System.{aid_of, aid_of_owner, asks, event_of, makes, makes_array, may_make};
-ghost use Rattle.jc_natives.specs.System.{system_work};
 ghost use Rattle.jc_natives.specs.Work.{Makes, array_type};
 ghost use Rattle.jc_natives.specs.declared.native.SystemNative.TheVariants as natives;
 ghost use Rattle.jc_natives.specs.declared.native.Native.TheVariants.{OfSystem};
 
 use crate::aid::ILLEGAL_VALUE;
 use crate::applet::aid_object;
-use crate::cells::{argument, cell, extended, is_count};
+use crate::cells::{aid_count, argument, extended, is_count};
 use crate::ended::{Ended, Question, throw_system};
 use crate::kept::{Instance, Runtime};
 use crate::native::{Elements, SystemNative};
@@ -102,7 +103,7 @@ fn ask_for_shareable(
 {
     let aid = argument(call.arguments, 0);
     let word = argument(call.arguments, 1);
-    let count = cell(store, aid, 0);
+    let count = aid_count(store, aid);
     let instance = runtime.instance_in(store, aid, 1, count);
     ask(world, store, call, runtime, word, instance)
 }

@@ -2,9 +2,10 @@
 
 ghost use Rattle.std.specs.Prelude.{◌≡◌, ℕ, true, Some};
 ghost use Rattle.jc_natives.specs.PrivateWords.{seen_in};
-ghost use Rattle.jc_natives.specs.Seen.{is_aid_object};
-ghost use Rattle.jc_natives.specs.Tests.{access_of, by_verdict, facts_of, is_in_range, length_of, ranged, test, tested};
-ghost use Rattle.jc_natives.specs.Tests.{used};
+ghost use Rattle.jc_natives.specs.Checks.{access_of};
+ghost use Rattle.jc_natives.specs.PrivateSeen.{is_aid_object};
+ghost use Rattle.jc_natives.specs.PrivateTests.{by_verdict, facts_of, is_in_range, length_of, ranged, test, tested};
+ghost use Rattle.jc_natives.specs.PrivateTests.{used};
 ghost use Rattle.jc_natives.specs.declared.row.Test.TheVariants.{BesideAid};
 ghost use Rattle.jc_link.specs.Linked as linked;
 ghost use Rattle.jc_machine.specs.Lookup.{class_of, is_array};
@@ -14,7 +15,7 @@ ghost use Rattle.jc_store.specs.Heap.{object_at};
 ghost use Rattle.jc_store.specs.Store as stores;
 ghost use Rattle.jc_store.specs.Store.{IsOwn, IsThere};
 
-use crate::cells::{argument, cell, extended, is_within, size};
+use crate::cells::{aid_count, argument, extended, is_within, size};
 use crate::row::{Length, Range, Row, Test, Way};
 use jc_api::ApiClass;
 use jc_firewall::{Access, Facts, Verdict, decide, own_is_allowed};
@@ -192,7 +193,7 @@ fn length_of(world: &World, store: &Store, call: &WordCall<'_>, length: Length) 
         Length::ShortAt(place) => argument(call.arguments, place),
         Length::ByteAt(place) => extended(argument(call.arguments, place)),
         Length::Fixed(count) => count,
-        Length::OfAid(place) => cell(store, argument(call.arguments, place), 0),
+        Length::OfAid(place) => aid_count(store, argument(call.arguments, place)),
     }
 }
 

@@ -2,7 +2,7 @@
 
 ghost use Rattle.std.specs.Prelude.{◌≡◌};
 ghost use Rattle.jc_natives.specs.PrivateWords.{Passes, done_of, native_work, seen_in};
-ghost use Rattle.jc_natives.specs.Utilities.{utility_work};
+ghost use Rattle.jc_natives.specs.PrivateUtilities.{utility_work};
 ghost use Rattle.jc_natives.specs.declared.native.UtilityNative.TheVariants as natives;
 ghost use Rattle.jc_natives.specs.declared.native.Native.TheVariants.{OfUtility};
 

@@ -1,5 +1,6 @@
 use Rattle.std.proofs.Common.{ap, arith, ◌∙◌}
-use Rattle.jc_natives.specs.Cells.{bytes_of, put, put_all}
+use Rattle.jc_natives.specs.Cells.{put, put_all}
+use Rattle.jc_natives.specs.PrivateCells.{bytes_of}
 use Rattle.jc_natives.proofs.Putting.{put_before}
 use Rattle.jc_natives.proofs.aid.keep.Goals as goal
 use Rattle.jc_store.specs.Store.{Store, with_objects}

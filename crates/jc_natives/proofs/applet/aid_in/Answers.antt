@@ -1,7 +1,7 @@
 use Rattle.std.proofs.Common.{◌++◌, cond, Some, None, ap, ◌∙◌}
 use Rattle.jc_base.specs.Aid.{aid_of}
-use Rattle.jc_natives.specs.Cells.{bytes_of}
 use Rattle.jc_natives.specs.Kept.{has_aid_length}
+use Rattle.jc_natives.specs.PrivateCells.{bytes_of}
 use Rattle.jc_natives.proofs.Ranges.{length_of_bytes}
 use Rattle.jc_natives.proofs.applet.aid_in.Goals as goal
 

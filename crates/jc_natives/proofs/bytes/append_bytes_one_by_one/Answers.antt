@@ -1,5 +1,5 @@
 use Rattle.std.proofs.Common.{◌+◌, ◌-◌, ◌++◌, ◌∷◌, [], ◌∙◌, ap, arith}
-use Rattle.jc_natives.specs.Cells.{byte_of, bytes_of}
+use Rattle.jc_natives.specs.PrivateCells.{byte_of, bytes_of}
 use Rattle.jc_natives.proofs.Ranges.{appended}
 use Rattle.jc_natives.proofs.bytes.append_bytes_one_by_one.Goals as goal
 

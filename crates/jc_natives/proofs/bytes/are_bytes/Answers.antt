@@ -1,6 +1,6 @@
 use Rattle.std.proofs.Common.{length, sym, ◌∙◌}
 use Rattle.std.proofs.lemmas.Bool.{ne_eqb}
-use Rattle.jc_natives.specs.Cells.{bytes_of}
+use Rattle.jc_natives.specs.PrivateCells.{bytes_of}
 use Rattle.jc_natives.proofs.Ranges.{bytes_differ, length_of_bytes}
 use Rattle.jc_natives.proofs.bytes.are_bytes.Goals as goal
 

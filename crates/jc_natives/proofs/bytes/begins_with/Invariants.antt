@@ -1,5 +1,5 @@
 use Rattle.std.proofs.Common.{◌≡◌, ◌+◌, ◌-◌, bytes_eq, drop, length}
-use Rattle.jc_natives.specs.Cells.{bytes_of}
+use Rattle.jc_natives.specs.PrivateCells.{bytes_of}
 use Rattle.jc_natives.proofs.bytes.begins_with.Given as goal
 
 abbrev pub invariant-loop-at : goal.invariant-loop-at

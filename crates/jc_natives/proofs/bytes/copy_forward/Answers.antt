@@ -1,5 +1,6 @@
 use Rattle.std.proofs.Common.{◌+◌, ◌-◌, ap, ◌∙◌, arith}
-use Rattle.jc_natives.specs.Cells.{bytes_of, low, put_all}
+use Rattle.jc_natives.specs.Cells.{low, put_all}
+use Rattle.jc_natives.specs.PrivateCells.{bytes_of}
 use Rattle.jc_natives.proofs.Ranges.{copied_on}
 use Rattle.jc_natives.proofs.bytes.copy_forward.Goals as goal
 use Rattle.jc_store.specs.Store.{Store, with_objects}

@@ -1,5 +1,6 @@
 use Rattle.std.proofs.Common.{◌≡◌, ◌+◌, ◌-◌}
-use Rattle.jc_natives.specs.Cells.{bytes_of, put_all}
+use Rattle.jc_natives.specs.Cells.{put_all}
+use Rattle.jc_natives.specs.PrivateCells.{bytes_of}
 use Rattle.jc_natives.proofs.bytes.copy_forward.Given as goal
 use Rattle.jc_store.specs.Store.{with_objects}
 

@@ -1,5 +1,5 @@
 use Rattle.std.proofs.Common.{ℕ, List, ap, ◌∙◌, arith}
-use Rattle.jc_natives.specs.Cells.{words_of}
+use Rattle.jc_natives.specs.PrivateCells.{words_of}
 use Rattle.jc_natives.proofs.Parts.{put_part, words_in}
 use Rattle.jc_natives.proofs.Ranges.{length_of_words}
 use Rattle.jc_natives.proofs.bytes.copy_words.Goals as goal

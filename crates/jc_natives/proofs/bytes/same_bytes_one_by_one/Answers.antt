@@ -1,5 +1,5 @@
 use Rattle.std.proofs.Common.{sym, ◌∙◌, arith}
-use Rattle.jc_natives.specs.Cells.{bytes_of}
+use Rattle.jc_natives.specs.PrivateCells.{bytes_of}
 use Rattle.std.proofs.Common.{bytes_eq}
 use Rattle.jc_natives.proofs.Ranges.{same_so_far}
 use Rattle.jc_natives.proofs.bytes.same_bytes_one_by_one.Goals as goal

@@ -5,7 +5,8 @@ use Rattle.jc_firewall.specs.declared.access.Facts.{Facts}
 use Rattle.jc_firewall.specs.declared.access.Verdict.{Verdict}
 use Rattle.jc_natives.proofs.tests.judged.Goals as goal
 use Rattle.jc_natives.specs.PrivateWords.{seen_in}
-use Rattle.jc_natives.specs.Tests.{access_of, by_verdict, on_object}
+use Rattle.jc_natives.specs.Checks.{access_of}
+use Rattle.jc_natives.specs.PrivateTests.{by_verdict, on_object}
 use Rattle.jc_store.specs.Heap.{Object}
 
 pub returns : goal.returns

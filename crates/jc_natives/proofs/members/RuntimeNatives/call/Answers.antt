@@ -4,13 +4,14 @@ use Rattle.jc_natives.proofs.Numbers.{keeps_limits, numbers_arrays}
 use Rattle.jc_natives.proofs.Simulation.{answered}
 use Rattle.jc_natives.proofs.members.RuntimeNatives.call.Goals as goal
 use Rattle.jc_natives.specs.PrivateWords.{seen_in, word_work}
-use Rattle.jc_natives.specs.Rows.{natives}
+use Rattle.jc_natives.specs.Members.{natives}
 
 pub returns-clause-answered : goal.returns-clause-answered
 returns-clause-answered c = λ call agrees accepted fit.
     answered c.args.world.now c.args.store.now c.args.self.now c.args.call.now
     (record { store = c.call_member.new.store; kept = c.call_member.new.runtime; ended = c.call_member.result })
     c.outcome_of.result c.call_member.ensures c.outcome_of.ensures call agrees fit
+    (c.members_mean_the_same.ensures c.args.world.now call accepted fit)
 
 pub returns-clause-classes : goal.returns-clause-classes
 returns-clause-classes c =

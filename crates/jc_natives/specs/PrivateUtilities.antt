@@ -1,9 +1,10 @@
--- Arrays of bytes and shorts (Java Card API Specification, Util).
+-- What members of Util do on words without tags.
 use Rattle.std.specs.Prelude.{ℕ, ◌+◌, List, [], ◌∷◌, replicate}
-use Rattle.jc_natives.specs.Aids.{range_bytes}
-use Rattle.jc_natives.specs.Cells.{argument, byte_of, high, low, order_of, word, word_of_bytes, words_of}
+use Rattle.jc_natives.specs.Cells.{high, low, order_of, word, word_of_bytes}
 use Rattle.jc_natives.specs.Kept.{Kept}
-use Rattle.jc_natives.specs.Seen.{Seen}
+use Rattle.jc_natives.specs.PrivateAids.{range_bytes}
+use Rattle.jc_natives.specs.PrivateCells.{argument, byte_of, words_of}
+use Rattle.jc_natives.specs.PrivateSeen.{Seen}
 use Rattle.jc_natives.specs.Work.{GivesWord, Work, gives, writes_to}
 use Rattle.jc_natives.specs.declared.native.UtilityNative.{UtilityNative}
 use Rattle.jc_natives.specs.declared.native.UtilityNative.TheVariants.{ArrayCompare, ArrayCopy, ArrayFill, GetShort}

@@ -1,8 +1,9 @@
--- AIDs (Java Card API Specification, AID).
+-- What members of AID do on words without tags.
 use Rattle.std.specs.Prelude.{ℕ, ◌==◌, ◌&&◌, Bool, false, List, ◌∷◌, bytes_eq, if◌then◌else◌}
-use Rattle.jc_natives.specs.Cells.{aid_bytes, aid_count, argument, bit, bytes_of, extended, word}
+use Rattle.jc_natives.specs.Cells.{bit, extended, word}
 use Rattle.jc_natives.specs.Kept.{Kept, has_aid_length}
-use Rattle.jc_natives.specs.Seen.{Seen}
+use Rattle.jc_natives.specs.PrivateCells.{aid_bytes, aid_count, argument, bytes_of}
+use Rattle.jc_natives.specs.PrivateSeen.{Seen}
 use Rattle.jc_natives.specs.Work.{GivesWord, NoResult, Work, gives, illegal_value, unless_system, writes_to}
 use Rattle.jc_natives.specs.declared.native.AidNative.{AidNative}
 use Rattle.jc_natives.specs.declared.native.AidNative.TheVariants.{Construct, Equals, GetBytes}

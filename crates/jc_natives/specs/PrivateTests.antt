@@ -1,18 +1,17 @@
--- What members test of their arguments before they do anything, by one rule: the object first, then the other
--- references from left to right, then the ranges from left to right (Java Card Runtime Environment Specification,
--- Applet Isolation and Object Sharing; Java Card API Specification, Util, AID, APDU: exceptions).
+-- What members test of their arguments on words without tags, by one rule: the object first, then the other references
+-- from left to right, then the ranges from left to right.
 use Rattle.std.specs.Prelude.{ℕ, ◌==◌, ◌&&◌, ◌||◌, Bool, false, List, [], ◌∷◌, ◌++◌, Option, Some, None, if◌then◌else◌}
 use Rattle.jc_firewall.specs.Verdict.{verdict_of}
-use Rattle.jc_firewall.specs.declared.access.Access.{Access}
-use Rattle.jc_firewall.specs.declared.access.Access.TheVariants.{InvokeVirtual, LoadComponent, PutField, StoreComponent}
 use Rattle.jc_firewall.specs.declared.access.Facts.{Facts}
 use Rattle.jc_firewall.specs.declared.access.Verdict.{Verdict}
 use Rattle.jc_firewall.specs.declared.access.Verdict.TheVariants.{Allowed, AllowedSwitch, Denied}
 use Rattle.jc_machine.specs.Lookup.{is_array}
 use Rattle.jc_machine.specs.Machine.{ByCode, Touch}
 use Rattle.jc_machine.specs.Runtime.{array_index_exception, null_pointer_exception, security_exception}
-use Rattle.jc_natives.specs.Cells.{aid_count, argument, extended, is_within, size_of}
-use Rattle.jc_natives.specs.Seen.{Seen, is_aid_object}
+use Rattle.jc_natives.specs.Cells.{extended, is_within}
+use Rattle.jc_natives.specs.Checks.{access_of}
+use Rattle.jc_natives.specs.PrivateCells.{aid_count, argument, size_of}
+use Rattle.jc_natives.specs.PrivateSeen.{Seen, is_aid_object}
 use Rattle.jc_natives.specs.declared.row.Length.{Length}
 use Rattle.jc_natives.specs.declared.row.Length.TheVariants.{ByteAt, Fixed, OfAid, ShortAt}
 use Rattle.jc_natives.specs.declared.row.Range.{Range}
@@ -20,7 +19,7 @@ use Rattle.jc_natives.specs.declared.row.Row.{Row}
 use Rattle.jc_natives.specs.declared.row.Test.{Test}
 use Rattle.jc_natives.specs.declared.row.Test.TheVariants.{BesideAid, Nothing, Object, ObjectOrNull}
 use Rattle.jc_natives.specs.declared.row.Way.{Way}
-use Rattle.jc_natives.specs.declared.row.Way.TheVariants.{Calls, Fields, Loads, Stores}
+use Rattle.jc_natives.specs.declared.row.Way.TheVariants.{Calls}
 use Rattle.jc_store.specs.Heap as heaps
 use Rattle.jc_store.specs.Heap.{object_at}
 
@@ -46,14 +45,6 @@ abbrev pub followed : Tested → Tested → Tested
 followed first later = goes_on first.touches first.thrown later
 
 -- ---- accesses
-
--- the access by which the firewall decides on a use of an object: of a constructor's, whose fields are set; of an array
--- that is read or written; of an object whose member is called
-abbrev pub access_of : Way → Access
-access_of Fields = PutField
-access_of Loads = LoadComponent
-access_of Stores = StoreComponent
-access_of Calls = InvokeVirtual
 
 -- what the verdict hangs on. No such access is about a shareable interface, and none stores a reference
 abbrev pub facts_of : Seen → heaps.Object ℕ → Facts

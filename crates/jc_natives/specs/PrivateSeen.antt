@@ -1,5 +1,4 @@
--- What a native member sees of its call: words, and objects without tags. No member looks at a tag: arguments are of
--- their types before it begins, and the components that it uses are words.
+-- What the code of a native member sees of its call: words, and objects without tags.
 use Rattle.std.specs.Prelude.{ℕ, Bool, false, List, map, Option}
 use Rattle.std.specs.Option.{option_map_or}
 use Rattle.jc_api.specs.declared.class.ApiClass.TheVariants.{Aid}
@@ -9,7 +8,8 @@ use Rattle.jc_machine.specs.Lookup.{is_of_class}
 use Rattle.jc_machine.specs.Machine.{NativeCall}
 use Rattle.jc_names.specs.declared.name.ClassName.TheVariants.{Api}
 use Rattle.jc_names.specs.declared.owner.Owner.{Owner}
-use Rattle.jc_natives.specs.Cells.{bared, bits}
+use Rattle.jc_natives.specs.Cells.{bits}
+use Rattle.jc_natives.specs.PrivateCells.{bared}
 use Rattle.jc_store.specs.Heap.{Heap, object_at}
 
 -- the packages; the objects; the owner that is active, and the one before the last switch; the context of the applet

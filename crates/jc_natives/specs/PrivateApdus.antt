@@ -1,56 +1,26 @@
--- The exchange of a command and its answer (Java Card API Specification, APDU). The card has one state, whichever
--- object the member is called on.
-use Rattle.std.specs.Prelude.{ℕ, ◌+◌, Bool, true, false, List, ◌++◌, length, nat_le}
+-- What members of APDU do on words without tags.
+use Rattle.std.specs.Prelude.{ℕ, ◌+◌, Bool, List, ◌++◌, length, nat_le, if◌then◌else◌}
 use Rattle.jc_machine.specs.Runtime.{apdu_buffer}
-use Rattle.jc_natives.specs.Aids.{range_bytes}
-use Rattle.jc_natives.specs.Cells.{argument, is_within, size_of}
-use Rattle.jc_natives.specs.Kept.{Kept, expected_of, most_sent, with_announced, with_sent, with_state}
-use Rattle.jc_natives.specs.Seen.{Seen}
+use Rattle.jc_natives.specs.Cells.{is_within}
+use Rattle.jc_natives.specs.Kept.{Kept, expected_of, is_fresh, is_incoming, is_length_set, is_outgoing, most_sent}
+use Rattle.jc_natives.specs.Kept.{with_announced, with_sent, with_state}
+use Rattle.jc_natives.specs.Members.{data_offset}
+use Rattle.jc_natives.specs.PrivateAids.{range_bytes}
+use Rattle.jc_natives.specs.PrivateCells.{argument, size_of}
+use Rattle.jc_natives.specs.PrivateSeen.{Seen}
 use Rattle.jc_natives.specs.Work.{GivesReference, GivesWord, NoResult, Work, bad_length, buffer_bounds, gives}
-use Rattle.jc_natives.specs.Work.{illegal_use, unless_apdu, writes_own}
-use Rattle.jc_natives.specs.declared.kept.ApduState.{ApduState}
-use Rattle.jc_natives.specs.declared.kept.ApduState.TheVariants.{Closed, Fresh, LengthSet, Outgoing, Received}
+use Rattle.jc_natives.specs.Work.{illegal_use, throws_apdu, writes_own}
+use Rattle.jc_natives.specs.declared.kept.ApduState.TheVariants.{LengthSet, Outgoing, Received}
 use Rattle.jc_natives.specs.declared.native.ApduNative.{ApduNative}
 use Rattle.jc_natives.specs.declared.native.ApduNative.TheVariants.{GetBuffer, SendBytes, SendBytesLong}
 use Rattle.jc_natives.specs.declared.native.ApduNative.TheVariants.{SetIncomingAndReceive, SetOutgoing}
 use Rattle.jc_natives.specs.declared.native.ApduNative.TheVariants.{SetOutgoingAndSend, SetOutgoingLength}
 
--- ---- states
-
-abbrev pub is_fresh : ApduState → Bool
-is_fresh Closed = false
-is_fresh Fresh = true
-is_fresh Received = false
-is_fresh Outgoing = false
-is_fresh LengthSet = false
-
--- the direction wasn't turned yet
-abbrev pub is_incoming : ApduState → Bool
-is_incoming Closed = false
-is_incoming Fresh = true
-is_incoming Received = true
-is_incoming Outgoing = false
-is_incoming LengthSet = false
-
-abbrev pub is_outgoing : ApduState → Bool
-is_outgoing Closed = false
-is_outgoing Fresh = false
-is_outgoing Received = false
-is_outgoing Outgoing = true
-is_outgoing LengthSet = false
-
-abbrev pub is_length_set : ApduState → Bool
-is_length_set Closed = false
-is_length_set Fresh = false
-is_length_set Received = false
-is_length_set Outgoing = false
-is_length_set LengthSet = true
+-- what goes on where a test passes, and what is thrown else
+abbrev pub unless_apdu : Kept → ℕ → Bool → Work → Work
+unless_apdu k reason passes work = if passes then work else throws_apdu k reason
 
 -- ---- what is sent
-
--- the data of a command stand behind its header in the buffer
-abbrev pub data_offset : ℕ
-data_offset = 5
 
 abbrev pub is_in_buffer : Seen → ℕ → ℕ → Bool
 is_in_buffer s offset count = is_within (size_of s.objects apdu_buffer) offset count

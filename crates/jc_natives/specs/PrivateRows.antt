@@ -1,6 +1,5 @@
--- The native members by their numbers, and what each tests, as data (Java Card API Specification).
-use Rattle.std.specs.Prelude.{ℕ, List, [], ◌∷◌, Option, Some, None}
-use Rattle.jc_machine.specs.Runtime.{apdu_exception, iso_exception, system_exception}
+-- What native members test, as rows of the code.
+use Rattle.std.specs.Prelude.{ℕ, Option, Some, None}
 use Rattle.jc_natives.specs.declared.native.AidNative.{AidNative}
 use Rattle.jc_natives.specs.declared.native.AidNative.TheVariants as aids
 use Rattle.jc_natives.specs.declared.native.ApduNative.{ApduNative}
@@ -22,66 +21,6 @@ use Rattle.jc_natives.specs.declared.row.Row.{Row}
 use Rattle.jc_natives.specs.declared.row.Test.{Test}
 use Rattle.jc_natives.specs.declared.row.Test.TheVariants.{BesideAid, Nothing, Object, ObjectOrNull}
 use Rattle.jc_natives.specs.declared.row.Way.TheVariants.{Calls, Fields, Loads, Stores}
-
--- ---- the members
-
-abbrev pub natives : List Native
-natives =
-    OfObject objects.Construct  -- 1 Object
-    ∷ OfObject objects.Equals  -- 2 equals
-    ∷ OfObject objects.Construct  -- 3 Throwable
-    ∷ OfObject objects.Construct  -- 4 Exception
-    ∷ OfObject objects.Construct  -- 5 RuntimeException
-    ∷ OfObject objects.Construct  -- 6 ArithmeticException
-    ∷ OfObject objects.Construct  -- 7 ArrayStoreException
-    ∷ OfObject objects.Construct  -- 8 ClassCastException
-    ∷ OfObject objects.Construct  -- 9 IndexOutOfBoundsException
-    ∷ OfObject objects.Construct  -- 10 ArrayIndexOutOfBoundsException
-    ∷ OfObject objects.Construct  -- 11 NegativeArraySizeException
-    ∷ OfObject objects.Construct  -- 12 NullPointerException
-    ∷ OfObject objects.Construct  -- 13 SecurityException
-    ∷ OfObject objects.ConstructWithReason  -- 14 CardRuntimeException
-    ∷ OfObject objects.GetReason  -- 15 getReason
-    ∷ OfObject objects.SetReason  -- 16 setReason
-    ∷ OfObject objects.ConstructWithReason  -- 17 ISOException
-    ∷ OfObject (objects.ThrowIt iso_exception)  -- 18 throwIt
-    ∷ OfObject objects.ConstructWithReason  -- 19 SystemException
-    ∷ OfObject (objects.ThrowIt system_exception)  -- 20 throwIt
-    ∷ OfObject objects.ConstructWithReason  -- 21 APDUException
-    ∷ OfObject (objects.ThrowIt apdu_exception)  -- 22 throwIt
-    ∷ OfAid aids.Construct  -- 23 AID
-    ∷ OfAid aids.Equals  -- 24 equals
-    ∷ OfAid aids.GetBytes  -- 25 getBytes
-    ∷ OfApdu apdus.GetBuffer  -- 26 getBuffer
-    ∷ OfApdu apdus.SetIncomingAndReceive  -- 27 setIncomingAndReceive
-    ∷ OfApdu apdus.SetOutgoing  -- 28 setOutgoing
-    ∷ OfApdu apdus.SetOutgoingLength  -- 29 setOutgoingLength
-    ∷ OfApdu apdus.SendBytes  -- 30 sendBytes
-    ∷ OfApdu apdus.SendBytesLong  -- 31 sendBytesLong
-    ∷ OfApdu apdus.SetOutgoingAndSend  -- 32 setOutgoingAndSend
-    ∷ OfObject objects.Construct  -- 33 Applet
-    ∷ OfApplet applets.Register  -- 34 register
-    ∷ OfApplet applets.RegisterBytes  -- 35 register
-    ∷ OfApplet applets.Select  -- 36 select
-    ∷ OfApplet applets.Deselect  -- 37 deselect
-    ∷ OfApplet applets.Process  -- 38 process
-    ∷ OfApplet applets.SelectingApplet  -- 39 selectingApplet
-    ∷ OfApplet applets.GetShareable  -- 40 getShareableInterfaceObject
-    ∷ OfSystem system.GetAid  -- 41 getAID
-    ∷ OfSystem system.LookupAid  -- 42 lookupAID
-    ∷ OfSystem system.GetPreviousAid  -- 43 getPreviousContextAID
-    ∷ OfSystem system.AskForShareable  -- 44 getAppletShareableInterfaceObject
-    ∷ OfSystem system.MakeBooleans  -- 45 makeTransientBooleanArray
-    ∷ OfSystem system.MakeBytes  -- 46 makeTransientByteArray
-    ∷ OfSystem system.MakeShorts  -- 47 makeTransientShortArray
-    ∷ OfSystem system.MakeReferences  -- 48 makeTransientObjectArray
-    ∷ OfUtility utilities.ArrayCopy  -- 49 arrayCopy
-    ∷ OfUtility utilities.ArrayCopy  -- 50 arrayCopyNonAtomic
-    ∷ OfUtility utilities.ArrayFill  -- 51 arrayFillNonAtomic
-    ∷ OfUtility utilities.ArrayCompare  -- 52 arrayCompare
-    ∷ OfUtility utilities.GetShort  -- 53 getShort
-    ∷ OfUtility utilities.SetShort  -- 54 setShort
-    ∷ OfUtility utilities.MakeShort ∷ []  -- 55 makeShort
 
 -- ---- rows
 

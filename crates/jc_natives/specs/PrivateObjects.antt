@@ -1,9 +1,9 @@
--- Object and the exceptions (Java Card API Specification, Object, Throwable and its subclasses, CardRuntimeException,
--- ISOException, SystemException, APDUException).
+-- What members of Object and of exceptions do on words without tags.
 use Rattle.std.specs.Prelude.{ℕ, ◌==◌, ◌&&◌, ◌||◌, Bool, List, [], ◌∷◌, bytes_eq}
-use Rattle.jc_natives.specs.Cells.{aid_bytes, aid_count, argument, bit, cell_of, word}
+use Rattle.jc_natives.specs.Cells.{bit, word}
 use Rattle.jc_natives.specs.Kept.{Kept}
-use Rattle.jc_natives.specs.Seen.{Seen, is_aid_object}
+use Rattle.jc_natives.specs.PrivateCells.{aid_bytes, aid_count, argument, cell_of}
+use Rattle.jc_natives.specs.PrivateSeen.{Seen, is_aid_object}
 use Rattle.jc_natives.specs.Work.{GivesWord, NoResult, Work, gives, throws_with, writes_to}
 use Rattle.jc_natives.specs.declared.native.ObjectNative.{ObjectNative}
 use Rattle.jc_natives.specs.declared.native.ObjectNative.TheVariants.{Construct, ConstructWithReason, Equals, GetReason}

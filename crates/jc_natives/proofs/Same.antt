@@ -1,0 +1,371 @@
+-- A call that fits answers on tagged values what it answers on words without tags.
+use Rattle.std.proofs.Common.{◌≡◌, ℕ, ◌+◌, ◌==◌, ◌&&◌, Bool, true, false, cond, List, [], length, nat_le}
+use Rattle.std.proofs.Common.{Option, Some, None, refl, sym, ap, subst, ◌∙◌}
+use Rattle.std.specs.List.{AllByRecursion, list_all}
+use Rattle.std.specs.Option.{option_and_then, option_map, option_map_or}
+use Rattle.jc_api.specs.Member.{ApiMember, member_of}
+use Rattle.jc_api.specs.Numbered.{numbered}
+use Rattle.jc_api.specs.declared.class.ApiClass.{ApiClass}
+use Rattle.jc_api.specs.declared.class.ApiClass.TheVariants as api
+use Rattle.jc_machine.specs.Lookup.{is_of_class}
+use Rattle.jc_machine.specs.Machine.{Calls, Gives, IsStuck, NativeAnswer, NativeCall, NativeEnd, ThrowsObject}
+use Rattle.jc_machine.specs.Runtime.{apdu_buffer}
+use Rattle.jc_names.specs.declared.name.ClassName.TheVariants.{Api}
+use Rattle.jc_natives.proofs.Alike.{IsLike, alike, begun_alike, stops}
+use Rattle.jc_natives.proofs.Bare.{bare_object, both}
+use Rattle.jc_natives.proofs.Facts.{AreTyped, LeadsToClass, own_object}
+use Rattle.jc_natives.proofs.FitWrites.{Known, buffer_leads}
+use Rattle.jc_natives.proofs.Matching.{both_aids}
+use Rattle.jc_natives.proofs.Takes.{AreOfKinds, of_kinds, takes, takes_so}
+use Rattle.jc_natives.proofs.TypedCells.{Has, has_and_goes}
+use Rattle.jc_natives.proofs.Unstuck.{IsShown, There, aid_at, aids_have, bytes_at, fits_kinds, has_aid, has_bytes}
+use Rattle.jc_natives.proofs.Unstuck.{has_component, has_object, has_range, has_reason, has_reference, has_word}
+use Rattle.jc_natives.proofs.Unstuck.{has_words, is_fit, object_leads, of_leads, tests_fit, tests_show}
+use Rattle.jc_natives.proofs.Unstuck.{there_unless_null}
+use Rattle.jc_natives.specs.Checks.{Passed, Refused, TestEnd, Unfit, are_aids, tested}
+use Rattle.jc_natives.specs.Cells.{is_within}
+use Rattle.jc_natives.specs.Kept.{Kept, has_aid_length, is_fresh, is_incoming, is_length_set, is_outgoing, most_sent}
+use Rattle.jc_natives.specs.Meaning.{answer_of, begun, done, end_of, ended, unchanged, with_room}
+use Rattle.jc_natives.specs.Members as members
+use Rattle.jc_natives.specs.Members.{ends_with, in_buffer, makes_array, member_of_native, natives, on_allowed}
+use Rattle.jc_natives.specs.Members.{on_installing, sends_at_once, sets_reason}
+use Rattle.jc_natives.specs.PrivateCells.{argument, bare}
+use Rattle.jc_natives.specs.PrivateMeaning.{answer_on_words, begun_on_words}
+use Rattle.jc_natives.specs.PrivateSeen.{Seen, arguments_of, is_aid_object, seen_of}
+use Rattle.jc_natives.specs.Taking.{Called, called, on_range}
+use Rattle.jc_natives.specs.Work.{Asks, Does, Ending, GivesReference, GivesWord, Makes, NoResult, Throws, Work}
+use Rattle.jc_natives.specs.Work.{bad_length, buffer_bounds, illegal_use, illegal_value}
+use Rattle.jc_natives.specs.declared.kept.Installing.{Installing}
+use Rattle.jc_natives.specs.declared.native.AidNative.{AidNative}
+use Rattle.jc_natives.specs.declared.native.AidNative.TheVariants as aids
+use Rattle.jc_natives.specs.declared.native.ApduNative.{ApduNative}
+use Rattle.jc_natives.specs.declared.native.ApduNative.TheVariants as apdus
+use Rattle.jc_natives.specs.declared.native.AppletNative.{AppletNative}
+use Rattle.jc_natives.specs.declared.native.AppletNative.TheVariants as applets
+use Rattle.jc_natives.specs.declared.native.Native.{Native}
+use Rattle.jc_natives.specs.declared.native.Native.TheVariants.{OfAid, OfApdu, OfApplet, OfObject, OfSystem, OfUtility}
+use Rattle.jc_natives.specs.declared.native.ObjectNative.{ObjectNative}
+use Rattle.jc_natives.specs.declared.native.ObjectNative.TheVariants as objects
+use Rattle.jc_natives.specs.declared.native.SystemNative.{SystemNative}
+use Rattle.jc_natives.specs.declared.native.SystemNative.TheVariants as system
+use Rattle.jc_natives.specs.declared.native.UtilityNative.{UtilityNative}
+use Rattle.jc_natives.specs.declared.native.UtilityNative.TheVariants as utilities
+use Rattle.jc_natives.specs.declared.row.Length.TheVariants.{ByteAt, ShortAt}
+use Rattle.jc_store.specs.Heap.{Heap, Object, object_at}
+use Rattle.jc_words.specs.Values.{TaggedValue}
+
+requires_system : (h : Called) (reason : ℕ) (passes : Bool) (go : Option Work) → Has go
+    → Has (members.require_system h reason passes go)
+requires_system h reason true go p = p
+requires_system h reason false go p = refl
+
+requires_apdu : (h : Called) (reason : ℕ) (passes : Bool) (go : Option Work) → Has go
+    → Has (members.require_apdu h reason passes go)
+requires_apdu h reason true go p = p
+requires_apdu h reason false go p = refl
+
+unequal : false ≡ true → ⊥
+unequal g = cc
+
+-- what tests that pass show, of what a member takes
+abbrev Shows : (known : Known) (c : ApiClass) (native : Native)
+    → AreOfKinds (known.w).shapes (known.call).heap (known.call).arguments (takes native c) → Type 0
+Shows known c native typed = AllByRecursion (IsShown known (takes native c) typed) (member_of_native native).tests
+
+-- each member's tests look at what it takes
+pub tests_suit : (native : Native) (c : ApiClass)
+    → list_all (fits_kinds (takes native c)) (member_of_native native).tests ≡ true
+tests_suit (OfObject objects.Construct) c = refl
+tests_suit (OfObject objects.Equals) c = refl
+tests_suit (OfObject objects.ConstructWithReason) c = refl
+tests_suit (OfObject objects.GetReason) c = refl
+tests_suit (OfObject objects.SetReason) c = refl
+tests_suit (OfObject (objects.ThrowIt object)) c = refl
+tests_suit (OfAid aids.Construct) c = refl
+tests_suit (OfAid aids.Equals) c = refl
+tests_suit (OfAid aids.GetBytes) c = refl
+tests_suit (OfApdu apdus.GetBuffer) c = refl
+tests_suit (OfApdu apdus.SetIncomingAndReceive) c = refl
+tests_suit (OfApdu apdus.SetOutgoing) c = refl
+tests_suit (OfApdu apdus.SetOutgoingLength) c = refl
+tests_suit (OfApdu apdus.SendBytes) c = refl
+tests_suit (OfApdu apdus.SendBytesLong) c = refl
+tests_suit (OfApdu apdus.SetOutgoingAndSend) c = refl
+tests_suit (OfApplet applets.Register) c = refl
+tests_suit (OfApplet applets.RegisterBytes) c = refl
+tests_suit (OfApplet applets.Select) c = refl
+tests_suit (OfApplet applets.Deselect) c = refl
+tests_suit (OfApplet applets.Process) c = refl
+tests_suit (OfApplet applets.SelectingApplet) c = refl
+tests_suit (OfApplet applets.GetShareable) c = refl
+tests_suit (OfSystem system.GetAid) c = refl
+tests_suit (OfSystem system.LookupAid) c = refl
+tests_suit (OfSystem system.GetPreviousAid) c = refl
+tests_suit (OfSystem system.AskForShareable) c = refl
+tests_suit (OfSystem system.MakeBooleans) c = refl
+tests_suit (OfSystem system.MakeBytes) c = refl
+tests_suit (OfSystem system.MakeShorts) c = refl
+tests_suit (OfSystem system.MakeReferences) c = refl
+tests_suit (OfUtility utilities.ArrayCopy) c = refl
+tests_suit (OfUtility utilities.ArrayFill) c = refl
+tests_suit (OfUtility utilities.ArrayCompare) c = refl
+tests_suit (OfUtility utilities.GetShort) c = refl
+tests_suit (OfUtility utilities.SetShort) c = refl
+tests_suit (OfUtility utilities.MakeShort) c = refl
+
+module _ (known : Known) (c : ApiClass) where
+  open known use {w, call, fit}
+
+  abbrev h : Called
+  h = called w call
+
+  abbrev s : Seen
+  s = seen_of w call
+
+  abbrev args : List ℕ
+  args = arguments_of call
+
+  abbrev k : Kept
+  k = call.runtime
+
+  abbrev heap : Heap TaggedValue
+  heap = call.heap
+
+  abbrev Typed : Native → Type 0
+  Typed native = AreOfKinds w.shapes heap call.arguments (takes native c)
+
+  -- ---- Object and the exceptions
+
+  aid_of_seen : (number : ℕ) → is_aid_object s number ≡ true → LeadsToClass w.shapes heap number (Api api.Aid)
+  aid_of_seen number e =
+      by_object (object_at heap number) refl
+      (sym (ap (λ (o : Option (Object ℕ)). option_map_or (λ (p : Object ℕ). is_of_class w.shapes (Api api.Aid) p.kind.object) o false) (bare_object heap number)) ∙ e)
+    where
+      by_object : (o : Option (Object TaggedValue)) → object_at heap number ≡ o
+          → option_map_or (λ (p : Object ℕ). is_of_class w.shapes (Api api.Aid) p.kind.object) (option_map bare o) false
+          ≡ true
+          → LeadsToClass w.shapes heap number (Api api.Aid)
+      by_object None f g = absurd (unequal g)
+      by_object (Some o) f g = record { object = o; found = f; below = g }
+
+  equals_has : (t : Typed (OfObject objects.Equals)) → Has (members.equals h)
+  equals_has t =
+      has_reference known _ t 0 refl _ (has_reference known _ t 1 refl _ (by_number (argument args 0 == argument args 1)))
+    where
+      by_aids : (b : Bool) → (is_aid_object s (argument args 0) && is_aid_object s (argument args 1)) ≡ b
+          → Has (cond b (members.have_same_bytes h (argument args 0) (argument args 1)) (ends_with h (GivesWord 0)))
+      by_aids true e =
+          let a = both (is_aid_object s (argument args 0)) (is_aid_object s (argument args 1)) e in
+          has_aid known _ t (argument args 0) (aid_of_seen (argument args 0) a.0) _
+          (has_aid known _ t (argument args 1) (aid_of_seen (argument args 1) a.1) _ refl)
+      by_aids false e = refl
+
+      by_number : (b : Bool)
+          → Has (cond b (ends_with h (GivesWord 1)) (option_and_then (λ both.
+          cond both (members.have_same_bytes h (argument args 0) (argument args 1)) (ends_with h (GivesWord 0)))
+          (are_aids h)))
+      by_number true = refl
+      by_number false =
+          has_and_goes _ (are_aids h) _ (both_aids w call) (aids_have known _ t refl refl) (by_aids _ refl)
+
+  object_has : (native : ObjectNative) (t : Typed (OfObject native)) → Shows known c (OfObject native) t
+      → Has ((members.object_member native).does h)
+  object_has objects.Construct t shown = refl
+  object_has objects.Equals t shown = equals_has t
+  object_has objects.ConstructWithReason t shown = has_reference known _ t 0 refl _ (has_word known _ t 1 refl _ refl)
+  object_has objects.GetReason t shown =
+      has_reference known _ t 0 refl _
+      (has_reason known _ t (argument args 0) (object_leads known _ t (Api api.CardRuntimeException) 0 refl) _ refl)
+  object_has objects.SetReason t shown = has_reference known _ t 0 refl _ (has_word known _ t 1 refl _ refl)
+  object_has (objects.ThrowIt object) t shown = has_word known _ t 0 refl _ refl
+
+  -- ---- AID
+
+  aid_has : (native : AidNative) (t : Typed (OfAid native)) → Shows known c (OfAid native) t
+      → Has ((members.aid_member native).does h)
+  aid_has aids.Construct t shown =
+      has_reference known _ t 0 refl _ (has_range known _ t 1 2 (ByteAt 3) refl refl refl refl (shown.1).0 _
+      (λ bytes. requires_system h illegal_value (has_aid_length (length bytes)) _ refl))
+  aid_has aids.Equals t shown =
+      has_reference known _ t 0 refl _ (has_reference known _ t 1 refl _ (by_null (argument args 1 == 0) refl))
+    where
+      by_null : (b : Bool) → (argument args 1 == 0) ≡ b
+          → Has (cond b (ends_with h (GivesWord 0)) (members.is_range h (argument args 0)))
+      by_null true e = refl
+      by_null false e =
+          has_aid known _ t (argument args 0) (aid_at known _ t 0 refl) _
+          (has_range known _ t 1 2 (ByteAt 3) refl refl refl refl (there_unless_null known _ t 1 refl e) _
+          (λ bytes. refl))
+  aid_has aids.GetBytes t shown =
+      has_reference known _ t 0 refl _ (has_reference known _ t 1 refl _ (has_word known _ t 2 refl _
+      (has_aid known _ t (argument args 0) (aid_at known _ t 0 refl) _ refl)))
+
+  -- ---- APDU
+
+  buffer_there : There heap apdu_buffer
+  buffer_there = let b = own_object heap 11 _ fit.runtime_objects refl in record { object = b.object; found = b.found }
+
+  buffer_has : (native : Native) (t : Typed native) (offset count : ℕ) (go : List ℕ → Option Work)
+      → ((bytes : List ℕ) → Has (go bytes)) → Has (in_buffer h offset count go)
+  buffer_has native t offset count go each =
+      has_object known _ t apdu_buffer buffer_there _
+      (requires_apdu h buffer_bounds (is_within (length (buffer_there.object).cells) offset count) _
+      (has_bytes known _ t apdu_buffer (buffer_leads known) buffer_there offset count go (each _)))
+
+  sends_has : (bytes : List ℕ) → Has (members.sends h bytes)
+  sends_has bytes = requires_apdu h illegal_use (nat_le (length k.sent + length bytes) k.announced) _ refl
+
+  apdu_has : (native : ApduNative) (t : Typed (OfApdu native)) → Shows known c (OfApdu native) t
+      → Has ((members.apdu_member native).does h)
+  apdu_has apdus.GetBuffer t shown = refl
+  apdu_has apdus.SetIncomingAndReceive t shown = requires_apdu h illegal_use (is_fresh k.state) _ refl
+  apdu_has apdus.SetOutgoing t shown = requires_apdu h illegal_use (is_incoming k.state) _ refl
+  apdu_has apdus.SetOutgoingLength t shown =
+      has_word known _ t 1 refl _ (requires_apdu h illegal_use (is_outgoing k.state) _
+      (requires_apdu h bad_length (nat_le (argument args 1) most_sent) _ refl))
+  apdu_has apdus.SendBytes t shown =
+      has_word known _ t 1 refl _ (has_word known _ t 2 refl _ (requires_apdu h illegal_use (is_length_set k.state) _
+      (buffer_has (OfApdu apdus.SendBytes) t (argument args 1) (argument args 2) _ sends_has)))
+  apdu_has apdus.SendBytesLong t shown =
+      requires_apdu h illegal_use (is_length_set k.state) _
+      (has_range known _ t 1 2 (ShortAt 3) refl refl refl refl (shown.1).0 _ sends_has)
+  apdu_has apdus.SetOutgoingAndSend t shown =
+      has_word known _ t 1 refl _ (has_word known _ t 2 refl _ (requires_apdu h illegal_use (is_incoming k.state) _
+      (requires_apdu h bad_length (nat_le (argument args 2) most_sent) _
+      (buffer_has (OfApdu apdus.SetOutgoingAndSend) t (argument args 1) (argument args 2)
+      (sends_at_once h (argument args 2)) (λ bytes. refl)))))
+
+  -- ---- Applet
+
+  installing_has : (x : Option Installing) (go : Installing → Option Work) → ((i : Installing) → Has (go i))
+      → Has (on_installing h x go)
+  installing_has None go each = refl
+  installing_has (Some i) go each = each i
+
+  applet_has : (native : AppletNative) (t : Typed (OfApplet native)) → Shows known c (OfApplet native) t
+      → Has ((members.applet_member native).does h)
+  applet_has applets.Register t shown =
+      has_reference known _ t 0 refl _ (has_object known _ t (argument args 0) shown.0 _
+      (installing_has (members.allowed ((shown.0).object).owner k.installing)
+      (λ i. Some (members.registers k i.owner.instance (argument args 0) ((shown.0).object).owner i.aid))
+      (λ i. refl)))
+  applet_has applets.RegisterBytes t shown =
+      has_reference known _ t 0 refl _ (has_object known _ t (argument args 0) shown.0 _
+      (installing_has (members.allowed ((shown.0).object).owner k.installing)
+      (λ i. on_range h 1 2 (ByteAt 3) (members.registers_under h (argument args 0) ((shown.0).object).owner i))
+      (λ i. has_range known _ t 1 2 (ByteAt 3) refl refl refl refl (shown.1).0 _
+      (λ bytes. requires_system h illegal_value (has_aid_length (length bytes)) _ refl))))
+  applet_has applets.Select t shown = refl
+  applet_has applets.Deselect t shown = refl
+  applet_has applets.Process t shown = refl
+  applet_has applets.SelectingApplet t shown = refl
+  applet_has applets.GetShareable t shown = refl
+
+  -- ---- JCSystem
+
+  system_has : (native : SystemNative) (t : Typed (OfSystem native)) → Shows known c (OfSystem native) t
+      → Has ((members.system_member native).does h)
+  system_has system.GetAid t shown = refl
+  system_has system.LookupAid t shown =
+      has_range known _ t 0 1 (ByteAt 2) refl refl refl refl shown.0 _ (λ bytes. refl)
+  system_has system.GetPreviousAid t shown = refl
+  system_has system.AskForShareable t shown =
+      has_reference known _ t 0 refl _ (has_word known _ t 1 refl _
+      (has_aid known _ t (argument args 0) (of_leads known _ t (Api api.Aid) 0 refl shown.0) _ refl))
+  system_has system.MakeBooleans t shown = has_word known _ t 0 refl _ (has_word known _ t 1 refl _ refl)
+  system_has system.MakeBytes t shown = has_word known _ t 0 refl _ (has_word known _ t 1 refl _ refl)
+  system_has system.MakeShorts t shown = has_word known _ t 0 refl _ (has_word known _ t 1 refl _ refl)
+  system_has system.MakeReferences t shown = has_word known _ t 0 refl _ (has_word known _ t 1 refl _ refl)
+
+  -- ---- Util
+
+  utility_has : (native : UtilityNative) (t : Typed (OfUtility native)) → Shows known c (OfUtility native) t
+      → Has ((members.utility_member native).does h)
+  utility_has utilities.ArrayCopy t shown =
+      has_reference known _ t 0 refl _ (has_word known _ t 1 refl _ (has_reference known _ t 2 refl _
+      (has_word known _ t 3 refl _ (has_word known _ t 4 refl _
+      (has_words known _ t (argument args 0) (bytes_at known _ t 0 refl) shown.0 (argument args 1) (argument args 4) _
+      refl)))))
+  utility_has utilities.ArrayFill t shown =
+      has_reference known _ t 0 refl _ (has_word known _ t 1 refl _ (has_word known _ t 2 refl _
+      (has_word known _ t 3 refl _ refl)))
+  utility_has utilities.ArrayCompare t shown =
+      has_range known _ t 0 1 (ShortAt 4) refl refl refl refl shown.0 _ (λ bytes.
+      has_range known _ t 2 3 (ShortAt 4) refl refl refl refl (shown.1).0 _ (λ others. refl))
+  utility_has utilities.GetShort t shown =
+      has_reference known _ t 0 refl _ (has_word known _ t 1 refl _
+      (has_component known _ t (argument args 0) (bytes_at known _ t 0 refl) shown.0 (argument args 1) _
+      (has_component known _ t (argument args 0) (bytes_at known _ t 0 refl) shown.0 (argument args 1 + 1) _ refl)))
+  utility_has utilities.SetShort t shown =
+      has_reference known _ t 0 refl _ (has_word known _ t 1 refl _ (has_word known _ t 2 refl _ refl))
+  utility_has utilities.MakeShort t shown = has_word known _ t 0 refl _ (has_word known _ t 1 refl _ refl)
+
+  native_has : (native : Native) (t : Typed native) → Shows known c native t
+      → Has ((member_of_native native).does h)
+  native_has (OfObject native) t shown = object_has native t shown
+  native_has (OfAid native) t shown = aid_has native t shown
+  native_has (OfApdu native) t shown = apdu_has native t shown
+  native_has (OfApplet native) t shown = applet_has native t shown
+  native_has (OfSystem native) t shown = system_has native t shown
+  native_has (OfUtility native) t shown = utility_has native t shown
+
+-- ---- no member is stuck
+
+abbrev is_stuck : NativeEnd → Bool
+is_stuck (Gives value) = false
+is_stuck (ThrowsObject object) = false
+is_stuck (Calls callback) = false
+is_stuck IsStuck = true
+
+ending_goes : (ending : Ending) → is_stuck (end_of ending) ≡ false
+ending_goes NoResult = refl
+ending_goes (GivesWord word) = refl
+ending_goes (GivesReference number) = refl
+ending_goes (Throws object) = refl
+
+done_goes : (call : NativeCall Kept) (touches : List _) (work : Work) → is_stuck (done call touches work).ends ≡ false
+done_goes call touches (Does writes k ending) = ending_goes ending
+done_goes call touches (Makes array) = refl
+done_goes call touches (Asks question) = refl
+
+ended_goes : (call : NativeCall Kept) (touches : List _) (end : TestEnd) (o : Option Work) → is_fit end ≡ true
+    → (end ≡ Passed → Has o) → is_stuck (ended call touches end o).ends ≡ false
+ended_goes call touches Passed None e has = absurd (unequal (has refl))
+ended_goes call touches Passed (Some work) e has =
+    done_goes call touches (with_room call.limits.objects call.limits.cells call.heap call.runtime work)
+ended_goes call touches (Refused object) o e has = refl
+ended_goes call touches Unfit o e has = absurd cc
+
+module _ (known : Known) (m : ApiMember) (native : Native) (m_is : member_of (known.call).member ≡ Some m)
+    (n_is : numbered natives (known.call).member ≡ Some native)
+    (typed : AreTyped (known.w).shapes (known.call).heap m (known.call).arguments) where
+  open known use {w, call, fit}
+
+  its_kinds : AreOfKinds w.shapes call.heap call.arguments (takes native m.class)
+  its_kinds =
+      subst (AreOfKinds w.shapes call.heap call.arguments) (sym (takes_so call.member native m n_is m_is))
+      (of_kinds w.shapes call.heap m call.arguments typed)
+
+  begun_goes : is_stuck (begun w call (Some native)).ends ≡ false
+  begun_goes =
+      let t = tested (called w call) (member_of_native native).tests in
+      ended_goes call t.touches t.ends ((member_of_native native).does (called w call))
+      (tests_fit known (takes native m.class) its_kinds (member_of_native native).tests (tests_suit native m.class))
+      (λ e. native_has known m.class native its_kinds
+      (tests_show known (takes native m.class) its_kinds (member_of_native native).tests e))
+
+  begun_same : begun w call (Some native) ≡ begun_on_words w call (Some native)
+  begun_same = by_like (begun_alike w call (Some native))
+    where
+      by_like : IsLike call (begun w call (Some native)) (begun_on_words w call (Some native))
+          → begun w call (Some native) ≡ begun_on_words w call (Some native)
+      by_like (alike e) = e
+      by_like (stops touches rest front fine e) =
+          absurd (unequal (sym begun_goes ∙ ap (λ (a : NativeAnswer Kept). is_stuck a.ends) e))
+
+  pub same_answer : answer_of w call ≡ answer_on_words w call
+  same_answer =
+      ap (λ b. cond b (begun w call (numbered natives call.member)) (unchanged call [] IsStuck)) fit.begins
+      ∙ ap (begun w call) n_is ∙ begun_same ∙ sym (ap (begun_on_words w call) n_is)
+      ∙ sym (ap (λ b. cond b (begun_on_words w call (numbered natives call.member)) (unchanged call [] IsStuck))
+      fit.begins)

@@ -15,6 +15,7 @@ mod Suits
 mod Facts
 mod FitWrites
 mod FitWork
+mod Numbered
 mod FitKept
 mod Fits
 mod Law
@@ -27,3 +28,5 @@ mod Holding
 mod Apart
 mod Owning
 mod Passing
+mod Remembered
+mod Counting

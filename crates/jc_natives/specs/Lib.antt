@@ -11,6 +11,7 @@ pub mod Applets
 pub mod System
 pub mod Utilities
 pub mod Meaning
+pub mod Counted
 pub mod MemberTypes
 pub mod Examples
 pub mod PrivateWords

@@ -21,7 +21,7 @@ use Rattle.jc_natives.specs.Aids.{aid_work}
 use Rattle.jc_natives.specs.Apdus.{apdu_work}
 use Rattle.jc_natives.specs.Applets.{aid_object, applet_work}
 use Rattle.jc_natives.specs.Cells.{Write, has_room, written}
-use Rattle.jc_natives.specs.Kept.{Kept, are_bytes, is_aid, is_instance_number, is_same_owner}
+use Rattle.jc_natives.specs.Kept.{Kept, are_bytes, has_numbers, is_aid, is_instance_number, is_same_owner}
 use Rattle.jc_natives.specs.Objects.{object_work}
 use Rattle.jc_natives.specs.Rows.{natives, row_of}
 use Rattle.jc_natives.specs.Seen.{Seen, arguments_of, seen_of}
@@ -186,7 +186,7 @@ fits_command k = are_bytes k.incoming && nat_le (length k.incoming) 255 && nat_l
 abbrev pub fits_kept : World → Heap TaggedValue → Kept → Bool
 fits_kept w heap k =
     list_all (fits_instance w.shapes heap) k.instances && option_map_or fits_installing k.installing true
-    && fits_command k
+    && (fits_command k && has_numbers k)
 
 -- the AID object that is written where the instance registers that is being installed
 abbrev pub registering : Kept → Option ℕ

@@ -1,6 +1,6 @@
 -- Members give no instance number out; so no call does.
 use Rattle.std.proofs.Common.{◌≡◌, ℕ, ◌+◌, ◌&&◌, not, Bool, true, false, cond, List, [], length, nat_le, nat_lt}
-use Rattle.std.proofs.Common.{is_some, Option, Some, None, refl, subst, sym, ap, ◌∙◌}
+use Rattle.std.proofs.Common.{is_some, Option, Some, None, refl, ◌∙◌}
 use Rattle.std.specs.Prelude.{⊤}
 use Rattle.jc_api.specs.Numbered.{numbered}
 use Rattle.jc_link.specs.Linked.{World}

@@ -1,6 +1,6 @@
 -- What holds of what the runtime keeps holds of it behind each step and each call, where native members leave it so.
-use Rattle.std.proofs.Common.{◌≡◌, ℕ, ℤ, pos, negsuc, zero, suc, ◌+◌, ◌-◌, ◌==◌, ◌&&◌, Bool, true, false, cond, not}
-use Rattle.std.proofs.Common.{List, [], ◌∷◌, length, take, drop, max, reverse, replicate, slice_get, slice_set}
+use Rattle.std.proofs.Common.{◌≡◌, ℕ, ℤ, pos, negsuc, zero, suc, ◌+◌, ◌==◌, ◌&&◌, Bool, true, false, cond, not}
+use Rattle.std.proofs.Common.{List, [], ◌∷◌, length, take, drop, reverse, replicate, slice_get, slice_set}
 use Rattle.std.proofs.Common.{nat_le, nat_lt, int_lt, Option, Some, None, refl, sym, subst}
 use Rattle.std.specs.Prelude.{⊤}
 use Rattle.std.specs.List.{list_all}
@@ -13,7 +13,6 @@ use Rattle.jc_cap_method.specs.declared.handler.Handler.{Handler}
 use Rattle.jc_cap_method.specs.declared.header.MethodHeader.{MethodHeader}
 use Rattle.jc_classes.specs.Members.{DeclaredMethod}
 use Rattle.jc_classes.specs.Methods.{interface_method_of, virtual_method_of}
-use Rattle.jc_classes.specs.Subtype.{is_subtype}
 use Rattle.jc_code.specs.Targets.{target_of}
 use Rattle.jc_code.specs.declared.instr.Operation.{Operation}
 use Rattle.jc_code.specs.declared.instr.Operation.TheVariants as operations
@@ -58,11 +57,11 @@ use Rattle.jc_machine.specs.Calls.{special_target, static_target, takes, type_of
 use Rattle.jc_machine.specs.Calls.{virtual_target, with_arguments, with_given, with_receiver}
 use Rattle.jc_machine.specs.Fields.{FieldTarget, InstanceField, act_field, act_get_static, act_instance, act_on_target}
 use Rattle.jc_machine.specs.Fields.{act_put_static, act_static, field_target, gets, of_class, of_objects, on_holder}
-use Rattle.jc_machine.specs.Fields.{put_static, puts, putting, static_at, stored_in_static}
+use Rattle.jc_machine.specs.Fields.{puts, putting, static_at, stored_in_static}
 use Rattle.jc_machine.specs.Going.{Here, accessed, accessed_to_store, asking, branches, by_verdict, check, facts_of}
-use Rattle.jc_machine.specs.Going.{gives, goes_to, judged, jumps, leaves_operands, no_resource, on_object, on_operands}
+use Rattle.jc_machine.specs.Going.{gives, goes_to, judged, jumps, leaves_operands, no_resource, on_object}
 use Rattle.jc_machine.specs.Going.{on_reference, on_reference_local, on_some, on_target, on_top, on_word, on_word_local}
-use Rattle.jc_machine.specs.Going.{plain, require, runtime_touch, storing, stored_in, stuck, throws, throws_system}
+use Rattle.jc_machine.specs.Going.{require, runtime_touch, storing, stored_in, stuck, throws, throws_system}
 use Rattle.jc_machine.specs.Going.{touch_of, touched, wanting}
 use Rattle.jc_machine.specs.Lookup.{are_of_types, class_of, code_at, component_class, declared_at, instruction_at}
 use Rattle.jc_machine.specs.Lookup.{is_array, is_given, is_instance, is_of_class, is_of_type, is_throwable, leads_to}
@@ -71,8 +70,8 @@ use Rattle.jc_machine.specs.Machine.{Asked, Callback, Calls, Ends, Frame, Gives,
 use Rattle.jc_machine.specs.Machine.{NativeAnswer, NativeCall, NativeEnd, Natives, Next, Outcome, Stepped, Stuck}
 use Rattle.jc_machine.specs.Machine.{Surroundings, Throws, ThrowsObject, Touch, UsedUp}
 use Rattle.jc_machine.specs.Objects.{Test, act_branch, act_check_cast, act_create, act_instance_of, act_object}
-use Rattle.jc_machine.specs.Objects.{act_throw, bit, cells_of, creates, creates_array, has_space, is_array_of_words}
-use Rattle.jc_machine.specs.Objects.{is_null, is_same, made, on_class, on_known, on_test, tested, word_array}
+use Rattle.jc_machine.specs.Objects.{act_throw, bit, cells_of, creates, creates_array, has_space}
+use Rattle.jc_machine.specs.Objects.{is_null, is_same, on_class, on_known, on_test, tested, word_array}
 use Rattle.jc_machine.specs.Returns.{pc_behind_call, result_of, returns, returns_to, room_of, with_result}
 use Rattle.jc_machine.specs.Runtime.{array_index_exception, array_store_exception, class_cast_exception}
 use Rattle.jc_machine.specs.Runtime.{negative_size_exception, security_exception, system_exception}
@@ -80,19 +79,18 @@ use Rattle.jc_machine.specs.Step.{Called, CallEnd, Gave, RanOut, Start, Threw, W
 use Rattle.jc_machine.specs.Step.{after_first_native, begun, begun_by, caught_in, continued, covering}
 use Rattle.jc_machine.specs.Step.{defensive_step, ended_by, first_answer, first_native_call, handler_for, here}
 use Rattle.jc_machine.specs.Step.{is_found, may_begin}
-use Rattle.jc_machine.specs.Step.{native_called, native_ended, native_started, no_frame, point_of, room_lacking}
+use Rattle.jc_machine.specs.Step.{native_called, native_ended, native_started, point_of, room_lacking}
 use Rattle.jc_machine.specs.Step.{runtime_call, settled, settled_object, standing, started, started_by, steps_of}
 use Rattle.jc_machine.specs.Step.{through, unwound}
 use Rattle.jc_machine.specs.Words.{act_word, on_result, shuffled}
 use Rattle.jc_machine.specs.declared.stop.Budget.{Budget}
 use Rattle.jc_machine.specs.declared.stop.CodePoint.{CodePoint}
-use Rattle.jc_names.specs.Names.{home_at}
 use Rattle.jc_names.specs.declared.name.ClassName.{ClassName}
 use Rattle.jc_names.specs.declared.name.MethodName.{MethodName}
 use Rattle.jc_names.specs.declared.name.MethodName.TheVariants.{Api, Loaded}
 use Rattle.jc_names.specs.declared.owner.Owner.{Owner}
 use Rattle.jc_step.specs.Objects.{class_target, has_objects, interface_method_type, is_form_of}
-use Rattle.jc_store.specs.Heap.{Object, next_number, object_at}
+use Rattle.jc_store.specs.Heap.{Object, object_at}
 use Rattle.jc_store.specs.declared.kind.ObjectType.{ObjectType}
 use Rattle.jc_store.specs.declared.kind.ObjectType.TheVariants.{Instance, ReferenceArray}
 use Rattle.jc_words.specs.Shorts.{binary_of, holds, incremented, lookup_offset, short, stable_offset, unary_of, word_of}

@@ -73,7 +73,7 @@ module _ (laws : Laws) (k : CardWords) (c : CardState) (h : Holds k c) (i : Inst
         (record { machine = k.machine; kept = k.kept }) (record { machine = after.machine; kept = after.kept }) end)
         (dropped : after.machine.frames.frames ≡ []) (same_world : after.world ≡ k.world)
         (same_program : after.program ≡ k.program) (same_selected : after.selected ≡ k.selected)
-        (same_numbers : after.numbers ≡ k.numbers) (same_objects : after.most_objects ≡ k.most_objects)
+        (same_objects : after.most_objects ≡ k.most_objects)
         (same_cells : after.most_cells ≡ k.most_cells) (same_steps : after.steps ≡ k.steps) where
       pub applet_called : IsDone after (ReadsEnded end) (call_applet c i call)
       applet_called =
@@ -82,5 +82,5 @@ module _ (laws : Laws) (k : CardWords) (c : CardState) (h : Holds k c) (i : Inst
           (subst (λ (o : Option MethodName). IsDone after (ReadsEnded end) (option_and_then (λ method. call_method c
           i.owner.context i.owner method values) o)) (sym is_found)
           (method_called laws.call k c h i.owner.context i.owner its_name values begins first called owner_is
-          arguments_are few after end is dropped same_world same_program same_selected same_numbers same_objects
+          arguments_are few after end is dropped same_world same_program same_selected same_objects
           same_cells same_steps))

@@ -83,7 +83,7 @@ module _ (laws : CallLaws) (k : CardWords) (c : CardState) (h : Holds k c) (sele
         (record { machine = after.machine; kept = after.kept }) end)
         (dropped : after.machine.frames.frames ≡ []) (same_world : after.world ≡ k.world)
         (same_program : after.program ≡ k.program) (same_selected : after.selected ≡ k.selected)
-        (same_numbers : after.numbers ≡ k.numbers) (same_objects : after.most_objects ≡ k.most_objects)
+        (same_objects : after.most_objects ≡ k.most_objects)
         (same_cells : after.most_cells ≡ k.most_cells) (same_steps : after.steps ≡ k.steps) where
       abbrev now : WordState Kept
       now = record { machine = after.machine; kept = after.kept }
@@ -122,7 +122,6 @@ module _ (laws : CallLaws) (k : CardWords) (c : CardState) (h : Holds k c) (sele
             });
         frames = dropped;
         selected = same_selected ∙ h.selected;
-        numbers = same_numbers ∙ h.numbers;
         most_objects = same_objects ∙ h.most_objects;
         most_cells = same_cells ∙ h.most_cells;
         steps = same_steps ∙ h.steps;

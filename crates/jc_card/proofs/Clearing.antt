@@ -127,7 +127,6 @@ module _ (event : ClearingEvent) (context : Option ℕ) where
             };
             frames = h.frames;
             selected = h.selected;
-            numbers = h.numbers;
             most_objects = h.most_objects;
             most_cells = h.most_cells;
             steps = h.steps;

@@ -40,15 +40,16 @@ use Rattle.jc_machine.specs.Apart.{is_applets}
 use Rattle.jc_machine.specs.Runtime.{most_instances}
 use Rattle.jc_natives.specs.Apart.{names_applets}
 use Rattle.jc_natives.specs.Kept.{is_instance_number}
-use Rattle.jc_card.proofs.Owners.{buffer_is_global, deselect_keeps_numbers, deselect_selects_none, install_is_global}
-use Rattle.jc_card.proofs.Owners.{next_number_fits, not_refused_few, place_has_number, selected_is, selected_owner}
+use Rattle.jc_card.proofs.Owners.{buffer_is_global, deselect_selects_none, install_is_global, next_number_fits}
+use Rattle.jc_card.proofs.Owners.{not_refused_few, place_has_number, selected_is, selected_owner}
+use Rattle.jc_card.proofs.Worlds.{StaysIn, deselect_stays}
 use Rattle.jc_card.specs.Accesses.{IsApartCard, KeepsApart}
 
 -- ---- one part after the other
 
--- what the runtime keeps, who is selected and the last number are others
-abbrev with_others : CardState → Kept → Option Owner → ℕ → CardState
-with_others c kept selected numbers = record c { kept = kept; selected = selected; numbers = numbers }
+-- what the runtime keeps, and who is selected, are others
+abbrev with_others : CardState → Kept → Option Owner → CardState
+with_others c kept selected = record c { kept = kept; selected = selected }
 
 -- whatever a part comes to on this card
 abbrev Fine : {A : Type 0} → Order → CardState → Option (Left A) → Type 0
@@ -89,12 +90,11 @@ module _ (order : Order) where
   then_known c None next Known h k each = tt
   then_known c (Some l) next Known h k each = joined c l (next l.card l.value) h (each l.card l.value k)
 
-  -- behind what the runtime keeps and who is selected became another, and with it the number that is used last; it
-  -- keeps applets' instances if it did before
-  module _ (c : CardState) (kept : Kept) (selected : Option Owner) (numbers : ℕ)
-      (leads : (claims : Claims) → Leads claims order c [] (with_others c kept selected numbers))
+  -- behind what the runtime keeps and who is selected became another; it keeps applets' instances if it did before
+  module _ (c : CardState) (kept : Kept) (selected : Option Owner)
+      (leads : (claims : Claims) → Leads claims order c [] (with_others c kept selected))
       (names : names_applets c.kept ≡ true → names_applets kept ≡ true) where
-    apart_with : IsApartCard c → IsApartCard (with_others c kept selected numbers)
+    apart_with : IsApartCard c → IsApartCard (with_others c kept selected)
     apart_with p =
         record {
           packages = p.packages;
@@ -103,11 +103,11 @@ module _ (order : Order) where
           instances = names p.instances;
         }
 
-    moved : {A : Type 0} (done : Option (Left A)) → Fine order (with_others c kept selected numbers) done
+    moved : {A : Type 0} (done : Option (Left A)) → Fine order (with_others c kept selected) done
         → Fine order c done
     moved None h = tt
     moved (Some l) h =
-        let d = with_others c kept selected numbers in record {
+        let d = with_others c kept selected in record {
           accesses = onward order c d l.card [] l.touches (leads law_of_accesses) h.accesses;
           packages = h.packages;
           apart = λ p.
@@ -197,7 +197,7 @@ module _ (laws : StepsGuarded) where
     process_part c selecting =
         let kept = with_command c.kept k.incoming k.expected selecting in
         let d = with_kept c kept in
-        moved performs c kept c.selected c.numbers (λ claims. by_opening k selects c selecting)
+        moved performs c kept c.selected (λ claims. by_opening k selects c selecting)
         (λ names. laws.opened c.kept names k.incoming k.expected selecting)
         (and_then (call_selected d calls.Process) commands.answered)
         (then_part performs d (call_selected d calls.Process) commands.answered
@@ -231,7 +231,7 @@ module _ (laws : StepsGuarded) where
 
     choose_part : (c : CardState) → c.selected ≡ None → Fine selecting c (commands.choose c owner k)
     choose_part c none =
-        moved selecting c c.kept (Some owner) c.numbers (λ claims. by_selecting k owner c none) (λ names. names)
+        moved selecting c c.kept (Some owner) (λ claims. by_selecting k owner c none) (λ names. names)
         (commands.ask (with_selected c (Some owner)) k) (ask_part (with_selected c (Some owner)))
 
     select_part : (c : CardState) → Fine selecting c (commands.select c owner k)
@@ -304,12 +304,12 @@ module _ (laws : StepsGuarded) where
     install_as_part numbered c none is_next instance incoming =
         let parameters = installs.parameters_of instance incoming in
         let kept = with_install c.kept owner applet in
-        let d = record c { numbers = owner.instance; kept = kept } in
+        let d = with_kept c kept in
         let words = installs.padded installs.install_size parameters in
         let next = λ (c : CardState) (u : Unit {0}). and_then
         (installs.call_install c place owner (length parameters))
         (λ (c : CardState) (ended : Ended). installs.settle c owner ended) in
-        moved installing c kept c.selected owner.instance
+        moved installing c kept c.selected
         (λ claims. by_beginning applet place owner c none is_next)
         (λ names. laws.begun c.kept names owner applet whose numbered)
         (and_then (write install_array words d) next)
@@ -320,31 +320,31 @@ module _ (laws : StepsGuarded) where
 
   -- what is known behind the deselection
   record IsFree (c d : CardState) : Type 0 where
-    numbers : d.numbers ≡ c.numbers
+    numbers : d.kept.numbers ≡ c.kept.numbers
     selected : d.selected ≡ None
 
-  both_free : (c : CardState) (done : Option (Left (Unit {0}))) → IfSome done (λ l. l.card.numbers ≡ c.numbers)
+  both_free : (c : CardState) (done : Option (Left (Unit {0}))) → StaysIn c done
       → IfSome done (λ l. l.card.selected ≡ None) → IfSome done (λ l. IsFree c l.card)
   both_free c None h k = tt
-  both_free c (Some l) h k = record { numbers = h; selected = k }
+  both_free c (Some l) h k = record { numbers = h.numbers; selected = k }
 
   -- an applet's package has a number from one on, and an instance that isn't refused one to 32
   accepted_part : (c : CardState) (place : AppletPlace) (applet instance incoming : List ℕ)
-      → (place.number == 0) ≡ false → nat_le most_instances c.numbers ≡ false
+      → (place.number == 0) ≡ false → nat_le most_instances c.kept.numbers ≡ false
       → Fine (Installs applet place (installs.next_owner c place)) c
       (installs.accepted c place applet instance incoming)
   accepted_part c place applet instance incoming some few =
       let order = Installs applet place (installs.next_owner c place) in
       then_known order c (commands.deselect c) (λ c u. installs.begin c place applet instance incoming) (IsFree c)
       (deselect_part order refl c)
-      (both_free c (commands.deselect c) (deselect_keeps_numbers c) (deselect_selects_none c))
+      (both_free c (commands.deselect c) (deselect_stays laws.numbers c) (deselect_selects_none c))
       (λ d u free.
       let same : installs.next_owner d place ≡ installs.next_owner c place =
       ap (λ (n : ℕ). record { context = place.number; instance = suc n }) free.numbers in
       subst (λ (owner : Owner). Fine (Installs applet place owner) d
       (installs.begin d place applet instance incoming)) same
       (install_as_part applet place (installs.next_owner d place) (ap not some)
-      (next_number_fits d.numbers (ap (nat_le most_instances) free.numbers ∙ few)) d free.selected refl instance
+      (next_number_fits d.kept.numbers (ap (nat_le most_instances) free.numbers ∙ few)) d free.selected refl instance
       incoming))
 
   install_at_part : (c : CardState) (applet instance incoming : List ℕ) (place : AppletPlace)

@@ -3,9 +3,8 @@ use Rattle.std.proofs.Common.{◌≡◌, ℕ, suc, ◌<◌, ◌≤◌, ◌&&◌,
 use Rattle.std.proofs.Common.{ap, ◌∙◌, arith}
 use Rattle.std.proofs.lemmas.Bool.{le-leb, lt-ltb}
 use Rattle.jc_link.specs.Linked.{World}
-use Rattle.jc_machine.specs.Runtime.{most_instances}
 use Rattle.jc_names.specs.declared.owner.Owner.{Owner}
-use Rattle.jc_natives.specs.Kept.{Kept, are_bytes, is_aid, is_instance_number, with_install}
+use Rattle.jc_natives.specs.Kept.{Kept, are_bytes, is_aid, with_install}
 use Rattle.jc_natives.specs.Meaning.{meaning}
 use Rattle.jc_store.specs.Heap.{Heap}
 use Rattle.jc_words.specs.Values.{TaggedValue}
@@ -28,14 +27,13 @@ is_fit_aid aid count is least most bytes =
     ap (λ (b : Bool). b && nat_le (length aid) 16 && are_bytes aid) (le-leb 5 (length aid) (omega (arith, is, least)))
     ∙ ap (λ (b : Bool). b && are_bytes aid) (le-leb (length aid) 16 (omega (arith, is, most))) ∙ bytes
 
--- it may be anything that fits the objects, made of what it was; and the numbers that are used as many as there are
-pub kept_done : (k : CardWords) (c : CardState) (h : Holds k c) (change : Kept → Kept) (numbers : ℕ)
-    → meaning.fits c.world c.heap (change c.kept) ≡ true → numbers ≤ most_instances
-    → IsDone (record k { kept = change k.kept; numbers = numbers }) GivesNothing
-    (gives (record c { kept = change c.kept; numbers = numbers }) tt)
-kept_done k c h change numbers fits few = (
+-- it may be anything that fits the objects, made of what it was
+pub kept_changed : (k : CardWords) (c : CardState) (h : Holds k c) (change : Kept → Kept)
+    → meaning.fits c.world c.heap (change c.kept) ≡ true
+    → IsDone (record k { kept = change k.kept }) GivesNothing (gives (with_kept c (change c.kept)) tt)
+kept_changed k c h change fits = (
   record {
-    typed = kept_typed c h.typed (change c.kept) numbers fits few;
+    typed = kept_typed c h.typed (change c.kept) fits;
     world = h.world;
     program = h.program;
     beside = record {
@@ -50,7 +48,6 @@ kept_done k c h change numbers fits few = (
     };
     frames = h.frames;
     selected = h.selected;
-    numbers = refl;
     most_objects = h.most_objects;
     most_cells = h.most_cells;
     steps = h.steps;
@@ -58,38 +55,15 @@ kept_done k c h change numbers fits few = (
   tt,
 )
 
--- the same where no number is taken
-pub kept_changed : (k : CardWords) (c : CardState) (h : Holds k c) (change : Kept → Kept)
-    → meaning.fits c.world c.heap (change c.kept) ≡ true
-    → IsDone (record k { kept = change k.kept }) GivesNothing (gives (with_kept c (change c.kept)) tt)
-kept_changed k c h change fits =
-    let d = kept_done k c h change c.numbers fits h.typed.numbers in (
-      record {
-        typed = d.0.typed;
-        world = d.0.world;
-        program = d.0.program;
-        beside = d.0.beside;
-        frames = d.0.frames;
-        selected = d.0.selected;
-        numbers = h.numbers;
-        most_objects = d.0.most_objects;
-        most_cells = d.0.most_cells;
-        steps = d.0.steps;
-      },
-      tt,
-    )
-
 -- ---- an install begins
 
--- the number behind those that are used is one of an instance
-pub is_number : (number used : ℕ) → number ≡ suc used → number ≤ 32 → is_instance_number number ≡ true
-is_number number used next most =
-    ap (λ (b : Bool). b && nat_le number 32) (le-leb 1 number (omega (arith, next))) ∙ le-leb number 32 most
-
+-- with the next number
 pub number_taken : (k : CardWords) (c : CardState) (h : Holds k c) → BeginsFitting → (owner : Owner) (aid : List ℕ)
-    → is_aid aid ≡ true → owner.instance ≡ suc k.numbers → owner.instance ≤ 32
-    → IsDone (record k { kept = with_install k.kept owner aid; numbers = owner.instance }) GivesNothing
-    (gives (record c { numbers = owner.instance; kept = with_install c.kept owner aid }) tt)
-number_taken k c h begun owner aid fit next most =
-    kept_done k c h (λ (x : Kept). with_install x owner aid) owner.instance
-    (begun c.world c.heap c.kept h.typed.beside.fits owner aid fit (is_number owner.instance k.numbers next most)) most
+    → is_aid aid ≡ true → owner.instance ≡ suc k.kept.numbers → k.kept.numbers < 32
+    → IsDone (record k { kept = with_install k.kept owner aid }) GivesNothing
+    (gives (with_kept c (with_install c.kept owner aid)) tt)
+number_taken k c h begun owner aid fit next room =
+    let same : k.kept.numbers ≡ c.kept.numbers = ap (λ (x : Kept). x.numbers) h.beside.runtime in
+    kept_changed k c h (λ (x : Kept). with_install x owner aid)
+    (begun c.world c.heap c.kept h.typed.beside.fits owner aid fit (omega (arith, next, same))
+    (omega (arith, room, same)))

@@ -92,7 +92,6 @@ module _ (typed : LoadsTyped) (agree : StaysInAgreement) (fit : LoadsFitting) (k
           (agree (around c None) k.program q k.machine k.kept (at_rest c) l g.words loads);
       frames = ap (λ (u : WordMachine). u.frames.frames) grown_is ∙ h.frames;
       selected = h.selected;
-      numbers = h.numbers;
       most_objects = h.most_objects;
       most_cells = h.most_cells;
       steps = h.steps;

@@ -31,7 +31,6 @@ pub record IsNew (l : Limits) (bound : Bound) (before : Store) (k : CardWords) :
   pub statics : k.machine.statics ≡ []
   pub kept : k.kept ≡ nothing_kept
   pub selected : k.selected ≡ None
-  pub numbers : k.numbers ≡ 0
   pub most_objects : k.most_objects ≡ l.objects
   pub most_cells : k.most_cells ≡ l.cells
   pub steps : k.steps ≡ l.steps
@@ -56,7 +55,6 @@ holds_new l cells bound before k n accepted frame typed fits = record {
   };
   frames = ap (λ (f : Frames). f.frames) n.frames;
   selected = n.selected;
-  numbers = n.numbers;
   most_objects = n.most_objects;
   most_cells = n.most_cells;
   steps = n.steps;

@@ -130,64 +130,14 @@ none_refused true fault otherwise e = absurd cc
 none_refused false fault otherwise e = (refl, e)
 
 pub not_refused_few : (c : CardState) (instance incoming : List ℕ) → installs.refusal_of c instance incoming ≡ None
-    → nat_le most_instances c.numbers ≡ false
+    → nat_le most_instances c.kept.numbers ≡ false
 not_refused_few c instance incoming e =
-    let few = installs.refused_if (nat_le most_instances c.numbers) faults.NoInstance None in
+    let few = installs.refused_if (nat_le most_instances c.kept.numbers) faults.NoInstance None in
     let unused =
     installs.refused_if (is_some (instance_with c.kept.instances instance)) faults.AidInUse few in
     let first = none_refused (nat_lt installs.most_data (length incoming)) faults.TooLong unused e in
     let second = none_refused (is_some (instance_with c.kept.instances instance)) faults.AidInUse few first.1 in
-    (none_refused (nat_le most_instances c.numbers) faults.NoInstance None second.1).0
-
--- parts that use no number of an instance
-abbrev SameNumbers : {A : Type 0} → CardState → Option (Left A) → Type 0
-SameNumbers c done = IfSome done (λ l. l.card.numbers ≡ c.numbers)
-
-ended_numbers : (c : CardState) (touches : List Touch) (ends : CallEnd Kept)
-    → SameNumbers c (ended_call c touches ends)
-ended_numbers c touches (Gave m value) = refl
-ended_numbers c touches (Threw m object at) = refl
-ended_numbers c touches (RanOut m spent at) = refl
-ended_numbers c touches WasStuck = tt
-
-call_numbers : (c : CardState) (called : Called Kept) → SameNumbers c (ended c called)
-call_numbers c called = ended_numbers c called.touches called.ends
-
-on_numbers : (c : CardState) (i : Instance) (call : AppletCall) (method : Option MethodName)
-    → SameNumbers c (option_and_then
-    (λ method. call_method c i.owner.context i.owner method (Ref i.object ∷ arguments_of call)) method)
-on_numbers c i call None = tt
-on_numbers c i call (Some method) = call_numbers c _
-
-applet_numbers : (c : CardState) (i : Instance) (call : AppletCall) (object : Option (Object TaggedValue))
-    → SameNumbers c (option_and_then (call_on c i call) object)
-applet_numbers c i call None = tt
-applet_numbers c i call (Some object) = on_numbers c i call (method_for c.world.shapes object (member_called call))
-
-called_numbers : (c : CardState) (call : AppletCall) (i : Option Instance)
-    → SameNumbers c (option_map_or (λ i. call_applet c i call) i (gives c (Normally None)))
-called_numbers c call None = refl
-called_numbers c call (Some i) = applet_numbers c i call (object_at c.heap i.object)
-
-unselected_numbers : (c : CardState) (selected : Option Owner)
-    → SameNumbers c (option_map_or
-    (λ (owner : Owner). clear events.Deselect (Some owner.context) (with_selected c None)) selected (gives c tt))
-unselected_numbers c None = refl
-unselected_numbers c (Some owner) = refl
-
-then_numbers : (c : CardState) (done : Option (Left Ended)) → SameNumbers c done
-    → SameNumbers c (and_then done (λ c ended. commands.unselect c))
-then_numbers c None h = tt
-then_numbers c (Some l) h = behind_numbers (commands.unselect l.card) (unselected_numbers l.card l.card.selected)
-  where
-    behind_numbers : (next : Option (Left (Unit {0}))) → SameNumbers l.card next
-        → SameNumbers c (option_map (behind l.touches) next)
-    behind_numbers None k = tt
-    behind_numbers (Some m) k = k ∙ h
-
-pub deselect_keeps_numbers : (c : CardState) → SameNumbers c (commands.deselect c)
-deselect_keeps_numbers c =
-    then_numbers c (call_selected c calls.Deselect) (called_numbers c calls.Deselect (selected_instance c))
+    (none_refused (nat_le most_instances c.kept.numbers) faults.NoInstance None second.1).0
 
 -- ---- behind a deselection no one is selected
 

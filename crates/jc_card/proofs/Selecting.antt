@@ -41,7 +41,6 @@ selected_done k c h selected = (
     };
     frames = h.frames;
     selected = refl;
-    numbers = h.numbers;
     most_objects = h.most_objects;
     most_cells = h.most_cells;
     steps = h.steps;

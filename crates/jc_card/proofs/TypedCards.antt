@@ -17,7 +17,7 @@ use Rattle.jc_machine.specs.Typed.{IsTypedBeside}
 use Rattle.jc_machine.specs.TypedExamples.{idle_in, new_machine}
 use Rattle.jc_names.specs.declared.owner.Owner.{Owner}
 use Rattle.jc_natives.specs.Cells.{put_all}
-use Rattle.jc_natives.specs.Kept.{Kept, are_bytes, instance_of, is_same_owner, nothing_kept}
+use Rattle.jc_natives.specs.Kept.{Kept, are_bytes, has_numbers, instance_of, is_same_owner, nothing_kept}
 use Rattle.jc_natives.specs.Meaning.{fits_command, fits_installing, fits_instance, meaning}
 use Rattle.jc_natives.specs.declared.kept.Instance.{Instance}
 use Rattle.jc_safety.specs.Loading.{MayLoad, around_behind, has_room_for, heap_behind, loaded_arrays, machine_behind}
@@ -28,7 +28,8 @@ use Rattle.jc_store.specs.declared.kind.ClearingEvent.{ClearingEvent}
 use Rattle.jc_store.specs.declared.kind.ObjectType.TheVariants.{ByteArray}
 use Rattle.jc_words.specs.Values.{TaggedValue, Word}
 use Rattle.jc_card.proofs.Heaps.{new_object, put_some}
-use Rattle.jc_card.specs.Card.{CardState, around, at_rest, left_by, selected_instance, with_heap, with_selected}
+use Rattle.jc_card.specs.Card.{CardState, around, at_rest, left_by, selected_instance, with_heap, with_kept}
+use Rattle.jc_card.specs.Card.{with_selected}
 use Rattle.jc_card.specs.Load.{IsFit, IsLoad, has_room, with_package}
 use Rattle.jc_card.specs.New.{new_card}
 use Rattle.jc_card.specs.PrivateTyped.{KeepsTyped, ZeroedTyped}
@@ -48,15 +49,13 @@ left_typed c t selected m b = record {
     runtime_objects = b.runtime_objects;
     fits = b.fits;
   };
-  numbers = t.numbers;
   cells = t.cells;
 }
 
--- the runtime may keep anything that fits the objects, and use as many numbers as there are
-pub kept_typed : (c : CardState) → IsTypedCard c → (kept : Kept) (numbers : ℕ)
-    → meaning.fits c.world c.heap kept ≡ true → numbers ≤ most_instances
-    → IsTypedCard (record c { kept = kept; numbers = numbers })
-kept_typed c t kept numbers fits few = record {
+-- the runtime may keep anything that fits the objects
+pub kept_typed : (c : CardState) → IsTypedCard c → (kept : Kept) → meaning.fits c.world c.heap kept ≡ true
+    → IsTypedCard (with_kept c kept)
+kept_typed c t kept fits = record {
   accepted = t.accepted;
   beside = record {
     heap = t.beside.heap;
@@ -64,7 +63,6 @@ kept_typed c t kept numbers fits few = record {
     runtime_objects = t.beside.runtime_objects;
     fits = fits;
   };
-  numbers = few;
   cells = t.cells;
 }
 
@@ -81,7 +79,6 @@ selected_typed c t selected = record {
     runtime_objects = t.beside.runtime_objects;
     fits = t.beside.fits;
   };
-  numbers = t.numbers;
   cells = t.cells;
 }
 
@@ -106,7 +103,7 @@ pub instance_fits : (c : CardState) → IsTypedCard c → (owner : Owner) (i : I
 instance_fits c t owner i e =
     let fits = fits_instance c.world.shapes c.heap in
     let one = and_parts (list_all fits c.kept.instances && option_map_or fits_installing c.kept.installing true)
-    (fits_command c.kept) t.beside.fits in
+    (fits_command c.kept && has_numbers c.kept) t.beside.fits in
     let two = and_parts (list_all fits c.kept.instances) (option_map_or fits_installing c.kept.installing true) one.0 in
     found_passes (λ (x : Instance). is_same_owner x.owner owner) fits c.kept.instances i e two.0
 
@@ -205,7 +202,6 @@ pub package_typed : LoadsTyped → (c : CardState) → IsTypedCard c → (l : Li
 package_typed stays c t l may = record {
   accepted = may.after;
   beside = stays (around c None) (at_rest c) l may;
-  numbers = t.numbers;
   cells = t.cells;
 }
 
@@ -232,6 +228,5 @@ new_typed l cells bound accepted frame typed fits = record {
     runtime_objects = typed.runtime_objects;
     fits = fits;
   };
-  numbers = omega arith;
   cells = cells;
 }

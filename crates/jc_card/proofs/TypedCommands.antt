@@ -21,7 +21,7 @@ use Rattle.jc_card.proofs.Bytes.{parameters_short}
 use Rattle.jc_card.proofs.Finding.{place_known}
 use Rattle.jc_card.proofs.Installing.{arguments, can_begin}
 use Rattle.jc_card.proofs.Keeping.{bytes_are}
-use Rattle.jc_card.proofs.Owners.{next_number_fits, not_refused_few}
+use Rattle.jc_card.proofs.Owners.{not_refused_few}
 use Rattle.jc_card.proofs.TypedCalls.{applet_typed, method_typed}
 use Rattle.jc_card.proofs.TypedCards.{cleared_typed, kept_typed, selected_fits}
 use Rattle.jc_card.proofs.TypedCards.{selected_typed, written_typed}
@@ -86,7 +86,7 @@ not_long c instance incoming e =
     ltb-false installs.most_data (length incoming)
     (refused_not (nat_lt installs.most_data (length incoming)) faults.TooLong
     (installs.refused_if (is_some (instance_with c.kept.instances instance)) faults.AidInUse
-    (installs.refused_if (nat_le most_instances c.numbers) faults.NoInstance None)) e)
+    (installs.refused_if (nat_le most_instances c.kept.numbers) faults.NoInstance None)) e)
 
 -- ---- laws
 
@@ -125,7 +125,7 @@ module _ (laws : CommandLaws) where
 
   answered_typed : (c : CardState) (ended : Ended) → IsTypedCard c → GivesTyped (commands.answered c ended)
   answered_typed c ended t =
-      kept_typed c t (without_command c.kept) c.numbers (laws.closed c.world c.heap c.kept t.beside.fits) t.numbers
+      kept_typed c t (without_command c.kept) (laws.closed c.world c.heap c.kept t.beside.fits)
 
   process_typed : (c : CardState) → IsTypedCard c → (k : Command) → IsCommand k → (selecting : Bool)
       → GivesTyped (commands.process c k selecting)
@@ -135,7 +135,7 @@ module _ (laws : CommandLaws) where
       laws.opened c.world c.heap c.kept t.beside.fits k.incoming k.expected selecting
       (bytes_are k.incoming is.incoming) is.few is.expected in
       then_typed (call_selected (with_kept c kept) calls.Process) commands.answered
-      (called_typed calls.Process (with_kept c kept) (kept_typed c t kept c.numbers fits t.numbers)) answered_typed
+      (called_typed calls.Process (with_kept c kept) (kept_typed c t kept fits)) answered_typed
 
   refused_typed : (c : CardState) → IsTypedCard c → GivesTyped (commands.refused c)
   refused_typed c t =
@@ -199,7 +199,7 @@ module _ (laws : CommandLaws) where
       then_typed (clear events.Deselect (Some owner.context) (with_kept c kept))
       (λ after u. gives after (installs.installed c owner ended))
       (clear_typed events.Deselect (Some owner.context) (with_kept c kept)
-      (kept_typed c t kept c.numbers fits t.numbers)) (λ e u typed. typed)
+      (kept_typed c t kept fits)) (λ e u typed. typed)
 
   begun_typed : (c : CardState) → IsTypedCard c → (place : AppletPlace) (owner : Owner) (size : ℕ) → size < 65536
       → IsInstallPlace c.world place → GivesTyped (installs.call_install c place owner size)
@@ -210,18 +210,17 @@ module _ (laws : CommandLaws) where
   module _ (applet instance incoming : List ℕ) (aid : is_aid applet ≡ true) (whose : is_aid instance ≡ true)
       (bytes : are_bytes incoming ≡ true) (few : length incoming ≤ 108) where
     begin_typed : (c : CardState) → IsTypedCard c → (place : AppletPlace) → IsInstallPlace c.world place
-        → nat_le most_instances c.numbers ≡ false
+        → nat_le most_instances c.kept.numbers ≡ false
         → GivesTyped (installs.begin c place applet instance incoming)
     begin_typed c t place known room =
         let owner = installs.next_owner c place in
         let parameters = installs.parameters_of instance incoming in
         let words = installs.padded installs.install_size parameters in
         let kept = with_install c.kept owner applet in
-        let d = record c { numbers = owner.instance; kept = kept } in
-        let less = leb-false most_instances c.numbers room in
-        let most : owner.instance ≤ most_instances = omega (arith, less) in
-        let fits = laws.begun c.world c.heap c.kept t.beside.fits owner applet aid (next_number_fits c.numbers room) in
-        let typed = kept_typed c t kept owner.instance fits most in
+        let d = with_kept c kept in
+        let less = leb-false most_instances c.kept.numbers room in
+        let fits = laws.begun c.world c.heap c.kept t.beside.fits owner applet aid refl (omega (arith, less)) in
+        let typed = kept_typed c t kept fits in
         then_staying d (write install_array words d)
         (λ c u. and_then (installs.call_install c place owner (length parameters))
         (λ c ended. installs.settle c owner ended))
@@ -235,11 +234,11 @@ module _ (laws : CommandLaws) where
         (settle_typed owner))
 
     accepted_typed : (c : CardState) → IsTypedCard c → (place : AppletPlace) → IsInstallPlace c.world place
-        → nat_le most_instances c.numbers ≡ false
+        → nat_le most_instances c.kept.numbers ≡ false
         → GivesTyped (installs.accepted c place applet instance incoming)
     accepted_typed c t place known room =
         then_staying c (commands.deselect c) (λ c u. installs.begin c place applet instance incoming)
-        (deselect_typed c t) (deselect_stays c)
+        (deselect_typed c t) (deselect_stays laws.numbers c)
         (λ d u typed stays. begin_typed d typed place
         (subst (λ (w : World). IsInstallPlace w place) (sym stays.world) known)
         (ap (nat_le most_instances) stays.numbers ∙ room))

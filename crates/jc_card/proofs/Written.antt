@@ -70,7 +70,6 @@ module _ (k : CardWords) (c : CardState) (h : Holds k c) (number : ℕ) (bytes :
             };
             frames = h.frames;
             selected = h.selected;
-            numbers = h.numbers;
             most_objects = h.most_objects;
             most_cells = h.most_cells;
             steps = h.steps;

@@ -14,16 +14,15 @@ use Rattle.jc_store.specs.Heap.{Heap}
 use Rattle.jc_words.specs.Values.{TaggedValue}
 
 -- the packages; the objects; the static fields of each loaded package; what the runtime keeps, the registered
--- instances of applets among it; the context and the number of the instance that is selected, if one is; how many
--- instance numbers are used; and how much there may be of objects, of frames and, in one call of the runtime's, of
--- steps
+-- instances of applets among it, and how many instance numbers were given out; the context and the number of the
+-- instance that is selected, if one is; and how much there may be of objects, of frames and, in one call of the
+-- runtime's, of steps
 pub record CardState : Type 0 where
   pub world : World
   pub heap : Heap TaggedValue
   pub statics : List (List StaticValue)
   pub kept : Kept
   pub selected : Option Owner
-  pub numbers : ℕ
   pub limits : Limits
   pub steps : ℕ
 

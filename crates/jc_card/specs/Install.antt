@@ -57,7 +57,7 @@ abbrev pub refusal_of : CardState → List ℕ → List ℕ → Option InstallFa
 refusal_of c instance incoming =
     refused_if (nat_lt most_data (length incoming)) faults.TooLong
     (refused_if (is_some (instance_with c.kept.instances instance)) faults.AidInUse
-    (refused_if (nat_le most_instances c.numbers) faults.NoInstance None))
+    (refused_if (nat_le most_instances c.kept.numbers) faults.NoInstance None))
 
 -- ---- the installation
 
@@ -114,13 +114,12 @@ call_install c place owner size =
 abbrev pub install_as : CardState → AppletPlace → Owner → List ℕ → List ℕ → List ℕ → Option (Left Installed)
 install_as c place owner applet instance incoming =
     let parameters = parameters_of instance incoming in
-    and_then (write install_array (padded install_size parameters)
-    (record c { numbers = owner.instance; kept = with_install c.kept owner applet }))
+    and_then (write install_array (padded install_size parameters) (with_kept c (with_install c.kept owner applet)))
     (λ c u. and_then (call_install c place owner (length parameters)) (λ c ended. settle c owner ended))
 
 -- the instance's context is its package's, and its number the next one
 abbrev pub next_owner : CardState → AppletPlace → Owner
-next_owner c place = record { context = place.number; instance = suc c.numbers }
+next_owner c place = record { context = place.number; instance = suc c.kept.numbers }
 
 abbrev pub begin : CardState → AppletPlace → List ℕ → List ℕ → List ℕ → Option (Left Installed)
 begin c place applet instance incoming = install_as c place (next_owner c place) applet instance incoming

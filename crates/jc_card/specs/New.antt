@@ -34,7 +34,6 @@ new_card l bound = record {
   statics = [];
   kept = nothing_kept;
   selected = None;
-  numbers = 0;
   limits = record { objects = l.objects; cells = l.cells; frames = l.frames; frame_words = l.frame_words };
   steps = l.steps;
 }

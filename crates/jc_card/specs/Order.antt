@@ -229,7 +229,7 @@ pub data Leads (claims : Claims) : Order → CardState → List Touch → CardSt
       → Leads claims order c touches (with_heap (with_selected c None) heap)
   by_beginning : (applet : List ℕ) (place : AppletPlace) (owner : Owner) (c : CardState) → c.selected ≡ None
       → owner ≡ next_owner c place → Leads claims (Installs applet place owner) c []
-      (record c { numbers = owner.instance; kept = with_install c.kept owner applet })
+      (with_kept c (with_install c.kept owner applet))
   by_parameters : (applet : List ℕ) (place : AppletPlace) (owner : Owner) (c : CardState) (heap : Heap TaggedValue)
       → IsOwnWrite claims c install_array heap → Leads claims (Installs applet place owner) c
       (runtime_touch c.heap install_array) (with_heap c heap)

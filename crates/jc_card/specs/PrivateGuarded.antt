@@ -15,6 +15,7 @@ use Rattle.jc_natives.specs.Kept.{Kept, after_install, is_instance_number, with_
 use Rattle.jc_natives.specs.Meaning.{meaning}
 use Rattle.jc_store.specs.Heap.{Heap}
 use Rattle.jc_words.specs.Values.{TaggedValue, Word}
+use Rattle.jc_card.specs.PrivateTyped.{KeepNumbers}
 
 -- what is known of each step, and of each native member
 pub record StepsGuarded : Type 0 where
@@ -35,6 +36,7 @@ pub record StepsGuarded : Type 0 where
   pub words : (heap : Heap TaggedValue) → HoldStorable heap → (number from : ℕ) (words : List ℕ)
       → HoldStorable (put_all heap number from (map Word words))
   pub api : (world : List Shape) → IsBuilt world → HaveApiMembers world
+  pub numbers : KeepNumbers
   pub begun : (k : Kept) → names_applets k ≡ true → (owner : Owner) (aid : List ℕ) → is_applets owner ≡ true
       → is_instance_number owner.instance ≡ true → names_applets (with_install k owner aid) ≡ true
   pub over : (k : Kept) → names_applets k ≡ true → (succeeds : Bool)

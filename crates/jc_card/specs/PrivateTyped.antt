@@ -1,5 +1,5 @@
 -- The laws by which cards stay typed, as records.
-use Rattle.std.specs.Prelude.{◌≡◌, ◌<◌, ◌≤◌, ℕ, Bool, List, Option, Some, None, length, true}
+use Rattle.std.specs.Prelude.{◌≡◌, ◌<◌, ◌≤◌, ℕ, suc, Bool, List, Option, Some, None, length, true}
 use Rattle.jc_api.specs.Member.{ApiMember, member_of}
 use Rattle.jc_api.specs.declared.class.ApiClass.TheVariants.{Object as ObjectClass}
 use Rattle.jc_cap_desc.specs.Shape.{Shape}
@@ -17,7 +17,8 @@ use Rattle.jc_machine.specs.Step.{Start, no_frame, runtime_call, standing}
 use Rattle.jc_machine.specs.Typed.{IsTypedBeside}
 use Rattle.jc_names.specs.declared.name.ClassName.TheVariants.{Api}
 use Rattle.jc_names.specs.declared.owner.Owner.{Owner}
-use Rattle.jc_natives.specs.Kept.{Kept, after_install, are_bytes, is_aid, is_instance_number, with_command, with_install}
+use Rattle.jc_natives.specs.Counted.{LeavesNumbers}
+use Rattle.jc_natives.specs.Kept.{Kept, after_install, are_bytes, is_aid, with_command, with_install}
 use Rattle.jc_natives.specs.Kept.{without_command}
 use Rattle.jc_natives.specs.Meaning.{meaning}
 use Rattle.jc_natives.specs.MemberTypes.{declared_signature}
@@ -65,8 +66,13 @@ ZeroedTyped = (s : Surroundings Kept) → MayRun s → (m : Machine Kept) → Is
 -- an instance with the next number is being installed
 abbrev pub BeginsFitting : Type 0
 BeginsFitting = (w : World) (heap : Heap TaggedValue) (kept : Kept) → meaning.fits w heap kept ≡ true
-    → (owner : Owner) (aid : List ℕ) → is_aid aid ≡ true → is_instance_number owner.instance ≡ true
+    → (owner : Owner) (aid : List ℕ) → is_aid aid ≡ true → owner.instance ≡ suc kept.numbers → kept.numbers < 32
     → meaning.fits w heap (with_install kept owner aid) ≡ true
+
+-- a call gives no instance number out
+abbrev pub KeepNumbers : Type 0
+KeepNumbers = (s : Surroundings Kept) → s.natives ≡ meaning → (steps : ℕ) (start : Start Kept)
+    → LeavesNumbers start.runtime.numbers (runtime_call s steps start).ends
 
 -- ---- commands
 
@@ -75,6 +81,7 @@ pub record CommandLaws : Type 0 where
   pub applets : Laws
   pub byte : KeepsTyped
   pub zeroed : ZeroedTyped
+  pub numbers : KeepNumbers
   pub begun : BeginsFitting
   pub over : (w : World) (heap : Heap TaggedValue) (k : Kept) → meaning.fits w heap k ≡ true → (succeeds : Bool)
       → meaning.fits w heap (after_install k succeeds) ≡ true

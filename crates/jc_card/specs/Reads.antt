@@ -29,7 +29,6 @@ pub record CardWords : Type 0 where
   pub machine : WordMachine
   pub kept : Kept
   pub selected : Option Owner
-  pub numbers : ℕ
   pub most_objects : ℕ
   pub most_cells : ℕ
   pub steps : ℕ
@@ -44,7 +43,6 @@ pub record Holds (k : CardWords) (c : CardState) : Type 0 where
   pub beside : AgreeBeside (around c None) k.program k.machine k.kept (at_rest c)
   pub frames : k.machine.frames.frames ≡ []
   pub selected : k.selected ≡ c.selected
-  pub numbers : k.numbers ≡ c.numbers
   pub most_objects : k.most_objects ≡ c.limits.objects
   pub most_cells : k.most_cells ≡ c.limits.cells
   pub steps : k.steps ≡ c.steps

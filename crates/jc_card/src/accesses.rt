@@ -23,7 +23,9 @@ use jc_machine::{
     accesses_are_guarded, held_values_stay, new_machines_are_typed, runtime_objects_stay,
     steps_stay_apart,
 };
-use jc_natives::{Runtime, members_are_guarded, members_stay_apart, written_words_are_held};
+use jc_natives::{
+    Runtime, calls_keep_numbers, members_are_guarded, members_stay_apart, written_words_are_held,
+};
 use jc_safety::api_runs_its_own_code;
 
 /// What is known of each step and of each native member, in one record. It does nothing.
@@ -34,6 +36,7 @@ fn steps_are_guarded()
     members_stay_apart();
     held_values_stay();
     written_words_are_held();
+    calls_keep_numbers();
     accesses_are_guarded(&Runtime::new());
     steps_stay_apart(&Runtime::new());
     api_runs_its_own_code();

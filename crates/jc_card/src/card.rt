@@ -17,7 +17,6 @@ pub struct Card {
     pub(crate) machine: WordMachine,
     pub(crate) runtime: Runtime,
     pub(crate) selected: Option<Owner>,
-    pub(crate) numbers: u8,
     pub(crate) most_objects: u16,
     pub(crate) most_cells: u16,
     pub(crate) steps: u32,
@@ -36,7 +35,6 @@ impl Model for Card {
       machine = c.machine;
       kept = c.runtime;
       selected = c.selected;
-      numbers = c.numbers;
       most_objects = c.most_objects;
       most_cells = c.most_cells;
       steps = c.steps;
@@ -48,7 +46,6 @@ impl Model for Card {
       machine = c.machine;
       kept = c.runtime;
       selected = c.selected;
-      numbers = c.numbers;
       most_objects = c.most_objects;
       most_cells = c.most_cells;
       steps = c.steps;

@@ -30,7 +30,7 @@ use jc_link::built_worlds_are_sound;
 use jc_loaded::{Called, Program};
 use jc_machine::Natives;
 use jc_names::Owner;
-use jc_natives::calls_keep_fitting;
+use jc_natives::{calls_keep_fitting, calls_keep_numbers};
 use jc_safety::accepted_packages_are_type_safe;
 use jc_store::ClearingEvent;
 
@@ -93,7 +93,7 @@ impl Card {
     fn refusal_of(&self, instance: &Aid, incoming: &[u8]) -> Option<InstallFault>
         ensures refusal { (c : CardState) → Holds self.now c → result ≡ refusal_of c instance.now incoming.now }
         ensures few { IfNone result (length incoming.now ≤ most_data) }
-        ensures room { IfNone result (self.now.numbers < most_instances) }
+        ensures room { IfNone result (self.now.kept.numbers < most_instances) }
     {
         if incoming.len() > MOST_DATA {
             return Some(InstallFault::TooLong);
@@ -101,7 +101,7 @@ impl Card {
         if self.runtime.instance_with(instance.as_slice()).is_some() {
             return Some(InstallFault::AidInUse);
         }
-        if self.numbers >= MOST_INSTANCES {
+        if self.runtime.numbers() >= MOST_INSTANCES {
             return Some(InstallFault::NoInstance);
         }
         None
@@ -109,14 +109,13 @@ impl Card {
 
     // An instance with the next number is being installed, of an applet with an AID.
     fn take_number(&mut self, owner: Owner, applet: Aid)
-        requires next { owner.instance ≡ suc self.old.numbers }
-        requires most { owner.instance ≤ most_instances }
-        ensures { Does self.old self.new GivesNothing (λ c. gives
-            (record c { numbers = owner.instance; kept = with_install c.kept owner applet }) tt) }
+        requires next { owner.instance ≡ suc self.old.kept.numbers }
+        requires room { self.old.kept.numbers < most_instances }
+        ensures { Does self.old self.new GivesNothing
+            (λ c. gives (with_kept c (with_install c.kept owner applet)) tt) }
     {
         calls_keep_fitting();
         aids_are_fit(&applet);
-        self.numbers = owner.instance;
         self.runtime.begin_install(owner, applet);
     }
 
@@ -212,8 +211,8 @@ impl Card {
     ) -> Result<u8, InstallFault>
         requires place { IsInstallPlace self.old.world place }
         requires few { length incoming.now ≤ most_data }
-        requires next { owner.instance ≡ suc self.old.numbers }
-        requires most { owner.instance ≤ most_instances }
+        requires next { owner.instance ≡ suc self.old.kept.numbers }
+        requires room { self.old.kept.numbers < most_instances }
         ensures { Does self.old self.new (ReadsInstalled result)
             (λ c. install_as c place owner applet.now instance.now incoming.now) }
     {
@@ -237,13 +236,13 @@ impl Card {
     ) -> Result<u8, InstallFault>
         requires place { IsInstallPlace self.old.world place }
         requires few { length incoming.now ≤ most_data }
-        requires room { self.old.numbers < most_instances }
+        requires room { self.old.kept.numbers < most_instances }
         ensures { Does self.old self.new (ReadsInstalled result)
             (λ c. begin c place applet.now instance.now incoming.now) }
     {
         let owner = Owner {
             context: place.number,
-            instance: self.numbers + 1,
+            instance: self.runtime.numbers() + 1,
         };
         self.install_as(place, owner, applet, instance, incoming)
     }
@@ -258,12 +257,13 @@ impl Card {
     ) -> Result<u8, InstallFault>
         requires place { IsInstallPlace self.old.world place }
         requires few { length incoming.now ≤ most_data }
-        requires room { self.old.numbers < most_instances }
+        requires room { self.old.kept.numbers < most_instances }
         ensures { Does self.old self.new (ReadsInstalled result)
             (λ c. accepted c place applet.now instance.now incoming.now) }
     {
         // a look at a field makes the card's invariant known
         let _ = &self.world;
+        calls_keep_numbers();
         self.deselect();
         self.begin(place, applet, instance, incoming)
     }

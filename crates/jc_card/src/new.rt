@@ -53,7 +53,6 @@ impl Card {
             machine,
             runtime: Runtime::new(),
             selected: None,
-            numbers: 0,
             most_objects: limits.objects,
             most_cells: limits.cells,
             steps: limits.steps,

@@ -19,7 +19,9 @@ use crate::checking::fit_packages_are_accepted;
 use jc_classes::superclass_laws;
 use jc_link::built_worlds_are_sound;
 use jc_machine::{Natives, accepted_worlds_grow, new_machines_are_typed};
-use jc_natives::{Runtime, calls_keep_fitting, loads_keep_fitting, members_are_declared};
+use jc_natives::{
+    Runtime, calls_keep_fitting, calls_keep_numbers, loads_keep_fitting, members_are_declared,
+};
 use jc_safety::{accepted_packages_are_type_safe, loads_stay_typed, objects_stay_typed};
 
 /// The laws by which the parts of commands leave cards typed, in one record. It does nothing.
@@ -32,6 +34,7 @@ fn parts_stay_typed()
     Runtime::new().law();
     accepted_packages_are_type_safe(&Runtime::new());
     objects_stay_typed(&Runtime::new());
+    calls_keep_numbers();
     calls_keep_fitting();
 }
 

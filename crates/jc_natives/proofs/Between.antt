@@ -8,8 +8,9 @@ use Rattle.jc_link.specs.Linked.{World}
 use Rattle.jc_names.specs.declared.owner.Owner.{Owner}
 use Rattle.jc_natives.proofs.Bare.{both}
 use Rattle.jc_natives.proofs.Keeping.{both_are}
-use Rattle.jc_natives.specs.Kept.{Kept, after_install, are_bytes, has_registered, is_aid, is_instance_number}
-use Rattle.jc_natives.specs.Kept.{kept_instances, with_command, with_install}
+use Rattle.jc_natives.proofs.Numbered.{begun_numbers, next_is_number, over_numbers}
+use Rattle.jc_natives.specs.Kept.{Kept, after_install, are_bytes, has_numbers, has_registered, is_aid}
+use Rattle.jc_natives.specs.Kept.{is_instance_number, kept_instances, with_command, with_install}
 use Rattle.jc_natives.specs.Meaning.{fits_command, fits_installing, fits_instance, fits_kept}
 use Rattle.jc_store.specs.Heap.{Heap}
 use Rattle.jc_words.specs.Values.{TaggedValue}
@@ -26,27 +27,35 @@ module _ (w : World) (heap : Heap TaggedValue) (k : Kept) (fits : fits_kept w he
   instances_are =
       (both (list_all (fits_instance w.shapes heap) k.instances) (option_map_or fits_installing k.installing true)
       (both (list_all (fits_instance w.shapes heap) k.instances && option_map_or fits_installing k.installing true)
-      (fits_command k) fits).0).0
+      (fits_command k && has_numbers k) fits).0).0
 
   installing_is : option_map_or fits_installing k.installing true ≡ true
   installing_is =
       (both (list_all (fits_instance w.shapes heap) k.instances) (option_map_or fits_installing k.installing true)
       (both (list_all (fits_instance w.shapes heap) k.instances && option_map_or fits_installing k.installing true)
-      (fits_command k) fits).0).1
+      (fits_command k && has_numbers k) fits).0).1
+
+  rest_is : (fits_command k && has_numbers k) ≡ true
+  rest_is =
+      (both (list_all (fits_instance w.shapes heap) k.instances && option_map_or fits_installing k.installing true)
+      (fits_command k && has_numbers k) fits).1
 
   command_is : fits_command k ≡ true
-  command_is =
-      (both (list_all (fits_instance w.shapes heap) k.instances && option_map_or fits_installing k.installing true)
-      (fits_command k) fits).1
+  command_is = (both (fits_command k) (has_numbers k) rest_is).0
 
-  pub begun_fits : (owner : Owner) (aid : List ℕ) → is_aid aid ≡ true → is_instance_number owner.instance ≡ true
-      → fits_kept w heap (with_install k owner aid) ≡ true
-  begun_fits owner aid e f =
+  numbers_are : has_numbers k ≡ true
+  numbers_are = (both (fits_command k) (has_numbers k) rest_is).1
+
+  pub begun_fits : (owner : Owner) (aid : List ℕ) → is_aid aid ≡ true → owner.instance ≡ suc k.numbers
+      → k.numbers < 32 → fits_kept w heap (with_install k owner aid) ≡ true
+  begun_fits owner aid e next less =
       both_are (list_all (fits_instance w.shapes heap) k.instances && (is_aid aid && is_instance_number owner.instance))
-      (fits_command k)
+      (fits_command k && has_numbers (with_install k owner aid))
       (both_are (list_all (fits_instance w.shapes heap) k.instances) (is_aid aid && is_instance_number owner.instance)
-      instances_are (both_are (is_aid aid) (is_instance_number owner.instance) e f))
-      command_is
+      instances_are
+      (both_are (is_aid aid) (is_instance_number owner.instance) e (next_is_number k owner next less)))
+      (both_are (fits_command k) (has_numbers (with_install k owner aid)) command_is
+      (begun_numbers k owner aid numbers_are next less))
 
   some_instances : (b : Bool) → list_all (fits_instance w.shapes heap) (kept_instances k.instances b) ≡ true
   some_instances true = all_taken (fits_instance w.shapes heap) k.instances (length k.instances - 1) instances_are
@@ -55,19 +64,22 @@ module _ (w : World) (heap : Heap TaggedValue) (k : Kept) (fits : fits_kept w he
   pub over_fits : (succeeds : Bool) → fits_kept w heap (after_install k succeeds) ≡ true
   over_fits succeeds =
       let left = kept_instances k.instances (has_registered k && not succeeds) in
-      both_are (list_all (fits_instance w.shapes heap) left && true) (fits_command k)
+      both_are (list_all (fits_instance w.shapes heap) left && true)
+      (fits_command k && has_numbers (after_install k succeeds))
       (both_are (list_all (fits_instance w.shapes heap) left) true
       (some_instances (has_registered k && not succeeds)) refl)
-      command_is
+      (both_are (fits_command k) (has_numbers (after_install k succeeds)) command_is
+      (over_numbers k succeeds numbers_are))
 
   pub opened_fits : (incoming : List ℕ) (expected : ℕ) (selecting : Bool) → are_bytes incoming ≡ true
       → length incoming ≤ 255 → expected < 256
       → fits_kept w heap (with_command k incoming expected selecting) ≡ true
   opened_fits incoming expected selecting bytes short low =
       both_are (list_all (fits_instance w.shapes heap) k.instances && option_map_or fits_installing k.installing true)
-      (are_bytes incoming && nat_le (length incoming) 255 && nat_lt expected 256)
+      (are_bytes incoming && nat_le (length incoming) 255 && nat_lt expected 256 && has_numbers k)
       (both_are (list_all (fits_instance w.shapes heap) k.instances) (option_map_or fits_installing k.installing true)
       instances_are installing_is)
+      (both_are (are_bytes incoming && nat_le (length incoming) 255 && nat_lt expected 256) (has_numbers k)
       (both_are (are_bytes incoming && nat_le (length incoming) 255) (nat_lt expected 256)
       (both_are (are_bytes incoming) (nat_le (length incoming) 255) bytes (le-leb (length incoming) 255 short))
-      (lt-ltb expected 256 low))
+      (lt-ltb expected 256 low)) numbers_are)

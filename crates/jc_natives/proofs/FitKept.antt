@@ -25,12 +25,13 @@ use Rattle.jc_natives.proofs.FitWrites.{Known, aid_leads, aid_written, apdu_lead
 use Rattle.jc_natives.proofs.FitWrites.{iso_leads, iso_reason, iso_thrown, size_thrown, system_leads, system_reason}
 use Rattle.jc_natives.proofs.FitWrites.{system_thrown}
 use Rattle.jc_natives.proofs.Keeping.{both_are}
+use Rattle.jc_natives.proofs.Numbered.{registered_numbers}
 use Rattle.jc_natives.proofs.Ranges.{length_of_bytes}
 use Rattle.jc_natives.proofs.Suits as suits
 use Rattle.jc_natives.proofs.Suits.{Gives}
 use Rattle.jc_natives.specs.Cells.{is_count}
-use Rattle.jc_natives.specs.Kept.{are_bytes, has_aid_length, instance_of, instance_with, is_aid, is_instance_number}
-use Rattle.jc_natives.specs.Kept.{is_same_owner, now_registered, with_instance}
+use Rattle.jc_natives.specs.Kept.{are_bytes, has_aid_length, has_numbers, instance_of, instance_with, is_aid}
+use Rattle.jc_natives.specs.Kept.{is_instance_number, is_same_owner, now_registered, waits, with_instance}
 use Rattle.jc_natives.specs.Meaning.{fits_command, fits_installing, fits_instance, fits_kept, has_applet, new_array}
 use Rattle.jc_natives.specs.Meaning.{reference}
 use Rattle.jc_natives.specs.Members.{aid_of, aid_of_owner}
@@ -69,19 +70,26 @@ module _ (known : Known) where
       (both (list_all (fits_instance w.shapes call.heap) call.runtime.instances)
       (option_map_or fits_installing call.runtime.installing true)
       (both (list_all (fits_instance w.shapes call.heap) call.runtime.instances
-      && option_map_or fits_installing call.runtime.installing true) (fits_command call.runtime) fit.fits).0).0
+      && option_map_or fits_installing call.runtime.installing true) (fits_command call.runtime && has_numbers call.runtime) fit.fits).0).0
 
   installing_fits : option_map_or fits_installing call.runtime.installing true ≡ true
   installing_fits =
       (both (list_all (fits_instance w.shapes call.heap) call.runtime.instances)
       (option_map_or fits_installing call.runtime.installing true)
       (both (list_all (fits_instance w.shapes call.heap) call.runtime.instances
-      && option_map_or fits_installing call.runtime.installing true) (fits_command call.runtime) fit.fits).0).1
+      && option_map_or fits_installing call.runtime.installing true) (fits_command call.runtime && has_numbers call.runtime) fit.fits).0).1
+
+  rest_fits : (fits_command call.runtime && has_numbers call.runtime) ≡ true
+  rest_fits =
+      (both (list_all (fits_instance w.shapes call.heap) call.runtime.instances
+      && option_map_or fits_installing call.runtime.installing true)
+      (fits_command call.runtime && has_numbers call.runtime) fit.fits).1
 
   pub command_fits : fits_command call.runtime ≡ true
-  command_fits =
-      (both (list_all (fits_instance w.shapes call.heap) call.runtime.instances
-      && option_map_or fits_installing call.runtime.installing true) (fits_command call.runtime) fit.fits).1
+  command_fits = (both (fits_command call.runtime) (has_numbers call.runtime) rest_fits).0
+
+  numbers_fit : has_numbers call.runtime ≡ true
+  numbers_fit = (both (fits_command call.runtime) (has_numbers call.runtime) rest_fits).1
 
   instance_number : (i : Instance) → fits_instance w.shapes call.heap i ≡ true → is_instance_number i.owner.instance
       ≡ true
@@ -145,17 +153,19 @@ module _ (known : Known) where
   still_installing None e = refl
   still_installing (Some i) e = e
 
-  registered_fits : (i : Instance) → fits_instance w.shapes call.heap i ≡ true
+  registered_fits : (i : Instance) → waits call.runtime ≡ true → fits_instance w.shapes call.heap i ≡ true
       → fits_kept w call.heap (with_instance call.runtime i) ≡ true
-  registered_fits i e =
+  registered_fits i waiting e =
       both_are
       (list_all (fits_instance w.shapes call.heap) (call.runtime.instances ++ i ∷ [])
       && option_map_or fits_installing (option_map now_registered call.runtime.installing) true)
-      (fits_command call.runtime)
+      (fits_command call.runtime && has_numbers (with_instance call.runtime i))
       (both_are (list_all (fits_instance w.shapes call.heap) (call.runtime.instances ++ i ∷ []))
       (option_map_or fits_installing (option_map now_registered call.runtime.installing) true)
       (listed_behind call.runtime.instances i instances_fit e)
-      (still_installing call.runtime.installing installing_fits)) command_fits
+      (still_installing call.runtime.installing installing_fits))
+      (both_are (fits_command call.runtime) (has_numbers (with_instance call.runtime i)) command_fits
+      (registered_numbers call.runtime i numbers_fit waiting))
 
   itself : (n : ℕ) → (n == n) ≡ true
   itself n = eq-eqb n n refl
@@ -163,17 +173,21 @@ module _ (known : Known) where
   -- the instance that is being installed, where it may register
   pub record May (object : ℕ) (i : Installing) : Type 0 where
     fits : fits_installing i ≡ true
+    waiting : waits call.runtime ≡ true
     number : ((owner_of (bared call.heap) object).instance == i.owner.instance) ≡ true
 
   may_of : (object : ℕ) (o : Option Installing) (i : Installing) → option_map_or fits_installing o true ≡ true
-      → allowed (seen_of w call) object o ≡ Some i → May object i
-  may_of object None i e f = absurd (none-some i f)
-  may_of object (Some j) i e f = by_test (may_register (seen_of w call) object j) refl f
+      → call.runtime.installing ≡ o → allowed (seen_of w call) object o ≡ Some i → May object i
+  may_of object None i e is f = absurd (none-some i f)
+  may_of object (Some j) i e is f = by_test (may_register (seen_of w call) object j) refl f
     where
       by_test : (b : Bool) → may_register (seen_of w call) object j ≡ b → cond b (Some j) None ≡ Some i → May object i
       by_test true g h =
           subst (May object) (same_Some j i h) (record {
             fits = e;
+            waiting =
+                ap (λ (x : Option Installing). option_map_or (λ (y : Installing). not y.registered) x false) is
+                ∙ (both (not j.registered) ((owner_of (bared call.heap) object).instance == j.owner.instance) g).0;
             number = (both (not j.registered) ((owner_of (bared call.heap) object).instance == j.owner.instance) g).1;
           })
       by_test false g h = absurd (none-some i h)
@@ -213,7 +227,7 @@ module _ (known : Known) where
         (not (is_some (instance_with call.runtime.instances aid)) && nat_lt (length call.runtime.instances) 32) _ _
         (λ e. (
           aid_written known (13 + i.owner.instance) aid (aid_leads known i.owner.instance number) short parts.1,
-          (registered_fits _ (new_instance object aid i may whole leads), void_ends known r is g),
+          (registered_fits _ may.waiting (new_instance object aid i may whole leads), void_ends known r is g),
         ))
         (system_throw 4 (omega arith))
 
@@ -224,7 +238,7 @@ module _ (known : Known) where
         by_option : (o : Option Installing) → allowed (seen_of w call) object call.runtime.installing ≡ o
             → Fits known (on_allowed call.runtime o go)
         by_option None e = system_throw 4 (omega arith)
-        by_option (Some i) e = each i (may_of object call.runtime.installing i installing_fits e)
+        by_option (Some i) e = each i (may_of object call.runtime.installing i installing_fits refl e)
 
     pub installing_aid : (object : ℕ) (i : Installing) → May object i → is_aid i.aid ≡ true
     installing_aid object i may = (both (is_aid i.aid) (is_instance_number i.owner.instance) may.fits).0

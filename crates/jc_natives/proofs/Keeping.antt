@@ -26,7 +26,7 @@ use Rattle.jc_natives.proofs.Guarding.{keeps_new, keeps_put}
 use Rattle.jc_natives.proofs.Putting.{put_none, put_some}
 use Rattle.jc_natives.proofs.Simulation.{passed_some}
 use Rattle.jc_natives.specs.Cells.{Write, put, put_all, written}
-use Rattle.jc_natives.specs.Kept.{Kept, is_aid, is_instance_number, is_same_owner}
+use Rattle.jc_natives.specs.Kept.{Kept, has_numbers, is_aid, is_instance_number, is_same_owner}
 use Rattle.jc_natives.specs.Meaning.{blank_of, fits_command, fits_installing, fits_instance, fits_kept, has_applet}
 use Rattle.jc_natives.specs.Meaning.{new_array}
 use Rattle.jc_natives.specs.Work.{NewArray, array_type}
@@ -305,11 +305,14 @@ instances_still world before after stay (i ∷ is) e =
 abbrev rest_fits : Kept → Bool
 rest_fits k = option_map_or fits_installing k.installing true
 
+abbrev counts_fit : Kept → Bool
+counts_fit k = fits_command k && has_numbers k
+
 pub kept_fits_still : (w : World) (before after : Heap TaggedValue) (k : Kept) → KeepsObjects before after
     → fits_kept w before k ≡ true → fits_kept w after k ≡ true
 kept_fits_still w before after k stay e =
-    let a = both (list_all (fits_instance w.shapes before) k.instances && rest_fits k) (fits_command k) e in
+    let a = both (list_all (fits_instance w.shapes before) k.instances && rest_fits k) (counts_fit k) e in
     let b = both (list_all (fits_instance w.shapes before) k.instances) (rest_fits k) a.0 in
-    both_are (list_all (fits_instance w.shapes after) k.instances && rest_fits k) (fits_command k)
+    both_are (list_all (fits_instance w.shapes after) k.instances && rest_fits k) (counts_fit k)
     (both_are (list_all (fits_instance w.shapes after) k.instances) (rest_fits k)
     (instances_still w.shapes before after stay k.instances b.0) b.1) a.1

@@ -15,6 +15,7 @@ mod Suits
 mod Facts
 mod FitWrites
 mod FitWork
+mod Numbered
 mod FitKept
 mod Fits
 mod Law
@@ -35,3 +36,4 @@ mod Takes
 mod TypedCells
 mod Unstuck
 mod Same
+mod Counting

@@ -13,7 +13,7 @@ use Rattle.jc_machine.specs.Natives.{KeepsObjects}
 use Rattle.jc_names.specs.declared.name.ClassName.TheVariants.{Api}
 use Rattle.jc_natives.proofs.Bare.{both}
 use Rattle.jc_natives.proofs.Keeping.{both_are, kept_fits_still}
-use Rattle.jc_natives.specs.Kept.{Kept, is_aid, is_instance_number, is_same_owner}
+use Rattle.jc_natives.specs.Kept.{Kept, has_numbers, is_aid, is_instance_number, is_same_owner}
 use Rattle.jc_natives.specs.Meaning.{fits_command, fits_installing, fits_instance, fits_kept, has_applet}
 use Rattle.jc_natives.specs.declared.kept.Instance.{Instance}
 use Rattle.jc_store.specs.Heap.{Heap, Object, object_at}
@@ -48,14 +48,15 @@ module _ (before after : List Shape) (lookups : KeepsAllLookups before after) (h
 
   kept_on : (k : Kept)
       → (list_all (fits_instance before heap) k.instances && option_map_or fits_installing k.installing true
-      && fits_command k) ≡ true
+      && (fits_command k && has_numbers k)) ≡ true
       → (list_all (fits_instance after heap) k.instances && option_map_or fits_installing k.installing true
-      && fits_command k) ≡ true
+      && (fits_command k && has_numbers k)) ≡ true
   kept_on k e =
       let rest = option_map_or fits_installing k.installing true in
-      let a = both (list_all (fits_instance before heap) k.instances && rest) (fits_command k) e in
+      let counts = fits_command k && has_numbers k in
+      let a = both (list_all (fits_instance before heap) k.instances && rest) counts e in
       let b = both (list_all (fits_instance before heap) k.instances) rest a.0 in
-      both_are (list_all (fits_instance after heap) k.instances && rest) (fits_command k)
+      both_are (list_all (fits_instance after heap) k.instances && rest) counts
       (both_are (list_all (fits_instance after heap) k.instances) rest (instances_on k.instances b.0) b.1) a.1
 
 -- ---- a heap with more objects

@@ -1,23 +1,24 @@
 -- What the runtime keeps beside the objects: which instances of applets there are, the one that is being installed, and
 -- where the exchange of a command and its answer stands (Java Card Runtime Environment Specification, Applet Isolation
 -- and Object Sharing: Contexts; Java Card API Specification, APDU, Applet).
-use Rattle.std.specs.Prelude.{ℕ, ◌+◌, ◌-◌, ◌==◌, ◌&&◌, Bool, true, false, not, List, [], ◌∷◌, ◌++◌, length, take, Option}
-use Rattle.std.specs.Prelude.{Some, None, bytes_eq, nat_le, nat_lt, if◌then◌else◌}
+use Rattle.std.specs.Prelude.{ℕ, ◌+◌, ◌-◌, ◌==◌, ◌&&◌, Bool, true, false, not, List, [], ◌∷◌, ◌++◌, length, take}
+use Rattle.std.specs.Prelude.{Option, Some, None, bytes_eq, nat_le, nat_lt, if◌then◌else◌}
 use Rattle.std.specs.List.{find, list_all}
 use Rattle.std.specs.Option.{option_map, option_map_or}
-use Rattle.jc_machine.specs.Runtime.{first_aid_object}
+use Rattle.jc_machine.specs.Runtime.{first_aid_object, most_instances}
 use Rattle.jc_names.specs.declared.owner.Owner.{Owner}
 use Rattle.jc_natives.specs.declared.kept.ApduState.{ApduState}
 use Rattle.jc_natives.specs.declared.kept.ApduState.TheVariants.{Closed, Fresh, LengthSet, Outgoing, Received}
 use Rattle.jc_natives.specs.declared.kept.Installing.{Installing}
 use Rattle.jc_natives.specs.declared.kept.Instance.{Instance}
 
--- the registered instances in their order; the instance that is being installed; the state of the APDU; the data that
--- came with the command; its Le, 0 for none; the length of the answer that was announced; the data sent so far; and
--- whether an applet has the SELECT that selected it before it
+-- the registered instances in their order; the instance that is being installed; how many instance numbers were given
+-- out; the state of the APDU; the data that came with the command; its Le, 0 for none; the length of the answer that
+-- was announced; the data sent so far; and whether an applet has the SELECT that selected it before it
 pub record Kept : Type 0 where
   pub instances : List Instance
   pub installing : Option Installing
+  pub numbers : ℕ
   pub state : ApduState
   pub incoming : List ℕ
   pub expected : ℕ
@@ -82,6 +83,7 @@ abbrev pub nothing_kept : Kept
 nothing_kept = record {
   instances = [];
   installing = None;
+  numbers = 0;
   state = Closed;
   incoming = [];
   expected = 0;
@@ -90,10 +92,12 @@ nothing_kept = record {
   selecting = false;
 }
 
--- an install begins: of an instance, whose applet has this AID
+-- an install begins: of an instance, whose applet has this AID. Its number is given out then, however that ends
 abbrev pub with_install : Kept → Owner → List ℕ → Kept
-with_install k owner aid =
-    record k { installing = Some (record { owner = owner; aid = aid; registered = false }) }
+with_install k owner aid = record k {
+  installing = Some (record { owner = owner; aid = aid; registered = false });
+  numbers = owner.instance;
+}
 
 -- an instance has registered in the install that goes on
 abbrev pub has_registered : Kept → Bool
@@ -115,6 +119,7 @@ abbrev pub with_command : Kept → List ℕ → ℕ → Bool → Kept
 with_command k incoming expected selecting = record {
   instances = k.instances;
   installing = k.installing;
+  numbers = k.numbers;
   state = Fresh;
   incoming = incoming;
   expected = expected;
@@ -168,3 +173,12 @@ aid_object number = first_aid_object - 1 + number
 -- instances have numbers from 1 to 32
 abbrev pub is_instance_number : ℕ → Bool
 is_instance_number number = nat_le 1 number && nat_le number 32
+
+-- an instance is being installed, and hasn't registered
+abbrev pub waits : Kept → Bool
+waits k = option_map_or (λ (i : Installing). not i.registered) k.installing false
+
+-- each instance has a number of its own: at most 32 were given out, and one of them is left for an instance that waits
+abbrev pub has_numbers : Kept → Bool
+has_numbers k =
+    nat_le (length k.instances + (if waits k then 1 else 0)) k.numbers && nat_le k.numbers most_instances

@@ -5,6 +5,7 @@ pub mod Taking
 pub mod Checks
 pub mod Members
 pub mod Meaning
+pub mod Counted
 pub mod MemberTypes
 pub mod Apart
 pub mod Examples

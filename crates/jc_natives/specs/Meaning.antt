@@ -18,7 +18,7 @@ use Rattle.jc_machine.specs.Natives.{shareable_member}
 use Rattle.jc_names.specs.declared.name.ClassName.TheVariants.{Api}
 use Rattle.jc_names.specs.declared.owner.Owner.{Owner}
 use Rattle.jc_natives.specs.Cells.{Write, has_room, written}
-use Rattle.jc_natives.specs.Kept.{Kept, aid_object, are_bytes, is_aid, is_instance_number, is_same_owner}
+use Rattle.jc_natives.specs.Kept.{Kept, aid_object, are_bytes, has_numbers, is_aid, is_instance_number, is_same_owner}
 use Rattle.jc_natives.specs.Checks.{Passed, Refused, TestEnd, Unfit, tested}
 use Rattle.jc_natives.specs.Members.{Member, member_of_native, natives}
 use Rattle.jc_natives.specs.Taking.{Called, called}
@@ -176,7 +176,7 @@ fits_command k = are_bytes k.incoming && nat_le (length k.incoming) 255 && nat_l
 abbrev pub fits_kept : World → Heap TaggedValue → Kept → Bool
 fits_kept w heap k =
     list_all (fits_instance w.shapes heap) k.instances && option_map_or fits_installing k.installing true
-    && fits_command k
+    && (fits_command k && has_numbers k)
 
 -- the AID object that is written where the instance registers that is being installed
 abbrev pub registering : Kept → Option ℕ

@@ -78,6 +78,7 @@ impl Default for Instance {
 pub struct Runtime {
     instances: ArrayVec<Instance, MOST_INSTANCES>,
     installing: Option<Installing>,
+    numbers: u8,
     state: ApduState,
     incoming: ArrayVec<u8, MOST_INCOMING>,
     expected: u8,
@@ -95,6 +96,7 @@ impl Model for Runtime {
     ghost view = { λ r. record {
       instances = r.instances.items;
       installing = r.installing;
+      numbers = r.numbers;
       state = r.state;
       incoming = r.incoming.items;
       expected = r.expected;
@@ -171,6 +173,7 @@ impl Runtime {
         Runtime {
             instances: ArrayVec::new(),
             installing: None,
+            numbers: 0,
             state: ApduState::Closed,
             incoming: ArrayVec::new(),
             expected: 0,
@@ -180,10 +183,18 @@ impl Runtime {
         }
     }
 
+    /// How many instance numbers were given out.
+    pub fn numbers(&self) -> u8
+        ensures { result ≡ self.now.numbers }
+    {
+        self.numbers
+    }
+
     /// An install begins: of the instance with this context and number, of an applet with this AID.
     pub fn begin_install(&mut self, owner: Owner, aid: Aid)
         ensures { self.new ≡ with_install self.old owner aid }
     {
+        self.numbers = owner.instance;
         self.installing = Some(Installing {
             owner,
             aid,

@@ -1,16 +1,18 @@
 //! What holds of all native members.
 
-ghost use Rattle.std.specs.Prelude.{◌≡◌, ◌<◌, ◌≤◌, ◌++◌, ℕ, Bool, List, Some, length, map, true};
+ghost use Rattle.std.specs.Prelude.{◌≡◌, ◌<◌, ◌≤◌, ◌++◌, ℕ, Bool, List, Some, length, map, suc, true};
 ghost use Rattle.jc_api.specs.Member.{ApiMember, member_of};
 ghost use Rattle.jc_cap_desc.specs.Shape.{Shape};
 ghost use Rattle.jc_link.specs.Built.{IsBuilt};
 ghost use Rattle.jc_link.specs.Linked.{IsBoundTo, Linked, World, with_linked};
 ghost use Rattle.jc_machine.specs.Apart.{AreNativesApart, is_applets};
 ghost use Rattle.jc_machine.specs.Calls.{type_of_member};
-ghost use Rattle.jc_machine.specs.Machine.{NativeCall};
+ghost use Rattle.jc_machine.specs.Machine.{NativeCall, Surroundings};
 ghost use Rattle.jc_machine.specs.Natives.{IsGuardedAnswer, KeepsObjects};
+ghost use Rattle.jc_machine.specs.Step.{Start, runtime_call};
 ghost use Rattle.jc_names.specs.declared.owner.Owner.{Owner};
 ghost use Rattle.jc_natives.specs.Apart.{names_applets};
+ghost use Rattle.jc_natives.specs.Counted.{LeavesNumbers};
 ghost use Rattle.jc_natives.specs.MemberTypes.{declared_signature};
 ghost use Rattle.jc_natives.specs.Kept.{Kept, after_install, are_bytes, is_aid, is_instance_number, nothing_kept};
 ghost use Rattle.jc_natives.specs.Kept.{with_command, with_install, without_command};
@@ -20,9 +22,10 @@ ghost use Rattle.jc_machine.specs.Storable.{HoldStorable};
 ghost use Rattle.jc_natives.specs.Cells.{put_all};
 ghost use Rattle.jc_words.specs.Values.{TaggedValue, Word};
 
+use crate::kept::Runtime;
 use jc_classes::growing_keeps_lookups;
 use jc_link::growing_keeps_linking;
-use jc_machine::held_values_stay;
+use jc_machine::{calls_keep_what_members_keep, held_values_stay};
 
 /// Each access of a native member is allowed, or is its last and changes nothing; and only objects change that were
 /// accessed. It does nothing.
@@ -39,11 +42,11 @@ pub fn kept_stays_fit()
 {}
 
 /// What the runtime keeps fits the objects when a card is new, and behind each call of the runtime itself: an install
-/// that begins and ends, and a command that comes and goes. It does nothing.
+/// that begins with the next number and ends, and a command that comes and goes. It does nothing.
 pub fn calls_keep_fitting()
     ensures new { (w : World) (heap : Heap TaggedValue) → meaning.fits w heap nothing_kept ≡ true }
     ensures begun { (w : World) (heap : Heap TaggedValue) (k : Kept) → meaning.fits w heap k ≡ true
-        → (owner : Owner) (aid : List ℕ) → is_aid aid ≡ true → is_instance_number owner.instance ≡ true
+        → (owner : Owner) (aid : List ℕ) → is_aid aid ≡ true → owner.instance ≡ suc k.numbers → k.numbers < 32
         → meaning.fits w heap (with_install k owner aid) ≡ true }
     ensures over { (w : World) (heap : Heap TaggedValue) (k : Kept) → meaning.fits w heap k ≡ true
         → (succeeds : Bool) → meaning.fits w heap (after_install k succeeds) ≡ true }
@@ -54,6 +57,15 @@ pub fn calls_keep_fitting()
     ensures closed { (w : World) (heap : Heap TaggedValue) (k : Kept) → meaning.fits w heap k ≡ true
         → meaning.fits w heap (without_command k) ≡ true }
 {}
+
+/// No call of the runtime's gives instance numbers out: behind one as many are given out as before. It does nothing.
+pub fn calls_keep_numbers()
+    ensures { (s : Surroundings Kept) → s.natives ≡ meaning → (steps : ℕ) (start : Start Kept)
+        → LeavesNumbers start.runtime.numbers (runtime_call s steps start).ends }
+{
+    members_are_guarded();
+    calls_keep_what_members_keep(&Runtime::new());
+}
 
 /// The runtime's name is its own in native members too: what an applet calls accesses no plain object in the runtime's
 /// name, leaves no reference where it may not be stored, and what the runtime keeps names applets alone. So it does

@@ -13,6 +13,7 @@ returns c = record {
   fields = c.held_values_stay.ensures.fields;
   words = c.written_words_are_held.ensures;
   api = c.api_runs_its_own_code.ensures;
+  numbers = c.calls_keep_numbers.ensures;
   begun = c.members_stay_apart.ensures.begun;
   over = c.members_stay_apart.ensures.over;
   opened = c.members_stay_apart.ensures.opened;

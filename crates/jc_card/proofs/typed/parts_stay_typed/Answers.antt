@@ -11,6 +11,7 @@ returns c = record {
   };
   byte = c.objects_stay_typed.ensures.byte;
   zeroed = c.objects_stay_typed.ensures.zeroed;
+  numbers = c.calls_keep_numbers.ensures;
   begun = c.calls_keep_fitting.ensures.begun;
   over = c.calls_keep_fitting.ensures.over;
   opened = c.calls_keep_fitting.ensures.opened;

@@ -13,7 +13,7 @@ begin-requires c =
     let card = c.self.invariant.card in
     let h = subst (λ (x : CardWords). Holds x card) c.self.view_is c.self.invariant.holds in
     let stays = words_stay c.args.self.now c.deselect.new.self GivesNothing card h (deselect card)
-    (c.deselect.ensures card h) (deselect_stays card) in
+    (c.deselect.ensures card h) (deselect_stays c.calls_keep_numbers.ensures card) in
     record {
       place = subst (λ (w : World). IsInstallPlace w c.args.place) (sym stays.0) c.requires.place;
       few = c.requires.few;

@@ -54,7 +54,7 @@ invariant_of-self c =
     let fits = c.requires.fits card (subst (λ (x : CardWords). Holds x card) c.self.view_is h) in
     left_card after (ReadsEnded c.call.result) (call_applet card c.args.instance c.args.call)
     (applet_called laws k card h c.args.instance c.args.call fits first called refl words few after
-    c.call.result c.call.ensures.call c.call.ensures.dropped refl refl refl refl refl refl refl)
+    c.call.result c.call.ensures.call c.call.ensures.dropped refl refl refl refl refl refl)
 
 pub returns : goal.returns
 returns c card holds =
@@ -77,4 +77,4 @@ returns c card holds =
     let h = subst (λ (x : CardWords). Holds x card) (sym c.self.view_is) holds in
     let fits = c.requires.fits card holds in
     applet_called laws k card h c.args.instance c.args.call fits first called refl words few after
-    c.call.result c.call.ensures.call c.call.ensures.dropped refl refl refl refl refl refl refl
+    c.call.result c.call.ensures.call c.call.ensures.dropped refl refl refl refl refl refl

@@ -60,7 +60,7 @@ invariant_of-self c =
     let after : CardWords = record k { machine = c.call.new.self; kept = c.call.new.natives } in
     left_card after (ReadsEnded c.call.result) (call_install card a.place a.owner a.size)
     (method_called laws k card h a.owner.context a.owner name values can first c.called_at-called.ensures refl read few
-    after c.call.result c.call.ensures.call c.call.ensures.dropped refl refl refl refl refl refl refl)
+    after c.call.result c.call.ensures.call c.call.ensures.dropped refl refl refl refl refl refl)
 
 pub returns : goal.returns
 returns c card holds =
@@ -81,4 +81,4 @@ returns c card holds =
     let can = can_begin card h.typed a.place a.owner a.size (omega (arith, c.ranges.size)) known
     c.built_worlds_are_sound.ensures in
     method_called laws k card h a.owner.context a.owner name values can first c.called_at-called.ensures refl read few
-    after c.call.result c.call.ensures.call c.call.ensures.dropped refl refl refl refl refl refl refl
+    after c.call.result c.call.ensures.call c.call.ensures.dropped refl refl refl refl refl refl

@@ -1,6 +1,7 @@
 use Rattle.std.proofs.Common.{List, ℕ, length, ap, refl, subst, sym, ◌∙◌}
 use Rattle.jc_link.specs.Linked.{World}
 use Rattle.jc_natives.specs.Kept.{with_install}
+use Rattle.jc_card.specs.Card.{with_kept}
 use Rattle.jc_card.specs.Install.{call_install, padded, parameters_of, settle}
 use Rattle.jc_card.specs.Parts.{and_then, gives, write}
 use Rattle.jc_card.specs.PrivateWords.{IsInstallPlace}
@@ -18,16 +19,10 @@ returns c card h =
     let written = c.padded.ensures.padded ∙ ap (padded 127) is in
     let size = ap (λ (xs : List ℕ). length xs) is in
     then_done c.write_parameters.new.self c.settle.new.self GivesNothing (ReadsInstalled c.settle.result)
-    (write 13 (padded 127 words) (record card {
-      numbers = a.owner.instance;
-      kept = with_install card.kept a.owner
-          a.applet.now;
-    }))
+    (write 13 (padded 127 words) (with_kept card (with_install card.kept a.owner a.applet.now)))
     (λ d u. and_then (call_install d a.place a.owner (length words)) (λ d e. settle d a.owner e))
-    (subst (λ (bytes : List ℕ). IsDone c.write_parameters.new.self GivesNothing (write 13 bytes (record card {
-      numbers = a.owner.instance;
-      kept = with_install card.kept a.owner a.applet.now;
-    })))
+    (subst (λ (bytes : List ℕ). IsDone c.write_parameters.new.self GivesNothing (write 13 bytes
+    (with_kept card (with_install card.kept a.owner a.applet.now))))
     written (c.write_parameters.ensures _ taken))
     (λ d u i n. then_done c.call_install-ended.new.self c.settle.new.self (ReadsEnded c.call_install-ended.result)
     (ReadsInstalled c.settle.result) (call_install d a.place a.owner (length words)) (λ d e. settle d a.owner e)
@@ -42,7 +37,7 @@ call_install-ended-requires c =
     let card = c.self.invariant.card in
     let h = subst (λ (x : CardWords). Holds x card) c.self.view_is c.self.invariant.holds in
     let taken = c.take_number.ensures card h in
-    let next = record card { numbers = a.owner.instance; kept = with_install card.kept a.owner a.applet.now } in
+    let next = with_kept card (with_install card.kept a.owner a.applet.now) in
     let first = world_stays c.args.self.now c.take_number.new.self GivesNothing card h
     (gives next tt) taken refl in
     let second = world_stays c.take_number.new.self c.write_parameters.new.self GivesNothing next taken.0

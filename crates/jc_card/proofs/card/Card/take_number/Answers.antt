@@ -1,5 +1,6 @@
-use Rattle.std.proofs.Common.{◌≡◌, suc, subst, sym}
+use Rattle.std.proofs.Common.{◌≡◌, ◌<◌, suc, subst, sym}
 use Rattle.jc_natives.specs.Kept.{Kept, with_install}
+use Rattle.jc_card.specs.Card.{with_kept}
 use Rattle.jc_card.specs.Parts.{gives}
 use Rattle.jc_card.specs.contracts.card.Card.{the_view}
 use Rattle.jc_card.specs.Reads.{CardWords, GivesNothing, Holds, IsCard, IsDone}
@@ -12,26 +13,24 @@ invariant_of-self c =
     let k : CardWords = the_view c.self.inside in
     let card = c.self.invariant.card in
     let h = c.self.invariant.holds in
-    let next = subst (λ (x : CardWords). c.args.owner.instance ≡ suc x.numbers) (sym c.self.view_is) c.requires.next in
-    subst (λ (x : Kept). IsCard (record k { kept = x; numbers = c.args.owner.instance })) (sym c.begin_install.ensures)
+    let next = subst (λ (x : CardWords). c.args.owner.instance ≡ suc x.kept.numbers) (sym c.self.view_is)
+    c.requires.next in
+    let room = subst (λ (x : CardWords). x.kept.numbers < 32) (sym c.self.view_is) c.requires.room in
+    subst (λ (x : Kept). IsCard (record k { kept = x })) (sym c.begin_install.ensures)
     (left_card _ GivesNothing
-    (gives (record card {
-      numbers = c.args.owner.instance;
-      kept = with_install card.kept c.args.owner c.args.applet;
-    }) tt)
+    (gives (with_kept card (with_install card.kept c.args.owner c.args.applet)) tt)
     (number_taken k card h c.calls_keep_fitting.ensures.begun c.args.owner c.args.applet c.aids_are_fit.ensures next
-    c.requires.most))
+    room))
 
 pub returns : goal.returns
 returns c card holds =
     let k : CardWords = the_view c.self.inside in
     let h = subst (λ (x : CardWords). Holds x card) (sym c.self.view_is) holds in
-    let next = subst (λ (x : CardWords). c.args.owner.instance ≡ suc x.numbers) (sym c.self.view_is) c.requires.next in
-    subst (λ (x : Kept). IsDone (record k { kept = x; numbers = c.args.owner.instance }) GivesNothing
-    (gives (record card {
-      numbers = c.args.owner.instance;
-      kept = with_install card.kept c.args.owner c.args.applet;
-    }) tt))
+    let next = subst (λ (x : CardWords). c.args.owner.instance ≡ suc x.kept.numbers) (sym c.self.view_is)
+    c.requires.next in
+    let room = subst (λ (x : CardWords). x.kept.numbers < 32) (sym c.self.view_is) c.requires.room in
+    subst (λ (x : Kept). IsDone (record k { kept = x }) GivesNothing
+    (gives (with_kept card (with_install card.kept c.args.owner c.args.applet)) tt))
     (sym c.begin_install.ensures)
     (number_taken k card h c.calls_keep_fitting.ensures.begun c.args.owner c.args.applet c.aids_are_fit.ensures next
-    c.requires.most)
+    room)

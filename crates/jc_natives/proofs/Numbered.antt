@@ -1,0 +1,123 @@
+-- Each instance has a number of its own: behind each call of the runtime, and where one registers; so there is room for
+-- it then.
+use Rattle.std.proofs.Common.{◌≡◌, ℕ, zero, suc, ◌+◌, ◌-◌, ◌<◌, ◌≤◌, ◌&&◌, not, Bool, true, false, cond, List, [], ◌∷◌}
+use Rattle.std.proofs.Common.{◌++◌, length, take, nat_le, nat_lt, Option, Some, None, refl, sym, ap, ◌∙◌, arith}
+use Rattle.std.proofs.lemmas.Bool.{le-leb, leb-true, lt-ltb}
+use Rattle.std.specs.List.{list_all}
+use Rattle.std.specs.Option.{option_map, option_map_or}
+use Rattle.jc_link.specs.Linked.{World}
+use Rattle.jc_machine.specs.Runtime.{most_instances}
+use Rattle.jc_names.specs.declared.owner.Owner.{Owner}
+use Rattle.jc_natives.proofs.Bare.{both}
+use Rattle.jc_natives.specs.Kept.{Kept, after_install, has_numbers, has_registered, is_instance_number, kept_instances}
+use Rattle.jc_natives.specs.Kept.{now_registered, waits, with_install, with_instance}
+use Rattle.jc_natives.specs.Meaning.{fits_command, fits_installing, fits_instance, fits_kept}
+use Rattle.jc_natives.specs.declared.kept.Installing.{Installing}
+use Rattle.jc_natives.specs.declared.kept.Instance.{Instance}
+use Rattle.jc_store.specs.Heap.{Heap}
+use Rattle.jc_words.specs.Values.{TaggedValue}
+
+-- ---- what the bounds say
+
+-- one more where an instance waits
+abbrev one_for : Bool → ℕ
+one_for waiting = cond waiting 1 0
+
+record AreFew (k : Kept) (waiting : Bool) : Type 0 where
+  few : length k.instances + one_for waiting ≤ k.numbers
+  most : k.numbers ≤ 32
+
+few_of : (k : Kept) → has_numbers k ≡ true → AreFew k (waits k)
+few_of k e =
+    let b = both (nat_le (length k.instances + one_for (waits k)) k.numbers) (nat_le k.numbers 32) e in record {
+      few = leb-true (length k.instances + one_for (waits k)) k.numbers b.0;
+      most = leb-true k.numbers 32 b.1;
+    }
+
+of_few : (k : Kept) → AreFew k (waits k) → has_numbers k ≡ true
+of_few k f =
+    ap (λ (b : Bool). b && nat_le k.numbers 32) (le-leb (length k.instances + one_for (waits k)) k.numbers f.few)
+    ∙ le-leb k.numbers 32 f.most
+
+-- ---- an instance that registers
+
+with_one_more : (xs : List Instance) (i : Instance) → length (xs ++ i ∷ []) ≡ suc (length xs)
+with_one_more [] i = refl
+with_one_more (x ∷ xs) i = ap suc (with_one_more xs i)
+
+waits_no_more : (o : Option Installing)
+    → option_map_or (λ (i : Installing). not i.registered) (option_map now_registered o) false ≡ false
+waits_no_more None = refl
+waits_no_more (Some i) = refl
+
+-- the number that was left for it is its own then
+pub registered_numbers : (k : Kept) (i : Instance) → has_numbers k ≡ true → waits k ≡ true
+    → has_numbers (with_instance k i) ≡ true
+registered_numbers k i e waiting =
+    let f = few_of k e in
+    let less : length k.instances + 1 ≤ k.numbers =
+    leb-true (length k.instances + 1) k.numbers (ap (λ (b : Bool). nat_le (length k.instances + one_for b) k.numbers)
+    (sym waiting) ∙ (both (nat_le (length k.instances + one_for (waits k)) k.numbers) (nat_le k.numbers 32) e).0) in
+    let more = with_one_more k.instances i in
+    ap (λ (b : Bool). nat_le (length (k.instances ++ i ∷ []) + one_for b) k.numbers && nat_le k.numbers 32)
+    (waits_no_more k.installing)
+    ∙ ap (λ (b : Bool). b && nat_le k.numbers 32)
+    (le-leb (length (k.instances ++ i ∷ []) + 0) k.numbers (omega (arith, less, more)))
+    ∙ le-leb k.numbers 32 f.most
+
+-- where what the runtime keeps fits, there is room for an instance that waits
+pub room_to_register : (w : World) (heap : Heap TaggedValue) (k : Kept) → fits_kept w heap k ≡ true → (i : Installing)
+    → k.installing ≡ Some i → i.registered ≡ false → nat_lt (length k.instances) most_instances ≡ true
+room_to_register w heap k fits i installing waiting =
+    let rest = both (list_all (fits_instance w.shapes heap) k.instances && option_map_or fits_installing k.installing
+    true) (fits_command k && has_numbers k) fits in
+    let numbers = (both (fits_command k) (has_numbers k) rest.1).1 in
+    let f = few_of k numbers in
+    let waits_so : waits k ≡ true =
+    ap (λ (o : Option Installing). option_map_or (λ (x : Installing). not x.registered) o false) installing
+    ∙ ap not waiting in
+    let less : length k.instances + 1 ≤ k.numbers =
+    leb-true (length k.instances + 1) k.numbers (ap (λ (b : Bool). nat_le (length k.instances + one_for b) k.numbers)
+    (sym waits_so) ∙ (both (nat_le (length k.instances + one_for (waits k)) k.numbers) (nat_le k.numbers 32)
+    numbers).0) in
+    let most = f.most in
+    lt-ltb (length k.instances) 32 (omega (arith, less, most))
+
+-- ---- calls of the runtime itself
+
+one_or_none : (waiting : Bool) → 0 ≤ one_for waiting
+one_or_none waiting = omega arith
+
+-- the next number is given out
+pub begun_numbers : (k : Kept) (owner : Owner) (aid : List ℕ) → has_numbers k ≡ true
+    → owner.instance ≡ suc k.numbers → k.numbers < 32 → has_numbers (with_install k owner aid) ≡ true
+begun_numbers k owner aid e next less =
+    let few = (few_of k e).few in
+    of_few (with_install k owner aid) (record {
+      few = omega (arith, few, next);
+      most = omega (arith, less, next);
+    })
+
+pub next_is_number : (k : Kept) (owner : Owner) → owner.instance ≡ suc k.numbers → k.numbers < 32
+    → is_instance_number owner.instance ≡ true
+next_is_number k owner next less =
+    ap (λ (b : Bool). b && nat_le owner.instance 32) (le-leb 1 owner.instance (omega (arith, next)))
+    ∙ le-leb owner.instance 32 (omega (arith, next, less))
+
+taken_few : (xs : List Instance) (n : ℕ) → length (take n xs) ≤ length xs
+taken_few [] zero = omega arith
+taken_few [] (suc n) = omega arith
+taken_few (x ∷ xs) zero = omega arith
+taken_few (x ∷ xs) (suc n) = let h = taken_few xs n in omega (arith, h)
+
+left_few : (xs : List Instance) (b : Bool) → length (kept_instances xs b) ≤ length xs
+left_few xs true = taken_few xs (length xs - 1)
+left_few xs false = omega arith
+
+-- no instance waits behind an install, and there is none more
+pub over_numbers : (k : Kept) (succeeds : Bool) → has_numbers k ≡ true → has_numbers (after_install k succeeds) ≡ true
+over_numbers k succeeds e =
+    let f = few_of k e in
+    let few = f.few in
+    let left = left_few k.instances (has_registered k && not succeeds) in
+    of_few (after_install k succeeds) (record { few = omega (arith, few, left); most = f.most })

@@ -1,0 +1,11 @@
+-- What a call leaves of how many instance numbers were given out.
+use Rattle.std.specs.Prelude.{⊤, ◌≡◌, ℕ}
+use Rattle.jc_machine.specs.Step.{CallEnd, Gave, RanOut, Threw, WasStuck}
+use Rattle.jc_natives.specs.Kept.{Kept}
+
+-- as many as these, unless it was stuck
+abbrev pub LeavesNumbers : ℕ → CallEnd Kept → Type 0
+LeavesNumbers numbers (Gave m value) = m.runtime.numbers ≡ numbers
+LeavesNumbers numbers (Threw m object at) = m.runtime.numbers ≡ numbers
+LeavesNumbers numbers (RanOut m spent at) = m.runtime.numbers ≡ numbers
+LeavesNumbers numbers WasStuck = ⊤

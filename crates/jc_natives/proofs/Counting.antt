@@ -100,8 +100,7 @@ module _ (s : Seen) (k : Kept) where
 
     registers_same : (number object : ℕ) (aid : List ℕ) → LeavesAsMany (registers s k number object aid)
     registers_same number object aid =
-        either_same (not (is_some (instance_with k.instances aid)) && nat_lt (length k.instances) most_instances) _ _
-        refl refl
+        either_same (not (is_some (instance_with k.instances aid))) _ _ refl refl
 
     on_allowed_same : (o : Option Installing) (go : Installing → Work) → ((i : Installing) → LeavesAsMany (go i))
         → LeavesAsMany (on_allowed k o go)

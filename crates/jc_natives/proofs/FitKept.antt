@@ -223,8 +223,7 @@ module _ (known : Known) where
         let number = (both (is_aid i.aid) (is_instance_number i.owner.instance) may.fits).1 in
         let parts = both (has_aid_length (length aid)) (are_bytes aid) whole in
         let short = leb-true (length aid) 16 (both (nat_le 5 (length aid)) (nat_le (length aid) 16) parts.0).1 in
-        either_fits known
-        (not (is_some (instance_with call.runtime.instances aid)) && nat_lt (length call.runtime.instances) 32) _ _
+        either_fits known (not (is_some (instance_with call.runtime.instances aid))) _ _
         (λ e. (
           aid_written known (13 + i.owner.instance) aid (aid_leads known i.owner.instance number) short parts.1,
           (registered_fits _ may.waiting (new_instance object aid i may whole leads), void_ends known r is g),

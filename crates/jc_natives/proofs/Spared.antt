@@ -251,7 +251,7 @@ module _ (Spared : By → ℕ → Type 0) (s : Seen) (k : Kept) where
     registers_apart : (object : ℕ) (aid : List ℕ) (i : Installing) → May object i
         → IsApartWork (registers s k i.owner.instance object aid)
     registers_apart object aid i may =
-        either_apart (not (is_some (instance_with k.instances aid)) && nat_lt (length k.instances) most_instances) _ _
+        either_apart (not (is_some (instance_with k.instances aid))) _ _
         (λ e. (
           (own.registers i may.installing, tt),
           λ owners named.

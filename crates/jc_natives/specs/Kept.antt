@@ -175,10 +175,16 @@ abbrev pub is_instance_number : ℕ → Bool
 is_instance_number number = nat_le 1 number && nat_le number 32
 
 -- an instance is being installed, and hasn't registered
+abbrev pub is_waiting : Option Installing → Bool
+is_waiting installing = option_map_or (λ (i : Installing). not i.registered) installing false
+
 abbrev pub waits : Kept → Bool
-waits k = option_map_or (λ (i : Installing). not i.registered) k.installing false
+waits k = is_waiting k.installing
 
 -- each instance has a number of its own: at most 32 were given out, and one of them is left for an instance that waits
+abbrev pub have_numbers : List Instance → Option Installing → ℕ → Bool
+have_numbers instances installing numbers =
+    nat_le (length instances + (if is_waiting installing then 1 else 0)) numbers && nat_le numbers most_instances
+
 abbrev pub has_numbers : Kept → Bool
-has_numbers k =
-    nat_le (length k.instances + (if waits k then 1 else 0)) k.numbers && nat_le k.numbers most_instances
+has_numbers k = have_numbers k.instances k.installing k.numbers

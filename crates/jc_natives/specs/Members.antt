@@ -2,7 +2,7 @@
 use Rattle.std.specs.Prelude.{ℕ, ◌+◌, ◌==◌, ◌&&◌, Bool, true, false, not, List, [], ◌∷◌, ◌++◌, length, replicate}
 use Rattle.std.specs.Prelude.{Option, Some, None, bytes_eq, is_some, nat_le, nat_lt, if◌then◌else◌}
 use Rattle.std.specs.Option.{option_and_then, option_map_or}
-use Rattle.jc_machine.specs.Runtime.{apdu_buffer, apdu_exception, iso_exception, most_instances, negative_size_exception}
+use Rattle.jc_machine.specs.Runtime.{apdu_buffer, apdu_exception, iso_exception, negative_size_exception}
 use Rattle.jc_machine.specs.Runtime.{system_exception}
 use Rattle.jc_names.specs.declared.owner.Owner.{Owner}
 use Rattle.jc_natives.specs.Cells.{bit, extended, high, is_count, is_within, low, order_of, word, word_of_bytes}
@@ -271,8 +271,7 @@ allowed owner (Some i) = if may_register owner i then Some i else None
 -- an instance registers under an AID that no registered instance has, and its AID object has the bytes
 abbrev pub registers : Kept → ℕ → ℕ → Owner → List ℕ → Work
 registers k number object owner aid =
-    unless_system k illegal_aid
-    (not (is_some (instance_with k.instances aid)) && nat_lt (length k.instances) most_instances)
+    unless_system k illegal_aid (not (is_some (instance_with k.instances aid)))
     (writes_own (with_instance k (record { aid = aid; object = object; owner = owner })) (aid_object number) 0
     (length aid ∷ aid) NoResult)
 

@@ -1,8 +1,7 @@
 //! Members of Applet (Java Card API Specification, Applet).
 
-ghost use Rattle.std.specs.Prelude.{◌≡◌, ◌&&◌, None, Some, if◌then◌else◌, is_some, length, nat_lt, not};
-ghost use Rattle.jc_machine.specs.Runtime.{most_instances};
-ghost use Rattle.jc_natives.specs.Kept.{aid_object, has_aid_length, instance_with};
+ghost use Rattle.std.specs.Prelude.{◌≡◌, IfSome, None, Some, if◌then◌else◌, is_some, not, true};
+ghost use Rattle.jc_natives.specs.Kept.{aid_object, has_aid_length, instance_with, waits};
 ghost use Rattle.jc_natives.specs.PrivateApplets.{allowed, applet_work, may_register, owner_of, registers};
 ghost use Rattle.jc_natives.specs.PrivateApplets.{registers_range};
 ghost use Rattle.jc_natives.specs.PrivateCells.{bytes_of};
@@ -67,7 +66,8 @@ fn allowed(
     runtime: &Runtime,
     object: u16,
 ) -> Option<Installing>
-    ensures { result ≡ allowed (seen_in world.now store.now call.now) object runtime.now.installing }
+    ensures allowed { result ≡ allowed (seen_in world.now store.now call.now) object runtime.now.installing }
+    ensures waits { IfSome result (λ i. waits runtime.now ≡ true) }
 {
     let installing = runtime.installing()?;
     if may_register(world, store, call, object, &installing) {
@@ -77,12 +77,11 @@ fn allowed(
     }
 }
 
-// Whether an instance may register under an AID.
+// Whether no registered instance has an AID.
 fn is_free(runtime: &Runtime, aid: &[u8]) -> bool
-    ensures { result ≡ not (is_some (instance_with runtime.now.instances aid.now))
-        && nat_lt (length runtime.now.instances) most_instances }
+    ensures { result ≡ not (is_some (instance_with runtime.now.instances aid.now)) }
 {
-    !runtime.instance_with(aid).is_some() && runtime.has_place()
+    !runtime.instance_with(aid).is_some()
 }
 
 // Registers the instance with a number under an AID that no registered instance has.
@@ -95,6 +94,7 @@ fn register_as(
     object: u16,
     aid: Aid,
 ) -> Ended
+    requires { waits runtime.old ≡ true }
     ensures { record { store = store.new; kept = runtime.new; ended = result }
         ≡ done_of call.now.active store.old runtime.old
         (registers (seen_in world.now store.old call.now) runtime.old instance object aid) }
@@ -145,6 +145,7 @@ fn register_range(
     runtime: &mut Runtime,
     instance: u8,
 ) -> Ended
+    requires { waits runtime.old ≡ true }
     ensures { record { store = store.new; kept = runtime.new; ended = result }
         ≡ done_of call.now.active store.old runtime.old
         (registers_range (seen_in world.now store.old call.now) runtime.old call.now.arguments.now instance) }

@@ -1,9 +1,9 @@
 //! What the runtime keeps beside the objects.
 
-ghost use Rattle.std.specs.Prelude.{◌≡◌, ◌+◌, ◌++◌, ◌≤◌, ◌<◌, [], bytes_eq, length, nat_le, nat_lt, option_map};
+ghost use Rattle.std.specs.Prelude.{◌≡◌, ◌+◌, ◌++◌, ◌≤◌, ◌<◌, [], bytes_eq, length, nat_le, option_map, suc, true};
 ghost use Rattle.jc_natives.specs.Kept.{after_install, expected_of, has_registered, instance_of, instance_with};
 ghost use Rattle.jc_natives.specs.Kept.{is_same_owner, nothing_kept, with_announced, with_command, with_install};
-ghost use Rattle.jc_natives.specs.Kept.{with_instance, with_sent, with_state, without_command};
+ghost use Rattle.jc_natives.specs.Kept.{waits, with_instance, with_sent, with_state, without_command};
 ghost use Rattle.jc_natives.specs.PrivateCells.{bytes_of};
 ghost use Rattle.jc_natives.specs.declared.kept.ApduState.TheVariants.{LengthSet};
 
@@ -88,8 +88,8 @@ pub struct Runtime {
 }
 
 impl Model for Runtime {
-    ghost use Rattle.std.specs.Prelude.{◌≤◌};
-    ghost use Rattle.jc_natives.specs.Kept.{Kept};
+    ghost use Rattle.std.specs.Prelude.{◌≡◌, ◌≤◌, true};
+    ghost use Rattle.jc_natives.specs.Kept.{Kept, have_numbers};
 
     ghost Value = { Kept };
 
@@ -105,7 +105,8 @@ impl Model for Runtime {
       selecting = r.selecting;
     } };
 
-    ghost invariant = { λ r. r.announced ≤ 256 };
+    ghost invariant = { λ r. (r.announced ≤ 256)
+        × (have_numbers r.instances.items r.installing r.numbers ≡ true) };
 }
 
 // Whether an instance has an AID.
@@ -190,8 +191,10 @@ impl Runtime {
         self.numbers
     }
 
-    /// An install begins: of the instance with this context and number, of an applet with this AID.
+    /// An install begins: of the instance with this context and the next number, of an applet with this AID.
     pub fn begin_install(&mut self, owner: Owner, aid: Aid)
+        requires next { owner.instance ≡ suc self.old.numbers }
+        requires room { self.old.numbers < 32 }
         ensures { self.new ≡ with_install self.old owner aid }
     {
         self.numbers = owner.instance;
@@ -286,16 +289,9 @@ impl Runtime {
         self.installing
     }
 
-    // Whether one instance more may register.
-    pub(crate) fn has_place(&self) -> bool
-        ensures { result ≡ nat_lt (length self.now.instances) 32 }
-    {
-        self.instances.len() < MOST_INSTANCES
-    }
-
     // Registers an instance, in the name of the one that is being installed.
     pub(crate) fn register(&mut self, instance: Instance)
-        requires { length self.old.instances < 32 }
+        requires { waits self.old ≡ true }
         ensures { self.new ≡ with_instance self.old instance }
     {
         self.instances.push(instance);

@@ -1,5 +1,5 @@
 -- Members give no instance number out; so no call does.
-use Rattle.std.proofs.Common.{◌≡◌, ℕ, ◌+◌, ◌==◌, ◌&&◌, not, Bool, true, false, cond, List, [], length, nat_le, nat_lt}
+use Rattle.std.proofs.Common.{◌≡◌, ℕ, ◌+◌, ◌==◌, not, Bool, true, false, cond, List, [], length, nat_le}
 use Rattle.std.proofs.Common.{is_some, Option, Some, None, refl, ap, ◌∙◌}
 use Rattle.std.proofs.lemmas.Bool.{eqb-true}
 use Rattle.std.specs.Prelude.{⊤}
@@ -8,7 +8,7 @@ use Rattle.jc_link.specs.Linked.{World}
 use Rattle.jc_machine.specs.Calls.{native_may_begin}
 use Rattle.jc_machine.specs.Keeping.{LeavesKept, MembersKeep}
 use Rattle.jc_machine.specs.Machine.{IsStuck, NativeAnswer, NativeCall, Touch}
-use Rattle.jc_machine.specs.Runtime.{apdu_buffer, most_instances}
+use Rattle.jc_machine.specs.Runtime.{apdu_buffer}
 use Rattle.jc_machine.specs.Step.{CallEnd, Gave, RanOut, Threw, WasStuck}
 use Rattle.jc_natives.proofs.Alike.{IsLike, alike, answers_alike, stops}
 use Rattle.jc_natives.specs.PrivateAids.{aid_work}

@@ -1,21 +1,14 @@
--- Each instance has a number of its own: behind each call of the runtime, and where one registers; so there is room for
--- it then.
+-- Each instance has a number of its own: behind each call of the runtime, and where one registers.
 use Rattle.std.proofs.Common.{◌≡◌, ℕ, zero, suc, ◌+◌, ◌-◌, ◌<◌, ◌≤◌, ◌&&◌, not, Bool, true, false, cond, List, [], ◌∷◌}
-use Rattle.std.proofs.Common.{◌++◌, length, take, nat_le, nat_lt, Option, Some, None, refl, sym, ap, ◌∙◌, arith}
-use Rattle.std.proofs.lemmas.Bool.{le-leb, leb-true, lt-ltb}
-use Rattle.std.specs.List.{list_all}
+use Rattle.std.proofs.Common.{◌++◌, length, take, nat_le, Option, Some, None, refl, sym, ap, ◌∙◌, arith}
+use Rattle.std.proofs.lemmas.Bool.{le-leb, leb-true}
 use Rattle.std.specs.Option.{option_map, option_map_or}
-use Rattle.jc_link.specs.Linked.{World}
-use Rattle.jc_machine.specs.Runtime.{most_instances}
 use Rattle.jc_names.specs.declared.owner.Owner.{Owner}
 use Rattle.jc_natives.proofs.Bare.{both}
 use Rattle.jc_natives.specs.Kept.{Kept, after_install, has_numbers, has_registered, is_instance_number, kept_instances}
 use Rattle.jc_natives.specs.Kept.{now_registered, waits, with_install, with_instance}
-use Rattle.jc_natives.specs.Meaning.{fits_command, fits_installing, fits_instance, fits_kept}
 use Rattle.jc_natives.specs.declared.kept.Installing.{Installing}
 use Rattle.jc_natives.specs.declared.kept.Instance.{Instance}
-use Rattle.jc_store.specs.Heap.{Heap}
-use Rattle.jc_words.specs.Values.{TaggedValue}
 
 -- ---- what the bounds say
 
@@ -64,24 +57,6 @@ registered_numbers k i e waiting =
     ∙ ap (λ (b : Bool). b && nat_le k.numbers 32)
     (le-leb (length (k.instances ++ i ∷ []) + 0) k.numbers (omega (arith, less, more)))
     ∙ le-leb k.numbers 32 f.most
-
--- where what the runtime keeps fits, there is room for an instance that waits
-pub room_to_register : (w : World) (heap : Heap TaggedValue) (k : Kept) → fits_kept w heap k ≡ true → (i : Installing)
-    → k.installing ≡ Some i → i.registered ≡ false → nat_lt (length k.instances) most_instances ≡ true
-room_to_register w heap k fits i installing waiting =
-    let rest = both (list_all (fits_instance w.shapes heap) k.instances && option_map_or fits_installing k.installing
-    true) (fits_command k && has_numbers k) fits in
-    let numbers = (both (fits_command k) (has_numbers k) rest.1).1 in
-    let f = few_of k numbers in
-    let waits_so : waits k ≡ true =
-    ap (λ (o : Option Installing). option_map_or (λ (x : Installing). not x.registered) o false) installing
-    ∙ ap not waiting in
-    let less : length k.instances + 1 ≤ k.numbers =
-    leb-true (length k.instances + 1) k.numbers (ap (λ (b : Bool). nat_le (length k.instances + one_for b) k.numbers)
-    (sym waits_so) ∙ (both (nat_le (length k.instances + one_for (waits k)) k.numbers) (nat_le k.numbers 32)
-    numbers).0) in
-    let most = f.most in
-    lt-ltb (length k.instances) 32 (omega (arith, less, most))
 
 -- ---- calls of the runtime itself
 

@@ -1,8 +1,8 @@
 -- What a member writes: objects that its tests reached, or the runtime's own. And what the runtime keeps names applets
 -- still.
 use Rattle.std.specs.Prelude.{⊤}
-use Rattle.std.proofs.Common.{◌≡◌, ◌⊎◌, inl, inr, ℕ, zero, suc, ◌+◌, ◌==◌, ◌&&◌, ◌||◌, not, Bool, true, false, cond}
-use Rattle.std.proofs.Common.{List, [], ◌∷◌, ◌++◌, is_some, length, nat_le, nat_lt, slice_get, Option, Some, None}
+use Rattle.std.proofs.Common.{◌≡◌, ◌⊎◌, inl, inr, ℕ, zero, suc, ◌+◌, ◌==◌, ◌||◌, not, Bool, true, false, cond}
+use Rattle.std.proofs.Common.{List, [], ◌∷◌, ◌++◌, is_some, length, nat_le, slice_get, Option, Some, None}
 use Rattle.std.proofs.Common.{refl, sym, ap, subst, ◌∙◌}
 use Rattle.std.proofs.lemmas.Bool.{eqb-true}
 use Rattle.std.proofs.lemmas.Option.{none-some, same_Some}
@@ -12,7 +12,7 @@ use Rattle.jc_api.specs.Numbered.{numbered}
 use Rattle.jc_machine.specs.Apart.{is_applets}
 use Rattle.jc_machine.specs.Guarded.{may_change}
 use Rattle.jc_machine.specs.Machine.{By, ByCode, ByRuntime}
-use Rattle.jc_machine.specs.Runtime.{apdu_buffer, apdu_exception, iso_exception, most_instances, system_exception}
+use Rattle.jc_machine.specs.Runtime.{apdu_buffer, apdu_exception, iso_exception, system_exception}
 use Rattle.jc_natives.proofs.Bare.{both}
 use Rattle.jc_natives.proofs.Changed.{either_is}
 use Rattle.jc_natives.proofs.Keeping.{both_are}

@@ -1,6 +1,6 @@
 -- The native members: by their numbers, and what each tests and does (Java Card API Specification).
 use Rattle.std.specs.Prelude.{ℕ, ◌+◌, ◌==◌, ◌&&◌, Bool, true, false, not, List, [], ◌∷◌, ◌++◌, length, replicate}
-use Rattle.std.specs.Prelude.{Option, Some, None, bytes_eq, is_some, nat_le, nat_lt, if◌then◌else◌}
+use Rattle.std.specs.Prelude.{Option, Some, None, bytes_eq, is_some, nat_le, if◌then◌else◌}
 use Rattle.std.specs.Option.{option_and_then, option_map_or}
 use Rattle.jc_machine.specs.Runtime.{apdu_buffer, apdu_exception, iso_exception, negative_size_exception}
 use Rattle.jc_machine.specs.Runtime.{system_exception}

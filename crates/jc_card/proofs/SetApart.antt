@@ -17,7 +17,8 @@ use Rattle.jc_link.specs.Built.{IsBuilt, api, loaded}
 use Rattle.jc_link.specs.Linked.{IsLinkedFrom, Linked, LinkedBody}
 use Rattle.jc_machine.specs.Apart.{IsRuntimes, IsSetApart, has_no_code}
 use Rattle.jc_machine.specs.Natives.{KeepsObjects}
-use Rattle.jc_machine.specs.Runtime.{HasRuntimeObjects, RuntimeObject, aid_object, first_aid_object, made, most_instances, new_heap}
+use Rattle.jc_machine.specs.Runtime.{HasRuntimeObjects, RuntimeObject, aid_object, first_aid_object, made}
+use Rattle.jc_machine.specs.Runtime.{most_instances, new_heap}
 use Rattle.jc_machine.specs.Runtime.{runtime_objects}
 use Rattle.jc_safety.specs.Loading.{loaded_array, loaded_arrays, mark_of_arrays, next_package, owner_of_arrays}
 use Rattle.jc_safety.specs.Loading.{type_of_array}
@@ -275,7 +276,8 @@ module _ (stay : Staying) (heap : Heap TaggedValue) (apart : IsSetApart heap) (n
       (got_behind heap (loaded_arrays number body) i ∙ at.1)
       ∙ array_is_fine i at.0 n (omega (arith, beyond))
 
-  reference_static : (offset : ℕ) → may_be_static behind (reference_at (suc (length heap)) body.kept.statics offset) ≡ true
+  reference_static : (offset : ℕ)
+      → may_be_static behind (reference_at (suc (length heap)) body.kept.statics offset) ≡ true
   reference_static offset =
       by_array (nat_lt (offset / 2) (length body.kept.statics.arrays)) refl
     where

@@ -1,8 +1,8 @@
 -- What the runtime keeps beside the objects: which instances of applets there are, the one that is being installed, and
 -- where the exchange of a command and its answer stands (Java Card Runtime Environment Specification, Applet Isolation
 -- and Object Sharing: Contexts; Java Card API Specification, APDU, Applet).
-use Rattle.std.specs.Prelude.{ℕ, ◌+◌, ◌-◌, ◌==◌, ◌&&◌, Bool, true, false, not, List, [], ◌∷◌, ◌++◌, length, take, Option}
-use Rattle.std.specs.Prelude.{Some, None, bytes_eq, nat_le, nat_lt, if◌then◌else◌}
+use Rattle.std.specs.Prelude.{ℕ, ◌+◌, ◌-◌, ◌==◌, ◌&&◌, Bool, true, false, not, List, [], ◌∷◌, ◌++◌, length, take}
+use Rattle.std.specs.Prelude.{Option, Some, None, bytes_eq, nat_le, nat_lt, if◌then◌else◌}
 use Rattle.std.specs.List.{find, list_all}
 use Rattle.std.specs.Option.{option_map, option_map_or}
 use Rattle.jc_machine.specs.Runtime.{first_aid_object}

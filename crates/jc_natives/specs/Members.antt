@@ -2,8 +2,8 @@
 use Rattle.std.specs.Prelude.{ℕ, ◌+◌, ◌==◌, ◌&&◌, Bool, true, false, not, List, [], ◌∷◌, ◌++◌, length, replicate}
 use Rattle.std.specs.Prelude.{Option, Some, None, bytes_eq, is_some, nat_le, nat_lt, if◌then◌else◌}
 use Rattle.std.specs.Option.{option_and_then, option_map_or}
-use Rattle.jc_machine.specs.Runtime.{apdu_buffer, apdu_exception, iso_exception, most_instances, negative_size_exception}
-use Rattle.jc_machine.specs.Runtime.{system_exception}
+use Rattle.jc_machine.specs.Runtime.{apdu_buffer, apdu_exception, iso_exception, most_instances}
+use Rattle.jc_machine.specs.Runtime.{negative_size_exception, system_exception}
 use Rattle.jc_names.specs.declared.owner.Owner.{Owner}
 use Rattle.jc_natives.specs.Cells.{bit, extended, high, is_count, is_within, low, order_of, word, word_of_bytes}
 use Rattle.jc_natives.specs.Kept.{Kept, aid_object, expected_of, has_aid_length, instance_of, instance_with, is_fresh}
@@ -140,7 +140,8 @@ abbrev pub equals : Called → Option Work
 equals h =
     on_reference h 0 (λ one. on_reference h 1 (λ other.
     if one == other then ends_with h (GivesWord 1)
-    else option_and_then (λ both. if both then have_same_bytes h one other else ends_with h (GivesWord 0)) (are_aids h)))
+    else option_and_then (λ aids. if aids then have_same_bytes h one other else ends_with h (GivesWord 0))
+    (are_aids h)))
 
 -- the reason of an exception is its first component
 abbrev pub sets_reason : Called → Option Work

@@ -21,8 +21,8 @@ use Rattle.jc_natives.specs.Checks.{uses_value}
 use Rattle.jc_natives.specs.Kept.{Kept}
 use Rattle.jc_natives.specs.PrivateCells.{argument, bare, bared, size_of}
 use Rattle.jc_natives.specs.PrivateSeen.{Seen, arguments_of, seen_of}
-use Rattle.jc_natives.specs.PrivateTests.{Tested, by_verdict, facts_of, fails, followed, goes_on, is_in_range, length_of}
-use Rattle.jc_natives.specs.PrivateTests.{on_object, passes, ranged, test, tested, used}
+use Rattle.jc_natives.specs.PrivateTests.{Tested, by_verdict, facts_of, fails, followed, goes_on, is_in_range}
+use Rattle.jc_natives.specs.PrivateTests.{length_of, on_object, passes, ranged, test, tested, used}
 use Rattle.jc_natives.specs.Taking.{Called, called}
 use Rattle.jc_natives.specs.declared.row.Length.{Length}
 use Rattle.jc_natives.specs.declared.row.Range.{Range}
@@ -88,7 +88,8 @@ module _ (ts us : List Touch) (t : Checked) (u : Tested) where
   behind_passed a c (same a2 b2 c2) =
       same (ap (λ x. x ++ t.touches) a ∙ ap (λ x. us ++ x) a2) b2 (λ e. all_allowed ts t.touches c (c2 e))
   behind_passed a c (stuck rest e f g) =
-      stuck rest (ap (λ x. us ++ x) e ∙ ap (λ x. x ++ (t.touches ++ rest)) (sym a) ∙ sym (append_assoc ts t.touches rest)) f
+      stuck rest
+      (ap (λ x. us ++ x) e ∙ ap (λ x. x ++ (t.touches ++ rest)) (sym a) ∙ sym (append_assoc ts t.touches rest)) f
       (all_allowed ts t.touches c g)
 
   both_follow : (te : TestEnd) (ue : Option ℕ) → Agrees (ending ts te) (throwing us ue) → Agrees t u
@@ -234,7 +235,8 @@ module _ (w : World) (call : NativeCall Kept) where
     where
       by_null : (b : Bool)
           → Only (cond b (Some true) (checks.is_range_in h (argument args r.array) r.offset r.length))
-          (b || is_within (size_of (bared heap) (argument args r.array)) (argument args r.offset) (length_of s args r.length))
+          (b || is_within (size_of (bared heap) (argument args r.array)) (argument args r.offset)
+          (length_of s args r.length))
       by_null true = just refl
       by_null false = within r.array r.offset r.length (argument args r.array)
 

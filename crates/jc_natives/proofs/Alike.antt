@@ -12,7 +12,7 @@ use Rattle.jc_natives.proofs.Agreeing.{Agrees, same, stuck, tests_agree}
 use Rattle.jc_natives.proofs.Matching.{Only, just, nothing}
 use Rattle.jc_natives.proofs.Working.{member_does, same_tests}
 use Rattle.jc_natives.specs.Checks as checks
-use Rattle.jc_natives.specs.Checks.{Check, Checked, Passed, Refused, TestEnd, Unfit}
+use Rattle.jc_natives.specs.Checks.{Check, Passed, Refused, TestEnd, Unfit}
 use Rattle.jc_natives.specs.Kept.{Kept}
 use Rattle.jc_natives.specs.Meaning.{answer_of, begun, done, ended, own_touches, unchanged, with_room}
 use Rattle.jc_natives.specs.Members.{member_of_native, natives}

@@ -338,7 +338,8 @@ module _ (w : World) (call : NativeCall Kept) where
     }
 
     modest_begun : (b : Bool) → call.member ≡ shareable_member
-        → IsModest number call (cond b (begun_on_words w call (numbered natives call.member)) (unchanged call [] IsStuck))
+        → IsModest number call (cond b (begun_on_words w call (numbered natives call.member))
+        (unchanged call [] IsStuck))
     modest_begun true is =
         subst (λ (o : Option Native). IsModest number call (begun_on_words w call o)) (sym (ap (numbered natives) is))
         (modest_end (tested s args (row_of shareable)).thrown)

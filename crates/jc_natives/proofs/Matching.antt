@@ -87,7 +87,8 @@ component_of heap number index =
     (sym (bare_object heap number)) (by_object (object_at heap number))
   where
     by_object : (o : Option (Object TaggedValue))
-        → Only (option_and_then (λ (x : Object TaggedValue). option_map_or as_word (slice_get x.cells index) (Some 0)) o)
+        → Only (option_and_then
+        (λ (x : Object TaggedValue). option_map_or as_word (slice_get x.cells index) (Some 0)) o)
         (option_map_or (λ (x : Object ℕ). get_or x.cells index 0) (option_map bare o) 0)
     by_object None = nothing refl
     by_object (Some o) = component_among o.cells index

@@ -27,8 +27,8 @@ use Rattle.jc_natives.specs.Cells.{is_within}
 use Rattle.jc_natives.specs.Kept.{Kept, has_aid_length, is_fresh, is_incoming, is_length_set, is_outgoing, most_sent}
 use Rattle.jc_natives.specs.Meaning.{answer_of, begun, done, end_of, ended, unchanged, with_room}
 use Rattle.jc_natives.specs.Members as members
-use Rattle.jc_natives.specs.Members.{ends_with, in_buffer, makes_array, member_of_native, natives, on_allowed}
-use Rattle.jc_natives.specs.Members.{on_installing, sends_at_once, sets_reason}
+use Rattle.jc_natives.specs.Members.{ends_with, in_buffer, member_of_native, natives}
+use Rattle.jc_natives.specs.Members.{on_installing, sends_at_once}
 use Rattle.jc_natives.specs.PrivateCells.{argument, bare}
 use Rattle.jc_natives.specs.PrivateMeaning.{answer_on_words, begun_on_words}
 use Rattle.jc_natives.specs.PrivateSeen.{Seen, arguments_of, is_aid_object, seen_of}
@@ -139,7 +139,8 @@ module _ (known : Known) (c : ApiClass) where
   aid_of_seen : (number : ℕ) → is_aid_object s number ≡ true → LeadsToClass w.shapes heap number (Api api.Aid)
   aid_of_seen number e =
       by_object (object_at heap number) refl
-      (sym (ap (λ (o : Option (Object ℕ)). option_map_or (λ (p : Object ℕ). is_of_class w.shapes (Api api.Aid) p.kind.object) o false) (bare_object heap number)) ∙ e)
+      (sym (ap (λ (o : Option (Object ℕ)). option_map_or
+      (λ (p : Object ℕ). is_of_class w.shapes (Api api.Aid) p.kind.object) o false) (bare_object heap number)) ∙ e)
     where
       by_object : (o : Option (Object TaggedValue)) → object_at heap number ≡ o
           → option_map_or (λ (p : Object ℕ). is_of_class w.shapes (Api api.Aid) p.kind.object) (option_map bare o) false
@@ -150,7 +151,8 @@ module _ (known : Known) (c : ApiClass) where
 
   equals_has : (t : Typed (OfObject objects.Equals)) → Has (members.equals h)
   equals_has t =
-      has_reference known _ t 0 refl _ (has_reference known _ t 1 refl _ (by_number (argument args 0 == argument args 1)))
+      has_reference known _ t 0 refl _ (has_reference known _ t 1 refl _
+      (by_number (argument args 0 == argument args 1)))
     where
       by_aids : (b : Bool) → (is_aid_object s (argument args 0) && is_aid_object s (argument args 1)) ≡ b
           → Has (cond b (members.have_same_bytes h (argument args 0) (argument args 1)) (ends_with h (GivesWord 0)))

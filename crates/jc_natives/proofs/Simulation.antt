@@ -302,7 +302,8 @@ begun_agrees : (w : World) (s : Store) (call : NativeCall Kept) (native : Native
     → TellsEnd outcome (done_of call.active s call.runtime
     (native_work (seen_of w call) call.runtime (arguments_of call) native)).ended
     → AnswerAgrees (state_of (done_of call.active s call.runtime
-    (native_work (seen_of w call) call.runtime (arguments_of call) native))) outcome (begun_on_words w call (Some native))
+    (native_work (seen_of w call) call.runtime (arguments_of call) native))) outcome
+    (begun_on_words w call (Some native))
 begun_agrees w s call native outcome objects most cells told =
     let t = tested (seen_of w call) (arguments_of call) (row_of native) in
     ended_agrees call t.touches s t.thrown (work_of (seen_of w call) call.runtime (arguments_of call) native) outcome
@@ -395,7 +396,8 @@ answered w s k word d outcome is told call agrees fit means =
     ∙ ap (λ x. done_of call.active s call.runtime (word_work (seen_of w call) call.runtime (arguments_of call) x))
     b.numbered in
     let answer : answer_of w call ≡ begun_on_words w call (Some b.native) = means
-    ∙ ap (λ x. answers w call x (numbered natives call.member)) fit.begins ∙ ap (λ o. answers w call true o) b.numbered in
+    ∙ ap (λ x. answers w call x (numbered natives call.member)) fit.begins
+    ∙ ap (λ o. answers w call true o) b.numbered in
     let P : Done → NativeAnswer Kept → Type 0 = λ d a. TellsEnd outcome d.ended → AnswerAgrees (state_of d) outcome a in
     subst (λ a. P d a) (sym answer)
     (subst (λ x. P x (begun_on_words w call (Some b.native))) (sym whole)

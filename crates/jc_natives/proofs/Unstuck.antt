@@ -29,7 +29,7 @@ use Rattle.jc_natives.proofs.TypedCells.{reason_word, word_there, word_value, wo
 use Rattle.jc_natives.specs.Cells.{bits}
 use Rattle.jc_natives.specs.Checks as checks
 use Rattle.jc_natives.specs.Checks.{CallsOtherAid, Check, Checked, HasRange, Passed, Refused, TestEnd, Unfit, Uses}
-use Rattle.jc_natives.specs.Checks.{UsesUnlessNull, access_of, are_aids, calls_other, followed, goes_on, in_range}
+use Rattle.jc_natives.specs.Checks.{UsesUnlessNull, access_of, are_aids, calls_other, goes_on, in_range}
 use Rattle.jc_natives.specs.Checks.{is_aid_at, is_aid_object, is_aid_value, is_in_range, is_range_in, judged, refused}
 use Rattle.jc_natives.specs.Checks.{test, tested, unfit, uses, uses_value}
 use Rattle.jc_natives.specs.PrivateCells.{aid_bytes, argument, bared, bytes_of, cell_of, words_of}
@@ -249,7 +249,8 @@ module _ (known : Known) (kinds : List Kind)
       subst (λ n. LeadsToClass w.shapes heap n c) (sym (argument_is call.arguments place v.0 v.1))
       (object_lead w.shapes heap c v.0 v.2)
 
-  pub aid_at : (place : ℕ) → at kinds is_aid_kind place ≡ true → LeadsToClass w.shapes heap (argument args place) (Api api.Aid)
+  pub aid_at : (place : ℕ) → at kinds is_aid_kind place ≡ true
+      → LeadsToClass w.shapes heap (argument args place) (Api api.Aid)
   aid_at place e =
       let v = value_at is_aid_kind place e in
       subst (λ n. LeadsToClass w.shapes heap n (Api api.Aid)) (sym (argument_is call.arguments place v.value v.is))
@@ -290,7 +291,8 @@ module _ (known : Known) (kinds : List Kind)
           → LeadsToClass w.shapes heap (bits v) c
       by_value (Word n) is t = absurd cc
       by_value (Ref n) is t =
-          let a = passed_some (λ (o : Object TaggedValue). is_of_class w.shapes c o.kind.object) (object_at heap n) is in
+          let a = passed_some (λ (o : Object TaggedValue). is_of_class w.shapes c o.kind.object) (object_at heap n) is
+          in
           record { object = a.0; found = a.1; below = a.2 }
       by_value Null is t = absurd (none-some t.object t.found)
       by_value Unset is t = absurd cc
@@ -298,7 +300,8 @@ module _ (known : Known) (kinds : List Kind)
   -- ---- what a member goes on with is there
 
   module _ {A : Type 0} where
-    pub has_word : (place : ℕ) → at kinds is_word_kind place ≡ true → (go : ℕ → Option A) → Has (go (argument args place))
+    pub has_word : (place : ℕ) → at kinds is_word_kind place ≡ true → (go : ℕ → Option A)
+        → Has (go (argument args place))
         → Has (on_word h place go)
     has_word place e go k = has_and_goes go _ _ (word_among call.arguments place) (word_has place e) k
 
@@ -370,7 +373,8 @@ module _ (known : Known) (kinds : List Kind)
   value_fit way null fits v (to_object n o e found) =
       ap (λ x. is_fit (uses_value h way null x).ends) e
       ∙ ap (λ x. is_fit (option_map_or (judged h way n) x unfit).ends) found
-      ∙ verdict_fit way n (verdict_of (access_of way) call.active.context (facts_in w.shapes call.selected o None false))
+      ∙ verdict_fit way n
+      (verdict_of (access_of way) call.active.context (facts_in w.shapes call.selected o None false))
 
   uses_fit : (place : ℕ) (way : Way) (null : Checked) → is_fit null.ends ≡ true → at kinds is_leading place ≡ true
       → is_fit (uses h place way null).ends ≡ true

@@ -19,7 +19,7 @@ use Rattle.jc_natives.specs.Checks.{are_aids}
 use Rattle.jc_natives.specs.Kept.{Kept, has_aid_length, is_fresh, is_incoming, is_length_set}
 use Rattle.jc_natives.specs.Kept.{is_outgoing, most_sent, with_sent}
 use Rattle.jc_natives.specs.Members as members
-use Rattle.jc_natives.specs.Members.{Member, allowed, ends_with, in_buffer, keeps_aid, makes_array, member_of_native}
+use Rattle.jc_natives.specs.Members.{allowed, ends_with, in_buffer, keeps_aid, makes_array, member_of_native}
 use Rattle.jc_natives.specs.Members.{on_allowed, on_installing, sends, sends_at_once, sets_reason}
 use Rattle.jc_natives.specs.PrivateAids.{aid_work, constructs}
 use Rattle.jc_natives.specs.PrivateApdus.{apdu_work, is_in_buffer, unless_apdu}

@@ -140,7 +140,8 @@ abbrev pub equals : Called → Option Work
 equals h =
     on_reference h 0 (λ one. on_reference h 1 (λ other.
     if one == other then ends_with h (GivesWord 1)
-    else option_and_then (λ both. if both then have_same_bytes h one other else ends_with h (GivesWord 0)) (are_aids h)))
+    else option_and_then (λ aids. if aids then have_same_bytes h one other else ends_with h (GivesWord 0))
+    (are_aids h)))
 
 -- the reason of an exception is its first component
 abbrev pub sets_reason : Called → Option Work

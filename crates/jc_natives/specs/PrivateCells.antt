@@ -1,5 +1,5 @@
--- The components of objects without tags, as words and as bytes: what the code is proved against. Where there is no such
--- component a member reads 0.
+-- The components of objects without tags, as words and as bytes: what the code is proved against. Where there is no
+-- such component a member reads 0.
 use Rattle.std.specs.Prelude.{ℕ, zero, suc, ◌+◌, List, [], ◌∷◌, get_or, length, map}
 use Rattle.std.specs.Option.{option_map_or}
 use Rattle.jc_natives.specs.Cells.{bits, low}

@@ -1,5 +1,6 @@
--- How a native member takes its arguments and reads components. It is stuck on what doesn't fit: where an argument isn't
--- there, or is of another tag; where a reference leads to no object; and where a component that it reads is no word.
+-- How a native member takes its arguments and reads components. It is stuck on what doesn't fit: where an argument
+-- isn't there, or is of another tag; where a reference leads to no object; and where a component that it reads is no
+-- word.
 use Rattle.std.specs.Prelude.{ℕ, zero, suc, ◌+◌, List, [], ◌∷◌, length, map, Option, Some, None, nat_lt, slice_get}
 use Rattle.std.specs.Prelude.{if◌then◌else◌}
 use Rattle.std.specs.Option.{option_and_then, option_map, option_map_or}

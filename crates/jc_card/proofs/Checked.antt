@@ -1,4 +1,4 @@
--- Why a package isn't fit, by what each step of its check says; and a load of one that isn't.
+-- Why a package isn't fit, or is, by what each step of its check says; and a load of one that isn't.
 use Rattle.std.proofs.Common.{◌≡◌, ◌⊎◌, inl, inr, ℕ, List, Some, Result, Ok, Err, refl, sym, ap, ◌∙◌, subst}
 use Rattle.jc_base.specs.Cutting.{Piece, Splits, answer}
 use Rattle.jc_base.specs.Parts.{Infos}
@@ -9,9 +9,9 @@ use Rattle.jc_cap_desc.specs.Shape.{Package, Shape}
 use Rattle.jc_cert.specs.Cert.{IsCert, Row}
 use Rattle.jc_cert.specs.Writing.{spelling}
 use Rattle.jc_check.specs.Checked as checks
-use Rattle.jc_link.specs.Linked.{IsRefusal, Linked, World, refusal_of}
+use Rattle.jc_link.specs.Linked.{IsLinkedFrom, IsRefusal, Linked, World, refusal_of}
 use Rattle.jc_card.specs.Card.{CardState}
-use Rattle.jc_card.specs.Load.{AreSpelled, IsCut, IsLinkedBehind, IsOutOfMemory, IsUnfit, IsWithoutRoom}
+use Rattle.jc_card.specs.Load.{AreSpelled, IsCut, IsFit, IsLinkedBehind, IsOutOfMemory, IsUnfit, IsWithoutRoom}
 use Rattle.jc_card.specs.Reads.{CardWords, Holds, LoadsFrom}
 
 abbrev Unfit : List Shape → List ℕ → List ℕ → LoadFault → Type 0
@@ -71,6 +71,18 @@ uncarried before image certificate l rows fault behind spelled (inl memory) =
     inl (out_of_memory before image l fault behind memory)
 uncarried before image certificate l rows fault behind spelled (inr first) =
     inr (IsUnfit.uncarried l rows fault behind spelled first)
+
+-- ---- a package that is fit
+
+pub is_fit : (before : List Shape) (image certificate : List ℕ) (l : Linked) (parts : Infos) (rows : List Row)
+    → Found image (Ok parts) → IsLinkedFrom before parts l → IsCert rows × (certificate ≡ spelling rows)
+    → checks.CarriesPackage l rows → IsFit before image certificate l
+is_fit before image certificate l parts rows found linked spelled carried = record {
+  linked = record { parts = parts; cut = is_cut image (Ok parts) found; linked = linked };
+  rows = rows;
+  spelled = record { cert = spelled.0; bytes_are = spelled.1 };
+  carried = carried;
+}
 
 -- ---- a load
 

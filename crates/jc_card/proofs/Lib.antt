@@ -28,3 +28,7 @@ mod Leading
 mod LeadingCalls
 mod LeadingWrites
 mod Guarding
+mod Cut
+mod Tokens
+mod Packages
+mod Accepting

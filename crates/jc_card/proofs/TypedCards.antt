@@ -2,7 +2,7 @@
 -- keeps something else, and behind a load. And a new card is typed.
 use Rattle.std.proofs.Common.{◌≡◌, ℕ, suc, ◌+◌, ◌<◌, ◌≤◌, List, [], ◌∷◌, ◌++◌, ◌&&◌, get_or, length, map, Bool, true}
 use Rattle.std.proofs.Common.{false, cond, nat_le, nat_lt, Option, Some, None, Result, Ok, Err, sym, subst, arith}
-use Rattle.std.proofs.lemmas.Bool.{and_parts, leb-true}
+use Rattle.std.proofs.lemmas.Bool.{and_parts, leb-true, ltb-true}
 use Rattle.std.specs.List.{find, list_all}
 use Rattle.std.specs.Option.{option_and_then, option_map_or}
 use Rattle.jc_api.specs.Bound.{Bound}
@@ -17,7 +17,7 @@ use Rattle.jc_machine.specs.Typed.{IsTypedBeside}
 use Rattle.jc_machine.specs.TypedExamples.{idle_in, new_machine}
 use Rattle.jc_names.specs.declared.owner.Owner.{Owner}
 use Rattle.jc_natives.specs.Cells.{put_all}
-use Rattle.jc_natives.specs.Kept.{Kept, instance_of, is_same_owner, nothing_kept}
+use Rattle.jc_natives.specs.Kept.{Kept, are_bytes, instance_of, is_same_owner, nothing_kept}
 use Rattle.jc_natives.specs.Meaning.{fits_command, fits_installing, fits_instance, meaning}
 use Rattle.jc_natives.specs.declared.kept.Instance.{Instance}
 use Rattle.jc_safety.specs.Loading.{MayLoad, around_behind, has_room_for, heap_behind, loaded_arrays, machine_behind}
@@ -29,7 +29,7 @@ use Rattle.jc_store.specs.declared.kind.ObjectType.TheVariants.{ByteArray}
 use Rattle.jc_words.specs.Values.{TaggedValue, Word}
 use Rattle.jc_card.proofs.Heaps.{new_object, put_some}
 use Rattle.jc_card.specs.Card.{CardState, around, at_rest, left_by, selected_instance, with_heap, with_selected}
-use Rattle.jc_card.specs.Load.{IsLoad, has_room, with_package}
+use Rattle.jc_card.specs.Load.{IsFit, IsLoad, has_room, with_package}
 use Rattle.jc_card.specs.New.{new_card}
 use Rattle.jc_card.specs.PrivateTyped.{KeepsTyped, ZeroedTyped}
 use Rattle.jc_card.specs.Typed.{IsTypedCard}
@@ -165,6 +165,18 @@ abbrev pub LoadsFitting : Type 0
 LoadsFitting = (w : World) (l : Linked) → IsBoundTo w l → (heap more : Heap TaggedValue) (k : Kept)
     → meaning.fits w heap k ≡ true → meaning.fits (with_linked w l) (heap ++ more) k ≡ true
 
+-- a package that fits keeps the packages accepted
+abbrev pub FitAccepted : Type 0
+FitAccepted = (w : World) → IsAccepted w → length w.shapes ≤ most_in_world → (image certificate : List ℕ)
+    → are_bytes image ≡ true → (l : Linked) → IsFit w.shapes image certificate l → IsAccepted (with_linked w l)
+
+few_before : (c : CardState) (l : Linked) → has_room c l ≡ true → length c.world.shapes ≤ most_in_world
+few_before c l room =
+    let few = ltb-true (length c.world.shapes) most_in_world
+    (and_parts (nat_lt (length c.world.shapes) most_in_world) (has_room_for c.limits (heap_behind c.world c.heap l))
+    room).0 in
+    omega (arith, few)
+
 pub room_behind : (c : CardState) (l : Linked) → has_room c l ≡ true
     → has_room_for c.limits (heap_behind c.world c.heap l) ≡ true
 room_behind c l room =
@@ -198,16 +210,16 @@ package_typed stays c t l may = record {
 }
 
 -- what a load leaves
-pub load_typed : LoadsTyped → LoadsFitting → (c after : CardState) (image certificate : List ℕ)
-    (result : Result ℕ LoadFault) → IsTypedCard c → IsLoad c image certificate result after → IsAccepted after.world
-    → IsTypedCard after
-load_typed stays fit c after image certificate (Ok number) t h accepted =
+pub load_typed : FitAccepted → LoadsTyped → LoadsFitting → (c after : CardState) (image certificate : List ℕ)
+    (result : Result ℕ LoadFault) → IsTypedCard c → are_bytes image ≡ true
+    → IsLoad c image certificate result after → IsTypedCard after
+load_typed accepts stays fit c after image certificate (Ok number) t bytes h =
     let l = h.linked in
     let linked = h.fit.linked.linked in
-    let world = subst (λ (d : CardState). IsAccepted d.world) h.after_is accepted in
+    let world = accepts c.world t.accepted (few_before c l h.room) image certificate bytes l h.fit in
     let may = may_load fit c t l (linked.«package».shape, linked.linked.world) world h.room in
     subst IsTypedCard (sym h.after_is) (package_typed stays c t l may)
-load_typed stays fit c after image certificate (Err fault) t h accepted = subst IsTypedCard (sym h.kept) t
+load_typed accepts stays fit c after image certificate (Err fault) t bytes h = subst IsTypedCard (sym h.kept) t
 
 pub new_typed : (l : Limits) → l.cells < 65536 → (bound : Bound) → IsAccepted (api_alone bound) → (frame : Frame)
     → IsTypedBeside (idle_in (api_alone bound)) (new_machine [] frame)

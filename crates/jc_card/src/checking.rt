@@ -1,47 +1,31 @@
 //! Packages that are linked and checked before they are loaded.
 
-ghost use Rattle.std.specs.Prelude.{◌≡◌, ◌⊎◌, ◌<◌, IfErr, IfOk};
-ghost use Rattle.jc_cap_pool.specs.declared.entry.MemberRef.{MemberRef};
-ghost use Rattle.jc_cap_pool.specs.declared.entry.PoolEntry.TheVariants.{VirtualMethodref};
+ghost use Rattle.std.specs.Prelude.{◌≡◌, ◌⊎◌, ◌≤◌, ℕ, IfErr, IfOk, List, length, true};
 ghost use Rattle.jc_card.specs.Load.{IsFit, IsOutOfMemory, IsUnfit};
-ghost use Rattle.jc_link.specs.Linked.{IsBoundTo, with_linked};
-ghost use Rattle.jc_machine.specs.Accepted.{HaveByteTokens, IsAccepted};
+ghost use Rattle.jc_link.specs.Linked.{IsBoundTo, Linked as LinkedPackage, World as LinkedWorld};
+ghost use Rattle.jc_link.specs.Linked.{most_in_world, with_linked};
+ghost use Rattle.jc_machine.specs.Accepted.{IsAccepted};
+ghost use Rattle.jc_natives.specs.Kept.{are_bytes};
 
+use crate::laws::bytes_are_low;
 use jc_base::{LoadFault, cut};
-use jc_cap_pool::PoolEntry;
-use jc_check::check;
-use jc_link::{Linked, World, link};
+use jc_cap_desc::read_packages_are_whole;
+use jc_check::{carried_packages_are_typed, check};
+use jc_link::{Linked, World, link, linked_packages_are_known};
 use jc_machine::accepted_worlds_grow;
 use std::alloc::Global;
 
-/// A byte is below 256. It does nothing.
-fn is_byte(byte: u8)
-    ensures { byte < 256 }
+/// The packages of a world are accepted if they were, with one behind them that fits, whose image is bytes. It does
+/// nothing.
+pub(crate) fn fit_packages_are_accepted()
+    ensures { (w : LinkedWorld) → IsAccepted w → length w.shapes ≤ most_in_world → (image certificate : List ℕ)
+        → are_bytes image ≡ true → (l : LinkedPackage) → IsFit w.shapes image certificate l
+        → IsAccepted (with_linked w l) }
 {
-    let _ = byte;
-}
-
-/// The token of a virtual method is a byte: an entry has it as one. It does nothing.
-fn token_is_byte(entry: &PoolEntry)
-    ensures { (ref : MemberRef) → entry.now ≡ VirtualMethodref ref → ref.token < 256 }
-{
-    match entry {
-        PoolEntry::VirtualMethodref(method) => is_byte(method.token),
-        PoolEntry::Classref(_)
-        | PoolEntry::InstanceFieldref(_)
-        | PoolEntry::SuperMethodref(_)
-        | PoolEntry::StaticFieldref(_)
-        | PoolEntry::StaticMethodref(_) => {}
-    }
-}
-
-/// So it is in all entries of a pool. It does nothing.
-fn tokens_are_bytes(pool: &[PoolEntry])
-    ensures { HaveByteTokens pool.now }
-{
-    for entry in pool {
-        token_is_byte(entry);
-    }
+    read_packages_are_whole();
+    linked_packages_are_known();
+    carried_packages_are_typed();
+    accepted_worlds_grow();
 }
 
 /// The package in an image, linked behind others and checked with the bytes of its certificate. With it their world is
@@ -58,12 +42,11 @@ pub(crate) fn checked(
     ensures unfit { IfErr result
         (λ fault. IsOutOfMemory image.now fault ⊎ IsUnfit world.now.shapes image.now certificate.now fault) }
 {
-    accepted_worlds_grow();
+    fit_packages_are_accepted();
+    bytes_are_low(image);
+    // Only its contract counts: how many packages there are at most.
+    let _count = world.len();
     let linked = link(alloc, &cut(image)?, world)?;
     let rows = jc_cert::read(alloc, certificate)?;
-    let linked = check(alloc, linked, &rows)?.into_linked();
-    // Only its contract counts: how much there may be in a world.
-    let _count = linked.table().len();
-    tokens_are_bytes(linked.body().kept().pool.as_slice());
-    Ok(linked)
+    Ok(check(alloc, linked, &rows)?.into_linked())
 }

@@ -13,7 +13,7 @@ pub(crate) fn is_word(word: u16)
 }
 
 /// Bytes have 8 bits. It does nothing.
-pub(crate) fn bytes_are_low(bytes: &[u8])
+pub fn bytes_are_low(bytes: &[u8])
     ensures { are_bytes bytes.now ≡ true }
 {}
 

@@ -32,5 +32,6 @@ pub use card::Card;
 pub use cause::Cause;
 pub use examples::{applets_are_installed, applets_are_selected};
 pub use fault::{CardFault, Failure, InstallFault};
+pub use laws::bytes_are_low;
 pub use limits::Limits;
 pub use typed::commands_are_never_stuck;

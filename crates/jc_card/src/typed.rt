@@ -13,9 +13,9 @@ ghost use Rattle.jc_card.specs.New.{new_card};
 ghost use Rattle.jc_card.specs.PrivateTyped.{CommandLaws};
 ghost use Rattle.jc_card.specs.Typed.{GivesTyped, IsTypedCard};
 ghost use Rattle.jc_card.specs.declared.limits.Limits.{Limits};
-ghost use Rattle.jc_machine.specs.Accepted.{IsAccepted};
 ghost use Rattle.jc_natives.specs.Kept.{are_bytes, is_aid};
 
+use crate::checking::fit_packages_are_accepted;
 use jc_classes::superclass_laws;
 use jc_link::built_worlds_are_sound;
 use jc_machine::{Natives, accepted_worlds_grow, new_machines_are_typed};
@@ -37,8 +37,8 @@ fn parts_stay_typed()
 
 /// No command on a card of the defensive machine is stuck, whatever was done to the card before. A card that is new is
 /// typed. On a typed card each command gives an answer, and leaves a typed card: bytes of a reader, whatever they are;
-/// an install of whichever applet, with whichever AID and data; and a reset. So does a load behind which the packages
-/// are accepted. It does nothing.
+/// an install of whichever applet, with whichever AID and data; and a reset. A load of whatever bytes leaves one too,
+/// with whatever certificate. It does nothing.
 pub fn commands_are_never_stuck()
     ensures new { (limits : Limits) (binding : Bound) → limits.cells < 65536 → HasNoClash binding
         → IsTypedCard (new_card limits binding) }
@@ -49,9 +49,10 @@ pub fn commands_are_never_stuck()
         → GivesTyped (install_command c applet instance incoming) }
     ensures reset { (c : CardState) → IsTypedCard c → GivesTyped (reset_command c) }
     ensures load { (c after : CardState) (image certificate : List ℕ) (result : Result ℕ LoadFault) → IsTypedCard c
-        → IsLoad c image certificate result after → IsAccepted after.world → IsTypedCard after }
+        → are_bytes image ≡ true → IsLoad c image certificate result after → IsTypedCard after }
 {
     parts_stay_typed();
+    fit_packages_are_accepted();
     loads_stay_typed(&Runtime::new());
     calls_keep_fitting();
     loads_keep_fitting();

@@ -1,5 +1,5 @@
 -- Commands on the card, as the defensive machine does them.
-use Rattle.std.proofs.Common.{◌≡◌, ℕ, List, Option, Some, None, Result, Ok, Err, refl, ap}
+use Rattle.std.proofs.Common.{◌≡◌, ℕ, true, List, Option, Some, None, Result, Ok, Err, refl, ap}
 use Rattle.jc_card.specs.Card.{CardState}
 use Rattle.jc_card.specs.Commands.{Response, apdu_command}
 use Rattle.jc_card.specs.Install.{HasNumber, Installed as Outcome, Refused, install_command}
@@ -7,6 +7,7 @@ use Rattle.jc_card.specs.Parts.{Left}
 use Rattle.jc_card.specs.Reads.{CardWords, Holds, IsDone, ReadsInstalled, ReadsResponse}
 use Rattle.jc_card.specs.declared.answer.Answer.{Answer}
 use Rattle.jc_card.specs.declared.fault.InstallFault.{InstallFault}
+use Rattle.jc_natives.specs.Kept.{are_bytes}
 use Rattle.jc_run.specs.Answer.{Answered, Installed, NotInstalled, Responds, shown_response}
 use Rattle.jc_run.specs.Play.{install_answer}
 use Rattle.jc_run.specs.Performs.{Answers}
@@ -80,14 +81,15 @@ apdu_done images certificates c command bytes answer after is h =
 
 pub load_done : (images certificates : List ℕ → List ℕ → Type 0) (c : CardState) (command : ScriptCommand)
     (folder certificate image bytes : List ℕ) (answer : Answered) (after : CardWords)
-    → command ≡ Load folder certificate → images folder image → certificates certificate bytes
+    → command ≡ Load folder certificate → images folder image → are_bytes image ≡ true → certificates certificate bytes
     → LoadsAs c image bytes answer after → Answers images certificates c command answer after
-load_done images certificates c command folder certificate image bytes answer after is held bytes_held l =
+load_done images certificates c command folder certificate image bytes answer after is held low bytes_held l =
     rw is (record {
       card = l.card;
       answered = record {
         image = image;
         image_held = held;
+        image_is_bytes = low;
         bytes = bytes;
         bytes_held = bytes_held;
         result = l.result;

@@ -9,10 +9,9 @@ use Rattle.jc_card.specs.Install.{install_command}
 use Rattle.jc_card.specs.Load.{IsLoad}
 use Rattle.jc_card.specs.Parts.{Left}
 use Rattle.jc_card.specs.Typed.{GivesTyped, IsTypedCard}
-use Rattle.jc_machine.specs.Accepted.{IsAccepted}
 use Rattle.jc_natives.specs.Kept.{are_bytes, is_aid}
 use Rattle.jc_run.specs.Answer.{Answered}
-use Rattle.jc_run.specs.NeverStuck.{GoesOn, LeavesAccepted, NeverStuck, is_of_bytes}
+use Rattle.jc_run.specs.NeverStuck.{GoesOn, NeverStuck, is_of_bytes}
 use Rattle.jc_run.specs.Play.{IsAnswered, IsGiven}
 use Rattle.jc_script.specs.Script.{Apdu, Cells, Install, Load, Objects, Reset, ScriptCommand}
 
@@ -25,7 +24,7 @@ pub record TypedLaws : Type 0 where
       → GivesTyped (install_command c applet instance incoming)
   pub reset : (c : CardState) → IsTypedCard c → GivesTyped (reset_command c)
   pub load : (c after : CardState) (image certificate : List ℕ) (result : Result ℕ LoadFault) → IsTypedCard c
-      → IsLoad c image certificate result after → IsAccepted after.world → IsTypedCard after
+      → are_bytes image ≡ true → IsLoad c image certificate result after → IsTypedCard after
 
 gives_some : {A : Type 0} (done : Option (Left A)) → GivesTyped done → IsSome done
 gives_some None h = absurd h
@@ -59,18 +58,18 @@ module _ (laws : TypedLaws) (images certificates : List ℕ → List ℕ → Typ
 
   stays_typed : (c : CardState) → IsTypedCard c → (command : ScriptCommand) → is_of_bytes command ≡ true
       → (answer : Answered) (after : CardState) → IsAnswered images certificates c command answer after
-      → LeavesAccepted command after → IsTypedCard after
-  stays_typed c t (Load folder certificate) e answer after h accepted =
-      laws.load c after h.image h.bytes h.result t h.load accepted
-  stays_typed c t (Install applet instance incoming) e answer after h accepted =
+      → IsTypedCard after
+  stays_typed c t (Load folder certificate) e answer after h =
+      laws.load c after h.image h.bytes h.result t h.image_is_bytes h.load
+  stays_typed c t (Install applet instance incoming) e answer after h =
       given_typed (install_command c applet instance incoming) _ answer after
       (installed c t applet instance incoming e) h
-  stays_typed c t (Apdu bytes) e answer after h accepted =
+  stays_typed c t (Apdu bytes) e answer after h =
       given_typed (apdu_command c bytes) _ answer after (laws.apdu c t bytes e) h
-  stays_typed c t Reset e answer after h accepted =
+  stays_typed c t Reset e answer after h =
       given_typed (reset_command c) _ answer after (laws.reset c t) h
-  stays_typed c t Cells e answer after h accepted = rw h.1 t
-  stays_typed c t Objects e answer after h accepted = rw h.1 t
+  stays_typed c t Cells e answer after h = rw h.1 t
+  stays_typed c t Objects e answer after h = rw h.1 t
 
   pub never_stuck : (commands : List ScriptCommand) → list_all is_of_bytes commands ≡ true → (c : CardState)
       → IsTypedCard c → NeverStuck images certificates commands c
@@ -78,6 +77,5 @@ module _ (laws : TypedLaws) (images certificates : List ℕ → List ℕ → Typ
   never_stuck (command ∷ commands) e c t =
       let parts = and_parts (is_of_bytes command) (list_all is_of_bytes commands) e in (
         goes_on c t command parts.0,
-        λ answer after h accepted.
-            never_stuck commands parts.1 after (stays_typed c t command parts.0 answer after h accepted),
+        λ answer after h. never_stuck commands parts.1 after (stays_typed c t command parts.0 answer after h),
       )

@@ -32,6 +32,7 @@ module _ (images certificates older old : List ℕ → List ℕ → Type 0) (sam
   answered_as c (Load folder certificate) answer after h = record {
     image = h.image;
     image_held = same_images.already _ _ h.image_held;
+    image_is_bytes = h.image_is_bytes;
     bytes = h.bytes;
     bytes_held = same_certificates.already _ _ h.bytes_held;
     result = h.result;

@@ -5,7 +5,6 @@ use Rattle.std.specs.List.{list_all}
 use Rattle.jc_card.specs.Card.{CardState}
 use Rattle.jc_card.specs.Commands.{apdu_command, reset_command}
 use Rattle.jc_card.specs.Install.{install_command}
-use Rattle.jc_machine.specs.Accepted.{IsAccepted}
 use Rattle.jc_natives.specs.Kept.{are_bytes, is_aid}
 use Rattle.jc_run.specs.Answer.{Answered}
 use Rattle.jc_run.specs.Play.{IsAnswered}
@@ -29,22 +28,12 @@ GoesOn c Reset = IsSome (reset_command c)
 GoesOn c Cells = ⊤
 GoesOn c Objects = ⊤
 
--- behind a load the packages of the card are accepted; each other command leaves them
-abbrev pub LeavesAccepted : ScriptCommand → CardState → Type 0
-LeavesAccepted (Load folder certificate) after = IsAccepted after.world
-LeavesAccepted (Install applet instance incoming) after = ⊤
-LeavesAccepted (Apdu bytes) after = ⊤
-LeavesAccepted Reset after = ⊤
-LeavesAccepted Cells after = ⊤
-LeavesAccepted Objects after = ⊤
-
 -- commands one behind the other: none is stuck, on whatever card those before it may leave
 abbrev pub NeverStuck : (images certificates : List ℕ → List ℕ → Type 0) → List ScriptCommand → CardState → Type 0
 NeverStuck images certificates [] c = ⊤
 NeverStuck images certificates (command ∷ commands) c =
     GoesOn c command × ((answer : Answered) (after : CardState)
-    → IsAnswered images certificates c command answer after → LeavesAccepted command after
-    → NeverStuck images certificates commands after)
+    → IsAnswered images certificates c command answer after → NeverStuck images certificates commands after)
 
 -- so is any list of commands on a card
 abbrev pub IsNeverStuck : (images certificates : List ℕ → List ℕ → Type 0) → CardState → Type 0

@@ -1,6 +1,6 @@
 -- What a command is answered by the card of the defensive machine, and how a script may end. What the source of
 -- packages holds is two relations: the image of a package under a name, and the bytes of a certificate.
-use Rattle.std.specs.Prelude.{◌≡◌, ◌+◌, ℕ, nat_lt, List, [], ◌∷◌, ◌++◌, length, Option, Some, Result, Ok, Err}
+use Rattle.std.specs.Prelude.{◌≡◌, ◌+◌, ℕ, nat_lt, true, List, [], ◌∷◌, ◌++◌, length, Option, Some, Result, Ok, Err}
 use Rattle.std.specs.Prelude.{if◌then◌else◌}
 use Rattle.jc_base.specs.declared.fault.LoadFault.{LoadFault}
 use Rattle.jc_card.specs.Card.{CardState}
@@ -8,6 +8,7 @@ use Rattle.jc_card.specs.Commands.{apdu_command, reset_command}
 use Rattle.jc_card.specs.Install.{HasNumber, Installed as Outcome, Refused, install_command}
 use Rattle.jc_card.specs.Load.{IsLoad}
 use Rattle.jc_card.specs.Parts.{Left}
+use Rattle.jc_natives.specs.Kept.{are_bytes}
 use Rattle.jc_packages.specs.Source.{Asked, Certificate, Image}
 use Rattle.jc_run.specs.Answer as answers
 use Rattle.jc_run.specs.Answer.{Answered, Installed, Loaded, NotInstalled, NotLoaded, Responds, WasReset, line_of}
@@ -27,11 +28,12 @@ abbrev pub install_answer : Outcome → Answered
 install_answer (HasNumber number) = Installed number
 install_answer (Refused fault) = NotInstalled fault
 
--- the image and the certificate that are held under two names are loaded
+-- the image and the certificate that are held under two names are loaded; the image is bytes
 pub record IsLoadAnswered (images certificates : List ℕ → List ℕ → Type 0) (c : CardState)
     (folder certificate : List ℕ) (answer : Answered) (after : CardState) : Type 0 where
   pub image : List ℕ
   pub image_held : images folder image
+  pub image_is_bytes : are_bytes image ≡ true
   pub bytes : List ℕ
   pub bytes_held : certificates certificate bytes
   pub result : Result ℕ LoadFault

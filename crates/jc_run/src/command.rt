@@ -1,12 +1,13 @@
 //! One command on a card.
 
-ghost use Rattle.std.specs.Prelude.{◌≡◌, ◌+◌, ◌<◌, ◌^◌, ◌∷◌, [], IfOk, IfErr, OnErr, OnOk, length};
+ghost use Rattle.std.specs.Prelude.{◌≡◌, ◌+◌, ◌<◌, ◌^◌, ◌∷◌, [], IfOk, IfErr, OnErr, OnOk, length, true};
 ghost use Rattle.jc_run.specs.Answer as answers;
 ghost use Rattle.jc_store.specs.Heap.{cells_in};
 ghost use Rattle.jc_card.specs.Card.{CardState};
 ghost use Rattle.jc_card.specs.Commands.{apdu_command};
 ghost use Rattle.jc_card.specs.Install.{install_command};
 ghost use Rattle.jc_card.specs.Reads.{Does, Holds};
+ghost use Rattle.jc_natives.specs.Kept.{are_bytes};
 ghost use Rattle.jc_packages.specs.Source.{Asks, Certificate, HoldSame, IfFailed, Image, failures_in};
 ghost use Rattle.jc_run.specs.Answer.{Responds, shown};
 ghost use Rattle.jc_run.specs.Play.{IsFailing, install_answer};
@@ -16,7 +17,7 @@ ghost use Rattle.jc_script.specs.Shown.{shown_command};
 
 use crate::answer::CommandAnswer;
 use jc_base::Aid;
-use jc_card::Card;
+use jc_card::{Card, bytes_are_low};
 use jc_packages::{PackageSource, SourceFault};
 use jc_script::ScriptCommand;
 use std::alloc::Global;
@@ -37,6 +38,7 @@ fn files_of<S: PackageSource>(
 ) -> Result<PackageFiles, SourceFault>
     requires { S.failed source.old < 2 ^ 31 }
     ensures image { IfOk result (λ files. S.holds_image source.old folder.now files.image.items) }
+    ensures bytes { IfOk result (λ files. are_bytes files.image.items ≡ true) }
     ensures certificate { IfOk result (λ files.
         S.holds_certificate source.old certificate.now files.certificate.items) }
     ensures asks { OnOk result (Asks (S.asked source.old) (S.asked source.new)
@@ -48,6 +50,7 @@ fn files_of<S: PackageSource>(
 {
     let image = source.image(alloc, folder)?;
     let certificate = source.certificate(alloc, certificate)?;
+    bytes_are_low(&image);
     Ok(PackageFiles { image, certificate })
 }
 

@@ -1,11 +1,8 @@
-use Rattle.std.proofs.Common.{Err, ◌∙◌, sym, ap, subst}
+use Rattle.std.proofs.Common.{◌≤◌, Err, ◌∙◌, sym, ap, subst}
 use Rattle.std.proofs.lemmas.Result.{err_from_is_err_and}
-use Rattle.jc_link.specs.Linked.{IsBoundTo}
-use Rattle.jc_machine.specs.Accepted.{HaveByteTokens}
-use Rattle.jc_check.specs.Checked.{IsPackageCarried, IsPackageTyped}
-use Rattle.jc_classes.specs.Limits.{IsSmall}
-use Rattle.jc_card.specs.Load.{AreSpelled, IsLinkedBehind}
-use Rattle.jc_card.proofs.Checked.{is_cut, uncarried, uncut, unlinked, unspelled}
+use Rattle.jc_link.specs.Linked.{most_in_world}
+use Rattle.jc_card.specs.Load.{AreSpelled, IsFit, IsLinkedBehind}
+use Rattle.jc_card.proofs.Checked.{is_cut, is_fit, uncarried, uncut, unlinked, unspelled}
 use Rattle.jc_card.proofs.checking.checked.Goals as goal
 
 pub returns-in_err-cut-clause-unfit : goal.returns-in_err-cut-clause-unfit
@@ -49,14 +46,12 @@ returns-in_err-check-clause-unfit c =
 
 pub returns-clause-accepted : goal.returns-clause-accepted
 returns-clause-accepted c accepted =
-    let l = c.into_linked-linked.result in
-    let same = c.into_linked-linked.ensures.linked ∙ c.in_ok-check.ensures.accepted.0 in
-    let bound = subst (IsBoundTo c.args.world.now) (sym same) c.in_ok-linked.ensures.bound in
-    let small = subst IsSmall c.table.ensures.table c.len-count.ensures.small in
-    let pool = c.as_slice.ensures.value
-    ∙ ap (λ k. k.pool) (c.behind-body.view_is ∙ c.kept.ensures ∙ ap (λ b. b.kept) c.body.ensures.body) in
-    let tokens = subst HaveByteTokens pool c.tokens_are_bytes.ensures in
-    c.accepted_worlds_grow.ensures.grown c.args.world.now l accepted bound
-    (record { built = c.table.ensures.built; known = c.table.ensures.known }) small tokens
-    (subst IsPackageCarried (sym c.into_linked-linked.ensures.linked) c.into_linked-linked.ensures.carried)
-    (subst IsPackageTyped (sym c.into_linked-linked.ensures.linked) c.into_linked-linked.ensures.typed)
+    let before = c.args.world.now.shapes in
+    let same = c.into_linked.ensures.linked ∙ c.in_ok-check.ensures.accepted.0 in
+    let fits = subst (IsFit before c.args.image.now c.args.certificate.now) (sym same)
+    (is_fit before c.args.image.now c.args.certificate.now c.in_ok-linked.linked c.in_ok-cut.field-0 c.in_ok-rows.rows
+    c.in_ok-cut.ensures.found c.in_ok-linked.ensures.linked c.in_ok-rows.ensures.found
+    c.in_ok-check.ensures.accepted.1) in
+    let few = subst (λ n. n ≤ most_in_world) c.len-count.ensures.count c.len-count.ensures.most in
+    c.fit_packages_are_accepted.ensures c.args.world.now accepted few c.args.image.now c.args.certificate.now
+    c.bytes_are_low.ensures c.into_linked.result fits

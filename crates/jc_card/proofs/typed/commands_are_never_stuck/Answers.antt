@@ -22,4 +22,5 @@ pub returns-clause-reset : goal.returns-clause-reset
 returns-clause-reset c = reset_typed c.parts_stay_typed.ensures
 
 pub returns-clause-load : goal.returns-clause-load
-returns-clause-load c = load_typed c.loads_stay_typed.ensures c.loads_keep_fitting.ensures
+returns-clause-load c =
+    load_typed c.fit_packages_are_accepted.ensures c.loads_stay_typed.ensures c.loads_keep_fitting.ensures

@@ -6,7 +6,8 @@ use Rattle.jc_run.proofs.command.perform.Goals as goal
 pub returns-in_ok-files-in-Load-clause-done : goal.returns-in_ok-files-in-Load-clause-done
 returns-in_ok-files-in-Load-clause-done g c = λ t h.
     let files = c.in_ok-files-in-Load.ensures in
-    load_done _ _ t _ _ _ _ _ _ _ (ap shown_command c.in-Load.is) files.image files.certificate (c.load.ensures t h)
+    load_done _ _ t _ _ _ _ _ _ _ (ap shown_command c.in-Load.is) files.image files.bytes files.certificate
+    (c.load.ensures t h)
 
 pub returns-in-Install-clause-done : goal.returns-in-Install-clause-done
 returns-in-Install-clause-done g c = λ t h. install_done _ _ t _ _ _ _ _ _

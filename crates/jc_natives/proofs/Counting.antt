@@ -16,8 +16,8 @@ use Rattle.jc_natives.specs.PrivateApdus.{apdu_work, is_in_buffer, sends}
 use Rattle.jc_natives.specs.PrivateApplets.{allowed, applet_work, on_allowed, registers}
 use Rattle.jc_natives.specs.Cells.{extended, has_room, is_count}
 use Rattle.jc_natives.specs.Counted.{LeavesNumbers}
-use Rattle.jc_natives.specs.Kept.{Kept, has_aid_length, instance_with, is_fresh, is_incoming, is_length_set, is_outgoing}
-use Rattle.jc_natives.specs.Kept.{most_sent}
+use Rattle.jc_natives.specs.Kept.{Kept, has_aid_length, instance_with, is_fresh, is_incoming, is_length_set}
+use Rattle.jc_natives.specs.Kept.{is_outgoing, most_sent}
 use Rattle.jc_natives.specs.Meaning.{answer_of, array_or_refusal, done, meaning, unchanged, with_room}
 use Rattle.jc_natives.specs.Members.{natives}
 use Rattle.jc_natives.specs.PrivateCells.{argument}

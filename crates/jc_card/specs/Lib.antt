@@ -6,6 +6,8 @@ pub mod Commands
 pub mod Install
 pub mod Order
 pub mod Accesses
+pub mod PrivateGuarded
+pub mod PrivateTyped
 pub mod Typed
 pub mod Reads
 pub mod PrivateWords

@@ -2,12 +2,9 @@
 use Rattle.std.proofs.Common.{◌≡◌, ℕ, suc, ◌<◌, ◌≤◌, ◌&&◌, List, [], ◌∷◌, get_or, length, nat_le, Bool, true, refl}
 use Rattle.std.proofs.Common.{ap, ◌∙◌, arith}
 use Rattle.std.proofs.lemmas.Bool.{le-leb, lt-ltb}
-use Rattle.jc_link.specs.Linked.{World}
 use Rattle.jc_names.specs.declared.owner.Owner.{Owner}
 use Rattle.jc_natives.specs.Kept.{Kept, are_bytes, is_aid, with_install}
 use Rattle.jc_natives.specs.Meaning.{meaning}
-use Rattle.jc_store.specs.Heap.{Heap}
-use Rattle.jc_words.specs.Values.{TaggedValue}
 use Rattle.jc_card.proofs.TypedCards.{kept_typed}
 use Rattle.jc_card.specs.Card.{CardState, with_kept}
 use Rattle.jc_card.specs.Parts.{gives}

@@ -2,21 +2,17 @@
 use Rattle.std.proofs.Common.{nat_lt, length, is_some, ◌≡◌, ℕ, Bool, true, false, cond, List, [], Option, Some, None}
 use Rattle.std.proofs.Common.{IfSome, refl, sym, ◌∙◌, subst, ◌∷◌, suc}
 use Rattle.std.specs.Option.{option_and_then, option_map, option_map_or}
-use Rattle.jc_machine.specs.Machine.{Touch}
-use Rattle.jc_names.specs.declared.name.MethodName.{MethodName}
 use Rattle.jc_names.specs.declared.owner.Owner.{Owner}
 use Rattle.jc_machine.specs.Runtime.{apdu_buffer, install_array}
 use Rattle.jc_natives.specs.declared.kept.Instance.{Instance}
-use Rattle.jc_safety.specs.Starting.{method_for}
 use Rattle.jc_store.specs.Heap.{Object, object_at}
 use Rattle.jc_store.specs.declared.kind.ClearingEvent.TheVariants as events
-use Rattle.jc_words.specs.Values.{Ref, TaggedValue}
-use Rattle.jc_card.specs.Card.{CardState, selected_instance, with_selected}
+use Rattle.jc_words.specs.Values.{TaggedValue}
+use Rattle.jc_card.specs.Card.{CardState, with_selected}
 use Rattle.jc_card.specs.Commands as commands
 use Rattle.jc_card.specs.Install as installs
-use Rattle.jc_card.specs.Parts.{Ended, Left, Normally, and_then, arguments_of, behind, call_applet, call_method}
-use Rattle.jc_card.specs.Parts.{call_on, call_selected, clear, gives, member_called}
-use Rattle.jc_card.specs.declared.calls.AppletCall.{AppletCall}
+use Rattle.jc_card.specs.Parts.{Left, and_then, behind}
+use Rattle.jc_card.specs.Parts.{call_selected, clear, gives}
 use Rattle.jc_card.specs.declared.calls.AppletCall.TheVariants as calls
 use Rattle.jc_card.specs.declared.fault.InstallFault.{InstallFault}
 use Rattle.jc_card.specs.declared.fault.InstallFault.TheVariants as faults
@@ -29,12 +25,10 @@ use Rattle.jc_cap_data.specs.declared.applets.Applet.{Applet}
 use Rattle.jc_link.specs.Linked.{LinkedBody}
 use Rattle.jc_machine.specs.Apart.{is_applets}
 use Rattle.jc_machine.specs.Runtime.{most_instances}
-use Rattle.jc_machine.specs.Step.{Called, CallEnd, Gave, RanOut, Threw, WasStuck}
 use Rattle.jc_natives.specs.Apart.{installs_applet, names_applets}
 use Rattle.jc_natives.specs.Kept.{Kept, instance_of, instance_with, is_instance_number, is_same_owner}
 use Rattle.jc_store.specs.declared.kind.Mark.TheVariants.{Plain}
 use Rattle.jc_card.specs.Accesses.{IsApartCard}
-use Rattle.jc_card.specs.Parts.{call_applet, ended, ended_call}
 
 -- ---- whose an instance is
 

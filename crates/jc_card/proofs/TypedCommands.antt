@@ -8,14 +8,11 @@ use Rattle.jc_machine.specs.Machine.{Touch}
 use Rattle.jc_machine.specs.Runtime.{apdu_buffer, install_array, most_instances}
 use Rattle.jc_names.specs.declared.name.MethodName.TheVariants.{Loaded}
 use Rattle.jc_names.specs.declared.owner.Owner.{Owner}
-use Rattle.jc_natives.specs.Kept.{Kept, after_install, are_bytes, instance_with, is_aid, with_command, with_install}
+use Rattle.jc_natives.specs.Kept.{after_install, are_bytes, instance_with, is_aid, with_command, with_install}
 use Rattle.jc_natives.specs.Kept.{without_command}
-use Rattle.jc_natives.specs.Meaning.{meaning}
 use Rattle.jc_natives.specs.declared.kept.Instance.{Instance}
-use Rattle.jc_store.specs.Heap.{Heap}
 use Rattle.jc_store.specs.declared.kind.ClearingEvent.{ClearingEvent}
 use Rattle.jc_store.specs.declared.kind.ClearingEvent.TheVariants as events
-use Rattle.jc_words.specs.Values.{TaggedValue}
 use Rattle.jc_card.proofs.Bytes.{AreLow, IsCommand, buffer_low, bytes_low, command_is, parameters_low}
 use Rattle.jc_card.proofs.Bytes.{parameters_short}
 use Rattle.jc_card.proofs.Finding.{place_known}

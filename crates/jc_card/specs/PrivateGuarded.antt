@@ -1,5 +1,5 @@
 -- The laws by which the parts of commands are guarded, as one record.
-use Rattle.std.specs.Prelude.{◌≡◌, ◌∷◌, ℕ, Bool, List, Some, map, true}
+use Rattle.std.specs.Prelude.{◌≡◌, ℕ, Bool, List, Some, map, true}
 use Rattle.jc_cap_desc.specs.Shape.{Shape}
 use Rattle.jc_link.specs.Built.{IsBuilt}
 use Rattle.jc_machine.specs.Apart.{AreNativesApart, HaveApiMembers, IsApart, IsSetApart, StaysApart, is_applets}

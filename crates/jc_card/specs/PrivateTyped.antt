@@ -1,5 +1,5 @@
 -- The laws by which cards stay typed, as records.
-use Rattle.std.specs.Prelude.{◌≡◌, ◌<◌, ◌≤◌, ℕ, suc, Bool, List, Option, Some, None, length, true}
+use Rattle.std.specs.Prelude.{◌≡◌, ◌<◌, ◌≤◌, ℕ, suc, Bool, List, Some, None, length, true}
 use Rattle.jc_api.specs.Member.{ApiMember, member_of}
 use Rattle.jc_api.specs.declared.class.ApiClass.TheVariants.{Object as ObjectClass}
 use Rattle.jc_cap_desc.specs.Shape.{Shape}

@@ -1,9 +1,8 @@
 -- Where the accesses of a call of the runtime's lead.
 use Rattle.std.proofs.Common.{◌≡◌, ℕ, zero, suc, ◌+◌, List, [], ◌∷◌, ◌++◌, length, Option, Some, None, Bool, true}
 use Rattle.std.proofs.Common.{false, cond, refl, ap, ◌∙◌, ◌&&◌, IfSome}
-use Rattle.jc_cap_desc.specs.Shape.{Shape}
 use Rattle.jc_link.specs.Built.{IsBuilt}
-use Rattle.jc_machine.specs.Apart.{AreNativesApart, HaveApiMembers, IsApart, IsApartAnswer, IsSetApart}
+use Rattle.jc_machine.specs.Apart.{IsApart, IsApartAnswer, IsSetApart}
 use Rattle.jc_machine.specs.Apart.{StaysApart, is_applets}
 use Rattle.jc_natives.specs.Apart.{names_applets}
 use Rattle.std.proofs.Common.{append-nil, sym, subst}
@@ -21,15 +20,12 @@ use Rattle.jc_classes.specs.Members.{DeclaredMethod}
 use Rattle.jc_cap_method.specs.declared.header.MethodHeader.{MethodHeader}
 use Rattle.jc_link.specs.Linked.{World}
 use Rattle.jc_machine.specs.Calls.{frame_of, has_room, native_may_begin, native_type}
-use Rattle.jc_machine.specs.Guarded.{AddsFor, IsGuarded, machine_of}
-use Rattle.jc_machine.specs.Machine.{StaticValue}
-use Rattle.jc_machine.specs.Storable.{FieldsHoldStorable, HoldStorable, may_be_held}
-use Rattle.jc_natives.specs.Cells.{put_all}
-use Rattle.std.proofs.Common.{map}
+use Rattle.jc_machine.specs.Guarded.{machine_of}
+use Rattle.jc_machine.specs.Storable.{FieldsHoldStorable}
 use Rattle.jc_machine.specs.Lookup.{is_given, is_throwable, declared_at}
 use Rattle.jc_machine.specs.Machine.{Calls, Ends, Frame, Gives, IsStuck, Machine, MethodPlace, NativeAnswer, NativeCall}
 use Rattle.jc_machine.specs.Machine.{NativeEnd, Next, Outcome, Stuck, Surroundings, Throws, ThrowsObject, Touch, UsedUp}
-use Rattle.jc_machine.specs.Natives.{AreNativesGuarded, IsGuardedAnswer, KeepsObjects}
+use Rattle.jc_machine.specs.Natives.{IsGuardedAnswer}
 use Rattle.jc_machine.specs.Step.{Called, CallEnd, Gave, RanOut, Start, Threw, WasStuck, after_first_native, begun}
 use Rattle.jc_machine.specs.Step.{begun_by, called_so_far, continued, defensive_step, ended_by, first_answer, may_begin}
 use Rattle.jc_machine.specs.Step.{native_called, native_ended, native_started, no_frame, point_of, room_lacking}
@@ -40,10 +36,10 @@ use Rattle.jc_names.specs.declared.name.ClassName.{ClassName}
 use Rattle.jc_names.specs.declared.name.MethodName.{MethodName}
 use Rattle.jc_names.specs.declared.name.MethodName.TheVariants.{Api, Loaded}
 use Rattle.jc_names.specs.declared.owner.Owner.{Owner}
-use Rattle.jc_natives.specs.Kept.{Kept, after_install, is_instance_number, with_command, with_install, without_command}
+use Rattle.jc_natives.specs.Kept.{Kept}
 use Rattle.jc_natives.specs.Meaning.{meaning}
-use Rattle.jc_store.specs.Heap.{Heap, Object, object_at}
-use Rattle.jc_words.specs.Values.{TaggedValue, Word}
+use Rattle.jc_store.specs.Heap.{Object, object_at}
+use Rattle.jc_words.specs.Values.{TaggedValue}
 use Rattle.jc_card.proofs.Leading.{IsPart}
 use Rattle.jc_card.specs.Order.Leads.{by_call}
 use Rattle.jc_card.specs.Card.{CardState, around}

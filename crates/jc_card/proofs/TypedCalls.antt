@@ -6,20 +6,14 @@ use Rattle.std.proofs.lemmas.Bool.{and_parts}
 use Rattle.std.specs.Option.{option_and_then, option_map, option_map_or}
 use Rattle.jc_api.specs.Member.{ApiMember, member_of}
 use Rattle.jc_api.specs.declared.class.ApiClass.{ApiClass}
-use Rattle.jc_api.specs.declared.class.ApiClass.TheVariants.{Apdu, Applet, Object as ObjectClass}
+use Rattle.jc_api.specs.declared.class.ApiClass.TheVariants.{Apdu, Applet}
 use Rattle.jc_api.specs.declared.member.MemberKind.TheVariants.{Virtual}
 use Rattle.jc_base.specs.declared.declared_type.DeclaredType.{DeclaredType}
 use Rattle.jc_base.specs.declared.declared_type.DeclaredType.TheVariants.{Reference}
 use Rattle.jc_cap_desc.specs.Shape.{Shape}
-use Rattle.jc_classes.specs.Limits.{IsSmall}
-use Rattle.jc_classes.specs.Subtype.{IsOrder, IsOrderly, is_class_below}
-use Rattle.jc_classes.specs.World.{superclass_of}
-use Rattle.jc_link.specs.Built.{IsBuilt}
-use Rattle.jc_link.specs.Sound.{IsSound}
-use Rattle.jc_machine.specs.Calls.{type_of_member}
+use Rattle.jc_classes.specs.Subtype.{is_class_below}
 use Rattle.jc_machine.specs.Lookup.{are_of_types, is_of_class, is_of_type}
 use Rattle.jc_machine.specs.Machine.{Surroundings, Touch}
-use Rattle.jc_machine.specs.Natives.{IsLawful}
 use Rattle.jc_machine.specs.Running.{MayRun}
 use Rattle.jc_machine.specs.Runtime.{HasRuntimeObject, apdu_object, temporary}
 use Rattle.jc_machine.specs.Step.{CallEnd, Called, Gave, RanOut, Start, Threw, WasStuck, no_frame, runtime_call}
@@ -31,7 +25,7 @@ use Rattle.jc_names.specs.declared.name.MethodName.{MethodName}
 use Rattle.jc_names.specs.declared.name.MethodName.TheVariants.{Loaded}
 use Rattle.jc_names.specs.declared.owner.Owner.{Owner}
 use Rattle.jc_natives.specs.Kept.{Kept, is_aid, is_instance_number}
-use Rattle.jc_natives.specs.Meaning.{fits_instance, has_applet, meaning}
+use Rattle.jc_natives.specs.Meaning.{fits_instance, has_applet}
 use Rattle.jc_natives.specs.MemberTypes.{declared_signature}
 use Rattle.jc_natives.specs.declared.kept.Instance.{Instance}
 use Rattle.jc_safety.specs.Safety.{EndsTyped}

@@ -1,6 +1,6 @@
 -- The card behind a part of a command stays typed: behind a call, behind what the runtime writes and clears, where it
 -- keeps something else, and behind a load. And a new card is typed.
-use Rattle.std.proofs.Common.{◌≡◌, ℕ, suc, ◌+◌, ◌<◌, List, [], ◌∷◌, ◌++◌, ◌&&◌, get_or, length, map, Bool, true}
+use Rattle.std.proofs.Common.{◌≡◌, ℕ, suc, ◌+◌, ◌<◌, ◌≤◌, List, [], ◌∷◌, ◌++◌, ◌&&◌, get_or, length, map, Bool, true}
 use Rattle.std.proofs.Common.{false, cond, nat_le, nat_lt, Option, Some, None, Result, Ok, Err, sym, subst, arith}
 use Rattle.std.proofs.lemmas.Bool.{and_parts, leb-true, ltb-true}
 use Rattle.std.specs.List.{find, list_all}

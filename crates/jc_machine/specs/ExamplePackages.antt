@@ -6,7 +6,7 @@ use Rattle.jc_base.specs.Signature.{Signature}
 use Rattle.jc_base.specs.declared.class_ref.ClassRef.{ClassRef}
 use Rattle.jc_base.specs.declared.class_ref.ClassRef.TheVariants.{External, Internal}
 use Rattle.jc_base.specs.declared.declared_type.DeclaredType.{DeclaredType}
-use Rattle.jc_base.specs.declared.declared_type.DeclaredType.TheVariants.{Reference, Short}
+use Rattle.jc_base.specs.declared.declared_type.DeclaredType.TheVariants.{ByteArray, Reference, Short}
 use Rattle.jc_base.specs.declared.declared_type.ReturnType.TheVariants.{Value}
 use Rattle.jc_base.specs.declared.package_info.PackageInfo.{PackageInfo}
 use Rattle.jc_cap_class.specs.Interfaces.{Implemented}
@@ -171,8 +171,9 @@ probe_class = a_class 0 object_ref 0 [] [] [] (
     probe_of 200 ∷ probe_of 210 ∷ probe_of 220 ∷ a_method 230 0 true (Reference (Internal 0) ∷ []) 1 0 1
     ∷ probe_of 240 ∷ probe_of 250
     ∷ probe_of 260
+    ∷ a_method 270 0 true [] 1 0 1 ∷ a_method 290 0 true (ByteArray ∷ []) 1 0 2
     ∷ a_method 1 0 true [] 0 1 1 ∷ a_method 130 0 true [] 0 0 0
-    ∷ probes (10 ∷ 20 ∷ 30 ∷ 40 ∷ 50 ∷ 60 ∷ 70 ∷ 80 ∷ 100 ∷ 120 ∷ 140 ∷ 160 ∷ 180 ∷ []))
+    ∷ probes (10 ∷ 20 ∷ 30 ∷ 40 ∷ 50 ∷ 60 ∷ 70 ∷ 80 ∷ 100 ∷ 120 ∷ 140 ∷ 160 ∷ 180 ∷ 280 ∷ []))
 
 abbrev pub open_class : ClassShape
 open_class = a_class 30 object_ref 0 (300 ∷ []) [] [] (record {
@@ -199,7 +200,8 @@ abbrev pub probe : Package
 probe = a_package 1 (default_framework ∷ default_lang ∷ []) []
     (probe_class ∷ open_class ∷ asked_interface ∷ mistaken_class ∷ [])
     (Classref (Internal 0) ∷ VirtualMethodref (record { class = Internal 30; token = 1 })
-    ∷ StaticMethodref (places.Internal 230) ∷ StaticMethodref (places.Internal 140) ∷ Classref (Internal 50) ∷ [])
+    ∷ StaticMethodref (places.Internal 230) ∷ StaticMethodref (places.Internal 140) ∷ Classref (Internal 50)
+    ∷ StaticMethodref (places.Internal 270) ∷ [])
     (code 1 (0x04 ∷ 0x04 ∷ 0x78 ∷ []) []  -- an operand more than the one that it may have
     ∷ code 10 (0x78 ∷ []) []  -- an operand is missing
     ∷ code 20 (0x1C ∷ 0x78 ∷ []) []  -- local 0 was never written
@@ -225,6 +227,9 @@ probe = a_package 1 (default_framework ∷ default_lang ∷ []) []
     ∷ code 240 (0x18 ∷ 0x8B ∷ 0 ∷ 1 ∷ 0x78 ∷ []) []  -- a method that is abstract, or another class's
     ∷ code 250 (0x18 ∷ 0x94 ∷ 0 ∷ 0 ∷ 0 ∷ 0x3B ∷ 0x04 ∷ 0x78 ∷ []) []  -- a cast
     ∷ code 260 (0x18 ∷ 0x03 ∷ 0x8E ∷ 2 ∷ 0 ∷ 4 ∷ 0 ∷ 0x78 ∷ []) []  -- a method of Asked, on 0
+    ∷ code 270 (0x04 ∷ 0x78 ∷ []) []  -- a header that counts an argument more than its method takes
+    ∷ code 280 (0x8D ∷ 0 ∷ 5 ∷ 0x78 ∷ []) []  -- a call of it
+    ∷ code 290 (0x18 ∷ 0x03 ∷ 0x25 ∷ 0x78 ∷ []) []  -- component 0 of an array of bytes
     ∷ [])
 
 -- ---- a package that asks the runtime for the shareable object of an applet: a static method of JCSystem, and then 1

@@ -190,6 +190,14 @@ probed offset = run (probe ∷ []) 20 (start_of exceptions (owner 1 1) (Loaded 1
 abbrev pub probed_on : ℕ → ℕ → Shown
 probed_on class offset = run (probe ∷ []) 20 (start_of (with_served class) (owner 1 1) (Loaded 1 offset) (Ref 11 ∷ []))
 
+-- the runtime's exceptions, and an array of bytes with one component, which is number 11
+abbrev pub with_component : TaggedValue → Heap TaggedValue
+with_component v = exceptions ++ object ByteArray Plain (owner 1 1) (v ∷ []) ∷ []
+
+-- a probe that loads this component
+abbrev pub probed_with : TaggedValue → Shown
+probed_with v = run (probe ∷ []) 20 (start_of (with_component v) (owner 1 1) (Loaded 1 290) (Ref 11 ∷ []))
+
 -- ---- machines that stand somewhere
 
 -- the probe's method at 180, behind its first instruction, with an operand

@@ -11,7 +11,7 @@ ghost use Rattle.jc_firewall.specs.declared.access.Rule.TheVariants.{Fields};
 ghost use Rattle.jc_firewall.specs.declared.access.Verdict.TheVariants.{Allowed, AllowedSwitch, Denied};
 ghost use Rattle.jc_machine.specs.ExamplePackages.{asker, client, probe, server};
 ghost use Rattle.jc_machine.specs.Examples.{a_value, an_object, asking, exceptions, have_their_sizes, is_stuck_with};
-ghost use Rattle.jc_machine.specs.Examples.{owner, probed, probed_on, run, run_with, served_run};
+ghost use Rattle.jc_machine.specs.Examples.{owner, probed, probed_on, probed_with, run, run_with, served_run};
 ghost use Rattle.jc_machine.specs.Examples.{shown, start_of, stuck, touch, untouched, used_up, with_served};
 ghost use Rattle.jc_machine.specs.Idle.{idle};
 ghost use Rattle.jc_machine.specs.Typed.{IsOperand};
@@ -119,6 +119,9 @@ pub fn stuck_runs()
     ensures an_object_of_another_class { probed_on 0 240 ≡ untouched stuck }
     ensures a_first_argument_of_another_class { probed_on 30 230 ≡ untouched stuck }
     ensures a_first_argument_is_missing { probed 200 ≡ untouched stuck }
+    ensures a_first_header_counts_more { probed 270 ≡ untouched stuck }
+    ensures a_header_counts_more { probed 280 ≡ untouched stuck }
+    ensures a_component_of_another_tag { probed_with Null ≡ shown (touch 1 LoadComponent 11 Allowed ∷ []) stuck }
     ensures no_room_for_what_is_caught { probed 130 ≡ untouched stuck }
     ensures a_catch_type_is_missing { probed 160 ≡ untouched stuck }
     ensures a_native_argument_of_another_type { run_with idle (probe ∷ []) 20

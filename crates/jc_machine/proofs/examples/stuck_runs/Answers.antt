@@ -79,3 +79,30 @@ returns-clause-no_room_for_what_is_caught c = refl
 pub returns-clause-a_catch_type_is_missing : goal.returns-clause-a_catch_type_is_missing
 unfolding next_stable_switch next_lookup_switch next_wide_increment when_of next_wide_branch next_control next_branch operator_of next_arithmetic next_shuffle next_local next_constant next_word_operation next_operation instr_at word_kind_of next_tested_type next_creation next_interface next_invocation narrow_field_of wide_field_of next_narrow_field next_field reference_condition_of next_wide_condition next_condition next_array next_reference chain is_at_or_above those_to each_below room_to number_to most_classes run_with act_object act_at defensive_step steps_of runtime_call act_word
 returns-clause-a_catch_type_is_missing c = refl
+
+pub returns-clause-a_first_header_counts_more : goal.returns-clause-a_first_header_counts_more
+unfolding next_stable_switch next_lookup_switch next_wide_increment when_of next_wide_branch next_control next_branch
+    operator_of next_arithmetic next_shuffle next_local next_constant next_word_operation next_operation instr_at
+    word_kind_of next_tested_type next_creation next_interface next_invocation narrow_field_of wide_field_of
+    next_narrow_field next_field reference_condition_of next_wide_condition next_condition next_array next_reference
+    chain is_at_or_above those_to each_below room_to number_to most_classes run_with act_object act_at defensive_step
+    steps_of runtime_call act_word
+returns-clause-a_first_header_counts_more c = refl
+
+pub returns-clause-a_header_counts_more : goal.returns-clause-a_header_counts_more
+unfolding next_stable_switch next_lookup_switch next_wide_increment when_of next_wide_branch next_control next_branch
+    operator_of next_arithmetic next_shuffle next_local next_constant next_word_operation next_operation instr_at
+    word_kind_of next_tested_type next_creation next_interface next_invocation narrow_field_of wide_field_of
+    next_narrow_field next_field reference_condition_of next_wide_condition next_condition next_array next_reference
+    chain is_at_or_above those_to each_below room_to number_to most_classes run_with act_object act_at defensive_step
+    steps_of runtime_call act_word
+returns-clause-a_header_counts_more c = refl
+
+pub returns-clause-a_component_of_another_tag : goal.returns-clause-a_component_of_another_tag
+unfolding next_stable_switch next_lookup_switch next_wide_increment when_of next_wide_branch next_control next_branch
+    operator_of next_arithmetic next_shuffle next_local next_constant next_word_operation next_operation instr_at
+    word_kind_of next_tested_type next_creation next_interface next_invocation narrow_field_of wide_field_of
+    next_narrow_field next_field reference_condition_of next_wide_condition next_condition next_array next_reference
+    chain is_at_or_above those_to each_below room_to number_to most_classes run_with act_object act_at defensive_step
+    steps_of runtime_call act_word
+returns-clause-a_component_of_another_tag c = refl

@@ -1,18 +1,24 @@
 -- The runtime's own objects, made one behind the other.
 use Rattle.std.proofs.Common.{◌≡◌, ℕ, zero, suc, List, [], ◌∷◌, ◌++◌, length, map, replicate, Some, ◌⊎◌, inl, inr}
 use Rattle.std.proofs.Common.{arith, refl, sym, ap, ◌∙◌, subst}
+use Rattle.std.specs.Prelude.{◌+◌, ◌-◌, ◌<◌, ◌≤◌, Bool, true, false, Option, None, IfNone, IfSome, get_or, is_some}
 use Rattle.std.specs.Prelude.{slice_get}
-use Rattle.std.proofs.lemmas.List.{length-append}
+use Rattle.std.specs.List.{list_all}
+use Rattle.std.proofs.lemmas.Bool.{and_parts}
+use Rattle.std.proofs.lemmas.List.{length-append, length-replicate}
 use Rattle.jc_interp.specs.Agree.{AreNumbered, IsNumbered}
 use Rattle.jc_loaded.specs.Classes.{HasNumber, class_number}
 use Rattle.jc_machine.specs.Lookup.{class_of}
 use Rattle.jc_machine.specs.Reading.{HeapReads, Pointwise, Reads}
 use Rattle.jc_machine.specs.Runtime.{new_heap}
 use Rattle.jc_names.specs.declared.name.ClassName.{ClassName}
-use Rattle.jc_store.specs.Heap.{Heap, Object, object_at}
-use Rattle.jc_store.specs.Store.{Store, with_made}
+use Rattle.jc_names.specs.declared.name.ClassName.TheVariants.{Api, Loaded}
+use Rattle.jc_store.specs.Heap.{Heap, Object, cells_in, object_at}
+use Rattle.jc_store.specs.Store.{IsFull, Store, with_made}
 use Rattle.jc_words.specs.Values.{Word}
-use Rattle.jc_card.specs.PrivateNew.{HasOwn, made_of, own_object, own_objects_until, words_until}
+use Rattle.jc_card.specs.New.{own_cells, own_objects}
+use Rattle.jc_card.specs.PrivateNew.{HasOwn, HasOwnRoom, HasRoomFor, HaveApiNumbers, aid_object, first_objects}
+use Rattle.jc_card.specs.PrivateNew.{made_of, own_object, own_objects_until, words_until}
 use Rattle.jc_card.specs.declared.runtime_objects.OwnObject.{OwnObject}
 
 -- ---- lists with one more behind
@@ -122,6 +128,95 @@ none_yet names store objects classes = record {
     no_object : (number : ℕ) (o : Object ℕ) → object_at [] number ≡ Some o → ⊥
     no_object zero o e = cc
     no_object (suc n) o e = cc
+
+-- ---- their classes have numbers
+
+abbrev is_of_api : ClassName → Bool
+is_of_api (Api c) = true
+is_of_api (Loaded home offset) = false
+
+each_or : (test : OwnObject → Bool) (own : List OwnObject) (rest : OwnObject) → list_all test own ≡ true
+    → test rest ≡ true → (place : ℕ) → test (get_or own place rest) ≡ true
+each_or test [] rest all last place = last
+each_or test (x ∷ own) rest all last zero = (and_parts (test x) (list_all test own) all).0
+each_or test (x ∷ own) rest all last (suc place) =
+    each_or test own rest (and_parts (test x) (list_all test own) all).1 last place
+
+api_number : (names : List ClassName) → HaveApiNumbers names → (c : ClassName) → is_of_api c ≡ true → HasNumber names c
+api_number names h (Api c) e = h c
+api_number names h (Loaded home offset) e = absurd cc
+
+-- all are of classes of the API: arrays count as Object
+pub own_number : (names : List ClassName) → HaveApiNumbers names → (place : ℕ)
+    → HasNumber names (class_of (own_object place).object)
+own_number names h place =
+    api_number names h (class_of (own_object place).object)
+    (each_or (λ own. is_of_api (class_of own.object)) first_objects aid_object refl refl place)
+
+pub there_is : (names : List ClassName) (c : ClassName) (found : Option ℕ) → found ≡ class_number names c
+    → HasNumber names c → is_some found ≡ true
+there_is names c found is n = ap is_some (is ∙ n.found)
+
+-- ---- there is room
+
+cells_behind : (os : Heap ℕ) (o : Object ℕ) → cells_in (os ++ o ∷ []) ≡ cells_in os + 1 + length o.cells
+cells_behind [] o = omega arith
+cells_behind (x ∷ os) o = let rest = cells_behind os o in omega (arith, rest)
+
+cells_more : (n : ℕ) → cells_in (words_until (suc n)) ≡ cells_in (words_until n) + 1 + (own_object n).size
+cells_more n =
+    let one = ap cells_in (objects_more n) in
+    let behind = cells_behind (words_until n) (made_of 0 (own_object n)) in
+    let size = length-replicate {A = ℕ} (own_object n).size 0 in
+    omega (arith, one, behind, size)
+
+-- more of them take no fewer cells
+cells_grow : (more n all : ℕ) → more + n ≡ all → cells_in (words_until n) ≤ cells_in (words_until all)
+cells_grow zero n all e =
+    let at : n ≡ all = omega (arith, e) in
+    let same = ap (λ k. cells_in (words_until k)) at in
+    omega (arith, same)
+cells_grow (suc more) n all e =
+    let next : more + suc n ≡ all = omega (arith, e) in
+    let rest = cells_grow more (suc n) all next in
+    let one = cells_more n in
+    omega (arith, rest, one)
+
+all_cells : cells_in (words_until 45) ≡ own_cells
+unfolding own_objects_until
+all_cells = refl
+
+-- behind those that were made there is room for the next
+pub room_for : (names : List ClassName) (before store : Store) (n : ℕ) → HasOwnRoom before
+    → HasOwn names before store n → n < own_objects → HasRoomFor store (own_object n)
+room_for names before store n room h below = record {
+  object =
+      let count = ap length h.objects ∙ count_until n in
+      let most = h.most_objects in
+      let all = room.objects in
+      omega (arith, count, most, all, below);
+  cells =
+      let left : (45 - suc n) + suc n ≡ 45 = omega (arith, below) in
+      let grow = cells_grow (45 - suc n) (suc n) 45 left in
+      let now = ap cells_in h.objects in
+      let one = cells_more n in
+      let most = h.most_cells in
+      let all = room.cells in
+      omega (arith, grow, now, one, most, all, all_cells);
+}
+
+not_full : (s : Store) (own : OwnObject) → HasRoomFor s own → IsFull s own.size → ⊥
+not_full s own room (inl most) = let object = room.object in omega (arith, most, object)
+not_full s own room (inr most) = let cells = room.cells in omega (arith, most, cells)
+
+pub is_made : (s : Store) (own : OwnObject) (len : ℕ) (result : Option ℕ) → len ≡ own.size → HasRoomFor s own
+    → IfNone result (IsFull s len) → is_some result ≡ true
+is_made s own len (Some number) e room full = refl
+is_made s own len None e room full = absurd (not_full s own room (subst (IsFull s) e full))
+
+pub as_made : {P : Type 0} (result : Option ℕ) (number : ℕ) → result ≡ Some number → IfSome result (λ n. P) → P
+as_made (Some n) number e made = made
+as_made None number e made = absurd cc
 
 -- ---- all of them
 

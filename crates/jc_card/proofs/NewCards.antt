@@ -1,9 +1,16 @@
 -- A card that is new holds the new card of the defensive machine.
-use Rattle.std.proofs.Common.{◌≡◌, ◌<◌, ℕ, List, [], None, true, sym, ap, ◌∙◌, subst}
+use Rattle.std.proofs.Common.{◌≡◌, ◌<◌, ℕ, List, [], None, true, sym, ap, ◌∙◌, subst, arith}
+use Rattle.std.proofs.lemmas.Bool.Decides.{leb_tells}
+use Rattle.jc_api.specs.declared.class.ApiClass.{ApiClass}
 use Rattle.jc_api.specs.Bound.{Bound}
+use Rattle.jc_cap_desc.specs.Shape.{Shape}
 use Rattle.jc_frames.specs.Frames.{Frames}
 use Rattle.jc_interp.specs.Agree.{HoldsFields}
-use Rattle.jc_loaded.specs.Program.{IsProgramOf}
+use Rattle.jc_link.specs.ApiClasses.{StandsThere}
+use Rattle.jc_link.specs.Built.{IsBuilt}
+use Rattle.jc_link.specs.Linked.{World}
+use Rattle.jc_loaded.specs.Program.{AnswersFor, IsProgramOf}
+use Rattle.jc_loaded.specs.declared.program.Program.{Program}
 use Rattle.jc_machine.specs.Accepted.{IsAccepted, api_alone}
 use Rattle.jc_machine.specs.Machine.{Frame}
 use Rattle.jc_machine.specs.Reading.{Pointwise}
@@ -12,9 +19,10 @@ use Rattle.jc_machine.specs.Runtime.{new_heap}
 use Rattle.jc_machine.specs.TypedExamples.{idle_in, new_machine}
 use Rattle.jc_natives.specs.Kept.{nothing_kept}
 use Rattle.jc_natives.specs.Meaning.{meaning}
+use Rattle.jc_names.specs.declared.name.ClassName.TheVariants.{Api}
 use Rattle.jc_store.specs.Store.{Store}
-use Rattle.jc_card.specs.New.{new_card}
-use Rattle.jc_card.specs.PrivateNew.{HasOwn}
+use Rattle.jc_card.specs.New.{are_limits, new_card}
+use Rattle.jc_card.specs.PrivateNew.{HasOwn, HasOwnRoom, HaveApiNumbers}
 use Rattle.jc_card.specs.Reads.{CardWords, Holds}
 use Rattle.jc_card.specs.declared.limits.Limits.{Limits}
 use Rattle.jc_card.proofs.Making.{own_read}
@@ -34,6 +42,23 @@ pub record IsNew (l : Limits) (bound : Bound) (before : Store) (k : CardWords) :
   pub most_objects : k.most_objects ≡ l.objects
   pub most_cells : k.most_cells ≡ l.cells
   pub steps : k.steps ≡ l.steps
+
+-- in the world of the API alone each of its classes has a number
+pub api_numbers : (bound : Bound) (w : World) (p : Program) → w ≡ api_alone bound → IsAccepted (api_alone bound)
+    → IsProgramOf w p → ((v : World) (q : Program) → IsProgramOf v q → AnswersFor v q)
+    → ((shapes : List Shape) → IsBuilt shapes → (c : ApiClass) → StandsThere shapes c) → HaveApiNumbers p.classes
+api_numbers bound w p is accepted program answers stands c =
+    let built = (subst IsAccepted (sym is) accepted).world.built in
+    let there = stands w.shapes built c in
+    (answers w p program).numbers (Api c) there.shape there.there
+
+-- a store within the limits has room for the runtime's own objects
+pub own_room : (l : Limits) (s : Store) → are_limits l ≡ true → s.most_objects ≡ l.objects → s.most_cells ≡ l.cells
+    → HasOwnRoom s
+own_room l s are objects cells = record {
+  objects = grind (arith, leb_tells, are, objects);
+  cells = grind (arith, leb_tells, are, cells);
+}
 
 pub holds_new : (l : Limits) → l.cells < 65536 → (bound : Bound) (before : Store) (k : CardWords)
     → IsNew l bound before k → IsAccepted (api_alone bound) → (frame : Frame)

@@ -1,5 +1,6 @@
 -- Private. The runtime's own objects as they are made, one behind the other.
-use Rattle.std.specs.Prelude.{◌≡◌, ℕ, zero, suc, List, [], ◌∷◌, ◌++◌, length, map, replicate, get_or, None}
+use Rattle.std.specs.Prelude.{◌≡◌, ℕ, zero, suc, ◌+◌, ◌<◌, ◌≤◌, List, [], ◌∷◌, ◌++◌, length, map, replicate, get_or}
+use Rattle.std.specs.Prelude.{None}
 use Rattle.jc_api.specs.declared.class.ApiClass.{ApiClass}
 use Rattle.jc_api.specs.declared.class.ApiClass.TheVariants.{ArithmeticException, ArrayStoreException}
 use Rattle.jc_api.specs.declared.class.ApiClass.TheVariants.{ClassCastException, ArrayIndexOutOfBoundsException}
@@ -8,12 +9,14 @@ use Rattle.jc_api.specs.declared.class.ApiClass.TheVariants.{SecurityException, 
 use Rattle.jc_api.specs.declared.class.ApiClass.TheVariants.{ApduException, Aid, Apdu}
 use Rattle.jc_firewall.specs.Verdict.{runtime}
 use Rattle.jc_interp.specs.Agree.{AreNumbered}
+use Rattle.jc_loaded.specs.Classes.{HasNumber}
 use Rattle.jc_names.specs.declared.name.ClassName.{ClassName}
 use Rattle.jc_names.specs.declared.name.ClassName.TheVariants.{Api}
-use Rattle.jc_store.specs.Heap.{Heap, Object}
+use Rattle.jc_store.specs.Heap.{Heap, Object, cells_in}
 use Rattle.jc_store.specs.Store.{Store}
 use Rattle.jc_store.specs.declared.kind.Mark.TheVariants.{GlobalArray, PermanentEntryPoint, TemporaryEntryPoint}
 use Rattle.jc_store.specs.declared.kind.ObjectType.TheVariants.{ByteArray, Instance}
+use Rattle.jc_card.specs.New.{own_cells, own_objects}
 use Rattle.jc_card.specs.declared.runtime_objects.OwnObject.{OwnObject}
 
 abbrev pub temporary : ApiClass → ℕ → OwnObject
@@ -41,6 +44,20 @@ own_object place = get_or first_objects place aid_object
 unfoldable pub own_objects_until : ℕ → List OwnObject
 own_objects_until zero = []
 own_objects_until (suc n) = own_objects_until n ++ own_object n ∷ []
+
+-- a store has room for one of them more
+pub record HasRoomFor (s : Store) (own : OwnObject) : Type 0 where
+  pub object : length s.objects < s.most_objects
+  pub cells : cells_in s.objects + 1 + own.size ≤ s.most_cells
+
+-- it has room for all of them, where nothing else is
+pub record HasOwnRoom (s : Store) : Type 0 where
+  pub objects : own_objects ≤ s.most_objects
+  pub cells : own_cells ≤ s.most_cells
+
+-- each class of the API has a number
+abbrev pub HaveApiNumbers : List ClassName → Type 0
+HaveApiNumbers names = (c : ApiClass) → HasNumber names (Api c)
 
 -- one as it is made
 abbrev pub made_of : {V : Type 0} → V → OwnObject → Object V

@@ -13,8 +13,8 @@ use crate::runtime_objects::make_own_objects;
 use jc_api::Binding;
 use jc_frames::Frames;
 use jc_interp::{Statics, WordMachine};
-use jc_link::{World, built_worlds_are_sound};
-use jc_loaded::Program;
+use jc_link::{World, built_worlds_have_the_api};
+use jc_loaded::{Program, program_laws};
 use jc_machine::{accepted_worlds_grow, new_machines_are_typed};
 use jc_natives::{Runtime, calls_keep_fitting};
 use jc_store::Store;
@@ -35,12 +35,12 @@ impl Card {
         new_machines_are_typed();
         accepted_worlds_grow();
         calls_keep_fitting();
+        built_worlds_have_the_api();
+        program_laws();
         let world = World::new(alloc, binding)?;
         let program = Program::new(alloc, &world)?;
         let mut store = Store::new(alloc, limits.objects, limits.cells)?;
-        if !make_own_objects(&mut store, &program.classes) {
-            return Err(CardFault::Memory);
-        }
+        make_own_objects(&mut store, &program.classes);
         let frames = Frames::new(alloc, limits.frames, limits.frame_words)?;
         let machine = WordMachine {
             store,

@@ -2,8 +2,8 @@
 //! Entry Point Objects, Global Arrays; Java Card API Specification, AID, APDU, Applet.install).
 
 ghost use Rattle.std.specs.Prelude.{◌≡◌, [], suc};
-ghost use Rattle.std.specs.Bool.{OnTrue};
-ghost use Rattle.jc_card.specs.PrivateNew.{HasOwn, global_bytes, own_object, temporary};
+ghost use Rattle.jc_card.specs.PrivateNew.{HasOwn, HasOwnRoom, HasRoomFor, HaveApiNumbers};
+ghost use Rattle.jc_card.specs.PrivateNew.{global_bytes, own_object, temporary};
 ghost use Rattle.jc_machine.specs.Lookup.{class_of};
 ghost use Rattle.jc_store.specs.Store.{Store};
 
@@ -89,37 +89,35 @@ fn class_of(object: ObjectType) -> ClassName
     }
 }
 
-/// Makes the one at a place, behind those before it: whether its class has a number, and it has room.
-fn make(store: &mut Store, classes: &Classes, place: u16) -> bool
-    ensures made { OnTrue result ((before : Store) → HasOwn classes.now before store.old place
-        → HasOwn classes.now before store.new (suc place)) }
+/// Makes the one at a place, behind those before it. The store has room for it.
+fn make(store: &mut Store, classes: &Classes, place: u16)
+    requires numbers { HaveApiNumbers classes.now }
+    requires room { HasRoomFor store.old (own_object place) }
+    ensures made { (before : Store) → HasOwn classes.now before store.old place
+        → HasOwn classes.now before store.new (suc place) }
 {
     classes_have_numbers();
     let own = own_object(place);
-    let Some(class) = classes.number_of(class_of(own.object)) else {
-        return false;
-    };
+    let class = classes.number_of(class_of(own.object)).unwrap();
     let kind = Kind {
         object: own.object,
         mark: own.mark,
         clears: None,
     };
-    match store.make(kind, Owner::RUNTIME, usize::from(own.size), class.index()) {
-        Some(_) => true,
-        None => false,
-    }
+    store
+        .make(kind, Owner::RUNTIME, usize::from(own.size), class.index())
+        .unwrap();
 }
 
-/// Makes all of them, in the order of their numbers, where the store is empty.
-pub(crate) fn make_own_objects(store: &mut Store, classes: &Classes) -> bool
+/// Makes all of them, in the order of their numbers. The store is empty, and has room for them.
+pub(crate) fn make_own_objects(store: &mut Store, classes: &Classes)
     requires objects { store.old.objects ≡ [] }
     requires classes { store.old.classes ≡ [] }
-    ensures made { OnTrue result (HasOwn classes.now store.old store.new 45) }
+    requires numbers { HaveApiNumbers classes.now }
+    requires room { HasOwnRoom store.old }
+    ensures made { HasOwn classes.now store.old store.new 45 }
 {
     for place in 0..OWN_OBJECTS {
-        if !make(store, classes, place) {
-            return false;
-        }
+        make(store, classes, place);
     }
-    true
 }

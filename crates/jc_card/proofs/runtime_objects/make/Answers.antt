@@ -1,21 +1,36 @@
-use Rattle.std.proofs.Common.{◌∙◌, ap, None}
+use Rattle.std.proofs.Common.{◌∙◌, ap, sym, None}
 use Rattle.jc_firewall.specs.Verdict.{runtime}
 use Rattle.jc_loaded.specs.Classes.{class_number}
+use Rattle.jc_machine.specs.Lookup.{class_of}
 use Rattle.jc_store.specs.Store.{fresh, with_made}
-use Rattle.jc_card.proofs.Making.{made_more}
+use Rattle.jc_card.proofs.Making.{as_made, is_made, made_more, own_number, there_is}
 use Rattle.jc_card.specs.PrivateNew.{made_of}
+use Rattle.jc_card.specs.declared.runtime_objects.OwnObject.{OwnObject}
 use Rattle.jc_card.proofs.runtime_objects.make.Goals as goal
 
-pub returns-in-Some-make : goal.returns-in-Some-make
-returns-in-Some-make c =
+pub unwrap-class-requires : goal.unwrap-class-requires
+unwrap-class-requires c =
+    there_is c.args.classes.now _ c.number_of.result
+    (c.number_of.ensures ∙ ap (class_number c.args.classes.now)
+    (c.class_of.ensures ∙ ap (λ (own : OwnObject). class_of own.object) c.own_object-own.ensures))
+    (own_number c.args.classes.now c.requires.numbers c.args.place)
+
+pub unwrap-requires : goal.unwrap-requires
+unwrap-requires c = is_made c.args.store.now _ _ c.make.result
+    (c.from.ensures ∙ ap (λ (own : OwnObject). own.size) c.own_object-own.ensures) c.requires.room
+    c.make.ensures.full
+
+pub returns : goal.returns
+returns c =
     let own = c.own_object-own.result in
     let store = c.args.store.now in record {
       made =
-          made_more c.args.classes.now store c.make.new.self own c.args.place c.in-Some.class
+          made_more c.args.classes.now store c.make.new.self own c.args.place c.unwrap-class.result
           c.own_object-own.ensures
-          (c.in-Some.ensures ∙ ap (class_number c.args.classes.now) c.class_of.ensures)
+          (sym c.unwrap-class.ensures ∙ c.number_of.ensures
+          ∙ ap (class_number c.args.classes.now) c.class_of.ensures)
           (c.classes_have_numbers.ensures.named c.args.classes.now)
-          (c.in-Some-make.ensures.made
+          (as_made c.make.result c.unwrap.result c.unwrap.ensures c.make.ensures.made
           ∙ ap (λ size. with_made store
           (fresh (record { object = own.object; mark = own.mark; clears = None }) runtime size)
           c.index.result) c.from.ensures

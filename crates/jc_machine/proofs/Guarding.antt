@@ -19,7 +19,8 @@ use Rattle.jc_machine.specs.Going.{Here, accessed, accessed_to_store, asking, br
 use Rattle.jc_machine.specs.Going.{gives, goes_on, goes_to, judged, jumps, leaves_operands, on_object, on_operands}
 use Rattle.jc_machine.specs.Going.{on_reference, on_reference_local, on_some, on_target, on_top, on_word, on_word_local}
 use Rattle.jc_machine.specs.Going.{plain, pushed, require, storing, stuck, throws, touch_of, touched}
-use Rattle.jc_machine.specs.Guarded.{AreGuarded, AreMade, IsJudged, allowed, are_allowed, by_frame, denied}
+use Rattle.jc_machine.specs.Guarded.{AreGuarded, AreMade, IsJudged, KeepsStatics, allowed, are_allowed, as_they_were}
+use Rattle.jc_machine.specs.Guarded.{by_frame, denied, one_written}
 use Rattle.jc_machine.specs.Guarded.{is_allowed, is_last_denied, machine_of, setting_of}
 use Rattle.jc_machine.specs.Lookup.{target_at}
 use Rattle.jc_machine.specs.Machine.{Asked, Machine, Next, Outcome, Stepped, Surroundings, Throws, Touch}
@@ -44,6 +45,8 @@ pub record KeepsLaw {C : Type 0} (around : Surroundings C) (m : Machine C) (befo
   -- and what native members keep holds of what the runtime keeps
   pub kept : (keeps : C → Bool) → IsKeptIn keeps around m → (after : Machine C) → machine_of s.outcome ≡ Some after
       → keeps after.runtime ≡ true
+  -- and static fields are kept, but for one that the code names
+  pub statics : (after : Machine C) → machine_of s.outcome ≡ Some after → KeepsStatics around m after
 
 -- ---- ends
 
@@ -57,7 +60,7 @@ pub leaves : {C : Type 0} {around : Surroundings C} {m : Machine C} {before : Li
     (x : Machine C)
     → machine_of o ≡ Some x → KeepsHeap m.top.active before m.heap x.heap → LeadsApart around m x
     → KeepsLaw around m before (plain o)
-leaves {C = C} {m = m} {before = before} o x e h a = record {
+leaves {C = C} {around = around} {m = m} {before = before} o x e h a = record {
   made = made_so before;
   accesses = allowed refl;
   changes = λ after f.
@@ -69,6 +72,7 @@ leaves {C = C} {m = m} {before = before} o x e h a = record {
   };
   kept = λ keeps q after f.
       subst (λ (y : Machine C). keeps y.runtime ≡ true) (same_Some x after (sym e ∙ f)) (a.kept keeps q);
+  statics = λ after f. subst (KeepsStatics around m) (same_Some x after (sym e ∙ f)) a.statics;
 }
 
 pub stays : {C : Type 0} {around : Surroundings C} {m : Machine C} {before : List Touch} (o : Outcome C) (x : Machine C)
@@ -86,7 +90,14 @@ is_stuck {before = before} = record {
   changes = λ after f. absurd (none-some after f);
   apart = λ keeps p. record { spares = tt; after = λ after f. absurd (none-some after f) };
   kept = λ keeps q after f. absurd (none-some after f);
+  statics = λ after f. absurd (none-some after f);
 }
+
+-- another machine with the same static fields
+pub still_kept : {C : Type 0} {around : Surroundings C} {m x y : Machine C} → KeepsStatics around m x
+    → x.statics ≡ y.statics → KeepsStatics around m y
+still_kept (as_they_were e) f = as_they_were (e ∙ f)
+still_kept (one_written place v names e) f = one_written place v names (e ∙ f)
 
 pub goes : {C : Type 0} {around : Surroundings C} {m : Machine C} {before : List Touch} (h : Here C) (pc : ℕ)
     (locals operands : List TaggedValue)
@@ -94,7 +105,11 @@ pub goes : {C : Type 0} {around : Surroundings C} {m : Machine C} {before : List
     → KeepsLaw around m before (goes_to h pc locals operands)
 goes h pc locals operands changes a =
     leaves (Next _) _ refl changes
-    (record { apart = λ keeps p. moved_apart keeps h.machine pc locals operands (a.apart keeps p); kept = a.kept })
+    (record {
+      apart = λ keeps p. moved_apart keeps h.machine pc locals operands (a.apart keeps p);
+      kept = a.kept;
+      statics = still_kept a.statics refl;
+    })
 
 pub goes_still : {C : Type 0} {before : List Touch} (h : Here C) (pc : ℕ) (locals operands : List TaggedValue)
     → KeepsLaw h.around h.machine before (goes_to h pc locals operands)
@@ -265,6 +280,7 @@ module _ {C : Type 0} {around : Surroundings C} {m : Machine C} (before ts : Lis
       after = λ after e. (k.apart keeps p).after after e;
     };
     kept = k.kept;
+    statics = k.statics;
   }
 
   -- by the frame

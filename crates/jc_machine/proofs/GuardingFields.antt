@@ -1,5 +1,6 @@
 -- Instructions on fields keep the law of accesses.
-use Rattle.std.proofs.Common.{◌≡◌, ℕ, List, [], length, nat_lt, slice_get, inl, refl, ap, Option, true, false}
+use Rattle.std.proofs.Common.{◌≡◌, ◌∙◌, ℕ, List, [], length, nat_lt, slice_get, inl, refl, ap, Option, Some, None}
+use Rattle.std.proofs.Common.{true, false}
 use Rattle.jc_base.specs.declared.declared_type.DeclaredType.{DeclaredType}
 use Rattle.jc_code.specs.declared.object.FieldAccess.{FieldAccess}
 use Rattle.jc_code.specs.declared.object.FieldAction.{FieldAction}
@@ -12,6 +13,8 @@ use Rattle.jc_firewall.specs.Verdict.{fields, row_of}
 use Rattle.jc_firewall.specs.declared.access.Access.TheVariants.{GetField, PutReferenceField, PutStaticReference}
 use Rattle.jc_firewall.specs.declared.access.Facts.{Facts}
 use Rattle.jc_link.specs.declared.named.StaticPlace.{StaticPlace}
+use Rattle.jc_link.specs.declared.target.PoolTarget.{PoolTarget}
+use Rattle.jc_link.specs.declared.target.PoolTarget.TheVariants as To
 use Rattle.jc_names.specs.declared.name.ClassName.{ClassName}
 use Rattle.jc_step.specs.Objects.{is_form_of}
 use Rattle.jc_machine.specs.Arrays.{stored_as}
@@ -19,14 +22,14 @@ use Rattle.jc_machine.specs.Fields.{FieldTarget, InstanceField, act_field, act_g
 use Rattle.jc_machine.specs.Fields.{act_put_static, act_static, field_target, gets, of_class, of_objects, on_holder}
 use Rattle.jc_machine.specs.Fields.{put_static, puts, putting, static_at, stored_in_static}
 use Rattle.jc_machine.specs.Going.{Here, facts_of, storing}
-use Rattle.jc_machine.specs.Guarded.{is_allowed, may_change}
+use Rattle.jc_machine.specs.Guarded.{NamesStatic, is_allowed, may_change, one_written}
 use Rattle.jc_store.specs.Heap.{Object, object_at}
-use Rattle.std.specs.Option.{option_map_or}
-use Rattle.jc_machine.specs.Lookup.{is_of_class, is_of_type}
+use Rattle.std.specs.Option.{option_and_then, option_map_or}
+use Rattle.jc_machine.specs.Lookup.{is_of_class, is_of_type, target_at}
 use Rattle.jc_machine.specs.Machine.{Machine, Stepped, Surroundings, Touch}
 use Rattle.jc_words.specs.Values.{Null, Ref, TaggedValue, Unset, Word}
 use Rattle.jc_machine.proofs.Guarding.{KeepsLaw, at_accessed, at_check, at_checked, at_object, at_reference}
-use Rattle.jc_machine.proofs.Guarding.{at_reference_local, at_some, at_stored, at_target, at_top, goes, is_stuck}
+use Rattle.jc_machine.proofs.Guarding.{at_reference_local, at_some, at_stored, at_top, goes, is_stuck}
 use Rattle.jc_machine.proofs.Guarding.{loads_still, verdict_in}
 use Rattle.jc_machine.proofs.Storing.{any_type, asked_held, held_as, held_static, put_holds, short_held, typed_leads}
 use Rattle.jc_machine.proofs.GuardingHeaps.{nothing_changes}
@@ -56,9 +59,10 @@ at_stored_value h Null s k = k [] (λ keeps p. refl)
 at_stored_value h Unset s k = is_stuck
 
 -- static fields alone change
-static_apart : {C : Type 0} (h : Here C) (place : StaticPlace) (v : TaggedValue) → IsHeld h.around h.machine v
+static_apart : {C : Type 0} (h : Here C) (place : StaticPlace) (v : TaggedValue)
+    → NamesStatic h.around h.machine place → IsHeld h.around h.machine v
     → LeadsApart h.around h.machine (put_static h place v).machine
-static_apart h place v held = record {
+static_apart h place v names held = record {
   apart = λ keeps p. record {
     objects = p.machine.objects;
     statics =
@@ -68,27 +72,29 @@ static_apart h place v held = record {
     kept = p.machine.kept;
   };
   kept = λ keeps q. q.now;
+  statics = one_written place v names refl;
 }
 
 put_static_keeps : {C : Type 0} (h : Here C) (form : Form) (place : StaticPlace) (declared : DeclaredType ClassName)
-    → KeepsLaw h.around h.machine [] (act_put_static h form place declared)
-put_static_keeps h form place declared =
+    → NamesStatic h.around h.machine place → KeepsLaw h.around h.machine [] (act_put_static h form place declared)
+put_static_keeps h form place declared names =
     at_top h.machine.top.operands _ (λ v vs.
     at_check (is_of_type h.around.world.shapes h.machine.heap declared v) _
     (at_some (static_at h.machine.statics place.home place.offset) _ (λ s e. at_stored_value h v _ (λ before held.
     goes (put_static h place (stored_as form v)) h.next_pc h.machine.top.locals vs
-    (nothing_changes h.machine.top.active before h.machine.heap) (static_apart h place (stored_as form v)
+    (nothing_changes h.machine.top.active before h.machine.heap) (static_apart h place (stored_as form v) names
     (λ keeps p. held_as h.machine.heap form v (held keeps p)))))))
 
 static_keeps : {C : Type 0} (h : Here C) (access : FieldAccess) (place : StaticPlace)
     (declared : DeclaredType ClassName) (action : FieldAction) (holder : Holder)
+    → NamesStatic h.around h.machine place
     → KeepsLaw h.around h.machine [] (act_static h access place declared action holder)
-static_keeps h access place declared Get Holders.Class = get_static_keeps h access.form place
-static_keeps h access place declared Put Holders.Class = put_static_keeps h access.form place declared
-static_keeps h access place declared Get Holders.Operand = is_stuck
-static_keeps h access place declared Put Holders.Operand = is_stuck
-static_keeps h access place declared Get Holders.This = is_stuck
-static_keeps h access place declared Put Holders.This = is_stuck
+static_keeps h access place declared Get Holders.Class names = get_static_keeps h access.form place
+static_keeps h access place declared Put Holders.Class names = put_static_keeps h access.form place declared names
+static_keeps h access place declared Get Holders.Operand names = is_stuck
+static_keeps h access place declared Put Holders.Operand names = is_stuck
+static_keeps h access place declared Get Holders.This names = is_stuck
+static_keeps h access place declared Put Holders.This names = is_stuck
 
 -- ---- fields of objects
 
@@ -158,13 +164,43 @@ instance_keeps h access field Put of_form =
 
 -- ---- instructions
 
-target_keeps : {C : Type 0} (h : Here C) (access : FieldAccess) (target : FieldTarget)
+-- what the code names
+named_target : {C : Type 0} (h : Here C) (index : ℕ) (place : StaticPlace) (declared : DeclaredType ClassName)
+    → option_and_then field_target (target_at h.around.world h.machine.top.method.number index)
+    ≡ Some (of_class place declared) → NamesStatic h.around h.machine place
+named_target h index place declared e = by_option (target_at h.around.world h.machine.top.method.number index) refl e
+  where
+    by_target : (t : PoolTarget) → target_at h.around.world h.machine.top.method.number index ≡ Some t
+        → field_target t ≡ Some (of_class place declared) → NamesStatic h.around h.machine place
+    by_target (To.Class c) is f = absurd cc
+    by_target (To.InstanceField class cell type) is f = absurd cc
+    by_target (To.StaticField found type) is f =
+        let same : found ≡ place = cc in
+        record {
+          index = index;
+          declared = type;
+          named = is ∙ ap (λ (p : StaticPlace). Some (To.StaticField p type)) same;
+        }
+    by_target (To.VirtualMethod class token signature) is f = absurd cc
+    by_target (To.SuperMethod class method signature) is f = absurd cc
+    by_target (To.StaticMethod class method is_static signature) is f = absurd cc
+
+    by_option : (o : Option PoolTarget) → target_at h.around.world h.machine.top.method.number index ≡ o
+        → option_and_then field_target o ≡ Some (of_class place declared) → NamesStatic h.around h.machine place
+    by_option None is f = absurd cc
+    by_option (Some t) is f = by_target t is f
+
+target_keeps : {C : Type 0} (h : Here C) (access : FieldAccess) (index : ℕ) (target : FieldTarget)
+    → option_and_then field_target (target_at h.around.world h.machine.top.method.number index) ≡ Some target
     → KeepsLaw h.around h.machine [] (act_on_target h access target)
-target_keeps h access (of_objects field) =
+target_keeps h access index (of_objects field) e =
     at_checked (is_form_of access.form field.declared) _ (instance_keeps h access field access.action)
-target_keeps h access (of_class place declared) =
-    at_check (is_form_of access.form declared) _ (static_keeps h access place declared access.action access.holder)
+target_keeps h access index (of_class place declared) e =
+    at_check (is_form_of access.form declared) _ (static_keeps h access place declared access.action access.holder
+    (named_target h index place declared e))
 
 pub field_keeps : {C : Type 0} (h : Here C) (access : FieldAccess) (index : ℕ)
     → KeepsLaw h.around h.machine [] (act_field h access index)
-field_keeps h access index = at_target h index field_target (act_on_target h access) (target_keeps h access)
+field_keeps h access index =
+    at_some (option_and_then field_target (target_at h.around.world h.machine.top.method.number index)) _
+    (target_keeps h access index)

@@ -20,8 +20,8 @@ use Rattle.jc_machine.specs.Calls.{accepts, is_member_or_loaded, native_answer, 
 use Rattle.jc_machine.specs.Calls.{native_may_begin, native_type, on_native, previous_in, takes, type_of_member}
 use Rattle.jc_machine.specs.Calls.{virtual_member, with_given}
 use Rattle.jc_machine.specs.Going.{Here, check, moved, plain, stuck, throws, touched, with_machine}
-use Rattle.jc_machine.specs.Guarded.{AreGuarded, AreMade, IsCalledBack, IsJudged, as_owner, by_callback, by_frame}
-use Rattle.jc_machine.specs.Guarded.{frame_answer, setting_of}
+use Rattle.jc_machine.specs.Guarded.{AreGuarded, AreMade, IsCalledBack, IsJudged, as_owner, as_they_were, by_callback}
+use Rattle.jc_machine.specs.Guarded.{by_frame, frame_answer, setting_of}
 use Rattle.jc_machine.specs.Lookup.{are_of_types, class_of, declared_at, is_given, is_of_class}
 use Rattle.jc_machine.specs.Machine.{Callback, Calls, Frame, Gives, IsStuck, Machine, MethodPlace, NativeAnswer}
 use Rattle.jc_machine.specs.Machine.{NativeCall, NativeEnd, Next, Stepped, Surroundings, Throws, ThrowsObject, Touch}
@@ -62,6 +62,7 @@ above_apart h f operands runs = record {
     kept = p.machine.kept;
   };
   kept = λ keeps q. q.now;
+  statics = as_they_were refl;
 }
 
 by_room : {C : Type 0} {before : List Touch} (h : Here C) (f : Frame) (operands : List TaggedValue) (room : Bool)
@@ -234,6 +235,7 @@ answer_apart h a fine = record {
     kept = (fine.apart keeps p).kept;
   };
   kept = λ keeps q. fine.remembers keeps q;
+  statics = as_they_were refl;
 }
 
 same_place : {C : Type 0} (h : Here C) (a : NativeAnswer C) → IsAsWas h.machine a → after_native h a ≡ h

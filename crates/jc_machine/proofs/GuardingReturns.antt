@@ -5,6 +5,7 @@ use Rattle.jc_machine.specs.Lookup.{is_given}
 use Rattle.jc_machine.specs.Machine.{Ends, Frame, Machine, Next, Stepped, Surroundings, Touch}
 use Rattle.jc_machine.specs.Returns.{pc_behind_call, result_of, resumed, returns, returns_to, room_of, with_result}
 use Rattle.jc_words.specs.Values.{TaggedValue}
+use Rattle.jc_machine.specs.Guarded.{as_they_were}
 use Rattle.jc_machine.proofs.Guarding.{KeepsLaw, at_check, at_some, stays}
 use Rattle.jc_machine.proofs.StayingApart.{LeadsApart, are_applets, is_apart_itself, waiting_are_applets}
 
@@ -30,6 +31,7 @@ resumed_apart h f waiting pc operands there = record {
     kept = p.machine.kept;
   };
   kept = λ keeps q. q.now;
+  statics = as_they_were refl;
 }
 
 returns_still : {C : Type 0} {before : List Touch} (h : Here C) (result : Option TaggedValue) (waiting : List Frame)

@@ -16,7 +16,7 @@ use Rattle.jc_store.specs.Heap.{Heap, Object, object_at}
 use Rattle.jc_machine.specs.Apart.{AreNativesApart, HaveApiMembers, IsApart, SparesPlain, StaysApart, is_applets}
 use Rattle.jc_machine.specs.Going.{Here, moved}
 use Rattle.jc_machine.specs.Guarded.{AreGuarded, ChangesAccessed, IsAccessed, IsGuarded, IsRefused, KeepsPlain}
-use Rattle.jc_machine.specs.Guarded.{allowed, are_allowed, denied, machine_of}
+use Rattle.jc_machine.specs.Guarded.{KeepsStatics, allowed, are_allowed, denied, machine_of}
 use Rattle.jc_machine.specs.Keeping.{MembersKeep}
 use Rattle.jc_machine.specs.Lookup.{class_of, code_at, declared_at, instruction_at, is_throwable}
 use Rattle.jc_machine.specs.Machine.{Ends, Frame, Machine, Next, Outcome, Stuck, Surroundings, Throws, Touch, UsedUp}
@@ -26,7 +26,7 @@ use Rattle.jc_machine.specs.Runtime.{security_exception}
 use Rattle.jc_machine.specs.Step.{act, act_at, caught_in, covering, defensive_step, handler_for, here, is_found}
 use Rattle.jc_machine.specs.Step.{settled, settled_object, through, unwound}
 use Rattle.jc_words.specs.Values.{Ref, TaggedValue}
-use Rattle.jc_machine.proofs.Guarding.{KeepsLaw, at_some}
+use Rattle.jc_machine.proofs.Guarding.{KeepsLaw, at_some, still_kept}
 use Rattle.jc_machine.proofs.GuardingHeaps.{KeepsHeap, mapped}
 use Rattle.jc_machine.proofs.GuardingObjects.{object_keeps}
 use Rattle.jc_machine.proofs.GuardingWords.{word_keeps}
@@ -55,14 +55,16 @@ record LeavesHeap {C : Type 0} (m : Machine C) (o : Outcome C) : Type 0 where
   apart : (keeps : C → Bool) → IsApart keeps m → (after : Machine C) → machine_of o ≡ Some after
       → IsApart keeps after
   kept : (after : Machine C) → machine_of o ≡ Some after → m.runtime ≡ after.runtime
+  statics : (after : Machine C) → machine_of o ≡ Some after → m.statics ≡ after.statics
 
 of_machine : {C : Type 0} (m : Machine C) (o : Outcome C) (x : Machine C) → machine_of o ≡ Some x
-    → m.heap ≡ x.heap → m.runtime ≡ x.runtime → ((keeps : C → Bool) → IsApart keeps m → IsApart keeps x)
-    → LeavesHeap m o
-of_machine {C = C} m o x e same kept a = record {
+    → m.heap ≡ x.heap → m.runtime ≡ x.runtime → m.statics ≡ x.statics
+    → ((keeps : C → Bool) → IsApart keeps m → IsApart keeps x) → LeavesHeap m o
+of_machine {C = C} m o x e same kept statics a = record {
   same = λ after f. same ∙ ap (λ (y : Machine C). y.heap) (same_Some x after (sym e ∙ f));
   apart = λ keeps p after f. subst (IsApart keeps) (same_Some x after (sym e ∙ f)) (a keeps p);
   kept = λ after f. kept ∙ ap (λ (y : Machine C). y.runtime) (same_Some x after (sym e ∙ f));
+  statics = λ after f. statics ∙ ap (λ (y : Machine C). y.statics) (same_Some x after (sym e ∙ f));
 }
 
 of_stuck : {C : Type 0} (m : Machine C) → LeavesHeap m Stuck
@@ -70,6 +72,7 @@ of_stuck m = record {
   same = λ after f. absurd (none-some after f);
   apart = λ keeps p after f. absurd (none-some after f);
   kept = λ after f. absurd (none-some after f);
+  statics = λ after f. absurd (none-some after f);
 }
 
 either : {C : Type 0} (m : Machine C) (b : Bool) (o p : Outcome C) → LeavesHeap m o → LeavesHeap m p
@@ -97,7 +100,7 @@ caught_leaves {C = C} m object f waiting body room outward (Some handler) are h 
       waiting = waiting;
     } in
     either m (option_map_or (nat_lt 0) room false) (Next caught) Stuck
-    (of_machine m (Next caught) caught refl refl refl (λ keeps p. record {
+    (of_machine m (Next caught) caught refl refl refl refl (λ keeps p. record {
       objects = p.objects;
       statics = p.statics;
       frames = are keeps p;
@@ -116,7 +119,7 @@ through_leaves s m object class f waiting outward (Some body) are h =
 
 unwound_leaves : {C : Type 0} (s : Surroundings C) (m : Machine C) (object : ℕ) (class : ClassName)
     (waiting : List Frame) → AreOf m waiting → LeavesHeap m (unwound s m object class waiting)
-unwound_leaves s m object class [] are = of_machine m (Throws m object) m refl refl refl (λ keeps p. p)
+unwound_leaves s m object class [] are = of_machine m (Throws m object) m refl refl refl refl (λ keeps p. p)
 unwound_leaves s m object class (f ∷ waiting) are =
     through_leaves s m object class f waiting (unwound s m object class waiting) (code_at s.world f.method) are
     (unwound_leaves s m object class waiting (outer_are m f waiting are))
@@ -164,6 +167,17 @@ settled_kept s keeps (Ends m value) h after e = h after e
 settled_kept s keeps (UsedUp m) h after e = h after e
 settled_kept s keeps Stuck h after e = absurd (none-some after e)
 
+-- static fields that an outcome keeps are kept behind what is caught
+settled_statics : {C : Type 0} (s : Surroundings C) (first : Machine C) (o : Outcome C)
+    → ((x : Machine C) → machine_of o ≡ Some x → KeepsStatics s first x) → (after : Machine C)
+    → machine_of (settled s o) ≡ Some after → KeepsStatics s first after
+settled_statics s first (Next m) h after e = h after e
+settled_statics s first (Throws m object) h after e =
+    still_kept (h m refl) ((object_leaves s m object (object_at m.heap object)).statics after e)
+settled_statics s first (Ends m value) h after e = h after e
+settled_statics s first (UsedUp m) h after e = h after e
+settled_statics s first Stuck h after e = absurd (none-some after e)
+
 -- ---- a step
 
 steps_keep_heap : {C : Type 0} (s : Surroundings C) → AreNativesGuarded s.natives → (m after : Machine C)
@@ -185,6 +199,7 @@ steps_keep {C = C} s natives m =
           (λ e. ap (λ (o : Outcome C). settled s o) e) k.accesses;
       changes = λ after e. (steps_keep_heap s natives m after e).changes;
       adds = λ after e. (steps_keep_heap s natives m after e).adds;
+      statics = settled_statics s m (act_at s m).outcome k.statics;
     }
 
 -- what the runtime accesses isn't plain

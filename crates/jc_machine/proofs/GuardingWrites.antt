@@ -15,7 +15,7 @@ use Rattle.jc_store.specs.Heap.{Heap, Object, object_at, with_cell, with_new, wi
 use Rattle.jc_store.specs.declared.kind.Mark.{Mark}
 use Rattle.jc_store.specs.declared.kind.Mark.TheVariants.{Plain}
 use Rattle.jc_machine.specs.Going.{Here, facts_of, leaves_operands, stored_in, with_heap}
-use Rattle.jc_machine.specs.Guarded.{ChangesAccessed, IsAccessed, IsPlainOf, is_allowed, may_change}
+use Rattle.jc_machine.specs.Guarded.{ChangesAccessed, IsAccessed, IsPlainOf, as_they_were, is_allowed, may_change}
 use Rattle.jc_machine.specs.Machine.{Asked, Touch}
 use Rattle.jc_names.specs.declared.owner.Owner.{Owner}
 use Rattle.jc_machine.specs.Natives.{IsStill, KeepsObjects}
@@ -200,6 +200,7 @@ stored_apart h number object index v there held = record {
     kept = p.machine.kept;
   };
   kept = λ keeps q. q.now;
+  statics = as_they_were refl;
 }
 
 -- a plain object of the owner that is active
@@ -220,6 +221,7 @@ new_apart h new plain held = record {
     kept = p.machine.kept;
   };
   kept = λ keeps q. q.now;
+  statics = as_they_were refl;
 }
 
 -- a component is stored, and the frame goes on

@@ -12,7 +12,7 @@ use Rattle.jc_store.specs.declared.kind.Mark.TheVariants.{Plain}
 use Rattle.jc_machine.specs.Apart.{AreNativesApart, HaveApiMembers, IsApart, IsRuntimes, IsSetApart, SparesPlain}
 use Rattle.jc_machine.specs.Apart.{has_no_code, is_applets}
 use Rattle.jc_machine.specs.Going.{moved, with_top}
-use Rattle.jc_machine.specs.Guarded.{AddsFor, IsPlainOf, machine_of}
+use Rattle.jc_machine.specs.Guarded.{AddsFor, IsPlainOf, KeepsStatics, as_they_were, machine_of}
 use Rattle.jc_machine.specs.Keeping.{MembersKeep}
 use Rattle.jc_machine.specs.Machine.{Frame, Machine, Stepped, Surroundings, Touch}
 use Rattle.jc_machine.specs.Natives.{KeepsObjects}
@@ -151,6 +151,8 @@ pub record LeadsApart {C : Type 0} (around : Surroundings C) (m x : Machine C) :
   pub apart : (keeps : C → Bool) → IsApartIn keeps around m → IsApart keeps x
   -- and a test that native members keep holds of what it keeps
   pub kept : (keeps : C → Bool) → IsKeptIn keeps around m → keeps x.runtime ≡ true
+  -- and static fields are kept, but for one that the code names
+  pub statics : KeepsStatics around m x
 
 -- an owner is an applet's there
 abbrev pub RunsApplets : {C : Type 0} → Surroundings C → Machine C → Owner → Type 0
@@ -171,7 +173,8 @@ pub top_runs : {C : Type 0} (around : Surroundings C) (m : Machine C) → RunsAp
 top_runs around m keeps p = top_is_applets keeps m p.machine
 
 pub is_apart_itself : {C : Type 0} (around : Surroundings C) (m : Machine C) → LeadsApart around m m
-is_apart_itself around m = record { apart = λ keeps p. p.machine; kept = λ keeps q. q.now }
+is_apart_itself around m =
+    record { apart = λ keeps p. p.machine; kept = λ keeps q. q.now; statics = as_they_were refl }
 
 -- its frame goes on
 pub moved_apart : {C : Type 0} (keeps : C → Bool) (m : Machine C) (pc : ℕ) (locals operands : List TaggedValue)

@@ -4,6 +4,7 @@ use Rattle.std.specs.Prelude.{◌≡◌, ◌⊎◌, ℕ, ◌==◌, ◌&&◌, ◌
 use Rattle.std.specs.Prelude.{None, slice_get}
 use Rattle.std.specs.List.{AllByRecursion, list_all}
 use Rattle.std.specs.Option.{option_map_or}
+use Rattle.jc_base.specs.declared.declared_type.DeclaredType.{DeclaredType}
 use Rattle.jc_cap_desc.specs.Shape.{Shape}
 use Rattle.jc_firewall.specs.Verdict.{runtime_context, verdict_of}
 use Rattle.jc_firewall.specs.declared.access.Access.{Access}
@@ -13,11 +14,16 @@ use Rattle.jc_firewall.specs.declared.access.Access.TheVariants.{PutField, PutRe
 use Rattle.jc_firewall.specs.declared.access.Access.TheVariants.{StoreComponent, StoreReference, Throw}
 use Rattle.jc_firewall.specs.declared.access.Verdict.{Verdict}
 use Rattle.jc_firewall.specs.declared.access.Verdict.TheVariants.{Allowed, AllowedSwitch, Denied}
+use Rattle.jc_link.specs.declared.named.StaticPlace.{StaticPlace}
+use Rattle.jc_link.specs.declared.target.PoolTarget.TheVariants.{StaticField}
+use Rattle.jc_names.specs.declared.name.ClassName.{ClassName}
 use Rattle.jc_names.specs.declared.owner.Owner.{Owner}
 use Rattle.jc_store.specs.Heap.{Heap, Object, object_at}
 use Rattle.jc_store.specs.declared.kind.Mark.TheVariants.{Plain}
 use Rattle.jc_machine.specs.Calls.{native_call, native_may_begin}
+use Rattle.jc_machine.specs.Fields.{with_static}
 use Rattle.jc_machine.specs.Going.{facts_for}
+use Rattle.jc_machine.specs.Lookup.{target_at}
 use Rattle.jc_machine.specs.Machine.{Asked, By, ByCode, ByRuntime, Callback, Calls, Ends, Machine, NativeAnswer, Next}
 use Rattle.jc_machine.specs.Machine.{Outcome, Stepped, Stuck, Surroundings, Throws, Touch, UsedUp}
 use Rattle.jc_machine.specs.Runtime.{apdu_buffer, apdu_exception, iso_exception, security_exception, system_exception}
@@ -181,6 +187,18 @@ machine_of Stuck = None
 abbrev pub IsRefused : {C : Type 0} → Surroundings C → Machine C → Stepped C → Type 0
 IsRefused s m stepped = stepped.outcome ≡ settled s (Throws m security_exception)
 
+-- the code that runs names a static field, by an entry of its package's constant pool
+pub record NamesStatic {C : Type 0} (s : Surroundings C) (m : Machine C) (place : StaticPlace) : Type 0 where
+  pub index : ℕ
+  pub declared : DeclaredType ClassName
+  pub named : target_at s.world m.top.method.number index ≡ Some (StaticField place declared)
+
+-- static fields are what they were, or one that the code names has another value
+pub data KeepsStatics {C : Type 0} (s : Surroundings C) (m after : Machine C) : Type 0 where
+  as_they_were : m.statics ≡ after.statics → KeepsStatics s m after
+  one_written : (place : StaticPlace) (v : TaggedValue) → NamesStatic s m place
+      → with_static m.statics place.home place.offset v ≡ after.statics → KeepsStatics s m after
+
 -- the law of accesses, of one step
 pub record IsGuarded {C : Type 0} (s : Surroundings C) (m : Machine C) : Type 0 where
   pub made : AreMade s m (defensive_step s m).touches
@@ -189,6 +207,7 @@ pub record IsGuarded {C : Type 0} (s : Surroundings C) (m : Machine C) : Type 0 
       → ChangesAccessed m.top.active.context (defensive_step s m).touches m.heap after.heap
   pub adds : (after : Machine C) → machine_of (defensive_step s m).outcome ≡ Some after
       → AddsFor m.top.active m.heap after.heap
+  pub statics : (after : Machine C) → machine_of (defensive_step s m).outcome ≡ Some after → KeepsStatics s m after
 
 -- ---- what follows
 

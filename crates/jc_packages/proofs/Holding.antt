@@ -5,7 +5,7 @@ use Rattle.std.specs.List.{AllZip}
 use Rattle.std.proofs.lemmas.List.{map-append, take_more}
 use Rattle.std.proofs.lemmas.List.Elements.{AllZip-push}
 use Rattle.jc_packages.specs.PrivateNamed.{IsReadBehind}
-use Rattle.jc_packages.specs.Source.{HoldSame}
+use Rattle.jc_source.specs.Source.{HoldSame}
 
 -- one reading behind another
 pub through : (first middle last : List ℕ → List ℕ → Type 0) → HoldSame first middle → HoldSame middle last → HoldSame first last

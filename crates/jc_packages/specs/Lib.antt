@@ -1,5 +1,3 @@
-pub mod Source
-pub mod Memory
 pub mod Verify
 pub mod PrivateVerify
 pub mod Named

@@ -4,9 +4,9 @@ ghost use Rattle.std.specs.Prelude.{◌≡◌, ◌+◌, ◌<◌, ◌^◌, map, I
 ghost use Rattle.std.specs.List.{AllZip};
 ghost use Rattle.jc_packages.specs.Named.{AnswersNamed};
 ghost use Rattle.jc_packages.specs.PrivateNamed.{IsReadBehind};
-ghost use Rattle.jc_packages.specs.Source.{HoldSame, failures_in};
+ghost use Rattle.jc_source.specs.Source.{HoldSame, failures_in};
 
-use crate::source::{PackageSource, SourceFault};
+use jc_source::{PackageSource, SourceFault};
 use crate::verification::verify;
 use crate::verify_answer::VerifyAnswer;
 use jc_api::Binding;

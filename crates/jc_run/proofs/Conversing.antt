@@ -7,7 +7,7 @@ use Rattle.std.specs.Io.KnownBytes.{Appends}
 use Rattle.std.specs.Prelude.{IsErrAnd}
 use Rattle.jc_card.specs.Card.{CardState}
 use Rattle.jc_card.specs.Reads.{CardWords, Holds}
-use Rattle.jc_packages.specs.Source.{Asked, HoldSame}
+use Rattle.jc_source.specs.Source.{Asked, HoldSame}
 use Rattle.jc_run.proofs.Ending.{command_done, command_unwritten, none_more}
 use Rattle.jc_run.proofs.Playing.{answered_as, line_as}
 use Rattle.jc_run.specs.Answer.{Answered}

@@ -6,7 +6,7 @@ use Rattle.std.specs.Io.KnownBytes.{Appends}
 use Rattle.std.specs.Prelude.{IsErrAnd}
 use Rattle.jc_card.specs.Card.{CardState}
 use Rattle.jc_card.specs.Reads.{CardWords}
-use Rattle.jc_packages.specs.Source.{Asked}
+use Rattle.jc_source.specs.Source.{Asked}
 use Rattle.jc_run.specs.Answer.{Answered}
 use Rattle.jc_run.specs.Performs.{Answers, AsksSource, IsFailingOf}
 use Rattle.jc_run.specs.Play.{BadLimits, BadLine, IsPart, NoMemory, NotRead, NotWritten, Over, ScriptEnd}

@@ -4,7 +4,7 @@ use Rattle.std.proofs.lemmas.Result.{err_from_is_err_and}
 use Rattle.std.specs.Prelude.{IsErrAnd}
 use Rattle.jc_card.specs.Card.{CardState}
 use Rattle.jc_card.specs.Reads.{CardWords, Holds}
-use Rattle.jc_packages.specs.Source.{Asked, HoldSame}
+use Rattle.jc_source.specs.Source.{Asked, HoldSame}
 use Rattle.jc_run.proofs.Ending.{none_more}
 use Rattle.jc_run.specs.Answer.{Answered}
 use Rattle.jc_run.specs.End.{end_of, end_of_fault}

@@ -10,7 +10,7 @@ use Rattle.jc_card.specs.Load.{IsLoad}
 use Rattle.jc_card.specs.Order.{Order, Resets, apdu_order, install_order}
 use Rattle.jc_card.specs.Parts.{Left}
 use Rattle.jc_machine.specs.Machine.{Touch}
-use Rattle.jc_packages.specs.Source.{Asked}
+use Rattle.jc_source.specs.Source.{Asked}
 use Rattle.jc_store.specs.Heap.{Heap}
 use Rattle.jc_words.specs.Values.{TaggedValue}
 use Rattle.jc_run.specs.Answer.{Answered}

@@ -7,7 +7,7 @@ use Rattle.jc_card.specs.New.{are_limits, new_card}
 use Rattle.jc_card.specs.declared.fault.CardFault.{CardFault}
 use Rattle.jc_card.specs.declared.fault.CardFault.TheVariants as cards
 use Rattle.jc_card.specs.declared.limits.Limits.{Limits}
-use Rattle.jc_packages.specs.Source.{Asked}
+use Rattle.jc_source.specs.Source.{Asked}
 use Rattle.jc_run.proofs.Ending.{none_more}
 use Rattle.jc_run.specs.NeverStuck.{IsNeverStuck}
 use Rattle.jc_run.specs.End.{card_fault, end_of_fault}

@@ -2,8 +2,8 @@
 use Rattle.std.specs.Prelude.{ℕ, Result, Ok, Err}
 use Rattle.jc_card.specs.declared.fault.CardFault.{CardFault}
 use Rattle.jc_card.specs.declared.fault.CardFault.TheVariants as cards
-use Rattle.jc_packages.specs.declared.source.SourceFault.{SourceFault}
-use Rattle.jc_packages.specs.declared.source.SourceFault.TheVariants as sources
+use Rattle.jc_source.specs.declared.source.SourceFault.{SourceFault}
+use Rattle.jc_source.specs.declared.source.SourceFault.TheVariants as sources
 use Rattle.jc_run.specs.Play.{BadLimits, BadLine, NoMemory, NotRead, NotWritten, Over, ScriptEnd, SourceFailed}
 use Rattle.jc_run.specs.declared.fault.ScriptFault.{ScriptFault}
 use Rattle.jc_run.specs.declared.fault.ScriptFault.TheVariants as faults

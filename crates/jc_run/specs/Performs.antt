@@ -4,7 +4,7 @@ use Rattle.jc_api.specs.Bound.{Bound}
 use Rattle.jc_card.specs.Card.{CardState}
 use Rattle.jc_card.specs.Reads.{CardWords, Holds}
 use Rattle.jc_card.specs.declared.limits.Limits.{Limits}
-use Rattle.jc_packages.specs.Source.{Asked, Certificate, Image}
+use Rattle.jc_source.specs.Source.{Asked, Certificate, Image}
 use Rattle.jc_run.specs.Answer.{Answered}
 use Rattle.jc_run.specs.Play.{IsAnswered, IsFailing, ScriptEnd}
 use Rattle.jc_run.specs.Runs.{IsPlayed, IsSimulated}

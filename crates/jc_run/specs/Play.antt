@@ -9,7 +9,7 @@ use Rattle.jc_card.specs.Install.{HasNumber, Installed as Outcome, Refused, inst
 use Rattle.jc_card.specs.Load.{IsLoad}
 use Rattle.jc_card.specs.Parts.{Left}
 use Rattle.jc_natives.specs.Kept.{are_bytes}
-use Rattle.jc_packages.specs.Source.{Asked, Certificate, Image}
+use Rattle.jc_source.specs.Source.{Asked, Certificate, Image}
 use Rattle.jc_run.specs.Answer as answers
 use Rattle.jc_run.specs.Answer.{Answered, Installed, Loaded, NotInstalled, NotLoaded, Responds, WasReset, line_of}
 use Rattle.jc_script.specs.Script.{Apdu, Cells, Install, Load, Objects, Reset, ScriptCommand, most_in_line, most_lines}

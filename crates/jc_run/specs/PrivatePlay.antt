@@ -4,7 +4,7 @@ use Rattle.jc_base.specs.declared.fault.LoadFault.{LoadFault}
 use Rattle.jc_card.specs.Card.{CardState}
 use Rattle.jc_card.specs.Load.{IsLoad}
 use Rattle.jc_card.specs.Reads.{CardWords, Holds}
-use Rattle.jc_packages.specs.Source.{Asked}
+use Rattle.jc_source.specs.Source.{Asked}
 use Rattle.jc_run.specs.Answer.{Answered}
 use Rattle.jc_run.specs.Play.{BadLimits, BadLine, IsAnswered, IsFailing, IsPart, NoMemory, NotRead, NotWritten, Over}
 use Rattle.jc_run.specs.Play.{ScriptEnd, SourceFailed, answer_line, load_answer}

@@ -13,7 +13,7 @@ use Rattle.jc_card.specs.Order.{Resets, apdu_order, install_order}
 use Rattle.jc_card.specs.Parts.{Left}
 use Rattle.jc_card.specs.declared.limits.Limits.{Limits}
 use Rattle.jc_machine.specs.Machine.{Touch}
-use Rattle.jc_packages.specs.Source.{Asked}
+use Rattle.jc_source.specs.Source.{Asked}
 use Rattle.jc_run.specs.Answer.{Answered}
 use Rattle.jc_run.specs.NeverStuck.{IsNeverStuck}
 use Rattle.jc_run.specs.Play.{BadLimits, BadLine, IsAnswered, IsFailing, IsPart, NoMemory, NotRead, NotWritten, Over}

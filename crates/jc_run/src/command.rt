@@ -8,7 +8,7 @@ ghost use Rattle.jc_card.specs.Commands.{apdu_command};
 ghost use Rattle.jc_card.specs.Install.{install_command};
 ghost use Rattle.jc_card.specs.Reads.{Does, Holds};
 ghost use Rattle.jc_natives.specs.Kept.{are_bytes};
-ghost use Rattle.jc_packages.specs.Source.{Asks, Certificate, HoldSame, IfFailed, Image, failures_in};
+ghost use Rattle.jc_source.specs.Source.{Asks, Certificate, HoldSame, IfFailed, Image, failures_in};
 ghost use Rattle.jc_run.specs.Answer.{Responds, shown};
 ghost use Rattle.jc_run.specs.Play.{IsFailing, install_answer};
 ghost use Rattle.jc_run.specs.Performs.{Answers, AsksSource, IsFailingOf, asked_by};
@@ -18,7 +18,7 @@ ghost use Rattle.jc_script.specs.Shown.{shown_command};
 use crate::answer::CommandAnswer;
 use jc_base::Aid;
 use jc_card::{Card, bytes_are_low};
-use jc_packages::{PackageSource, SourceFault};
+use jc_source::{PackageSource, SourceFault};
 use jc_script::ScriptCommand;
 use std::alloc::Global;
 

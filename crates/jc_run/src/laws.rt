@@ -13,7 +13,7 @@ ghost use Rattle.jc_run.specs.Runs.{AreGuarded};
 use jc_card::{
     accesses_add_up, commands_are_guarded, commands_are_never_stuck, commands_stay_apart,
 };
-use jc_packages::PackageSource;
+use jc_source::PackageSource;
 
 /// The accesses of each command on each card are guarded, and each run leaves a card apart that was; a new card is one,
 /// and no list of commands is stuck there. What a source holds says what loads come to. It does nothing.

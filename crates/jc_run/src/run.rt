@@ -4,7 +4,7 @@ ghost use Rattle.std.specs.Prelude.{false, ◌≡◌, ◌+◌, ◌<◌, ◌≤�
 ghost use Rattle.jc_card.specs.Card.{CardState};
 ghost use Rattle.jc_card.specs.New.{are_limits};
 ghost use Rattle.jc_card.specs.Reads.{Holds};
-ghost use Rattle.jc_packages.specs.Source.{HoldSame};
+ghost use Rattle.jc_source.specs.Source.{HoldSame};
 ghost use Rattle.jc_run.specs.End.{end_of, end_of_fault};
 ghost use Rattle.jc_run.specs.Performs.{HasRun, PlaysOn};
 ghost use Rattle.jc_run.specs.Play.{BadLimits, failures_at, unread_fault};
@@ -20,7 +20,7 @@ use crate::telling::Teller;
 use crate::writing::write_answer;
 use jc_api::Binding;
 use jc_card::{Card, Limits};
-use jc_packages::{PackageSource, SourceFault};
+use jc_source::{PackageSource, SourceFault};
 use jc_script::{
     Dialect, LineCause, LineFault, MOST_IN_LINE, MOST_LINES, NextLine, ScriptCommand, ScriptLine,
     ScriptReader, fault_in, said_by,

@@ -1,6 +1,7 @@
 use jc_api::Binding;
 use jc_base::LoadFault;
 use jc_packages::*;
+use jc_source::*;
 use std::alloc::Global;
 use std::test::*;
 

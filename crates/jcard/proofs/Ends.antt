@@ -3,7 +3,7 @@ use Rattle.std.proofs.Common.{ℕ, List, Option}
 use Rattle.jc_api.specs.Bound.{Bound}
 use Rattle.jc_card.specs.Card.{CardState}
 use Rattle.jc_card.specs.declared.limits.Limits.{Limits}
-use Rattle.jc_packages.specs.Source.{Asked}
+use Rattle.jc_source.specs.Source.{Asked}
 use Rattle.jc_run.specs.Performs.{HasRun}
 use Rattle.jc_run.specs.Play.{IsFailing, ScriptEnd}
 use Rattle.jc_run.specs.Play.IsFailing.{certificate as of_certificate, image as of_image}

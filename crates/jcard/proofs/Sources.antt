@@ -1,6 +1,6 @@
 -- The faults of folders and of certificates' files, as those of a source.
 use Rattle.std.proofs.Common.{ℕ, List}
-use Rattle.jc_packages.specs.Source.{Asked}
+use Rattle.jc_source.specs.Source.{Asked}
 use Rattle.jcard.specs.Files.{Entry, OfFile}
 use Rattle.jcard.specs.FileSource.{IsFaultOf, IsSourceFault}
 use Rattle.jcard.specs.declared.files.ReadFault.{ReadFault}

@@ -1,6 +1,6 @@
 -- Packages in folders and certificates in files: what such a source holds, and the fault of a reading that failed.
 use Rattle.std.specs.Prelude.{◌≡◌, ℕ, List}
-use Rattle.jc_packages.specs.Source.{Asked, Certificate, Image}
+use Rattle.jc_source.specs.Source.{Asked, Certificate, Image}
 use Rattle.jcard.specs.Files.{Entry, IsContent, IsFaultAt, IsIrregular, IsLonger}
 use Rattle.jcard.specs.Files.Entry.{failing}
 use Rattle.jcard.specs.Folders.{IsFolderFault}

@@ -1,7 +1,7 @@
 -- What a script comes to on a new card, whose packages lie in folders and whose certificates lie in files, and what is
 -- told where it ends early.
 use Rattle.std.specs.Prelude.{⊤, Result, Ok, Err}
-use Rattle.jc_packages.specs.Source.{Asked}
+use Rattle.jc_source.specs.Source.{Asked}
 use Rattle.jc_run.specs.End.{end_of_fault}
 use Rattle.jc_run.specs.Play.{NoMemory, NotRead, Over, ScriptEnd, SourceFailed}
 use Rattle.jc_run.specs.declared.fault.ScriptFault.{ScriptFault}

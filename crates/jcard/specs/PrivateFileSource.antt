@@ -1,6 +1,6 @@
 -- Private. What a source of packages in folders is, and which fault it keeps.
 use Rattle.std.specs.Prelude.{◌≡◌, ◌<◌, ℕ, List, Option, Some, None}
-use Rattle.jc_packages.specs.Source.{Asked}
+use Rattle.jc_source.specs.Source.{Asked}
 use Rattle.jcard.specs.Files.{Entry}
 use Rattle.jcard.specs.FileSource.{IsFaultOf}
 use Rattle.jcard.specs.declared.files.FileFault.{FileFault}

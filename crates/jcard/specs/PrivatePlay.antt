@@ -1,6 +1,6 @@
 -- Private. What is known of a script's source at its end, by what is told.
 use Rattle.std.specs.Prelude.{⊤}
-use Rattle.jc_packages.specs.Source.{Asked}
+use Rattle.jc_source.specs.Source.{Asked}
 use Rattle.jc_run.specs.Play.{BadLimits, BadLine, NoMemory, NotRead, NotWritten, Over, ScriptEnd, SourceFailed}
 
 -- where the source ended the script, what is said of its last failing reading is told

@@ -1,7 +1,7 @@
 //! Packages in folders, and certificates in files.
 
 ghost use Rattle.std.specs.Prelude.{⊤, ◌≡◌, ◌+◌, ◌<◌, ◌^◌, IfOk, IfErr};
-ghost use Rattle.jc_packages.specs.Source.{Asked, OfFailed, failures_of};
+ghost use Rattle.jc_source.specs.Source.{Asked, OfFailed, failures_of};
 ghost use Rattle.jcard.specs.Files.{OfFile};
 ghost use Rattle.jcard.specs.FileSource.{HoldsCertificate, IsCertificateFault, IsFaultOf, IsSourceFault};
 ghost use Rattle.jcard.specs.Folders.{IsImage};
@@ -9,7 +9,7 @@ ghost use Rattle.jcard.specs.PrivateFileSource.{IsKept, IsKeptOf, TellsAll};
 
 use crate::files::{FileCause, FileFault, Files, ReadFault, fault_of};
 use crate::folders::image_in;
-use jc_packages::{PackageSource, SourceFault};
+use jc_source::{PackageSource, SourceFault};
 use std::alloc::Global;
 use std::marker::{Brand, Model, PhantomData};
 
@@ -19,7 +19,7 @@ const MOST_CERTIFICATE: usize = 1048576;
 /// Which faults a source may tell, and of what was asked for: a name for proofs alone, which outlasts what is done with
 /// the source.
 pub trait Faults {
-    ghost use Rattle.jc_packages.specs.Source.{Asked};
+    ghost use Rattle.jc_source.specs.Source.{Asked};
     ghost use Rattle.jcard.specs.declared.files.FileFault.{FileFault};
 
     ghost tells: { Asked → FileFault → Type 0 };

@@ -1,6 +1,6 @@
 use Rattle.std.proofs.Common.{◌≡◌, map, take}
 use Rattle.std.specs.List.{AllZip}
-use Rattle.jc_packages.specs.Source.{HoldSame}
+use Rattle.jc_source.specs.Source.{HoldSame}
 use Rattle.jc_packages.proofs.named.images_of.Given as goal
 
 abbrev pub invariant-loop-name : goal.invariant-loop-name

@@ -1,7 +1,7 @@
 use Rattle.std.proofs.Common.{◌≡◌, ℕ, List, Some}
 use Rattle.jc_card.specs.Card.{CardState}
 use Rattle.jc_card.specs.Reads.{Holds}
-use Rattle.jc_packages.specs.Source.{HoldSame}
+use Rattle.jc_source.specs.Source.{HoldSame}
 use Rattle.jc_run.specs.PrivateSession.{HasConversed}
 use Rattle.jc_script.specs.Reading.{pending}
 use Rattle.jc_run.proofs.session.converse.Given as goal

@@ -1,5 +1,5 @@
 use Rattle.std.proofs.Common.{subst}
-use Rattle.jc_packages.specs.Source.{Certificate}
+use Rattle.jc_source.specs.Source.{Certificate}
 use Rattle.jcard.specs.Files.{OfFile}
 use Rattle.jcard.specs.FileSource.{IsSourceFault}
 use Rattle.jcard.proofs.Sources.{reading_failed}

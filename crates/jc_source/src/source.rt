@@ -1,7 +1,7 @@
 //! Where packages and certificates are read.
 
 ghost use Rattle.std.specs.Prelude.{◌≡◌, ◌+◌, ◌<◌, ◌^◌, ℕ, List, [], ◌∷◌, Option, None, IfOk};
-ghost use Rattle.jc_packages.specs.Source.{Asked, Asks, Certificate, HoldSame, IfFailed, Image, failures_in};
+ghost use Rattle.jc_source.specs.Source.{Asked, Asks, Certificate, HoldSame, IfFailed, Image, failures_in};
 
 use std::alloc::Global;
 

@@ -1,8 +1,8 @@
 -- Packages and certificates in memory, by their names.
 use Rattle.std.specs.Prelude.{◌≡◌, ◌<◌, ◌++◌, ◌∷◌, [], ℕ, List, Option, Some, None, find, option_map, bytes_eq}
-use Rattle.jc_packages.specs.Source.{Asked, Certificate, Image}
-use Rattle.jc_packages.specs.declared.source.SourceFault.{SourceFault}
-use Rattle.jc_packages.specs.declared.source.SourceFault.TheVariants.{Failed, Memory}
+use Rattle.jc_source.specs.Source.{Asked, Certificate, Image}
+use Rattle.jc_source.specs.declared.source.SourceFault.{SourceFault}
+use Rattle.jc_source.specs.declared.source.SourceFault.TheVariants.{Failed, Memory}
 
 -- bytes under a name
 pub record Stored : Type 0 where

@@ -1,7 +1,7 @@
 -- Where packages and certificates are read: what is held there, how many readings failed, and what is asked.
 use Rattle.std.specs.Prelude.{⊤, ◌≡◌, ℕ, List, ◌++◌, Option, Some, None, Result, Ok, Err}
-use Rattle.jc_packages.specs.declared.source.SourceFault.{SourceFault}
-use Rattle.jc_packages.specs.declared.source.SourceFault.TheVariants.{Failed, Memory}
+use Rattle.jc_source.specs.declared.source.SourceFault.{SourceFault}
+use Rattle.jc_source.specs.declared.source.SourceFault.TheVariants.{Failed, Memory}
 
 -- want of memory is no failure of what is read
 abbrev pub failures_of : SourceFault → ℕ

@@ -1,8 +1,8 @@
 //! Packages and certificates in memory.
 
 ghost use Rattle.std.specs.Prelude.{◌≡◌, ◌+◌, ◌<◌, ◌≤◌, ◌^◌, IfOk, IfErr, find, option_map, bytes_eq};
-ghost use Rattle.jc_packages.specs.Memory.{Holds, IsUnread, MayHaveFailedAt, empty_store, with_stored};
-ghost use Rattle.jc_packages.specs.Source.{Certificate, HoldSame, IfFailed, Image, failures_in};
+ghost use Rattle.jc_source.specs.Memory.{Holds, IsUnread, MayHaveFailedAt, empty_store, with_stored};
+ghost use Rattle.jc_source.specs.Source.{Certificate, HoldSame, IfFailed, Image, failures_in};
 
 use crate::source::{PackageSource, SourceFault};
 use std::alloc::{AllocError, Global};
@@ -17,7 +17,7 @@ struct Entry {
 
 impl Model for Entry {
     ghost use Rattle.std.specs.String.{string_bytes};
-    ghost use Rattle.jc_packages.specs.Memory.{Stored};
+    ghost use Rattle.jc_source.specs.Memory.{Stored};
 
     ghost Value = { Stored };
 
@@ -34,7 +34,7 @@ pub struct MemorySource {
 }
 
 impl Model for MemorySource {
-    ghost use Rattle.jc_packages.specs.Memory.{Store};
+    ghost use Rattle.jc_source.specs.Memory.{Store};
 
     ghost Value = { Store };
 

@@ -2,6 +2,7 @@
 use Rattle.std.proofs.Common.{◌≡◌, ◌∙◌, ℕ, List, [], length, nat_lt, slice_get, inl, refl, ap, Option, Some, None}
 use Rattle.std.proofs.Common.{true, false}
 use Rattle.jc_base.specs.declared.declared_type.DeclaredType.{DeclaredType}
+use Rattle.jc_code.specs.declared.instr.Operation.TheVariants as operations
 use Rattle.jc_code.specs.declared.object.FieldAccess.{FieldAccess}
 use Rattle.jc_code.specs.declared.object.FieldAction.{FieldAction}
 use Rattle.jc_code.specs.declared.object.FieldAction.TheVariants.{Get, Put}
@@ -9,6 +10,7 @@ use Rattle.jc_code.specs.declared.object.Form.{Form}
 use Rattle.jc_code.specs.declared.object.Form.TheVariants as Forms
 use Rattle.jc_code.specs.declared.object.Holder.{Holder}
 use Rattle.jc_code.specs.declared.object.Holder.TheVariants as Holders
+use Rattle.jc_code.specs.declared.object.ObjectOperation.TheVariants as objects
 use Rattle.jc_firewall.specs.Verdict.{fields, row_of}
 use Rattle.jc_firewall.specs.declared.access.Access.TheVariants.{GetField, PutReferenceField, PutStaticReference}
 use Rattle.jc_firewall.specs.declared.access.Facts.{Facts}
@@ -22,7 +24,7 @@ use Rattle.jc_machine.specs.Fields.{FieldTarget, InstanceField, act_field, act_g
 use Rattle.jc_machine.specs.Fields.{act_put_static, act_static, field_target, gets, of_class, of_objects, on_holder}
 use Rattle.jc_machine.specs.Fields.{put_static, puts, putting, static_at, stored_in_static}
 use Rattle.jc_machine.specs.Going.{Here, facts_of, storing}
-use Rattle.jc_machine.specs.Guarded.{NamesStatic, is_allowed, may_change, one_written}
+use Rattle.jc_machine.specs.Guarded.{PutsStatic, StandsAt, is_allowed, may_change, one_written}
 use Rattle.jc_store.specs.Heap.{Object, object_at}
 use Rattle.std.specs.Option.{option_and_then, option_map_or}
 use Rattle.jc_machine.specs.Lookup.{is_of_class, is_of_type, target_at}
@@ -60,7 +62,7 @@ at_stored_value h Unset s k = is_stuck
 
 -- static fields alone change
 static_apart : {C : Type 0} (h : Here C) (place : StaticPlace) (v : TaggedValue)
-    → NamesStatic h.around h.machine place → IsHeld h.around h.machine v
+    → PutsStatic h.around h.machine place → IsHeld h.around h.machine v
     → LeadsApart h.around h.machine (put_static h place v).machine
 static_apart h place v names held = record {
   apart = λ keeps p. record {
@@ -76,7 +78,7 @@ static_apart h place v names held = record {
 }
 
 put_static_keeps : {C : Type 0} (h : Here C) (form : Form) (place : StaticPlace) (declared : DeclaredType ClassName)
-    → NamesStatic h.around h.machine place → KeepsLaw h.around h.machine [] (act_put_static h form place declared)
+    → PutsStatic h.around h.machine place → KeepsLaw h.around h.machine [] (act_put_static h form place declared)
 put_static_keeps h form place declared names =
     at_top h.machine.top.operands _ (λ v vs.
     at_check (is_of_type h.around.world.shapes h.machine.heap declared v) _
@@ -86,15 +88,16 @@ put_static_keeps h form place declared names =
     (λ keeps p. held_as h.machine.heap form v (held keeps p)))))))
 
 static_keeps : {C : Type 0} (h : Here C) (access : FieldAccess) (place : StaticPlace)
-    (declared : DeclaredType ClassName) (action : FieldAction) (holder : Holder)
-    → NamesStatic h.around h.machine place
+    (declared : DeclaredType ClassName) (action : FieldAction) (holder : Holder) → access.action ≡ action
+    → access.holder ≡ holder → (access.action ≡ Put → access.holder ≡ Holders.Class → PutsStatic h.around h.machine place)
     → KeepsLaw h.around h.machine [] (act_static h access place declared action holder)
-static_keeps h access place declared Get Holders.Class names = get_static_keeps h access.form place
-static_keeps h access place declared Put Holders.Class names = put_static_keeps h access.form place declared names
-static_keeps h access place declared Get Holders.Operand names = is_stuck
-static_keeps h access place declared Put Holders.Operand names = is_stuck
-static_keeps h access place declared Get Holders.This names = is_stuck
-static_keeps h access place declared Put Holders.This names = is_stuck
+static_keeps h access place declared Get Holders.Class puts holds names = get_static_keeps h access.form place
+static_keeps h access place declared Put Holders.Class puts holds names =
+    put_static_keeps h access.form place declared (names puts holds)
+static_keeps h access place declared Get Holders.Operand puts holds names = is_stuck
+static_keeps h access place declared Put Holders.Operand puts holds names = is_stuck
+static_keeps h access place declared Get Holders.This puts holds names = is_stuck
+static_keeps h access place declared Put Holders.This puts holds names = is_stuck
 
 -- ---- fields of objects
 
@@ -165,20 +168,26 @@ instance_keeps h access field Put of_form =
 -- ---- instructions
 
 -- what the code names
-named_target : {C : Type 0} (h : Here C) (index : ℕ) (place : StaticPlace) (declared : DeclaredType ClassName)
+named_target : {C : Type 0} (h : Here C) (access : FieldAccess) (index : ℕ) (place : StaticPlace)
+    (declared : DeclaredType ClassName) → StandsAt h.around h.machine (operations.Object (objects.Field access index))
+    → access.action ≡ Put → access.holder ≡ Holders.Class
     → option_and_then field_target (target_at h.around.world h.machine.top.method.number index)
-    ≡ Some (of_class place declared) → NamesStatic h.around h.machine place
-named_target h index place declared e = by_option (target_at h.around.world h.machine.top.method.number index) refl e
+    ≡ Some (of_class place declared) → PutsStatic h.around h.machine place
+named_target h access index place declared at puts holds e = by_option (target_at h.around.world h.machine.top.method.number index) refl e
   where
     by_target : (t : PoolTarget) → target_at h.around.world h.machine.top.method.number index ≡ Some t
-        → field_target t ≡ Some (of_class place declared) → NamesStatic h.around h.machine place
+        → field_target t ≡ Some (of_class place declared) → PutsStatic h.around h.machine place
     by_target (To.Class c) is f = absurd cc
     by_target (To.InstanceField class cell type) is f = absurd cc
     by_target (To.StaticField found type) is f =
         let same : found ≡ place = cc in
         record {
+          access = access;
           index = index;
           declared = type;
+          stands = at;
+          puts = puts;
+          of_class = holds;
           named = is ∙ ap (λ (p : StaticPlace). Some (To.StaticField p type)) same;
         }
     by_target (To.VirtualMethod class token signature) is f = absurd cc
@@ -186,21 +195,23 @@ named_target h index place declared e = by_option (target_at h.around.world h.ma
     by_target (To.StaticMethod class method is_static signature) is f = absurd cc
 
     by_option : (o : Option PoolTarget) → target_at h.around.world h.machine.top.method.number index ≡ o
-        → option_and_then field_target o ≡ Some (of_class place declared) → NamesStatic h.around h.machine place
+        → option_and_then field_target o ≡ Some (of_class place declared) → PutsStatic h.around h.machine place
     by_option None is f = absurd cc
     by_option (Some t) is f = by_target t is f
 
 target_keeps : {C : Type 0} (h : Here C) (access : FieldAccess) (index : ℕ) (target : FieldTarget)
+    → StandsAt h.around h.machine (operations.Object (objects.Field access index))
     → option_and_then field_target (target_at h.around.world h.machine.top.method.number index) ≡ Some target
     → KeepsLaw h.around h.machine [] (act_on_target h access target)
-target_keeps h access index (of_objects field) e =
+target_keeps h access index (of_objects field) at e =
     at_checked (is_form_of access.form field.declared) _ (instance_keeps h access field access.action)
-target_keeps h access index (of_class place declared) e =
-    at_check (is_form_of access.form declared) _ (static_keeps h access place declared access.action access.holder
-    (named_target h index place declared e))
+target_keeps h access index (of_class place declared) at e =
+    at_check (is_form_of access.form declared) _ (static_keeps h access place declared access.action access.holder refl
+    refl (λ puts holds. named_target h access index place declared at puts holds e))
 
 pub field_keeps : {C : Type 0} (h : Here C) (access : FieldAccess) (index : ℕ)
+    → StandsAt h.around h.machine (operations.Object (objects.Field access index))
     → KeepsLaw h.around h.machine [] (act_field h access index)
-field_keeps h access index =
+field_keeps h access index at =
     at_some (option_and_then field_target (target_at h.around.world h.machine.top.method.number index)) _
-    (target_keeps h access index)
+    (λ target. target_keeps h access index target at)

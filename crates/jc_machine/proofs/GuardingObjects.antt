@@ -6,6 +6,7 @@ use Rattle.std.specs.Option.{option_map_or}
 use Rattle.jc_classes.specs.Subtype.{is_subtype}
 use Rattle.jc_code.specs.declared.object.Creation.{Creation}
 use Rattle.jc_code.specs.declared.object.Creation.TheVariants as Creations
+use Rattle.jc_code.specs.declared.instr.Operation.TheVariants as operations
 use Rattle.jc_code.specs.declared.object.ObjectOperation.{ObjectOperation}
 use Rattle.jc_code.specs.declared.object.ObjectOperation.TheVariants.{PushNull, Load, Store, LoadComponent}
 use Rattle.jc_code.specs.declared.object.ObjectOperation.TheVariants.{StoreComponent, ArrayLength, Branch, Field}
@@ -29,7 +30,7 @@ use Rattle.jc_words.specs.Values.{Null, Ref, TaggedValue, Unset, Word}
 use Rattle.jc_api.specs.declared.class.ApiClass.TheVariants.{SystemException}
 use Rattle.jc_machine.specs.Apart.{SparesPlain}
 use Rattle.jc_machine.specs.Going.{Here, gives, no_resource, runtime_touch, stored_in, throws, throws_system, wanting}
-use Rattle.jc_machine.specs.Guarded.{IsAccessed}
+use Rattle.jc_machine.specs.Guarded.{IsAccessed, StandsAt}
 use Rattle.jc_machine.specs.Lookup.{component_class, is_instance, is_throwable}
 use Rattle.jc_machine.specs.Machine.{Machine, Stepped, Surroundings, Throws, Touch}
 use Rattle.jc_machine.specs.Natives.{AreNativesGuarded}
@@ -223,24 +224,24 @@ branch_keeps h Conditions.Different offset =
 -- ---- instructions on references
 
 pub object_keeps : {C : Type 0} (h : Here C) → AreNativesGuarded h.around.natives → (operation : ObjectOperation)
-    → KeepsLaw h.around h.machine [] (act_object h operation)
+    → StandsAt h.around h.machine (operations.Object operation) → KeepsLaw h.around h.machine [] (act_object h operation)
 unfolding act_object
-object_keeps h natives PushNull = gives_still h Null h.machine.top.operands
-object_keeps h natives (Load local) =
+object_keeps h natives PushNull at = gives_still h Null h.machine.top.operands
+object_keeps h natives (Load local) at =
     at_reference_local (slice_get h.machine.top.locals local) _ (λ v. gives_still h v h.machine.top.operands)
-object_keeps h natives (Store local) =
+object_keeps h natives (Store local) at =
     at_reference h.machine.top.operands _ (λ v vs. at_check (nat_lt local (length h.machine.top.locals)) _
     (goes_behind h (slice_set h.machine.top.locals local v) vs))
-object_keeps h natives (LoadComponent form) = load_keeps h form
-object_keeps h natives (StoreComponent form) = store_keeps h form
-object_keeps h natives ArrayLength = length_keeps h
-object_keeps h natives (Branch when offset) = branch_keeps h when offset
-object_keeps h natives (Field access index) = field_keeps h access index
-object_keeps h natives (Invoke invocation) = call_keeps h natives invocation
-object_keeps h natives (Create creation) = create_keeps h creation
-object_keeps h natives (CheckCast type) = check_cast_keeps h type
-object_keeps h natives (InstanceOf type) = instance_of_keeps h type
-object_keeps h natives Throw = throw_keeps h
-object_keeps h natives ReturnReference =
+object_keeps h natives (LoadComponent form) at = load_keeps h form
+object_keeps h natives (StoreComponent form) at = store_keeps h form
+object_keeps h natives ArrayLength at = length_keeps h
+object_keeps h natives (Branch when offset) at = branch_keeps h when offset
+object_keeps h natives (Field access index) at = field_keeps h access index at
+object_keeps h natives (Invoke invocation) at = call_keeps h natives invocation
+object_keeps h natives (Create creation) at = create_keeps h creation
+object_keeps h natives (CheckCast type) at = check_cast_keeps h type
+object_keeps h natives (InstanceOf type) at = instance_of_keeps h type
+object_keeps h natives Throw at = throw_keeps h
+object_keeps h natives ReturnReference at =
     at_reference h.machine.top.operands _ (λ v vs. at_returns h (Some v))
-object_keeps h natives ReturnVoid = at_returns h None
+object_keeps h natives ReturnVoid at = at_returns h None

@@ -16,7 +16,7 @@ use Rattle.jc_store.specs.Heap.{Heap, Object, object_at}
 use Rattle.jc_machine.specs.Apart.{AreNativesApart, HaveApiMembers, IsApart, SparesPlain, StaysApart, is_applets}
 use Rattle.jc_machine.specs.Going.{Here, moved}
 use Rattle.jc_machine.specs.Guarded.{AreGuarded, ChangesAccessed, IsAccessed, IsGuarded, IsRefused, KeepsPlain}
-use Rattle.jc_machine.specs.Guarded.{KeepsStatics, allowed, are_allowed, denied, machine_of}
+use Rattle.jc_machine.specs.Guarded.{KeepsStatics, StandsAt, allowed, are_allowed, denied, machine_of}
 use Rattle.jc_machine.specs.Keeping.{MembersKeep}
 use Rattle.jc_machine.specs.Lookup.{class_of, code_at, declared_at, instruction_at, is_throwable}
 use Rattle.jc_machine.specs.Machine.{Ends, Frame, Machine, Next, Outcome, Stuck, Surroundings, Throws, Touch, UsedUp}
@@ -35,17 +35,18 @@ use Rattle.jc_machine.proofs.StayingApart.{IsApartPart, are_applets}
 -- ---- one instruction
 
 act_keeps : {C : Type 0} (h : Here C) → AreNativesGuarded h.around.natives → (operation : Operation)
-    → KeepsLaw h.around h.machine [] (act h operation)
-act_keeps h natives (operations.Word operation) = word_keeps h operation
-act_keeps h natives (operations.Object operation) = object_keeps h natives operation
+    → StandsAt h.around h.machine operation → KeepsLaw h.around h.machine [] (act h operation)
+act_keeps h natives (operations.Word operation) at = word_keeps h operation
+act_keeps h natives (operations.Object operation) at = object_keeps h natives operation at
 
 at_keeps : {C : Type 0} (s : Surroundings C) → AreNativesGuarded s.natives → (m : Machine C)
     → KeepsLaw s m [] (act_at s m)
 unfolding act_at
 at_keeps s natives m =
     at_some (declared_at s.world m.top.method) _ (λ method e. at_some method.method.header _ (λ header e.
-    at_some (code_at s.world m.top.method) _ (λ body e. at_some (instruction_at body.code m.top.pc) _ (λ instr e.
-    act_keeps (here s m method header instr) natives instr.operation))))
+    at_some (code_at s.world m.top.method) _ (λ body has. at_some (instruction_at body.code m.top.pc) _ (λ instr e.
+    act_keeps (here s m method header instr) natives instr.operation
+    (record { body = body; instr = instr; has_code = has; stands = e; is = refl })))))
 
 -- ---- what is thrown: no object changes, and no frame is active otherwise
 

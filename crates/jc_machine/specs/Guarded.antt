@@ -5,7 +5,14 @@ use Rattle.std.specs.Prelude.{None, slice_get}
 use Rattle.std.specs.List.{AllByRecursion, list_all}
 use Rattle.std.specs.Option.{option_map_or}
 use Rattle.jc_base.specs.declared.declared_type.DeclaredType.{DeclaredType}
-use Rattle.jc_cap_desc.specs.Shape.{Shape}
+use Rattle.jc_cap_desc.specs.Shape.{MethodBody, Shape}
+use Rattle.jc_code.specs.declared.instr.Instr.{Instr}
+use Rattle.jc_code.specs.declared.instr.Operation.{Operation}
+use Rattle.jc_code.specs.declared.instr.Operation.TheVariants as operations
+use Rattle.jc_code.specs.declared.object.FieldAccess.{FieldAccess}
+use Rattle.jc_code.specs.declared.object.FieldAction.TheVariants.{Put}
+use Rattle.jc_code.specs.declared.object.Holder.TheVariants.{Class}
+use Rattle.jc_code.specs.declared.object.ObjectOperation.TheVariants.{Field}
 use Rattle.jc_firewall.specs.Verdict.{runtime_context, verdict_of}
 use Rattle.jc_firewall.specs.declared.access.Access.{Access}
 use Rattle.jc_firewall.specs.declared.access.Access.TheVariants.{ArrayLength, CheckCast, GetField, InstanceOf}
@@ -23,7 +30,7 @@ use Rattle.jc_store.specs.declared.kind.Mark.TheVariants.{Plain}
 use Rattle.jc_machine.specs.Calls.{native_call, native_may_begin}
 use Rattle.jc_machine.specs.Fields.{with_static}
 use Rattle.jc_machine.specs.Going.{facts_for}
-use Rattle.jc_machine.specs.Lookup.{target_at}
+use Rattle.jc_machine.specs.Lookup.{code_at, instruction_at, target_at}
 use Rattle.jc_machine.specs.Machine.{Asked, By, ByCode, ByRuntime, Callback, Calls, Ends, Machine, NativeAnswer, Next}
 use Rattle.jc_machine.specs.Machine.{Outcome, Stepped, Stuck, Surroundings, Throws, Touch, UsedUp}
 use Rattle.jc_machine.specs.Runtime.{apdu_buffer, apdu_exception, iso_exception, security_exception, system_exception}
@@ -101,8 +108,9 @@ abbrev pub frame_answer : {C : Type 0} → Surroundings C → Machine C → ℕ 
 frame_answer s m member arguments =
     s.natives.answer s.world (native_call s m m.top.active m.top.previous member arguments)
 
--- each access of a step is made in the context of the frame that runs, or by the runtime. Only where the frame calls a
--- native member that has a member of another object called, that one's stand behind those of the first
+-- each access of a step is made in the context of the frame that runs, or by the runtime. One of another context stands
+-- only behind those of a native member that may begin there and has a member of another object called. That the
+-- instruction calls this member isn't said
 pub data AreMade {C : Type 0} (s : Surroundings C) (m : Machine C) : List Touch → Type 0 where
   by_frame : (touches : List Touch) → AllByRecursion (IsJudged (setting_of s m)) touches → AreMade s m touches
   by_callback : (member : ℕ) (arguments : List TaggedValue) (callback : Callback) (before called : List Touch)
@@ -187,16 +195,28 @@ machine_of Stuck = None
 abbrev pub IsRefused : {C : Type 0} → Surroundings C → Machine C → Stepped C → Type 0
 IsRefused s m stepped = stepped.outcome ≡ settled s (Throws m security_exception)
 
--- the code that runs names a static field, by an entry of its package's constant pool
-pub record NamesStatic {C : Type 0} (s : Surroundings C) (m : Machine C) (place : StaticPlace) : Type 0 where
+-- a machine stands at an instruction
+pub record StandsAt {C : Type 0} (s : Surroundings C) (m : Machine C) (operation : Operation) : Type 0 where
+  pub body : MethodBody
+  pub instr : Instr
+  pub has_code : code_at s.world m.top.method ≡ Some body
+  pub stands : instruction_at body.code m.top.pc ≡ Some instr
+  pub is : instr.operation ≡ operation
+
+-- it stands at a putstatic, and the entry of the constant pool that this has names a static field
+pub record PutsStatic {C : Type 0} (s : Surroundings C) (m : Machine C) (place : StaticPlace) : Type 0 where
+  pub access : FieldAccess
   pub index : ℕ
   pub declared : DeclaredType ClassName
+  pub stands : StandsAt s m (operations.Object (Field access index))
+  pub puts : access.action ≡ Put
+  pub of_class : access.holder ≡ Class
   pub named : target_at s.world m.top.method.number index ≡ Some (StaticField place declared)
 
--- static fields are what they were, or one that the code names has another value
+-- static fields are what they were, or a putstatic gives the one that it names another value
 pub data KeepsStatics {C : Type 0} (s : Surroundings C) (m after : Machine C) : Type 0 where
   as_they_were : m.statics ≡ after.statics → KeepsStatics s m after
-  one_written : (place : StaticPlace) (v : TaggedValue) → NamesStatic s m place
+  one_written : (place : StaticPlace) (v : TaggedValue) → PutsStatic s m place
       → with_static m.statics place.home place.offset v ≡ after.statics → KeepsStatics s m after
 
 -- the law of accesses, of one step

@@ -1,6 +1,6 @@
 -- Where references are kept: no field or component holds one to a temporary entry point or a global array. No static
--- field does either, but to the initialised arrays of a library (Java Card Runtime Environment Specification, JCRE Entry
--- Point Objects, Global Arrays).
+-- field does either, but to the initialised arrays of a library (Java Card Runtime Environment Specification, JCRE
+-- Entry Point Objects, Global Arrays).
 use Rattle.std.specs.Prelude.{◌≡◌, ℕ, ◌&&◌, ◌||◌, Bool, true, false, not, List, Some, nat_lt}
 use Rattle.std.specs.List.{AllByRecursion}
 use Rattle.std.specs.Option.{option_map_or}

@@ -71,8 +71,8 @@ pub fn runtime_objects_stay()
 /// the security exception is thrown from the machine as it was. Components change only of objects of which an allowed
 /// access is listed by which they may change; those of a plain object in its own context alone, or by the runtime. Each
 /// object stays, of the same kind, owner and size; one that is new is plain, and of the owner that is active. Static
-/// fields stay too, but for one that the code of the frame names by its package's constant pool: its own, or one that
-/// another package exports. What the runtime keeps may be of any type. It does nothing.
+/// fields stay too, but for the one that a putstatic names by its package's constant pool: its own, or one that another
+/// package exports. What the runtime keeps may be of any type. It does nothing.
 pub fn accesses_are_guarded<N: Natives>(_natives: &N)
     ensures guarded { (s : Surroundings N.Kept) → AreNativesGuarded s.natives → (m : Machine N.Kept) → IsGuarded s m }
     ensures denied { (s : Surroundings N.Kept) → AreNativesGuarded s.natives → (m : Machine N.Kept)

@@ -32,7 +32,7 @@ pub data Check : Type 0 where
   UsesUnlessNull : (place : ℕ) (way : Way) → Check
   -- the second argument may be called, where the first and it are AIDs
   CallsOtherAid : Check
-  -- so many components from the offset at a place on lie within the array at a place; there is no range in null
+  -- so many components from the offset at a place on lie within the array at a place, or there is null
   HasRange : (array offset : ℕ) (count : Length) → Check
 
 -- ---- what tests come to

@@ -149,7 +149,8 @@ abbrev pub begun : World → NativeCall Kept → Option Native → NativeAnswer 
 begun w call None = unchanged call [] IsStuck
 begun w call (Some native) = answer_by (called w call) (member_of_native native)
 
--- a member is stuck only where it is none, or something that it looks at isn't of its type
+-- a member is stuck only where it is none, or abstract, where its arguments aren't of their types, or where something
+-- else that it looks at isn't
 abbrev pub answer_of : World → NativeCall Kept → NativeAnswer Kept
 answer_of w call =
     if native_may_begin w.shapes call.heap call.member call.arguments

@@ -117,7 +117,7 @@ kept_of h = h.call.runtime
 abbrev pub ends_with : Called → Ending → Option Work
 ends_with h ending = Some (gives (kept_of h) ending)
 
--- words are written to an object of the caller's
+-- words are written to an object, in the caller's name
 abbrev pub writes_words : Called → ℕ → ℕ → List ℕ → Ending → Option Work
 writes_words h object from words ending = Some (writes_to (kept_of h) object from words ending)
 
@@ -303,6 +303,7 @@ applet_member applets.RegisterBytes = record {
 }
 applet_member applets.Select = record { tests = Uses 0 Calls ∷ []; does = λ h. ends_with h (GivesWord 1) }
 applet_member applets.Deselect = record { tests = Uses 0 Calls ∷ []; does = λ h. ends_with h NoResult }
+-- no package can call it: it is abstract, and has no code to begin with
 applet_member applets.Process = record { tests = Uses 0 Calls ∷ []; does = λ h. ends_with h NoResult }
 applet_member applets.SelectingApplet = record {
   tests = Uses 0 Calls ∷ [];

@@ -45,7 +45,7 @@ pub data IsCardRun (images certificates : List ℕ → List ℕ → Type 0)
       → IsCardRun images certificates commands between answers touches after
       → IsCardRun images certificates (first ∷ commands) c (answer ∷ answers) (accesses_of c first ++ touches) after
 
--- ---- what is promised of its accesses
+-- ---- the law of its accesses
 
 -- the law of accesses, of a command on a card that leaves another one
 abbrev pub IsGuarded : CardState → ScriptCommand → CardState → Type 0

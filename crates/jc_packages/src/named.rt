@@ -6,10 +6,10 @@ ghost use Rattle.jc_packages.specs.Named.{AnswersNamed};
 ghost use Rattle.jc_packages.specs.PrivateNamed.{IsReadBehind};
 ghost use Rattle.jc_source.specs.Source.{HoldSame, failures_in};
 
-use jc_source::{PackageSource, SourceFault};
 use crate::verification::verify;
 use crate::verify_answer::VerifyAnswer;
 use jc_api::Binding;
+use jc_source::{PackageSource, SourceFault};
 use std::alloc::Global;
 
 // Puts the image under a name behind others.

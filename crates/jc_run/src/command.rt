@@ -18,8 +18,8 @@ ghost use Rattle.jc_script.specs.Shown.{shown_command};
 use crate::answer::CommandAnswer;
 use jc_base::Aid;
 use jc_card::{Card, bytes_are_low};
-use jc_source::{PackageSource, SourceFault};
 use jc_script::ScriptCommand;
+use jc_source::{PackageSource, SourceFault};
 use std::alloc::Global;
 
 /// The image of a package, and the bytes of its certificate.

@@ -20,11 +20,11 @@ use crate::telling::Teller;
 use crate::writing::write_answer;
 use jc_api::Binding;
 use jc_card::{Card, Limits};
-use jc_source::{PackageSource, SourceFault};
 use jc_script::{
     Dialect, LineCause, LineFault, MOST_IN_LINE, MOST_LINES, NextLine, ScriptCommand, ScriptLine,
     ScriptReader, fault_in, said_by,
 };
+use jc_source::{PackageSource, SourceFault};
 use std::alloc::Global;
 use std::io::{Read, Write};
 

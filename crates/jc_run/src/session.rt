@@ -20,11 +20,11 @@ use crate::telling::{LineRefusal, Teller};
 use crate::writing::write_answer;
 use jc_api::Binding;
 use jc_card::{Card, Limits};
-use jc_source::{PackageSource, SourceFault};
 use jc_script::{
     Dialect, LineCause, LineFault, MOST_IN_LINE, NextLine, ReadFault, ScriptCommand, ScriptLine,
     ScriptReader, fault_in, said_in_session,
 };
+use jc_source::{PackageSource, SourceFault};
 use std::alloc::Global;
 use std::io::{Read, Write};
 

@@ -16,3 +16,4 @@ mod Superclasses
 mod Meeting
 mod Implemented
 mod Ways
+mod Extending

@@ -24,7 +24,8 @@ use Rattle.jc_classes.specs.Record.{interface_rows}
 use Rattle.jc_cap_class.specs.Component.{is_class}
 use Rattle.jc_classes.specs.Methods.{is_this, table_visit, record_visit, virtual_visit, virtual_method_of, package_visible, interface_visit, listing_visit, indexes_visit, row_for}
 use Rattle.jc_classes.specs.PrivatePlaces.{place_at}
-use Rattle.jc_classes.specs.PrivateTables.{Listed, Tabled, no_methods, row_at, entry_in, indexes_in, depth_above, entry_above, visible_above, listed_above, IsTabled, IsTabledAbove, entry_made, listed_row, index_at, table_in, table_of, AreTables, AreBefore}
+use Rattle.jc_classes.specs.Listed.{Listed, indexes_in}
+use Rattle.jc_classes.specs.PrivateTables.{Tabled, no_methods, row_at, entry_in, depth_above, entry_above, visible_above, listed_above, IsTabled, IsTabledAbove, entry_made, listed_row, index_at, table_in, table_of, AreTables, AreBefore}
 use Rattle.jc_classes.specs.Subtype.{comes_to_end, has_whole_chain}
 use Rattle.jc_classes.specs.Walk.{most_classes, found_from, walk, found}
 use Rattle.jc_names.specs.Names.{home_of, offset_of}

@@ -1,6 +1,7 @@
 pub mod World
 pub mod Walk
 pub mod Methods
+pub mod Listed
 pub mod Subtype
 pub mod Growth
 pub mod PrivateShape

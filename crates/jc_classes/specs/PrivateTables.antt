@@ -1,12 +1,13 @@
 -- Private. Tables of the methods of classes, made from those of the classes above.
 use Rattle.std.specs.Prelude.{◌≡◌, ℕ, suc, ◌-◌, ◌<◌, ◌≤◌, ◌==◌, Bool, true, false, List, [], ◌∷◌, Option, Some, None}
 use Rattle.std.specs.Prelude.{length, nat_lt, slice_get, unwrap_or, if◌then◌else◌}
-use Rattle.std.specs.List.{find, position}
+use Rattle.std.specs.List.{position}
 use Rattle.std.specs.Option.{option_map, option_and_then}
 use Rattle.jc_cap_class.specs.Interfaces.{Implemented}
 use Rattle.jc_cap_class.specs.declared.record.RecordBody.{RecordBody}
 use Rattle.jc_cap_desc.specs.Shape.{Shape}
 use Rattle.jc_classes.specs.Limits.{IsSmall}
+use Rattle.jc_classes.specs.Listed.{AreListedBy, Listed, indexes_in}
 use Rattle.jc_classes.specs.Methods.{record_visit, package_visible, virtual_method_of, interface_visit, indexes_visit}
 use Rattle.jc_classes.specs.Methods.{row_for}
 use Rattle.jc_names.specs.Names.{is_same_name}
@@ -18,11 +19,6 @@ use Rattle.jc_names.specs.Names.{home_of, offset_of, name_in}
 use Rattle.jc_classes.specs.World.{package_at, class_named, superclass_of}
 use Rattle.jc_names.specs.declared.name.ClassName.{ClassName}
 use Rattle.jc_names.specs.declared.name.MethodName.{MethodName}
-
--- an interface, and under which virtual tokens a class has its methods
-pub record Listed : Type 0 where
-  pub interface : ClassName
-  pub indexes : List ℕ
 
 -- a table of a class: within how many classes its superclasses come to an end, its public methods by their tokens, the
 -- package-visible ones for each package that may ask, by their tokens from 128 on, and the interfaces, the nearest
@@ -47,11 +43,7 @@ entry_in table token asker =
     if nat_lt token package_visible then place_at table.public token
     else place_at (row_at table.visible asker) (token - package_visible)
 
--- under which virtual tokens an interface's methods stand
-abbrev pub indexes_in : List Listed → ClassName → Option (List ℕ)
-indexes_in rows interface = option_map (λ l. l.indexes) (find (λ l. is_same_name l.interface interface) rows)
-
--- the same of the table of the class above, if there is a class above
+-- what the table of the class above has, if there is a class above
 abbrev pub depth_above : Option Tabled → ℕ
 depth_above None = 0
 depth_above (Some table) = table.depth
@@ -74,8 +66,7 @@ pub record IsTabled (world : List Shape) (c : ClassName) (table : Tabled) : Type
   pub least : (n : ℕ) → comes_to_end world n c ≡ true → table.depth ≤ n
   pub depth : table.depth ≤ most_classes
   pub methods : (token asker : ℕ) → token < 256 → entry_in table token asker ≡ virtual_method_of world c token asker
-  pub interfaces : (interface : ClassName)
-      → indexes_in table.listed interface ≡ found (interface_visit world interface) world c
+  pub interfaces : AreListedBy world c table.listed
 
 -- a table has what the look-ups from the class above find
 pub record IsTabledAbove (world : List Shape) (c : ClassName) (above : Option Tabled) : Type 0 where

@@ -10,6 +10,7 @@ ghost use Rattle.jc_classes.specs.Subtype.{has_whole_chain};
 ghost use Rattle.jc_names.specs.Names.{home_of};
 
 use crate::shapes::Shapes;
+use crate::shared::SharedTables;
 use crate::table::ClassTable;
 use crate::tables::{MethodTable, PackageTables};
 use crate::walk::MOST_CLASSES;
@@ -37,17 +38,17 @@ impl Shapes {
     }
 
     /// The table of a class, if there is one.
-    fn table_in<'t>(&self, tables: &'t [PackageTables], class: ClassName) -> Option<&'t MethodTable>
+    fn table_in<'t>(&self, tables: &'t [SharedTables], class: ClassName) -> Option<&'t MethodTable>
         ensures { option_map (λ t. t.now) result ≡ table_of self.now tables.now class }
     {
         let index = self.index_of(class)?;
-        tables.get(class.home().index())?.at(index)
+        tables.get(class.home().index())?.get().at(index)
     }
 
     /// The table of a class, if it is made: of one of the packages before, or of the last one.
     fn table_so_far<'t>(
         &self,
-        tables: &'t [PackageTables],
+        tables: &'t [SharedTables],
         made: &'t PackageTables,
         class: ClassName,
     ) -> Option<&'t MethodTable>
@@ -55,7 +56,7 @@ impl Shapes {
     {
         let index = self.index_of(class)?;
         match tables.get(class.home().index()) {
-            Some(rows) => rows.at(index),
+            Some(rows) => rows.get().at(index),
             None => made.at(index),
         }
     }
@@ -63,7 +64,7 @@ impl Shapes {
     /// The table of the class above a class, if there is a class above. `None` where that has no table yet.
     fn table_above<'t>(
         &self,
-        tables: &'t [PackageTables],
+        tables: &'t [SharedTables],
         made: &'t PackageTables,
         class: ClassName,
     ) -> Option<Option<&'t MethodTable>>
@@ -85,7 +86,7 @@ impl Shapes {
     fn table_made(
         &self,
         alloc: Global,
-        tables: &[PackageTables],
+        tables: &[SharedTables],
         made: &PackageTables,
         class: ClassName,
     ) -> Result<Option<MethodTable>, AllocError>
@@ -114,7 +115,7 @@ impl Shapes {
     fn fill_class(
         &self,
         alloc: Global,
-        tables: &[PackageTables],
+        tables: &[SharedTables],
         made: &mut PackageTables,
         class: ClassName,
     ) -> Result<bool, AllocError>
@@ -150,7 +151,7 @@ impl Shapes {
     fn fill(
         &self,
         alloc: Global,
-        tables: &[PackageTables],
+        tables: &[SharedTables],
         made: &mut PackageTables,
         index: usize,
     ) -> Result<bool, AllocError>
@@ -169,7 +170,7 @@ impl Shapes {
     fn fill_each(
         &self,
         alloc: Global,
-        tables: &[PackageTables],
+        tables: &[SharedTables],
         made: &mut PackageTables,
         count: usize,
     ) -> Result<bool, AllocError>
@@ -190,7 +191,7 @@ impl Shapes {
     fn fill_all(
         &self,
         alloc: Global,
-        tables: &[PackageTables],
+        tables: &[SharedTables],
         made: &mut PackageTables,
         count: usize,
     ) -> Result<(), AllocError>
@@ -210,7 +211,7 @@ impl Shapes {
     fn tables_of_last(
         &self,
         alloc: Global,
-        tables: &[PackageTables],
+        tables: &[SharedTables],
     ) -> Result<PackageTables, AllocError>
         requires { AreBefore self.now tables.now }
         ensures { IfOk result (λ made. AreTables self.now (tables.now ++ made ∷ [])) }
@@ -226,14 +227,14 @@ impl Shapes {
     pub(crate) fn put_tables(
         &self,
         alloc: Global,
-        tables: &mut Vec<PackageTables>,
+        tables: &mut Vec<SharedTables>,
     ) -> Result<(), AllocError>
         requires { AreBefore self.now tables.old.items }
         ensures done { IfOk result (λ u. AreTables self.now tables.new.items) }
         ensures kept { IfErr result (λ e. tables.new.items ≡ tables.old.items) }
     {
         let made = self.tables_of_last(alloc, tables)?;
-        tables.push(made)?;
+        tables.push(SharedTables::new(alloc, made)?)?;
         Ok(())
     }
 }

@@ -14,6 +14,7 @@ ghost use Rattle.jc_classes.specs.Limits.{IsSmall, most_packages, most_classes_o
 
 use crate::copies::{Copied, all_copied};
 use crate::shape::{Body, Class, PackageShape};
+use crate::shared::SharedShape;
 use jc_base::{Aid, ClassRef, PackageInfo};
 use jc_names::{ClassName, PackagePlace, name_in};
 use std::alloc::{AllocError, Global};
@@ -22,7 +23,7 @@ use std::marker::Model;
 /// The packages of a world, without the tables of their classes.
 #[derive(Drop)]
 pub(crate) struct Shapes {
-    packages: Vec<PackageShape>,
+    packages: Vec<SharedShape>,
 }
 
 impl Model for Shapes {
@@ -62,6 +63,13 @@ impl PackageShape {
         let package = &self.package;
         wanted.aid == package.aid && wanted.major == package.major && wanted.minor <= package.minor
     }
+
+    /// Whether it has an AID.
+    fn has_aid(&self, aid: &Aid) -> bool
+        ensures { result ≡ bytes_eq aid.now self.now.«package».aid }
+    {
+        *aid == self.package.aid
+    }
 }
 
 impl Body {
@@ -77,19 +85,19 @@ impl Body {
 }
 
 /// Where the first of these packages stands that meets an import.
-fn first_that_meets(packages: &[PackageShape], wanted: &PackageInfo) -> Option<usize>
+fn first_that_meets(packages: &[SharedShape], wanted: &PackageInfo) -> Option<usize>
     ensures found { result ≡ position (meets wanted.now) packages.now }
     ensures within { IfSome result (λ there. there < length packages.now) }
 {
-    packages.iter().position(|p| p.meets(wanted))
+    packages.iter().position(|p| p.get().meets(wanted))
 }
 
 /// Where the first of these packages stands that has an AID.
-fn first_with(packages: &[PackageShape], aid: &Aid) -> Option<usize>
+fn first_with(packages: &[SharedShape], aid: &Aid) -> Option<usize>
     ensures found { result ≡ position (λ shape. bytes_eq aid.now shape.«package».aid) packages.now }
     ensures within { IfSome result (λ there. there < length packages.now) }
 {
-    packages.iter().position(|p| *aid == p.package.aid)
+    packages.iter().position(|p| p.get().has_aid(aid))
 }
 
 impl Shapes {
@@ -115,7 +123,8 @@ impl Shapes {
         ensures done { IfOk result (λ u. self.new ≡ grown self.old shape) }
         ensures kept { IfErr result (λ e. self.new ≡ self.old) }
     {
-        self.packages.push(shape)?;
+        let shared = SharedShape::new(self.allocator(), shape)?;
+        self.packages.push(shared)?;
         Ok(())
     }
 
@@ -141,7 +150,10 @@ impl Shapes {
         ensures few { IfSome result (λ s. length s.now.classes ≤ most_classes_of_one) }
         ensures home { IfSome result (λ s. home < most_packages) }
     {
-        self.packages.get(home.index())
+        match self.packages.get(home.index()) {
+            Some(shared) => Some(shared.get()),
+            None => None,
+        }
     }
 
     /// The package of a class.
@@ -169,7 +181,7 @@ impl Shapes {
         ensures found { result ≡ import_of self.now home token }
         ensures before { IfSome result (λ there. there < home) }
     {
-        let shape = self.packages.get(home.index())?;
+        let shape = self.shape(home)?;
         let wanted = shape.imports.get(usize::from(token))?;
         let there = first_that_meets(&self.packages[..home.index()], wanted)?;
         Some(PackagePlace::new(there))
@@ -190,7 +202,7 @@ impl Shapes {
     fn exported_class(&self, home: PackagePlace, token: u8) -> Option<ClassName>
         ensures { result ≡ exported_class self.now home token }
     {
-        let shape = self.packages.get(home.index())?;
+        let shape = self.shape(home)?;
         let row = shape.exports.get(usize::from(token))?;
         name_in(home, row.class)
     }

@@ -5,12 +5,13 @@ ghost use Rattle.std.specs.List.{filter_map};
 ghost use Rattle.std.specs.Option.{option_map, option_to_list};
 ghost use Rattle.jc_classes.specs.PrivatePlaces.{place_at};
 ghost use Rattle.jc_cap_class.specs.Component.{is_class};
-ghost use Rattle.jc_classes.specs.PrivateTables.{no_methods, row_at, entry_in, indexes_in, depth_above, visible_above};
+ghost use Rattle.jc_classes.specs.Listed.{indexes_in};
+ghost use Rattle.jc_classes.specs.PrivateTables.{no_methods, row_at, entry_in, depth_above, visible_above};
 ghost use Rattle.jc_classes.specs.PrivateTables.{listed_above, entry_made, listed_row, IsTabled, IsTabledAbove};
 ghost use Rattle.jc_classes.specs.Walk.{most_classes};
 ghost use Rattle.jc_classes.specs.World.{class_at};
 
-use crate::copies::{Copied, all_copied, put_copies};
+use crate::copies::{Copied, put_copies};
 use crate::methods::PACKAGE_VISIBLE;
 use crate::places::{make_room, place_at};
 use crate::shape::{Class, ImplementedInterface};
@@ -40,17 +41,33 @@ impl Model for MethodRow {
 
 /// An interface, and under which virtual tokens a class has its methods.
 #[derive(Drop)]
-pub(crate) struct ListedInterface {
+pub struct ListedInterface {
     interface: ClassName,
     indexes: Vec<u8>,
 }
 
 impl Model for ListedInterface {
-    ghost use Rattle.jc_classes.specs.PrivateTables.{Listed};
+    ghost use Rattle.jc_classes.specs.Listed.{Listed};
 
     ghost Value = { Listed };
 
     ghost view = { λ l. record { interface = l.interface; indexes = l.indexes.items } };
+}
+
+impl ListedInterface {
+    /// The interface.
+    pub fn interface(&self) -> ClassName
+        ensures { result ≡ self.now.interface }
+    {
+        self.interface
+    }
+
+    /// By the interface's tokens: under which virtual tokens the class has its methods.
+    pub fn indexes(&self) -> &[u8]
+        ensures { result.now ≡ self.now.indexes }
+    {
+        &self.indexes
+    }
 }
 
 /// What the look-ups from a class find.
@@ -101,6 +118,17 @@ impl MethodRow {
     {
         place_at(&self.methods, usize::from(token))
     }
+
+    /// How many tokens it goes up to, of the 128 that a row can have.
+    fn count(&self) -> u8
+        ensures most { result ≤ 128 }
+        ensures none { (i : ℕ) → result ≤ i → i < 128 → place_at self.now i ≡ None }
+    {
+        match u8::try_from(self.methods.len()) {
+            Ok(count) => count.min(TOKENS),
+            Err(_) => TOKENS,
+        }
+    }
 }
 
 impl MethodTable {
@@ -136,6 +164,39 @@ impl MethodTable {
             Some(row) => row.at(token - PACKAGE_VISIBLE),
             None => None,
         }
+    }
+
+    /// How many public tokens may lead to a method.
+    pub(crate) fn public_count(&self) -> u8
+        ensures most { result ≤ 128 }
+        ensures none { (i : ℕ) → result ≤ i → i < 128 → place_at self.now.public i ≡ None }
+    {
+        self.public.count()
+    }
+
+    /// For how many places of packages there is a row of package-visible methods.
+    pub(crate) fn visible_count(&self) -> usize
+        ensures { result ≡ length self.now.visible }
+    {
+        self.visible.len()
+    }
+
+    /// How many package-visible tokens may lead to a method for the package that stands there.
+    pub(crate) fn visible_tokens(&self, place: usize) -> u8
+        ensures most { result ≤ 128 }
+        ensures none { (i : ℕ) → result ≤ i → i < 128 → place_at (row_at self.now.visible place) i ≡ None }
+    {
+        match self.visible.get(place) {
+            Some(row) => row.count(),
+            None => 0,
+        }
+    }
+
+    /// What the class and its superclasses list.
+    pub(crate) fn listed(&self) -> &[ListedInterface]
+        ensures { result.now ≡ self.now.listed }
+    {
+        &self.listed
     }
 
     /// The virtual tokens of an interface's methods.
@@ -177,47 +238,11 @@ impl PackageTables {
     }
 }
 
-impl Copied for MethodRow {
-    fn copied(&self, alloc: Global) -> Result<MethodRow, AllocError> {
-        Ok(MethodRow {
-            methods: Vec::from_slice(alloc, &self.methods)?,
-        })
-    }
-}
-
 impl Copied for ListedInterface {
     fn copied(&self, alloc: Global) -> Result<ListedInterface, AllocError> {
         Ok(ListedInterface {
             interface: self.interface,
             indexes: Vec::from_slice(alloc, &self.indexes)?,
-        })
-    }
-}
-
-impl Copied for MethodTable {
-    fn copied(&self, alloc: Global) -> Result<MethodTable, AllocError> {
-        Ok(MethodTable {
-            depth: self.depth,
-            public: self.public.copied(alloc)?,
-            visible: all_copied(alloc, &self.visible)?,
-            listed: all_copied(alloc, &self.listed)?,
-        })
-    }
-}
-
-impl Copied for Option<MethodTable> {
-    fn copied(&self, alloc: Global) -> Result<Option<MethodTable>, AllocError> {
-        match self {
-            Some(table) => Ok(Some(table.copied(alloc)?)),
-            None => Ok(None),
-        }
-    }
-}
-
-impl Copied for PackageTables {
-    fn copied(&self, alloc: Global) -> Result<PackageTables, AllocError> {
-        Ok(PackageTables {
-            tables: all_copied(alloc, &self.tables)?,
         })
     }
 }

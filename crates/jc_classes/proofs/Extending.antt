@@ -1,0 +1,44 @@
+-- How far tables go.
+use Rattle.std.proofs.Common.{◌≡◌, ℕ, ◌+◌, ◌-◌, ◌<◌, ◌≤◌, Bool, true, false, cond, List, [], length, nat_lt, Option, Some}
+use Rattle.std.proofs.Common.{None, unwrap_or, refl, sym, ap, ◌∙◌, arith, lt-ltb, le-ltb}
+use Rattle.std.proofs.lemmas.Option.{slice_get_past}
+use Rattle.jc_cap_desc.specs.Shape.{Shape}
+use Rattle.jc_classes.specs.Methods.{package_visible, virtual_method_of}
+use Rattle.jc_classes.specs.PrivatePlaces.{place_at}
+use Rattle.jc_classes.specs.PrivateTables.{IsTabled, Tabled, entry_in, row_at}
+use Rattle.jc_classes.specs.Subtype.{has_whole_chain}
+use Rattle.jc_names.specs.declared.name.ClassName.{ClassName}
+
+module _ (world : List Shape) (c : ClassName) (table : Tabled) (is : IsTabled world c table) where
+  pub none_public : (count : ℕ) → ((i : ℕ) → count ≤ i → i < 128 → place_at table.public i ≡ None)
+      → (token asker : ℕ) → count ≤ token → token < 128 → virtual_method_of world c token asker ≡ None
+  none_public count none token asker past less =
+      sym (is.methods token asker (omega (arith, less)))
+      ∙ ap (λ b. cond b (place_at table.public token) (place_at (row_at table.visible asker) (token - package_visible)))
+      (lt-ltb token package_visible less)
+      ∙ none token past less
+
+  visible_at : (token place : ℕ) → 128 ≤ token → token < 256
+      → virtual_method_of world c token place ≡ place_at (row_at table.visible place) (token - package_visible)
+  visible_at token place least less =
+      sym (is.methods token place less)
+      ∙ ap (λ b. cond b (place_at table.public token) (place_at (row_at table.visible place) (token - package_visible)))
+      (le-ltb token package_visible least)
+
+  pub no_asker : (token place : ℕ) → length table.visible ≤ place → 128 ≤ token → token < 256
+      → virtual_method_of world c token place ≡ None
+  no_asker token place past least less =
+      visible_at token place least less
+      ∙ ap (λ o. place_at (unwrap_or o []) (token - package_visible)) (slice_get_past table.visible place past)
+
+  pub none_visible : (count place : ℕ)
+      → ((i : ℕ) → count ≤ i → i < 128 → place_at (row_at table.visible place) i ≡ None)
+      → (token : ℕ) → count ≤ token → token < 128 → virtual_method_of world c (128 + token) place ≡ None
+  none_visible count place none token past less =
+      let same : (128 + token) - package_visible ≡ token = omega arith in
+      visible_at (128 + token) place (omega arith) (omega (arith, less))
+      ∙ ap (λ i. place_at (row_at table.visible place) i) same ∙ none token past less
+
+pub no_table : (world : List Shape) (c : ClassName) → has_whole_chain world c ≡ true → has_whole_chain world c ≡ false
+    → (token place : ℕ) → virtual_method_of world c token place ≡ None
+no_table world c whole not_whole token place = absurd (sym whole ∙ not_whole)

@@ -7,6 +7,7 @@ use Rattle.jc_classes.specs.Methods.{package_visible, virtual_method_of}
 use Rattle.jc_classes.specs.PrivatePlaces.{place_at}
 use Rattle.jc_classes.specs.PrivateTables.{IsTabled, Tabled, entry_in, row_at}
 use Rattle.jc_classes.specs.Subtype.{has_whole_chain}
+use Rattle.jc_classes.proofs.Marking.{true_false}
 use Rattle.jc_names.specs.declared.name.ClassName.{ClassName}
 
 module _ (world : List Shape) (c : ClassName) (table : Tabled) (is : IsTabled world c table) where
@@ -41,4 +42,4 @@ module _ (world : List Shape) (c : ClassName) (table : Tabled) (is : IsTabled wo
 
 pub no_table : (world : List Shape) (c : ClassName) → has_whole_chain world c ≡ true → has_whole_chain world c ≡ false
     → (token place : ℕ) → virtual_method_of world c token place ≡ None
-no_table world c whole not_whole token place = absurd (sym whole ∙ not_whole)
+no_table world c whole not_whole token place = absurd (true_false (sym whole ∙ not_whole))

@@ -17,3 +17,4 @@ mod Meeting
 mod Implemented
 mod Ways
 mod Extending
+mod Nearing

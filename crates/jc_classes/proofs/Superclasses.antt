@@ -102,7 +102,7 @@ pub ends_above : (world : List Shape) (n : ℕ) (c s : ClassName) → comes_to_e
 ends_above world n c s e f = sym (ap (λ o. option_map_or (comes_to_end world n) o true) f) ∙ e
 
 -- as many steps as there are superclasses find what more do
-enough : (world : List Shape) (n m : ℕ) (d c : ClassName) → comes_to_end world n c ≡ true → is_at_or_above world m d c ≡ true → is_at_or_above world n d c ≡ true
+pub enough : (world : List Shape) (n m : ℕ) (d c : ClassName) → comes_to_end world n c ≡ true → is_at_or_above world m d c ≡ true → is_at_or_above world n d c ≡ true
 enough world zero m d c e h = absurd (true_false (sym e))
 enough world (suc n) zero d c e h = absurd (true_false (sym h))
 enough world (suc n) (suc m) d c e h = by_way (found_by world d c m h) (λ s f r. enough world n m d s (ends_above world n c s e f) r)

@@ -52,6 +52,10 @@ most_is = refl
 pub one_less : (counter : ℕ) → counter < 17_085 → most_classes - counter ≡ suc (most_classes - (counter + 1))
 one_less counter h = omega (arith, most_is)
 
+-- one step of so many
+pub one_left : (most counter : ℕ) → counter < most → most - counter ≡ suc (most - (counter + 1))
+one_left most counter h = omega (arith, h)
+
 pub all_steps : {A : Type 0} (visit : ClassName → ClassShape → Visit A) (world : List Shape) (c : ClassName) → walk visit world (most_classes - 0) c ≡ found visit world c
 all_steps visit world c = let e : most_classes - 0 ≡ most_classes = omega arith in ap (λ n. walk visit world n c) e
 

@@ -25,7 +25,7 @@ impl ClassTable {
 
     /// A number of places of packages: no package from there on finds a package-visible method of a class whose
     /// superclass chain comes to its end.
-    #[tactic(auto, using(crate::proofs::Extending::no_asker, crate::proofs::Extending::no_table))]
+    #[tactic(auto, using(crate::proofs::Extending::no_table))]
     pub fn visible_places(&self, class: ClassName) -> usize
         requires whole { has_whole_chain self.now class ≡ true }
         ensures none { (token place : ℕ) → result ≤ place → 128 ≤ token → token < 256

@@ -17,14 +17,30 @@ use jc_names::ClassName;
 const OBJECT: ClassName = ClassName::Api(ApiClass::Object);
 
 impl ClassTable {
+    /// How many classes from a class on have to be looked at to see whether another one is among it and its
+    /// superclasses: as many as lie between where the chains of both end, and one more.
+    fn steps_to(&self, above: ClassName, class: ClassName) -> u16
+        ensures { is_at_or_above self.now result above class ≡ is_at_or_above self.now most_classes above class }
+    {
+        let Some(low) = self.table_of(class) else {
+            return MOST_CLASSES;
+        };
+        let Some(high) = self.table_of(above) else {
+            return MOST_CLASSES;
+        };
+        (low.depth() + 1).saturating_sub(high.depth())
+    }
+
     /// Whether a class is another one or a superclass of it. The superclass chain may have a cycle: where the walk
-    /// comes again to a class that it remembers, the other one isn't above.
+    /// comes again to a class that it remembers, the other one isn't above. Where both chains come to their ends no
+    /// more classes are passed than lie between the two.
     pub fn is_at_or_above(&self, above: ClassName, class: ClassName) -> bool
         ensures { result ≡ is_at_or_above self.now most_classes above class }
     {
         let mut at = class;
         let mut anchor = class;
-        for steps in 0..MOST_CLASSES {
+        let most = self.steps_to(above, class);
+        for steps in 0..most {
             if at.is(above) {
                 return true;
             }

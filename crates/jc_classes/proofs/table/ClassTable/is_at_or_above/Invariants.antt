@@ -5,4 +5,4 @@ use Rattle.jc_classes.specs.Walk.{most_classes}
 use Rattle.jc_classes.proofs.table.ClassTable.is_at_or_above.Given as goal
 
 abbrev pub invariant-loop-steps : goal.invariant-loop-steps
-invariant-loop-steps l = IsOnWalk (λ n. is_at_or_above l.self n l.above) l.anchor l.at (most_classes - l.steps) (is_at_or_above l.self most_classes l.above l.fn.class)
+invariant-loop-steps l = IsOnWalk (λ n. is_at_or_above l.self n l.above) l.anchor l.at (l.most - l.steps) (is_at_or_above l.self most_classes l.above l.fn.class)

@@ -1,12 +1,12 @@
 -- Tables of the methods of classes.
-use Rattle.std.proofs.Common.{◌≡◌, ◌⊎◌, inl, inr, ℕ, zero, suc, ◌+◌, ◌-◌, ◌*◌, ◌<◌, ◌≤◌, ◌==◌, ◌&&◌, Bool, true, false, cond, List, [], ◌∷◌, ◌++◌, length, take, get_or, Option, Some, None, refl, sym, ap, subst, ◌∙◌, arith, nat_lt, is_some, slice_get, unwrap_or, length-append, add-one}
+use Rattle.std.proofs.Common.{◌≡◌, ◌⊎◌, inl, inr, ℕ, zero, suc, ◌+◌, ◌-◌, ◌*◌, ◌<◌, ◌≤◌, ◌==◌, ◌&&◌, ◌||◌, not, Bool, true, false, cond, List, [], ◌∷◌, ◌++◌, length, take, get_or, Option, Some, None, refl, sym, ap, subst, ◌∙◌, arith, nat_lt, is_some, slice_get, unwrap_or, length-append, add-one}
 use Rattle.std.proofs.lemmas.Bool.{cases_lt, le-ltb, ltb-true, ltb-false, ne_eqb}
 use Rattle.std.proofs.lemmas.List.Elements.{filter_map-append}
 use Rattle.std.proofs.Math.Seq.{take-suc}
 use Rattle.std.proofs.lemmas.Option.{slice_get_past, slice_get_within}
 use Rattle.std.specs.List.{find, position, filter_map, cons_option}
 use Rattle.std.specs.Option.{option_map, option_and_then, option_map_or, option_to_list}
-use Rattle.jc_base.proofs.Binding.{none_some}
+use Rattle.jc_base.proofs.Binding.{none_some, the_some}
 use Rattle.jc_cap_class.specs.Interfaces.{Implemented}
 use Rattle.jc_cap_class.specs.declared.record.RecordBody.{RecordBody}
 use Rattle.jc_cap_class.specs.declared.record.RecordBody.TheVariants.{Interface, Class}
@@ -24,8 +24,8 @@ use Rattle.jc_classes.specs.Record.{interface_rows}
 use Rattle.jc_cap_class.specs.Component.{is_class}
 use Rattle.jc_classes.specs.Methods.{is_this, table_visit, record_visit, virtual_visit, virtual_method_of, package_visible, interface_visit, listing_visit, indexes_visit, row_for}
 use Rattle.jc_classes.specs.PrivatePlaces.{place_at}
-use Rattle.jc_classes.specs.Listed.{Listed, indexes_in}
-use Rattle.jc_classes.specs.PrivateTables.{Tabled, no_methods, row_at, entry_in, depth_above, entry_above, visible_above, listed_above, IsTabled, IsTabledAbove, entry_made, listed_row, index_at, table_in, table_of, AreTables, AreBefore}
+use Rattle.jc_classes.specs.Listed.{ListNothing, Listed, class_behind, indexes_in}
+use Rattle.jc_classes.specs.PrivateTables.{Tabled, no_methods, row_at, entry_in, depth_above, entry_above, visible_above, listed_above, lists_above, lists_any, IsTabled, IsTabledAbove, entry_made, listed_row, index_at, table_in, table_of, AreTables, AreBefore}
 use Rattle.jc_classes.specs.Subtype.{comes_to_end, has_whole_chain}
 use Rattle.jc_classes.specs.Walk.{most_classes, found_from, walk, found}
 use Rattle.jc_names.specs.Names.{home_of, offset_of}
@@ -71,6 +71,7 @@ none_above world c e = record {
   least = one_at_least world c;
   methods = λ token asker b. sym (ap (option_and_then (λ d. virtual_method_of world d token asker)) e);
   interfaces = λ interface. sym (ap (option_and_then (found (interface_visit world interface) world)) e);
+  nothing = λ none d up. absurd (none_some d (sym e ∙ up));
 }
 
 pub some_above : (world : List Shape) (c d : ClassName) (table : Tabled) → superclass_of world c ≡ Some d → IsTabled world d table → IsTabledAbove world c (Some table)
@@ -79,14 +80,30 @@ some_above world c d table e t = record {
   least = one_more world c d table.depth e t.least;
   methods = λ token asker b. t.methods token asker b ∙ sym (ap (option_and_then (λ d. virtual_method_of world d token asker)) e);
   interfaces = λ interface. t.interfaces interface ∙ sym (ap (option_and_then (found (interface_visit world interface) world)) e);
+  nothing = λ none d2 up. subst (ListNothing world) (the_some d d2 (sym e ∙ up)) (t.nothing none);
 }
+
+-- where neither the class nor one above it lists any
+no_rows : (rows : List Implemented) (b : Bool) → (not (length rows == 0) || b) ≡ false → (rows ≡ []) × (b ≡ false)
+no_rows [] b e = (refl, e)
+no_rows (row ∷ rows) b e =
+    absurd (true_false (sym (ap (λ t. not t || b) (ne_eqb (suc (length rows)) 0 (λ e. omega (arith, e)))) ∙ e))
+
+nothing_made : (world : List Shape) (c : ClassName) (k : ClassShape) (above : Option Tabled) → class_at world c ≡ Some k
+    → IsTabledAbove world c above → lists_any (interface_rows k.body) above ≡ false → ListNothing world c
+nothing_made world c k above at up none zero d k2 here there =
+    let same : k ≡ k2 = the_some k k2 (sym at ∙ ap (class_at world) (the_some c d here) ∙ there) in
+    sym (ap (λ (k : ClassShape). interface_rows k.body) same) ∙ (no_rows (interface_rows k.body) (lists_above above) none).0
+nothing_made world c k above at up none (suc n) d k2 here there =
+    let s = some_of (class_behind world n) (superclass_of world c) d here in
+    up.nothing (no_rows (interface_rows k.body) (lists_above above) none).1 s.0 s.1 n d k2 s.2 there
 
 -- a table of what a class says, and of what the table above has
 pub made_right : (world : List Shape) (c : ClassName) (k : ClassShape) (above : Option Tabled) (table : Tabled) → class_at world c ≡ Some k → IsTabledAbove world c above → table.depth ≡ suc (depth_above above) → table.depth ≤ most_classes
     → ((token asker : ℕ) → token < 256 → entry_in table token asker ≡ entry_made world above (home_of c) k.body token asker)
     → ((interface : ClassName) → indexes_in table.listed interface ≡ found_from (listing_visit world interface (home_of c) k.body) (indexes_in (listed_above above) interface))
-    → IsTabled world c table
-made_right world c k above table at up one few methods interfaces =
+    → table.lists ≡ lists_any (interface_rows k.body) above → IsTabled world c table
+made_right world c k above table at up one few methods interfaces lists =
     let ends : comes_to_end world table.depth c ≡ true = ap (λ n. comes_to_end world n c) one ∙ up.ends in
     record {
       ends = ends;
@@ -94,6 +111,7 @@ made_right world c k above table at up one few methods interfaces =
       depth = few;
       methods = λ token asker b. methods token asker b ∙ ap (found_from (record_visit world asker token (home_of c) k.body)) (up.methods token asker b) ∙ sym (one_visit (virtual_visit world asker token) world table.depth c k ends few at);
       interfaces = λ interface. interfaces interface ∙ ap (found_from (listing_visit world interface (home_of c) k.body)) (up.interfaces interface) ∙ sym (one_visit (interface_visit world interface) world table.depth c k ends few at);
+      nothing = λ none. nothing_made world c k above at up (sym lists ∙ none);
     }
 
 -- ---- the table of an interface
@@ -121,6 +139,17 @@ module _ (world : List Shape) (c : ClassName) (k : ClassShape) (at : class_at wo
   no_entry token asker true = refl
   no_entry token asker false = refl
 
+  no_rows_in : (body : RecordBody) → is_class body ≡ false → interface_rows body ≡ []
+  no_rows_in (Interface r) e = refl
+  no_rows_in (Class r) e = absurd (true_false e)
+
+  no_rows_there : ListNothing world c
+  no_rows_there zero d k2 here there =
+      let same : k ≡ k2 = the_some k k2 (sym at ∙ ap (class_at world) (the_some c d here) ∙ there) in
+      sym (ap (λ (k : ClassShape). interface_rows k.body) same) ∙ no_rows_in k.body not_class
+  no_rows_there (suc n) d k2 here there =
+      absurd (none_some d (sym (ap (option_and_then (class_behind world n)) nothing_above) ∙ here))
+
   pub interface_tabled : IsTabled world c no_methods
   interface_tabled = record {
     ends = ends_there;
@@ -129,6 +158,7 @@ module _ (world : List Shape) (c : ClassName) (k : ClassShape) (at : class_at wo
     methods = λ token asker b. no_entry token asker (nat_lt token package_visible)
         ∙ sym (one_visit (virtual_visit world asker token) world 1 c k ends_there (omega (arith, most_is)) at ∙ no_method token asker _ k.body not_class);
     interfaces = λ interface. sym (one_visit (interface_visit world interface) world 1 c k ends_there (omega (arith, most_is)) at ∙ no_row interface _ k.body not_class);
+    nothing = λ none. no_rows_there;
   }
 
 -- ---- worlds that grow
@@ -143,6 +173,32 @@ ends_keep world more (suc n) c w =
     above None rest = refl
     above (Some d) rest = rest d refl
 
+behind_keeps : (world : List Shape) (more : Shape) (n : ℕ) (c : ClassName) → IsWithin world c
+    → class_behind (grown world more) n c ≡ class_behind world n c
+behind_keeps world more zero c w = refl
+behind_keeps world more (suc n) c w =
+    ap (option_and_then (class_behind (grown world more) n)) (superclasses_keep world more c w)
+    ∙ above (superclass_of world c) (λ d e. behind_keeps world more n d (superclass_within world c d w e))
+  where
+    above : (o : Option ClassName)
+        → ((d : ClassName) → o ≡ Some d → class_behind (grown world more) n d ≡ class_behind world n d)
+        → option_and_then (class_behind (grown world more) n) o ≡ option_and_then (class_behind world n) o
+    above None rest = refl
+    above (Some d) rest = rest d refl
+
+behind_within : (world : List Shape) (n : ℕ) (c d : ClassName) → IsWithin world c → class_behind world n c ≡ Some d
+    → IsWithin world d
+behind_within world zero c d w e = subst (IsWithin world) (the_some c d e) w
+behind_within world (suc n) c d w e =
+    let s = some_of (class_behind world n) (superclass_of world c) d e in
+    behind_within world n s.0 d (superclass_within world c s.0 w s.1) s.2
+
+nothing_keeps : (world : List Shape) (more : Shape) (c : ClassName) → IsWithin world c → ListNothing world c
+    → ListNothing (grown world more) c
+nothing_keeps world more c w nothing n d k here there =
+    let before = sym (behind_keeps world more n c w) ∙ here in
+    nothing n d k before (sym (classes_keep world more d (behind_within world n c d w before)) ∙ there)
+
 table_grows : (world : List Shape) (more : Shape) (c : ClassName) (table : Tabled) → IsWithin world c → IsTabled world c table → IsTabled (grown world more) c table
 table_grows world more c table w t = record {
   ends = ends_keep world more table.depth c w ∙ t.ends;
@@ -150,6 +206,7 @@ table_grows world more c table w t = record {
   depth = t.depth;
   methods = λ token asker b. t.methods token asker b ∙ sym (virtual_methods_keep world more c token asker w);
   interfaces = λ interface. t.interfaces interface ∙ sym (listings_found_keep world more interface c w);
+  nothing = λ none. nothing_keeps world more c w (t.nothing none);
 }
 
 indexes_keep : (world : List Shape) (more : Shape) (c : ClassName) → IsWithin world c → index_at (grown world more) c ≡ index_at world c
@@ -325,20 +382,21 @@ whole_table : (world : List Shape) (c : ClassName) (k : ClassShape) (above : Opt
     → ((i : ℕ) → i < 128 → place_at table.public i ≡ entry_made world above (home_of c) k.body (0 + i) 0)
     → ((asker i : ℕ) → i < 128 → place_at (row_at table.visible asker) i ≡ entry_made world above (home_of c) k.body (128 + i) asker)
     → table.listed ≡ filter_map (listed_row world (home_of c)) (interface_rows k.body) ++ listed_above above
-    → IsTabled world c table
-whole_table world c k above table class at up one few public visible listed =
+    → table.lists ≡ lists_any (interface_rows k.body) above → IsTabled world c table
+whole_table world c k above table class at up one few public visible listed lists =
     made_right world c k above table at up one few (rows_right world above (home_of c) k.body table public visible) (λ interface.
     ap (λ (l : List Listed). indexes_in l interface) listed
     ∙ listed_right world (home_of c) (interface_rows k.body) (listed_above above) interface
     ∙ sym (ap (λ v. found_from v (indexes_in (listed_above above) interface)) (class_listing world interface (home_of c) k.body class)))
+    lists
 
 pub table_made : (world : List Shape) (c : ClassName) (k : ClassShape) (above : Option Tabled) (table : Tabled) (home : ℕ) → home ≡ home_of c → is_class k.body ≡ true → class_at world c ≡ Some k → IsTabledAbove world c above → table.depth ≡ suc (depth_above above) → table.depth ≤ most_classes
     → ((i : ℕ) → i < 128 → place_at table.public i ≡ entry_made world above home k.body (0 + i) 0)
     → ((asker i : ℕ) → i < 128 → place_at (row_at table.visible asker) i ≡ entry_made world above home k.body (128 + i) asker)
     → table.listed ≡ filter_map (listed_row world home) (interface_rows k.body) ++ listed_above above
-    → IsTabled world c table
+    → table.lists ≡ lists_any (interface_rows k.body) above → IsTabled world c table
 table_made world c k above table home e class at up one few =
     subst (λ (home : ℕ). ((i : ℕ) → i < 128 → place_at table.public i ≡ entry_made world above home k.body (0 + i) 0)
     → ((asker i : ℕ) → i < 128 → place_at (row_at table.visible asker) i ≡ entry_made world above home k.body (128 + i) asker)
     → table.listed ≡ filter_map (listed_row world home) (interface_rows k.body) ++ listed_above above
-    → IsTabled world c table) (sym e) (whole_table world c k above table class at up one few)
+    → table.lists ≡ lists_any (interface_rows k.body) above → IsTabled world c table) (sym e) (whole_table world c k above table class at up one few)

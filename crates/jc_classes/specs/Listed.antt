@@ -1,11 +1,13 @@
 -- The interfaces that a class and its superclasses list, as the look-up of an interface's method goes through them (Java
 -- Card Virtual Machine Specification, invokeinterface; CAP file format: Class component).
-use Rattle.std.specs.Prelude.{◌≡◌, ℕ, List, Option}
+use Rattle.std.specs.Prelude.{◌≡◌, ℕ, zero, suc, List, [], Option, Some}
 use Rattle.std.specs.List.{find}
-use Rattle.std.specs.Option.{option_map}
-use Rattle.jc_cap_desc.specs.Shape.{Shape}
+use Rattle.std.specs.Option.{option_and_then, option_map}
+use Rattle.jc_cap_desc.specs.Shape.{ClassShape, Shape}
 use Rattle.jc_classes.specs.Methods.{interface_visit}
+use Rattle.jc_classes.specs.Record.{interface_rows}
 use Rattle.jc_classes.specs.Walk.{found}
+use Rattle.jc_classes.specs.World.{class_at, superclass_of}
 use Rattle.jc_names.specs.Names.{is_same_name}
 use Rattle.jc_names.specs.declared.name.ClassName.{ClassName}
 
@@ -22,3 +24,13 @@ indexes_in rows interface = option_map (λ l. l.indexes) (find (λ l. is_same_na
 abbrev pub AreListedBy : List Shape → ClassName → List Listed → Type 0
 AreListedBy world c rows = (interface : ClassName)
     → indexes_in rows interface ≡ found (interface_visit world interface) world c
+
+-- the class so many superclasses above a class
+abbrev pub class_behind : List Shape → ℕ → ClassName → Option ClassName
+class_behind world zero c = Some c
+class_behind world (suc n) c = option_and_then (class_behind world n) (superclass_of world c)
+
+-- neither a class nor a superclass of it lists an interface in its own record
+abbrev pub ListNothing : List Shape → ClassName → Type 0
+ListNothing world c = (n : ℕ) (d : ClassName) (k : ClassShape) → class_behind world n c ≡ Some d
+    → class_at world d ≡ Some k → interface_rows k.body ≡ []

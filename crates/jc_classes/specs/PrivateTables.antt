@@ -1,13 +1,13 @@
 -- Private. Tables of the methods of classes, made from those of the classes above.
 use Rattle.std.specs.Prelude.{◌≡◌, ℕ, suc, ◌-◌, ◌<◌, ◌≤◌, ◌==◌, Bool, true, false, List, [], ◌∷◌, Option, Some, None}
-use Rattle.std.specs.Prelude.{length, nat_lt, slice_get, unwrap_or, if◌then◌else◌}
+use Rattle.std.specs.Prelude.{◌||◌, length, nat_lt, not, slice_get, unwrap_or, if◌then◌else◌}
 use Rattle.std.specs.List.{position}
 use Rattle.std.specs.Option.{option_map, option_and_then}
 use Rattle.jc_cap_class.specs.Interfaces.{Implemented}
 use Rattle.jc_cap_class.specs.declared.record.RecordBody.{RecordBody}
 use Rattle.jc_cap_desc.specs.Shape.{Shape}
 use Rattle.jc_classes.specs.Limits.{IsSmall}
-use Rattle.jc_classes.specs.Listed.{AreListedBy, Listed, indexes_in}
+use Rattle.jc_classes.specs.Listed.{AreListedBy, ListNothing, Listed, indexes_in}
 use Rattle.jc_classes.specs.Methods.{record_visit, package_visible, virtual_method_of, interface_visit, indexes_visit}
 use Rattle.jc_classes.specs.Methods.{row_for}
 use Rattle.jc_names.specs.Names.{is_same_name}
@@ -21,17 +21,18 @@ use Rattle.jc_names.specs.declared.name.ClassName.{ClassName}
 use Rattle.jc_names.specs.declared.name.MethodName.{MethodName}
 
 -- a table of a class: within how many classes its superclasses come to an end, its public methods by their tokens, the
--- package-visible ones for each package that may ask, by their tokens from 128 on, and the interfaces, the nearest
--- class's first
+-- package-visible ones for each package that may ask, by their tokens from 128 on, the interfaces, the nearest class's
+-- first, and whether any class of the chain may list one
 pub record Tabled : Type 0 where
   pub depth : ℕ
   pub public : List (Option MethodName)
   pub visible : List (List (Option MethodName))
   pub listed : List Listed
+  pub lists : Bool
 
 -- the table of an interface
 abbrev pub no_methods : Tabled
-no_methods = record { depth = 1; public = []; visible = []; listed = [] }
+no_methods = record { depth = 1; public = []; visible = []; listed = []; lists = false }
 
 -- the methods for one package that asks
 abbrev pub row_at : List (List (Option MethodName)) → ℕ → List (Option MethodName)
@@ -60,6 +61,14 @@ abbrev pub listed_above : Option Tabled → List Listed
 listed_above None = []
 listed_above (Some table) = table.listed
 
+abbrev pub lists_above : Option Tabled → Bool
+lists_above None = false
+lists_above (Some table) = table.lists
+
+-- whether a class that lists these rows, or one above it, lists any
+abbrev pub lists_any : List Implemented → Option Tabled → Bool
+lists_any rows above = not (length rows == 0) || lists_above above
+
 -- a table has what the look-ups from its class find, and says within how many classes its superclass chain first ends
 pub record IsTabled (world : List Shape) (c : ClassName) (table : Tabled) : Type 0 where
   pub ends : comes_to_end world table.depth c ≡ true
@@ -67,6 +76,7 @@ pub record IsTabled (world : List Shape) (c : ClassName) (table : Tabled) : Type
   pub depth : table.depth ≤ most_classes
   pub methods : (token asker : ℕ) → token < 256 → entry_in table token asker ≡ virtual_method_of world c token asker
   pub interfaces : AreListedBy world c table.listed
+  pub nothing : table.lists ≡ false → ListNothing world c
 
 -- a table has what the look-ups from the class above find
 pub record IsTabledAbove (world : List Shape) (c : ClassName) (above : Option Tabled) : Type 0 where
@@ -76,6 +86,7 @@ pub record IsTabledAbove (world : List Shape) (c : ClassName) (above : Option Ta
       ≡ option_and_then (λ d. virtual_method_of world d token asker) (superclass_of world c)
   pub interfaces : (interface : ClassName) → indexes_in (listed_above above) interface
       ≡ option_and_then (found (interface_visit world interface) world) (superclass_of world c)
+  pub nothing : lists_above above ≡ false → (d : ClassName) → superclass_of world c ≡ Some d → ListNothing world d
 
 -- what a table is to have at a token: what the record says, or what the table above has
 abbrev pub entry_made : List Shape → Option Tabled → ℕ → RecordBody → ℕ → ℕ → Option MethodName

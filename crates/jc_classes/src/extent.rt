@@ -1,7 +1,7 @@
 //! How far the tables of classes go, and what they list: for those who make tables of their own from them.
 
 ghost use Rattle.std.specs.Prelude.{◌≡◌, ◌+◌, ◌≤◌, ◌<◌, ℕ, None, false, true, IfSome, IfNone};
-ghost use Rattle.jc_classes.specs.Listed.{AreListedBy};
+ghost use Rattle.jc_classes.specs.Listed.{AreListedBy, ListNothing};
 ghost use Rattle.jc_classes.specs.Methods.{virtual_method_of};
 ghost use Rattle.jc_classes.specs.Subtype.{has_whole_chain};
 
@@ -60,6 +60,16 @@ impl ClassTable {
         match self.table_of(class) {
             Some(table) => Some(table.listed()),
             None => None,
+        }
+    }
+
+    /// Whether a class or a superclass of it may list an interface in its own record.
+    pub fn may_list(&self, class: ClassName) -> bool
+        ensures { result ≡ false → ListNothing self.now class }
+    {
+        match self.table_of(class) {
+            Some(table) => table.lists(),
+            None => true,
         }
     }
 }

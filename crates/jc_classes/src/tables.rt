@@ -7,7 +7,7 @@ ghost use Rattle.jc_classes.specs.PrivatePlaces.{place_at};
 ghost use Rattle.jc_cap_class.specs.Component.{is_class};
 ghost use Rattle.jc_classes.specs.Listed.{indexes_in};
 ghost use Rattle.jc_classes.specs.PrivateTables.{no_methods, row_at, entry_in, depth_above, visible_above};
-ghost use Rattle.jc_classes.specs.PrivateTables.{listed_above, entry_made, listed_row, IsTabled, IsTabledAbove};
+ghost use Rattle.jc_classes.specs.PrivateTables.{listed_above, entry_made, listed_row, lists_any, IsTabled, IsTabledAbove};
 ghost use Rattle.jc_classes.specs.Walk.{most_classes};
 ghost use Rattle.jc_classes.specs.World.{class_at};
 
@@ -81,6 +81,8 @@ pub(crate) struct MethodTable {
     visible: Vec<MethodRow>,
     /// The interfaces, those of the nearest class first.
     listed: Vec<ListedInterface>,
+    /// Whether the class or one above it may list any.
+    lists: bool,
 }
 
 impl Model for MethodTable {
@@ -93,6 +95,7 @@ impl Model for MethodTable {
       public = t.public;
       visible = t.visible.items;
       listed = t.listed.items;
+      lists = t.lists;
     } };
 }
 
@@ -143,6 +146,7 @@ impl MethodTable {
             },
             visible: Vec::new(alloc),
             listed: Vec::new(alloc),
+            lists: false,
         }
     }
 
@@ -199,6 +203,13 @@ impl MethodTable {
         &self.listed
     }
 
+    /// Whether the class or a superclass may list an interface.
+    pub(crate) fn lists(&self) -> bool
+        ensures { result ≡ self.now.lists }
+    {
+        self.lists
+    }
+
     /// The virtual tokens of an interface's methods.
     pub(crate) fn indexes(&self, interface: ClassName) -> Option<&[u8]>
         ensures { option_map (λ i. i.now) result ≡ indexes_in self.now.listed interface }
@@ -253,6 +264,19 @@ fn trim(methods: &mut Vec<Option<MethodName>>)
 {
     while let Some(None) = methods.last() {
         methods.pop();
+    }
+}
+
+/// Whether a class that lists these rows, or one above it, may list any.
+fn lists_any(rows: &[ImplementedInterface], above: Option<&MethodTable>) -> bool
+    ensures { result ≡ lists_any rows.now (option_map (λ t. t.now) above.entry) }
+{
+    if rows.len() != 0 {
+        return true;
+    }
+    match above {
+        Some(table) => table.lists,
+        None => false,
     }
 }
 
@@ -420,12 +444,14 @@ impl Shapes {
         let home = class.home();
         let public = self.row_made(alloc, above, home, found, 0, 0)?;
         let visible = self.visible_made(alloc, above, home, found)?;
-        let listed = self.listed_made(alloc, above, home, found.interface_rows())?;
+        let rows = found.interface_rows();
+        let listed = self.listed_made(alloc, above, home, rows)?;
         Ok(MethodTable {
             depth,
             public,
             visible,
             listed,
+            lists: lists_any(rows, above),
         })
     }
 }

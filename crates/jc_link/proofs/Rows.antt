@@ -1,15 +1,17 @@
 -- The rows of a class and of its superclasses, which may end where they come to a class again.
-use Rattle.std.proofs.Common.{◌≡◌, ℕ, zero, suc, ◌+◌, ◌≤◌, ◌⊎◌, inl, inr, ◌||◌, Bool, true, false, Option, Some, None, List, [], map, refl, sym, ap, subst, ◌∙◌, arith}
+use Rattle.std.proofs.Common.{◌≡◌, ℕ, zero, suc, ◌+◌, ◌≤◌, ◌⊎◌, inl, inr, ◌||◌, ◌++◌, Bool, true, false, Option, Some, None, List, [], map, refl, sym, ap, subst, ◌∙◌, arith}
 use Rattle.std.proofs.lemmas.List.Folds.{list_any-append}
 use Rattle.std.specs.List.{list_any}
-use Rattle.std.specs.Option.{option_map_or}
+use Rattle.std.specs.Option.{option_and_then, option_map_or}
 use Rattle.jc_cap_desc.specs.Shape.{ClassShape, Shape}
 use Rattle.jc_names.specs.Names.{is_same_name}
+use Rattle.jc_classes.specs.Listed.{ListNothing, class_behind}
 use Rattle.jc_classes.specs.Record.{interface_rows}
+use Rattle.jc_classes.specs.Walk.{most_classes}
 use Rattle.jc_names.specs.Names.{home_of}
 use Rattle.jc_classes.specs.World.{class_at, superclass_of}
 use Rattle.jc_names.specs.declared.name.ClassName.{ClassName}
-use Rattle.jc_link.specs.Inherited.{ListedRow, rows_of, rows_along}
+use Rattle.jc_link.specs.Inherited.{ListedRow, breaks_interface, breaks_row, rows_of, rows_along}
 use Rattle.jc_link.specs.PrivateRows.{IsOnRows}
 use Rattle.jc_link.proofs.Listed.{list_any_map}
 use Rattle.jc_link.proofs.SameNames.{same_name}
@@ -20,6 +22,30 @@ rows_of_class test world at = by_class (class_at world at)
     by_class : (o : Option ClassShape) → list_any test (option_map_or (λ k. map (λ row. record { home = home_of at; row = row }) (interface_rows k.body)) o []) ≡ option_map_or (λ k. list_any (λ row. test (record { home = home_of at; row = row })) (interface_rows k.body)) o false
     by_class None = refl
     by_class (Some k) = list_any_map test (λ row. record { home = home_of at; row = row }) (interface_rows k.body)
+
+-- where neither a class nor a superclass of it lists anything
+no_rows_along : (world : List Shape) (n : ℕ) (c : ClassName) → ListNothing world c → rows_along world n c ≡ []
+no_rows_along world zero c nothing = refl
+no_rows_along world (suc n) c nothing =
+    ap (λ rows. rows ++ option_map_or (rows_along world n) (superclass_of world c) []) (no_rows_of (class_at world c) refl)
+    ∙ by_above (superclass_of world c) refl (no_rows_along world n)
+  where
+    no_rows_of : (o : Option ClassShape) → class_at world c ≡ o
+        → option_map_or (λ k. map {B = ListedRow} (λ row. record { home = home_of c; row = row }) (interface_rows k.body)) o []
+        ≡ []
+    no_rows_of None e = refl
+    no_rows_of (Some k) e = ap (map {B = ListedRow} (λ row. record { home = home_of c; row = row })) (nothing 0 c k refl e)
+
+    by_above : (o : Option ClassName) → superclass_of world c ≡ o
+        → ((s : ClassName) → ListNothing world s → rows_along world n s ≡ []) → option_map_or (rows_along world n) o [] ≡ []
+    by_above None e rest = refl
+    by_above (Some s) e rest = rest s
+        (λ m d k here there. nothing (suc m) d k (ap (option_and_then (class_behind world m)) e ∙ here) there)
+
+pub none_to_break : (world : List Shape) (c : ClassName) (b : Bool) → (b ≡ false → ListNothing world c) → b ≡ false
+    → false ≡ breaks_interface world c
+none_to_break world c b nothing e =
+    sym (ap (list_any (breaks_row world c)) (no_rows_along world most_classes c (nothing e)))
 
 module _ (test : ListedRow → Bool) (world : List Shape) where
   one_more : (k : ℕ) (at : ClassName) (b : Bool) (o : Option ClassName) → list_any test (rows_of world at) ≡ b → superclass_of world at ≡ o

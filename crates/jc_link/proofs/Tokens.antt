@@ -1,7 +1,11 @@
 -- Loops over tokens, up to the first that passes a test.
-use Rattle.std.proofs.Common.{◌≡◌, ℕ, suc, ◌+◌, ◌-◌, ◌<◌, ◌≤◌, ◌||◌, Bool, true, false, refl, sym, ap, ◌∙◌, arith}
+use Rattle.std.proofs.Common.{◌≡◌, ℕ, zero, suc, ◌+◌, ◌-◌, ◌<◌, ◌≤◌, ◌||◌, Bool, true, false, List, None, refl, sym, ap, ◌∙◌, arith}
 use Rattle.std.specs.List.{list_any, range_with_len}
-use Rattle.jc_link.specs.Inherited.{package_tokens, virtual_tokens}
+use Rattle.std.specs.Option.{option_map_or}
+use Rattle.jc_cap_desc.specs.Shape.{Shape}
+use Rattle.jc_classes.specs.Methods.{virtual_method_of}
+use Rattle.jc_names.specs.declared.name.ClassName.{ClassName}
+use Rattle.jc_link.specs.Inherited.{is_abstract_at, leaves_at, package_tokens, virtual_tokens}
 
 -- the tokens from one on up to an end
 module _ (test : ℕ → Bool) (total : Bool) (token end : ℕ) (so_far : list_any test (range_with_len token (end - token)) ≡ total) where
@@ -18,6 +22,30 @@ module _ (test : ℕ → Bool) (total : Bool) (token end : ℕ) (so_far : list_a
 
   pub none_passes : end ≤ token → false ≡ total
   none_passes more = let none : end - token ≡ 0 = omega arith in sym (ap (λ n. list_any test (range_with_len token n)) none) ∙ so_far
+
+-- where none of the rest passes
+none_in : (test : ℕ → Bool) (n from : ℕ) → ((m : ℕ) → from ≤ m → m < from + n → test m ≡ false)
+    → list_any test (range_with_len from n) ≡ false
+none_in test zero from none = refl
+none_in test (suc n) from none =
+    ap (λ x. x || list_any test (range_with_len (from + 1) n)) (none from (omega arith) (omega arith))
+    ∙ none_in test n (from + 1) (λ m least less. none m (omega (arith, least)) (omega (arith, less)))
+
+pub rest_fails : (test : ℕ → Bool) (total : Bool) (token end : ℕ)
+    → list_any test (range_with_len token (end - token)) ≡ total
+    → ((m : ℕ) → token ≤ m → m < end → test m ≡ false) → false ≡ total
+rest_fails test total token end so_far none =
+    sym (none_in test (end - token) token (λ m least less. none m least (omega (arith, least, less)))) ∙ so_far
+
+-- a package-visible token behind those that may lead to a method
+pub leaves_none : (world : List Shape) (c : ClassName) (asker count : ℕ)
+    → ((token : ℕ) → count ≤ token → token < 128 → virtual_method_of world c (128 + token) asker ≡ None)
+    → (m : ℕ) → 128 + count ≤ m → m < 256 → leaves_at world c asker m ≡ false
+leaves_none world c asker count none m least less =
+    let same : m ≡ 128 + (m - 128) = omega (arith, least) in
+    ap (leaves_at world c asker) same
+    ∙ ap (λ o. option_map_or (is_abstract_at world) o false)
+    (none (m - 128) (omega (arith, least)) (omega (arith, least, less)))
 
 -- all of them
 pub all_virtual : range_with_len 0 (256 - 0) ≡ virtual_tokens

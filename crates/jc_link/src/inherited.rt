@@ -122,11 +122,12 @@ fn leaves_public_abstract(table: &ClassTable, class: ClassName) -> bool
     (0..128u8).any(|token| leaves_at(table, class, 0, token))
 }
 
-/// Whether a class leaves a package-visible method abstract of the package that stands there.
+/// Whether a class leaves a package-visible method abstract of the package that stands there. Most have no token there.
 fn leaves_package_abstract(table: &ClassTable, class: ClassName, asker: usize) -> bool
     ensures { result ≡ leaves_package_abstract table.now class asker }
 {
-    for token in 128..256u16 {
+    let end = 128 + u16::from(table.visible_tokens(class, asker));
+    for token in 128..end {
         if leaves_at(table, class, asker, token as u8) {
             return true;
         }
@@ -270,9 +271,9 @@ fn breaks_row_of(table: &ClassTable, class: ClassName, at: ClassName) -> bool
     }
 }
 
-/// Whether a class doesn't keep one of its own rows, or of those of its superclasses. Their chain may have a cycle:
-/// where they come again to a class that is remembered, all of their rows were looked at.
-fn breaks_interface(table: &ClassTable, class: ClassName) -> bool
+/// Whether a class doesn't keep one of its own rows, or of those of its superclasses, by a walk along these. Their chain
+/// may have a cycle: where they come again to a class that is remembered, all of their rows were looked at.
+fn breaks_row_along(table: &ClassTable, class: ClassName) -> bool
     ensures { result ≡ breaks_interface table.now class }
 {
     let mut at = class;
@@ -291,6 +292,16 @@ fn breaks_interface(table: &ClassTable, class: ClassName) -> bool
         anchor = anchor_behind(steps + 1, at, anchor);
     }
     false
+}
+
+/// Whether a class doesn't keep one of its own rows, or of those of its superclasses. Most have none to look at.
+fn breaks_interface(table: &ClassTable, class: ClassName) -> bool
+    ensures { result ≡ breaks_interface table.now class }
+{
+    if !table.may_list(class) {
+        return false;
+    }
+    breaks_row_along(table, class)
 }
 
 /// Whether it is a class that isn't abstract, and leaves a method abstract or doesn't keep an interface's row.

@@ -1,8 +1,8 @@
 -- What a class is below, from what stands right above it.
 use Rattle.std.proofs.Common.{◌≡◌, ◌⊎◌, inl, inr, ℕ, zero, suc, ◌+◌, ◌-◌, ◌<◌, ◌≤◌, ◌==◌, ◌&&◌, ◌||◌, Bool, true, false, cond}
 use Rattle.std.proofs.Common.{List, [], ◌∷◌, ◌++◌, length, map, drop, Option, Some, None, slice_get, unwrap_or}
-use Rattle.std.proofs.Common.{refl, sym, ap, subst, ◌∙◌, arith, ◌↔◌}
-use Rattle.std.proofs.lemmas.Bool.{cases_lt, eq-eqb, eqb-true}
+use Rattle.std.proofs.Common.{refl, sym, ap, subst, ◌∙◌, arith, length-append}
+use Rattle.std.proofs.lemmas.Bool.{cases_lt, eq-eqb, eqb-true, ne_eqb}
 use Rattle.std.proofs.lemmas.Iterator.Adapters.{position_from-zero}
 use Rattle.std.proofs.lemmas.List.{append-nil, append_assoc, length-map, map-append}
 use Rattle.std.proofs.lemmas.Option.{same_Some, slice_get_within}
@@ -24,9 +24,10 @@ use Rattle.jc_names.specs.declared.name.ClassName.TheVariants.{Api}
 use Rattle.jc_loaded.specs.Classes.{class_number}
 use Rattle.jc_loaded.specs.BitRow.{has_bit}
 use Rattle.jc_loaded.specs.PrivateBitRows.{AreSettled, IsRightAbove}
-use Rattle.jc_loaded.specs.PrivateSupertypes.{AreAbove, AreBegun, AreNumbersOf, AreRight, IsPut}
+use Rattle.jc_loaded.specs.PrivateSupertypes.{AreAbove, AreBegun, AreNumbersOf, AreRight, HasObjects, IsPut}
 use Rattle.jc_loaded.specs.PrivateSupertypes.{itself_and_above}
 use Rattle.jc_loaded.specs.Supertypes.{AreSupertypes, has_number, is_listed}
+use Rattle.jc_loaded.proofs.Calling.{get_before, get_last}
 use Rattle.jc_loaded.proofs.Interfacing.{none_left, rest_more}
 use Rattle.jc_loaded.proofs.Rowing.{empty_row}
 use Rattle.jc_loaded.proofs.Same.{left_true, name_itself, named, right_true, same_name, true_false}
@@ -147,6 +148,56 @@ listed_within (r ∷ rows) (suc k) m e = let l = listed_within rows k m e in ome
 either_way : (a b : Bool) → (a || b) ≡ true → (a ≡ true) ⊎ (b ≡ true)
 either_way true b e = inl refl
 either_way false b e = inr e
+
+pub objects_none : (names : List ClassName) → HasObjects names 0 []
+objects_none names = record {
+  before = λ m d less there. absurd (omega (arith, less));
+  behind = λ m past. empty_row m;
+}
+
+pub objects_more : (names : List ClassName) (at : ℕ) (name : ClassName) (old new : List ℕ) → HasObjects names at old
+    → slice_get names at ≡ Some name
+    → ((m : ℕ) → has_bit new m ≡ (has_bit old m || (is_same_name (Api Object) name && m == at)))
+    → HasObjects names (at + 1) new
+objects_more names at name old new so_far here bits = record {
+  before = λ m d less there. by_order m d less there (cases_lt m at);
+  behind = λ m past. bits m
+      ∙ ap (λ b. b || (is_same_name (Api Object) name && m == at)) (so_far.behind m (omega (arith, past)))
+      ∙ ap (λ b. is_same_name (Api Object) name && b) (ne_eqb m at (λ e. omega (arith, e, past)))
+      ∙ none_of (is_same_name (Api Object) name);
+}
+  where
+    none_of : (b : Bool) → (b && false) ≡ false
+    none_of true = refl
+    none_of false = refl
+
+    all_of : (b : Bool) → (b && true) ≡ b
+    all_of true = refl
+    all_of false = refl
+
+    or_none : (b : Bool) → (b || false) ≡ b
+    or_none true = refl
+    or_none false = refl
+
+    by_order : (m : ℕ) (d : ClassName) → m < at + 1 → slice_get names m ≡ Some d → (m < at) ⊎ (at ≤ m)
+        → has_bit new m ≡ is_same_name (Api Object) d
+    by_order m d less there (inl before) =
+        bits m
+        ∙ ap (λ b. has_bit old m || (is_same_name (Api Object) name && b))
+        (ne_eqb m at (λ e. omega (arith, e, before)))
+        ∙ ap (λ b. has_bit old m || b) (none_of (is_same_name (Api Object) name))
+        ∙ or_none (has_bit old m) ∙ so_far.before m d before there
+    by_order m d less there (inr behind) =
+        let same : m ≡ at = omega (arith, behind, less) in
+        let one : name ≡ d = same_Some name d (sym here ∙ ap (slice_get names) (sym same) ∙ there) in
+        bits m
+        ∙ ap (λ b. b || (is_same_name (Api Object) name && m == at)) (so_far.behind m behind)
+        ∙ ap (λ b. is_same_name (Api Object) name && b) (eq-eqb m at same)
+        ∙ all_of (is_same_name (Api Object) name) ∙ ap (is_same_name (Api Object)) one
+
+pub objects_all : (names : List ClassName) (row : List ℕ) (m : ℕ) (d : ClassName) → HasObjects names (length names) row
+    → slice_get names m ≡ Some d → has_bit row m ≡ is_same_name (Api Object) d
+objects_all names row m d all there = all.before m d (slice_get_within names m d there) there
 
 pub begun_first : (names : List ClassName) (first : ℕ) (objects : List ℕ) (rows : List (List ℕ))
     → first + length rows ≡ length names
@@ -414,3 +465,27 @@ module _ (world : List Shape) (names : List ClassName)
   are_supertypes n m c d here there =
       same_answer (is_listed (made ++ rows) n m) (is_subtype world c d) (sound n m c d here there)
       (λ t. complete c d (found c d t) n m here there)
+
+-- ---- lists of what stands above, one more
+
+pub above_more : (world : List Shape) (names : List ClassName) (first at : ℕ) (c : ClassName) (lists : List (List ℕ))
+    (list : List ℕ) → AreAbove world names first lists → first + length lists ≡ at → slice_get names at ≡ Some c
+    → AreNumbersOf names (itself_and_above world c) list → AreAbove world names first (lists ++ list ∷ [])
+above_more world names first at c lists list so_far count here fits = record {
+  there = λ k d less is. by_order k d less is (cases_lt k (length lists));
+}
+  where
+    by_order : (k : ℕ) (d : ClassName) → k < length (lists ++ list ∷ []) → slice_get names (first + k) ≡ Some d
+        → (k < length lists) ⊎ (length lists ≤ k)
+        → AreNumbersOf names (itself_and_above world d) (unwrap_or (slice_get (lists ++ list ∷ []) k) [])
+    by_order k d less is (inl before) =
+        subst (λ o. AreNumbersOf names (itself_and_above world d) (unwrap_or o [])) (sym (get_before lists list k before))
+        (so_far.there k d before is)
+    by_order k d less is (inr behind) =
+        let a = length-append lists (list ∷ []) in
+        let same : k ≡ length lists = omega (arith, behind, less, a) in
+        let place : first + k ≡ at = omega (arith, same, count) in
+        let one : c ≡ d = same_Some c d (sym here ∙ ap (slice_get names) (sym place) ∙ is) in
+        subst (λ o. AreNumbersOf names (itself_and_above world d) (unwrap_or o []))
+        (sym (ap (slice_get (lists ++ list ∷ [])) same ∙ get_last lists list))
+        (subst (λ e. AreNumbersOf names (itself_and_above world e) list) one fits)

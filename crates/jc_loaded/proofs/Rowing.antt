@@ -336,7 +336,7 @@ all_before words at n past = by_order (cases_lt (n / 64) at)
 
 -- ---- words in a list that has others behind
 
-pub refilled : (words rest : List ℕ) (count : ℕ) → count ≡ length words → take count (words ++ rest) ≡ words
+pub refilled : {A : Type 0} (words rest : List A) (count : ℕ) → count ≡ length words → take count (words ++ rest) ≡ words
 refilled [] rest zero is = refl
 refilled [] rest (suc count) is = absurd (omega (arith, is))
 refilled (w ∷ words) rest zero is = absurd (omega (arith, is))

@@ -1,5 +1,5 @@
 -- Private. Rows of classes that are being made.
-use Rattle.std.specs.Prelude.{◌≡◌, ◌⊎◌, ℕ, ◌+◌, ◌<◌, ◌==◌, ◌&&◌, ◌||◌, true, List, [], ◌∷◌, ◌++◌, length, map, Some, slice_get, unwrap_or}
+use Rattle.std.specs.Prelude.{◌≡◌, ◌⊎◌, ℕ, ◌+◌, ◌<◌, ◌≤◌, ◌==◌, ◌&&◌, ◌||◌, true, false, List, [], ◌∷◌, ◌++◌, length, map, Some, slice_get, unwrap_or}
 use Rattle.std.specs.Option.{option_to_list}
 use Rattle.jc_api.specs.declared.class.ApiClass.TheVariants.{Object}
 use Rattle.jc_cap_desc.specs.Shape.{Shape}
@@ -8,6 +8,7 @@ use Rattle.jc_classes.specs.World.{interfaces_of, superclass_of}
 use Rattle.jc_names.specs.Names.{is_same_name}
 use Rattle.jc_names.specs.declared.name.ClassName.{ClassName}
 use Rattle.jc_names.specs.declared.name.ClassName.TheVariants.{Api}
+use Rattle.jc_loaded.specs.BitRow.{has_bit}
 use Rattle.jc_loaded.specs.Classes.{class_number}
 use Rattle.jc_loaded.specs.Supertypes.{is_listed}
 
@@ -23,6 +24,12 @@ itself_and_above world c = c ∷ (option_to_list (superclass_of world c) ++ inte
 pub record AreAbove (world : List Shape) (names : List ClassName) (first : ℕ) (lists : List (List ℕ)) : Type 0 where
   pub there : (k : ℕ) (c : ClassName) → k < length lists → slice_get names (first + k) ≡ Some c
       → AreNumbersOf names (itself_and_above world c) (unwrap_or (slice_get lists k) [])
+
+-- a row has Object's numbers, as far as the first classes go
+pub record HasObjects (names : List ClassName) (done : ℕ) (row : List ℕ) : Type 0 where
+  pub before : (m : ℕ) (d : ClassName) → m < done → slice_get names m ≡ Some d
+      → has_bit row m ≡ is_same_name (Api Object) d
+  pub behind : (m : ℕ) → done ≤ m → has_bit row m ≡ false
 
 -- the rows of the classes from one on, as they begin: each has Object's numbers, and the row of the first class of a
 -- name has the numbers of all classes of this name, as far as these are done

@@ -1,6 +1,6 @@
 //! What the classes of a world are below, by number.
 
-ghost use Rattle.std.specs.Prelude.{◌≡◌, ◌+◌, ◌<◌, ◌≤◌, ◌==◌, ◌++◌, [], length, map, slice_get, Some, IfOk};
+ghost use Rattle.std.specs.Prelude.{◌≡◌, ℕ, ◌+◌, ◌<◌, ◌≤◌, ◌==◌, ◌&&◌, ◌||◌, ◌++◌, length, map, slice_get, Some, IfOk};
 ghost use Rattle.std.specs.List.{filter_map};
 ghost use Rattle.std.specs.Option.{option_and_then, option_to_list};
 ghost use Rattle.jc_api.specs.declared.class.ApiClass.TheVariants.{Object};
@@ -153,7 +153,18 @@ fn lists_above(
     Ok(lists)
 }
 
+/// Puts a number into a row, if it is to be put there.
+fn put_if(row: &mut BitRow, passes: bool, number: u16) -> Result<(), AllocError>
+    ensures { IfOk result (λ u. (m : ℕ) → has_bit row.new m ≡ (has_bit row.old m || (passes && m == number))) }
+{
+    if passes {
+        return row.put(number);
+    }
+    Ok(())
+}
+
 /// The numbers of Object.
+#[tactic(auto, using(crate::proofs::Climbing::objects_none, crate::proofs::Climbing::objects_all))]
 fn objects_of(alloc: Global, classes: &Classes) -> Result<BitRow, AllocError>
     ensures { IfOk result (λ row. (m : ℕ) (d : Name) → slice_get classes.now m ≡ Some d
         → has_bit row m ≡ is_same_name (Api Object) d) }
@@ -161,9 +172,7 @@ fn objects_of(alloc: Global, classes: &Classes) -> Result<BitRow, AllocError>
     let mut row = BitRow::new(alloc);
     let names = classes.names();
     for at in 0..names.len() {
-        if OBJECT.is(names[at]) {
-            row.put(at as u16)?;
-        }
+        put_if(&mut row, OBJECT.is(names[at]), at as u16)?;
     }
     Ok(row)
 }

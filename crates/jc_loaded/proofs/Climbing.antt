@@ -1,5 +1,6 @@
 -- What a class is below, from what stands right above it.
-use Rattle.std.proofs.Common.{◌≡◌, ◌⊎◌, inl, inr, ℕ, zero, suc, ◌+◌, ◌-◌, ◌<◌, ◌≤◌, ◌==◌, ◌&&◌, ◌||◌, Bool, true, false, cond}
+use Rattle.std.proofs.Common.{◌≡◌, ◌⊎◌, inl, inr, ℕ, zero, suc, ◌+◌, ◌-◌, ◌<◌, ◌≤◌, ◌==◌, ◌&&◌, ◌||◌, Bool}
+use Rattle.std.proofs.Common.{true, false, cond}
 use Rattle.std.proofs.Common.{List, [], ◌∷◌, ◌++◌, length, map, drop, Option, Some, None, slice_get, unwrap_or}
 use Rattle.std.proofs.Common.{refl, sym, ap, subst, ◌∙◌, arith, length-append}
 use Rattle.std.proofs.lemmas.Bool.{cases_lt, eq-eqb, eqb-true, ne_eqb}
@@ -135,7 +136,8 @@ numbers_all h f refs at old so_far before past =
     sym (append-nil (map Some so_far))
     ∙ ap (λ bs. map Some so_far ++ map f bs) (sym (none_left h refs at past)) ∙ before
 
-pub none_listed : (names : List ClassName) (numbers : List ℕ) → map Some numbers ≡ map Some numbers ++ map (class_number names) []
+pub none_listed : (names : List ClassName) (numbers : List ℕ)
+    → map Some numbers ≡ map Some numbers ++ map (class_number names) []
 none_listed names numbers = sym (append-nil (map Some numbers))
 
 -- ---- rows as they begin
@@ -479,7 +481,8 @@ above_more world names first at c lists list so_far count here fits = record {
         → (k < length lists) ⊎ (length lists ≤ k)
         → AreNumbersOf names (itself_and_above world d) (unwrap_or (slice_get (lists ++ list ∷ []) k) [])
     by_order k d less is (inl before) =
-        subst (λ o. AreNumbersOf names (itself_and_above world d) (unwrap_or o [])) (sym (get_before lists list k before))
+        subst (λ o. AreNumbersOf names (itself_and_above world d) (unwrap_or o []))
+        (sym (get_before lists list k before))
         (so_far.there k d before is)
     by_order k d less is (inr behind) =
         let a = length-append lists (list ∷ []) in

@@ -7,7 +7,8 @@ use Rattle.std.proofs.lemmas.Bool.{cases_eq, cases_lt, eq-eqb, eqb-true}
 use Rattle.std.proofs.lemmas.List.Folds.{list_any-append}
 use Rattle.jc_loaded.specs.BitRow.{has_bit}
 use Rattle.jc_loaded.specs.PrivateBitRow.{AreUnited, most_bits, unset}
-use Rattle.jc_loaded.specs.PrivateBitRows.{ArePassed, AreRisen, AreSettled, IsOneAbove, IsRightAbove, is_any_listed, unset_in}
+use Rattle.jc_loaded.specs.PrivateBitRows.{ArePassed, AreRisen, AreSettled, IsOneAbove, IsRightAbove}
+use Rattle.jc_loaded.specs.PrivateBitRows.{is_any_listed, unset_in}
 use Rattle.jc_loaded.specs.Supertypes.{has_number, is_listed}
 use Rattle.jc_loaded.proofs.Rowing.{empty_row, united_alike, united_both, unset_most}
 
@@ -44,7 +45,8 @@ pub all_more : (rows : List (List ℕ)) (numbers : List ℕ) (at number : ℕ) (
     → number ≡ get_or numbers at 0 → at < length numbers
     → AreUnited (is_any_listed rows (take (at + 1) numbers)) a c (s || t)
 all_more rows numbers at number a b c s t one two is less =
-    united_alike _ _ a c (s || t) (λ m. ap (λ k. list_any (λ n. is_listed rows n m) (take at numbers) || is_listed rows k m) is
+    united_alike _ _ a c (s || t) (λ m.
+    ap (λ k. list_any (λ n. is_listed rows n m) (take at numbers) || is_listed rows k m) is
     ∙ any_more (λ n. is_listed rows n m) numbers at less) (united_both a b c _ _ s t one two)
 
 -- ---- one row in place of another
@@ -273,9 +275,11 @@ module _ (first at : ℕ) (lists a b c : List (List ℕ)) (s t : Bool)
       by_order (inr behind) =
           let less = is_above.1 in
           let same : is_above.0 ≡ at = omega (arith, behind, less) in
-          inr (is_above.2 ∙ ap (λ k. first + k) same,
-          ap (has_number above) is ∙ ap (λ k. has_number above (unwrap_or (slice_get lists k) [])) (sym same)
-          ∙ is_above.3)
+          inr (
+            is_above.2 ∙ ap (λ k. first + k) same,
+            ap (has_number above) is ∙ ap (λ k. has_number above (unwrap_or (slice_get lists k) [])) (sym same)
+                ∙ is_above.3,
+          )
 
   pub passed_more : ArePassed More a c (s || t)
   passed_more = record {

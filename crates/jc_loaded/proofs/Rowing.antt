@@ -1,6 +1,7 @@
 -- Rows of bits.
-use Rattle.std.proofs.Common.{◌≡◌, ◌≢◌, ◌⊎◌, inl, inr, ℕ, zero, suc, ◌+◌, ◌*◌, ◌/◌, ◌%◌, ◌^◌, ◌<◌, ◌≤◌, ◌==◌, ◌&&◌, ◌||◌}
-use Rattle.std.proofs.Common.{Bool, true, false, not, cond, max, nat_lt, List, [], ◌∷◌, ◌++◌, length, get_or, set, take, bit_or}
+use Rattle.std.proofs.Common.{◌≡◌, ◌≢◌, ◌⊎◌, inl, inr, ℕ, zero, suc, ◌+◌, ◌*◌, ◌/◌, ◌%◌, ◌^◌, ◌<◌, ◌≤◌, ◌==◌}
+use Rattle.std.proofs.Common.{◌&&◌, ◌||◌, Bool, true, false, not, cond, max, nat_lt, List, [], ◌∷◌, ◌++◌}
+use Rattle.std.proofs.Common.{length, get_or, set, take, bit_or}
 use Rattle.std.proofs.Common.{refl, sym, ap, subst, ◌∙◌, arith, length-append}
 use Rattle.std.specs.Int.{bit_at, w64}
 use Rattle.std.proofs.lemmas.Bool.{cases_eq, cases_lt, cases_order, eq-eqb, eqb-true, le-ltb, lt-ltb, ne_eqb}
@@ -336,7 +337,8 @@ all_before words at n past = by_order (cases_lt (n / 64) at)
 
 -- ---- words in a list that has others behind
 
-pub refilled : {A : Type 0} (words rest : List A) (count : ℕ) → count ≡ length words → take count (words ++ rest) ≡ words
+pub refilled : {A : Type 0} (words rest : List A) (count : ℕ) → count ≡ length words
+    → take count (words ++ rest) ≡ words
 refilled [] rest zero is = refl
 refilled [] rest (suc count) is = absurd (omega (arith, is))
 refilled (w ∷ words) rest zero is = absurd (omega (arith, is))

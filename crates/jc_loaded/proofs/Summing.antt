@@ -39,10 +39,10 @@ cells_up world c d sound e = let a = sound.fields.above c d e in omega (arith, a
 
 -- ---- two ways to say that a test passes, and superclasses of a world
 
-pub same_answer : (a b : Bool) (P : Type 0) → (a ≡ true ↔ P) → (b ≡ true → P) → (P → b ≡ true) → a ≡ b
-same_answer true b P one found all = sym (all (one.0 refl))
-same_answer false true P one found all = one.1 (found refl)
-same_answer false false P one found all = refl
+pub alike : (a b : Bool) (P : Type 0) → (a ≡ true ↔ P) → (b ≡ true → P) → (P → b ≡ true) → a ≡ b
+alike true b P one found all = sym (all (one.0 refl))
+alike false true P one found all = one.1 (found refl)
+alike false false P one found all = refl
 
 pub orderly : (world : List Shape) → IsSound world → IsOrderly world
 orderly world sound = sound.superclasses.orderly

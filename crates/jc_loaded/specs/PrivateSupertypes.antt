@@ -1,5 +1,6 @@
 -- Private. Rows of classes that are being made.
-use Rattle.std.specs.Prelude.{◌≡◌, ◌⊎◌, ℕ, ◌+◌, ◌<◌, ◌≤◌, ◌==◌, ◌&&◌, ◌||◌, true, false, List, [], ◌∷◌, ◌++◌, length, map, Some, slice_get, unwrap_or}
+use Rattle.std.specs.Prelude.{◌≡◌, ◌⊎◌, ℕ, ◌+◌, ◌<◌, ◌≤◌, ◌==◌, ◌&&◌, ◌||◌, true, false, List, [], ◌∷◌, ◌++◌}
+use Rattle.std.specs.Prelude.{length, map, Some, slice_get, unwrap_or}
 use Rattle.std.specs.Option.{option_to_list}
 use Rattle.jc_api.specs.declared.class.ApiClass.TheVariants.{Object}
 use Rattle.jc_cap_desc.specs.Shape.{Shape}
@@ -51,4 +52,5 @@ pub record IsPut (first class number : ℕ) (old new : List (List ℕ)) : Type 0
 -- the rows of the first classes are right
 abbrev pub AreRight : List Shape → List ClassName → List (List ℕ) → Type 0
 AreRight world names rows = (number other : ℕ) (c d : ClassName) → number < length rows
-    → slice_get names number ≡ Some c → slice_get names other ≡ Some d → is_listed rows number other ≡ is_subtype world c d
+    → slice_get names number ≡ Some c → slice_get names other ≡ Some d
+    → is_listed rows number other ≡ is_subtype world c d

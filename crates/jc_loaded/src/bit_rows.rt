@@ -54,6 +54,20 @@ impl SharedRow {
     }
 }
 
+/// Puts rows behind others that are shared.
+pub(crate) fn put_shared(
+    alloc: Global,
+    shared: &mut Vec<SharedRow>,
+    rows: Vec<BitRow>,
+) -> Result<(), AllocError>
+    ensures { IfOk result (λ u. shared.new.items ≡ shared.old.items ++ rows.items) }
+{
+    for row in rows {
+        shared.push(SharedRow::new(alloc, row)?)?;
+    }
+    Ok(())
+}
+
 /// Numbers of rows.
 #[derive(Drop)]
 pub(crate) struct NumberList {
@@ -123,7 +137,6 @@ fn unite_all(
 }
 
 /// Puts what the rows right above one have into this one. Whether a number wasn't there.
-#[tactic(auto, using(crate::proofs::Rising::passed_row))]
 fn pass_row(
     alloc: Global,
     made: &[SharedRow],
@@ -143,7 +156,7 @@ fn pass_row(
 }
 
 /// Puts into each row what the rows right above it have. Whether a number wasn't there.
-#[tactic(auto, using(crate::proofs::Rising::passed_none, crate::proofs::Rising::passed_more))]
+#[tactic(auto, using(crate::proofs::Rising::passed_none))]
 fn pass(
     alloc: Global,
     made: &[SharedRow],
@@ -164,7 +177,7 @@ fn pass(
 }
 
 /// Puts into each row what the rows right above it have, until all have it.
-#[tactic(auto, using(crate::proofs::Rising::risen_none, crate::proofs::Rising::risen_more, crate::proofs::Rising::settled))]
+#[tactic(auto, using(crate::proofs::Rising::risen_none))]
 pub(crate) fn settle(
     alloc: Global,
     made: &[SharedRow],

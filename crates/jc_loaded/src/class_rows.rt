@@ -121,7 +121,7 @@ fn is_class_at(table: &ClassTable, class: ClassName) -> bool
 
 /// Whether a class is another one or below it. Below a class it is along superclasses, and they are walked; for an
 /// interface all classes are passed over.
-#[tactic(auto, using(crate::proofs::Summing::same_answer, crate::proofs::Summing::orderly, crate::proofs::Summing::top))]
+#[tactic(auto, using(crate::proofs::Summing::alike, crate::proofs::Summing::orderly, crate::proofs::Summing::top))]
 fn is_subtype(table: &ClassTable, class: ClassName, above: ClassName) -> bool
     requires small { IsSmall table.now }
     requires sound { IsSound table.now }

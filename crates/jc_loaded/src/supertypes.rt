@@ -16,7 +16,7 @@ ghost use Rattle.jc_names.specs.declared.name.ClassName.{ClassName as Name};
 ghost use Rattle.jc_names.specs.declared.name.ClassName.TheVariants.{Api};
 
 use crate::bit_row::BitRow;
-use crate::bit_rows::{NumberList, SharedRow, settle};
+use crate::bit_rows::{NumberList, SharedRow, put_shared, settle};
 use crate::classes::{ClassNumber, Classes};
 use jc_api::ApiClass;
 use jc_base::ClassRef;
@@ -211,7 +211,6 @@ fn put_own(rows: &mut [BitRow], first: usize, class: u16, number: u16) -> Result
 }
 
 /// The rows of the classes from one on, as they begin: with Object and themselves.
-#[tactic(auto, using(crate::proofs::Climbing::begun_first, crate::proofs::Climbing::begun_more))]
 fn begun_rows(alloc: Global, classes: &Classes, first: usize) -> Result<Vec<BitRow>, AllocError>
     requires { first ≤ length classes.now }
     ensures { IfOk result (λ rows. AreBegun classes.now first (length classes.now) rows.items) }
@@ -226,7 +225,6 @@ fn begun_rows(alloc: Global, classes: &Classes, first: usize) -> Result<Vec<BitR
 }
 
 /// The rows of the classes behind those whose rows are made: from what stands right above each.
-#[tactic(auto, using(crate::proofs::Climbing::are_supertypes))]
 fn rows_behind(
     alloc: Global,
     table: &ClassTable,
@@ -244,20 +242,6 @@ fn rows_behind(
     let above = lists_above(alloc, table, classes, made.len())?;
     settle(alloc, made, &mut rows, &above)?;
     Ok(rows)
-}
-
-/// Puts rows behind others that are shared.
-fn put_shared(
-    alloc: Global,
-    shared: &mut Vec<SharedRow>,
-    rows: Vec<BitRow>,
-) -> Result<(), AllocError>
-    ensures { IfOk result (λ u. shared.new.items ≡ shared.old.items ++ rows.items) }
-{
-    for row in rows {
-        shared.push(SharedRow::new(alloc, row)?)?;
-    }
-    Ok(())
 }
 
 /// For each class and interface of a world those that it is below: a bit for each number.

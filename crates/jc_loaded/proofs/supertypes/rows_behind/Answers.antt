@@ -14,7 +14,8 @@ returns-clause-right c =
     let begun = c.deref_mut.result.now in
     let lists = c.deref.result.now in
     let rows = c.settle.new.rows in
-    let begins = subst (AreBegun names (length made) (length names)) (sym c.deref_mut.ensures.value) c.in_ok-rows.ensures in
+    let begins = subst (AreBegun names (length made) (length names)) (sym c.deref_mut.ensures.value)
+    c.in_ok-rows.ensures in
     let above = subst (AreAbove world names (length made)) (sym c.deref.ensures.value) c.in_ok-above.ensures.above in
     let as_many = begins.count in
     let all = c.in_ok-above.ensures.count in

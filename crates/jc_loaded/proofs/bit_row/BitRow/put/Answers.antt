@@ -15,4 +15,5 @@ returns c = λ n.
     ∙ c.unite_word.ensures.united.bits n
     ∙ ap (λ (i : ℕ). has_bit before n || bits_of i (1 * 2 ^ (number % 64) % 2 ^ 64) n) c.from-index.ensures
     ∙ ap (λ b. has_bit before n || b) (one_bit number n)
-    ∙ ap (λ b. b || n == number) (ap (λ ws. has_bit ws n) c.deref_mut.ensures.value ∙ c.widen.ensures.same n ∙ ap (λ ws. has_bit ws n) c.self.view_is)
+    ∙ ap (λ b. b || n == number) (ap (λ ws. has_bit ws n) c.deref_mut.ensures.value ∙ c.widen.ensures.same n
+    ∙ ap (λ ws. has_bit ws n) c.self.view_is)

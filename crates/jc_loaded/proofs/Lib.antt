@@ -16,7 +16,8 @@ mod Unknown
 mod Counting
 mod Interfacing
 mod Showing
-mod Above
+mod Rowing
+mod Rising
 mod Climbing
 mod Summing
 mod Following

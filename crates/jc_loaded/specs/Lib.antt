@@ -9,6 +9,9 @@ pub mod Growth
 pub mod Called
 pub mod PrivateCalled
 pub mod PrivateChain
+pub mod BitRow
+pub mod PrivateBitRow
+pub mod PrivateBitRows
 pub mod Supertypes
 pub mod PrivateSupertypes
 pub mod ClassRows

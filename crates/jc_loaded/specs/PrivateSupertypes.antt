@@ -1,21 +1,56 @@
--- Private. The places of what passes a test.
-use Rattle.std.specs.Prelude.{◌≡◌, ℕ, suc, Bool, List, [], ◌∷◌, ◌++◌, if◌then◌else◌}
+-- Private. Rows of classes that are being made.
+use Rattle.std.specs.Prelude.{◌≡◌, ◌⊎◌, ℕ, ◌+◌, ◌<◌, ◌≤◌, ◌==◌, ◌&&◌, ◌||◌, true, false, List, [], ◌∷◌, ◌++◌}
+use Rattle.std.specs.Prelude.{length, map, Some, slice_get, unwrap_or}
+use Rattle.std.specs.Option.{option_to_list}
+use Rattle.jc_api.specs.declared.class.ApiClass.TheVariants.{Object}
 use Rattle.jc_cap_desc.specs.Shape.{Shape}
 use Rattle.jc_classes.specs.Subtype.{is_subtype}
+use Rattle.jc_classes.specs.World.{interfaces_of, superclass_of}
+use Rattle.jc_names.specs.Names.{is_same_name}
 use Rattle.jc_names.specs.declared.name.ClassName.{ClassName}
+use Rattle.jc_names.specs.declared.name.ClassName.TheVariants.{Api}
+use Rattle.jc_loaded.specs.BitRow.{has_bit}
+use Rattle.jc_loaded.specs.Classes.{class_number}
+use Rattle.jc_loaded.specs.Supertypes.{is_listed}
 
--- a number, if it is to be taken
-abbrev pub taken_if : Bool → ℕ → List ℕ
-taken_if passes number = if passes then number ∷ [] else []
+-- each of these classes has a number, and these are the numbers
+abbrev pub AreNumbersOf : List ClassName → List ClassName → List ℕ → Type 0
+AreNumbersOf names classes numbers = map Some numbers ≡ map (class_number names) classes
 
--- the places of the classes that pass, of a list whose first place has a number
-abbrev pub places_from : (ClassName → Bool) → ℕ → List ClassName → List ℕ
-places_from passes n [] = []
-places_from passes n (c ∷ names) = taken_if (passes c) n ++ places_from passes (suc n) names
+-- a class, its superclass and the interfaces that it lists
+abbrev pub itself_and_above : List Shape → ClassName → List ClassName
+itself_and_above world c = c ∷ (option_to_list (superclass_of world c) ++ interfaces_of world c)
 
--- the places of what a class is below
-abbrev pub places_above : List Shape → List ClassName → ClassName → List ℕ
-places_above world names c = places_from (is_subtype world c) 0 names
+-- the numbers of what stands right above the classes from one on
+pub record AreAbove (world : List Shape) (names : List ClassName) (first : ℕ) (lists : List (List ℕ)) : Type 0 where
+  pub there : (k : ℕ) (c : ClassName) → k < length lists → slice_get names (first + k) ≡ Some c
+      → AreNumbersOf names (itself_and_above world c) (unwrap_or (slice_get lists k) [])
 
-abbrev pub IsPlacesAbove : List Shape → List ClassName → ClassName → List ℕ → Type 0
-IsPlacesAbove world names c list = list ≡ places_above world names c
+-- a row has Object's numbers, as far as the first classes go
+pub record HasObjects (names : List ClassName) (done : ℕ) (row : List ℕ) : Type 0 where
+  pub before : (m : ℕ) (d : ClassName) → m < done → slice_get names m ≡ Some d
+      → has_bit row m ≡ is_same_name (Api Object) d
+  pub behind : (m : ℕ) → done ≤ m → has_bit row m ≡ false
+
+-- the rows of the classes from one on, as they begin: each has Object's numbers, and the row of the first class of a
+-- name has the numbers of all classes of this name, as far as these are done
+pub record AreBegun (names : List ClassName) (first done : ℕ) (rows : List (List ℕ)) : Type 0 where
+  pub count : first + length rows ≡ length names
+  pub object : (k m : ℕ) (d : ClassName) → k < length rows → slice_get names m ≡ Some d
+      → is_same_name (Api Object) d ≡ true → is_listed rows k m ≡ true
+  pub own : (k m : ℕ) (d : ClassName) → m < done → slice_get names m ≡ Some d
+      → class_number names d ≡ Some (first + k) → is_listed rows k m ≡ true
+  pub only : (k m : ℕ) (d : ClassName) → is_listed rows k m ≡ true → slice_get names m ≡ Some d
+      → (is_same_name (Api Object) d ≡ true) ⊎ (class_number names d ≡ Some (first + k))
+
+-- a number was put into the row of the class with a number, of rows whose first is that of a class with a number
+pub record IsPut (first class number : ℕ) (old new : List (List ℕ)) : Type 0 where
+  pub count : length new ≡ length old
+  pub bits : (k m : ℕ) → k < length old
+      → is_listed new k m ≡ (is_listed old k m || (first + k == class && m == number))
+
+-- the rows of the first classes are right
+abbrev pub AreRight : List Shape → List ClassName → List (List ℕ) → Type 0
+AreRight world names rows = (number other : ℕ) (c d : ClassName) → number < length rows
+    → slice_get names number ≡ Some c → slice_get names other ≡ Some d
+    → is_listed rows number other ≡ is_subtype world c d

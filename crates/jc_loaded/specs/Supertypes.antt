@@ -4,17 +4,18 @@ use Rattle.std.specs.List.{list_any}
 use Rattle.jc_cap_desc.specs.Shape.{Shape}
 use Rattle.jc_classes.specs.Subtype.{is_subtype}
 use Rattle.jc_names.specs.declared.name.ClassName.{ClassName}
+use Rattle.jc_loaded.specs.BitRow.{has_bit}
 
 -- whether a number is among others
 abbrev pub has_number : ℕ → List ℕ → Bool
 has_number number numbers = list_any (λ n. n == number) numbers
 
--- whether the list of the class with a number has another number
+-- whether the row of the class with a number has another number
 abbrev pub is_listed : List (List ℕ) → ℕ → ℕ → Bool
-is_listed lists number other = has_number other (unwrap_or (slice_get lists number) [])
+is_listed rows number other = has_bit (unwrap_or (slice_get rows number) []) other
 
--- these are the lists of classes: each has the numbers of the classes and interfaces that its class is below, itself
+-- these are the rows of classes: each has the numbers of the classes and interfaces that its class is below, itself
 -- among them
 abbrev pub AreSupertypes : List Shape → List ClassName → List (List ℕ) → Type 0
-AreSupertypes world names lists = (number other : ℕ) (c d : ClassName) → slice_get names number ≡ Some c
-    → slice_get names other ≡ Some d → is_listed lists number other ≡ is_subtype world c d
+AreSupertypes world names rows = (number other : ℕ) (c d : ClassName) → slice_get names number ≡ Some c
+    → slice_get names other ≡ Some d → is_listed rows number other ≡ is_subtype world c d

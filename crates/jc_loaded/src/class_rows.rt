@@ -1,18 +1,22 @@
 //! What is asked of a world's classes, by number: a row of 8 bytes each.
 
-ghost use Rattle.std.specs.Prelude.{◌≡◌, ◌+◌, ◌==◌, length, IfOk, IfSome};
+ghost use Rattle.std.specs.Prelude.{◌≡◌, ◌+◌, ◌<◌, ◌==◌, length, slice_get, Some, IfOk, IfSome};
+ghost use Rattle.jc_api.specs.declared.class.ApiClass.TheVariants.{Shareable};
 ghost use Rattle.jc_classes.specs.Limits.{IsSmall};
-ghost use Rattle.jc_classes.specs.Subtype.{is_interface_at};
+ghost use Rattle.jc_classes.specs.Subtype.{is_class_at, is_interface_at, is_subtype};
 ghost use Rattle.jc_link.specs.Named.{size_of};
 ghost use Rattle.jc_link.specs.Sound.{IsSound};
 ghost use Rattle.jc_loaded.specs.ClassRows.{AreClassRows, cells_of, class_row_of, row_at};
 ghost use Rattle.jc_loaded.specs.PrivateClassRows.{HaveRows};
+ghost use Rattle.jc_loaded.specs.Supertypes.{AreSupertypes};
+ghost use Rattle.jc_names.specs.declared.name.ClassName.{ClassName as Name};
+ghost use Rattle.jc_names.specs.declared.name.ClassName.TheVariants.{Api};
 
 use crate::chain::MOST_CLASSES;
 use crate::classes::{ClassNumber, Classes};
-use crate::supertypes::is_subtype;
+use crate::supertypes::Supertypes;
 use jc_api::ApiClass;
-use jc_classes::ClassTable;
+use jc_classes::{ClassTable, found_subtypes_are_subtypes};
 use jc_link::{World, built_worlds_are_sound};
 use jc_names::ClassName;
 use std::alloc::{AllocError, Global};
@@ -105,6 +109,52 @@ fn cells_of(
     Err(AllocError)
 }
 
+/// Whether a class stands there, and not an interface.
+fn is_class_at(table: &ClassTable, class: ClassName) -> bool
+    ensures { result ≡ is_class_at table.now class }
+{
+    match table.class_at(class) {
+        Some(found) => found.is_class(),
+        None => false,
+    }
+}
+
+/// Whether a class is another one or below it. Below a class it is along superclasses, and they are walked; for an
+/// interface all classes are passed over.
+#[tactic(auto, using(crate::proofs::Summing::alike, crate::proofs::Summing::orderly, crate::proofs::Summing::top))]
+fn is_subtype(table: &ClassTable, class: ClassName, above: ClassName) -> bool
+    requires small { IsSmall table.now }
+    requires sound { IsSound table.now }
+    ensures { result ≡ is_subtype table.now class above }
+{
+    found_subtypes_are_subtypes();
+    if is_class_at(table, above) {
+        table.is_class_below(class, above)
+    } else {
+        table.is_subclass(class, above)
+    }
+}
+
+/// Whether the class with a number is Shareable or below it: read from its row, or found anew where Shareable has no
+/// number.
+fn is_shareable(
+    table: &ClassTable,
+    classes: &Classes,
+    supertypes: &Supertypes,
+    number: ClassNumber,
+) -> bool
+    requires small { IsSmall table.now }
+    requires sound { IsSound table.now }
+    requires above { AreSupertypes table.now classes.now supertypes.now }
+    requires there { number < length classes.now }
+    ensures { (c : Name) → slice_get classes.now number ≡ Some c → result ≡ is_subtype table.now c (Api Shareable) }
+{
+    match classes.number_of(SHAREABLE) {
+        Some(shareable) => supertypes.is_subtype(number, shareable),
+        None => is_subtype(table, classes.name(number), SHAREABLE),
+    }
+}
+
 /// Whether an interface stands there.
 fn is_interface_at(table: &ClassTable, class: ClassName) -> bool
     ensures { result ≡ is_interface_at table.now class }
@@ -115,23 +165,27 @@ fn is_interface_at(table: &ClassTable, class: ClassName) -> bool
     }
 }
 
-/// The row of a class, with the rows of the classes before it.
+/// The row of the class with a number, with the rows of the classes before it.
 fn class_row_of(
     rows: &[ClassRow],
     table: &ClassTable,
     classes: &Classes,
-    class: ClassName,
+    supertypes: &Supertypes,
+    number: ClassNumber,
 ) -> Result<ClassRow, AllocError>
     requires small { IsSmall table.now }
     requires sound { IsSound table.now }
+    requires above { AreSupertypes table.now classes.now supertypes.now }
     requires made { HaveRows table.now classes.now (length rows.now) rows.now }
-    ensures { IfOk result (λ row. row ≡ class_row_of table.now class) }
+    requires there { number < length classes.now }
+    ensures { IfOk result (λ row. (c : Name) → slice_get classes.now number ≡ Some c → row ≡ class_row_of table.now c) }
 {
+    let class = classes.name(number);
     let cells = cells_of(rows, table, classes, class)?;
     Ok(ClassRow {
         cells,
         is_interface: is_interface_at(table, class),
-        is_shareable: is_subtype(table, class, SHAREABLE),
+        is_shareable: is_shareable(table, classes, supertypes, number),
     })
 }
 
@@ -140,15 +194,17 @@ fn rows_of(
     alloc: Global,
     table: &ClassTable,
     classes: &Classes,
+    supertypes: &Supertypes,
 ) -> Result<Vec<ClassRow>, AllocError>
     requires small { IsSmall table.now }
     requires sound { IsSound table.now }
+    requires above { AreSupertypes table.now classes.now supertypes.now }
     ensures { IfOk result (λ rows. HaveRows table.now classes.now (length classes.now) rows.items) }
 {
     let mut rows = Vec::new(alloc);
-    let names = classes.names();
-    for at in 0..names.len() {
-        let row = class_row_of(&rows, table, classes, names[at])?;
+    for at in 0..classes.len() {
+        let number = ClassNumber::new(at as u16);
+        let row = class_row_of(&rows, table, classes, supertypes, number)?;
         rows.push(row)?;
     }
     Ok(rows)
@@ -170,9 +226,15 @@ impl Model for ClassRows {
 }
 
 impl ClassRows {
-    /// The rows of these classes of a world.
+    /// The rows of these classes of a world, which have these supertypes.
     #[tactic(auto, using(crate::proofs::Summing::are_rows))]
-    pub fn new(alloc: Global, world: &World, classes: &Classes) -> Result<ClassRows, AllocError>
+    pub fn new(
+        alloc: Global,
+        world: &World,
+        classes: &Classes,
+        supertypes: &Supertypes,
+    ) -> Result<ClassRows, AllocError>
+        requires above { AreSupertypes world.now.shapes classes.now supertypes.now }
         ensures rows { IfOk result (λ rows. AreClassRows world.now.shapes classes.now rows) }
         ensures count { IfOk result (λ rows. length rows ≡ length classes.now) }
     {
@@ -180,7 +242,7 @@ impl ClassRows {
         // Only its contract counts: what always holds of a table.
         let _count = table.len();
         built_worlds_are_sound();
-        let rows = rows_of(alloc, table, classes)?;
+        let rows = rows_of(alloc, table, classes, supertypes)?;
         Ok(ClassRows { rows })
     }
 

@@ -1,6 +1,8 @@
 //! What a machine runs of loaded packages, one step from a name to what it names.
 #![tactic(auto)]
 
+mod bit_row;
+mod bit_rows;
 mod called;
 mod chain;
 mod class_rows;

@@ -44,7 +44,7 @@ impl Program {
         let visible_methods = VisibleMethods::new(alloc, world, &methods, &classes)?;
         let interface_methods = InterfaceMethods::new(alloc, world, &methods, &classes)?;
         let supertypes = Supertypes::new(alloc, world, &classes)?;
-        let rows = ClassRows::new(alloc, world, &classes)?;
+        let rows = ClassRows::new(alloc, world, &classes, &supertypes)?;
         let member_tokens = MemberTokens::new(alloc, world)?;
         Ok(Program {
             methods,

@@ -1,22 +1,27 @@
 //! What the classes of a world are below, by number.
 
-ghost use Rattle.std.specs.Prelude.{◌≡◌, ◌<◌, ◌==◌, ◌++◌, false, length, slice_get, Some, IfOk};
-ghost use Rattle.std.specs.List.{filter_map, list_any};
-ghost use Rattle.std.specs.Option.{option_and_then, option_map_or};
+ghost use Rattle.std.specs.Prelude.{◌≡◌, ℕ, ◌+◌, ◌<◌, ◌≤◌, ◌==◌, ◌&&◌, ◌||◌, ◌++◌, length, map, slice_get, Some, IfOk};
+ghost use Rattle.std.specs.List.{filter_map};
+ghost use Rattle.std.specs.Option.{option_and_then, option_to_list};
+ghost use Rattle.jc_api.specs.declared.class.ApiClass.TheVariants.{Object};
 ghost use Rattle.jc_classes.specs.Limits.{IsSmall};
-ghost use Rattle.jc_classes.specs.Subtype.{is_class_at, is_subtype};
-ghost use Rattle.jc_classes.specs.World.{class_named, interfaces_of, listed_refs, superclass_of};
-ghost use Rattle.jc_link.specs.Sound.{IsSound};
-ghost use Rattle.jc_loaded.specs.PrivateCalled.{AreListed};
-ghost use Rattle.jc_loaded.specs.PrivateSupertypes.{IsPlacesAbove, places_above, taken_if};
-ghost use Rattle.jc_loaded.specs.Supertypes.{AreSupertypes, has_number, is_listed};
-ghost use Rattle.jc_names.specs.Names.{home_of};
+ghost use Rattle.jc_classes.specs.World.{class_named, interfaces_of, listed_refs};
+ghost use Rattle.jc_loaded.specs.BitRow.{has_bit};
+ghost use Rattle.jc_loaded.specs.Classes.{class_number};
+ghost use Rattle.jc_loaded.specs.PrivateSupertypes.{AreAbove, AreBegun, AreNumbersOf, AreRight, IsPut};
+ghost use Rattle.jc_loaded.specs.PrivateSupertypes.{itself_and_above};
+ghost use Rattle.jc_loaded.specs.Supertypes.{AreSupertypes, is_listed};
+ghost use Rattle.jc_names.specs.Names.{home_of, is_same_name};
+ghost use Rattle.jc_names.specs.declared.name.ClassName.{ClassName as Name};
+ghost use Rattle.jc_names.specs.declared.name.ClassName.TheVariants.{Api};
 
+use crate::bit_row::BitRow;
+use crate::bit_rows::{NumberList, SharedRow, put_shared, settle};
 use crate::classes::{ClassNumber, Classes};
 use jc_api::ApiClass;
 use jc_base::ClassRef;
 use jc_classes::{Class, ClassTable, found_subtypes_are_subtypes};
-use jc_link::{World, built_worlds_are_sound};
+use jc_link::World;
 use jc_names::ClassName;
 use std::alloc::{AllocError, Global};
 use std::marker::Model;
@@ -24,134 +29,43 @@ use std::marker::Model;
 /// What is above all classes and interfaces.
 const OBJECT: ClassName = ClassName::Api(ApiClass::Object);
 
-/// The numbers of what a class is below.
-#[derive(Drop)]
-struct NumberList {
-    numbers: Vec<ClassNumber>,
-}
-
-impl Model for NumberList {
-    ghost use Rattle.std.specs.Prelude.{ℕ, List};
-
-    ghost Value = { List ℕ };
-
-    ghost view = { λ l. l.numbers.items };
-}
-
-impl NumberList {
-    /// Whether it has a number.
-    #[inline]
-    fn has(&self, number: ClassNumber) -> bool
-        ensures { result ≡ has_number number self.now }
-    {
-        self.numbers.iter().any(|n| n.index() == number.index())
-    }
-}
-
-/// Whether a class stands there, and not an interface.
-fn is_class_at(table: &ClassTable, class: ClassName) -> bool
-    ensures { result ≡ is_class_at table.now class }
-{
-    match table.class_at(class) {
-        Some(found) => found.is_class(),
-        None => false,
-    }
-}
-
-/// Whether a class is another one or below it. Below a class it is along superclasses, and they are walked; for an
-/// interface all classes are passed over.
-#[tactic(auto, using(crate::proofs::Above::same_answer, crate::proofs::Above::orderly, crate::proofs::Above::top))]
-pub(crate) fn is_subtype(table: &ClassTable, class: ClassName, above: ClassName) -> bool
-    requires small { IsSmall table.now }
-    requires sound { IsSound table.now }
-    ensures { result ≡ is_subtype table.now class above }
-{
-    found_subtypes_are_subtypes();
-    if is_class_at(table, above) {
-        table.is_class_below(class, above)
-    } else {
-        table.is_subclass(class, above)
-    }
-}
-
-/// Whether the list of the class with a number has another number; no class's number has none.
-#[inline]
-fn is_listed(lists: &[NumberList], place: ClassNumber, number: ClassNumber) -> bool
-    ensures { result ≡ is_listed lists.now place number }
-{
-    match lists.get(usize::from(place.index())) {
-        Some(list) => list.has(number),
-        None => false,
-    }
-}
-
-/// Whether a class is the one with a number or below it: read from the class's list if that is made, and else found
-/// anew.
-#[tactic(auto, using(crate::proofs::Climbing::listed_below))]
-fn is_below(
-    lists: &[NumberList],
-    table: &ClassTable,
-    classes: &Classes,
-    class: ClassName,
-    number: ClassNumber,
-) -> bool
-    requires small { IsSmall table.now }
-    requires sound { IsSound table.now }
-    requires there { number < length classes.now }
-    requires made { AreListed (IsPlacesAbove table.now classes.now) classes.now (length lists.now) lists.now }
-    ensures { (d : ClassName) → slice_get classes.now number ≡ Some d → result ≡ is_subtype table.now class d }
+/// The number of a class. Of the classes of a world, and of those right above them, each has one.
+fn number_of(classes: &Classes, class: ClassName) -> Result<u16, AllocError>
+    ensures { IfOk result (λ number. class_number classes.now class ≡ Some number) }
 {
     match classes.number_of(class) {
-        Some(place) if usize::from(place.index()) < lists.len() => is_listed(lists, place, number),
-        _ => is_subtype(table, class, classes.name(number)),
+        Some(number) => Ok(number.index()),
+        None => Err(AllocError),
     }
 }
 
-/// Whether the superclass of a class is the one with a number or below it.
-fn is_super_below(
-    lists: &[NumberList],
-    table: &ClassTable,
+/// Puts the number of a class behind others, if there is one.
+fn put_above(
+    numbers: &mut Vec<u16>,
     classes: &Classes,
-    class: ClassName,
-    number: ClassNumber,
-) -> bool
-    requires small { IsSmall table.now }
-    requires sound { IsSound table.now }
-    requires there { number < length classes.now }
-    requires made { AreListed (IsPlacesAbove table.now classes.now) classes.now (length lists.now) lists.now }
-    ensures { (d : ClassName) → slice_get classes.now number ≡ Some d
-        → result ≡ option_map_or (λ e. is_subtype table.now e d) (superclass_of table.now class) false }
+    class: Option<ClassName>,
+) -> Result<(), AllocError>
+    ensures { IfOk result (λ u. map Some numbers.new.items
+        ≡ map Some numbers.old.items ++ map (class_number classes.now) (option_to_list class)) }
 {
-    match table.superclass_of(class) {
-        Some(above) => is_below(lists, table, classes, above, number),
-        None => false,
+    match class {
+        Some(class) => {
+            numbers.push(number_of(classes, class)?)?;
+            Ok(())
+        }
+        None => Ok(()),
     }
 }
 
-/// Whether the interface that a class's record lists at an index is the one with a number or below it.
-fn is_listed_below(
-    lists: &[NumberList],
+/// The interface that a reference of a class's record finds.
+fn interface_named(
     table: &ClassTable,
-    classes: &Classes,
     lister: ClassName,
     reference: Option<ClassRef>,
-    number: ClassNumber,
-) -> bool
-    requires small { IsSmall table.now }
-    requires sound { IsSound table.now }
-    requires there { number < length classes.now }
-    requires made { AreListed (IsPlacesAbove table.now classes.now) classes.now (length lists.now) lists.now }
-    ensures { (d : ClassName) → slice_get classes.now number ≡ Some d
-        → result ≡ option_map_or (λ e. is_subtype table.now e d)
-        (option_and_then (class_named table.now (home_of lister)) reference) false }
+) -> Option<ClassName>
+    ensures { result ≡ option_and_then (class_named table.now (home_of lister)) reference }
 {
-    match reference {
-        Some(reference) => match table.class_named(lister.home(), reference) {
-            Some(interface) => is_below(lists, table, classes, interface, number),
-            None => false,
-        },
-        None => false,
-    }
+    table.class_named(lister.home(), reference?)
 }
 
 /// How many interfaces a record lists.
@@ -166,139 +80,174 @@ fn listed_count(found: &Class) -> usize
     }
 }
 
-/// Whether an interface that a class's record lists is the one with a number or below it.
-fn is_any_below(
-    lists: &[NumberList],
+/// Puts the numbers of the interfaces that a class's record lists behind others.
+#[tactic(auto, using(crate::proofs::Climbing::numbers_more, crate::proofs::Climbing::numbers_all))]
+fn put_listed(
+    numbers: &mut Vec<u16>,
     table: &ClassTable,
     classes: &Classes,
     lister: ClassName,
     found: &Class,
-    number: ClassNumber,
-) -> bool
-    requires small { IsSmall table.now }
-    requires sound { IsSound table.now }
-    requires there { number < length classes.now }
-    requires made { AreListed (IsPlacesAbove table.now classes.now) classes.now (length lists.now) lists.now }
-    ensures { (d : ClassName) → slice_get classes.now number ≡ Some d
-        → result ≡ list_any (λ e. is_subtype table.now e d)
-        (filter_map (class_named table.now (home_of lister)) (listed_refs found.now.body)) }
+) -> Result<(), AllocError>
+    ensures { IfOk result (λ u. map Some numbers.new.items ≡ map Some numbers.old.items
+        ++ map (class_number classes.now)
+        (filter_map (class_named table.now (home_of lister)) (listed_refs found.now.body))) }
 {
     for index in 0..listed_count(found) {
-        if is_listed_below(lists, table, classes, lister, found.listed(index), number) {
-            return true;
-        }
-    }
-    false
-}
-
-/// Whether an interface that a class lists is the one with a number or below it.
-fn is_interface_below(
-    lists: &[NumberList],
-    table: &ClassTable,
-    classes: &Classes,
-    class: ClassName,
-    number: ClassNumber,
-) -> bool
-    requires small { IsSmall table.now }
-    requires sound { IsSound table.now }
-    requires there { number < length classes.now }
-    requires made { AreListed (IsPlacesAbove table.now classes.now) classes.now (length lists.now) lists.now }
-    ensures { (d : ClassName) → slice_get classes.now number ≡ Some d
-        → result ≡ list_any (λ e. is_subtype table.now e d) (interfaces_of table.now class) }
-{
-    match table.class_at(class) {
-        Some(found) => is_any_below(lists, table, classes, class, found, number),
-        None => false,
-    }
-}
-
-/// Whether a class is the one with a number or below it, by what stands right above it.
-fn is_above(
-    lists: &[NumberList],
-    table: &ClassTable,
-    classes: &Classes,
-    class: ClassName,
-    number: ClassNumber,
-) -> bool
-    requires small { IsSmall table.now }
-    requires sound { IsSound table.now }
-    requires there { number < length classes.now }
-    requires made { AreListed (IsPlacesAbove table.now classes.now) classes.now (length lists.now) lists.now }
-    ensures { (d : ClassName) → slice_get classes.now number ≡ Some d → result ≡ is_subtype table.now class d }
-{
-    found_subtypes_are_subtypes();
-    let above = classes.name(number);
-    if OBJECT.is(above) {
-        return true;
-    }
-    if class.is(above) {
-        return true;
-    }
-    if is_super_below(lists, table, classes, class, number) {
-        return true;
-    }
-    is_interface_below(lists, table, classes, class, number)
-}
-
-/// Puts a number behind others, if it is to be taken.
-fn put_if(numbers: &mut Vec<ClassNumber>, passes: bool, number: u16) -> Result<(), AllocError>
-    ensures { IfOk result (λ u. numbers.new.items ≡ numbers.old.items ++ taken_if passes number) }
-{
-    if passes {
-        numbers.push(ClassNumber::new(number))?;
+        let interface = interface_named(table, lister, found.listed(index));
+        put_above(numbers, classes, interface)?;
     }
     Ok(())
 }
 
-/// What a class is below, with the lists of the classes before it.
-fn list_of(
+/// Puts the numbers of the interfaces that a class lists behind others.
+#[tactic(auto, using(crate::proofs::Climbing::none_listed))]
+fn put_interfaces(
+    numbers: &mut Vec<u16>,
+    table: &ClassTable,
+    classes: &Classes,
+    class: ClassName,
+) -> Result<(), AllocError>
+    ensures { IfOk result (λ u. map Some numbers.new.items
+        ≡ map Some numbers.old.items ++ map (class_number classes.now) (interfaces_of table.now class)) }
+{
+    match table.class_at(class) {
+        Some(found) => put_listed(numbers, table, classes, class, found),
+        None => Ok(()),
+    }
+}
+
+/// The numbers of a class, and of what stands right above it: its superclass and the interfaces that it lists.
+fn above_of(
     alloc: Global,
-    lists: &[NumberList],
     table: &ClassTable,
     classes: &Classes,
     class: ClassName,
 ) -> Result<NumberList, AllocError>
-    requires small { IsSmall table.now }
-    requires sound { IsSound table.now }
-    requires made { AreListed (IsPlacesAbove table.now classes.now) classes.now (length lists.now) lists.now }
-    ensures { IfOk result (λ list. list ≡ places_above table.now classes.now class) }
+    ensures { IfOk result (λ list. AreNumbersOf classes.now (itself_and_above table.now class) list) }
 {
     let mut numbers = Vec::new(alloc);
-    for at in 0..classes.len() {
-        let number = ClassNumber::new(at as u16);
-        put_if(
-            &mut numbers,
-            is_above(lists, table, classes, class, number),
-            at as u16,
-        )?;
-    }
-    Ok(NumberList { numbers })
+    numbers.push(number_of(classes, class)?)?;
+    put_above(&mut numbers, classes, table.superclass_of(class))?;
+    put_interfaces(&mut numbers, table, classes, class)?;
+    Ok(NumberList::new(numbers))
 }
 
-/// What each of the classes is below: each list is made with those before it.
-fn lists_of(
+/// The numbers of what stands right above each class from one on.
+fn lists_above(
     alloc: Global,
     table: &ClassTable,
     classes: &Classes,
+    first: usize,
 ) -> Result<Vec<NumberList>, AllocError>
-    requires small { IsSmall table.now }
-    requires sound { IsSound table.now }
-    ensures { IfOk result (λ lists. AreListed (IsPlacesAbove table.now classes.now)
-        classes.now (length classes.now) lists.items) }
+    requires { first ≤ length classes.now }
+    ensures count { IfOk result (λ lists. first + length lists.items ≡ length classes.now) }
+    ensures above { IfOk result (λ lists. AreAbove table.now classes.now first lists.items) }
 {
     let mut lists = Vec::new(alloc);
     let names = classes.names();
-    for at in 0..names.len() {
-        let list = list_of(alloc, &lists, table, classes, names[at])?;
+    for at in first..names.len() {
+        let list = above_of(alloc, table, classes, names[at])?;
         lists.push(list)?;
     }
     Ok(lists)
 }
 
-/// For each class and interface of a world the numbers of those that it is below.
+/// Puts a number into a row, if it is to be put there.
+fn put_if(row: &mut BitRow, passes: bool, number: u16) -> Result<(), AllocError>
+    ensures { IfOk result (λ u. (m : ℕ) → has_bit row.new m ≡ (has_bit row.old m || (passes && m == number))) }
+{
+    if passes {
+        return row.put(number);
+    }
+    Ok(())
+}
+
+/// The numbers of Object.
+#[tactic(auto, using(crate::proofs::Climbing::objects_none, crate::proofs::Climbing::objects_all))]
+fn objects_of(alloc: Global, classes: &Classes) -> Result<BitRow, AllocError>
+    ensures { IfOk result (λ row. (m : ℕ) (d : Name) → slice_get classes.now m ≡ Some d
+        → has_bit row m ≡ is_same_name (Api Object) d) }
+{
+    let mut row = BitRow::new(alloc);
+    let names = classes.names();
+    for at in 0..names.len() {
+        put_if(&mut row, OBJECT.is(names[at]), at as u16)?;
+    }
+    Ok(row)
+}
+
+/// A row with the same numbers.
+#[tactic(auto, using(crate::proofs::Rowing::empty_row))]
+fn copy_of(alloc: Global, row: &BitRow) -> Result<BitRow, AllocError>
+    ensures { IfOk result (λ copy. (m : ℕ) → has_bit copy m ≡ has_bit row.now m) }
+{
+    let mut copy = BitRow::new(alloc);
+    copy.unite(row)?;
+    Ok(copy)
+}
+
+/// So many rows with the same numbers.
+fn copies_of(alloc: Global, row: &BitRow, count: usize) -> Result<Vec<BitRow>, AllocError>
+    ensures count { IfOk result (λ rows. length rows.items ≡ count) }
+    ensures alike { IfOk result (λ rows. (k m : ℕ) → k < count → is_listed rows.items k m ≡ has_bit row.now m) }
+{
+    let mut rows = Vec::new(alloc);
+    for _ in 0..count {
+        rows.push(copy_of(alloc, row)?)?;
+    }
+    Ok(rows)
+}
+
+/// Puts a number into the row of a class, if it is among these. The first row is that of the class with a number.
+fn put_own(rows: &mut [BitRow], first: usize, class: u16, number: u16) -> Result<(), AllocError>
+    ensures { IfOk result (λ u. IsPut first class number rows.old rows.new) }
+{
+    let class = usize::from(class);
+    if class >= first && class - first < rows.len() {
+        rows[class - first].put(number)?;
+    }
+    Ok(())
+}
+
+/// The rows of the classes from one on, as they begin: with Object and themselves.
+fn begun_rows(alloc: Global, classes: &Classes, first: usize) -> Result<Vec<BitRow>, AllocError>
+    requires { first ≤ length classes.now }
+    ensures { IfOk result (λ rows. AreBegun classes.now first (length classes.now) rows.items) }
+{
+    let objects = objects_of(alloc, classes)?;
+    let names = classes.names();
+    let mut rows = copies_of(alloc, &objects, names.len() - first)?;
+    for at in first..names.len() {
+        put_own(&mut rows, first, number_of(classes, names[at])?, at as u16)?;
+    }
+    Ok(rows)
+}
+
+/// The rows of the classes behind those whose rows are made: from what stands right above each.
+fn rows_behind(
+    alloc: Global,
+    table: &ClassTable,
+    classes: &Classes,
+    made: &[SharedRow],
+) -> Result<Vec<BitRow>, AllocError>
+    requires small { IsSmall table.now }
+    requires few { length made.now ≤ length classes.now }
+    requires right { AreRight table.now classes.now made.now }
+    ensures count { IfOk result (λ rows. length made.now + length rows.items ≡ length classes.now) }
+    ensures right { IfOk result (λ rows. AreSupertypes table.now classes.now (made.now ++ rows.items)) }
+{
+    found_subtypes_are_subtypes();
+    let mut rows = begun_rows(alloc, classes, made.len())?;
+    let above = lists_above(alloc, table, classes, made.len())?;
+    settle(alloc, made, &mut rows, &above)?;
+    Ok(rows)
+}
+
+/// For each class and interface of a world those that it is below: a bit for each number.
 #[derive(Drop)]
 pub struct Supertypes {
-    lists: Vec<NumberList>,
+    rows: Vec<SharedRow>,
 }
 
 impl Model for Supertypes {
@@ -306,43 +255,47 @@ impl Model for Supertypes {
 
     ghost Value = { List (List ℕ) };
 
-    ghost view = { λ s. s.lists.items };
+    ghost view = { λ s. s.rows.items };
 }
 
 impl Supertypes {
     /// What these classes of a world are below.
-    #[tactic(auto, using(crate::proofs::Above::are_supertypes))]
     pub fn new(alloc: Global, world: &World, classes: &Classes) -> Result<Supertypes, AllocError>
-        ensures above { IfOk result (λ lists. AreSupertypes world.now.shapes classes.now lists) }
-        ensures count { IfOk result (λ lists. length lists ≡ length classes.now) }
+        ensures above { IfOk result (λ rows. AreSupertypes world.now.shapes classes.now rows) }
+        ensures count { IfOk result (λ rows. length rows ≡ length classes.now) }
     {
         let table = world.table();
         // Only its contract counts: what always holds of a table.
         let _count = table.len();
-        built_worlds_are_sound();
-        let lists = lists_of(alloc, table, classes)?;
-        Ok(Supertypes { lists })
+        let mut rows = Vec::new(alloc);
+        let made = rows_behind(alloc, table, classes, &rows)?;
+        put_shared(alloc, &mut rows, made)?;
+        Ok(Supertypes { rows })
     }
 
     /// For how many classes.
     pub fn len(&self) -> usize
         ensures { result ≡ length self.now }
     {
-        self.lists.len()
+        self.rows.len()
     }
 
     /// Whether for none.
     pub fn is_empty(&self) -> bool
         ensures { result ≡ (length self.now == 0) }
     {
-        self.lists.len() == 0
+        self.rows.len() == 0
     }
 
     /// Whether the class with a number is the other one, or below it; false where no class has it.
     #[inline]
+    #[tactic(auto, using(crate::proofs::Rowing::empty_row))]
     pub fn is_subtype(&self, number: ClassNumber, other: ClassNumber) -> bool
         ensures { result ≡ is_listed self.now number other }
     {
-        is_listed(&self.lists, number, other)
+        match self.rows.get(usize::from(number.index())) {
+            Some(row) => row.row().has(other.index()),
+            None => false,
+        }
     }
 }

@@ -1,48 +1,52 @@
--- Classes and their superclasses, one more at a time.
-use Rattle.std.proofs.Common.{◌≡◌, ℕ, suc, ◌+◌, ◌-◌, ◌<◌, ◌≤◌, List, [], ◌∷◌, ◌++◌, Option, Some, None, refl, sym}
-use Rattle.std.proofs.Common.{ap, ◌∙◌, arith}
-use Rattle.std.proofs.lemmas.List.{append-nil, append_assoc}
-use Rattle.std.specs.Option.{option_map_or}
-use Rattle.jc_cap_desc.specs.Shape.{Shape}
-use Rattle.jc_classes.specs.Walk.{most_classes}
-use Rattle.jc_classes.specs.World.{superclass_of}
+-- Classes and their superclasses.
+use Rattle.std.proofs.Common.{◌≡◌, ℕ, zero, suc, ◌&&◌, false, true, List, Option, Some, None, is_some}
+use Rattle.std.proofs.Common.{refl, sym, ap, ◌∙◌}
+use Rattle.std.specs.Option.{option_and_then}
+use Rattle.jc_cap_desc.specs.Shape.{ClassShape, Shape}
+use Rattle.jc_classes.specs.Methods.{interface_visit, virtual_method_of, virtual_visit}
+use Rattle.jc_classes.specs.Subtype.{comes_to_end, has_whole_chain}
+use Rattle.jc_classes.specs.Walk.{found, most_classes, walk}
+use Rattle.jc_classes.specs.World.{class_at}
+use Rattle.jc_link.specs.Sound.{IsSound}
 use Rattle.jc_names.specs.declared.name.ClassName.{ClassName}
-use Rattle.jc_loaded.specs.PrivateChain.{chain_of, chain_within}
+use Rattle.jc_loaded.proofs.Same.{true_false}
 
 pub most_is : most_classes ≡ 17_085
 unfolding most_classes
 most_is = refl
 
--- the classes from one on, of those that are left after so many
-abbrev left_of : List Shape → ℕ → Option ClassName → List ClassName
-left_of world counter next = option_map_or (chain_within world (most_classes - counter)) next []
+-- ---- a class that isn't there
 
-pub at_start : (world : List Shape) (c : ClassName) → [] ++ left_of world 0 (Some c) ≡ chain_of world c
-at_start world c = ap (λ n. chain_within world n c) (omega arith)
+nothing : {A B : Type 0} (f : A → Option B) (o : Option A) → o ≡ None → option_and_then f o ≡ None
+nothing f o none = ap (option_and_then f) none
 
-pub at_end : (world : List Shape) (so_far total : List ClassName) (next : Option ClassName) (counter : ℕ)
-    → next ≡ None → so_far ++ left_of world counter next ≡ total → so_far ≡ total
-at_end world so_far total next counter e all =
-    sym (append-nil so_far) ∙ ap (λ o. so_far ++ left_of world counter o) (sym e) ∙ all
+module _ (world : List Shape) (c : ClassName) (none : class_at world c ≡ None) where
+  pub no_method : (token asker : ℕ) → virtual_method_of world c token asker ≡ None
+  no_method token asker = within most_classes
+    where
+      within : (n : ℕ) → walk (virtual_visit world asker token) world n c ≡ None
+      within zero = refl
+      within (suc n) = nothing _ (class_at world c) none
 
-pub next_class : (world : List Shape) (so_far : List ClassName) (next : Option ClassName) (at : ClassName)
-    (total : List ClassName) (counter : ℕ) → counter < 17_085 → next ≡ Some at
-    → so_far ++ left_of world counter next ≡ total
-    → (so_far ++ at ∷ []) ++ left_of world (counter + 1) (superclass_of world at) ≡ total
-next_class world so_far next at total counter less e all =
-    let one : most_classes - counter ≡ suc (most_classes - (counter + 1)) = omega (arith, less, most_is) in
-    append_assoc so_far (at ∷ []) (left_of world (counter + 1) (superclass_of world at))
-    ∙ ap (λ n. so_far ++ chain_within world n at) (sym one)
-    ∙ ap (λ o. so_far ++ left_of world counter o) (sym e) ∙ all
+  pub not_listed : (interface : ClassName) → found (interface_visit world interface) world c ≡ None
+  not_listed interface = within most_classes
+    where
+      within : (n : ℕ) → walk (interface_visit world interface) world n c ≡ None
+      within zero = refl
+      within (suc n) = nothing _ (class_at world c) none
 
-pub no_steps : (world : List Shape) (so_far : List ClassName) (next : Option ClassName)
-    (total : List ClassName) (counter : ℕ) → 17_085 ≤ counter
-    → so_far ++ left_of world counter next ≡ total → so_far ≡ total
-no_steps world so_far next total counter past all =
-    let none : 0 ≡ most_classes - counter = omega (arith, past, most_is) in
-    sym (append-nil so_far) ∙ ap (λ ys. so_far ++ ys) (nothing next)
-    ∙ ap (λ n. so_far ++ option_map_or (chain_within world n) next []) none ∙ all
-  where
-    nothing : (o : Option ClassName) → [] ≡ option_map_or (chain_within world 0) o []
-    nothing None = refl
-    nothing (Some c) = refl
+-- ---- a class that is
+
+module _ (world : List Shape) (c : ClassName) (sound : IsSound world) where
+  -- in a sound world the chain of each class that is there comes to its end
+  pub whole_chain : (k : ClassShape) → class_at world c ≡ Some k → has_whole_chain world c ≡ true
+  whole_chain k there =
+      ap (λ (o : Option ClassShape). is_some o && comes_to_end world most_classes c) there
+      ∙ sound.superclasses.orderly.ends c
+
+  pub not_there : has_whole_chain world c ≡ false → class_at world c ≡ None
+  not_there e = by_class (class_at world c) refl
+    where
+      by_class : (o : Option ClassShape) → class_at world c ≡ o → class_at world c ≡ None
+      by_class None at = at
+      by_class (Some k) at = true_false (sym (whole_chain k at) ∙ e)

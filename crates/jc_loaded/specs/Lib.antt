@@ -8,7 +8,6 @@ pub mod PrivateClasses
 pub mod Growth
 pub mod Called
 pub mod PrivateCalled
-pub mod PrivateChain
 pub mod BitRow
 pub mod PrivateBitRow
 pub mod PrivateBitRows

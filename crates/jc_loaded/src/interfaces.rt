@@ -1,22 +1,18 @@
 //! The methods of interfaces that a world's classes have, by numbers and token.
 
-ghost use Rattle.std.specs.Prelude.{◌≡◌, ◌<◌, ◌==◌, length, slice_get, IfOk};
-ghost use Rattle.std.specs.List.{flat_map};
-ghost use Rattle.std.specs.Option.{option_and_then, option_to_list};
-ghost use Rattle.jc_classes.specs.Record.{interface_rows};
-ghost use Rattle.jc_classes.specs.World.{listed_refs};
+ghost use Rattle.std.specs.Prelude.{◌≡◌, ◌==◌, ◌++◌, [], length, IfOk};
+ghost use Rattle.std.specs.Option.{option_to_list};
+ghost use Rattle.jc_classes.specs.Listed.{AreListedBy};
+ghost use Rattle.jc_link.specs.Sound.{IsSound};
 ghost use Rattle.jc_loaded.specs.Called.{AreInterfaceCalls, interface_call_at};
-ghost use Rattle.jc_loaded.specs.PrivateCalled.{AreListed, with_tables};
-ghost use Rattle.jc_loaded.specs.PrivateChain.{IsTablesFor, number_named, table_for, tables_by, tables_for};
-ghost use Rattle.jc_names.specs.Names.{home_of};
+ghost use Rattle.jc_loaded.specs.PrivateCalled.{AreListed, HasInterfaces, table_for};
 
 use crate::called::{Called, indexes_called};
-use crate::chain::chain_of;
 use crate::classes::{ClassNumber, Classes};
 use crate::keyed::KeyedLists;
 use crate::methods::Methods;
-use jc_classes::{Class, ClassTable};
-use jc_link::World;
+use jc_classes::{ClassTable, ListedInterface};
+use jc_link::{World, built_worlds_are_sound};
 use jc_names::ClassName;
 use std::alloc::{AllocError, Global};
 use std::marker::Model;
@@ -30,23 +26,19 @@ pub enum InterfaceCall {
     Listed(Called),
 }
 
-/// The number of the interface that a class's record lists at an index.
-fn number_listed(
-    table: &ClassTable,
-    classes: &Classes,
-    lister: ClassName,
-    found: &Class,
-    index: usize,
-) -> Option<ClassNumber>
-    ensures { result ≡ option_and_then (number_named table.now classes.now (home_of lister))
-        (slice_get (listed_refs found.now.body) index) }
+/// What a class and its superclasses list; nothing where no class stands there.
+#[tactic(auto, using(crate::proofs::Interfacing::none_listed))]
+fn listed_by(table: &ClassTable, class: ClassName) -> &[ListedInterface]
+    requires sound { IsSound table.now }
+    ensures { AreListedBy table.now class result.now }
 {
-    let reference = found.listed(index)?;
-    let interface = table.class_named(lister.home(), reference)?;
-    classes.number_of(interface)
+    match table.listed_interfaces(class) {
+        Some(rows) => rows,
+        None => &[],
+    }
 }
 
-/// Puts a class's table for the row with an index of a record behind others, if its interface has a number.
+/// Makes a class's table for an interface, if that has a number.
 fn put_row(
     alloc: Global,
     lists: &mut KeyedLists,
@@ -54,71 +46,21 @@ fn put_row(
     methods: &Methods,
     classes: &Classes,
     class: ClassName,
-    lister: ClassName,
-    found: &Class,
-    index: usize,
+    row: &ListedInterface,
 ) -> Result<(), AllocError>
-    requires there { index < length (interface_rows found.now.body) }
-    ensures { IfOk result (λ u. lists.new ≡ with_tables lists.old (option_to_list
-        (option_and_then (table_for table.now methods.now classes.now class (home_of lister))
-        (slice_get (interface_rows found.now.body) index)))) }
+    ensures whole { IfOk result (λ u. lists.new.whole ≡ lists.old.whole) }
+    ensures last { IfOk result (λ u. lists.new.last ≡ lists.old.last
+        ++ option_to_list (table_for table.now methods.now classes.now class row.now)) }
 {
-    match number_listed(table, classes, lister, found, index) {
-        None => Ok(()),
-        Some(number) => {
-            let rows = found.interface_rows();
-            let called = indexes_called(alloc, table, methods, class, rows[index].indexes())?;
-            lists.put(number.index(), &called)?;
-            Ok(())
-        }
-    }
-}
-
-/// Puts a class's tables for what a class lists behind others.
-fn put_rows(
-    alloc: Global,
-    lists: &mut KeyedLists,
-    table: &ClassTable,
-    methods: &Methods,
-    classes: &Classes,
-    class: ClassName,
-    lister: ClassName,
-) -> Result<(), AllocError>
-    ensures { IfOk result (λ u. lists.new
-        ≡ with_tables lists.old (tables_by table.now methods.now classes.now class lister)) }
-{
-    let Some(found) = table.class_at(lister) else {
+    let Some(number) = classes.number_of(row.interface()) else {
         return Ok(());
     };
-    let rows = found.interface_rows();
-    for index in 0..rows.len() {
-        put_row(
-            alloc, lists, table, methods, classes, class, lister, found, index,
-        )?;
-    }
+    let called = indexes_called(alloc, table, methods, class, row.indexes())?;
+    lists.put(number.index(), &called)?;
     Ok(())
 }
 
-/// Puts a class's tables for what the classes of a chain list behind others.
-fn put_chain(
-    alloc: Global,
-    lists: &mut KeyedLists,
-    table: &ClassTable,
-    methods: &Methods,
-    classes: &Classes,
-    class: ClassName,
-    chain: &[ClassName],
-) -> Result<(), AllocError>
-    ensures { IfOk result (λ u. lists.new
-        ≡ with_tables lists.old (flat_map (tables_by table.now methods.now classes.now class) chain.now)) }
-{
-    for at in chain {
-        put_rows(alloc, lists, table, methods, classes, class, *at)?;
-    }
-    Ok(())
-}
-
-/// Puts a class's tables behind others, for what it lists and what its superclasses list.
+/// Makes the tables of a class.
 fn put_tables(
     alloc: Global,
     lists: &mut KeyedLists,
@@ -127,11 +69,15 @@ fn put_tables(
     classes: &Classes,
     class: ClassName,
 ) -> Result<(), AllocError>
-    ensures { IfOk result (λ u. lists.new
-        ≡ with_tables lists.old (tables_for table.now methods.now classes.now class)) }
+    requires sound { IsSound table.now }
+    requires first { lists.old.last ≡ [] }
+    ensures whole { IfOk result (λ u. lists.new.whole ≡ lists.old.whole) }
+    ensures last { IfOk result (λ u. HasInterfaces table.now methods.now classes.now class lists.new.last) }
 {
-    let chain = chain_of(alloc, table, class)?;
-    put_chain(alloc, lists, table, methods, classes, class, &chain)?;
+    let rows = listed_by(table, class);
+    for row in rows {
+        put_row(alloc, lists, table, methods, classes, class, row)?;
+    }
     Ok(())
 }
 
@@ -143,7 +89,8 @@ fn lists_of(
     classes: &Classes,
     names: &[ClassName],
 ) -> Result<KeyedLists, AllocError>
-    ensures { IfOk result (λ lists. AreListed (IsTablesFor table.now methods.now classes.now)
+    requires sound { IsSound table.now }
+    ensures { IfOk result (λ lists. AreListed (HasInterfaces table.now methods.now classes.now)
         names.now (length names.now) lists.whole) }
 {
     let mut lists = KeyedLists::new(alloc);
@@ -181,7 +128,11 @@ impl InterfaceMethods {
         ensures calls { IfOk result (λ made. AreInterfaceCalls world.now.shapes methods.now classes.now made) }
         ensures count { IfOk result (λ made. length made ≡ length classes.now) }
     {
-        let lists = lists_of(alloc, world.table(), methods, classes, classes.names())?;
+        let table = world.table();
+        // Only its contract counts: what always holds of a table.
+        let _count = table.len();
+        built_worlds_are_sound();
+        let lists = lists_of(alloc, table, methods, classes, classes.names())?;
         Ok(InterfaceMethods { lists })
     }
 

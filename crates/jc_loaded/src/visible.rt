@@ -1,109 +1,63 @@
 //! The package-visible virtual methods of a world's classes, by number, token and package.
 
-ghost use Rattle.std.specs.Prelude.{◌≡◌, ℕ, ◌==◌, ◌||◌, [], length, IfOk};
-ghost use Rattle.std.specs.Option.{option_to_list};
+ghost use Rattle.std.specs.Prelude.{◌≡◌, ◌+◌, ◌==◌, [], length, IfOk};
+ghost use Rattle.jc_link.specs.Sound.{IsSound};
 ghost use Rattle.jc_loaded.specs.Called.{AreVisible, visible_at};
-ghost use Rattle.jc_loaded.specs.PrivateCalled.{AreListed};
-ghost use Rattle.jc_loaded.specs.PrivateChain.{AreHomes, HasVisible, HaveHomes, homes_in, visible_home};
-ghost use Rattle.jc_loaded.specs.Supertypes.{has_number};
+ghost use Rattle.jc_loaded.specs.PrivateCalled.{AreListed, HasNoPlaceFrom, HasPlaces, HasVisible};
 
 use crate::called::{Called, PACKAGE_VISIBLE, table_made};
-use crate::chain::chain_of;
 use crate::classes::{ClassNumber, Classes};
 use crate::keyed::KeyedLists;
 use crate::methods::Methods;
+use crate::tables::short_of;
 use jc_classes::ClassTable;
-use jc_link::World;
+use jc_link::{World, built_worlds_are_sound};
 use jc_names::{ClassName, PackagePlace};
 use std::alloc::{AllocError, Global};
 use std::marker::Model;
 
-/// Where the package of a class stands, if the class has a table of package-visible methods.
-fn visible_home(table: &ClassTable, class: ClassName) -> Option<u16>
-    ensures { result ≡ visible_home table.now class }
+/// A number of places of packages: none from there on finds a package-visible method of a class.
+fn places_of(table: &ClassTable, class: ClassName) -> usize
+    requires sound { IsSound table.now }
+    ensures { HasNoPlaceFrom table.now class result }
 {
-    let found = table.class_at(class)?;
-    if found.package_entries().is_empty() {
-        return None;
-    }
-    Some(class.home().index() as u16)
-}
-
-/// Puts a place behind others, unless it is among them.
-#[tactic(auto, using(crate::proofs::Showing::had, crate::proofs::Showing::has_more))]
-fn put_home(homes: &mut Vec<u16>, home: u16) -> Result<(), AllocError>
-    ensures { IfOk result (λ u. (n : ℕ) → has_number n homes.new.items
-        ≡ (has_number n homes.old.items || home == n)) }
-{
-    if homes.iter().any(|h| *h == home) {
-        return Ok(());
-    }
-    homes.push(home)?;
-    Ok(())
-}
-
-/// Puts the place of a class's package behind others, if the class has a table of package-visible methods.
-#[tactic(auto, using(crate::proofs::Showing::home_more, crate::proofs::Showing::no_home))]
-fn put_home_of(homes: &mut Vec<u16>, table: &ClassTable, class: ClassName) -> Result<(), AllocError>
-    ensures { IfOk result (λ u. (n : ℕ) → has_number n homes.new.items
-        ≡ (has_number n homes.old.items || has_number n (option_to_list (visible_home table.now class)))) }
-{
-    match visible_home(table, class) {
-        None => Ok(()),
-        Some(home) => {
-            put_home(homes, home)?;
-            Ok(())
-        }
+    match table.class_at(class) {
+        Some(_) => table.visible_places(class),
+        None => 0,
     }
 }
 
-/// Puts the places of the packages of the classes of a chain behind others, each once.
-fn put_homes(
-    homes: &mut Vec<u16>,
-    table: &ClassTable,
-    chain: &[ClassName],
-) -> Result<(), AllocError>
-    ensures { IfOk result (λ u. (n : ℕ) → has_number n homes.new.items
-        ≡ (has_number n homes.old.items || has_number n (homes_in table.now chain.now))) }
-{
-    for at in chain {
-        put_home_of(homes, table, *at)?;
-    }
-    Ok(())
-}
-
-/// Where the packages stand in which a class or a superclass of it has such a table, each once.
-fn homes_of(alloc: Global, table: &ClassTable, class: ClassName) -> Result<Vec<u16>, AllocError>
-    ensures { IfOk result (λ homes. AreHomes table.now class homes.items) }
-{
-    let chain = chain_of(alloc, table, class)?;
-    let mut homes = Vec::new(alloc);
-    put_homes(&mut homes, table, &chain)?;
-    Ok(homes)
-}
-
-/// Makes the tables of a class for the packages that stand at some places.
-fn put_tables(
+/// Makes a class's table for the package that stands at a place, if it finds a method there.
+fn put_place(
     alloc: Global,
     lists: &mut KeyedLists,
     table: &ClassTable,
     methods: &Methods,
     class: ClassName,
-    homes: &[u16],
+    place: u16,
 ) -> Result<(), AllocError>
-    requires first { lists.old.last ≡ [] }
+    requires first { HasPlaces table.now methods.now class place lists.old.last }
     ensures whole { IfOk result (λ u. lists.new.whole ≡ lists.old.whole) }
-    ensures last { IfOk result (λ u. HaveHomes table.now methods.now class homes.now lists.new.last) }
+    ensures last { IfOk result (λ u. HasPlaces table.now methods.now class (place + 1) lists.new.last) }
 {
-    for home in homes {
-        let called = table_made(alloc, table, methods, class, PACKAGE_VISIBLE, *home)?;
-        lists.put(*home, &called)?;
+    let tokens = table.visible_tokens(class, usize::from(place));
+    if tokens == 0 {
+        return Ok(());
     }
+    let called = table_made(
+        alloc,
+        table,
+        methods,
+        class,
+        PACKAGE_VISIBLE,
+        place,
+        tokens,
+    )?;
+    lists.put(place, &called)?;
     Ok(())
 }
 
 /// Makes the tables of a class.
-#[tactic(auto, using(crate::proofs::Showing::all_shown))]
 fn put_visible(
     alloc: Global,
     lists: &mut KeyedLists,
@@ -111,12 +65,15 @@ fn put_visible(
     methods: &Methods,
     class: ClassName,
 ) -> Result<(), AllocError>
+    requires sound { IsSound table.now }
     requires first { lists.old.last ≡ [] }
     ensures whole { IfOk result (λ u. lists.new.whole ≡ lists.old.whole) }
     ensures last { IfOk result (λ u. HasVisible table.now methods.now class lists.new.last) }
 {
-    let homes = homes_of(alloc, table, class)?;
-    put_tables(alloc, lists, table, methods, class, &homes)?;
+    let places = short_of(places_of(table, class))?;
+    for place in 0..places {
+        put_place(alloc, lists, table, methods, class, place)?;
+    }
     Ok(())
 }
 
@@ -127,6 +84,7 @@ fn lists_of(
     methods: &Methods,
     names: &[ClassName],
 ) -> Result<KeyedLists, AllocError>
+    requires sound { IsSound table.now }
     ensures { IfOk result (λ lists. AreListed (HasVisible table.now methods.now)
         names.now (length names.now) lists.whole) }
 {
@@ -166,7 +124,11 @@ impl VisibleMethods {
         ensures visible { IfOk result (λ made. AreVisible world.now.shapes methods.now classes.now made) }
         ensures count { IfOk result (λ made. length made ≡ length classes.now) }
     {
-        let lists = lists_of(alloc, world.table(), methods, classes.names())?;
+        let table = world.table();
+        // Only its contract counts: what always holds of a table.
+        let _count = table.len();
+        built_worlds_are_sound();
+        let lists = lists_of(alloc, table, methods, classes.names())?;
         Ok(VisibleMethods { lists })
     }
 

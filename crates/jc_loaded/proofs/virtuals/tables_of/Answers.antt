@@ -2,8 +2,12 @@ use Rattle.std.proofs.Common.{◌+◌, List, sym, subst, arith}
 use Rattle.std.proofs.lemmas.Option.{slice_get-get_or}
 use Rattle.jc_loaded.specs.Called.{KeyedTable}
 use Rattle.jc_loaded.specs.PrivateCalled.{AreListed, HasCalled, lists_of}
-use Rattle.jc_loaded.proofs.Calling.{table_more}
+use Rattle.jc_loaded.proofs.Calling.{none_public, table_more}
 use Rattle.jc_loaded.proofs.virtuals.tables_of.Goals as goal
+
+pub table_made-requires-clause-none : goal.table_made-requires-clause-none
+table_made-requires-clause-none c =
+    none_public c.args.table.now _ c.public_tokens-tokens.result c.public_tokens-tokens.ensures.none
 
 pub loop-at-preserved : goal.loop-at-preserved
 loop-at-preserved c =

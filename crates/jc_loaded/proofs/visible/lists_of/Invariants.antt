@@ -1,6 +1,5 @@
 use Rattle.std.proofs.Common.{◌≡◌, []}
-use Rattle.jc_loaded.specs.PrivateCalled.{AreListed}
-use Rattle.jc_loaded.specs.PrivateChain.{HasVisible}
+use Rattle.jc_loaded.specs.PrivateCalled.{AreListed, HasVisible}
 use Rattle.jc_loaded.proofs.visible.lists_of.Given as goal
 
 abbrev pub invariant-loop-at : goal.invariant-loop-at

@@ -1,11 +1,11 @@
 -- How far tables go.
-use Rattle.std.proofs.Common.{◌≡◌, ℕ, ◌+◌, ◌-◌, ◌<◌, ◌≤◌, Bool, true, false, cond, List, [], length, nat_lt, Option, Some}
-use Rattle.std.proofs.Common.{None, unwrap_or, refl, sym, ap, ◌∙◌, arith, lt-ltb, le-ltb}
+use Rattle.std.proofs.Common.{◌≡◌, ℕ, ◌+◌, ◌-◌, ◌<◌, ◌≤◌, true, false, cond, List, [], length}
+use Rattle.std.proofs.Common.{None, unwrap_or, sym, ap, ◌∙◌, arith, lt-ltb, le-ltb}
 use Rattle.std.proofs.lemmas.Option.{slice_get_past}
 use Rattle.jc_cap_desc.specs.Shape.{Shape}
 use Rattle.jc_classes.specs.Methods.{package_visible, virtual_method_of}
 use Rattle.jc_classes.specs.PrivatePlaces.{place_at}
-use Rattle.jc_classes.specs.PrivateTables.{IsTabled, Tabled, entry_in, row_at}
+use Rattle.jc_classes.specs.PrivateTables.{IsTabled, Tabled, row_at}
 use Rattle.jc_classes.specs.Subtype.{has_whole_chain}
 use Rattle.jc_classes.proofs.Marking.{true_false}
 use Rattle.jc_names.specs.declared.name.ClassName.{ClassName}

@@ -10,7 +10,6 @@ use Rattle.jc_classes.specs.Limits.{IsSmall}
 use Rattle.jc_classes.specs.Listed.{AreListedBy, ListNothing, Listed, indexes_in}
 use Rattle.jc_classes.specs.Methods.{record_visit, package_visible, virtual_method_of, interface_visit, indexes_visit}
 use Rattle.jc_classes.specs.Methods.{row_for}
-use Rattle.jc_names.specs.Names.{is_same_name}
 use Rattle.jc_classes.specs.PrivatePlaces.{place_at}
 use Rattle.jc_classes.specs.PrivateSearch.{class_placed}
 use Rattle.jc_classes.specs.Subtype.{comes_to_end, has_whole_chain}

@@ -51,8 +51,8 @@ impl LinkedBody {
     }
 }
 
-/// A package that is well-formed in the world that it was bound to. It has a copy of that world's classes, with its own
-/// behind them.
+/// A package that is well-formed in the world that it was bound to. It has that world's classes, which both share, with
+/// its own behind them.
 #[derive(Drop)]
 pub struct Linked {
     pub(crate) table: ClassTable,

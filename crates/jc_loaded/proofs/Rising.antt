@@ -1,10 +1,9 @@
 -- Rows of bits that are put into those that they are right above.
 use Rattle.std.proofs.Common.{◌≡◌, ◌⊎◌, inl, inr, ℕ, zero, suc, ◌+◌, ◌<◌, ◌≤◌, ◌==◌, ◌||◌, Bool, true, false, List, []}
-use Rattle.std.proofs.Common.{◌∷◌, ◌++◌, length, take, get_or, set, Option, Some, slice_get, unwrap_or}
-use Rattle.std.proofs.Common.{refl, sym, ap, subst, ◌∙◌, arith, set-set}
+use Rattle.std.proofs.Common.{◌∷◌, ◌++◌, length, take, get_or, set, Some, slice_get, unwrap_or}
+use Rattle.std.proofs.Common.{refl, sym, ap, ◌∙◌, arith, set-set}
 use Rattle.std.specs.List.{list_any}
 use Rattle.std.proofs.lemmas.Bool.{cases_eq, cases_lt, eq-eqb, eqb-true}
-use Rattle.std.proofs.lemmas.List.Folds.{list_any-append}
 use Rattle.jc_loaded.specs.BitRow.{has_bit}
 use Rattle.jc_loaded.specs.PrivateBitRow.{AreUnited, most_bits, unset}
 use Rattle.jc_loaded.specs.PrivateBitRows.{ArePassed, AreRisen, AreSettled, IsOneAbove, IsRightAbove}

@@ -43,15 +43,6 @@ impl SharedRow {
     {
         &self.row
     }
-
-    /// The same row once more.
-    pub(crate) fn share(&self) -> Result<SharedRow, AllocError>
-        ensures { IfOk result (λ shared. shared ≡ self.now) }
-    {
-        Ok(SharedRow {
-            row: self.row.clone()?,
-        })
-    }
 }
 
 /// Puts rows behind others that are shared.

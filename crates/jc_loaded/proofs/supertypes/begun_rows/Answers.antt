@@ -1,6 +1,6 @@
 use Rattle.std.proofs.Common.{◌∙◌, ◌+◌, ap, sym, subst, arith, length, slice_get}
 use Rattle.std.proofs.lemmas.Option.{slice_get-get_or}
-use Rattle.jc_loaded.specs.PrivateSupertypes.{AreBegun, IsPut}
+use Rattle.jc_loaded.specs.PrivateSupertypes.{AreBegun}
 use Rattle.jc_loaded.proofs.Climbing.{begun_first, begun_more}
 use Rattle.jc_loaded.proofs.Rowing.{refilled}
 use Rattle.jc_loaded.proofs.supertypes.begun_rows.Goals as goal

@@ -1,4 +1,4 @@
-use Rattle.std.proofs.Common.{◌∙◌, ap, sym, arith, slice_get, length-append}
+use Rattle.std.proofs.Common.{◌∙◌, ap, sym, arith, slice_get}
 use Rattle.std.proofs.lemmas.Option.{slice_get-get_or}
 use Rattle.jc_loaded.proofs.Climbing.{above_more}
 use Rattle.jc_loaded.proofs.supertypes.lists_above.Goals as goal

@@ -1,4 +1,4 @@
-use Rattle.std.proofs.Common.{◌∙◌, ◌++◌, List, ℕ, ap, sym, subst, arith, length}
+use Rattle.std.proofs.Common.{◌++◌, List, ℕ, ap, sym, subst, arith, length}
 use Rattle.jc_loaded.specs.PrivateSupertypes.{AreAbove, AreBegun}
 use Rattle.jc_loaded.specs.Supertypes.{AreSupertypes}
 use Rattle.jc_loaded.proofs.Climbing.{are_supertypes}

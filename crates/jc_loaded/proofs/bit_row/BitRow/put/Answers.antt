@@ -1,4 +1,4 @@
-use Rattle.std.proofs.Common.{◌≡◌, ℕ, ◌*◌, ◌%◌, ◌^◌, ◌==◌, ◌||◌, length, ap, sym, ◌∙◌, arith}
+use Rattle.std.proofs.Common.{◌≡◌, ℕ, ◌*◌, ◌%◌, ◌^◌, ◌==◌, ◌||◌, length, ap, ◌∙◌, arith}
 use Rattle.jc_loaded.specs.BitRow.{has_bit}
 use Rattle.jc_loaded.specs.PrivateBitRow.{bits_of}
 use Rattle.jc_loaded.proofs.Rowing.{one_bit, refilled}

@@ -45,15 +45,7 @@ fn put_place(
     if tokens == 0 {
         return Ok(());
     }
-    let called = table_made(
-        alloc,
-        table,
-        methods,
-        class,
-        PACKAGE_VISIBLE,
-        place,
-        tokens,
-    )?;
+    let called = table_made(alloc, table, methods, class, PACKAGE_VISIBLE, place, tokens)?;
     lists.put(place, &called)?;
     Ok(())
 }

@@ -1,7 +1,7 @@
 -- Tables of package-visible methods.
-use Rattle.std.proofs.Common.{◌≡◌, ◌⊎◌, inl, inr, ℕ, ◌+◌, ◌-◌, ◌<◌, ◌≤◌, ◌==◌, Bool, true, false, cond, List, [], ◌∷◌}
-use Rattle.std.proofs.Common.{◌++◌, length, Option, Some, None, unwrap_or, refl, sym, ap, ◌∙◌, arith}
-use Rattle.std.proofs.lemmas.Bool.{cases_lt, eq-eqb, ne_eqb}
+use Rattle.std.proofs.Common.{◌≡◌, ℕ, ◌+◌, ◌-◌, ◌<◌, ◌==◌, Bool, true, false, cond, List, [], ◌∷◌}
+use Rattle.std.proofs.Common.{◌++◌, length, Option, Some, None, refl, ap, ◌∙◌, arith}
+use Rattle.std.proofs.lemmas.Bool.Decides.{nat_tests}
 use Rattle.std.proofs.lemmas.List.Folds.{find-append}
 use Rattle.std.proofs.lemmas.Option.{slice_get_within}
 use Rattle.std.specs.List.{find}
@@ -12,9 +12,8 @@ use Rattle.jc_names.specs.Names.{home_at}
 use Rattle.jc_names.specs.declared.name.ClassName.{ClassName}
 use Rattle.jc_loaded.specs.Called.{AreVisible, KeyedTable, called_in, called_of, keyed_in}
 use Rattle.jc_loaded.specs.Methods.{LoadedMethod}
-use Rattle.jc_loaded.specs.PrivateCalled.{AreListed, HasAt, HasCalled, HasNoPlaceFrom, HasPlaces, HasVisible}
+use Rattle.jc_loaded.specs.PrivateCalled.{AreListed, HasCalled, HasPlaces, HasVisible}
 use Rattle.jc_loaded.specs.declared.called.Called.{Called}
-use Rattle.jc_loaded.specs.declared.called.Called.TheVariants.{Nothing}
 
 -- ---- one table more
 
@@ -38,42 +37,23 @@ keyed_more tables key called asked token =
     by_found None false = refl
     by_found (Some t) b = refl
 
-or_none : {A : Type 0} (o : Option A) → option_or o None ≡ o
-or_none None = refl
-or_none (Some a) = refl
-
 -- ---- the tables of a class
 
-module _ (world : List Shape) (methods : List LoadedMethod) (c : ClassName) where
-  module _ (place : ℕ) (tables : List KeyedTable) (so_far : HasPlaces world methods c place tables) where
-    pub place_put : (called : List Called) → HasCalled world methods 128 place 128 c called
-        → HasPlaces world methods c (place + 1) (tables ++ keyed place called ∷ [])
-    place_put called has = record {
-      first = λ home less token low. by_order home token less low (cases_lt home place);
-      others = λ home token past.
-          keyed_more tables place called home token
-          ∙ ap (λ o. option_or o (cond (place == home) (Some (called_in called token)) None))
-          (so_far.others home token (omega (arith, past)))
-          ∙ ap (λ b. cond b (Some (called_in called token)) None) (ne_eqb place home (λ e. omega (arith, e, past)));
-    }
-      where
-        by_order : (home token : ℕ) → home < place + 1 → token < 128 → (home < place) ⊎ (place ≤ home)
-            → unwrap_or (keyed_in (tables ++ keyed place called ∷ []) home token) Nothing
-            ≡ called_of methods (virtual_method_of world c (package_visible + token) home)
-        by_order home token less low (inl before) =
-            ap (λ o. unwrap_or o Nothing) (keyed_more tables place called home token
-            ∙ ap (λ b. option_or (keyed_in tables home token) (cond b (Some (called_in called token)) None))
-            (ne_eqb place home (λ e. omega (arith, e, before)))
-            ∙ or_none (keyed_in tables home token))
-            ∙ so_far.first home before token low
-        by_order home token less low (inr behind) =
-            let same : place ≡ home = omega (arith, less, behind) in
-            ap (λ o. unwrap_or o Nothing) (keyed_more tables place called home token
-            ∙ ap (λ o. option_or o (cond (place == home) (Some (called_in called token)) None))
-            (so_far.others home token behind)
-            ∙ ap (λ b. cond b (Some (called_in called token)) None) (eq-eqb place home same))
-            ∙ has token low
-            ∙ ap (λ k. called_of methods (virtual_method_of world c (package_visible + token) k)) same
+-- one more, for the package at the next place
+pub place_put : (world : List Shape) (methods : List LoadedMethod) (c : ClassName) (place : ℕ)
+    (tables : List KeyedTable) (called : List Called) → HasPlaces world methods c place tables
+    → HasCalled world methods 128 place 128 c called
+    → HasPlaces world methods c (place + 1) (tables ++ keyed place called ∷ [])
+place_put world methods c place tables called so_far has = record {
+  first = λ home less token low.
+      let more = keyed_more tables place called home token in
+      let first = so_far.first home in
+      let others = so_far.others home token in
+      let here = has token low in grind (arith, nat_tests);
+  others = λ home token past.
+      let more = keyed_more tables place called home token in
+      let others = so_far.others home token (omega (arith, past)) in grind (arith, nat_tests);
+}
 
 pub are_visible : (world : List Shape) (methods : List LoadedMethod) (names : List ClassName)
     (lists : List (List KeyedTable)) → AreListed (HasVisible world methods) names (length names) lists

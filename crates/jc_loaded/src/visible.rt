@@ -17,6 +17,7 @@ use std::alloc::{AllocError, Global};
 use std::marker::Model;
 
 /// A number of places of packages: none from there on finds a package-visible method of a class.
+#[tactic(auto, using(crate::proofs::Chaining::no_method, crate::proofs::Chaining::whole_chain))]
 fn places_of(table: &ClassTable, class: ClassName) -> usize
     requires sound { IsSound table.now }
     ensures { HasNoPlaceFrom table.now class result }

@@ -9,5 +9,5 @@ returns-clause-last c =
     let methods = c.args.methods.now in
     let place = c.args.place in
     subst (λ (l : Lists). HasPlaces world methods c.args.class (place + 1) l.last) (sym c.in_ok-put.ensures)
-    (place_put world methods c.args.class place c.args.lists.now.last c.requires.first c.deref.result.now
+    (place_put world methods c.args.class place c.args.lists.now.last c.deref.result.now c.requires.first
     (subst (HasCalled world methods 128 place 128 c.args.class) (sym c.deref.ensures.value) c.in_ok-called.ensures))

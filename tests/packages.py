@@ -440,6 +440,25 @@ def table(*entries, base=0):
     return Table(list(entries), base)
 
 
+def chained(packages, count, interfaces=False):
+    """Packages of so many classes or interfaces each, all in one chain: each extends the one before it, the first of a
+    package the last of the package before."""
+    described = []
+    for number in range(packages):
+        above = Imported(2, 0) if number else None
+        classes = []
+        for at in range(count):
+            name = 'C%d' % at
+            if interfaces:
+                classes.append(Class(name, interface=True, interfaces=[(above, [])] if above else []))
+            else:
+                classes.append(cls(name, above or OBJECT))
+            above = name
+        imports = [*API, (aid(number - 1), (1, 0))] if number else API
+        described.append(package(number, *classes, imports=imports, exports=[(above, [], [])]))
+    return described
+
+
 def bound(*lines):
     """The default table's text, with these lines in place of its own."""
     text = {('package', '1'): 'package 1 F04A430101 1 0', ('package', '2'): 'package 2 F04A430102 1 0'}

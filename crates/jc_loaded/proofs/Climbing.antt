@@ -24,10 +24,10 @@ use Rattle.jc_names.specs.declared.name.ClassName.{ClassName}
 use Rattle.jc_names.specs.declared.name.ClassName.TheVariants.{Api}
 use Rattle.jc_loaded.specs.Classes.{class_number}
 use Rattle.jc_loaded.specs.BitRow.{has_bit}
-use Rattle.jc_loaded.specs.PrivateBitRows.{AreSettled, IsRightAbove}
+use Rattle.jc_loaded.specs.PrivateBitRows.{AreSettled, IsRightAbove, has_number}
 use Rattle.jc_loaded.specs.PrivateSupertypes.{AreAbove, AreBegun, AreNumbersOf, AreRight, HasObjects, IsPut}
 use Rattle.jc_loaded.specs.PrivateSupertypes.{itself_and_above}
-use Rattle.jc_loaded.specs.Supertypes.{AreSupertypes, has_number, is_listed}
+use Rattle.jc_loaded.specs.Supertypes.{AreSupertypes, is_listed}
 use Rattle.jc_loaded.proofs.Calling.{get_before, get_last}
 use Rattle.jc_loaded.proofs.Interfacing.{none_left, rest_more}
 use Rattle.jc_loaded.proofs.Rowing.{empty_row}

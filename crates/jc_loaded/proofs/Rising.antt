@@ -6,9 +6,9 @@ use Rattle.std.specs.List.{list_any}
 use Rattle.std.proofs.lemmas.Bool.{cases_eq, cases_lt, eq-eqb, eqb-true}
 use Rattle.jc_loaded.specs.BitRow.{has_bit}
 use Rattle.jc_loaded.specs.PrivateBitRow.{AreUnited, most_bits, unset}
-use Rattle.jc_loaded.specs.PrivateBitRows.{ArePassed, AreRisen, AreSettled, IsOneAbove, IsRightAbove}
+use Rattle.jc_loaded.specs.PrivateBitRows.{ArePassed, AreRisen, AreSettled, IsOneAbove, IsRightAbove, has_number}
 use Rattle.jc_loaded.specs.PrivateBitRows.{is_any_listed, unset_in}
-use Rattle.jc_loaded.specs.Supertypes.{has_number, is_listed}
+use Rattle.jc_loaded.specs.Supertypes.{is_listed}
 use Rattle.jc_loaded.proofs.Rowing.{empty_row, united_alike, united_both, unset_most}
 
 no_such : {P : Type 0} → true ≡ false → P

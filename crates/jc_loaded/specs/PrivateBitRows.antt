@@ -1,8 +1,12 @@
 -- Private. Rows of bits that are put into one another, until each has what those above it have.
-use Rattle.std.specs.Prelude.{◌≡◌, ℕ, ◌+◌, ◌<◌, ◌≤◌, Bool, true, false, List, [], ◌∷◌, slice_get, unwrap_or}
+use Rattle.std.specs.Prelude.{◌≡◌, ℕ, ◌+◌, ◌<◌, ◌≤◌, ◌==◌, Bool, true, false, List, [], ◌∷◌, slice_get, unwrap_or}
 use Rattle.std.specs.List.{list_any}
 use Rattle.jc_loaded.specs.PrivateBitRow.{most_bits, unset}
-use Rattle.jc_loaded.specs.Supertypes.{has_number, is_listed}
+use Rattle.jc_loaded.specs.Supertypes.{is_listed}
+
+-- whether a number is among others
+abbrev pub has_number : ℕ → List ℕ → Bool
+has_number number numbers = list_any (λ n. n == number) numbers
 
 -- whether one of the rows with these numbers has a number
 abbrev pub is_any_listed : List (List ℕ) → List ℕ → ℕ → Bool

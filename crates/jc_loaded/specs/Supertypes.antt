@@ -1,14 +1,9 @@
 -- Which class is below which, by numbers (Java Card Virtual Machine Specification, checkcast, instanceof).
-use Rattle.std.specs.Prelude.{◌≡◌, ℕ, ◌==◌, Bool, List, [], Some, slice_get, unwrap_or}
-use Rattle.std.specs.List.{list_any}
+use Rattle.std.specs.Prelude.{◌≡◌, ℕ, Bool, List, [], Some, slice_get, unwrap_or}
 use Rattle.jc_cap_desc.specs.Shape.{Shape}
 use Rattle.jc_classes.specs.Subtype.{is_subtype}
 use Rattle.jc_names.specs.declared.name.ClassName.{ClassName}
 use Rattle.jc_loaded.specs.BitRow.{has_bit}
-
--- whether a number is among others
-abbrev pub has_number : ℕ → List ℕ → Bool
-has_number number numbers = list_any (λ n. n == number) numbers
 
 -- whether the row of the class with a number has another number
 abbrev pub is_listed : List (List ℕ) → ℕ → ℕ → Bool

@@ -12,7 +12,6 @@ ghost use Rattle.jc_loaded.specs.Supertypes.{AreSupertypes};
 ghost use Rattle.jc_names.specs.declared.name.ClassName.{ClassName as Name};
 ghost use Rattle.jc_names.specs.declared.name.ClassName.TheVariants.{Api};
 
-use crate::chain::MOST_CLASSES;
 use crate::classes::{ClassNumber, Classes};
 use crate::supertypes::Supertypes;
 use jc_api::ApiClass;
@@ -21,6 +20,9 @@ use jc_link::{World, built_worlds_are_sound};
 use jc_names::ClassName;
 use std::alloc::{AllocError, Global};
 use std::marker::Model;
+
+/// How many classes and interfaces there are at most.
+const MOST_CLASSES: u16 = 17_085;
 
 /// The interface whose objects other applets may call.
 const SHAREABLE: ClassName = ClassName::Api(ApiClass::Shareable);

@@ -4,7 +4,6 @@
 mod bit_row;
 mod bit_rows;
 mod called;
-mod chain;
 mod class_rows;
 mod classes;
 mod entries;

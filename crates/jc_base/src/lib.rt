@@ -1,4 +1,4 @@
-//! What the readers of a card's files share: a cursor over bytes, and why a file is refused.
+//! What the readers of a card's files share: a cursor over bytes, and why a file is refused; and values that are shared.
 #![tactic(auto)]
 
 mod aid;
@@ -15,6 +15,7 @@ mod parts;
 mod placed_rows;
 mod reason;
 mod rows;
+mod shared;
 pub mod stack;
 pub mod tag;
 
@@ -32,3 +33,4 @@ pub use parts::Parts;
 pub use placed_rows::{FrontRow, Placed, PlacedRow, PlacedRows, placed_rows_are_placed};
 pub use reason::Reason;
 pub use rows::{FixedRow, Row, Rows, Source};
+pub use shared::Shared;

@@ -1,0 +1,47 @@
+//! Values that nobody writes any more.
+
+ghost use Rattle.std.specs.Prelude.{◌≡◌, IfOk};
+
+use std::alloc::{AllocError, Global};
+use std::marker::Model;
+use std::rc::Rc;
+
+/// A value that nobody writes any more, and that others may share. What it is to a contract is the value.
+#[derive(Drop)]
+pub struct Shared<T: Drop> {
+    value: Rc<T>,
+}
+
+impl<T: Drop> Model for Shared<T> {
+    ghost Value = { T };
+
+    ghost view = { λ s. s.value.value };
+}
+
+impl<T: Drop> Shared<T> {
+    /// A value that may be shared, if there is memory for it.
+    pub fn new(alloc: Global, value: T) -> Result<Shared<T>, AllocError>
+        ensures { IfOk result (λ shared. shared ≡ value) }
+    {
+        match Rc::new(alloc, value) {
+            Ok(value) => Ok(Shared { value }),
+            Err(_) => Err(AllocError),
+        }
+    }
+
+    /// The value.
+    #[inline]
+    pub fn get(&self) -> &T
+        ensures { result.now ≡ self.now }
+    {
+        self.value.as_ref()
+    }
+
+    /// The same value once more: a pointer is made, and nothing is copied. It fails where too many share it already.
+    pub fn share(&self) -> Result<Shared<T>, AllocError>
+        ensures { IfOk result (λ shared. shared ≡ self.now) }
+    {
+        let value = self.value.clone()?;
+        Ok(Shared { value })
+    }
+}

@@ -101,6 +101,13 @@ name_within world home offset two h = by_home (nat_lt home 2) (ltb-false home 2)
         let same = loaded_home (home - 1) offset there (omega (arith, more)) e in
         omega (arith, same, more, h)
 
+-- what a class of a world is below is of a package of it
+above_within : (world : List Shape) (c d : ClassName) → IsSubtype world c d → IsWithin world c → IsWithin world d
+above_within world _ _ (same c) w = w
+above_within world _ _ (object c) w = let l : home_of c < length world = w in omega (arith, l)
+above_within world _ _ (by_superclass c d e s r) w = above_within world d e r (superclass_within world c d w s)
+above_within world _ _ (by_interface c i e m r) w = above_within world i e r (listed_within world c i w m)
+
 pub all_within : (world : List Shape) → StandWithin world
 all_within world =
     record {
@@ -108,6 +115,7 @@ all_within world =
       methods = method_within world;
       declared = declared_within world;
       names = name_within world;
+      above = λ c d w below. above_within world c d below w;
     }
 
 -- the first packages of a world lie within it

@@ -1,14 +1,17 @@
 -- Tables of the methods of classes.
-use Rattle.std.proofs.Common.{◌≡◌, ◌⊎◌, inl, inr, ℕ, zero, suc, ◌+◌, ◌-◌, ◌*◌, ◌<◌, ◌≤◌, ◌==◌, ◌&&◌, ◌||◌, not, Bool, true, false, cond, List, [], ◌∷◌, ◌++◌, length, take, get_or, Option, Some, None, refl, sym, ap, subst, ◌∙◌, arith, nat_lt, is_some, slice_get, unwrap_or, length-append, add-one}
-use Rattle.std.proofs.lemmas.Bool.{cases_lt, le-ltb, ltb-true, ltb-false, ne_eqb}
+use Rattle.std.proofs.Common.{◌≡◌, ◌⊎◌, inl, inr, ℕ, zero, suc, ◌+◌, ◌-◌, ◌*◌, ◌<◌, ◌≤◌, ◌==◌, ◌&&◌, ◌||◌, not, Bool, true, false, cond, List, [], ◌∷◌, ◌++◌, length, set, take, get_or, Option, Some, None, refl, sym, ap, subst, ◌∙◌, arith, nat_lt, is_some, slice_get, unwrap_or, length-append, add-one}
+use Rattle.std.proofs.lemmas.Bool.{cases_lt, eqb-false, eqb-true, ltb-true, ltb-false, ne_eqb}
 use Rattle.std.proofs.lemmas.List.Elements.{filter_map-append}
 use Rattle.std.proofs.Math.Seq.{take-suc}
-use Rattle.std.proofs.lemmas.Option.{slice_get_past, slice_get_within}
+use Rattle.std.proofs.lemmas.List.{get_or-set_other, get_or-set_same}
+use Rattle.std.proofs.lemmas.Option.{slice_get_past, slice_get_within, unwrap_or-slice_get}
 use Rattle.std.specs.List.{find, position, filter_map, cons_option}
 use Rattle.std.specs.Option.{option_map, option_and_then, option_map_or, option_to_list}
 use Rattle.jc_base.proofs.Binding.{none_some, the_some}
 use Rattle.jc_cap_class.specs.Interfaces.{Implemented}
+use Rattle.jc_cap_class.specs.declared.record.ClassRecord.{ClassRecord}
 use Rattle.jc_cap_class.specs.declared.record.RecordBody.{RecordBody}
+use Rattle.jc_cap_class.specs.declared.record.VirtualTable.{VirtualTable}
 use Rattle.jc_cap_class.specs.declared.record.RecordBody.TheVariants.{Interface, Class}
 use Rattle.jc_cap_desc.specs.Shape.{ClassShape, Shape}
 use Rattle.jc_classes.proofs.Growing.{get_before, packages_keep, classes_keep, superclasses_keep, superclass_within, virtual_methods_keep, listings_found_keep}
@@ -22,10 +25,10 @@ use Rattle.jc_names.specs.Names.{is_same_name}
 use Rattle.jc_classes.specs.PrivateSearch.{place_in, place}
 use Rattle.jc_classes.specs.Record.{interface_rows}
 use Rattle.jc_cap_class.specs.Component.{is_class}
-use Rattle.jc_classes.specs.Methods.{is_this, table_visit, record_visit, virtual_visit, virtual_method_of, package_visible, interface_visit, listing_visit, indexes_visit, row_for}
+use Rattle.jc_classes.specs.Methods.{entry_visit, is_this, table_visit, record_visit, virtual_visit, virtual_method_of, package_visible, interface_visit, listing_visit, indexes_visit, row_for}
 use Rattle.jc_classes.specs.PrivatePlaces.{place_at}
 use Rattle.jc_classes.specs.Listed.{ListNothing, Listed, class_behind, indexes_in}
-use Rattle.jc_classes.specs.PrivateTables.{Tabled, no_methods, row_at, entry_in, depth_above, entry_above, visible_above, listed_above, lists_above, lists_any, IsTabled, IsTabledAbove, entry_made, listed_row, index_at, table_in, table_of, AreTables, AreBefore}
+use Rattle.jc_classes.specs.PrivateTables.{Tabled, no_methods, row_at, row_entry, visible_entry, entry_in, depth_above, entry_above, listed_above, lists_above, lists_any, IsTabled, IsTabledAbove, entry_made, listed_row, index_at, table_in, table_of, AreTables, AreBefore, AreSameRows, AreVisibleOver, IsRowOver, IsTableOver}
 use Rattle.jc_classes.specs.Subtype.{comes_to_end, has_whole_chain}
 use Rattle.jc_classes.specs.Walk.{most_classes, found_from, walk, found}
 use Rattle.jc_names.specs.Names.{home_of, offset_of}
@@ -65,11 +68,16 @@ one_more : (world : List Shape) (c d : ClassName) (depth : ℕ) → superclass_o
 one_more world c d depth s least zero e = absurd (true_false (sym e))
 one_more world c d depth s least (suc n) e = let l = least n (sym (ap (λ (o : Option ClassName). option_map_or (comes_to_end world n) o true) s) ∙ e) in omega (arith, l)
 
+-- an interface's table has nothing
+no_entry : (token asker : ℕ) (b : Bool) → cond b (place_at no_methods.public token) (place_at (row_at no_methods.visible asker) (token - package_visible)) ≡ None
+no_entry token asker true = refl
+no_entry token asker false = refl
+
 pub none_above : (world : List Shape) (c : ClassName) → superclass_of world c ≡ None → IsTabledAbove world c None
 none_above world c e = record {
   ends = ap (λ (o : Option ClassName). option_map_or (comes_to_end world 0) o true) e;
   least = one_at_least world c;
-  methods = λ token asker b. sym (ap (option_and_then (λ d. virtual_method_of world d token asker)) e);
+  methods = λ token asker b. no_entry token asker (nat_lt token package_visible) ∙ sym (ap (option_and_then (λ d. virtual_method_of world d token asker)) e);
   interfaces = λ interface. sym (ap (option_and_then (found (interface_visit world interface) world)) e);
   nothing = λ none d up. absurd (none_some d (sym e ∙ up));
 }
@@ -90,7 +98,7 @@ no_rows (row ∷ rows) b e =
     absurd (true_false (sym (ap (λ t. not t || b) (ne_eqb (suc (length rows)) 0 (λ e. omega (arith, e)))) ∙ e))
 
 nothing_made : (world : List Shape) (c : ClassName) (k : ClassShape) (above : Option Tabled) → class_at world c ≡ Some k
-    → IsTabledAbove world c above → lists_any (interface_rows k.body) above ≡ false → ListNothing world c
+    → IsTabledAbove world c above → lists_any (interface_rows k.body) (lists_above above) ≡ false → ListNothing world c
 nothing_made world c k above at up none zero d k2 here there =
     let same : k ≡ k2 = the_some k k2 (sym at ∙ ap (class_at world) (the_some c d here) ∙ there) in
     sym (ap (λ (k : ClassShape). interface_rows k.body) same) ∙ (no_rows (interface_rows k.body) (lists_above above) none).0
@@ -102,7 +110,7 @@ nothing_made world c k above at up none (suc n) d k2 here there =
 pub made_right : (world : List Shape) (c : ClassName) (k : ClassShape) (above : Option Tabled) (table : Tabled) → class_at world c ≡ Some k → IsTabledAbove world c above → table.depth ≡ suc (depth_above above) → table.depth ≤ most_classes
     → ((token asker : ℕ) → token < 256 → entry_in table token asker ≡ entry_made world above (home_of c) k.body token asker)
     → ((interface : ClassName) → indexes_in table.listed interface ≡ found_from (listing_visit world interface (home_of c) k.body) (indexes_in (listed_above above) interface))
-    → table.lists ≡ lists_any (interface_rows k.body) above → IsTabled world c table
+    → table.lists ≡ lists_any (interface_rows k.body) (lists_above above) → IsTabled world c table
 made_right world c k above table at up one few methods interfaces lists =
     let ends : comes_to_end world table.depth c ≡ true = ap (λ n. comes_to_end world n c) one ∙ up.ends in
     record {
@@ -134,10 +142,6 @@ module _ (world : List Shape) (c : ClassName) (k : ClassShape) (at : class_at wo
   no_row : (interface : ClassName) (rest : Option (List ℕ)) (body : RecordBody) → is_class body ≡ false → found_from (listing_visit world interface (home_of c) body) rest ≡ None
   no_row interface rest (Interface r) e = refl
   no_row interface rest (Class r) e = absurd (true_false e)
-
-  no_entry : (token asker : ℕ) (b : Bool) → cond b (place_at no_methods.public token) (place_at (row_at no_methods.visible asker) (token - package_visible)) ≡ None
-  no_entry token asker true = refl
-  no_entry token asker false = refl
 
   no_rows_in : (body : RecordBody) → is_class body ≡ false → interface_rows body ≡ []
   no_rows_in (Interface r) e = refl
@@ -259,55 +263,31 @@ one_class world c d i j small e f home same =
 
 -- ---- what a table is to have
 
-same_visit : (world : List Shape) (asker token home : ℕ) (body : RecordBody) → nat_lt token package_visible ≡ true → record_visit world asker token home body ≡ record_visit world 0 token home body
-same_visit world asker token home (Interface r) e = refl
-same_visit world asker token home (Class r) e =
-    ap (λ b. cond b (table_visit world home r.public_methods token) (cond (home == asker) (table_visit world home r.package_methods (token - package_visible)) Above)) e
-    ∙ sym (ap (λ b. cond b (table_visit world home r.public_methods token) (cond (home == 0) (table_visit world home r.package_methods (token - package_visible)) Above)) e)
+-- what a class's record says at a token, over the table above
+module _ (world : List Shape) (home : ℕ) (r : ClassRecord) (above : Option Tabled) (table : Tabled) (depth : ℕ)
+    (over : IsTableOver world home r.public_methods r.package_methods r.interfaces (unwrap_or above no_methods) depth table) where
+  abbrev up : Tabled
+  up = unwrap_or above no_methods
 
-same_above : (above : Option Tabled) (asker token : ℕ) → nat_lt token package_visible ≡ true → entry_above above token asker ≡ entry_above above token 0
-same_above None asker token e = refl
-same_above (Some t) asker token e =
-    ap (λ b. cond b (place_at t.public token) (place_at (row_at t.visible asker) (token - package_visible))) e
-    ∙ sym (ap (λ b. cond b (place_at t.public token) (place_at (row_at t.visible 0) (token - package_visible))) e)
+  abbrev says : ℕ → ℕ → Bool → Option MethodName
+  says token asker b =
+      found_from (cond b (table_visit world home r.public_methods token) (cond (home == asker) (table_visit world home r.package_methods (token - package_visible)) Above))
+      (cond b (place_at up.public token) (place_at (row_at up.visible asker) (token - package_visible)))
 
--- whoever asks, a public method is the same
-same_made : (world : List Shape) (above : Option Tabled) (home : ℕ) (body : RecordBody) (asker token : ℕ) → nat_lt token package_visible ≡ true → entry_made world above home body token 0 ≡ entry_made world above home body token asker
-same_made world above home body asker token e =
-    sym (ap (λ v. found_from v (entry_above above token asker)) (same_visit world asker token home body e) ∙ ap (found_from (record_visit world 0 token home body)) (same_above above asker token e))
+  by_package : (b : Bool) (visit : Visit MethodName) (rest : Option MethodName) → cond b (found_from visit rest) rest ≡ found_from (cond b visit Above) rest
+  by_package true visit rest = refl
+  by_package false visit rest = refl
 
--- a table of rows
-pub rows_right : (world : List Shape) (above : Option Tabled) (home : ℕ) (body : RecordBody) (table : Tabled)
-    → ((i : ℕ) → i < 128 → place_at table.public i ≡ entry_made world above home body (0 + i) 0)
-    → ((asker i : ℕ) → i < 128 → place_at (row_at table.visible asker) i ≡ entry_made world above home body (128 + i) asker)
-    → (token asker : ℕ) → token < 256 → entry_in table token asker ≡ entry_made world above home body token asker
-rows_right world above home body table public visible token asker less = by_token (nat_lt token package_visible) refl
-  where
-    by_token : (b : Bool) → nat_lt token package_visible ≡ b → cond b (place_at table.public token) (place_at (row_at table.visible asker) (token - package_visible)) ≡ entry_made world above home body token asker
-    by_token true e =
-        let l = ltb-true token 128 e in
-        let same : 0 + token ≡ token = omega arith in
-        public token l ∙ ap (λ n. entry_made world above home body n 0) same ∙ same_made world above home body asker token e
-    by_token false e =
-        let l = ltb-false token 128 e in
-        let same : 128 + (token - 128) ≡ token = omega (arith, l) in
-        visible asker (token - 128) (omega (arith, l, less)) ∙ ap (λ n. entry_made world above home body n asker) same
+  by_token : (token asker : ℕ) → token < 256 → (b : Bool) → nat_lt token package_visible ≡ b
+      → cond b (place_at table.public token) (place_at (row_at table.visible asker) (token - package_visible)) ≡ says token asker b
+  by_token token asker less true e = over.methods token (ltb-true token 128 e)
+  by_token token asker less false e =
+      let l = ltb-false token 128 e in
+      over.package_methods asker (token - 128) (omega (arith, l, less))
+      ∙ by_package (home == asker) (table_visit world home r.package_methods (token - package_visible)) (place_at (row_at up.visible asker) (token - package_visible))
 
--- who isn't among the packages of a class and of those above it finds no package-visible method
-pub none_visible : (world : List Shape) (above : Option Tabled) (home : ℕ) (body : RecordBody) (asker i : ℕ) → home < asker → length (visible_above above) ≤ asker → entry_made world above home body (128 + i) asker ≡ None
-none_visible world above home (Interface r) asker i other past = refl
-none_visible world above home (Class r) asker i other past =
-    let high : nat_lt (128 + i) package_visible ≡ false = le-ltb (128 + i) 128 (omega arith) in
-    let not_home : (home == asker) ≡ false = ne_eqb home asker (λ e. omega (arith, other, e)) in
-    ap (λ b. found_from (cond b (table_visit world home r.public_methods (128 + i)) (cond (home == asker) (table_visit world home r.package_methods (128 + i - package_visible)) Above)) (entry_above above (128 + i) asker)) high
-    ∙ ap (λ b. found_from (cond b (table_visit world home r.package_methods (128 + i - package_visible)) Above) (entry_above above (128 + i) asker)) not_home
-    ∙ by_table above high past
-  where
-    by_table : (above : Option Tabled) → nat_lt (128 + i) package_visible ≡ false → length (visible_above above) ≤ asker → entry_above above (128 + i) asker ≡ None
-    by_table None high past = refl
-    by_table (Some t) high past =
-        ap (λ b. cond b (place_at t.public (128 + i)) (place_at (row_at t.visible asker) (128 + i - package_visible))) high
-        ∙ ap (λ (o : Option (List (Option MethodName))). place_at (unwrap_or o []) (128 + i - package_visible)) (slice_get_past t.visible asker past)
+  pub entries_over : (token asker : ℕ) → token < 256 → entry_in table token asker ≡ entry_made world above home (Class r) token asker
+  entries_over token asker less = by_token token asker less (nat_lt token package_visible) refl
 
 -- ---- interfaces
 
@@ -365,38 +345,76 @@ each_pushed xs y f n count so_far last i less = by_order (cases_lt i n)
         let same : i ≡ n = omega (arith, behind, less) in
         ap (place_at (xs ++ y ∷ [])) (same ∙ sym count) ∙ place_last xs y ∙ last ∙ sym (ap f same)
 
-pub rows_all : (world : List Shape) (above : Option Tabled) (home : ℕ) (body : RecordBody) (rows : List (List (Option MethodName))) (n : ℕ) → length rows ≡ n → home < n → length (visible_above above) ≤ n
-    → ((asker i : ℕ) → asker < n → i < 128 → place_at (row_at rows asker) i ≡ entry_made world above home body (128 + i) asker)
-    → (asker i : ℕ) → i < 128 → place_at (row_at rows asker) i ≡ entry_made world above home body (128 + i) asker
-rows_all world above home body rows n count home_less above_less so_far asker i less = by_order (cases_lt asker n)
+-- so many entries that are right, where there is nothing to be behind them
+pub row_whole : (world : List Shape) (home : ℕ) (table : VirtualTable) (above made : List (Option MethodName)) (n : ℕ) → length made ≡ n
+    → ((i : ℕ) → i < n → place_at made i ≡ row_entry world home table above i)
+    → ((i : ℕ) → n ≤ i → i < 128 → row_entry world home table above i ≡ None) → IsRowOver world home table above made
+row_whole world home table above made n count so_far none i less = by_order (cases_lt i n)
   where
-    by_order : (asker < n) ⊎ (n ≤ asker) → place_at (row_at rows asker) i ≡ entry_made world above home body (128 + i) asker
-    by_order (inl before) = so_far asker i before less
+    by_order : (i < n) ⊎ (n ≤ i) → place_at made i ≡ row_entry world home table above i
+    by_order (inl before) = so_far i before
     by_order (inr behind) =
-        ap (λ (o : Option (List (Option MethodName))). place_at (unwrap_or o []) i) (slice_get_past rows asker (omega (arith, count, behind)))
-        ∙ sym (none_visible world above home body asker i (omega (arith, home_less, behind)) (omega (arith, above_less, behind)))
+        ap (λ (o : Option (Option MethodName)). unwrap_or o None) (slice_get_past made i (omega (arith, count, behind)))
+        ∙ sym (none i behind less)
+
+-- a table without methods says nothing of its own
+pub row_shared : (world : List Shape) (home : ℕ) (table : VirtualTable) (above : List (Option MethodName)) → length table.methods ≡ 0
+    → IsRowOver world home table above above
+row_shared world home table above none i less =
+    sym (ap (λ b. found_from (cond b Above (entry_visit world home (slice_get table.methods (i - table.base)))) (place_at above i))
+    (ap (λ n. nat_lt i table.base || n == 0) none ∙ or_true (nat_lt i table.base)))
+  where
+    or_true : (b : Bool) → (b || true) ≡ true
+    or_true true = refl
+    or_true false = refl
+
+pub visible_shared : (world : List Shape) (home : ℕ) (table : VirtualTable) (above : List (List (Option MethodName))) → length table.methods ≡ 0
+    → AreVisibleOver world home table above above
+visible_shared world home table above none asker i less = by_home (home == asker)
+  where
+    by_home : (b : Bool) → place_at (row_at above asker) i ≡ cond b (row_entry world home table (row_at above asker) i) (place_at (row_at above asker) i)
+    by_home true = row_shared world home table (row_at above asker) none i less
+    by_home false = refl
+
+-- there is nothing behind the last method of a record's table and of the row above
+pub row_ends : (world : List Shape) (home : ℕ) (table : VirtualTable) (above : List (Option MethodName)) (i : ℕ)
+    → length table.methods + table.base ≤ i → place_at above i ≡ None → row_entry world home table above i ≡ None
+row_ends world home table above i past none = by_test (nat_lt i table.base || length table.methods == 0)
+  where
+    by_test : (b : Bool) → found_from (cond b Above (entry_visit world home (slice_get table.methods (i - table.base)))) (place_at above i) ≡ None
+    by_test true = none
+    by_test false = ap (λ (o : Option ℕ). found_from (entry_visit world home o) (place_at above i)) (slice_get_past table.methods (i - table.base) (omega (arith, past)))
+
+-- the row of the class's own package in place of that above
+pub put_right : (world : List Shape) (home : ℕ) (table : VirtualTable) (rows : List (List (Option MethodName))) (made : List (Option MethodName)) → home < length rows
+    → IsRowOver world home table (row_at rows home) made → AreVisibleOver world home table rows (set rows home made)
+put_right world home table rows made less over asker i few = by_home (home == asker) refl
+  where
+    by_home : (b : Bool) → (home == asker) ≡ b → place_at (row_at (set rows home made) asker) i ≡ cond b (row_entry world home table (row_at rows asker) i) (place_at (row_at rows asker) i)
+    by_home true e =
+        subst (λ asker. place_at (row_at (set rows home made) asker) i ≡ row_entry world home table (row_at rows asker) i) (eqb-true home asker e)
+        (ap (λ row. place_at row i) (unwrap_or-slice_get (set rows home made) home [] ∙ get_or-set_same rows home made [] less) ∙ over i few)
+    by_home false e =
+        ap (λ row. place_at row i) (unwrap_or-slice_get (set rows home made) asker [] ∙ get_or-set_other rows home asker made [] (λ same. eqb-false home asker e (sym same)) ∙ sym (unwrap_or-slice_get rows asker []))
+
+-- rows that are the same, with that of the class's own package put behind
+pub visible_right : (world : List Shape) (home : ℕ) (table : VirtualTable) (above old made : List (List (Option MethodName))) → AreSameRows above old
+    → AreVisibleOver world home table old made → AreVisibleOver world home table above made
+visible_right world home table above old made same over asker i less =
+    over asker i less ∙ ap (λ row. visible_entry world home table row asker i) (same asker)
 
 -- ---- a table that is made
 
-whole_table : (world : List Shape) (c : ClassName) (k : ClassShape) (above : Option Tabled) (table : Tabled) → is_class k.body ≡ true → class_at world c ≡ Some k → IsTabledAbove world c above → table.depth ≡ suc (depth_above above) → table.depth ≤ most_classes
-    → ((i : ℕ) → i < 128 → place_at table.public i ≡ entry_made world above (home_of c) k.body (0 + i) 0)
-    → ((asker i : ℕ) → i < 128 → place_at (row_at table.visible asker) i ≡ entry_made world above (home_of c) k.body (128 + i) asker)
-    → table.listed ≡ filter_map (listed_row world (home_of c)) (interface_rows k.body) ++ listed_above above
-    → table.lists ≡ lists_any (interface_rows k.body) above → IsTabled world c table
-whole_table world c k above table class at up one few public visible listed lists =
-    made_right world c k above table at up one few (rows_right world above (home_of c) k.body table public visible) (λ interface.
-    ap (λ (l : List Listed). indexes_in l interface) listed
-    ∙ listed_right world (home_of c) (interface_rows k.body) (listed_above above) interface
-    ∙ sym (ap (λ v. found_from v (indexes_in (listed_above above) interface)) (class_listing world interface (home_of c) k.body class)))
-    lists
-
-pub table_made : (world : List Shape) (c : ClassName) (k : ClassShape) (above : Option Tabled) (table : Tabled) (home : ℕ) → home ≡ home_of c → is_class k.body ≡ true → class_at world c ≡ Some k → IsTabledAbove world c above → table.depth ≡ suc (depth_above above) → table.depth ≤ most_classes
-    → ((i : ℕ) → i < 128 → place_at table.public i ≡ entry_made world above home k.body (0 + i) 0)
-    → ((asker i : ℕ) → i < 128 → place_at (row_at table.visible asker) i ≡ entry_made world above home k.body (128 + i) asker)
-    → table.listed ≡ filter_map (listed_row world home) (interface_rows k.body) ++ listed_above above
-    → table.lists ≡ lists_any (interface_rows k.body) above → IsTabled world c table
-table_made world c k above table home e class at up one few =
-    subst (λ (home : ℕ). ((i : ℕ) → i < 128 → place_at table.public i ≡ entry_made world above home k.body (0 + i) 0)
-    → ((asker i : ℕ) → i < 128 → place_at (row_at table.visible asker) i ≡ entry_made world above home k.body (128 + i) asker)
-    → table.listed ≡ filter_map (listed_row world home) (interface_rows k.body) ++ listed_above above
-    → table.lists ≡ lists_any (interface_rows k.body) above → IsTabled world c table) (sym e) (whole_table world c k above table class at up one few)
+pub table_right : (world : List Shape) (c : ClassName) (k : ClassShape) (r : ClassRecord) (above : Option Tabled) (table : Tabled) (home depth : ℕ) → home ≡ home_of c → k.body ≡ Class r → class_at world c ≡ Some k → IsTabledAbove world c above → depth ≡ suc (depth_above above) → depth ≤ most_classes
+    → IsTableOver world home r.public_methods r.package_methods r.interfaces (unwrap_or above no_methods) depth table → IsTabled world c table
+table_right world c k r above table home depth e body at up one few over =
+    made_right world c k above table at up (over.deep ∙ one) (omega (arith, over.deep, few))
+    (λ token asker less. entries_over world home r above table depth over token asker less
+        ∙ ap (λ home. entry_made world above home (Class r) token asker) e
+        ∙ ap (λ body. entry_made world above (home_of c) body token asker) (sym body))
+    (λ interface.
+        ap (λ (l : List Listed). indexes_in l interface) over.listing
+        ∙ listed_right world home r.interfaces (listed_above above) interface
+        ∙ ap (λ home. found_from (listing_visit world interface home (Class r)) (indexes_in (listed_above above) interface)) e
+        ∙ ap (λ body. found_from (listing_visit world interface (home_of c) body) (indexes_in (listed_above above) interface)) (sym body))
+    (over.any ∙ ap (λ body. lists_any (interface_rows body) (lists_above above)) (sym body))

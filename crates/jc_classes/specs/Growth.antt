@@ -70,10 +70,11 @@ pub record KeepsAllLookups (before after : List Shape) : Type 0 where
   pub methods : (m : MethodName) → IsMethodWithin before m → method_at after m ≡ method_at before m
 
 -- what is there is of a package of the world: classes, methods, and the classes that declare these. So is the method at
--- an offset of a package of the world, where the API's two packages are there
+-- an offset of a package of the world, where the API's two packages are there, and what a class of the world is below
 pub record StandWithin (world : List Shape) : Type 0 where
   pub classes : (c : ClassName) (k : ClassShape) → class_at world c ≡ Some k → IsWithin world c
   pub methods : (m : MethodName) (d : DeclaredMethod) → method_at world m ≡ Some d → IsMethodWithin world m
   pub declared : (m : MethodName) (d : DeclaredMethod) → method_at world m ≡ Some d → IsWithin world d.class
   pub names : (home offset : ℕ) → 2 ≤ length world → home < length world
       → IsMethodWithin world (method_name home offset)
+  pub above : (c d : ClassName) → IsWithin world c → IsSubtype world c d → IsWithin world d

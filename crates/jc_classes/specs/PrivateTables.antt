@@ -1,15 +1,16 @@
 -- Private. Tables of the methods of classes, made from those of the classes above.
 use Rattle.std.specs.Prelude.{◌≡◌, ℕ, suc, ◌-◌, ◌<◌, ◌≤◌, ◌==◌, Bool, true, false, List, [], ◌∷◌, Option, Some, None}
-use Rattle.std.specs.Prelude.{◌||◌, length, nat_lt, not, slice_get, unwrap_or, if◌then◌else◌}
-use Rattle.std.specs.List.{position}
+use Rattle.std.specs.Prelude.{◌++◌, ◌||◌, length, nat_lt, not, slice_get, unwrap_or, if◌then◌else◌}
+use Rattle.std.specs.List.{filter_map, position}
 use Rattle.std.specs.Option.{option_map, option_and_then}
 use Rattle.jc_cap_class.specs.Interfaces.{Implemented}
 use Rattle.jc_cap_class.specs.declared.record.RecordBody.{RecordBody}
+use Rattle.jc_cap_class.specs.declared.record.VirtualTable.{VirtualTable}
 use Rattle.jc_cap_desc.specs.Shape.{Shape}
 use Rattle.jc_classes.specs.Limits.{IsSmall}
 use Rattle.jc_classes.specs.Listed.{AreListedBy, ListNothing, Listed, indexes_in}
 use Rattle.jc_classes.specs.Methods.{record_visit, package_visible, virtual_method_of, interface_visit, indexes_visit}
-use Rattle.jc_classes.specs.Methods.{row_for}
+use Rattle.jc_classes.specs.Methods.{row_for, table_visit}
 use Rattle.jc_classes.specs.PrivatePlaces.{place_at}
 use Rattle.jc_classes.specs.PrivateSearch.{class_placed}
 use Rattle.jc_classes.specs.Subtype.{comes_to_end, has_whole_chain}
@@ -43,30 +44,23 @@ entry_in table token asker =
     if nat_lt token package_visible then place_at table.public token
     else place_at (row_at table.visible asker) (token - package_visible)
 
--- what the table of the class above has, if there is a class above
+-- what the table of the class above has; where there is no class above, the same as an interface's, but for the depth
 abbrev pub depth_above : Option Tabled → ℕ
 depth_above None = 0
 depth_above (Some table) = table.depth
 
 abbrev pub entry_above : Option Tabled → ℕ → ℕ → Option MethodName
-entry_above None token asker = None
-entry_above (Some table) token asker = entry_in table token asker
-
-abbrev pub visible_above : Option Tabled → List (List (Option MethodName))
-visible_above None = []
-visible_above (Some table) = table.visible
+entry_above above = entry_in (unwrap_or above no_methods)
 
 abbrev pub listed_above : Option Tabled → List Listed
-listed_above None = []
-listed_above (Some table) = table.listed
+listed_above above = (unwrap_or above no_methods).listed
 
 abbrev pub lists_above : Option Tabled → Bool
-lists_above None = false
-lists_above (Some table) = table.lists
+lists_above above = (unwrap_or above no_methods).lists
 
 -- whether a class that lists these rows, or one above it, lists any
-abbrev pub lists_any : List Implemented → Option Tabled → Bool
-lists_any rows above = not (length rows == 0) || lists_above above
+abbrev pub lists_any : List Implemented → Bool → Bool
+lists_any rows above = not (length rows == 0) || above
 
 -- a table has what the look-ups from its class find, and says within how many classes its superclass chain first ends
 pub record IsTabled (world : List Shape) (c : ClassName) (table : Tabled) : Type 0 where
@@ -92,6 +86,27 @@ abbrev pub entry_made : List Shape → Option Tabled → ℕ → RecordBody → 
 entry_made world above home body token asker =
     found_from (record_visit world asker token home body) (entry_above above token asker)
 
+-- what a row of methods is to have at a token: what a record's table says, or what the row above has
+abbrev pub row_entry : List Shape → ℕ → VirtualTable → List (Option MethodName) → ℕ → Option MethodName
+row_entry world home table above token = found_from (table_visit world home table token) (place_at above token)
+
+abbrev pub IsRowOver : List Shape → ℕ → VirtualTable → List (Option MethodName) → List (Option MethodName) → Type 0
+IsRowOver world home table above made = (i : ℕ) → i < 128 → place_at made i ≡ row_entry world home table above i
+
+-- what the row of a package that may ask is to have: other packages find what is above
+abbrev pub visible_entry : List Shape → ℕ → VirtualTable → List (Option MethodName) → ℕ → ℕ → Option MethodName
+visible_entry world home table above asker i =
+    if home == asker then row_entry world home table above i else place_at above i
+
+abbrev pub AreVisibleOver : List Shape → ℕ → VirtualTable → List (List (Option MethodName))
+    → List (List (Option MethodName)) → Type 0
+AreVisibleOver world home table above made =
+    (asker i : ℕ) → i < 128 → place_at (row_at made asker) i ≡ visible_entry world home table (row_at above asker) asker i
+
+-- the same rows, and empty ones behind them
+abbrev pub AreSameRows : List (List (Option MethodName)) → List (List (Option MethodName)) → Type 0
+AreSameRows old new = (asker : ℕ) → row_at new asker ≡ row_at old asker
+
 -- and for an interface
 abbrev pub indexes_made : List Shape → Option Tabled → ℕ → List Implemented → ClassName → Option (List ℕ)
 indexes_made world above home rows interface =
@@ -101,6 +116,15 @@ indexes_made world above home rows interface =
 abbrev pub listed_row : List Shape → ℕ → Implemented → Option Listed
 listed_row world home row =
     option_map (λ c. record { interface = c; indexes = row.indexes }) (class_named world home row.interface)
+
+-- the table of a class's record, over that of the class above: the record's two tables of methods, and what it lists
+pub record IsTableOver (world : List Shape) (home : ℕ) (public visible : VirtualTable) (rows : List Implemented)
+    (above : Tabled) (depth : ℕ) (made : Tabled) : Type 0 where
+  pub deep : made.depth ≡ depth
+  pub methods : IsRowOver world home public above.public made.public
+  pub package_methods : AreVisibleOver world home visible above.visible made.visible
+  pub listing : made.listed ≡ filter_map (listed_row world home) rows ++ above.listed
+  pub any : made.lists ≡ lists_any rows above.lists
 
 -- which of its package's classes a class is
 abbrev pub index_at : List Shape → ClassName → Option ℕ

@@ -3,6 +3,7 @@
 ghost use Rattle.std.specs.Prelude.{◌≡◌, ◌++◌, IfOk};
 
 use crate::table::ClassTable;
+use jc_base::Shared;
 use std::alloc::{AllocError, Global};
 
 /// What can be copied where there is memory.
@@ -10,6 +11,12 @@ pub(crate) trait Copied: Drop + Sized {
     /// A copy of its own.
     fn copied(&self, alloc: Global) -> Result<Self, AllocError>
         ensures { IfOk result (λ copy. copy ≡ self.now) };
+}
+
+impl<T: Drop> Copied for Shared<T> {
+    fn copied(&self, _alloc: Global) -> Result<Shared<T>, AllocError> {
+        self.share()
+    }
 }
 
 /// A copy of each.

@@ -17,7 +17,6 @@ mod places;
 mod search;
 mod shape;
 mod shapes;
-mod shared;
 mod subtypes;
 mod table;
 mod tables;

@@ -10,10 +10,10 @@ ghost use Rattle.jc_classes.specs.Subtype.{has_whole_chain};
 ghost use Rattle.jc_names.specs.Names.{home_of};
 
 use crate::shapes::Shapes;
-use crate::shared::SharedTables;
 use crate::table::ClassTable;
 use crate::tables::{MethodTable, PackageTables};
 use crate::walk::MOST_CLASSES;
+use jc_base::Shared;
 use jc_names::{ClassName, PackagePlace, name_in};
 use std::alloc::{AllocError, Global};
 
@@ -38,7 +38,11 @@ impl Shapes {
     }
 
     /// The table of a class, if there is one.
-    fn table_in<'t>(&self, tables: &'t [SharedTables], class: ClassName) -> Option<&'t MethodTable>
+    fn table_in<'t>(
+        &self,
+        tables: &'t [Shared<PackageTables>],
+        class: ClassName,
+    ) -> Option<&'t MethodTable>
         ensures { option_map (λ t. t.now) result ≡ table_of self.now tables.now class }
     {
         let index = self.index_of(class)?;
@@ -48,7 +52,7 @@ impl Shapes {
     /// The table of a class, if it is made: of one of the packages before, or of the last one.
     fn table_so_far<'t>(
         &self,
-        tables: &'t [SharedTables],
+        tables: &'t [Shared<PackageTables>],
         made: &'t PackageTables,
         class: ClassName,
     ) -> Option<&'t MethodTable>
@@ -64,7 +68,7 @@ impl Shapes {
     /// The table of the class above a class, if there is a class above. `None` where that has no table yet.
     fn table_above<'t>(
         &self,
-        tables: &'t [SharedTables],
+        tables: &'t [Shared<PackageTables>],
         made: &'t PackageTables,
         class: ClassName,
     ) -> Option<Option<&'t MethodTable>>
@@ -86,7 +90,7 @@ impl Shapes {
     fn table_made(
         &self,
         alloc: Global,
-        tables: &[SharedTables],
+        tables: &[Shared<PackageTables>],
         made: &PackageTables,
         class: ClassName,
     ) -> Result<Option<MethodTable>, AllocError>
@@ -97,9 +101,6 @@ impl Shapes {
         let Some(found) = self.class_at(class) else {
             return Ok(None);
         };
-        if !found.is_class() {
-            return Ok(Some(MethodTable::of_interface(alloc)));
-        }
         let Some(above) = self.table_above(tables, made, class) else {
             return Ok(None);
         };
@@ -115,7 +116,7 @@ impl Shapes {
     fn fill_class(
         &self,
         alloc: Global,
-        tables: &[SharedTables],
+        tables: &[Shared<PackageTables>],
         made: &mut PackageTables,
         class: ClassName,
     ) -> Result<bool, AllocError>
@@ -151,7 +152,7 @@ impl Shapes {
     fn fill(
         &self,
         alloc: Global,
-        tables: &[SharedTables],
+        tables: &[Shared<PackageTables>],
         made: &mut PackageTables,
         index: usize,
     ) -> Result<bool, AllocError>
@@ -170,7 +171,7 @@ impl Shapes {
     fn fill_each(
         &self,
         alloc: Global,
-        tables: &[SharedTables],
+        tables: &[Shared<PackageTables>],
         made: &mut PackageTables,
         count: usize,
     ) -> Result<bool, AllocError>
@@ -191,7 +192,7 @@ impl Shapes {
     fn fill_all(
         &self,
         alloc: Global,
-        tables: &[SharedTables],
+        tables: &[Shared<PackageTables>],
         made: &mut PackageTables,
         count: usize,
     ) -> Result<(), AllocError>
@@ -211,7 +212,7 @@ impl Shapes {
     fn tables_of_last(
         &self,
         alloc: Global,
-        tables: &[SharedTables],
+        tables: &[Shared<PackageTables>],
     ) -> Result<PackageTables, AllocError>
         requires { AreBefore self.now tables.now }
         ensures { IfOk result (λ made. AreTables self.now (tables.now ++ made ∷ [])) }
@@ -227,14 +228,14 @@ impl Shapes {
     pub(crate) fn put_tables(
         &self,
         alloc: Global,
-        tables: &mut Vec<SharedTables>,
+        tables: &mut Vec<Shared<PackageTables>>,
     ) -> Result<(), AllocError>
         requires { AreBefore self.now tables.old.items }
         ensures done { IfOk result (λ u. AreTables self.now tables.new.items) }
         ensures kept { IfErr result (λ e. tables.new.items ≡ tables.old.items) }
     {
         let made = self.tables_of_last(alloc, tables)?;
-        tables.push(SharedTables::new(alloc, made)?)?;
+        tables.push(Shared::new(alloc, made)?)?;
         Ok(())
     }
 }

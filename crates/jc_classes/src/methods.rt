@@ -60,7 +60,12 @@ impl Shapes {
     }
 
     /// A table at a token.
-    fn table_visit(&self, home: PackagePlace, table: &Table, token: u8) -> Visit<MethodName>
+    pub(crate) fn table_visit(
+        &self,
+        home: PackagePlace,
+        table: &Table,
+        token: u8,
+    ) -> Visit<MethodName>
         ensures { result ≡ table_visit self.now home table.now token }
     {
         if token < table.base || table.methods.len() == 0 {

@@ -14,8 +14,7 @@ ghost use Rattle.jc_classes.specs.Limits.{IsSmall, most_packages, most_classes_o
 
 use crate::copies::{Copied, all_copied};
 use crate::shape::{Body, Class, PackageShape};
-use crate::shared::SharedShape;
-use jc_base::{Aid, ClassRef, PackageInfo};
+use jc_base::{Aid, ClassRef, PackageInfo, Shared};
 use jc_names::{ClassName, PackagePlace, name_in};
 use std::alloc::{AllocError, Global};
 use std::marker::Model;
@@ -23,7 +22,7 @@ use std::marker::Model;
 /// The packages of a world, without the tables of their classes.
 #[derive(Drop)]
 pub(crate) struct Shapes {
-    packages: Vec<SharedShape>,
+    packages: Vec<Shared<PackageShape>>,
 }
 
 impl Model for Shapes {
@@ -85,7 +84,7 @@ impl Body {
 }
 
 /// Where the first of these packages stands that meets an import.
-fn first_that_meets(packages: &[SharedShape], wanted: &PackageInfo) -> Option<usize>
+fn first_that_meets(packages: &[Shared<PackageShape>], wanted: &PackageInfo) -> Option<usize>
     ensures found { result ≡ position (meets wanted.now) packages.now }
     ensures within { IfSome result (λ there. there < length packages.now) }
 {
@@ -93,7 +92,7 @@ fn first_that_meets(packages: &[SharedShape], wanted: &PackageInfo) -> Option<us
 }
 
 /// Where the first of these packages stands that has an AID.
-fn first_with(packages: &[SharedShape], aid: &Aid) -> Option<usize>
+fn first_with(packages: &[Shared<PackageShape>], aid: &Aid) -> Option<usize>
     ensures found { result ≡ position (λ shape. bytes_eq aid.now shape.«package».aid) packages.now }
     ensures within { IfSome result (λ there. there < length packages.now) }
 {
@@ -123,7 +122,7 @@ impl Shapes {
         ensures done { IfOk result (λ u. self.new ≡ grown self.old shape) }
         ensures kept { IfErr result (λ e. self.new ≡ self.old) }
     {
-        let shared = SharedShape::new(self.allocator(), shape)?;
+        let shared = Shared::new(self.allocator(), shape)?;
         self.packages.push(shared)?;
         Ok(())
     }

@@ -9,8 +9,8 @@ ghost use Rattle.jc_classes.specs.World.{package_at, class_at, import_of, loaded
 
 use crate::shape::{Class, PackageShape};
 use crate::shapes::Shapes;
-use crate::shared::SharedTables;
-use jc_base::{Aid, ClassRef};
+use crate::tables::PackageTables;
+use jc_base::{Aid, ClassRef, Shared};
 use jc_names::{ClassName, PackagePlace};
 use std::marker::Model;
 
@@ -20,7 +20,7 @@ use std::marker::Model;
 pub struct ClassTable {
     pub(crate) shapes: Shapes,
     /// By packages: the tables of their classes.
-    pub(crate) tables: Vec<SharedTables>,
+    pub(crate) tables: Vec<Shared<PackageTables>>,
 }
 
 impl Model for ClassTable {

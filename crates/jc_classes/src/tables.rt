@@ -1,22 +1,25 @@
 //! Tables of the methods of classes, made from those of the classes above.
 
-ghost use Rattle.std.specs.Prelude.{◌≡◌, ℕ, suc, ◌+◌, ◌<◌, ◌≤◌, ◌++◌, Some, None, true, length, set, IfOk};
+ghost use Rattle.std.specs.Prelude.{◌≡◌, ℕ, suc, ◌+◌, ◌<◌, ◌≤◌, ◌++◌, List, Some, None, [], length, set, unwrap_or};
+ghost use Rattle.std.specs.Prelude.{IfOk};
 ghost use Rattle.std.specs.List.{filter_map};
 ghost use Rattle.std.specs.Option.{option_map, option_to_list};
+ghost use Rattle.jc_cap_desc.specs.Shape.{Shape};
 ghost use Rattle.jc_classes.specs.PrivatePlaces.{place_at};
-ghost use Rattle.jc_cap_class.specs.Component.{is_class};
 ghost use Rattle.jc_classes.specs.Listed.{indexes_in};
-ghost use Rattle.jc_classes.specs.PrivateTables.{no_methods, row_at, entry_in, depth_above, visible_above};
-ghost use Rattle.jc_classes.specs.PrivateTables.{listed_above, entry_made, listed_row, lists_any, IsTabled, IsTabledAbove};
+ghost use Rattle.jc_classes.specs.PrivateTables.{no_methods, row_at, row_entry, entry_in, depth_above, listed_row};
+ghost use Rattle.jc_classes.specs.PrivateTables.{AreSameRows, AreVisibleOver, IsRowOver, IsTableOver, IsTabled};
+ghost use Rattle.jc_classes.specs.PrivateTables.{IsTabledAbove};
 ghost use Rattle.jc_classes.specs.Walk.{most_classes};
 ghost use Rattle.jc_classes.specs.World.{class_at};
 
-use crate::copies::{Copied, put_copies};
+use crate::copies::{Copied, all_copied, put_copies};
 use crate::methods::PACKAGE_VISIBLE;
 use crate::places::{make_room, place_at};
-use crate::shape::{Class, ImplementedInterface};
+use crate::shape::{Body, Class, ClassBody, ImplementedInterface, Table};
 use crate::shapes::Shapes;
 use crate::walk::Visit;
+use jc_base::Shared;
 use jc_names::{ClassName, MethodName, PackagePlace};
 use std::alloc::{AllocError, Global};
 use std::marker::Model;
@@ -70,17 +73,47 @@ impl ListedInterface {
     }
 }
 
-/// What the look-ups from a class find.
+/// The package-visible methods of a class, for each package that may ask.
+#[derive(Drop)]
+pub(crate) struct VisibleRows {
+    rows: Vec<Shared<MethodRow>>,
+}
+
+impl Model for VisibleRows {
+    ghost use Rattle.std.specs.Prelude.{List, Option};
+    ghost use Rattle.jc_names.specs.declared.name.MethodName.{MethodName};
+
+    ghost Value = { List (List (Option MethodName)) };
+
+    ghost view = { λ r. r.rows.items };
+}
+
+/// What a class and its superclasses list.
+#[derive(Drop)]
+pub(crate) struct ListedRows {
+    rows: Vec<ListedInterface>,
+}
+
+impl Model for ListedRows {
+    ghost use Rattle.std.specs.Prelude.{List};
+    ghost use Rattle.jc_classes.specs.Listed.{Listed};
+
+    ghost Value = { List Listed };
+
+    ghost view = { λ r. r.rows.items };
+}
+
+/// What the look-ups from a class find. Rows that are those of the class above are shared with it.
 #[derive(Drop)]
 pub(crate) struct MethodTable {
     /// Within how many classes its superclasses come to an end.
     depth: u16,
     /// The public methods.
-    public: MethodRow,
-    /// The package-visible methods, for each package that may ask.
-    visible: Vec<MethodRow>,
+    public: Shared<MethodRow>,
+    /// The package-visible methods.
+    visible: Shared<VisibleRows>,
     /// The interfaces, those of the nearest class first.
-    listed: Vec<ListedInterface>,
+    listed: Shared<ListedRows>,
     /// Whether the class or one above it may list any.
     lists: bool,
 }
@@ -93,8 +126,8 @@ impl Model for MethodTable {
     ghost view = { λ t. record {
       depth = t.depth;
       public = t.public;
-      visible = t.visible.items;
-      listed = t.listed.items;
+      visible = t.visible;
+      listed = t.listed;
       lists = t.lists;
     } };
 }
@@ -115,6 +148,16 @@ impl Model for PackageTables {
 }
 
 impl MethodRow {
+    /// A row without methods.
+    fn empty(alloc: Global) -> Result<Shared<MethodRow>, AllocError>
+        ensures { IfOk result (λ made. made ≡ []) }
+    {
+        let row = MethodRow {
+            methods: Vec::new(alloc),
+        };
+        Shared::new(alloc, row)
+    }
+
     /// The method with a token.
     fn at(&self, token: u8) -> Option<MethodName>
         ensures { result ≡ place_at self.now token }
@@ -136,18 +179,22 @@ impl MethodRow {
 
 impl MethodTable {
     /// The table of an interface, which has no methods.
-    pub(crate) fn of_interface(alloc: Global) -> MethodTable
-        ensures { result ≡ no_methods }
+    fn of_interface(alloc: Global) -> Result<MethodTable, AllocError>
+        ensures { IfOk result (λ made. made ≡ no_methods) }
     {
-        MethodTable {
+        let visible = VisibleRows {
+            rows: Vec::new(alloc),
+        };
+        let listed = ListedRows {
+            rows: Vec::new(alloc),
+        };
+        Ok(MethodTable {
             depth: 1,
-            public: MethodRow {
-                methods: Vec::new(alloc),
-            },
-            visible: Vec::new(alloc),
-            listed: Vec::new(alloc),
+            public: MethodRow::empty(alloc)?,
+            visible: Shared::new(alloc, visible)?,
+            listed: Shared::new(alloc, listed)?,
             lists: false,
-        }
+        })
     }
 
     /// Within how many classes the superclasses come to an end.
@@ -162,10 +209,10 @@ impl MethodTable {
         ensures { result ≡ entry_in self.now token asker }
     {
         if token < PACKAGE_VISIBLE {
-            return self.public.at(token);
+            return self.public.get().at(token);
         }
-        match self.visible.get(asker) {
-            Some(row) => row.at(token - PACKAGE_VISIBLE),
+        match self.visible.get().rows.get(asker) {
+            Some(row) => row.get().at(token - PACKAGE_VISIBLE),
             None => None,
         }
     }
@@ -175,14 +222,14 @@ impl MethodTable {
         ensures most { result ≤ 128 }
         ensures none { (i : ℕ) → result ≤ i → i < 128 → place_at self.now.public i ≡ None }
     {
-        self.public.count()
+        self.public.get().count()
     }
 
     /// For how many places of packages there is a row of package-visible methods.
     pub(crate) fn visible_count(&self) -> usize
         ensures { result ≡ length self.now.visible }
     {
-        self.visible.len()
+        self.visible.get().rows.len()
     }
 
     /// How many package-visible tokens may lead to a method for the package that stands there.
@@ -190,8 +237,8 @@ impl MethodTable {
         ensures most { result ≤ 128 }
         ensures none { (i : ℕ) → result ≤ i → i < 128 → place_at (row_at self.now.visible place) i ≡ None }
     {
-        match self.visible.get(place) {
-            Some(row) => row.count(),
+        match self.visible.get().rows.get(place) {
+            Some(row) => row.get().count(),
             None => 0,
         }
     }
@@ -200,7 +247,7 @@ impl MethodTable {
     pub(crate) fn listed(&self) -> &[ListedInterface]
         ensures { result.now ≡ self.now.listed }
     {
-        &self.listed
+        &self.listed.get().rows
     }
 
     /// Whether the class or a superclass may list an interface.
@@ -214,7 +261,7 @@ impl MethodTable {
     pub(crate) fn indexes(&self, interface: ClassName) -> Option<&[u8]>
         ensures { option_map (λ i. i.now) result ≡ indexes_in self.now.listed interface }
     {
-        let found = self.listed.iter().find(|l| l.interface.is(interface))?;
+        let found = self.listed().iter().find(|l| l.interface.is(interface))?;
         Some(&found.indexes)
     }
 }
@@ -258,118 +305,144 @@ impl Copied for ListedInterface {
     }
 }
 
-/// Drops what is behind the last method.
-fn trim(methods: &mut Vec<Option<MethodName>>)
-    ensures { (i : ℕ) → place_at methods.new.items i ≡ place_at methods.old.items i }
+/// The table of the class above; where there is no class above, one without methods.
+fn above_or<'t>(above: Option<&'t MethodTable>, none: &'t MethodTable) -> &'t MethodTable
+    requires none { none.now ≡ no_methods }
+    ensures { result.now ≡ unwrap_or (option_map (λ t. t.now) above.entry) no_methods }
 {
-    while let Some(None) = methods.last() {
-        methods.pop();
+    match above {
+        Some(table) => table,
+        None => none,
     }
 }
 
-/// Whether a class that lists these rows, or one above it, may list any.
-fn lists_any(rows: &[ImplementedInterface], above: Option<&MethodTable>) -> bool
-    ensures { result ≡ lists_any rows.now (option_map (λ t. t.now) above.entry) }
+/// Up to which token a record's table, or the row of the class above, may have a method.
+#[tactic(auto, using(crate::proofs::Tabling::row_ends))]
+fn tokens_over(table: &Table, above: &MethodRow) -> u8
+    ensures most { result ≤ 128 }
+    ensures none { (world : List Shape) (home i : ℕ) → result ≤ i → i < 128
+        → row_entry world home table.now above.now i ≡ None }
 {
-    if rows.len() != 0 {
-        return true;
-    }
-    match above {
-        Some(table) => table.lists,
-        None => false,
+    let own = table.methods.len().saturating_add(usize::from(table.base));
+    match u8::try_from(own) {
+        Ok(count) => count.min(TOKENS).max(above.count()),
+        Err(_) => TOKENS,
     }
 }
 
-/// For how many packages that may ask a class's table has a row.
-fn askers(above: Option<&MethodTable>, home: PackagePlace) -> usize
-    ensures home { home < result }
-    ensures above { length (visible_above (option_map (λ t. t.now) above.entry)) ≤ result }
+/// Puts empty rows behind others, so that there are so many at least.
+fn widen(alloc: Global, rows: &mut Vec<Shared<MethodRow>>, count: usize) -> Result<(), AllocError>
+    ensures wide { IfOk result (λ u. count ≤ length rows.new.items) }
+    ensures same { IfOk result (λ u. AreSameRows rows.old.items rows.new.items) }
 {
-    match above {
-        Some(table) if table.visible.len() > home.index() => table.visible.len(),
-        _ => home.index() + 1,
+    while rows.len() < count {
+        rows.push(MethodRow::empty(alloc)?)?;
     }
+    Ok(())
 }
 
 impl Shapes {
-    /// What the table of a class is to have at a token.
-    fn entry_made(
+    /// What the row of a class is to have at a token.
+    fn row_entry(
         &self,
-        above: Option<&MethodTable>,
         home: PackagePlace,
-        found: &Class,
+        table: &Table,
+        above: &MethodRow,
         token: u8,
-        asker: usize,
     ) -> Option<MethodName>
-        ensures { result ≡ entry_made self.now (option_map (λ t. t.now) above.entry) home found.now.body token asker }
+        ensures { result ≡ row_entry self.now home table.now above.now token }
     {
-        match self.record_visit(asker, token, home, &found.body) {
+        match self.table_visit(home, table, token) {
             Visit::Has(method) => Some(method),
             Visit::Nothing => None,
-            Visit::Above => match above {
-                Some(table) => table.method(token, asker),
-                None => None,
-            },
+            Visit::Above => above.at(token),
         }
     }
 
-    /// The methods of a class from a token on, 128 of them.
-    fn methods_made(
-        &self,
-        alloc: Global,
-        above: Option<&MethodTable>,
-        home: PackagePlace,
-        found: &Class,
-        first: u8,
-        asker: usize,
-    ) -> Result<Vec<Option<MethodName>>, AllocError>
-        requires first { first ≤ 128 }
-        ensures { IfOk result (λ made. (i : ℕ) → i < 128 → place_at made.items i ≡ entry_made self.now
-            (option_map (λ t. t.now) above.entry) home found.now.body (first + i) asker) }
-    {
-        let mut methods = Vec::new(alloc);
-        for i in 0..TOKENS {
-            methods.push(self.entry_made(above, home, found, first + i, asker))?;
-        }
-        Ok(methods)
-    }
-
-    /// The same without what is behind the last method.
+    /// The methods of a class by their tokens.
     fn row_made(
         &self,
         alloc: Global,
-        above: Option<&MethodTable>,
         home: PackagePlace,
-        found: &Class,
-        first: u8,
-        asker: usize,
+        table: &Table,
+        above: &MethodRow,
     ) -> Result<MethodRow, AllocError>
-        requires first { first ≤ 128 }
-        ensures { IfOk result (λ made. (i : ℕ) → i < 128 → place_at made i ≡ entry_made self.now
-            (option_map (λ t. t.now) above.entry) home found.now.body (first + i) asker) }
+        ensures { IfOk result (IsRowOver self.now home table.now above.now) }
     {
-        let mut methods = self.methods_made(alloc, above, home, found, first, asker)?;
-        trim(&mut methods);
-        let methods = Vec::from_slice(alloc, &methods)?;
+        let count = tokens_over(table, above);
+        let mut methods = Vec::with_capacity(alloc, usize::from(count))?;
+        for token in 0..count {
+            methods.push(self.row_entry(home, table, above, token))?;
+        }
         Ok(MethodRow { methods })
     }
 
-    /// The package-visible methods of a class for each package that finds any.
+    /// The same, shared with the class above where the record's table has no methods.
+    #[tactic(auto, using(crate::proofs::Tabling::row_shared))]
+    fn row_over(
+        &self,
+        alloc: Global,
+        home: PackagePlace,
+        table: &Table,
+        above: &Shared<MethodRow>,
+    ) -> Result<Shared<MethodRow>, AllocError>
+        ensures { IfOk result (IsRowOver self.now home table.now above.now) }
+    {
+        if table.methods.len() == 0 {
+            return above.share();
+        }
+        Shared::new(alloc, self.row_made(alloc, home, table, above.get())?)
+    }
+
+    /// Puts the package-visible methods of a class into the row of its own package.
+    fn put_own_row(
+        &self,
+        alloc: Global,
+        home: PackagePlace,
+        table: &Table,
+        rows: &mut [Shared<MethodRow>],
+    ) -> Result<(), AllocError>
+        requires { home < length rows.old }
+        ensures { IfOk result (λ u. AreVisibleOver self.now home table.now rows.old rows.new) }
+    {
+        let at = home.index();
+        rows[at] = self.row_over(alloc, home, table, &rows[at])?;
+        Ok(())
+    }
+
+    /// The package-visible methods of a class for each package that may find any: those of the class above, but for its
+    /// own package.
+    #[tactic(auto, using(crate::proofs::Tabling::visible_right))]
     fn visible_made(
         &self,
         alloc: Global,
-        above: Option<&MethodTable>,
         home: PackagePlace,
-        found: &Class,
-    ) -> Result<Vec<MethodRow>, AllocError>
-        ensures { IfOk result (λ made. (asker i : ℕ) → i < 128 → place_at (row_at made.items asker) i
-            ≡ entry_made self.now (option_map (λ t. t.now) above.entry) home found.now.body (128 + i) asker) }
+        table: &Table,
+        above: &VisibleRows,
+    ) -> Result<VisibleRows, AllocError>
+        ensures { IfOk result (AreVisibleOver self.now home table.now above.now) }
     {
-        let mut rows = Vec::new(alloc);
-        for asker in 0..askers(above, home) {
-            rows.push(self.row_made(alloc, above, home, found, TOKENS, asker)?)?;
+        let mut rows = all_copied(alloc, &above.rows)?;
+        widen(alloc, &mut rows, home.index() + 1)?;
+        self.put_own_row(alloc, home, table, &mut rows)?;
+        Ok(VisibleRows { rows })
+    }
+
+    /// The same, shared with the class above where the record's table has no methods.
+    #[tactic(auto, using(crate::proofs::Tabling::visible_shared))]
+    fn visible_over(
+        &self,
+        alloc: Global,
+        home: PackagePlace,
+        table: &Table,
+        above: &Shared<VisibleRows>,
+    ) -> Result<Shared<VisibleRows>, AllocError>
+        ensures { IfOk result (AreVisibleOver self.now home table.now above.now) }
+    {
+        if table.methods.len() == 0 {
+            return above.share();
         }
-        Ok(rows)
+        Shared::new(alloc, self.visible_made(alloc, home, table, above.get())?)
     }
 
     /// Puts a row of a class's record, if the interface is there.
@@ -407,25 +480,47 @@ impl Shapes {
         Ok(listed)
     }
 
-    /// The interfaces of a class: those that its record lists, and then those above.
-    fn listed_made(
+    /// The interfaces of a class: those that its record lists, and then those of the class above, which are shared where
+    /// it lists none.
+    fn listed_over(
         &self,
         alloc: Global,
-        above: Option<&MethodTable>,
         home: PackagePlace,
         rows: &[ImplementedInterface],
-    ) -> Result<Vec<ListedInterface>, AllocError>
-        ensures { IfOk result (λ made. made.items
-            ≡ filter_map (listed_row self.now home) rows.now ++ listed_above (option_map (λ t. t.now) above.entry)) }
+        above: &Shared<ListedRows>,
+    ) -> Result<Shared<ListedRows>, AllocError>
+        ensures { IfOk result (λ made. made ≡ filter_map (listed_row self.now home) rows.now ++ above.now) }
     {
-        let mut listed = self.own_listed(alloc, home, rows)?;
-        if let Some(table) = above {
-            put_copies(&mut listed, alloc, &table.listed)?;
+        if rows.len() == 0 {
+            return above.share();
         }
-        Ok(listed)
+        let mut listed = self.own_listed(alloc, home, rows)?;
+        put_copies(&mut listed, alloc, &above.get().rows)?;
+        Shared::new(alloc, ListedRows { rows: listed })
     }
 
-    /// The table of a class, where that of the class above is known.
+    /// The table of a class's record, over that of the class above.
+    fn table_over(
+        &self,
+        alloc: Global,
+        home: PackagePlace,
+        record: &ClassBody,
+        above: &MethodTable,
+        depth: u16,
+    ) -> Result<MethodTable, AllocError>
+        ensures { IfOk result (IsTableOver self.now home record.now.public_methods record.now.package_methods
+            record.now.interfaces.items above.now depth) }
+    {
+        Ok(MethodTable {
+            depth,
+            public: self.row_over(alloc, home, &record.public_methods, &above.public)?,
+            visible: self.visible_over(alloc, home, &record.package_methods, &above.visible)?,
+            listed: self.listed_over(alloc, home, &record.interfaces, &above.listed)?,
+            lists: record.interfaces.len() != 0 || above.lists,
+        })
+    }
+
+    /// The table of a class or an interface, where that of the class above is known.
     pub(crate) fn table_from(
         &self,
         alloc: Global,
@@ -434,24 +529,19 @@ impl Shapes {
         above: Option<&MethodTable>,
         depth: u16,
     ) -> Result<MethodTable, AllocError>
-        requires is_class { is_class found.now.body ≡ true }
         requires there { class_at self.now class ≡ Some found.now }
         requires above { IsTabledAbove self.now class (option_map (λ t. t.now) above) }
         requires depth { depth ≡ suc (depth_above (option_map (λ t. t.now) above)) }
         requires few { depth ≤ most_classes }
         ensures { IfOk result (λ made. IsTabled self.now class made) }
     {
-        let home = class.home();
-        let public = self.row_made(alloc, above, home, found, 0, 0)?;
-        let visible = self.visible_made(alloc, above, home, found)?;
-        let rows = found.interface_rows();
-        let listed = self.listed_made(alloc, above, home, rows)?;
-        Ok(MethodTable {
-            depth,
-            public,
-            visible,
-            listed,
-            lists: lists_any(rows, above),
-        })
+        let none = MethodTable::of_interface(alloc)?;
+        match &found.body {
+            Body::Interface(_) => Ok(none),
+            Body::Class(record) => {
+                let above = above_or(above, &none);
+                self.table_over(alloc, class.home(), record, above, depth)
+            }
+        }
     }
 }

@@ -34,7 +34,6 @@ use Rattle.jc_cap_desc.specs.PrivatePackage.{records_in, components_in, HasFewRo
 use Rattle.jc_cap_desc.specs.Types.{descriptor_of}
 use Rattle.jc_cap_desc.specs.declared.class_row.ClassRow.{ClassRow}
 use Rattle.jc_cap_desc.specs.declared.component.DescriptorInfo.{DescriptorInfo}
-use Rattle.jc_cap_desc.specs.declared.package.Components.{Components}
 
 pub is_equal : (a b : ℕ) → a == b ≡ true → a ≡ b
 is_equal a b e = eqb-true a b e
@@ -164,7 +163,9 @@ across_matches info records pool applets methods e =
     (both_true (rows_match records info.classes) (methods_differ records info.classes) (is_fine (rows_match records info.classes && methods_differ records info.classes) descriptor_tag behind)).0
 
 -- a package that nothing is told of has no more records than rows
-pub few_read : (infos : Infos) (records : List (Placed Record)) (info : DescriptorInfo) → package_fault infos ≡ None → records_in (header_of infos.header) infos.class ≡ Ok records → descriptor_of infos.descriptor ≡ Ok info → length records ≤ length info.classes
+pub few_read : (infos : Infos) (records : List (Placed Record)) (info : DescriptorInfo) → package_fault infos ≡ None
+    → records_in (header_of infos.header) infos.class ≡ Ok records → Descriptor.layout_of infos.descriptor ≡ Ok info
+    → length records ≤ length info.classes
 few_read infos records info fine is_records is_info = by_header (header_of infos.header) refl
   where
     by_header : (h : Result Heading LoadFault) → header_of infos.header ≡ h → length records ≤ length info.classes
@@ -173,21 +174,28 @@ few_read infos records info fine is_records is_info = by_header (header_of infos
         wrong : ◌≡◌ {A = Result (List (Placed Record)) LoadFault} (Err fault) (Ok records) → ⊥
         wrong h = cc
     by_header (Ok heading) e =
-        let layout = layout_is heading.format infos.class records (rw e at is_records) in
-        let rows = descriptor_is infos.descriptor info is_info in
-        let across : across_fault (result_ok (Descriptor.layout_of infos.descriptor)) (layout_in (header_of infos.header) infos.class) (result_ok (pool_of infos.constant_pool)) (result_ok (applets_of infos.applet)) (result_ok (methods_of infos.method)) ≡ None = (none_told (component_fault infos) _ fine).1 in
-        let there = across_matches info records (result_ok (pool_of infos.constant_pool)) (result_ok (applets_of infos.applet)) (result_ok (methods_of infos.method)) (rw (rows, e, layout) at across) in
+        let layout : Class.layout_of heading.format infos.class ≡ Ok records = rw e at is_records in
+        let pool = result_ok (pool_of infos.constant_pool) in
+        let applets = result_ok (applets_of infos.applet) in
+        let methods = result_ok (methods_of infos.method) in
+        let across : across_fault (result_ok (Descriptor.layout_of infos.descriptor))
+        (layout_in (header_of infos.header) infos.class) pool applets methods ≡ None
+        = (none_told (component_fault infos) _ fine).1 in
+        let there = across_matches info records pool applets methods (rw (is_info, e, layout) at across) in
         few_records 0 records info.classes (records_ascend heading.format infos.class records layout) there
 
 -- a package that nothing is told of has no more records than a byte counts
-pub few_in : (infos : Infos) (found : Components) → found ≡ components_in infos → HasFewRows found → package_fault infos ≡ None → HasFewRecords found
-few_in infos found is few fine = by_records found.records found.descriptor refl refl few
+pub few_in : (infos : Infos) → HasFewRows (components_in infos) → package_fault infos ≡ None
+    → HasFewRecords (components_in infos)
+few_in infos few fine =
+    by_records (records_in (header_of infos.header) infos.class) (Descriptor.layout_of infos.descriptor) refl refl few
   where
-    by_records : (r : Result (List (Placed Record)) LoadFault) (d : Result DescriptorInfo LoadFault) → found.records ≡ r → found.descriptor ≡ d → IfOk d (λ info. length info.classes ≤ 255) → IfOk r (λ records. IfOk d (λ info. length records ≤ 255))
+    by_records : (r : Result (List (Placed Record)) LoadFault) (d : Result DescriptorInfo LoadFault)
+        → records_in (header_of infos.header) infos.class ≡ r → Descriptor.layout_of infos.descriptor ≡ d
+        → IfOk d (λ info. length info.classes ≤ 255) → IfOk r (λ records. IfOk d (λ info. length records ≤ 255))
     by_records (Err fault) d is_records is_info few = tt
     by_records (Ok records) (Ok info) is_records is_info few =
-        let h = few_read infos records info fine (sym (ap (λ (c : Components). c.records) is) ∙ is_records) (sym (ap (λ (c : Components). c.descriptor) is) ∙ is_info) in
-        omega (arith, h, few)
+        let h = few_read infos records info fine is_records is_info in omega (arith, h, few)
     by_records (Ok records) (Err fault) is_records is_info few = tt
 
 -- rows that a byte counts are few

@@ -2,9 +2,11 @@ pub mod Counting
 pub mod Few
 pub mod Passing
 pub mod Indexing
+pub mod Matching
+pub mod Testing
 pub mod Installing
 mod FreshNumbers
-mod Joined
+pub mod Joined
 pub mod Typing
 mod Lists
 mod Tested

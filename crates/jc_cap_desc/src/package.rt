@@ -2,19 +2,21 @@
 
 ghost use Rattle.std.specs.Prelude.{◌≡◌, ◌<◌, ◌≤◌, ◌^◌, IfOk, length, slice_get};
 ghost use Rattle.std.specs.Option.{option_and_then};
-ghost use Rattle.jc_cap_desc.specs.Package.{layout_in, package_fault, package_of};
+ghost use Rattle.jc_cap_desc.specs.Package.{package_fault, package_of};
 ghost use Rattle.jc_cap_desc.specs.Shape.{StandApart, HaveBodies, HaveHeaders, InstallMethods};
 ghost use Rattle.jc_cap_desc.specs.Whole.{HasWholeOf};
-ghost use Rattle.jc_cap_desc.specs.PrivatePackage.{records_in, components_in, class_fault_in, component_fault_in};
+ghost use Rattle.jc_cap_desc.specs.PrivatePackage.{records_in, components_in, records_fault, class_fault_in};
+ghost use Rattle.jc_cap_desc.specs.PrivatePackage.{descriptor_fault, component_fault_in, package_fault_in};
 ghost use Rattle.jc_cap_desc.specs.PrivatePackage.{HasFewRows, HasFewRecords, HasFewImports, HasTypes, joined};
 
 use crate::bodies::MethodBodies;
 use crate::classes::Classes;
-use crate::component::{DescriptorInfo, descriptor_layout, read_descriptor};
-use crate::faults::{across_fault, fault_of, told};
-use crate::types::NO_TYPE;
+use crate::component::{DescriptorInfo, descriptor_layout};
+use crate::faults::{across_fault, fault_of, told, unless};
+use crate::types::{NO_TYPE, types_are_there};
+use jc_base::tag::{CLASS, DESCRIPTOR};
 use jc_base::{LoadFault, PackageInfo, Parts};
-use jc_cap_class::{Records, class_layout, read_class};
+use jc_cap_class::{Records, class_layout, none_remote};
 use jc_cap_data::{
     Applets, Exports, Imports, StaticFields, read_applets, read_exports, read_imports,
     read_static_fields,
@@ -144,7 +146,7 @@ impl<'a> Package<'a> {
     }
 }
 
-/// Each component as it is read alone.
+/// Each component as it is read alone: of the Class and the Descriptor component what their layouts give.
 #[derive(Drop)]
 struct Components<'a> {
     header: Result<Header<'a>, LoadFault>,
@@ -158,7 +160,7 @@ struct Components<'a> {
     descriptor: Result<DescriptorInfo<'a>, LoadFault>,
 }
 
-/// The records of the Class component, which is of the Header's format.
+/// The records as the layout of the Class component has them, remote ones too. It is of the Header's format.
 fn read_records<'a>(
     parts: &Parts<'a>,
     header: &Result<Header, LoadFault>,
@@ -166,17 +168,16 @@ fn read_records<'a>(
     ensures { result ≡ records_in header.now parts.now.class }
 {
     match header {
-        Ok(header) => read_class(parts, header.format()),
+        Ok(header) => class_layout(parts, header.format()),
         Err(fault) => Err(*fault),
     }
 }
 
-/// Reads each component alone.
+/// Reads each component alone, each once.
 fn read_components<'a>(parts: &Parts<'a>) -> Components<'a>
     ensures read { result ≡ components_in parts.now }
     ensures few { HasFewRows result }
     ensures imports { HasFewImports result }
-    ensures typed { HasTypes result }
     ensures short { length parts.now.method < 2 ^ 16 }
 {
     let header = read_header(parts);
@@ -190,17 +191,17 @@ fn read_components<'a>(parts: &Parts<'a>) -> Components<'a>
         methods: read_method(parts),
         statics: read_static_fields(parts),
         exports: read_exports(parts),
-        descriptor: read_descriptor(parts),
+        descriptor: descriptor_layout(parts),
     }
 }
 
-/// The records as the layout of the Class component has them, remote ones too.
-fn layout_in<'a>(parts: &Parts<'a>, header: &Result<Header, LoadFault>) -> Option<Records<'a>>
-    ensures { result ≡ layout_in header.now parts.now.class }
+/// The fault of records: of their layout, or of the test that none is remote.
+fn records_fault(records: &Result<Records, LoadFault>) -> Option<LoadFault>
+    ensures { result ≡ records_fault records.now }
 {
-    match header {
-        Ok(header) => class_layout(parts, header.format()).ok(),
-        Err(_) => None,
+    match records {
+        Ok(records) => unless(none_remote(records), CLASS),
+        Err(fault) => Some(*fault),
     }
 }
 
@@ -209,8 +210,18 @@ fn class_fault(found: &Components) -> Option<LoadFault>
     ensures { result ≡ class_fault_in found.now.header found.now.records }
 {
     match &found.header {
-        Ok(_) => fault_of(&found.records),
+        Ok(_) => records_fault(&found.records),
         Err(_) => None,
+    }
+}
+
+/// The fault of the Descriptor component: of its layout, or of the test that all types are there.
+fn descriptor_fault(descriptor: &Result<DescriptorInfo, LoadFault>) -> Option<LoadFault>
+    ensures { result ≡ descriptor_fault descriptor.now }
+{
+    match descriptor {
+        Ok(info) => unless(types_are_there(info), DESCRIPTOR),
+        Err(fault) => Some(*fault),
     }
 }
 
@@ -218,7 +229,7 @@ fn class_fault(found: &Components) -> Option<LoadFault>
 fn component_fault(found: &Components) -> Option<LoadFault>
     ensures { result ≡ component_fault_in found.now }
 {
-    let fault = fault_of(&found.descriptor);
+    let fault = descriptor_fault(&found.descriptor);
     let fault = told(fault_of(&found.exports), fault);
     let fault = told(fault_of(&found.statics), fault);
     let fault = told(fault_of(&found.methods), fault);
@@ -230,14 +241,12 @@ fn component_fault(found: &Components) -> Option<LoadFault>
 }
 
 /// The fault that is told.
-fn package_fault(parts: &Parts, found: &Components) -> Option<LoadFault>
-    ensures { found.now ≡ components_in parts.now → result ≡ package_fault parts.now }
+fn package_fault(found: &Components) -> Option<LoadFault>
+    ensures { result ≡ package_fault_in found.now }
 {
-    let layout = descriptor_layout(parts);
-    let records = layout_in(parts, &found.header);
     let fault = across_fault(
-        &layout,
-        &records,
+        &found.descriptor,
+        &found.records,
         &found.pool,
         &found.applets,
         &found.methods,
@@ -267,13 +276,12 @@ fn joined<'a>(found: Components<'a>) -> Result<Package<'a>, LoadFault>
 }
 
 /// The package that an image has, or its refusal.
-#[tactic(auto, using(crate::proofs::Joined::joined_is, crate::proofs::Few::few_in))]
 fn package_in<'a>(parts: &Parts<'a>) -> Result<Package<'a>, LoadFault>
     ensures package { result ≡ package_of parts.now }
     ensures short { length parts.now.method < 2 ^ 16 }
 {
     let found = read_components(parts);
-    match package_fault(parts, &found) {
+    match package_fault(&found) {
         Some(fault) => Err(fault),
         None => joined(found),
     }

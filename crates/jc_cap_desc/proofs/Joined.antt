@@ -18,12 +18,12 @@ use Rattle.jc_cap_data.specs.Statics.{static_fields_of}
 use Rattle.jc_cap_head.specs.Header.{Heading, header_of}
 use Rattle.jc_cap_method.specs.Component.{methods_of}
 use Rattle.jc_cap_pool.specs.Pool.{pool_of}
-use Rattle.jc_cap_desc.proofs.Few.{few_in, none_told}
+use Rattle.jc_cap_desc.proofs.Few.{few_in, none_told, rows_in}
 use Rattle.jc_cap_desc.proofs.Typing.{classes_typed}
 use Rattle.jc_cap_desc.specs.Component as Descriptor
 use Rattle.jc_cap_desc.specs.Package.{class_fault, component_fault, components_of, fault_of, layout_in}
 use Rattle.jc_cap_desc.specs.Package.{package_fault, package_of, refused, told, unless}
-use Rattle.jc_cap_desc.specs.PrivatePackage.{HasFewRecords, HasFewRows, HasTypes, class_fault_in}
+use Rattle.jc_cap_desc.specs.PrivatePackage.{HasEachRow, HasFewRecords, HasFewRows, HasTypes, class_fault_in}
 use Rattle.jc_cap_desc.specs.PrivatePackage.{components_in, descriptor_fault, joined, package_fault_in, records_fault}
 use Rattle.jc_cap_desc.specs.PrivatePackage.{records_in}
 use Rattle.jc_cap_desc.specs.Types.{classes_are_typed, descriptor_of, types_are_there}
@@ -147,6 +147,7 @@ typed_in infos fine =
 pub record IsJoined (infos : Infos) (found : Components) : Type 0 where
   pub few : HasFewRecords found
   pub typed : HasTypes found
+  pub rows : HasEachRow found
   pub read : joined found ≡ package_of infos
 
 pub all_read : (infos : Infos) (found : Components) (fault : Option LoadFault) → found ≡ components_in infos
@@ -158,6 +159,7 @@ all_read infos found fault are few is none =
     let made : IsJoined infos (components_in infos) = record {
       few = few_in infos few_rows fine;
       typed = typed_in infos parts;
+      rows = rows_in infos fine;
       read = joined_is infos parts ∙ ap (λ o. refused o (components_of infos)) (sym fine);
     } in
     subst (IsJoined infos) (sym are) made

@@ -3,6 +3,7 @@ pub mod Few
 pub mod Passing
 pub mod Indexing
 pub mod Matching
+pub mod Ahead
 pub mod Testing
 pub mod Installing
 mod FreshNumbers

@@ -20,6 +20,7 @@ use Rattle.jc_cap_desc.specs.Component as Descriptor
 use Rattle.jc_cap_desc.specs.Types.{classes_are_typed, types_are_there}
 use Rattle.jc_cap_desc.specs.Shape.{Package, shape_of, body_of}
 use Rattle.jc_cap_desc.specs.Package.{across_fault, fault_of, told, unless}
+use Rattle.jc_cap_desc.specs.PrivateRecordRows.{each_has_row}
 use Rattle.jc_cap_desc.specs.declared.component.DescriptorInfo.{DescriptorInfo}
 use Rattle.jc_cap_desc.specs.declared.package.Components.{Components}
 
@@ -100,3 +101,8 @@ HasFewImports found = IfOk found.imports (λ imports. length imports ≤ 255)
 -- the fields and methods of classes have types
 abbrev pub HasTypes : Components → Type 0
 HasTypes found = IfOk found.descriptor (λ info. classes_are_typed info.types info.classes ≡ true)
+
+-- each record has one row where both were read
+abbrev pub HasEachRow : Components → Type 0
+HasEachRow found =
+    IfOk found.records (λ records. IfOk found.descriptor (λ info. each_has_row records info.classes ≡ true))

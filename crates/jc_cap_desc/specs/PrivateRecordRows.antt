@@ -1,5 +1,6 @@
 -- Private. The offsets at which records begin, and those of the records that rows are of, as sets of numbers.
-use Rattle.std.specs.Prelude.{◌≡◌, ℕ, ◌<◌, ◌+◌, ◌&&◌, Bool, true, List, Option, Some, None, nat_lt, is_some, if◌then◌else◌}
+use Rattle.std.specs.Prelude.{◌≡◌, ℕ, ◌<◌, ◌+◌, ◌==◌, ◌&&◌, Bool, true, List, Option, Some, None, nat_lt}
+use Rattle.std.specs.Prelude.{is_some, slice_get, if◌then◌else◌}
 use Rattle.std.specs.List.{list_all}
 use Rattle.jc_base.specs.NumberSet.{has_number}
 use Rattle.jc_base.specs.PlacedRows.{row_at}
@@ -28,6 +29,17 @@ offset_named row = named row.this
 -- whether a number is in a set; one that is no number of two bytes isn't
 abbrev pub is_in : List ℕ → ℕ → Bool
 is_in words n = nat_lt n 65536 && has_number words n
+
+-- each record has one row
+abbrev pub each_has_row : List (Placed Record) → List ClassRow → Bool
+each_has_row records rows = list_all (λ p. count_rows p.offset rows == 1) records
+
+-- a row is one of some rows, and each of some rows is one of others
+abbrev pub IsAmong : ClassRow → List ClassRow → Type 0
+IsAmong row rows = (n : ℕ) × (slice_get rows n ≡ Some row)
+
+abbrev pub AreAmong : List ClassRow → List ClassRow → Type 0
+AreAmong some rows = (n : ℕ) (row : ClassRow) → slice_get some n ≡ Some row → IsAmong row rows
 
 -- each row is of a record
 abbrev pub all_recorded : List (Placed Record) → List ClassRow → Bool

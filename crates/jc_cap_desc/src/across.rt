@@ -4,7 +4,7 @@ ghost use Rattle.std.specs.Prelude.{◌≡◌, ◌||◌, ◌∷◌, ℕ, true, f
 ghost use Rattle.std.specs.List.{list_all};
 ghost use Rattle.jc_base.specs.declared.placed_rows.Placed.{Placed};
 ghost use Rattle.jc_cap_class.specs.declared.record.Record.{Record};
-ghost use Rattle.jc_cap_desc.specs.Across.{record_of, is_row_of, rows_match, class_methods};
+ghost use Rattle.jc_cap_desc.specs.Across.{is_row_of, rows_match, class_methods};
 ghost use Rattle.jc_cap_desc.specs.Across.{is_interface_row, is_among, are_distinct, methods_differ};
 ghost use Rattle.jc_cap_desc.specs.PrivateFreshNumbers.{are_fresh, put_in, Holds};
 ghost use Rattle.jc_cap_desc.specs.PrivateInterfaceRows.{HoldsInterfaces};
@@ -14,7 +14,7 @@ ghost use Rattle.jc_cap_desc.specs.PrivateRecordRows.{AreNamed, HoldsRecords, is
 use crate::class_row::{ClassRow, ClassRows, MethodRows};
 use crate::interfaces::is_interface_row;
 use jc_base::{ClassRef, NumberSet};
-use jc_cap_class::{Record, Records};
+use jc_cap_class::Records;
 
 /// Whether a row is of the record at an offset.
 pub(crate) fn is_row_of(offset: usize, row: &ClassRow) -> bool
@@ -23,16 +23,6 @@ pub(crate) fn is_row_of(offset: usize, row: &ClassRow) -> bool
     match row.this {
         ClassRef::Internal { offset: this } => usize::from(this) == offset,
         ClassRef::External { .. } => false,
-    }
-}
-
-/// The record that a row is of, if it is one's.
-pub(crate) fn record_of<'a>(records: &Records<'a>, row: &ClassRow) -> Option<Record<'a>>
-    ensures { result ≡ record_of records.now row.now }
-{
-    match row.this {
-        ClassRef::Internal { offset } => records.at(usize::from(offset)),
-        ClassRef::External { .. } => None,
     }
 }
 

@@ -7,7 +7,8 @@ ghost use Rattle.jc_cap_desc.specs.Shape.{StandApart, HaveBodies, HaveHeaders, I
 ghost use Rattle.jc_cap_desc.specs.Whole.{HasWholeOf};
 ghost use Rattle.jc_cap_desc.specs.PrivatePackage.{records_in, components_in, records_fault, class_fault_in};
 ghost use Rattle.jc_cap_desc.specs.PrivatePackage.{descriptor_fault, component_fault_in, package_fault_in};
-ghost use Rattle.jc_cap_desc.specs.PrivatePackage.{HasFewRows, HasFewRecords, HasFewImports, HasTypes, joined};
+ghost use Rattle.jc_cap_desc.specs.PrivatePackage.{HasFewRows, HasFewRecords, HasFewImports, HasTypes, HasEachRow};
+ghost use Rattle.jc_cap_desc.specs.PrivatePackage.{joined};
 
 use crate::bodies::MethodBodies;
 use crate::classes::Classes;
@@ -43,6 +44,7 @@ pub struct Package<'a> {
 impl<'a> Model for Package<'a> {
     ghost use Rattle.std.specs.Prelude.{◌≡◌, ◌≤◌, length, true};
     ghost use Rattle.jc_cap_desc.specs.Shape.{Package as PackageRecord, shape_of, body_of};
+    ghost use Rattle.jc_cap_desc.specs.PrivateRecordRows.{each_has_row};
     ghost use Rattle.jc_cap_desc.specs.Types.{classes_are_typed};
 
     ghost Value = { PackageRecord };
@@ -53,7 +55,8 @@ impl<'a> Model for Package<'a> {
     } };
 
     ghost invariant = { λ p. (length p.records ≤ 255) × (length p.imports ≤ 255)
-        × (classes_are_typed p.descriptor.types p.descriptor.classes ≡ true) };
+        × (classes_are_typed p.descriptor.types p.descriptor.classes ≡ true)
+        × (each_has_row p.records p.descriptor.classes ≡ true) };
 }
 
 impl<'a> Package<'a> {
@@ -106,6 +109,7 @@ impl<'a> Package<'a> {
             info: &self.descriptor,
             bodies: &self.methods,
             left: self.records.again(),
+            ahead: self.descriptor.classes.again(),
         }
     }
 
@@ -260,6 +264,7 @@ fn joined<'a>(found: Components<'a>) -> Result<Package<'a>, LoadFault>
     requires records { HasFewRecords found }
     requires imports { HasFewImports found }
     requires typed { HasTypes found }
+    requires rows { HasEachRow found }
     ensures { result ≡ joined found.entry }
 {
     Ok(Package {

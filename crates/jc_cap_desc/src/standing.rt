@@ -87,7 +87,7 @@ fn code_is_described(row: &MethodRow, found: &Option<Method>) -> bool
 pub(crate) struct Standing {
     /// Header, code and handlers of each stand where they may.
     pub(crate) inside: bool,
-    /// Each has no code where it is abstract, and has some where it isn't, and the table has the handlers that it names.
+    /// Each has no code where it is abstract and some where it isn't, and the table has the handlers that it names.
     pub(crate) described: bool,
 }
 

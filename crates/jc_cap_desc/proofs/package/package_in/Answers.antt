@@ -7,7 +7,7 @@ joined-requires c =
     let found = c.read_components-found in
     let is = all_read c.args.parts.now found.result c.package_fault.result found.ensures.read found.ensures.few
     c.package_fault.ensures c.in-None.is in
-    record { records = is.few; imports = found.ensures.imports; typed = is.typed }
+    record { records = is.few; imports = found.ensures.imports; typed = is.typed; rows = is.rows }
 
 pub returns-in-Some-clause-package : goal.returns-in-Some-clause-package
 returns-in-Some-clause-package c =

@@ -1,8 +1,8 @@
 -- The row that is ahead: where it is of a record that has one row, it is the one that is found.
-use Rattle.std.proofs.Common.{◌≡◌, ℕ, zero, suc, ◌+◌, ◌==◌, ◌&&◌, Bool, true, false, cond, List, [], ◌∷◌, Option, Some}
+use Rattle.std.proofs.Common.{◌≡◌, ℕ, zero, suc, ◌==◌, Bool, true, false, cond, List, [], ◌∷◌, Option, Some}
 use Rattle.std.proofs.Common.{None, IfNone, IfSome, refl, sym, ap, ◌∙◌, arith, slice_get}
 use Rattle.std.proofs.lemmas.Bool.{eqb-true}
-use Rattle.std.specs.List.{cons_option, filter_map, find, list_all}
+use Rattle.std.specs.List.{cons_option, filter_map, find}
 use Rattle.jc_base.proofs.Binding.{both_true, none_some, the_some}
 use Rattle.jc_base.specs.declared.placed_rows.Placed.{Placed}
 use Rattle.jc_cap_class.specs.declared.record.Record.{Record}

@@ -21,8 +21,10 @@ use Rattle.jc_cap_desc.specs.Types.{classes_are_typed, types_are_there}
 use Rattle.jc_cap_desc.specs.Shape.{Package, shape_of, body_of}
 use Rattle.jc_cap_desc.specs.Package.{across_fault, fault_of, told, unless}
 use Rattle.jc_cap_desc.specs.PrivateRecordRows.{each_has_row}
+use Rattle.jc_cap_desc.specs.PrivateTypes.{IndexesTypes}
 use Rattle.jc_cap_desc.specs.declared.component.DescriptorInfo.{DescriptorInfo}
 use Rattle.jc_cap_desc.specs.declared.package.Components.{Components}
+use Rattle.jc_cap_desc.specs.declared.type_index.TypeIndex.{TypeIndex}
 
 abbrev pub records_in : Result Heading LoadFault → List ℕ → Result (List (Placed Record)) LoadFault
 records_in (Ok heading) info = Class.layout_of heading.format info
@@ -106,3 +108,7 @@ HasTypes found = IfOk found.descriptor (λ info. classes_are_typed info.types in
 abbrev pub HasEachRow : Components → Type 0
 HasEachRow found =
     IfOk found.records (λ records. IfOk found.descriptor (λ info. each_has_row records info.classes ≡ true))
+
+-- an index of the type descriptors of a layout, where it was read
+abbrev pub IsIndexOf : TypeIndex → Result DescriptorInfo LoadFault → Type 0
+IsIndexOf index layout = IfOk layout (λ info. IndexesTypes index info.types)

@@ -12,7 +12,6 @@ ghost use Rattle.jc_cap_desc.specs.PrivateTypes.{IndexesTypes, PlacedTypes};
 
 use crate::class_row::{ClassRows, MethodRow, MethodRows};
 use crate::interfaces::is_interface_row;
-use crate::type_descriptors::TypeDescriptors;
 use crate::type_index::TypeIndex;
 use jc_base::NumberSet;
 use jc_cap_data::Applets;
@@ -69,13 +68,12 @@ fn are_within(set: &NumberSet, applets: &Applets) -> bool
 pub(crate) fn applets_install(
     interfaces: &NumberSet,
     rows: &ClassRows,
-    types: &TypeDescriptors,
+    index: &TypeIndex,
     applets: &Applets,
 ) -> bool
-    ensures { (records : List (Placed Record)) → HoldsInterfaces interfaces.now records
-        → result ≡ applets_install records rows.now types.now applets.now }
+    ensures { (records : List (Placed Record)) (types : PlacedTypes) → HoldsInterfaces interfaces.now records
+        → IndexesTypes index.now types → result ≡ applets_install records rows.now types applets.now }
 {
-    let index = TypeIndex::of(types);
-    let installers = install_offsets(interfaces, &index, rows);
+    let installers = install_offsets(interfaces, index, rows);
     are_within(&installers, applets)
 }

@@ -7,12 +7,15 @@ ghost use Rattle.jc_cap_class.specs.declared.record.Record.{Record};
 ghost use Rattle.jc_cap_desc.specs.Package.{fault_of, unless, told, methods_fault, applets_fault, classes_fault};
 ghost use Rattle.jc_cap_desc.specs.Package.{pool_fault, across_fault};
 ghost use Rattle.jc_cap_desc.specs.PrivateInterfaceRows.{HoldsInterfaces};
+ghost use Rattle.jc_cap_desc.specs.PrivatePackage.{IsIndexOf};
+ghost use Rattle.jc_cap_desc.specs.PrivateTypes.{IndexesTypes};
 
 use crate::across::{methods_differ, rows_match};
 use crate::applets::applets_install;
 use crate::component::DescriptorInfo;
 use crate::interfaces::record_offsets;
 use crate::standing::methods_standing;
+use crate::type_index::TypeIndex;
 use jc_base::tag::{APPLET, DESCRIPTOR, METHOD};
 use jc_base::{LoadFault, NumberSet};
 use jc_cap_class::Records;
@@ -77,14 +80,15 @@ fn methods_fault(
 fn applets_fault(
     interfaces: &NumberSet,
     info: &DescriptorInfo,
+    index: &TypeIndex,
     applets: &Result<Option<Applets>, LoadFault>,
 ) -> Option<LoadFault>
     ensures { (records : List (Placed Record)) → HoldsInterfaces interfaces.now records
-        → result ≡ applets_fault records info.now (result_ok applets.now) }
+        → IndexesTypes index.now info.now.types → result ≡ applets_fault records info.now (result_ok applets.now) }
 {
     match applets {
         Ok(Some(applets)) => unless(
-            applets_install(interfaces, &info.classes, &info.types, applets),
+            applets_install(interfaces, &info.classes, index, applets),
             APPLET,
         ),
         Ok(None) | Err(_) => None,
@@ -95,10 +99,12 @@ fn applets_fault(
 fn classes_fault(
     records: &Result<Records, LoadFault>,
     info: &DescriptorInfo,
+    index: &TypeIndex,
     applets: &Result<Option<Applets>, LoadFault>,
     methods: &Result<MethodInfo, LoadFault>,
 ) -> Option<LoadFault>
-    ensures { result ≡ classes_fault (result_ok records.now) info.now (result_ok applets.now) (result_ok methods.now) }
+    ensures { IndexesTypes index.now info.now.types → result
+        ≡ classes_fault (result_ok records.now) info.now (result_ok applets.now) (result_ok methods.now) }
 {
     let Ok(records) = records else {
         return None;
@@ -111,7 +117,7 @@ fn classes_fault(
         methods_fault(interfaces, info, methods),
         unless(rows_fit, DESCRIPTOR),
     );
-    told(applets_fault(interfaces, info, applets), fault)
+    told(applets_fault(interfaces, info, index, applets), fault)
 }
 
 /// The fault of the test with the constant pool.
@@ -127,18 +133,19 @@ fn pool_fault(pool: &Result<ConstantPool, LoadFault>, info: &DescriptorInfo) -> 
 /// The fault of all tests across components, where the layout of the Descriptor component is used up.
 pub(crate) fn across_fault(
     layout: &Result<DescriptorInfo, LoadFault>,
+    index: &TypeIndex,
     records: &Result<Records, LoadFault>,
     pool: &Result<ConstantPool, LoadFault>,
     applets: &Result<Option<Applets>, LoadFault>,
     methods: &Result<MethodInfo, LoadFault>,
 ) -> Option<LoadFault>
-    ensures { result ≡ across_fault (result_ok layout.now) (result_ok records.now) (result_ok pool.now)
-        (result_ok applets.now) (result_ok methods.now) }
+    ensures { IsIndexOf index.now layout.now → result ≡ across_fault (result_ok layout.now) (result_ok records.now)
+        (result_ok pool.now) (result_ok applets.now) (result_ok methods.now) }
 {
     match layout {
         Ok(info) => told(
             pool_fault(pool, info),
-            classes_fault(records, info, applets, methods),
+            classes_fault(records, info, index, applets, methods),
         ),
         Err(_) => None,
     }

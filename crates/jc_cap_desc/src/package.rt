@@ -8,12 +8,13 @@ ghost use Rattle.jc_cap_desc.specs.Whole.{HasWholeOf};
 ghost use Rattle.jc_cap_desc.specs.PrivatePackage.{records_in, components_in, records_fault, class_fault_in};
 ghost use Rattle.jc_cap_desc.specs.PrivatePackage.{descriptor_fault, component_fault_in, package_fault_in};
 ghost use Rattle.jc_cap_desc.specs.PrivatePackage.{HasFewRows, HasFewRecords, HasFewImports, HasTypes, HasEachRow};
-ghost use Rattle.jc_cap_desc.specs.PrivatePackage.{joined};
+ghost use Rattle.jc_cap_desc.specs.PrivatePackage.{IsIndexOf, joined};
 
 use crate::bodies::MethodBodies;
 use crate::classes::Classes;
 use crate::component::{DescriptorInfo, descriptor_layout};
 use crate::faults::{across_fault, fault_of, told, unless};
+use crate::type_index::TypeIndex;
 use crate::types::{NO_TYPE, types_are_there};
 use jc_base::tag::{CLASS, DESCRIPTOR};
 use jc_base::{LoadFault, PackageInfo, Parts};
@@ -219,21 +220,34 @@ fn class_fault(found: &Components) -> Option<LoadFault>
     }
 }
 
-/// The fault of the Descriptor component: of its layout, or of the test that all types are there.
-fn descriptor_fault(descriptor: &Result<DescriptorInfo, LoadFault>) -> Option<LoadFault>
-    ensures { result ≡ descriptor_fault descriptor.now }
+/// The index of the type descriptors, where the layout of the Descriptor component was read.
+fn index_of(descriptor: &Result<DescriptorInfo, LoadFault>) -> TypeIndex
+    ensures { IsIndexOf result descriptor.now }
 {
     match descriptor {
-        Ok(info) => unless(types_are_there(info), DESCRIPTOR),
+        Ok(info) => TypeIndex::of(&info.types),
+        Err(_) => TypeIndex::empty(),
+    }
+}
+
+/// The fault of the Descriptor component: of its layout, or of the test that all types are there.
+fn descriptor_fault(
+    descriptor: &Result<DescriptorInfo, LoadFault>,
+    index: &TypeIndex,
+) -> Option<LoadFault>
+    ensures { IsIndexOf index.now descriptor.now → result ≡ descriptor_fault descriptor.now }
+{
+    match descriptor {
+        Ok(info) => unless(types_are_there(info, index), DESCRIPTOR),
         Err(fault) => Some(*fault),
     }
 }
 
 /// The fault of one component that is told.
-fn component_fault(found: &Components) -> Option<LoadFault>
-    ensures { result ≡ component_fault_in found.now }
+fn component_fault(found: &Components, index: &TypeIndex) -> Option<LoadFault>
+    ensures { IsIndexOf index.now found.now.descriptor → result ≡ component_fault_in found.now }
 {
-    let fault = descriptor_fault(&found.descriptor);
+    let fault = descriptor_fault(&found.descriptor, index);
     let fault = told(fault_of(&found.exports), fault);
     let fault = told(fault_of(&found.statics), fault);
     let fault = told(fault_of(&found.methods), fault);
@@ -248,14 +262,16 @@ fn component_fault(found: &Components) -> Option<LoadFault>
 fn package_fault(found: &Components) -> Option<LoadFault>
     ensures { result ≡ package_fault_in found.now }
 {
+    let index = index_of(&found.descriptor);
     let fault = across_fault(
         &found.descriptor,
+        &index,
         &found.records,
         &found.pool,
         &found.applets,
         &found.methods,
     );
-    told(component_fault(found), fault)
+    told(component_fault(found, &index), fault)
 }
 
 /// The package, where all components were read.

@@ -17,4 +17,3 @@ mod Rowed
 mod Headed
 mod Bodied
 mod Whole
-pub mod ReadLaws

@@ -310,7 +310,6 @@ fn package_in<'a>(parts: &Parts<'a>) -> Result<Package<'a>, LoadFault>
 
 /// Reads a whole package of an image: all components, and then what they say of one another. Of several refusals the
 /// one with the smallest number is told, and of `Malformed` the one with the least tag.
-#[tactic(auto, using(crate::proofs::ReadLaws::read_laws))]
 pub fn read_package<'a>(parts: &Parts<'a>) -> Result<Package<'a>, LoadFault>
     ensures package { result ≡ package_of parts.now }
     ensures apart { IfOk result (λ p. StandApart p.body.methods) }

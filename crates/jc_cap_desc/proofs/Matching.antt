@@ -68,7 +68,7 @@ put_at n offset named named_then small new put = by_case (cases_eq n offset)
         let back : offset == n ≡ false = ne_eqb offset n (λ e. other (sym e)) in
         rw (put, there, back) (sym (zero-add _))
 
-begins : (starts named : List ℕ) (rows left : List ClassRow) → ((n : ℕ) → has_number named n ≡ false) → left ≡ rows
+pub begins : (starts named : List ℕ) (rows left : List ClassRow) → ((n : ℕ) → has_number named n ≡ false) → left ≡ rows
     → AreNamed starts named rows left
 begins starts named rows left none same = record {
   counted = λ n. no_one n ∙ ap (count_rows n) same;

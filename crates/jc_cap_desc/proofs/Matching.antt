@@ -1,5 +1,5 @@
 -- Rows and records: each row that is passed puts the offset of its record into a set.
-use Rattle.std.proofs.Common.{◌≡◌, ℕ, ◌<◌, ◌+◌, ◌==◌, ◌&&◌, ◌||◌, Bool, true, false, cond, List, [], ◌∷◌, Option, Some}
+use Rattle.std.proofs.Common.{◌≡◌, ℕ, ◌<◌, ◌+◌, ◌==◌, ◌&&◌, ◌||◌, Bool, true, false, cond, List, [], ◌∷◌, Option, Some, not}
 use Rattle.std.proofs.Common.{None, is_some, nat_lt, refl, sym, ap, ◌∙◌, ◌⊎◌, inl, inr, arith, zero-add}
 use Rattle.std.proofs.lemmas.Bool.{cases_eq, eq-eqb, eqb-true, lt-ltb, ne_eqb}
 use Rattle.std.proofs.Math.Bool.{and-true}
@@ -106,7 +106,7 @@ refused : (a b : Bool) → b ≡ false → false ≡ (a && b)
 refused true b e = sym e
 refused false b e = refl
 
-pub of_none : (starts named : List ℕ) (records : List (Placed Record)) (rows left then : List ClassRow)
+of_none : (starts named : List ℕ) (records : List (Placed Record)) (rows left then : List ClassRow)
     (row : ClassRow) → AreNamed starts named rows left → left ≡ row ∷ then → HoldsRecords starts records
     → record_of records row ≡ None → false ≡ rows_match records rows
 of_none starts named records rows left then row far front holds none =
@@ -124,7 +124,7 @@ no_record : (o : Option Record) → is_some o ≡ false → o ≡ None
 no_record None e = refl
 no_record (Some r) e = absurd cc
 
-pub elsewhere : (starts named : List ℕ) (records : List (Placed Record)) (rows left then : List ClassRow)
+elsewhere : (starts named : List ℕ) (records : List (Placed Record)) (rows left then : List ClassRow)
     (row : ClassRow) (offset : ℕ) → AreNamed starts named rows left → left ≡ row ∷ then → HoldsRecords starts records
     → offset_named row ≡ Some offset → offset < 65536 → has_number starts offset ≡ false
     → false ≡ rows_match records rows
@@ -149,7 +149,7 @@ one_of_record (p ∷ records) rows offset there all =
         ap (λ n. count_rows n rows) (sym (eqb-true p.offset offset same)) ∙ eqb-true (count_rows p.offset rows) 1 here
     by_test false other there here rest = rest there
 
-pub twice : (starts named : List ℕ) (records : List (Placed Record)) (rows left then : List ClassRow) (row : ClassRow)
+twice : (starts named : List ℕ) (records : List (Placed Record)) (rows left then : List ClassRow) (row : ClassRow)
     (offset : ℕ) → AreNamed starts named rows left → left ≡ row ∷ then → HoldsRecords starts records
     → offset_named row ≡ Some offset → offset < 65536 → has_number starts offset ≡ true
     → has_number named offset ≡ true → false ≡ rows_match records rows
@@ -171,6 +171,26 @@ twice starts named records rows left then row offset far front holds names small
         → false ≡ (b && all_recorded records rows)
     by_test true all = absurd (two (one_of_record records rows offset (sym (holds offset small) ∙ there) all))
     by_test false all = refl
+
+-- a row that names no record's offset, or one that was named before
+pub not_anew : (starts named : List ℕ) (records : List (Placed Record)) (rows left then : List ClassRow)
+    (row : ClassRow) (offset : ℕ) → AreNamed starts named rows left → left ≡ row ∷ then → HoldsRecords starts records
+    → offset_named row ≡ Some offset → offset < 65536
+    → (has_number starts offset && not (has_number named offset)) ≡ false → false ≡ rows_match records rows
+not_anew starts named records rows left then row offset far front holds names small fails =
+    by_tests (has_number starts offset) (has_number named offset) refl refl fails
+  where
+    by_tests : (a b : Bool) → has_number starts offset ≡ a → has_number named offset ≡ b → (a && not b) ≡ false
+        → false ≡ rows_match records rows
+    by_tests false b at met e = elsewhere starts named records rows left then row offset far front holds names small at
+    by_tests true true at met e =
+        twice starts named records rows left then row offset far front holds names small at met
+    by_tests true false at met e = absurd cc
+
+pub is_new : (a b : Bool) → (a && not b) ≡ true → (a ≡ true) × (b ≡ false)
+is_new true false e = (refl, refl)
+is_new true true e = absurd cc
+is_new false b e = absurd cc
 
 -- ---- all rows were passed
 

@@ -1,7 +1,8 @@
 //! The tests of class rows against records, and of methods against one another.
 
-ghost use Rattle.std.specs.Prelude.{◌≡◌, ◌||◌, ◌∷◌, ℕ, true, false, List, [], map, not, IfSome, IfNone};
+ghost use Rattle.std.specs.Prelude.{◌≡◌, ◌&&◌, ◌||◌, ◌∷◌, ℕ, true, false, List, [], map, not, IfSome, IfNone};
 ghost use Rattle.std.specs.List.{list_all};
+ghost use Rattle.jc_base.specs.NumberSet.{has_number};
 ghost use Rattle.jc_base.specs.declared.placed_rows.Placed.{Placed};
 ghost use Rattle.jc_cap_class.specs.declared.record.Record.{Record};
 ghost use Rattle.jc_cap_desc.specs.Across.{is_row_of, rows_match, class_methods};
@@ -36,6 +37,13 @@ fn offset_named(row: &ClassRow) -> Option<u16>
     }
 }
 
+/// Whether a record begins at an offset, and no row before named it.
+fn is_named_anew(starts: &NumberSet, named: &NumberSet, offset: u16) -> bool
+    ensures { result ≡ (has_number starts.now offset && not (has_number named.now offset)) }
+{
+    starts.contains(offset) && !named.contains(offset)
+}
+
 /// The offsets of the records that rows are of, or `None` where one is of no record, or two are of one.
 fn offsets_named(starts: &NumberSet, rows: &ClassRows) -> Option<NumberSet>
     ensures named { IfSome result (λ named. AreNamed starts.now named rows.now []) }
@@ -48,10 +56,7 @@ fn offsets_named(starts: &NumberSet, rows: &ClassRows) -> Option<NumberSet>
         let Some(offset) = offset_named(&row) else {
             return None;
         };
-        if !starts.contains(offset) {
-            return None;
-        }
-        if named.contains(offset) {
+        if !is_named_anew(starts, &named, offset) {
             return None;
         }
         named.insert(offset);

@@ -55,8 +55,8 @@ fn interfaces_first(records: &Records) -> bool
     true
 }
 
-/// Whether no record is a remote one.
-fn none_remote(records: &Records) -> bool
+/// Whether no record is a remote one. Remote records are what `read_class` refuses of what `class_layout` gives.
+pub fn none_remote(records: &Records) -> bool
     ensures { result ≡ none_remote records.now }
 {
     let mut left = records.again();

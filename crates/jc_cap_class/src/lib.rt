@@ -5,7 +5,7 @@ mod component;
 mod interfaces;
 mod record;
 
-pub use component::{Records, class_layout, read_class};
+pub use component::{Records, class_layout, none_remote, read_class};
 pub use interfaces::{
     ImplementedInterface, ImplementedInterfaces, Superinterface, Superinterfaces,
 };

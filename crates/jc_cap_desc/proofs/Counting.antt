@@ -1,10 +1,8 @@
 -- A package that was read has no more classes than rows.
-use Rattle.std.proofs.Common.{◌≡◌, ℕ, ◌≤◌, List, length, Option, Some, None, Result, Ok, Err, refl, sym, ap, ◌∙◌, arith}
-use Rattle.std.specs.List.{filter_map}
+use Rattle.std.proofs.Common.{◌≡◌, length, Option, Some, None, Result, Ok, Err, refl, sym, ap, ◌∙◌, arith}
 use Rattle.jc_base.specs.Parts.{Infos}
 use Rattle.jc_base.specs.declared.fault.LoadFault.{LoadFault}
-use Rattle.jc_cap_head.specs.Header.{header_of}
-use Rattle.jc_cap_desc.proofs.Few.{few_read, fewer}
+use Rattle.jc_cap_desc.proofs.Few.{descriptor_is, few_read, fewer, layout_is}
 use Rattle.jc_cap_desc.proofs.Reading.{read_of}
 use Rattle.jc_cap_desc.specs.Package.{components_of, package_fault, package_of, refused}
 use Rattle.jc_cap_desc.specs.PrivatePackage.{records_in}
@@ -26,7 +24,9 @@ pub rowed : (infos : Infos) (p : Package) → package_of infos ≡ Ok p → HasR
 rowed infos p e =
     let r = (read_of infos p (sym e)).read in
     let few = few_read infos r.records r.info (nothing_told infos p e)
-    (ap (λ h. records_in h infos.class) r.is_heading ∙ r.are_records) r.is_info in
+    (ap (λ h. records_in h infos.class) r.is_heading
+    ∙ layout_is r.heading.format infos.class r.records r.are_records)
+    (descriptor_is infos.descriptor r.info r.is_info) in
     let given = fewer (class_shape r.info r.methods) r.records in
     let same = ap (λ ks. length ks) r.classes in
     record { info = r.info; its_info = r.is_info; few = omega (arith, few, given, same) }

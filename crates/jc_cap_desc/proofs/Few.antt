@@ -30,11 +30,11 @@ use Rattle.jc_cap_pool.specs.declared.entry.PoolEntry.{PoolEntry}
 use Rattle.jc_cap_desc.specs.Across.{is_row_of, count_rows, rows_match, methods_differ}
 use Rattle.jc_cap_desc.specs.Component as Descriptor
 use Rattle.jc_cap_desc.specs.Package.{told, unless, pool_fault, methods_fault, applets_fault, classes_fault, across_fault, layout_in, component_fault, package_fault}
-use Rattle.jc_cap_desc.specs.PrivatePackage.{records_in, components_in, HasFewRows, HasFewRecords}
+use Rattle.jc_cap_desc.specs.PrivatePackage.{records_in, components_in, HasEachRow, HasFewRows, HasFewRecords}
+use Rattle.jc_cap_desc.specs.PrivateRecordRows.{each_has_row}
 use Rattle.jc_cap_desc.specs.Types.{descriptor_of}
 use Rattle.jc_cap_desc.specs.declared.class_row.ClassRow.{ClassRow}
 use Rattle.jc_cap_desc.specs.declared.component.DescriptorInfo.{DescriptorInfo}
-use Rattle.jc_cap_desc.specs.declared.package.Components.{Components}
 
 pub is_equal : (a b : ℕ) → a == b ≡ true → a ≡ b
 is_equal a b e = eqb-true a b e
@@ -163,31 +163,68 @@ across_matches info records pool applets methods e =
     let behind = (none_told (methods_fault records info methods) last methods_fine).1 in
     (both_true (rows_match records info.classes) (methods_differ records info.classes) (is_fine (rows_match records info.classes && methods_differ records info.classes) descriptor_tag behind)).0
 
--- a package that nothing is told of has no more records than rows
-pub few_read : (infos : Infos) (records : List (Placed Record)) (info : DescriptorInfo) → package_fault infos ≡ None → records_in (header_of infos.header) infos.class ≡ Ok records → descriptor_of infos.descriptor ≡ Ok info → length records ≤ length info.classes
-few_read infos records info fine is_records is_info = by_header (header_of infos.header) refl
+-- the records of a package that nothing is told of ascend, and match its rows
+record AreMatched (records : List (Placed Record)) (info : DescriptorInfo) : Type 0 where
+  ascend : Ascend 0 records
+  match : rows_match records info.classes ≡ true
+
+matched_read : (infos : Infos) (records : List (Placed Record)) (info : DescriptorInfo) → package_fault infos ≡ None
+    → records_in (header_of infos.header) infos.class ≡ Ok records → Descriptor.layout_of infos.descriptor ≡ Ok info
+    → AreMatched records info
+matched_read infos records info fine is_records is_info = by_header (header_of infos.header) refl
   where
-    by_header : (h : Result Heading LoadFault) → header_of infos.header ≡ h → length records ≤ length info.classes
+    by_header : (h : Result Heading LoadFault) → header_of infos.header ≡ h → AreMatched records info
     by_header (Err fault) e = absurd (wrong (rw e at is_records))
       where
         wrong : ◌≡◌ {A = Result (List (Placed Record)) LoadFault} (Err fault) (Ok records) → ⊥
         wrong h = cc
     by_header (Ok heading) e =
-        let layout = layout_is heading.format infos.class records (rw e at is_records) in
-        let rows = descriptor_is infos.descriptor info is_info in
-        let across : across_fault (result_ok (Descriptor.layout_of infos.descriptor)) (layout_in (header_of infos.header) infos.class) (result_ok (pool_of infos.constant_pool)) (result_ok (applets_of infos.applet)) (result_ok (methods_of infos.method)) ≡ None = (none_told (component_fault infos) _ fine).1 in
-        let there = across_matches info records (result_ok (pool_of infos.constant_pool)) (result_ok (applets_of infos.applet)) (result_ok (methods_of infos.method)) (rw (rows, e, layout) at across) in
-        few_records 0 records info.classes (records_ascend heading.format infos.class records layout) there
+        let layout : Class.layout_of heading.format infos.class ≡ Ok records = rw e at is_records in
+        let pool = result_ok (pool_of infos.constant_pool) in
+        let applets = result_ok (applets_of infos.applet) in
+        let methods = result_ok (methods_of infos.method) in
+        let across : across_fault (result_ok (Descriptor.layout_of infos.descriptor))
+        (layout_in (header_of infos.header) infos.class) pool applets methods ≡ None
+        = (none_told (component_fault infos) _ fine).1 in
+        record {
+          ascend = records_ascend heading.format infos.class records layout;
+          match = across_matches info records pool applets methods (rw (is_info, e, layout) at across);
+        }
+
+-- a package that nothing is told of has no more records than rows
+pub few_read : (infos : Infos) (records : List (Placed Record)) (info : DescriptorInfo) → package_fault infos ≡ None
+    → records_in (header_of infos.header) infos.class ≡ Ok records → Descriptor.layout_of infos.descriptor ≡ Ok info
+    → length records ≤ length info.classes
+few_read infos records info fine is_records is_info =
+    let is = matched_read infos records info fine is_records is_info in
+    few_records 0 records info.classes is.ascend is.match
+
+-- each of its records has one row
+pub rows_in : (infos : Infos) → package_fault infos ≡ None → HasEachRow (components_in infos)
+rows_in infos fine =
+    by_records (records_in (header_of infos.header) infos.class) (Descriptor.layout_of infos.descriptor) refl refl
+  where
+    by_records : (r : Result (List (Placed Record)) LoadFault) (d : Result DescriptorInfo LoadFault)
+        → records_in (header_of infos.header) infos.class ≡ r → Descriptor.layout_of infos.descriptor ≡ d
+        → IfOk r (λ records. IfOk d (λ info. each_has_row records info.classes ≡ true))
+    by_records (Err fault) d is_records is_info = tt
+    by_records (Ok records) (Ok info) is_records is_info =
+        let is = matched_read infos records info fine is_records is_info in
+        (both_true (each_has_row records info.classes) _ is.match).0
+    by_records (Ok records) (Err fault) is_records is_info = tt
 
 -- a package that nothing is told of has no more records than a byte counts
-pub few_in : (infos : Infos) (found : Components) → found ≡ components_in infos → HasFewRows found → package_fault infos ≡ None → HasFewRecords found
-few_in infos found is few fine = by_records found.records found.descriptor refl refl few
+pub few_in : (infos : Infos) → HasFewRows (components_in infos) → package_fault infos ≡ None
+    → HasFewRecords (components_in infos)
+few_in infos few fine =
+    by_records (records_in (header_of infos.header) infos.class) (Descriptor.layout_of infos.descriptor) refl refl few
   where
-    by_records : (r : Result (List (Placed Record)) LoadFault) (d : Result DescriptorInfo LoadFault) → found.records ≡ r → found.descriptor ≡ d → IfOk d (λ info. length info.classes ≤ 255) → IfOk r (λ records. IfOk d (λ info. length records ≤ 255))
+    by_records : (r : Result (List (Placed Record)) LoadFault) (d : Result DescriptorInfo LoadFault)
+        → records_in (header_of infos.header) infos.class ≡ r → Descriptor.layout_of infos.descriptor ≡ d
+        → IfOk d (λ info. length info.classes ≤ 255) → IfOk r (λ records. IfOk d (λ info. length records ≤ 255))
     by_records (Err fault) d is_records is_info few = tt
     by_records (Ok records) (Ok info) is_records is_info few =
-        let h = few_read infos records info fine (sym (ap (λ (c : Components). c.records) is) ∙ is_records) (sym (ap (λ (c : Components). c.descriptor) is) ∙ is_info) in
-        omega (arith, h, few)
+        let h = few_read infos records info fine is_records is_info in omega (arith, h, few)
     by_records (Ok records) (Err fault) is_records is_info few = tt
 
 -- rows that a byte counts are few

@@ -2,9 +2,12 @@ pub mod Counting
 pub mod Few
 pub mod Passing
 pub mod Indexing
+pub mod Matching
+pub mod Ahead
+pub mod Testing
 pub mod Installing
 mod FreshNumbers
-mod Joined
+pub mod Joined
 pub mod Typing
 mod Lists
 mod Tested
@@ -14,4 +17,3 @@ mod Rowed
 mod Headed
 mod Bodied
 mod Whole
-pub mod ReadLaws

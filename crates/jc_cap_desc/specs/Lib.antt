@@ -5,6 +5,7 @@ pub mod Types
 pub mod Across
 pub mod PrivateOffsets
 pub mod PrivateInterfaceRows
+pub mod PrivateRecordRows
 pub mod PrivateTypes
 pub mod PrivateApplets
 pub mod PrivateFreshNumbers

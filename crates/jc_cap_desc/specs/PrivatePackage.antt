@@ -1,7 +1,10 @@
--- Private. The components as they are read, each once, in the order of the code.
-use Rattle.std.specs.Prelude.{◌≡◌, ℕ, ◌≤◌, true, List, length, Option, None, Result, Ok, Err, IfOk}
+-- Private. The components as they are read, each once, in the order of the code: of the Class and the Descriptor
+-- component what their layouts give, and apart from it what the tests behind these layouts say.
+use Rattle.std.specs.Prelude.{◌≡◌, ℕ, ◌≤◌, true, List, length, Option, Some, None, Result, Ok, Err, IfOk}
+use Rattle.std.specs.Result.{result_ok}
 use Rattle.jc_base.specs.Parts.{Infos}
 use Rattle.jc_base.specs.Results.{◌>>=◌}
+use Rattle.jc_base.specs.Tag.{class_tag, descriptor_tag}
 use Rattle.jc_base.specs.declared.fault.LoadFault.{LoadFault}
 use Rattle.jc_base.specs.declared.placed_rows.Placed.{Placed}
 use Rattle.jc_cap_class.specs.Component as Class
@@ -13,13 +16,18 @@ use Rattle.jc_cap_data.specs.Statics.{static_fields_of}
 use Rattle.jc_cap_head.specs.Header.{Heading, header_of}
 use Rattle.jc_cap_method.specs.Component.{methods_of}
 use Rattle.jc_cap_pool.specs.Pool.{pool_of}
-use Rattle.jc_cap_desc.specs.Types.{descriptor_of, classes_are_typed}
+use Rattle.jc_cap_desc.specs.Component as Descriptor
+use Rattle.jc_cap_desc.specs.Types.{classes_are_typed, types_are_there}
 use Rattle.jc_cap_desc.specs.Shape.{Package, shape_of, body_of}
-use Rattle.jc_cap_desc.specs.Package.{fault_of, told}
+use Rattle.jc_cap_desc.specs.Package.{across_fault, fault_of, told, unless}
+use Rattle.jc_cap_desc.specs.PrivateRecordRows.{each_has_row}
+use Rattle.jc_cap_desc.specs.PrivateTypes.{IndexesTypes}
+use Rattle.jc_cap_desc.specs.declared.component.DescriptorInfo.{DescriptorInfo}
 use Rattle.jc_cap_desc.specs.declared.package.Components.{Components}
+use Rattle.jc_cap_desc.specs.declared.type_index.TypeIndex.{TypeIndex}
 
 abbrev pub records_in : Result Heading LoadFault → List ℕ → Result (List (Placed Record)) LoadFault
-records_in (Ok heading) info = Class.classes_of heading.format info
+records_in (Ok heading) info = Class.layout_of heading.format info
 records_in (Err fault) info = Err fault
 
 abbrev pub components_in : Infos → Components
@@ -32,12 +40,20 @@ components_in infos = record {
   methods = methods_of infos.method;
   statics = static_fields_of infos.static_field;
   exports = exports_of infos.export;
-  descriptor = descriptor_of infos.descriptor;
+  descriptor = Descriptor.layout_of infos.descriptor;
 }
 
+abbrev pub records_fault : Result (List (Placed Record)) LoadFault → Option LoadFault
+records_fault (Ok records) = unless (Class.none_remote records) class_tag
+records_fault (Err fault) = Some fault
+
 abbrev pub class_fault_in : Result Heading LoadFault → Result (List (Placed Record)) LoadFault → Option LoadFault
-class_fault_in (Ok heading) records = fault_of records
+class_fault_in (Ok heading) records = records_fault records
 class_fault_in (Err fault) records = None
+
+abbrev pub descriptor_fault : Result DescriptorInfo LoadFault → Option LoadFault
+descriptor_fault (Ok info) = unless (types_are_there info) descriptor_tag
+descriptor_fault (Err fault) = Some fault
 
 abbrev pub component_fault_in : Components → Option LoadFault
 component_fault_in found =
@@ -49,7 +65,13 @@ component_fault_in found =
     (told (fault_of found.methods)
     (told (fault_of found.statics)
     (told (fault_of found.exports)
-    (fault_of found.descriptor))))))))
+    (descriptor_fault found.descriptor))))))))
+
+abbrev pub package_fault_in : Components → Option LoadFault
+package_fault_in found =
+    told (component_fault_in found)
+    (across_fault (result_ok found.descriptor) (result_ok found.records) (result_ok found.pool)
+    (result_ok found.applets) (result_ok found.methods))
 
 unfoldable pub joined : Components → Result Package LoadFault
 joined found = do
@@ -81,3 +103,12 @@ HasFewImports found = IfOk found.imports (λ imports. length imports ≤ 255)
 -- the fields and methods of classes have types
 abbrev pub HasTypes : Components → Type 0
 HasTypes found = IfOk found.descriptor (λ info. classes_are_typed info.types info.classes ≡ true)
+
+-- each record has one row where both were read
+abbrev pub HasEachRow : Components → Type 0
+HasEachRow found =
+    IfOk found.records (λ records. IfOk found.descriptor (λ info. each_has_row records info.classes ≡ true))
+
+-- an index of the type descriptors of a layout, where it was read
+abbrev pub IsIndexOf : TypeIndex → Result DescriptorInfo LoadFault → Type 0
+IsIndexOf index layout = IfOk layout (λ info. IndexesTypes index info.types)

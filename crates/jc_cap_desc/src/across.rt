@@ -1,19 +1,21 @@
 //! The tests of class rows against records, and of methods against one another.
 
-ghost use Rattle.std.specs.Prelude.{◌≡◌, ◌==◌, ◌||◌, ◌∷◌, ℕ, true, List, map, not, is_some};
+ghost use Rattle.std.specs.Prelude.{◌≡◌, ◌&&◌, ◌||◌, ◌∷◌, ℕ, true, false, List, [], map, not, IfSome, IfNone};
 ghost use Rattle.std.specs.List.{list_all};
+ghost use Rattle.jc_base.specs.NumberSet.{has_number};
 ghost use Rattle.jc_base.specs.declared.placed_rows.Placed.{Placed};
 ghost use Rattle.jc_cap_class.specs.declared.record.Record.{Record};
-ghost use Rattle.jc_cap_desc.specs.Across.{record_of, is_row_of, count_rows, rows_match, class_methods};
+ghost use Rattle.jc_cap_desc.specs.Across.{is_row_of, rows_match, class_methods};
 ghost use Rattle.jc_cap_desc.specs.Across.{is_interface_row, is_among, are_distinct, methods_differ};
 ghost use Rattle.jc_cap_desc.specs.PrivateFreshNumbers.{are_fresh, put_in, Holds};
 ghost use Rattle.jc_cap_desc.specs.PrivateInterfaceRows.{HoldsInterfaces};
 ghost use Rattle.jc_cap_desc.specs.PrivateMethods.{class_offsets};
+ghost use Rattle.jc_cap_desc.specs.PrivateRecordRows.{AreNamed, HoldsRecords, is_in, offset_named};
 
 use crate::class_row::{ClassRow, ClassRows, MethodRows};
 use crate::interfaces::is_interface_row;
 use jc_base::{ClassRef, NumberSet};
-use jc_cap_class::{Record, Records};
+use jc_cap_class::Records;
 
 /// Whether a row is of the record at an offset.
 pub(crate) fn is_row_of(offset: usize, row: &ClassRow) -> bool
@@ -25,66 +27,75 @@ pub(crate) fn is_row_of(offset: usize, row: &ClassRow) -> bool
     }
 }
 
-/// Whether one row and no other is of the record at an offset.
-fn has_one_row(offset: usize, rows: &ClassRows) -> bool
-    ensures { result ≡ (count_rows offset rows.now == 1) }
-{
-    let mut left = rows.again();
-    let mut seen = false;
-    while let Some(row) = left.next() {
-        if is_row_of(offset, &row) {
-            if seen {
-                return false;
-            }
-            seen = true;
-        }
-    }
-    seen
-}
-
-/// Whether each record has one row. The walk ends at the first that hasn't, so it goes over one record more than there
-/// are rows at most.
-fn records_have_rows(records: &Records, rows: &ClassRows) -> bool
-    ensures { result ≡ list_all (λ p. count_rows p.offset rows.now == 1) records.now }
-{
-    let mut left = records.again();
-    while let Some(placed) = left.next() {
-        if !has_one_row(placed.offset, rows) {
-            return false;
-        }
-    }
-    true
-}
-
-/// The record that a row is of, if it is one's.
-pub(crate) fn record_of<'a>(records: &Records<'a>, row: &ClassRow) -> Option<Record<'a>>
-    ensures { result ≡ record_of records.now row.now }
+/// Where the record begins that a row names.
+fn offset_named(row: &ClassRow) -> Option<u16>
+    ensures { result ≡ offset_named row.now }
 {
     match row.this {
-        ClassRef::Internal { offset } => records.at(usize::from(offset)),
+        ClassRef::Internal { offset } => Some(offset),
         ClassRef::External { .. } => None,
     }
 }
 
-/// Whether each row is of a record.
-fn rows_have_records(records: &Records, rows: &ClassRows) -> bool
-    ensures { result ≡ list_all (λ row. is_some (record_of records.now row)) rows.now }
+/// Whether a record begins at an offset, and no row before named it.
+fn is_named_anew(starts: &NumberSet, named: &NumberSet, offset: u16) -> bool
+    ensures { result ≡ (has_number starts.now offset && not (has_number named.now offset)) }
+{
+    starts.contains(offset) && !named.contains(offset)
+}
+
+/// The offsets of the records that rows are of, or `None` where one is of no record, or two are of one.
+fn offsets_named(starts: &NumberSet, rows: &ClassRows) -> Option<NumberSet>
+    ensures named { IfSome result (λ named. AreNamed starts.now named rows.now []) }
+    ensures refused { IfNone result ((records : List (Placed Record)) → HoldsRecords starts.now records
+        → false ≡ rows_match records rows.now) }
 {
     let mut left = rows.again();
+    let mut named = NumberSet::empty();
     while let Some(row) = left.next() {
-        if record_of(records, &row).is_none() {
+        let Some(offset) = offset_named(&row) else {
+            return None;
+        };
+        if !is_named_anew(starts, &named, offset) {
+            return None;
+        }
+        named.insert(offset);
+    }
+    Some(named)
+}
+
+/// Whether an offset is in a set; one that is no number of two bytes isn't.
+fn is_in(set: &NumberSet, offset: usize) -> bool
+    ensures { result ≡ is_in set.now offset }
+{
+    match u16::try_from(offset) {
+        Ok(number) => set.contains(number),
+        Err(_) => false,
+    }
+}
+
+/// Whether the offset of each record is in a set.
+fn records_are_in(set: &NumberSet, records: &Records) -> bool
+    ensures { result ≡ list_all (λ p. is_in set.now p.offset) records.now }
+{
+    let mut left = records.again();
+    while let Some(placed) = left.next() {
+        if !is_in(set, placed.offset) {
             return false;
         }
     }
     true
 }
 
-/// Whether each record has one row, and each row is of a record. Rows are looked at only where there are no more
-/// records than rows.
-pub(crate) fn rows_match(records: &Records, rows: &ClassRows) -> bool
-    ensures { result ≡ rows_match records.now rows.now }
+/// Whether each record has one row, and each row is of a record: one pass over the rows, and one over the records.
+#[tactic(auto, using(crate::proofs::Matching::matched))]
+pub(crate) fn rows_match(records: &Records, starts: &NumberSet, rows: &ClassRows) -> bool
+    ensures { HoldsRecords starts.now records.now → result ≡ rows_match records.now rows.now }
 {
-    records_have_rows(records, rows) && rows_have_records(records, rows)
+    match offsets_named(starts, rows) {
+        Some(named) => records_are_in(&named, records),
+        None => false,
+    }
 }
 
 /// Puts a number into a set, and answers whether the set didn't have it.

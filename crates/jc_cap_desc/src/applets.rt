@@ -11,11 +11,9 @@ ghost use Rattle.jc_cap_desc.specs.PrivateInterfaceRows.{HoldsInterfaces};
 ghost use Rattle.jc_cap_desc.specs.PrivateTypes.{IndexesTypes, PlacedTypes};
 
 use crate::class_row::{ClassRows, MethodRow, MethodRows};
-use crate::interfaces::{interface_offsets, is_interface_row};
-use crate::type_descriptors::TypeDescriptors;
+use crate::interfaces::is_interface_row;
 use crate::type_index::TypeIndex;
 use jc_base::NumberSet;
-use jc_cap_class::Records;
 use jc_cap_data::Applets;
 
 /// Whether a method of a class is static, has code, and takes and gives what an install method does.
@@ -68,15 +66,14 @@ fn are_within(set: &NumberSet, applets: &Applets) -> bool
 
 /// Whether each applet's install method is one of a class.
 pub(crate) fn applets_install(
-    records: &Records,
+    interfaces: &NumberSet,
     rows: &ClassRows,
-    types: &TypeDescriptors,
+    index: &TypeIndex,
     applets: &Applets,
 ) -> bool
-    ensures { result ≡ applets_install records.now rows.now types.now applets.now }
+    ensures { (records : List (Placed Record)) (types : PlacedTypes) → HoldsInterfaces interfaces.now records
+        → IndexesTypes index.now types → result ≡ applets_install records rows.now types applets.now }
 {
-    let interfaces = interface_offsets(records);
-    let index = TypeIndex::of(types);
-    let installers = install_offsets(&interfaces, &index, rows);
+    let installers = install_offsets(interfaces, index, rows);
     are_within(&installers, applets)
 }

@@ -1,15 +1,17 @@
 //! The methods with code.
 
-ghost use Rattle.std.specs.Prelude.{◌≡◌, ◌<◌, ◌^◌, ◌∷◌, [], length, IfSome, IfNone, if◌then◌else◌};
+ghost use Rattle.std.specs.Prelude.{◌≡◌, ◌<◌, ◌^◌, ◌∷◌, List, [], length, IfSome, IfNone, if◌then◌else◌};
 ghost use Rattle.std.specs.List.{filter_map};
+ghost use Rattle.jc_base.specs.declared.placed_rows.Placed.{Placed};
+ghost use Rattle.jc_cap_class.specs.declared.record.Record.{Record};
 ghost use Rattle.jc_cap_desc.specs.Across.{class_methods, is_interface_row};
+ghost use Rattle.jc_cap_desc.specs.PrivateInterfaceRows.{HoldsInterfaces};
 ghost use Rattle.jc_cap_desc.specs.Shape.{body_of_method};
 
-use crate::across::record_of;
 use crate::class_row::{ClassRow, ClassRows, MethodRow, MethodRows};
-use crate::interfaces::is_interface;
+use crate::interfaces::{is_interface_row, record_offsets};
 use crate::standing::has_code;
-use jc_base::{Cursor, Rows};
+use jc_base::{Cursor, NumberSet, Rows};
 use jc_cap_class::Records;
 use jc_cap_method::{Handlers, MethodInfo};
 use std::marker::Model;
@@ -89,12 +91,14 @@ fn body_of_method<'a>(methods: &MethodInfo<'a>, row: &MethodRow) -> Option<Metho
 }
 
 /// The rows of a class's methods; an interface's don't count.
-fn rows_of<'a>(records: &Records, class: &ClassRow<'a>) -> MethodRows<'a>
-    ensures { result ≡ if is_interface_row records.now class.now then [] else class.now.methods }
+fn rows_of<'a>(interfaces: &NumberSet, class: &ClassRow<'a>) -> MethodRows<'a>
+    ensures { (records : List (Placed Record)) → HoldsInterfaces interfaces.now records
+        → result ≡ if is_interface_row records class.now then [] else class.now.methods }
 {
-    match record_of(records, class) {
-        Some(record) if is_interface(&record.body) => Rows::none(Cursor::new(&[])),
-        _ => class.methods.again(),
+    if is_interface_row(interfaces, class) {
+        Rows::none(Cursor::new(&[]))
+    } else {
+        class.methods.again()
     }
 }
 
@@ -102,6 +106,7 @@ fn rows_of<'a>(records: &Records, class: &ClassRow<'a>) -> MethodRows<'a>
 #[derive(Drop)]
 struct ClassMethodRows<'p, 'a> {
     records: &'p Records<'a>,
+    interfaces: NumberSet,
     classes: ClassRows<'a>,
     rows: MethodRows<'a>,
 }
@@ -109,11 +114,14 @@ struct ClassMethodRows<'p, 'a> {
 impl<'p, 'a> Model for ClassMethodRows<'p, 'a> {
     ghost use Rattle.std.specs.Prelude.{List, ◌++◌};
     ghost use Rattle.jc_cap_desc.specs.Across.{class_methods};
+    ghost use Rattle.jc_cap_desc.specs.PrivateInterfaceRows.{HoldsInterfaces};
     ghost use Rattle.jc_cap_desc.specs.declared.class_row.MethodRow.{MethodRow};
 
     ghost Value = { List MethodRow };
 
     ghost view = { λ m. m.rows ++ class_methods m.records.now m.classes };
+
+    ghost invariant = { λ m. HoldsInterfaces m.interfaces m.records.now };
 }
 
 impl<'p, 'a> ClassMethodRows<'p, 'a> {
@@ -124,7 +132,7 @@ impl<'p, 'a> ClassMethodRows<'p, 'a> {
     {
         while self.rows.is_empty() {
             let class = self.classes.next()?;
-            self.rows = rows_of(self.records, &class);
+            self.rows = rows_of(&self.interfaces, &class);
         }
         self.rows.next()
     }
@@ -160,6 +168,7 @@ impl<'p, 'a> MethodBodies<'p, 'a> {
             methods,
             left: ClassMethodRows {
                 records,
+                interfaces: record_offsets(records).interfaces,
                 classes,
                 rows: Rows::none(Cursor::new(&[])),
             },

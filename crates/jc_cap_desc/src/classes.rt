@@ -1,8 +1,9 @@
 //! The classes of a package: what their records say, and what their rows say.
 
-ghost use Rattle.std.specs.Prelude.{◌≡◌, ◌∷◌, [], true, IfSome, IfNone};
+ghost use Rattle.std.specs.Prelude.{◌≡◌, ◌==◌, ◌∷◌, [], true, IfSome, IfNone};
 ghost use Rattle.std.specs.List.{find};
-ghost use Rattle.jc_cap_desc.specs.Across.{is_row_of};
+ghost use Rattle.jc_cap_desc.specs.Across.{count_rows, is_row_of};
+ghost use Rattle.jc_cap_desc.specs.PrivateRecordRows.{IsAmong};
 ghost use Rattle.jc_cap_desc.specs.Shape.{class_shape};
 ghost use Rattle.jc_cap_desc.specs.Types.{classes_are_typed};
 
@@ -89,8 +90,8 @@ impl<'p, 'a> Class<'p, 'a> {
     }
 }
 
-/// The row of the record at an offset, if there is one.
-fn row_of<'a>(offset: usize, rows: &ClassRows<'a>) -> Option<ClassRow<'a>>
+/// The row of the record at an offset, if there is one, looked for among all rows.
+fn row_among<'a>(offset: usize, rows: &ClassRows<'a>) -> Option<ClassRow<'a>>
     ensures found { result ≡ find (is_row_of offset) rows.now }
     ensures named { IfSome result (λ row. is_row_of offset row ≡ true) }
 {
@@ -103,17 +104,41 @@ fn row_of<'a>(offset: usize, rows: &ClassRows<'a>) -> Option<ClassRow<'a>>
     None
 }
 
+/// The row of the record at an offset. The row that is ahead is looked at first: where rows stand in the order of their
+/// records, it is the record's.
+#[tactic(auto, using(crate::proofs::Ahead::only_row))]
+fn row_of<'a>(
+    offset: usize,
+    rows: &ClassRows<'a>,
+    ahead: Option<ClassRow<'a>>,
+) -> Option<ClassRow<'a>>
+    requires one { count_rows offset rows.now == 1 ≡ true }
+    requires among { IfSome ahead (λ row. IsAmong row rows.now) }
+    ensures found { result ≡ find (is_row_of offset) rows.now }
+    ensures named { IfSome result (λ row. is_row_of offset row ≡ true) }
+{
+    if let Some(row) = ahead {
+        if is_row_of(offset, &row) {
+            return Some(row);
+        }
+    }
+    row_among(offset, rows)
+}
+
 /// The class or interface whose record this is, if it has a row.
 #[tactic(auto, using(crate::proofs::Typing::row_typed))]
 fn class_of<'p, 'a>(
     info: &'p DescriptorInfo<'a>,
     bodies: &'p MethodInfo<'a>,
     placed: Placed<Record<'a>>,
+    ahead: Option<ClassRow<'a>>,
 ) -> Option<Class<'p, 'a>>
-    requires { classes_are_typed info.now.types info.now.classes ≡ true }
+    requires typed { classes_are_typed info.now.types info.now.classes ≡ true }
+    requires one { count_rows placed.offset info.now.classes == 1 ≡ true }
+    requires among { IfSome ahead (λ row. IsAmong row info.now.classes) }
     ensures { result ≡ class_shape info.now bodies.now placed.entry }
 {
-    let row = row_of(placed.offset, &info.classes)?;
+    let row = row_of(placed.offset, &info.classes, ahead)?;
     Some(Class {
         types: &info.types,
         bodies,
@@ -128,11 +153,14 @@ pub struct Classes<'p, 'a> {
     pub(crate) info: &'p DescriptorInfo<'a>,
     pub(crate) bodies: &'p MethodInfo<'a>,
     pub(crate) left: Records<'a>,
+    /// The rows of which none was tried first.
+    pub(crate) ahead: ClassRows<'a>,
 }
 
 impl<'p, 'a> Model for Classes<'p, 'a> {
     ghost use Rattle.std.specs.Prelude.{◌≡◌, true, List};
     ghost use Rattle.std.specs.List.{filter_map};
+    ghost use Rattle.jc_cap_desc.specs.PrivateRecordRows.{AreAmong, each_has_row};
     ghost use Rattle.jc_cap_desc.specs.Shape.{ClassShape, class_shape};
     ghost use Rattle.jc_cap_desc.specs.Types.{classes_are_typed};
 
@@ -140,7 +168,8 @@ impl<'p, 'a> Model for Classes<'p, 'a> {
 
     ghost view = { λ c. filter_map (class_shape c.info.now c.bodies.now) c.left };
 
-    ghost invariant = { λ c. classes_are_typed c.info.now.types c.info.now.classes ≡ true };
+    ghost invariant = { λ c. (classes_are_typed c.info.now.types c.info.now.classes ≡ true)
+        × (each_has_row c.left c.info.now.classes ≡ true) × AreAmong c.ahead c.info.now.classes };
 }
 
 impl<'p, 'a> Classes<'p, 'a> {
@@ -150,7 +179,8 @@ impl<'p, 'a> Classes<'p, 'a> {
         ensures none { IfNone result ((self.old ≡ []) × (self.new ≡ [])) }
     {
         while let Some(placed) = self.left.next() {
-            if let Some(class) = class_of(self.info, self.bodies, placed) {
+            let ahead = self.ahead.next();
+            if let Some(class) = class_of(self.info, self.bodies, placed, ahead) {
                 return Some(class);
             }
         }

@@ -9,6 +9,7 @@ ghost use Rattle.jc_cap_desc.specs.Types.{descriptor_of, classes_are_typed};
 
 use crate::class_row::ClassRows;
 use crate::type_descriptors::TypeDescriptors;
+use crate::type_index::TypeIndex;
 use crate::types::types_are_there;
 use jc_base::tag::DESCRIPTOR;
 use jc_base::{Cursor, LoadFault, Parts, Rows, U2s};
@@ -70,7 +71,8 @@ pub fn read_descriptor<'a>(parts: &Parts<'a>) -> Result<DescriptorInfo<'a>, Load
     ensures typed { IfOk result (λ found. classes_are_typed found.types found.classes ≡ true) }
 {
     let info = descriptor_layout(parts)?;
-    if !types_are_there(&info) {
+    let index = TypeIndex::of(&info.types);
+    if !types_are_there(&info, &index) {
         return Err(LoadFault::Malformed(DESCRIPTOR));
     }
     Ok(info)

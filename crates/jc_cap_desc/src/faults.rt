@@ -7,12 +7,15 @@ ghost use Rattle.jc_cap_class.specs.declared.record.Record.{Record};
 ghost use Rattle.jc_cap_desc.specs.Package.{fault_of, unless, told, methods_fault, applets_fault, classes_fault};
 ghost use Rattle.jc_cap_desc.specs.Package.{pool_fault, across_fault};
 ghost use Rattle.jc_cap_desc.specs.PrivateInterfaceRows.{HoldsInterfaces};
+ghost use Rattle.jc_cap_desc.specs.PrivatePackage.{IsIndexOf};
+ghost use Rattle.jc_cap_desc.specs.PrivateTypes.{IndexesTypes};
 
 use crate::across::{methods_differ, rows_match};
 use crate::applets::applets_install;
 use crate::component::DescriptorInfo;
-use crate::interfaces::interface_offsets;
-use crate::standing::{methods_are_described, methods_stand_inside};
+use crate::interfaces::record_offsets;
+use crate::standing::methods_standing;
+use crate::type_index::TypeIndex;
 use jc_base::tag::{APPLET, DESCRIPTOR, METHOD};
 use jc_base::{LoadFault, NumberSet};
 use jc_cap_class::Records;
@@ -31,7 +34,7 @@ pub(crate) fn fault_of<T>(read: &Result<T, LoadFault>) -> Option<LoadFault>
 }
 
 /// The fault of a component that a test finds malformed.
-fn unless(fine: bool, tag: u8) -> Option<LoadFault>
+pub(crate) fn unless(fine: bool, tag: u8) -> Option<LoadFault>
     ensures { result ≡ unless fine tag }
 {
     if fine {
@@ -66,22 +69,26 @@ fn methods_fault(
     let Ok(methods) = methods else {
         return None;
     };
-    let inside = methods_stand_inside(interfaces, &info.classes, methods);
-    let described = methods_are_described(interfaces, &info.classes, methods);
-    told(unless(inside, METHOD), unless(described, DESCRIPTOR))
+    let found = methods_standing(interfaces, &info.classes, methods);
+    told(
+        unless(found.inside, METHOD),
+        unless(found.described, DESCRIPTOR),
+    )
 }
 
 /// The fault of the test on applets, where there are some.
 fn applets_fault(
-    records: &Records,
+    interfaces: &NumberSet,
     info: &DescriptorInfo,
+    index: &TypeIndex,
     applets: &Result<Option<Applets>, LoadFault>,
 ) -> Option<LoadFault>
-    ensures { result ≡ applets_fault records.now info.now (result_ok applets.now) }
+    ensures { (records : List (Placed Record)) → HoldsInterfaces interfaces.now records
+        → IndexesTypes index.now info.now.types → result ≡ applets_fault records info.now (result_ok applets.now) }
 {
     match applets {
         Ok(Some(applets)) => unless(
-            applets_install(records, &info.classes, &info.types, applets),
+            applets_install(interfaces, &info.classes, index, applets),
             APPLET,
         ),
         Ok(None) | Err(_) => None,
@@ -90,23 +97,27 @@ fn applets_fault(
 
 /// The fault of the tests with classes, where the layout of the Class component is used up.
 fn classes_fault(
-    records: &Option<Records>,
+    records: &Result<Records, LoadFault>,
     info: &DescriptorInfo,
+    index: &TypeIndex,
     applets: &Result<Option<Applets>, LoadFault>,
     methods: &Result<MethodInfo, LoadFault>,
 ) -> Option<LoadFault>
-    ensures { result ≡ classes_fault records.now info.now (result_ok applets.now) (result_ok methods.now) }
+    ensures { IndexesTypes index.now info.now.types → result
+        ≡ classes_fault (result_ok records.now) info.now (result_ok applets.now) (result_ok methods.now) }
 {
-    let Some(records) = records else {
+    let Ok(records) = records else {
         return None;
     };
-    let interfaces = interface_offsets(records);
-    let rows_fit = rows_match(records, &info.classes) && methods_differ(&interfaces, &info.classes);
+    let offsets = record_offsets(records);
+    let interfaces = &offsets.interfaces;
+    let rows_fit = rows_match(records, &offsets.starts, &info.classes)
+        && methods_differ(interfaces, &info.classes);
     let fault = told(
-        methods_fault(&interfaces, info, methods),
+        methods_fault(interfaces, info, methods),
         unless(rows_fit, DESCRIPTOR),
     );
-    told(applets_fault(records, info, applets), fault)
+    told(applets_fault(interfaces, info, index, applets), fault)
 }
 
 /// The fault of the test with the constant pool.
@@ -122,18 +133,19 @@ fn pool_fault(pool: &Result<ConstantPool, LoadFault>, info: &DescriptorInfo) -> 
 /// The fault of all tests across components, where the layout of the Descriptor component is used up.
 pub(crate) fn across_fault(
     layout: &Result<DescriptorInfo, LoadFault>,
-    records: &Option<Records>,
+    index: &TypeIndex,
+    records: &Result<Records, LoadFault>,
     pool: &Result<ConstantPool, LoadFault>,
     applets: &Result<Option<Applets>, LoadFault>,
     methods: &Result<MethodInfo, LoadFault>,
 ) -> Option<LoadFault>
-    ensures { result ≡ across_fault (result_ok layout.now) records.now (result_ok pool.now) (result_ok applets.now)
-        (result_ok methods.now) }
+    ensures { IsIndexOf index.now layout.now → result ≡ across_fault (result_ok layout.now) (result_ok records.now)
+        (result_ok pool.now) (result_ok applets.now) (result_ok methods.now) }
 {
     match layout {
         Ok(info) => told(
             pool_fault(pool, info),
-            classes_fault(records, info, applets, methods),
+            classes_fault(records, info, index, applets, methods),
         ),
         Err(_) => None,
     }

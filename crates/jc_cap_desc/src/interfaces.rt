@@ -1,12 +1,12 @@
 //! Which class rows are interfaces'.
 
-ghost use Rattle.std.specs.Prelude.{◌≡◌, ◌<◌, ℕ, List, not};
-ghost use Rattle.jc_base.specs.NumberSet.{has_number};
+ghost use Rattle.std.specs.Prelude.{◌≡◌, List, not};
 ghost use Rattle.jc_base.specs.declared.placed_rows.Placed.{Placed};
 ghost use Rattle.jc_cap_class.specs.Component.{is_class};
 ghost use Rattle.jc_cap_class.specs.declared.record.Record.{Record};
 ghost use Rattle.jc_cap_desc.specs.Across.{is_interface_row};
-ghost use Rattle.jc_cap_desc.specs.PrivateInterfaceRows.{begins_interface, HoldsInterfaces};
+ghost use Rattle.jc_cap_desc.specs.PrivateInterfaceRows.{HoldsInterfaces};
+ghost use Rattle.jc_cap_desc.specs.PrivateRecordRows.{HoldsRecords};
 
 use crate::class_row::ClassRow;
 use crate::offsets::{mark, put};
@@ -23,23 +23,33 @@ pub(crate) fn is_interface(body: &RecordBody) -> bool
     }
 }
 
-/// The offsets at which interfaces' records begin.
-pub(crate) fn interface_offsets(records: &Records) -> NumberSet
-    ensures { (n : ℕ) → n < 65536 → has_number result n ≡ begins_interface records.now n }
+/// The offsets at which records begin.
+#[derive(Drop)]
+pub(crate) struct RecordOffsets {
+    /// Those of all.
+    pub(crate) starts: NumberSet,
+    /// Those of interfaces' records.
+    pub(crate) interfaces: NumberSet,
+}
+
+/// The offsets at which records begin, in one pass over them.
+pub(crate) fn record_offsets(records: &Records) -> RecordOffsets
+    ensures starts { HoldsRecords result.starts records.now }
+    ensures interfaces { HoldsInterfaces result.interfaces records.now }
 {
-    let mut seen = NumberSet::empty();
+    let mut starts = NumberSet::empty();
     let mut interfaces = NumberSet::empty();
     let mut left = records.again();
     while let Some(placed) = left.next() {
         mark(
-            &seen,
+            &starts,
             &mut interfaces,
             placed.offset,
             is_interface(&placed.row.body),
         );
-        put(&mut seen, placed.offset);
+        put(&mut starts, placed.offset);
     }
-    interfaces
+    RecordOffsets { starts, interfaces }
 }
 
 /// Whether a row is an interface's: its record is one.

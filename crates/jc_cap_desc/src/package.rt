@@ -2,19 +2,23 @@
 
 ghost use Rattle.std.specs.Prelude.{◌≡◌, ◌<◌, ◌≤◌, ◌^◌, IfOk, length, slice_get};
 ghost use Rattle.std.specs.Option.{option_and_then};
-ghost use Rattle.jc_cap_desc.specs.Package.{layout_in, package_fault, package_of};
+ghost use Rattle.jc_cap_desc.specs.Package.{package_fault, package_of};
 ghost use Rattle.jc_cap_desc.specs.Shape.{StandApart, HaveBodies, HaveHeaders, InstallMethods};
 ghost use Rattle.jc_cap_desc.specs.Whole.{HasWholeOf};
-ghost use Rattle.jc_cap_desc.specs.PrivatePackage.{records_in, components_in, class_fault_in, component_fault_in};
-ghost use Rattle.jc_cap_desc.specs.PrivatePackage.{HasFewRows, HasFewRecords, HasFewImports, HasTypes, joined};
+ghost use Rattle.jc_cap_desc.specs.PrivatePackage.{records_in, components_in, records_fault, class_fault_in};
+ghost use Rattle.jc_cap_desc.specs.PrivatePackage.{descriptor_fault, component_fault_in, package_fault_in};
+ghost use Rattle.jc_cap_desc.specs.PrivatePackage.{HasFewRows, HasFewRecords, HasFewImports, HasTypes, HasEachRow};
+ghost use Rattle.jc_cap_desc.specs.PrivatePackage.{IsIndexOf, joined};
 
 use crate::bodies::MethodBodies;
 use crate::classes::Classes;
-use crate::component::{DescriptorInfo, descriptor_layout, read_descriptor};
-use crate::faults::{across_fault, fault_of, told};
-use crate::types::NO_TYPE;
+use crate::component::{DescriptorInfo, descriptor_layout};
+use crate::faults::{across_fault, fault_of, told, unless};
+use crate::type_index::TypeIndex;
+use crate::types::{NO_TYPE, types_are_there};
+use jc_base::tag::{CLASS, DESCRIPTOR};
 use jc_base::{LoadFault, PackageInfo, Parts};
-use jc_cap_class::{Records, class_layout, read_class};
+use jc_cap_class::{Records, class_layout, none_remote};
 use jc_cap_data::{
     Applets, Exports, Imports, StaticFields, read_applets, read_exports, read_imports,
     read_static_fields,
@@ -41,6 +45,7 @@ pub struct Package<'a> {
 impl<'a> Model for Package<'a> {
     ghost use Rattle.std.specs.Prelude.{◌≡◌, ◌≤◌, length, true};
     ghost use Rattle.jc_cap_desc.specs.Shape.{Package as PackageRecord, shape_of, body_of};
+    ghost use Rattle.jc_cap_desc.specs.PrivateRecordRows.{each_has_row};
     ghost use Rattle.jc_cap_desc.specs.Types.{classes_are_typed};
 
     ghost Value = { PackageRecord };
@@ -51,7 +56,8 @@ impl<'a> Model for Package<'a> {
     } };
 
     ghost invariant = { λ p. (length p.records ≤ 255) × (length p.imports ≤ 255)
-        × (classes_are_typed p.descriptor.types p.descriptor.classes ≡ true) };
+        × (classes_are_typed p.descriptor.types p.descriptor.classes ≡ true)
+        × (each_has_row p.records p.descriptor.classes ≡ true) };
 }
 
 impl<'a> Package<'a> {
@@ -104,6 +110,7 @@ impl<'a> Package<'a> {
             info: &self.descriptor,
             bodies: &self.methods,
             left: self.records.again(),
+            ahead: self.descriptor.classes.again(),
         }
     }
 
@@ -144,7 +151,7 @@ impl<'a> Package<'a> {
     }
 }
 
-/// Each component as it is read alone.
+/// Each component as it is read alone: of the Class and the Descriptor component what their layouts give.
 #[derive(Drop)]
 struct Components<'a> {
     header: Result<Header<'a>, LoadFault>,
@@ -158,7 +165,7 @@ struct Components<'a> {
     descriptor: Result<DescriptorInfo<'a>, LoadFault>,
 }
 
-/// The records of the Class component, which is of the Header's format.
+/// The records as the layout of the Class component has them, remote ones too. It is of the Header's format.
 fn read_records<'a>(
     parts: &Parts<'a>,
     header: &Result<Header, LoadFault>,
@@ -166,17 +173,16 @@ fn read_records<'a>(
     ensures { result ≡ records_in header.now parts.now.class }
 {
     match header {
-        Ok(header) => read_class(parts, header.format()),
+        Ok(header) => class_layout(parts, header.format()),
         Err(fault) => Err(*fault),
     }
 }
 
-/// Reads each component alone.
+/// Reads each component alone, each once.
 fn read_components<'a>(parts: &Parts<'a>) -> Components<'a>
     ensures read { result ≡ components_in parts.now }
     ensures few { HasFewRows result }
     ensures imports { HasFewImports result }
-    ensures typed { HasTypes result }
     ensures short { length parts.now.method < 2 ^ 16 }
 {
     let header = read_header(parts);
@@ -190,17 +196,17 @@ fn read_components<'a>(parts: &Parts<'a>) -> Components<'a>
         methods: read_method(parts),
         statics: read_static_fields(parts),
         exports: read_exports(parts),
-        descriptor: read_descriptor(parts),
+        descriptor: descriptor_layout(parts),
     }
 }
 
-/// The records as the layout of the Class component has them, remote ones too.
-fn layout_in<'a>(parts: &Parts<'a>, header: &Result<Header, LoadFault>) -> Option<Records<'a>>
-    ensures { result ≡ layout_in header.now parts.now.class }
+/// The fault of records: of their layout, or of the test that none is remote.
+fn records_fault(records: &Result<Records, LoadFault>) -> Option<LoadFault>
+    ensures { result ≡ records_fault records.now }
 {
-    match header {
-        Ok(header) => class_layout(parts, header.format()).ok(),
-        Err(_) => None,
+    match records {
+        Ok(records) => unless(none_remote(records), CLASS),
+        Err(fault) => Some(*fault),
     }
 }
 
@@ -209,16 +215,39 @@ fn class_fault(found: &Components) -> Option<LoadFault>
     ensures { result ≡ class_fault_in found.now.header found.now.records }
 {
     match &found.header {
-        Ok(_) => fault_of(&found.records),
+        Ok(_) => records_fault(&found.records),
         Err(_) => None,
     }
 }
 
-/// The fault of one component that is told.
-fn component_fault(found: &Components) -> Option<LoadFault>
-    ensures { result ≡ component_fault_in found.now }
+/// The index of the type descriptors, where the layout of the Descriptor component was read.
+fn index_of(descriptor: &Result<DescriptorInfo, LoadFault>) -> TypeIndex
+    ensures { IsIndexOf result descriptor.now }
 {
-    let fault = fault_of(&found.descriptor);
+    match descriptor {
+        Ok(info) => TypeIndex::of(&info.types),
+        Err(_) => TypeIndex::empty(),
+    }
+}
+
+/// The fault of the Descriptor component: of its layout, or of the test that all types are there.
+fn descriptor_fault(
+    descriptor: &Result<DescriptorInfo, LoadFault>,
+    index: &TypeIndex,
+) -> Option<LoadFault>
+    ensures { IsIndexOf index.now descriptor.now → result ≡ descriptor_fault descriptor.now }
+{
+    match descriptor {
+        Ok(info) => unless(types_are_there(info, index), DESCRIPTOR),
+        Err(fault) => Some(*fault),
+    }
+}
+
+/// The fault of one component that is told.
+fn component_fault(found: &Components, index: &TypeIndex) -> Option<LoadFault>
+    ensures { IsIndexOf index.now found.now.descriptor → result ≡ component_fault_in found.now }
+{
+    let fault = descriptor_fault(&found.descriptor, index);
     let fault = told(fault_of(&found.exports), fault);
     let fault = told(fault_of(&found.statics), fault);
     let fault = told(fault_of(&found.methods), fault);
@@ -230,19 +259,19 @@ fn component_fault(found: &Components) -> Option<LoadFault>
 }
 
 /// The fault that is told.
-fn package_fault(parts: &Parts, found: &Components) -> Option<LoadFault>
-    ensures { found.now ≡ components_in parts.now → result ≡ package_fault parts.now }
+fn package_fault(found: &Components) -> Option<LoadFault>
+    ensures { result ≡ package_fault_in found.now }
 {
-    let layout = descriptor_layout(parts);
-    let records = layout_in(parts, &found.header);
+    let index = index_of(&found.descriptor);
     let fault = across_fault(
-        &layout,
-        &records,
+        &found.descriptor,
+        &index,
+        &found.records,
         &found.pool,
         &found.applets,
         &found.methods,
     );
-    told(component_fault(found), fault)
+    told(component_fault(found, &index), fault)
 }
 
 /// The package, where all components were read.
@@ -251,6 +280,7 @@ fn joined<'a>(found: Components<'a>) -> Result<Package<'a>, LoadFault>
     requires records { HasFewRecords found }
     requires imports { HasFewImports found }
     requires typed { HasTypes found }
+    requires rows { HasEachRow found }
     ensures { result ≡ joined found.entry }
 {
     Ok(Package {
@@ -267,13 +297,12 @@ fn joined<'a>(found: Components<'a>) -> Result<Package<'a>, LoadFault>
 }
 
 /// The package that an image has, or its refusal.
-#[tactic(auto, using(crate::proofs::Joined::joined_is, crate::proofs::Few::few_in))]
 fn package_in<'a>(parts: &Parts<'a>) -> Result<Package<'a>, LoadFault>
     ensures package { result ≡ package_of parts.now }
     ensures short { length parts.now.method < 2 ^ 16 }
 {
     let found = read_components(parts);
-    match package_fault(parts, &found) {
+    match package_fault(&found) {
         Some(fault) => Err(fault),
         None => joined(found),
     }
@@ -281,7 +310,6 @@ fn package_in<'a>(parts: &Parts<'a>) -> Result<Package<'a>, LoadFault>
 
 /// Reads a whole package of an image: all components, and then what they say of one another. Of several refusals the
 /// one with the smallest number is told, and of `Malformed` the one with the least tag.
-#[tactic(auto, using(crate::proofs::ReadLaws::read_laws))]
 pub fn read_package<'a>(parts: &Parts<'a>) -> Result<Package<'a>, LoadFault>
     ensures package { result ≡ package_of parts.now }
     ensures apart { IfOk result (λ p. StandApart p.body.methods) }

@@ -1,13 +1,12 @@
 //! Where the headers, codes and handlers of methods stand, and how they are described.
 
-ghost use Rattle.std.specs.Prelude.{◌≡◌, ◌+◌, List};
+ghost use Rattle.std.specs.Prelude.{◌≡◌, ◌+◌, ◌&&◌, List};
 ghost use Rattle.std.specs.List.{list_all};
 ghost use Rattle.jc_base.specs.declared.placed_rows.Placed.{Placed};
 ghost use Rattle.jc_cap_class.specs.declared.record.Record.{Record};
-ghost use Rattle.jc_cap_desc.specs.Across.{class_methods, has_code, stays_inside, handlers_stay_inside, stands_inside};
-ghost use Rattle.jc_cap_desc.specs.Across.{is_described};
+ghost use Rattle.jc_cap_desc.specs.Across.{class_methods, has_code, stays_inside, stands_inside, is_described};
 ghost use Rattle.jc_cap_desc.specs.PrivateInterfaceRows.{HoldsInterfaces};
-ghost use Rattle.jc_cap_desc.specs.PrivateMethods.{code_is_described};
+ghost use Rattle.jc_cap_desc.specs.PrivateMethods.{code_is_described, handlers_are_inside, is_inside, IsStandingOf};
 
 use crate::class_row::{ClassRows, MethodRow, MethodRows};
 use crate::interfaces::is_interface_row;
@@ -47,111 +46,97 @@ fn all_stay_inside(first: usize, count: usize, handlers: &Handlers) -> bool
 }
 
 /// Whether the handlers that a method names, where the table has them, stay inside its code.
-fn handlers_stay_inside(methods: &MethodInfo, row: &MethodRow, found: &Method) -> bool
-    ensures { result ≡ handlers_stay_inside methods.now row.now found.now }
+fn handlers_are_inside(row: &MethodRow, found: &Method, handlers: &Option<Handlers>) -> bool
+    ensures { result ≡ handlers_are_inside row.now found.now handlers.now }
 {
-    match methods.handlers(row.handler_index, row.handler_count) {
+    match handlers {
         Some(handlers) => all_stay_inside(
             found.code_offset(),
             usize::from(row.bytecode_count),
-            &handlers,
+            handlers,
         ),
         None => true,
     }
 }
 
 /// Whether header, code and handlers of a class's method stand where they may.
-fn stands_inside(methods: &MethodInfo, row: &MethodRow) -> bool
-    ensures { result ≡ stands_inside methods.now row.now }
+fn is_inside(row: &MethodRow, found: &Option<Method>, handlers: &Option<Handlers>) -> bool
+    ensures { result ≡ is_inside row.now found.now handlers.now }
 {
-    match methods.method_at(row.offset) {
+    match found {
         Some(found) => {
             usize::from(row.bytecode_count) <= found.code().len()
-                && handlers_stay_inside(methods, row, &found)
+                && handlers_are_inside(row, found, handlers)
         }
         None => false,
     }
 }
 
-/// Whether all methods of a class stand where they may.
-fn all_stand_inside(methods: &MethodInfo, rows: &MethodRows) -> bool
-    ensures { result ≡ list_all (stands_inside methods.now) rows.now }
-{
-    let mut left = rows.again();
-    while let Some(row) = left.next() {
-        if !stands_inside(methods, &row) {
-            return false;
-        }
-    }
-    true
-}
-
-/// Whether header, code and handlers of each method of a class stand where they may.
-pub(crate) fn methods_stand_inside(
-    interfaces: &NumberSet,
-    rows: &ClassRows,
-    methods: &MethodInfo,
-) -> bool
-    ensures { (records : List (Placed Record)) → HoldsInterfaces interfaces.now records
-        → result ≡ list_all (stands_inside methods.now) (class_methods records rows.now) }
-{
-    let mut left = rows.again();
-    while let Some(row) = left.next() {
-        if !is_interface_row(interfaces, &row) && !all_stand_inside(methods, &row.methods) {
-            return false;
-        }
-    }
-    true
-}
-
 /// Whether an abstract method has no code, and another has.
-fn code_is_described(methods: &MethodInfo, row: &MethodRow) -> bool
-    ensures { result ≡ code_is_described methods.now row.now }
+fn code_is_described(row: &MethodRow, found: &Option<Method>) -> bool
+    ensures { result ≡ code_is_described row.now found.now }
 {
-    match methods.method_at(row.offset) {
+    match found {
         Some(found) => found.header().is_abstract != has_code(row),
         None => true,
     }
 }
 
-/// Whether an abstract method has no code and another has, and the table has the handlers that it names.
-fn is_described(methods: &MethodInfo, row: &MethodRow) -> bool
-    ensures { result ≡ is_described methods.now row.now }
-{
-    code_is_described(methods, row)
-        && methods
-            .handlers(row.handler_index, row.handler_count)
-            .is_some()
+/// What the tests say of methods that were looked at.
+#[derive(Clone, Copy)]
+pub(crate) struct Standing {
+    /// Header, code and handlers of each stand where they may.
+    pub(crate) inside: bool,
+    /// Each has no code where it is abstract and some where it isn't, and the table has the handlers that it names.
+    pub(crate) described: bool,
 }
 
-/// Whether all methods of a class are as they are described.
-fn all_are_described(methods: &MethodInfo, rows: &MethodRows) -> bool
-    ensures { result ≡ list_all (is_described methods.now) rows.now }
+/// What the tests say with one method more, whose header and handlers are looked up once. A test that failed before
+/// isn't made again.
+fn with_method(before: Standing, methods: &MethodInfo, row: &MethodRow) -> Standing
+    ensures inside { result.inside ≡ (before.inside && stands_inside methods.now row.now) }
+    ensures described { result.described ≡ (before.described && is_described methods.now row.now) }
 {
+    let found = methods.method_at(row.offset);
+    let handlers = methods.handlers(row.handler_index, row.handler_count);
+    Standing {
+        inside: before.inside && is_inside(row, &found, &handlers),
+        described: before.described && code_is_described(row, &found) && handlers.is_some(),
+    }
+}
+
+/// What the tests say with the methods of a class.
+fn with_methods(before: Standing, methods: &MethodInfo, rows: &MethodRows) -> Standing
+    ensures { IsStandingOf before methods.now rows.now result }
+{
+    let mut standing = before;
     let mut left = rows.again();
     while let Some(row) = left.next() {
-        if !is_described(methods, &row) {
-            return false;
-        }
+        standing = with_method(standing, methods, &row);
     }
-    true
+    standing
 }
 
-/// Whether each method of a class has no code where it is abstract, and has some where it isn't, and the table has the
-/// handlers that it names.
-pub(crate) fn methods_are_described(
+/// What the tests say of all methods of classes; an interface's don't count.
+pub(crate) fn methods_standing(
     interfaces: &NumberSet,
     rows: &ClassRows,
     methods: &MethodInfo,
-) -> bool
-    ensures { (records : List (Placed Record)) → HoldsInterfaces interfaces.now records
-        → result ≡ list_all (is_described methods.now) (class_methods records rows.now) }
+) -> Standing
+    ensures inside { (records : List (Placed Record)) → HoldsInterfaces interfaces.now records
+        → result.inside ≡ list_all (stands_inside methods.now) (class_methods records rows.now) }
+    ensures described { (records : List (Placed Record)) → HoldsInterfaces interfaces.now records
+        → result.described ≡ list_all (is_described methods.now) (class_methods records rows.now) }
 {
+    let mut standing = Standing {
+        inside: true,
+        described: true,
+    };
     let mut left = rows.again();
     while let Some(row) = left.next() {
-        if !is_interface_row(interfaces, &row) && !all_are_described(methods, &row.methods) {
-            return false;
+        if !is_interface_row(interfaces, &row) {
+            standing = with_methods(standing, methods, &row.methods);
         }
     }
-    true
+    standing
 }

@@ -1,6 +1,6 @@
 //! An index of type descriptors.
 
-ghost use Rattle.std.specs.Prelude.{◌≡◌, ◌∷◌};
+ghost use Rattle.std.specs.Prelude.{◌≡◌, ◌∷◌, []};
 ghost use Rattle.jc_cap_desc.specs.Across.{is_install_signature};
 ghost use Rattle.jc_cap_desc.specs.PrivateTypes.{IndexedSoFar, IndexesTypes, PlacedTypes};
 
@@ -44,15 +44,22 @@ fn is_install_signature(descriptor: &Descriptor) -> bool
 }
 
 impl TypeIndex {
+    /// The index of no descriptors.
+    pub(crate) fn empty() -> TypeIndex
+        ensures { IndexesTypes result [] }
+    {
+        TypeIndex {
+            starts: NumberSet::empty(),
+            fields: NumberSet::empty(),
+            installs: NumberSet::empty(),
+        }
+    }
+
     /// The index of descriptors, in one pass over them.
     pub(crate) fn of(types: &TypeDescriptors) -> TypeIndex
         ensures { IndexesTypes result types.now }
     {
-        let mut index = TypeIndex {
-            starts: NumberSet::empty(),
-            fields: NumberSet::empty(),
-            installs: NumberSet::empty(),
-        };
+        let mut index = TypeIndex::empty();
         let mut left = types.rows();
         while let Some(placed) = left.next() {
             index.add(&placed);

@@ -100,9 +100,8 @@ fn pool_is_typed(index: &TypeIndex, offsets: &U2s) -> bool
 }
 
 /// Whether all types that are named are there.
-pub(crate) fn types_are_there(info: &DescriptorInfo) -> bool
-    ensures { result ≡ types_are_there info.now }
+pub(crate) fn types_are_there(info: &DescriptorInfo, index: &TypeIndex) -> bool
+    ensures { IndexesTypes index.now info.now.types → result ≡ types_are_there info.now }
 {
-    let index = TypeIndex::of(&info.types);
-    pool_is_typed(&index, &info.pool_types) && classes_are_typed(&index, &info.classes)
+    pool_is_typed(index, &info.pool_types) && classes_are_typed(index, &info.classes)
 }

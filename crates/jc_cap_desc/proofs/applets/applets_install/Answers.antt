@@ -3,6 +3,8 @@ use Rattle.jc_cap_desc.proofs.Installing.{same_all}
 use Rattle.jc_cap_desc.proofs.applets.applets_install.Goals as goal
 
 pub returns : goal.returns
-returns c =
+returns c records types holds is =
     c.are_within.ensures
-    ∙ same_all _ _ (λ a. c.install_offsets-installers.ensures c.args.records.now c.args.types.now c.interface_offsets-interfaces.ensures c.of-index.ensures a.install) c.args.applets.now
+    ∙ same_all _ _
+    (λ a. c.install_offsets-installers.ensures records types holds is a.install)
+    c.args.applets.now

@@ -1,7 +1,7 @@
 use Rattle.std.proofs.Common.{◌≡◌, length}
 use Rattle.std.specs.List.{find}
 use Rattle.jc_cap_desc.specs.Across.{is_row_of}
-use Rattle.jc_cap_desc.proofs.classes.row_of.Given as goal
+use Rattle.jc_cap_desc.proofs.classes.row_among.Given as goal
 
 -- what is left says the same of all
 abbrev pub invariant-loop-row : goal.invariant-loop-row

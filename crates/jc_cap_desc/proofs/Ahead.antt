@@ -1,0 +1,80 @@
+-- The row that is ahead: where it is of a record that has one row, it is the one that is found.
+use Rattle.std.proofs.Common.{◌≡◌, ℕ, zero, suc, ◌==◌, Bool, true, false, cond, List, [], ◌∷◌, Option, Some}
+use Rattle.std.proofs.Common.{None, IfNone, IfSome, refl, sym, ap, ◌∙◌, arith, slice_get}
+use Rattle.std.proofs.lemmas.Bool.{eqb-true}
+use Rattle.std.specs.List.{cons_option, filter_map, find}
+use Rattle.jc_base.proofs.Binding.{both_true, none_some, the_some}
+use Rattle.jc_base.specs.declared.placed_rows.Placed.{Placed}
+use Rattle.jc_cap_class.specs.declared.record.Record.{Record}
+use Rattle.jc_cap_desc.specs.Across.{count_rows, is_row_of}
+use Rattle.jc_cap_desc.specs.PrivateRecordRows.{AreAmong, IsAmong, each_has_row}
+use Rattle.jc_cap_desc.specs.declared.class_row.ClassRow.{ClassRow}
+
+abbrev one : Bool → ℕ
+one b = cond b 1 0
+
+-- a row of a record among rows is counted
+counted : (offset : ℕ) (rows : List ClassRow) (row : ClassRow) (n : ℕ) → slice_get rows n ≡ Some row
+    → is_row_of offset row ≡ true → count_rows offset rows ≡ 0 → ⊥
+counted offset [] row n at is none = none_some row at
+counted offset (first ∷ rows) row zero at is none =
+    let here : one (is_row_of offset first) ≡ 1
+    = ap (λ (r : ClassRow). one (is_row_of offset r)) (the_some first row at) ∙ ap one is in
+    absurd (omega (arith, here, none))
+counted offset (first ∷ rows) row (suc n) at is none =
+    counted offset rows row n at is (omega (arith, none))
+
+found : (offset : ℕ) (rows : List ClassRow) (row : ClassRow) (n : ℕ) → slice_get rows n ≡ Some row
+    → is_row_of offset row ≡ true → count_rows offset rows ≡ 1 → find (is_row_of offset) rows ≡ Some row
+found offset [] row n at is single = at
+found offset (first ∷ rows) row n at is single = by_place n (λ m at. found offset rows row m at is) at
+  where
+    by_test : (b : Bool) → is_row_of offset first ≡ b → (m : ℕ) → slice_get rows m ≡ Some row
+        → (count_rows offset rows ≡ 1 → find (is_row_of offset) rows ≡ Some row)
+        → cond b (Some first) (find (is_row_of offset) rows) ≡ Some row
+    by_test true first_is m at rest =
+        let here = ap one first_is in
+        absurd (counted offset rows row m at is (omega (arith, here, single)))
+    by_test false first_is m at rest = let here = ap one first_is in rest (omega (arith, here, single))
+
+    by_place : (n : ℕ)
+        → ((m : ℕ) → slice_get rows m ≡ Some row → count_rows offset rows ≡ 1 → find (is_row_of offset) rows ≡ Some row)
+        → slice_get (first ∷ rows) n ≡ Some row
+        → cond (is_row_of offset first) (Some first) (find (is_row_of offset) rows) ≡ Some row
+    by_place zero rest at =
+        let same = the_some first row at in
+        ap (λ b. cond b (Some first) (find (is_row_of offset) rows))
+        (ap (λ (r : ClassRow). is_row_of offset r) same ∙ is) ∙ ap Some same
+    by_place (suc m) rest at = by_test (is_row_of offset first) refl m at (rest m at)
+
+pub only_row : (offset : ℕ) (rows : List ClassRow) (row : ClassRow) → IsAmong row rows
+    → is_row_of offset row ≡ true → count_rows offset rows == 1 ≡ true → find (is_row_of offset) rows ≡ Some row
+only_row offset rows row among is single =
+    found offset rows row among.0 among.1 is (eqb-true (count_rows offset rows) 1 single)
+
+-- the row that is taken from those that are ahead
+pub first_ahead : (ahead then rows : List ClassRow) (taken : Option ClassRow) → AreAmong ahead rows
+    → IfSome taken (λ row. ahead ≡ row ∷ then) → IfSome taken (λ row. IsAmong row rows)
+first_ahead ahead then rows (Some row) among front = among 0 row (ap (λ l. slice_get l 0) front)
+first_ahead ahead then rows None among front = tt
+
+-- and those behind it
+pub more_ahead : (ahead then rows : List ClassRow) (taken : Option ClassRow) → AreAmong ahead rows
+    → IfSome taken (λ row. ahead ≡ row ∷ then) → IfNone taken ((ahead ≡ []) × (then ≡ [])) → AreAmong then rows
+more_ahead ahead then rows (Some row) among front none n other at =
+    among (suc n) other (ap (λ l. slice_get l (suc n)) front ∙ at)
+more_ahead ahead then rows None among some none n other at =
+    absurd (none_some other (ap (λ l. slice_get l n) (sym none.1) ∙ at))
+
+-- the records behind the first have their rows too
+pub more_rows : (left then : List (Placed Record)) (rows : List ClassRow) (p : Placed Record) → left ≡ p ∷ then
+    → each_has_row left rows ≡ true → each_has_row then rows ≡ true
+more_rows left then rows p front each =
+    (both_true (count_rows p.offset rows == 1) (each_has_row then rows)
+    (ap (λ l. each_has_row l rows) (sym front) ∙ each)).1
+
+-- an element that gives nothing is passed over
+pub passed_over : {A B : Type 0} (f : A → Option B) (all : List B) (left then : List A) (x : A) (given : Option B)
+    → all ≡ filter_map f left → left ≡ x ∷ then → given ≡ f x → given ≡ None → all ≡ filter_map f then
+passed_over f all left then x given is front gives none =
+    is ∙ ap (filter_map f) front ∙ ap (λ o. cons_option o (filter_map f then)) (sym gives ∙ none)

@@ -11,15 +11,17 @@ use jc_loaded::Program;
 use std::alloc::{AllocError, Global};
 
 /// Puts a package behind those of a world, and its static fields and arrays into the machine over it, if there is room
-/// for these: the tables of the world with it. Where no memory is left both are as they were.
+/// for these: the tables of the world with it, made from those of the world before. Where no memory is left both are as they were.
 pub(crate) fn grow(
     alloc: Global,
     world: &mut World,
+    program: &Program,
     machine: &mut WordMachine,
     linked: Linked,
     number: u8,
 ) -> Result<Program, AllocError>
     requires bound { IsBoundTo world.old linked }
+    requires tables { IsProgramOf world.old program.now }
     requires room { length world.old.shapes < most_in_world }
     ensures world { IfOk result (λ program. world.new ≡ with_linked world.old linked) }
     ensures program { IfOk result (λ program. IsProgramOf world.new program) }
@@ -32,7 +34,7 @@ pub(crate) fn grow(
     world.table();
     let before = world.add_for_now(linked)?;
     let last = world.bodies().len() - 1;
-    match Program::new(alloc, world) {
+    match program.grown(alloc, world) {
         Ok(program) => match machine.load(number, &world.bodies()[last], words) {
             Ok(()) => Ok(program),
             Err(error) => {

@@ -49,7 +49,14 @@ impl Card {
         loads_stay_in_agreement(&self.runtime);
         is_word(self.most_objects);
         let number = self.world.bodies().len() as u8 + 1;
-        self.program = grow(alloc, &mut self.world, &mut self.machine, linked, number)?;
+        self.program = grow(
+            alloc,
+            &mut self.world,
+            &self.program,
+            &mut self.machine,
+            linked,
+            number,
+        )?;
         Ok(number)
     }
 

@@ -410,11 +410,11 @@ pub table_right : (world : List Shape) (c : ClassName) (k : ClassShape) (r : Cla
 table_right world c k r above table home depth e body at up one few over =
     made_right world c k above table at up (over.deep ∙ one) (omega (arith, over.deep, few))
     (λ token asker less. entries_over world home r above table depth over token asker less
-        ∙ ap (λ home. entry_made world above home (Class r) token asker) e
-        ∙ ap (λ body. entry_made world above (home_of c) body token asker) (sym body))
+    ∙ ap (λ home. entry_made world above home (Class r) token asker) e
+    ∙ ap (λ body. entry_made world above (home_of c) body token asker) (sym body))
     (λ interface.
-        ap (λ (l : List Listed). indexes_in l interface) over.listing
-        ∙ listed_right world home r.interfaces (listed_above above) interface
-        ∙ ap (λ home. found_from (listing_visit world interface home (Class r)) (indexes_in (listed_above above) interface)) e
-        ∙ ap (λ body. found_from (listing_visit world interface (home_of c) body) (indexes_in (listed_above above) interface)) (sym body))
+    ap (λ (l : List Listed). indexes_in l interface) over.listing
+    ∙ listed_right world home r.interfaces (listed_above above) interface
+    ∙ ap (λ home. found_from (listing_visit world interface home (Class r)) (indexes_in (listed_above above) interface)) e
+    ∙ ap (λ body. found_from (listing_visit world interface (home_of c) body) (indexes_in (listed_above above) interface)) (sym body))
     (over.any ∙ ap (λ body. lists_any (interface_rows body) (lists_above above)) (sym body))

@@ -1,9 +1,9 @@
 -- What a class is below, from what stands right above it.
 use Rattle.std.proofs.Common.{◌≡◌, ◌⊎◌, inl, inr, ℕ, zero, suc, ◌+◌, ◌-◌, ◌<◌, ◌≤◌, ◌==◌, ◌&&◌, ◌||◌, Bool}
-use Rattle.std.proofs.Common.{true, false, cond}
+use Rattle.std.proofs.Common.{true, false, cond, nat_lt}
 use Rattle.std.proofs.Common.{List, [], ◌∷◌, ◌++◌, length, map, drop, Option, Some, None, slice_get, unwrap_or}
 use Rattle.std.proofs.Common.{refl, sym, ap, subst, ◌∙◌, arith, length-append}
-use Rattle.std.proofs.lemmas.Bool.{cases_lt, eq-eqb, eqb-true, ne_eqb}
+use Rattle.std.proofs.lemmas.Bool.{cases_lt, eq-eqb, eqb-true, lt-ltb, ltb-true, ne_eqb}
 use Rattle.std.proofs.lemmas.Iterator.Adapters.{position_from-zero}
 use Rattle.std.proofs.lemmas.List.{append-nil, append_assoc, length-map, map-append}
 use Rattle.std.proofs.lemmas.Option.{same_Some, slice_get_within}
@@ -25,7 +25,7 @@ use Rattle.jc_names.specs.declared.name.ClassName.TheVariants.{Api}
 use Rattle.jc_loaded.specs.Classes.{class_number}
 use Rattle.jc_loaded.specs.BitRow.{has_bit}
 use Rattle.jc_loaded.specs.PrivateBitRows.{AreSettled, IsRightAbove, has_number}
-use Rattle.jc_loaded.specs.PrivateSupertypes.{AreAbove, AreBegun, AreNumbersOf, AreRight, HasObjects, IsPut}
+use Rattle.jc_loaded.specs.PrivateSupertypes.{AreAbove, AreBegun, AreNumbersOf, AreRight, AreWithin, HasObjects, IsPut}
 use Rattle.jc_loaded.specs.PrivateSupertypes.{itself_and_above}
 use Rattle.jc_loaded.specs.Supertypes.{AreSupertypes, is_listed}
 use Rattle.jc_loaded.proofs.Calling.{get_before, get_last}
@@ -197,21 +197,25 @@ objects_more names at name old new so_far here bits = record {
         ∙ ap (λ b. is_same_name (Api Object) name && b) (eq-eqb m at same)
         ∙ all_of (is_same_name (Api Object) name) ∙ ap (is_same_name (Api Object)) one
 
-pub objects_all : (names : List ClassName) (row : List ℕ) (m : ℕ) (d : ClassName) → HasObjects names (length names) row
-    → slice_get names m ≡ Some d → has_bit row m ≡ is_same_name (Api Object) d
-objects_all names row m d all there = all.before m d (slice_get_within names m d there) there
-
 pub begun_first : (names : List ClassName) (first : ℕ) (objects : List ℕ) (rows : List (List ℕ))
-    → first + length rows ≡ length names
-    → ((m : ℕ) (d : ClassName) → slice_get names m ≡ Some d → has_bit objects m ≡ is_same_name (Api Object) d)
+    → first + length rows ≡ length names → HasObjects names (length names) objects
     → ((k m : ℕ) → k < length rows → is_listed rows k m ≡ has_bit objects m) → AreBegun names first first rows
 begun_first names first objects rows count objects_are rows_are = record {
   count = count;
-  object = λ k m d less at is. rows_are k m less ∙ objects_are m d at ∙ is;
+  object = λ k m d less at is. rows_are k m less ∙ object_is m d at ∙ is;
   own = λ k m d less at number. let l = number_first names d (first + k) m at number in absurd (omega (arith, l, less));
   only = λ k m d listed at.
-      inl (sym (objects_are m d at) ∙ sym (rows_are k m (listed_within rows k m listed)) ∙ listed);
+      inl (sym (object_is m d at) ∙ sym (rows_are k m (listed_within rows k m listed)) ∙ listed);
+  within = λ k m listed. by_order k m listed (cases_lt m (length names));
 }
+  where
+    object_is : (m : ℕ) (d : ClassName) → slice_get names m ≡ Some d → has_bit objects m ≡ is_same_name (Api Object) d
+    object_is m d at = objects_are.before m d (slice_get_within names m d at) at
+
+    by_order : (k m : ℕ) → is_listed rows k m ≡ true → (m < length names) ⊎ (length names ≤ m) → m < length names
+    by_order k m listed (inl less) = less
+    by_order k m listed (inr past) =
+        true_false (sym listed ∙ rows_are k m (listed_within rows k m listed) ∙ objects_are.behind m past)
 
 module _ (names : List ClassName) (first at number : ℕ) (name : ClassName) (old new : List (List ℕ))
     (begun : AreBegun names first at old) (here : slice_get names at ≡ Some name)
@@ -260,6 +264,19 @@ module _ (names : List ClassName) (first at number : ℕ) (name : ClassName) (ol
           let one : d ≡ name = same_Some d name (sym there ∙ ap (slice_get names) same ∙ here) in
           inr (ap (class_number names) one ∙ is ∙ ap Some (sym place))
 
+  within_more : AreWithin (length names) new
+  within_more k m e =
+      by_bit (either_way (is_listed old k m) (first + k == number && m == at) (sym (put.bits k m within) ∙ e))
+    where
+      within : k < length old
+      within = let l = listed_within new k m e in let n = put.count in omega (arith, l, n)
+
+      by_bit : (is_listed old k m ≡ true) ⊎ ((first + k == number && m == at) ≡ true) → m < length names
+      by_bit (inl t) = begun.within k m t
+      by_bit (inr t) =
+          let same = eqb-true m at (right_true (first + k == number) (m == at) t) in
+          let l = slice_get_within names at name here in omega (arith, l, same)
+
   pub begun_more : AreBegun names first (at + 1) new
   begun_more = record {
     count = let n = begun.count in let m = put.count in omega (arith, n, m);
@@ -269,6 +286,7 @@ module _ (names : List ClassName) (first at number : ℕ) (name : ClassName) (ol
         put_kept k m l (begun.object k m d l there e);
     own = own_more;
     only = only_more;
+    within = within_more;
   }
 
 -- ---- rows of all
@@ -304,6 +322,20 @@ among_first : (c : ClassName) (o : Option ClassName) (ys : List ClassName) → o
     → IsAmong c (option_to_list o ++ ys)
 among_first c None ys e = absurd cc
 among_first c (Some d) ys e = inl (same_Some d c e)
+
+-- rows that have no number from one on, before and behind what is put into them
+pub all_within : (Above : ℕ → ℕ → Type 0) (count : ℕ) (made begun rows : List (List ℕ)) → AreWithin count made
+    → AreWithin count begun → AreSettled Above (made ++ begun) (made ++ rows) → AreWithin count (made ++ rows)
+all_within Above count made begun rows made_fit begun_fit settled k m listed =
+    ltb-true m count (settled.risen.sound (λ n i. nat_lt i count) (λ n a i above fit. fit) fit_before k m listed)
+  where
+    by_order : (n i : ℕ) → is_listed (made ++ begun) n i ≡ true → (n < length made) ⊎ (length made ≤ n) → i < count
+    by_order n i e (inl less) = made_fit n i (sym (listed_before made begun n i less) ∙ e)
+    by_order n i e (inr past) =
+        begun_fit (n - length made) i (sym (listed_behind made begun n (n - length made) i (omega (arith, past))) ∙ e)
+
+    fit_before : (n i : ℕ) → is_listed (made ++ begun) n i ≡ true → nat_lt i count ≡ true
+    fit_before n i e = lt-ltb i count (by_order n i e (cases_lt n (length made)))
 
 module _ (world : List Shape) (names : List ClassName)
     (found : (c d : ClassName) → is_subtype world c d ≡ true → IsSubtype world c d)

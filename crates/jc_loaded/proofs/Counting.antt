@@ -1,6 +1,6 @@
 -- Each class of a world has a number.
 use Rattle.std.proofs.Common.{◌≡◌, ℕ, zero, suc, ◌+◌, ◌-◌, ◌<◌, ◌==◌, Bool, true, false, cond, List, [], ◌∷◌, ◌++◌}
-use Rattle.std.proofs.Common.{◌&&◌, ◌⊎◌, inl, inr, is_some, length, Option, Some}
+use Rattle.std.proofs.Common.{◌&&◌, ◌⊎◌, ◌≤◌, inl, inr, is_some, length, Option, Some}
 use Rattle.std.proofs.Common.{None, slice_get, nat_lt, refl, sym, ap, subst, ◌∙◌, arith}
 use Rattle.std.proofs.lemmas.Bool.{eq-eqb, eqb-true, le-ltb, lt-ltb}
 use Rattle.std.proofs.lemmas.Iterator.Adapters.{position_from-zero}
@@ -20,7 +20,7 @@ use Rattle.jc_classes.specs.Growth.{grown}
 use Rattle.jc_classes.specs.Members.{name_of}
 use Rattle.jc_classes.specs.World.{class_at, class_in, package_at}
 use Rattle.jc_link.specs.Built.{IsBuilt, api, loaded}
-use Rattle.jc_names.specs.Names.{api_home, api_name, is_same_name, name_in, offset_of}
+use Rattle.jc_names.specs.Names.{api_home, api_name, home_of, is_same_name, name_in, offset_of}
 use Rattle.jc_names.specs.declared.name.ClassName.{ClassName}
 use Rattle.jc_names.specs.declared.name.ClassName.TheVariants.{Api, Loaded}
 use Rattle.jc_loaded.specs.Classes.{HasNumber, HaveNumbers, KeepsNumbers, class_names, class_number, names_from}
@@ -146,6 +146,7 @@ number_back (suc n) a e = told_number numbered_classes 1 n a refl e ∙ omega ar
 -- where the class with a name stands
 record StandsIn (world : List Shape) (home offset : ℕ) (c : ClassName) : Type 0 where
   home_is : package_at world c ≡ slice_get world home
+  home_at : home_of c ≡ home
   offset_is : offset_of c ≡ offset
 
 stands_in : (world : List Shape) (home offset : ℕ) (c : ClassName) → name_in home offset ≡ Some c
@@ -156,6 +157,7 @@ stands_in world home offset c e = by_api (nat_lt home 2) refl e
         → cond b (Some (Api a)) None ≡ Some c → StandsIn world home offset c
     by_home a true n t e = subst (StandsIn world home offset) (same_Some (Api a) c e) (record {
       home_is = ap (slice_get world) (eqb-true (api_home (package_of a)) home t);
+      home_at = eqb-true (api_home (package_of a)) home t;
       offset_is = number_back offset a n;
     })
     by_home a false n t e = absurd cc
@@ -172,7 +174,7 @@ stands_in world home offset c e = by_api (nat_lt home 2) refl e
     by_place (suc (suc n)) t =
         let one : suc n ≡ suc (suc n) - 1 = omega arith in
         subst (λ i. StandsIn world (suc (suc n)) offset (Loaded i offset)) one
-        (record { home_is = refl; offset_is = refl })
+        (record { home_is = refl; home_at = refl; offset_is = refl })
 
     by_api : (b : Bool) → nat_lt home 2 ≡ b
         → cond b (api_name home offset) (Some (Loaded (home - 1) offset)) ≡ Some c → StandsIn world home offset c
@@ -262,22 +264,22 @@ some_found p (y ∷ xs) (suc k) x at t = by_first (p y) (some_found p xs k x at 
     by_first true rest = refl
     by_first false rest = rest
 
-is_there : (world : List Shape) (n : ℕ) (c : ClassName) → slice_get (class_names world) n ≡ Some c
+spelled : (b : Bool) (o : Option ClassName) (c : ClassName) → cond b o None ≡ Some c → o ≡ Some c
+spelled true o c e = e
+spelled false o c e = absurd cc
+
+pub is_there : (world : List Shape) (n : ℕ) (c : ClassName) → slice_get (class_names world) n ≡ Some c
     → is_some (class_at world c) ≡ true
 is_there world n c at =
     let o = origin world 0 n c at in
     let none : 0 + o.place ≡ o.place = omega arith in
     let s = stands_in world o.place o.class.offset c
-    (spelled (nat_lt o.class.offset 0x10000) (name_in o.place o.class.offset)
+    (spelled (nat_lt o.class.offset 0x10000) (name_in o.place o.class.offset) c
     (ap (λ h. name_of h o.class) (sym none) ∙ o.name)) in
     ap (λ (p : Option Shape). is_some (option_and_then (class_in (offset_of c)) p)) (s.home_is ∙ o.shape_at)
     ∙ ap (λ offset. is_some (class_in offset o.shape)) s.offset_is
     ∙ some_found (λ (k : ClassShape). k.offset == o.class.offset) o.shape.classes o.index o.class o.class_at
     (eq-eqb o.class.offset o.class.offset refl)
-  where
-    spelled : (b : Bool) (o : Option ClassName) → cond b o None ≡ Some c → o ≡ Some c
-    spelled true o e = e
-    spelled false o e = absurd cc
 
 pub numbered : (world : List Shape) → HaveNumbers world
 numbered world = record { numbers = told; classes = is_there world }
@@ -325,6 +327,28 @@ keeps_numbers world more = record {
   where
     grows : class_names (grown world more) ≡ class_names world ++ names_in (length world) more
     grows = names_grown world 0 (length world) more (omega arith)
+
+-- the names behind those of before are of the package that is put behind
+pub get_front : {A : Type 0} (xs ys : List A) (n : ℕ) → n < length xs → slice_get (xs ++ ys) n ≡ slice_get xs n
+get_front [] ys n less = absurd (omega (arith, less))
+get_front (x ∷ xs) ys zero less = refl
+get_front (x ∷ xs) ys (suc n) less = get_front xs ys n (omega (arith, less))
+
+get_rest : {A : Type 0} (xs ys : List A) (n : ℕ) → length xs ≤ n
+    → (k : ℕ) × (slice_get (xs ++ ys) n ≡ slice_get ys k)
+get_rest [] ys n past = (n, refl)
+get_rest (x ∷ xs) ys zero past = absurd (omega (arith, past))
+get_rest (x ∷ xs) ys (suc n) past = get_rest xs ys n (omega (arith, past))
+
+pub new_at_home : (world : List Shape) (more : Shape) (m : ℕ) (d : ClassName) → length (class_names world) ≤ m
+    → slice_get (class_names (grown world more)) m ≡ Some d → home_of d ≡ length world
+new_at_home world more m d past at =
+    let home = length world in
+    let r = get_rest (class_names world) (names_in home more) m past in
+    let f = kept_from (name_of home) more.classes d r.0
+    (sym r.1 ∙ ap (λ ns. slice_get ns m) (sym (keeps_numbers world more).names) ∙ at) in
+    let offset = (f.0).offset in
+    (stands_in world home offset d (spelled (nat_lt offset 0x10000) (name_in home offset) d f.3)).home_at
 
 -- ---- Object
 

@@ -23,3 +23,4 @@ mod Summing
 mod Following
 mod Descending
 mod Tokening
+mod Enlarging

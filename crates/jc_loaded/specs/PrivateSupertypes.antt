@@ -4,14 +4,15 @@ use Rattle.std.specs.Prelude.{length, map, Some, slice_get, unwrap_or}
 use Rattle.std.specs.Option.{option_to_list}
 use Rattle.jc_api.specs.declared.class.ApiClass.TheVariants.{Object}
 use Rattle.jc_cap_desc.specs.Shape.{Shape}
+use Rattle.jc_classes.specs.Growth.{grown}
 use Rattle.jc_classes.specs.Subtype.{is_subtype}
 use Rattle.jc_classes.specs.World.{interfaces_of, superclass_of}
 use Rattle.jc_names.specs.Names.{is_same_name}
 use Rattle.jc_names.specs.declared.name.ClassName.{ClassName}
 use Rattle.jc_names.specs.declared.name.ClassName.TheVariants.{Api}
 use Rattle.jc_loaded.specs.BitRow.{has_bit}
-use Rattle.jc_loaded.specs.Classes.{class_number}
-use Rattle.jc_loaded.specs.Supertypes.{is_listed}
+use Rattle.jc_loaded.specs.Classes.{class_names, class_number}
+use Rattle.jc_loaded.specs.Supertypes.{AreSupertypes, is_listed}
 
 -- each of these classes has a number, and these are the numbers
 abbrev pub AreNumbersOf : List ClassName → List ClassName → List ℕ → Type 0
@@ -25,6 +26,10 @@ itself_and_above world c = c ∷ (option_to_list (superclass_of world c) ++ inte
 pub record AreAbove (world : List Shape) (names : List ClassName) (first : ℕ) (lists : List (List ℕ)) : Type 0 where
   pub there : (k : ℕ) (c : ClassName) → k < length lists → slice_get names (first + k) ≡ Some c
       → AreNumbersOf names (itself_and_above world c) (unwrap_or (slice_get lists k) [])
+
+-- rows have no number from one on
+abbrev pub AreWithin : ℕ → List (List ℕ) → Type 0
+AreWithin count rows = (k m : ℕ) → is_listed rows k m ≡ true → m < count
 
 -- a row has Object's numbers, as far as the first classes go
 pub record HasObjects (names : List ClassName) (done : ℕ) (row : List ℕ) : Type 0 where
@@ -42,6 +47,7 @@ pub record AreBegun (names : List ClassName) (first done : ℕ) (rows : List (Li
       → class_number names d ≡ Some (first + k) → is_listed rows k m ≡ true
   pub only : (k m : ℕ) (d : ClassName) → is_listed rows k m ≡ true → slice_get names m ≡ Some d
       → (is_same_name (Api Object) d ≡ true) ⊎ (class_number names d ≡ Some (first + k))
+  pub within : AreWithin (length names) rows
 
 -- a number was put into the row of the class with a number, of rows whose first is that of a class with a number
 pub record IsPut (first class number : ℕ) (old new : List (List ℕ)) : Type 0 where
@@ -54,3 +60,12 @@ abbrev pub AreRight : List Shape → List ClassName → List (List ℕ) → Type
 AreRight world names rows = (number other : ℕ) (c d : ClassName) → number < length rows
     → slice_get names number ≡ Some c → slice_get names other ≡ Some d
     → is_listed rows number other ≡ is_subtype world c d
+
+-- these are the rows of a world, and one package more stands behind its own
+pub record AreRowsBefore (world : List Shape) (names : List ClassName) (rows : List (List ℕ)) : Type 0 where
+  pub before : List Shape
+  pub more : Shape
+  pub world_is : world ≡ grown before more
+  pub names_are : names ≡ class_names world
+  pub count : length rows ≡ length (class_names before)
+  pub right : AreSupertypes before (class_names before) rows

@@ -7,54 +7,21 @@ ghost use Rattle.jc_loaded.specs.PrivateBitRows.{ArePassed, AreSettled, IsOneAbo
 ghost use Rattle.jc_loaded.specs.Supertypes.{is_listed};
 
 use crate::bit_row::BitRow;
+use jc_base::Shared;
 use std::alloc::{AllocError, Global};
 use std::marker::Model;
 use std::mem;
-use std::rc::Rc;
-
-/// A row that is made, and that others may share.
-#[derive(Drop)]
-pub(crate) struct SharedRow {
-    row: Rc<BitRow>,
-}
-
-impl Model for SharedRow {
-    ghost use Rattle.std.specs.Prelude.{ℕ, List};
-
-    ghost Value = { List ℕ };
-
-    ghost view = { λ s. s.row.value };
-}
-
-impl SharedRow {
-    /// The row, to be shared.
-    pub(crate) fn new(alloc: Global, row: BitRow) -> Result<SharedRow, AllocError>
-        ensures { IfOk result (λ shared. shared ≡ row) }
-    {
-        Ok(SharedRow {
-            row: Rc::new(alloc, row)?,
-        })
-    }
-
-    /// The row.
-    #[inline]
-    pub(crate) fn row(&self) -> &BitRow
-        ensures { result.now ≡ self.now }
-    {
-        &self.row
-    }
-}
 
 /// Puts rows behind others that are shared.
 pub(crate) fn put_shared(
     alloc: Global,
-    shared: &mut Vec<SharedRow>,
+    shared: &mut Vec<Shared<BitRow>>,
     rows: Vec<BitRow>,
 ) -> Result<(), AllocError>
     ensures { IfOk result (λ u. shared.new.items ≡ shared.old.items ++ rows.items) }
 {
     for row in rows {
-        shared.push(SharedRow::new(alloc, row)?)?;
+        shared.push(Shared::new(alloc, row)?)?;
     }
     Ok(())
 }
@@ -83,12 +50,12 @@ impl NumberList {
 }
 
 /// The row with a number: of those that are made, or of those that are being made, which come behind them.
-fn row_of<'a>(made: &'a [SharedRow], rows: &'a [BitRow], number: u16) -> Option<&'a BitRow>
+fn row_of<'a>(made: &'a [Shared<BitRow>], rows: &'a [BitRow], number: u16) -> Option<&'a BitRow>
     ensures { option_map (λ r. r.now) result ≡ slice_get (made.now ++ rows.now) number }
 {
     let number = usize::from(number);
     if number < made.len() {
-        Some(made[number].row())
+        Some(made[number].get())
     } else {
         rows.get(number - made.len())
     }
@@ -96,7 +63,7 @@ fn row_of<'a>(made: &'a [SharedRow], rows: &'a [BitRow], number: u16) -> Option<
 
 /// Puts what the row with a number has into another row. Whether a number wasn't there.
 fn unite_from(
-    made: &[SharedRow],
+    made: &[Shared<BitRow>],
     rows: &[BitRow],
     number: u16,
     row: &mut BitRow,
@@ -112,7 +79,7 @@ fn unite_from(
 /// Puts what the rows with these numbers have into another row. Whether a number wasn't there.
 #[tactic(auto, using(crate::proofs::Rising::all_more))]
 fn unite_all(
-    made: &[SharedRow],
+    made: &[Shared<BitRow>],
     rows: &[BitRow],
     numbers: &[u16],
     row: &mut BitRow,
@@ -130,7 +97,7 @@ fn unite_all(
 /// Puts what the rows right above one have into this one. Whether a number wasn't there.
 fn pass_row(
     alloc: Global,
-    made: &[SharedRow],
+    made: &[Shared<BitRow>],
     rows: &mut [BitRow],
     at: usize,
     above: &[u16],
@@ -150,7 +117,7 @@ fn pass_row(
 #[tactic(auto, using(crate::proofs::Rising::passed_none))]
 fn pass(
     alloc: Global,
-    made: &[SharedRow],
+    made: &[Shared<BitRow>],
     rows: &mut [BitRow],
     above: &[NumberList],
 ) -> Result<bool, AllocError>
@@ -171,7 +138,7 @@ fn pass(
 #[tactic(auto, using(crate::proofs::Rising::risen_none))]
 pub(crate) fn settle(
     alloc: Global,
-    made: &[SharedRow],
+    made: &[Shared<BitRow>],
     rows: &mut [BitRow],
     above: &[NumberList],
 ) -> Result<(), AllocError>

@@ -8,7 +8,8 @@ ghost use Rattle.jc_classes.specs.Limits.{IsSmall};
 ghost use Rattle.jc_classes.specs.World.{class_named, interfaces_of, listed_refs};
 ghost use Rattle.jc_loaded.specs.BitRow.{has_bit};
 ghost use Rattle.jc_loaded.specs.Classes.{class_number};
-ghost use Rattle.jc_loaded.specs.PrivateSupertypes.{AreAbove, AreBegun, AreNumbersOf, AreRight, IsPut};
+ghost use Rattle.jc_loaded.specs.PrivateSupertypes.{AreAbove, AreBegun, AreNumbersOf, AreRight, AreRowsBefore, AreWithin};
+ghost use Rattle.jc_loaded.specs.PrivateSupertypes.{HasObjects, IsPut};
 ghost use Rattle.jc_loaded.specs.PrivateSupertypes.{itself_and_above};
 ghost use Rattle.jc_loaded.specs.Supertypes.{AreSupertypes, is_listed};
 ghost use Rattle.jc_names.specs.Names.{home_of, is_same_name};
@@ -16,11 +17,11 @@ ghost use Rattle.jc_names.specs.declared.name.ClassName.{ClassName as Name};
 ghost use Rattle.jc_names.specs.declared.name.ClassName.TheVariants.{Api};
 
 use crate::bit_row::BitRow;
-use crate::bit_rows::{NumberList, SharedRow, put_shared, settle};
+use crate::bit_rows::{NumberList, put_shared, settle};
 use crate::classes::{ClassNumber, Classes};
 use jc_api::ApiClass;
-use jc_base::ClassRef;
-use jc_classes::{Class, ClassTable, found_subtypes_are_subtypes};
+use jc_base::{ClassRef, Shared};
+use jc_classes::{Class, ClassTable, found_subtypes_are_subtypes, growing_keeps_lookups};
 use jc_link::World;
 use jc_names::ClassName;
 use std::alloc::{AllocError, Global};
@@ -164,10 +165,9 @@ fn put_if(row: &mut BitRow, passes: bool, number: u16) -> Result<(), AllocError>
 }
 
 /// The numbers of Object.
-#[tactic(auto, using(crate::proofs::Climbing::objects_none, crate::proofs::Climbing::objects_all))]
+#[tactic(auto, using(crate::proofs::Climbing::objects_none))]
 fn objects_of(alloc: Global, classes: &Classes) -> Result<BitRow, AllocError>
-    ensures { IfOk result (λ row. (m : ℕ) (d : Name) → slice_get classes.now m ≡ Some d
-        → has_bit row m ≡ is_same_name (Api Object) d) }
+    ensures { IfOk result (HasObjects classes.now (length classes.now)) }
 {
     let mut row = BitRow::new(alloc);
     let names = classes.names();
@@ -229,13 +229,15 @@ fn rows_behind(
     alloc: Global,
     table: &ClassTable,
     classes: &Classes,
-    made: &[SharedRow],
+    made: &[Shared<BitRow>],
 ) -> Result<Vec<BitRow>, AllocError>
     requires small { IsSmall table.now }
     requires few { length made.now ≤ length classes.now }
     requires right { AreRight table.now classes.now made.now }
+    requires within { AreWithin (length classes.now) made.now }
     ensures count { IfOk result (λ rows. length made.now + length rows.items ≡ length classes.now) }
     ensures right { IfOk result (λ rows. AreSupertypes table.now classes.now (made.now ++ rows.items)) }
+    ensures within { IfOk result (λ rows. AreWithin (length classes.now) (made.now ++ rows.items)) }
 {
     found_subtypes_are_subtypes();
     let mut rows = begun_rows(alloc, classes, made.len())?;
@@ -244,22 +246,58 @@ fn rows_behind(
     Ok(rows)
 }
 
+/// The same rows, shared.
+fn shared_again(alloc: Global, rows: &[Shared<BitRow>]) -> Result<Vec<Shared<BitRow>>, AllocError>
+    ensures { IfOk result (λ made. made.items ≡ rows.now) }
+{
+    let mut made = Vec::with_capacity(alloc, rows.len())?;
+    for row in rows {
+        made.push(row.share()?)?;
+    }
+    Ok(made)
+}
+
+/// Rows of the first classes, and those of the others behind them.
+fn all_rows(
+    alloc: Global,
+    table: &ClassTable,
+    classes: &Classes,
+    first: Vec<Shared<BitRow>>,
+) -> Result<Vec<Shared<BitRow>>, AllocError>
+    requires small { IsSmall table.now }
+    requires few { length first.items ≤ length classes.now }
+    requires right { AreRight table.now classes.now first.items }
+    requires within { AreWithin (length classes.now) first.items }
+    ensures above { IfOk result (λ rows. AreSupertypes table.now classes.now rows.items) }
+    ensures count { IfOk result (λ rows. length rows.items ≡ length classes.now) }
+    ensures within { IfOk result (λ rows. AreWithin (length classes.now) rows.items) }
+{
+    let mut rows = first;
+    let made = rows_behind(alloc, table, classes, &rows)?;
+    put_shared(alloc, &mut rows, made)?;
+    Ok(rows)
+}
+
 /// For each class and interface of a world those that it is below: a bit for each number.
 #[derive(Drop)]
 pub struct Supertypes {
-    rows: Vec<SharedRow>,
+    rows: Vec<Shared<BitRow>>,
 }
 
 impl Model for Supertypes {
-    ghost use Rattle.std.specs.Prelude.{ℕ, List};
+    ghost use Rattle.std.specs.Prelude.{ℕ, List, length};
+    ghost use Rattle.jc_loaded.specs.PrivateSupertypes.{AreWithin};
 
     ghost Value = { List (List ℕ) };
 
     ghost view = { λ s. s.rows.items };
+
+    ghost invariant = { λ s. AreWithin (length s.rows.items) s.rows.items };
 }
 
 impl Supertypes {
     /// What these classes of a world are below.
+    #[tactic(auto, using(crate::proofs::Enlarging::none_right, crate::proofs::Enlarging::none_within))]
     pub fn new(alloc: Global, world: &World, classes: &Classes) -> Result<Supertypes, AllocError>
         ensures above { IfOk result (λ rows. AreSupertypes world.now.shapes classes.now rows) }
         ensures count { IfOk result (λ rows. length rows ≡ length classes.now) }
@@ -267,9 +305,29 @@ impl Supertypes {
         let table = world.table();
         // Only its contract counts: what always holds of a table.
         let _count = table.len();
-        let mut rows = Vec::new(alloc);
-        let made = rows_behind(alloc, table, classes, &rows)?;
-        put_shared(alloc, &mut rows, made)?;
+        let rows = all_rows(alloc, table, classes, Vec::new(alloc))?;
+        Ok(Supertypes { rows })
+    }
+
+    /// What these classes of a world are below, which has one package more than that whose rows these are. The rows of
+    /// the classes that were there are shared.
+    pub(crate) fn grown(
+        &self,
+        alloc: Global,
+        world: &World,
+        classes: &Classes,
+    ) -> Result<Supertypes, AllocError>
+        requires before { AreRowsBefore world.now.shapes classes.now self.now }
+        ensures above { IfOk result (λ rows. AreSupertypes world.now.shapes classes.now rows) }
+        ensures count { IfOk result (λ rows. length rows ≡ length classes.now) }
+    {
+        found_subtypes_are_subtypes();
+        growing_keeps_lookups();
+        let table = world.table();
+        // Only its contract counts: what always holds of a table.
+        let _count = table.len();
+        let shared = shared_again(alloc, &self.rows)?;
+        let rows = all_rows(alloc, table, classes, shared)?;
         Ok(Supertypes { rows })
     }
 
@@ -294,7 +352,7 @@ impl Supertypes {
         ensures { result ≡ is_listed self.now number other }
     {
         match self.rows.get(usize::from(number.index())) {
-            Some(row) => row.row().has(other.index()),
+            Some(row) => row.get().has(other.index()),
             None => false,
         }
     }

@@ -1,7 +1,8 @@
 use Rattle.std.proofs.Common.{◌++◌, List, ℕ, ap, sym, subst, arith, length}
-use Rattle.jc_loaded.specs.PrivateSupertypes.{AreAbove, AreBegun}
+use Rattle.jc_loaded.specs.PrivateBitRows.{IsRightAbove}
+use Rattle.jc_loaded.specs.PrivateSupertypes.{AreAbove, AreBegun, AreWithin}
 use Rattle.jc_loaded.specs.Supertypes.{AreSupertypes}
-use Rattle.jc_loaded.proofs.Climbing.{are_supertypes}
+use Rattle.jc_loaded.proofs.Climbing.{all_within, are_supertypes}
 use Rattle.jc_loaded.proofs.Rowing.{refilled}
 use Rattle.jc_loaded.proofs.supertypes.rows_behind.Goals as goal
 
@@ -27,3 +28,20 @@ returns-clause-right c =
     (sym (refilled rows _ c.in_ok-rows.rows.len (omega arith)))
     (are_supertypes world names (laws.found world) (laws.all world c.requires.small) made begun lists rows
     c.requires.right begins above (omega arith) c.in_ok-settle.ensures.settled)
+
+pub returns-clause-within : goal.returns-clause-within
+returns-clause-within c =
+    let names = c.args.classes.now in
+    let made = c.args.made.now in
+    let begun = c.deref_mut.result.now in
+    let lists = c.deref.result.now in
+    let rows = c.settle.new.rows in
+    let begins = subst (AreBegun names (length made) (length names)) (sym c.deref_mut.ensures.value)
+    c.in_ok-rows.ensures in
+    let count = c.in_ok-settle.ensures.count in
+    let b = ap length c.deref_mut.ensures.value in
+    let k = c.in_ok-rows.rows.ok.0 in
+    subst (λ (rs : List (List ℕ)). AreWithin (length names) (made ++ rs))
+    (sym (refilled rows _ c.in_ok-rows.rows.len (omega arith)))
+    (all_within (IsRightAbove (length made) (length lists) lists) (length names) made begun rows
+    c.requires.within begins.within c.in_ok-settle.ensures.settled)

@@ -19,10 +19,10 @@ returns-in-Class c =
     let r = c.in-Class.record in
     map_ok
     (λ made. IsTableOver c.args.self.now c.home.result r.public_methods r.package_methods r.interfaces.items
-        c.above_or-above.result.now c.args.depth made)
+    c.above_or-above.result.now c.args.depth made)
     (IsTabled c.args.self.now c.args.class) c.table_over.result
     (λ (made : Tabled) over. table_right c.args.self.now c.args.class c.args.found.now _ _ made c.home.result c.args.depth
-        c.home.ensures body c.requires.there c.requires.above c.requires.depth c.requires.few
-        (subst (λ above. IsTableOver c.args.self.now c.home.result r.public_methods r.package_methods
-        r.interfaces.items above c.args.depth made) c.above_or-above.ensures over))
+    c.home.ensures body c.requires.there c.requires.above c.requires.depth c.requires.few
+    (subst (λ above. IsTableOver c.args.self.now c.home.result r.public_methods r.package_methods
+    r.interfaces.items above c.args.depth made) c.above_or-above.ensures over))
     c.table_over.ensures

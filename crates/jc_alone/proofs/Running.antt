@@ -25,7 +25,7 @@ use Rattle.jc_code.specs.declared.instr.When.TheVariants.{Always, Zero, Compare}
 use Rattle.jc_code.specs.declared.instr.WordOperation.{WordOperation}
 use Rattle.jc_code.specs.declared.instr.WordOperation.TheVariants as ops
 use Rattle.jc_code.specs.declared.object.ObjectOperation.{ObjectOperation}
-use Rattle.jc_loop.specs.Following.{ComesTo, FollowsTagged, GoesAlong, ReadsTop, WordsFollow}
+use Rattle.jc_follow.specs.Following.{ComesTo, FollowsTagged, GoesAlong, ReadsTop, WordsFollow}
 use Rattle.jc_loop.specs.Loop.{MayRun, MayRunBy, Ran, ReadReady, frame_behind, next_frame, onward, ran, ran_by}
 use Rattle.jc_loop.specs.Moves.{IsRead, WordsAreDecoded, word_at, word_for}
 use Rattle.jc_loop.specs.Words.{Continues, Divides, IsReady, Outcome as WordOutcome, WordFrame, Yields, done_by}

@@ -11,7 +11,8 @@ ghost use Rattle.jc_check.specs.Typing.{IsTyping, Typing};
 use crate::carried_code_is_safe;
 use jc_check::{CheckedWords, WORD_LOCALS, WORD_MAX_STACK};
 use jc_code::{Operation, WordOperation, decode_words};
-use jc_loop::{Place, run_words, words_are_decoded, words_follow};
+use jc_follow::words_follow;
+use jc_loop::{Place, run_words, words_are_decoded};
 use jc_machine::IdleNatives;
 
 /// How a run of code alone ends.

@@ -15,6 +15,7 @@ pub mod Rows
 pub mod SoundVirtual
 pub mod SoundFinished
 pub mod StaticOffsets
+pub mod SharedBytes
 pub mod Superclasses
 pub mod Tokens
 pub mod GrownParts

@@ -1,9 +1,7 @@
 -- Static fields, one behind the other, class by class.
 use Rattle.std.proofs.Common.{◌≡◌, ℕ, ◌+◌, ◌<◌, ◌++◌, Bool, true, false, cond, List, [], ◌∷◌, length, drop, get_or, map, min, Option, Some, None, refl, sym, ap, ◌∙◌, arith}
 use Rattle.std.proofs.lemmas.List.{drop_more}
-use Rattle.std.proofs.lemmas.List.Elements.{filter_map-append}
-use Rattle.std.proofs.lemmas.List.Sums.{sum_by-append}
-use Rattle.std.specs.List.{filter, filter_map, flat_map, count_by, cons_option}
+use Rattle.std.specs.List.{filter, filter_map, flat_map, cons_option}
 use Rattle.std.specs.Option.{option_and_then}
 use Rattle.jc_cap_data.specs.Statics.{StaticImage}
 use Rattle.jc_cap_desc.specs.Shape.{ClassShape, FieldShape}
@@ -43,7 +41,7 @@ module _ (image : StaticImage) (all : List StaticField) where
       ∙ earlier_assoc (bad_offset image all x) (first_bad_among image all xs) (first_bad_among image all ys)
       ∙ ap (λ o. earlier o (first_bad_among image all ys)) (sym (first_of x xs))
 
-next_of : {A : Type 0} (xs : List A) (i : ℕ) (x : A) → i < length xs → x ≡ get_or xs i x → drop i xs ≡ x ∷ drop (i + 1) xs
+pub next_of : {A : Type 0} (xs : List A) (i : ℕ) (x : A) → i < length xs → x ≡ get_or xs i x → drop i xs ≡ x ∷ drop (i + 1) xs
 next_of xs i x h is = drop_more xs i x h ∙ ap (λ y. y ∷ drop (i + 1) xs) (sym is)
 
 -- a walk along fields, with one looked at
@@ -66,20 +64,3 @@ module _ (image : StaticImage) (all : List StaticField) (total best : Option ℕ
       ∙ ap (earlier best) (sym (first_append image all k.fields (flat_map (λ k. k.fields) (drop (i + 1) classes))))
       ∙ ap (λ ks. earlier best (first_bad_among image all (flat_map (λ k. k.fields) ks))) (sym (next_of classes i k h is))
       ∙ so_far
-
--- ---- how many pass a test
-
-count_append : {A : Type 0} (p : A → Bool) (xs ys : List A) → count_by p (xs ++ ys) ≡ count_by p xs + count_by p ys
-count_append p xs ys = sum_by-append (λ x. cond (p x) 1 0) xs ys
-
-module _ (p : StaticField → Bool) (total count : ℕ) (classes : List ClassShape) (i : ℕ) (so_far : count + count_by p (filter_map static_of (flat_map (λ k. k.fields) (drop i classes))) ≡ total) where
-  pub count_past : (k : ClassShape) (fields : List FieldShape) (here : ℕ) → i < length classes → k ≡ get_or classes i k → fields ≡ k.fields → here ≡ count_by p (filter_map static_of fields)
-      → (count + here) + count_by p (filter_map static_of (flat_map (λ k. k.fields) (drop (i + 1) classes))) ≡ total
-  count_past k fields here h is its e =
-      let behind = flat_map (λ (k : ClassShape). k.fields) (drop (i + 1) classes) in
-      let split : count_by p (filter_map static_of (flat_map (λ k. k.fields) (drop i classes))) ≡ here + count_by p (filter_map static_of behind) =
-      ap (λ ks. count_by p (filter_map static_of (flat_map (λ k. k.fields) ks))) (next_of classes i k h is)
-      ∙ ap (count_by p) (filter_map-append static_of k.fields behind)
-      ∙ count_append p (filter_map static_of k.fields) (filter_map static_of behind)
-      ∙ ap (λ n. n + count_by p (filter_map static_of behind)) (ap (λ fs. count_by p (filter_map static_of fs)) (sym its) ∙ sym e) in
-      omega (arith, split, so_far)

@@ -8,11 +8,14 @@ use Rattle.jc_names.specs.declared.name.ClassName.{ClassName}
 use Rattle.jc_link.specs.Inherited.{is_abstract_at, leaves_at, package_tokens, virtual_tokens}
 
 -- the tokens from one on up to an end
-module _ (test : ℕ → Bool) (total : Bool) (token end : ℕ) (so_far : list_any test (range_with_len token (end - token)) ≡ total) where
-  step : token < end → (b : Bool) → test token ≡ b → (b || list_any test (range_with_len (token + 1) (end - (token + 1)))) ≡ total
+module _ (test : ℕ → Bool) (total : Bool) (token end : ℕ)
+    (so_far : list_any test (range_with_len token (end - token)) ≡ total) where
+  step : token < end → (b : Bool) → test token ≡ b
+      → (b || list_any test (range_with_len (token + 1) (end - (token + 1)))) ≡ total
   step less b e =
       let one : suc (end - (token + 1)) ≡ end - token = omega arith in
-      ap (λ x. x || list_any test (range_with_len (token + 1) (end - (token + 1)))) (sym e) ∙ ap (λ n. list_any test (range_with_len token n)) one ∙ so_far
+      ap (λ x. x || list_any test (range_with_len (token + 1) (end - (token + 1)))) (sym e)
+      ∙ ap (λ n. list_any test (range_with_len token n)) one ∙ so_far
 
   pub passes : token < end → test token ≡ true → true ≡ total
   passes less e = step less true e
@@ -21,7 +24,8 @@ module _ (test : ℕ → Bool) (total : Bool) (token end : ℕ) (so_far : list_a
   fails less e = step less false e
 
   pub none_passes : end ≤ token → false ≡ total
-  none_passes more = let none : end - token ≡ 0 = omega arith in sym (ap (λ n. list_any test (range_with_len token n)) none) ∙ so_far
+  none_passes more =
+      let none : end - token ≡ 0 = omega arith in sym (ap (λ n. list_any test (range_with_len token n)) none) ∙ so_far
 
 -- where none of the rest passes
 none_in : (test : ℕ → Bool) (n from : ℕ) → ((m : ℕ) → from ≤ m → m < from + n → test m ≡ false)

@@ -271,8 +271,8 @@ fn breaks_row_of(table: &ClassTable, class: ClassName, at: ClassName) -> bool
     }
 }
 
-/// Whether a class doesn't keep one of its own rows, or of those of its superclasses, by a walk along these. Their chain
-/// may have a cycle: where they come again to a class that is remembered, all of their rows were looked at.
+/// Whether a class doesn't keep one of its own rows, or of those of its superclasses, by a walk along these. Their
+/// chain may have a cycle: where they come again to a class that is remembered, all of their rows were looked at.
 fn breaks_row_along(table: &ClassTable, class: ClassName) -> bool
     ensures { result ≡ breaks_interface table.now class }
 {

@@ -1,13 +1,16 @@
 //! Static fields in their image.
 
-ghost use Rattle.std.specs.Prelude.{◌≡◌, ◌≤◌};
-ghost use Rattle.std.specs.List.{count_by, filter_map};
-ghost use Rattle.jc_link.specs.PrivateStatics.{earlier, bad_offset, first_bad_among};
+ghost use Rattle.std.specs.Prelude.{◌≡◌, ◌≤◌, ◌<◌, ◌==◌, List, [], ◌∷◌, false};
+ghost use Rattle.std.specs.List.{filter_map};
+ghost use Rattle.jc_base.specs.NumberSet.{has_number};
+ghost use Rattle.jc_link.specs.PrivateStatics.{earlier, bad_offset, first_bad_among, second_byte};
+ghost use Rattle.jc_link.specs.PrivateStatics.{AreTaken, WereTaken, HaveTaken, AreAmong};
+ghost use Rattle.jc_link.specs.Statics.{StaticField as Shaped};
 ghost use Rattle.jc_link.specs.Statics.{static_of, static_fields, is_reference, width_of, behind, leaves_image};
-ghost use Rattle.jc_link.specs.Statics.{is_misplaced, share_a_byte, overlaps_another, is_of_type, is_of_another_array};
+ghost use Rattle.jc_link.specs.Statics.{is_misplaced, overlaps_another, is_of_type, is_of_another_array};
 ghost use Rattle.jc_link.specs.Statics.{is_bad_static, first_bad_static};
 
-use jc_base::{ClassRef, DeclaredType};
+use jc_base::{ClassRef, DeclaredType, NumberSet};
 use jc_cap_data::{StaticArray, StaticFields};
 use jc_cap_desc::FieldPlace;
 use jc_classes::{Field, PackageShape};
@@ -81,7 +84,8 @@ impl StaticField {
 
     /// Whether it leaves the image.
     fn leaves(&self, statics: &StaticFields) -> bool
-        ensures { result ≡ leaves_image statics.now self.now }
+        ensures leaves { result ≡ leaves_image statics.now self.now }
+        ensures within { result ≡ false → behind self.now < 65536 }
     {
         usize::from(statics.image_size()) < self.behind()
     }
@@ -98,37 +102,104 @@ impl StaticField {
         }
     }
 
-    /// Whether it and another field share a byte.
-    fn shares_a_byte(&self, other: &StaticField) -> bool
-        ensures { result ≡ share_a_byte self.now other.now }
+    /// The second byte of the image that it takes, if it takes two, and if the byte's number is below 65,536.
+    fn second_byte(&self) -> Option<u16>
+        ensures { result ≡ second_byte self.now }
     {
-        usize::from(self.offset) < other.behind() && usize::from(other.offset) < self.behind()
-    }
-
-    /// How many static fields among these it shares a byte with.
-    fn count_shared(&self, fields: &[Field]) -> usize
-        ensures { result ≡ count_by (share_a_byte self.now) (filter_map static_of fields.now) }
-    {
-        fields
-            .iter()
-            .filter_map(|f| static_of(f))
-            .filter(|other| self.shares_a_byte(other))
-            .count()
-    }
-
-    /// Whether it shares a byte with two of a package's static fields: with itself, and with another one.
-    fn overlaps_another(&self, shape: &PackageShape) -> bool
-        ensures { result ≡ overlaps_another (static_fields shape.now) self.now }
-    {
-        let mut count = 0;
-        for class in shape.classes() {
-            let here = self.count_shared(class.fields());
-            if here > 1 - count {
-                return true;
-            }
-            count += here;
+        if width_of(self.declared) == 2 {
+            self.offset.checked_add(1)
+        } else {
+            None
         }
-        false
+    }
+}
+
+/// The bytes of the image that static fields take, as far as their numbers are below 65,536: those that at least one
+/// field takes, and those that at least two take.
+#[derive(Drop)]
+struct TakenBytes {
+    once: NumberSet,
+    twice: NumberSet,
+}
+
+impl Model for TakenBytes {
+    ghost use Rattle.jc_link.specs.PrivateStatics.{Taken};
+
+    ghost Value = { Taken };
+
+    ghost view = { λ t. record { once = t.once; twice = t.twice } };
+}
+
+impl TakenBytes {
+    /// No byte is taken.
+    fn none() -> TakenBytes
+        ensures { AreTaken result [] }
+    {
+        TakenBytes {
+            once: NumberSet::empty(),
+            twice: NumberSet::empty(),
+        }
+    }
+
+    /// Takes a byte once more.
+    fn take_byte(&mut self, byte: u16)
+        ensures { WereTaken (λ n. n == byte) self.old self.new }
+    {
+        if self.once.contains(byte) {
+            self.twice.insert(byte);
+        }
+        self.once.insert(byte);
+    }
+
+    /// Takes the bytes of a field.
+    fn take_field(&mut self, field: &StaticField)
+        ensures { HaveTaken (field.now ∷ []) self.old self.new }
+    {
+        self.take_byte(field.offset);
+        if let Some(second) = field.second_byte() {
+            self.take_byte(second);
+        }
+    }
+
+    /// Takes the bytes of a field, if it is static.
+    fn take_static(&mut self, field: &Field)
+        ensures { HaveTaken (filter_map static_of (field.now ∷ [])) self.old self.new }
+    {
+        if let Some(found) = static_of(field) {
+            self.take_field(&found);
+        }
+    }
+
+    /// Takes the bytes of the static ones among fields.
+    fn take_all(&mut self, fields: &[Field])
+        ensures { HaveTaken (filter_map static_of fields.now) self.old self.new }
+    {
+        for field in fields {
+            self.take_static(field);
+        }
+    }
+
+    /// The bytes that a package's static fields take.
+    fn of_package(shape: &PackageShape) -> TakenBytes
+        ensures { AreTaken result (static_fields shape.now) }
+    {
+        let mut taken = TakenBytes::none();
+        for class in shape.classes() {
+            taken.take_all(class.fields());
+        }
+        taken
+    }
+
+    /// Whether a byte of one of the fields that took theirs, which ends below 65,536, is taken by another one too.
+    fn shares(&self, field: &StaticField) -> bool
+        ensures { (all : List Shaped) → AreTaken self.now all → AreAmong (field.now ∷ []) all
+            → behind field.now < 65536 → result ≡ overlaps_another all field.now }
+    {
+        self.twice.contains(field.offset)
+            || match field.second_byte() {
+                Some(second) => self.twice.contains(second),
+                None => false,
+            }
     }
 }
 
@@ -157,22 +228,24 @@ fn is_of_another_array(statics: &StaticFields, field: &StaticField) -> bool
     }
 }
 
-/// Whether one of a package's static fields is bad.
-fn is_bad_static(statics: &StaticFields, shape: &PackageShape, field: &StaticField) -> bool
-    ensures { result ≡ is_bad_static statics.now (static_fields shape.now) field.now }
+/// Whether a static field is bad, one of those that took their bytes.
+fn is_bad_static(statics: &StaticFields, taken: &TakenBytes, field: &StaticField) -> bool
+    ensures { (all : List Shaped) → AreTaken taken.now all → AreAmong (field.now ∷ []) all
+        → result ≡ is_bad_static statics.now all field.now }
 {
     field.leaves(statics)
         || field.is_misplaced(statics)
-        || field.overlaps_another(shape)
+        || taken.shares(field)
         || is_of_another_array(statics, field)
 }
 
-/// The offset of a field of a package, if it is static and bad.
-fn bad_offset(statics: &StaticFields, shape: &PackageShape, field: &Field) -> Option<u16>
-    ensures { result ≡ bad_offset statics.now (static_fields shape.now) field.now }
+/// The offset of a field, if it is static and bad.
+fn bad_offset(statics: &StaticFields, taken: &TakenBytes, field: &Field) -> Option<u16>
+    ensures { (all : List Shaped) → AreTaken taken.now all → AreAmong (filter_map static_of (field.now ∷ [])) all
+        → result ≡ bad_offset statics.now all field.now }
 {
     let found = static_of(field)?;
-    if is_bad_static(statics, shape, &found) {
+    if is_bad_static(statics, taken, &found) {
         Some(found.offset)
     } else {
         None
@@ -192,13 +265,14 @@ fn earlier(one: Option<u16>, other: Option<u16>) -> Option<u16>
     }
 }
 
-/// The least offset of a bad static field among some fields of a package.
-fn first_bad_among(statics: &StaticFields, shape: &PackageShape, fields: &[Field]) -> Option<u16>
-    ensures { result ≡ first_bad_among statics.now (static_fields shape.now) fields.now }
+/// The least offset of a bad static field among some fields, which are of those that took their bytes.
+fn first_bad_among(statics: &StaticFields, taken: &TakenBytes, fields: &[Field]) -> Option<u16>
+    ensures { (all : List Shaped) → AreTaken taken.now all → AreAmong (filter_map static_of fields.now) all
+        → result ≡ first_bad_among statics.now all fields.now }
 {
     let mut first = None;
     for field in fields {
-        first = earlier(first, bad_offset(statics, shape, field));
+        first = earlier(first, bad_offset(statics, taken, field));
     }
     first
 }
@@ -208,9 +282,10 @@ fn first_bad_among(statics: &StaticFields, shape: &PackageShape, fields: &[Field
 pub(crate) fn first_bad_static(statics: &StaticFields, shape: &PackageShape) -> Option<u16>
     ensures { result ≡ first_bad_static statics.now shape.now }
 {
+    let taken = TakenBytes::of_package(shape);
     let mut first = None;
     for class in shape.classes() {
-        first = earlier(first, first_bad_among(statics, shape, class.fields()));
+        first = earlier(first, first_bad_among(statics, &taken, class.fields()));
     }
     first
 }

@@ -5,4 +5,6 @@ use Rattle.jc_link.specs.PrivateRows.{IsOnRows}
 use Rattle.jc_link.proofs.inherited.breaks_row_along.Given as goal
 
 abbrev pub invariant-loop-steps : goal.invariant-loop-steps
-invariant-loop-steps l = IsOnRows (breaks_row l.table l.class) l.table l.anchor l.at (most_classes - l.steps) (breaks_interface l.table l.class)
+invariant-loop-steps l =
+    IsOnRows (breaks_row l.table l.class) l.table l.anchor l.at (most_classes - l.steps)
+    (breaks_interface l.table l.class)

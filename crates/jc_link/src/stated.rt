@@ -1,6 +1,6 @@
 //! The types that entries of the constant pool state.
 
-ghost use Rattle.std.specs.Prelude.{◌≡◌, ◌≤◌, Some, length};
+ghost use Rattle.std.specs.Prelude.{◌≡◌, ◌≤◌, Some, length, slice_get};
 ghost use Rattle.std.specs.Option.{option_map};
 ghost use Rattle.jc_link.specs.Found.{type_found};
 ghost use Rattle.jc_link.specs.MemberType.{as_member, type_class, member_type_of, method_type_of, have_same_type};
@@ -179,8 +179,14 @@ fn is_mistyped(
     is_member(entry) && !is_type_of(table, home, stated, named)
 }
 
+/// The name with an index.
+fn name_at(names: &[Named], index: u16) -> Option<Named>
+    ensures { result ≡ slice_get names.now index }
+{
+    names.get(usize::from(index)).copied()
+}
+
 /// Whether the entry at an index is there, and states another type than that of the member that it names.
-#[tactic(auto, using(crate::proofs::Names::entry_name))]
 fn is_mistyped_at(
     table: &ClassTable,
     home: PackagePlace,
@@ -194,7 +200,7 @@ fn is_mistyped_at(
     let Some(entry) = linked.pool().at(index) else {
         return false;
     };
-    let Some(named) = names.get(usize::from(index)).copied() else {
+    let Some(named) = name_at(names, index) else {
         return false;
     };
     let Some(stated) = linked.pool_type(index) else {

@@ -34,5 +34,6 @@ pub mod ApiFit
 pub mod Soundness
 pub mod Applet
 pub mod Naming
+pub mod Names
 pub mod Later
 pub mod ApiThere

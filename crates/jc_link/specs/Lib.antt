@@ -14,6 +14,7 @@ pub mod Kept
 pub mod PrivateBody
 pub mod PrivateStatics
 pub mod PrivateFaults
+pub mod PrivateNames
 pub mod Growth
 pub mod Built
 pub mod Linked

@@ -1,6 +1,6 @@
 //! The linker.
 
-ghost use Rattle.std.specs.Prelude.{◌≡◌, ◌<◌, ◌≤◌, map, length, Some, Ok, IfOk, IfErr};
+ghost use Rattle.std.specs.Prelude.{◌≡◌, ◌<◌, ◌≤◌, map, length, Some, None, Ok, IfOk, IfErr};
 ghost use Rattle.jc_cap_desc.specs.Package.{package_of};
 ghost use Rattle.jc_cap_desc.specs.Shape.{StandApart, HaveBodies, HaveHeaders, InstallMethods};
 ghost use Rattle.jc_classes.specs.Growth.{grown};
@@ -8,19 +8,21 @@ ghost use Rattle.jc_classes.specs.Limits.{most_packages};
 ghost use Rattle.jc_link.specs.Built.{IsBuilt};
 ghost use Rattle.jc_link.specs.Growth.{HasApi};
 ghost use Rattle.jc_link.specs.Kept.{kept_of};
-ghost use Rattle.jc_link.specs.Target.{pool_targets};
+ghost use Rattle.jc_link.specs.Target.{target_of};
 ghost use Rattle.jc_link.specs.Sound.{LeadSomewhere};
 ghost use Rattle.jc_link.specs.Linked.{IsBoundTo, IsLinked, IsLinkedFrom, IsRefusal};
-ghost use Rattle.jc_link.specs.PrivateFaults.{class_fault, pool_fault};
+ghost use Rattle.jc_link.specs.PrivateFaults.{class_fault, fault_behind_names, IsTold};
+ghost use Rattle.jc_link.specs.PrivateNames.{AreNamed, NamesLead};
 ghost use Rattle.jc_link.specs.WellFormed.{IsWellFormed, linking_fault};
 
 use crate::body::body_of;
 use crate::growth::built_worlds_are_sound;
 use crate::imports::{first_unmet, is_there_already};
-use crate::pool::first_unresolved;
+use crate::named::Named;
+use crate::pool::names_in;
 use crate::stated::first_mistyped;
 use crate::statics::first_bad_static;
-use crate::target::pool_targets;
+use crate::target::targets_of;
 use crate::well_formed::first_bad_class;
 use crate::world::{Linked, LinkedBody, World};
 use jc_base::{LoadFault, Parts};
@@ -50,37 +52,46 @@ fn class_fault(
     None
 }
 
-/// What is wrong with the entries of the pool of the package that stands there.
-fn pool_fault(table: &ClassTable, home: PackagePlace, linked: &Package) -> Option<LoadFault>
-    ensures { result ≡ pool_fault table.now home linked.now.body }
-{
-    if let Some(index) = first_unresolved(table, home, linked) {
-        return Some(LoadFault::Unresolved(index));
-    }
-    if let Some(index) = first_mistyped(table, home, linked) {
-        return Some(LoadFault::TypeMismatch(index));
-    }
-    None
-}
-
-/// Why the package that stands there isn't well-formed.
-fn linking_fault(
+/// What is wrong with the package that stands there, whose entries name these, but for its imports.
+fn fault_behind_names(
     table: &ClassTable,
     home: PackagePlace,
     shape: &PackageShape,
     linked: &Package,
+    names: &[Named],
 ) -> Option<LoadFault>
+    requires named { AreNamed table.now home linked.now.body.pool names.now }
+    ensures { result ≡ fault_behind_names table.now home shape.now linked.now.body }
+{
+    if let Some(index) = first_mistyped(table, home, linked, names) {
+        return Some(LoadFault::TypeMismatch(index));
+    }
+    class_fault(table, home, shape, linked)
+}
+
+/// What the entries of the package that stands there name, if it is well-formed. Or why it isn't, or memory.
+#[tactic(auto, using(crate::proofs::Names::told_first, crate::proofs::Names::told_behind))]
+fn names_if_fine(
+    alloc: Global,
+    table: &ClassTable,
+    home: PackagePlace,
+    shape: &PackageShape,
+    linked: &Package,
+) -> Result<Vec<Named>, LoadFault>
     requires same { shape.now ≡ linked.now.shape }
-    ensures { result ≡ linking_fault table.now home linked.now }
+    ensures named { IfOk result (λ names. AreNamed table.now home linked.now.body.pool names.items) }
+    ensures fine { IfOk result (λ names. linking_fault table.now home linked.now ≡ None) }
+    ensures refused { IfErr result (IsTold (linking_fault table.now home linked.now)) }
 {
     let imports = linked.imports().len();
     if let Some(token) = first_unmet(table, home, shape) {
-        return Some(LoadFault::MissingImport(token));
+        return Err(LoadFault::MissingImport(token));
     }
-    if let Some(fault) = pool_fault(table, home, linked) {
-        return Some(fault);
+    let names = names_in(alloc, table, home, linked)?;
+    match fault_behind_names(table, home, shape, linked, &names) {
+        Some(fault) => Err(fault),
+        None => Ok(names),
     }
-    class_fault(table, home, shape, linked)
 }
 
 /// The classes of a world with those of a package behind them.
@@ -97,19 +108,19 @@ fn with_package(
     Ok(table)
 }
 
-/// What a linked package has beside its shape.
+/// What a linked package has beside its shape, where its entries name these.
 fn linked_body(
     alloc: Global,
     table: &ClassTable,
-    home: PackagePlace,
     linked: &Package,
+    names: &[Named],
 ) -> Result<LinkedBody, AllocError>
-    requires lead { LeadSomewhere table.now home linked.now.body.pool }
+    requires lead { NamesLead table.now names.now }
     ensures kept { IfOk result (λ body. body.kept ≡ kept_of linked.now.body) }
-    ensures targets { IfOk result (λ body. map Some body.targets ≡ pool_targets table.now home linked.now.body.pool) }
+    ensures targets { IfOk result (λ body. map Some body.targets ≡ map (target_of table.now) names.now) }
 {
     let kept = body_of(alloc, linked)?;
-    let targets = pool_targets(alloc, table, home, linked)?;
+    let targets = targets_of(alloc, table, names)?;
     Ok(LinkedBody { kept, targets })
 }
 
@@ -128,14 +139,16 @@ fn leads(world: &World, table: &ClassTable, linked: &Package)
     built_worlds_are_sound();
 }
 
-/// The package, bound to the packages of a world: it is well-formed there.
+/// The package, bound to the packages of a world: it is well-formed there, and its entries name these.
 fn bound(
     alloc: Global,
     world: &World,
     table: ClassTable,
     linked: &Package,
+    names: &[Named],
 ) -> Result<Linked, AllocError>
     requires table { table ≡ grown world.now.shapes linked.now.shape }
+    requires named { AreNamed table (length world.now.shapes) linked.now.body.pool names.now }
     requires fine { IsWellFormed world.now.shapes linked.now }
     requires apart { StandApart linked.now.body.methods }
     requires headers { HaveHeaders linked.now.shape }
@@ -144,8 +157,7 @@ fn bound(
     ensures { IfOk result (λ l. IsLinked world.now.shapes linked.now l) }
 {
     leads(world, &table, linked);
-    let home = PackagePlace::new(world.len());
-    let body = linked_body(alloc, &table, home, linked)?;
+    let body = linked_body(alloc, &table, linked, names)?;
     Ok(Linked { table, body })
 }
 
@@ -167,9 +179,9 @@ pub fn link_package(alloc: Global, read: &Package, world: &World) -> Result<Link
     let Some(shape) = table.shape(home) else {
         return Err(LoadFault::Memory);
     };
-    match linking_fault(&table, home, shape, read) {
-        Some(fault) => Err(fault),
-        None => bound(alloc, world, table, read).map_err(|_| LoadFault::Memory),
+    match names_if_fine(alloc, &table, home, shape, read) {
+        Ok(names) => bound(alloc, world, table, read, &names).map_err(|_| LoadFault::Memory),
+        Err(fault) => Err(fault),
     }
 }
 

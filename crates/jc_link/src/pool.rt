@@ -1,18 +1,23 @@
 //! What entries of the constant pool name.
 
-ghost use Rattle.std.specs.Prelude.{◌≡◌, ◌≤◌, false, length, IfSome, slice_get};
-ghost use Rattle.std.specs.Option.{option_and_then, option_map, option_map_or};
+ghost use Rattle.std.specs.Prelude.{◌≡◌, ◌≤◌, None, length, IfSome, IfOk, IfErr, slice_get};
+ghost use Rattle.std.specs.Option.{option_and_then, option_map};
+ghost use Rattle.jc_base.specs.declared.fault.LoadFault.TheVariants.{Unresolved};
 ghost use Rattle.jc_link.specs.Named.{static_place, is_abstract_method, is_concrete, named_field, named_virtual};
 ghost use Rattle.jc_link.specs.Named.{method_above, named_above, named_static_field, named_static_method, named_by};
-ghost use Rattle.jc_link.specs.Pool.{is_unresolved, first_unresolved};
+ghost use Rattle.jc_link.specs.Pool.{first_unresolved};
+ghost use Rattle.jc_link.specs.PrivateFaults.{IsTold};
+ghost use Rattle.jc_link.specs.PrivateNames.{AreNamed};
 
 use crate::classes::is_class_at;
 use crate::fields::{instance_field_at, static_field_at};
 use crate::named::{Named, StaticPlace};
+use jc_base::LoadFault;
 use jc_cap_desc::Package;
 use jc_cap_pool::{MemberRef, PoolEntry, StaticRef};
 use jc_classes::{ClassTable, Export, Method, method_name};
 use jc_names::{ClassName, MethodName, PackagePlace};
+use std::alloc::Global;
 
 /// What a package exports under a class token.
 fn export_at(table: &ClassTable, there: PackagePlace, class: u8) -> Option<&Export>
@@ -199,40 +204,53 @@ pub(crate) fn named_by(table: &ClassTable, home: PackagePlace, entry: PoolEntry)
     }
 }
 
-/// Whether the entry at an index is there, and names nothing.
-fn is_unresolved_at(table: &ClassTable, home: PackagePlace, linked: &Package, index: u16) -> bool
-    ensures { result ≡ option_map_or (is_unresolved table.now home) (slice_get linked.now.body.pool index) false }
+/// What the entry at an index names, if it is there.
+fn named_at(table: &ClassTable, home: PackagePlace, linked: &Package, index: u16) -> Option<Named>
+    ensures { result ≡ option_and_then (named_by table.now home) (slice_get linked.now.body.pool index) }
 {
-    match linked.pool().at(index) {
-        Some(entry) => named_by(table, home, entry).is_none(),
-        None => false,
-    }
+    let entry = linked.pool().at(index)?;
+    named_by(table, home, entry)
 }
 
-/// The index of the first entry among so many of the package that stands there that names nothing.
-fn first_unresolved_of(
+/// What so many entries of the package that stands there name, which are all. Or the first that names nothing is told,
+/// or memory.
+fn names_of(
+    alloc: Global,
     table: &ClassTable,
     home: PackagePlace,
     linked: &Package,
     count: u16,
-) -> Option<u16>
-    ensures { count ≡ length linked.now.body.pool → result ≡ first_unresolved table.now home linked.now.body.pool }
+) -> Result<Vec<Named>, LoadFault>
+    requires count { count ≡ length linked.now.body.pool }
+    ensures named { IfOk result (λ names. AreNamed table.now home linked.now.body.pool names.items) }
+    ensures all { IfOk result (λ names. first_unresolved table.now home linked.now.body.pool ≡ None) }
+    ensures refused { IfErr result (IsTold (option_map Unresolved
+        (first_unresolved table.now home linked.now.body.pool))) }
 {
+    let mut names = Vec::new(alloc);
     for index in 0..count {
-        if is_unresolved_at(table, home, linked, index) {
-            return Some(index);
-        }
+        let Some(named) = named_at(table, home, linked, index) else {
+            return Err(LoadFault::Unresolved(index));
+        };
+        let Ok(()) = names.push(named) else {
+            return Err(LoadFault::Memory);
+        };
     }
-    None
+    Ok(names)
 }
 
-/// The index of the first entry of the package that stands there that names nothing.
-pub(crate) fn first_unresolved(
+/// What the entries of the package that stands there name, in their order. Or the first that names nothing is told, or
+/// memory.
+pub(crate) fn names_in(
+    alloc: Global,
     table: &ClassTable,
     home: PackagePlace,
     linked: &Package,
-) -> Option<u16>
-    ensures { result ≡ first_unresolved table.now home linked.now.body.pool }
+) -> Result<Vec<Named>, LoadFault>
+    ensures named { IfOk result (λ names. AreNamed table.now home linked.now.body.pool names.items) }
+    ensures all { IfOk result (λ names. first_unresolved table.now home linked.now.body.pool ≡ None) }
+    ensures refused { IfErr result (IsTold (option_map Unresolved
+        (first_unresolved table.now home linked.now.body.pool))) }
 {
-    first_unresolved_of(table, home, linked, linked.pool().count())
+    names_of(alloc, table, home, linked, linked.pool().count())
 }

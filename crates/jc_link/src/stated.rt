@@ -1,17 +1,17 @@
 //! The types that entries of the constant pool state.
 
-ghost use Rattle.std.specs.Prelude.{◌≡◌, ◌≤◌, Some, length};
-ghost use Rattle.std.specs.Option.{option_and_then, option_map};
+ghost use Rattle.std.specs.Prelude.{◌≡◌, ◌≤◌, Some, length, slice_get};
+ghost use Rattle.std.specs.Option.{option_map};
 ghost use Rattle.jc_link.specs.Found.{type_found};
 ghost use Rattle.jc_link.specs.MemberType.{as_member, type_class, member_type_of, method_type_of, have_same_type};
 ghost use Rattle.jc_link.specs.Pool.{is_member, is_mistyped, is_mistyped_at, first_mistyped};
 ghost use Rattle.jc_link.specs.Named.{named_by};
 ghost use Rattle.jc_link.specs.PrivateAgree.{types_agree, signature_agrees};
+ghost use Rattle.jc_link.specs.PrivateNames.{AreNamed};
 ghost use Rattle.jc_link.specs.Target.{instance_type_of, static_type_of, named_type_of};
 
 use crate::fields::{instance_field_at, static_field_at};
 use crate::named::{Named, StaticPlace};
-use crate::pool::named_by;
 use crate::types::{return_agrees, type_agrees};
 use jc_base::{ClassRef, DeclaredType, ReturnType};
 use jc_cap_desc::Package;
@@ -165,46 +165,48 @@ fn is_member(entry: PoolEntry) -> bool
     }
 }
 
-/// Whether an entry names a member of the type that it states.
-#[tactic(auto, using(crate::proofs::Agree::agree_none))]
-fn has_stated_type(
-    table: &ClassTable,
-    home: PackagePlace,
-    entry: PoolEntry,
-    stated: &Descriptor,
-) -> bool
-    ensures { result ≡ have_same_type (member_type_of table.now home stated.now)
-        (option_and_then (named_type_of table.now) (named_by table.now home entry)) }
-{
-    match named_by(table, home, entry) {
-        Some(named) => is_type_of(table, home, stated, named),
-        None => false,
-    }
-}
-
-/// Whether an entry states another type than that of the member that it names.
+/// Whether an entry that names this states another type than that of the member that it names.
 fn is_mistyped(
     table: &ClassTable,
     home: PackagePlace,
     entry: PoolEntry,
+    named: Named,
     stated: &Descriptor,
 ) -> bool
+    requires named { named_by table.now home entry ≡ Some named }
     ensures { result ≡ is_mistyped table.now home entry (Some stated.now) }
 {
-    is_member(entry) && !has_stated_type(table, home, entry, stated)
+    is_member(entry) && !is_type_of(table, home, stated, named)
+}
+
+/// The name with an index.
+fn name_at(names: &[Named], index: u16) -> Option<Named>
+    ensures { result ≡ slice_get names.now index }
+{
+    names.get(usize::from(index)).copied()
 }
 
 /// Whether the entry at an index is there, and states another type than that of the member that it names.
-fn is_mistyped_at(table: &ClassTable, home: PackagePlace, linked: &Package, index: u16) -> bool
+fn is_mistyped_at(
+    table: &ClassTable,
+    home: PackagePlace,
+    linked: &Package,
+    names: &[Named],
+    index: u16,
+) -> bool
+    requires named { AreNamed table.now home linked.now.body.pool names.now }
     ensures { result ≡ is_mistyped_at table.now home linked.now.body index }
 {
     let Some(entry) = linked.pool().at(index) else {
         return false;
     };
+    let Some(named) = name_at(names, index) else {
+        return false;
+    };
     let Some(stated) = linked.pool_type(index) else {
         return false;
     };
-    is_mistyped(table, home, entry, &stated)
+    is_mistyped(table, home, entry, named, &stated)
 }
 
 /// The index of the first entry among so many of the package that stands there that states another type than that of
@@ -213,12 +215,14 @@ fn first_mistyped_of(
     table: &ClassTable,
     home: PackagePlace,
     linked: &Package,
+    names: &[Named],
     count: u16,
 ) -> Option<u16>
+    requires named { AreNamed table.now home linked.now.body.pool names.now }
     ensures { count ≡ length linked.now.body.pool → result ≡ first_mistyped table.now home linked.now.body }
 {
     for index in 0..count {
-        if is_mistyped_at(table, home, linked, index) {
+        if is_mistyped_at(table, home, linked, names, index) {
             return Some(index);
         }
     }
@@ -226,13 +230,15 @@ fn first_mistyped_of(
 }
 
 /// The index of the first entry of the package that stands there that states another type than that of the member that
-/// it names.
+/// it names. The entries name these.
 pub(crate) fn first_mistyped(
     table: &ClassTable,
     home: PackagePlace,
     linked: &Package,
+    names: &[Named],
 ) -> Option<u16>
+    requires named { AreNamed table.now home linked.now.body.pool names.now }
     ensures { result ≡ first_mistyped table.now home linked.now.body }
 {
-    first_mistyped_of(table, home, linked, linked.pool().count())
+    first_mistyped_of(table, home, linked, names, linked.pool().count())
 }

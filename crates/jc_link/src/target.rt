@@ -1,21 +1,17 @@
 //! What entries of the constant pool lead to, with the types of members.
 
 ghost use Rattle.std.specs.Prelude.{◌≡◌, ◌≤◌, map, Some, IfOk};
-ghost use Rattle.std.specs.Option.{option_and_then, option_map};
+ghost use Rattle.std.specs.Option.{option_map};
 ghost use Rattle.jc_link.specs.Found.{types_found};
 ghost use Rattle.jc_link.specs.MemberType.{type_class, member_type_of, method_type_of};
-ghost use Rattle.jc_link.specs.Sound.{LeadSomewhere};
-ghost use Rattle.jc_link.specs.Target.{instance_type_of, static_type_of, cell_of, target_of, pool_target_of};
-ghost use Rattle.jc_link.specs.Target.{pool_targets};
+ghost use Rattle.jc_link.specs.PrivateNames.{NamesLead};
+ghost use Rattle.jc_link.specs.Target.{instance_type_of, static_type_of, cell_of, target_of};
 ghost use Rattle.jc_link.specs.declared.named.Named.TheVariants as Names;
 
 use crate::fields::{cells_above, instance_field_at, static_field_at};
 use crate::named::{Named, StaticPlace};
-use crate::pool::named_by;
 use crate::types::{return_found, type_found};
 use jc_base::{ClassRef, DeclaredType, ReturnType};
-use jc_cap_desc::Package;
-use jc_cap_pool::PoolEntry;
 use jc_classes::{ClassTable, Method};
 use jc_names::{ClassName, MethodName, PackagePlace};
 use std::alloc::{AllocError, Global};
@@ -256,35 +252,19 @@ pub(crate) fn target_of(
     }
 }
 
-/// What an entry of the package that stands there leads to.
-fn pool_target_of(
+/// What is named, with its types, in its order: each name leads somewhere.
+#[tactic(auto, using(crate::proofs::Names::name_leads, crate::proofs::Names::target_more))]
+pub(crate) fn targets_of(
     alloc: Global,
     table: &ClassTable,
-    home: PackagePlace,
-    entry: PoolEntry,
-) -> Result<Option<PoolTarget>, AllocError>
-    ensures { IfOk result (λ target. target ≡ pool_target_of table.now home entry) }
-{
-    match named_by(table, home, entry) {
-        Some(named) => target_of(alloc, table, named),
-        None => Ok(None),
-    }
-}
-
-/// What the entries of the package that stands there lead to, in their order: each leads somewhere.
-pub(crate) fn pool_targets(
-    alloc: Global,
-    table: &ClassTable,
-    home: PackagePlace,
-    linked: &Package,
+    names: &[Named],
 ) -> Result<Vec<PoolTarget>, AllocError>
-    requires lead { LeadSomewhere table.now home linked.now.body.pool }
-    ensures { IfOk result (λ targets. map Some targets.items ≡ pool_targets table.now home linked.now.body.pool) }
+    requires lead { NamesLead table.now names.now }
+    ensures { IfOk result (λ targets. map Some targets.items ≡ map (target_of table.now) names.now) }
 {
     let mut targets = Vec::new(alloc);
-    let mut left = linked.pool();
-    while let Some(entry) = left.next() {
-        let target = pool_target_of(alloc, table, home, entry)?;
+    for named in names {
+        let target = target_of(alloc, table, *named)?;
         targets.push(target.unwrap())?;
     }
     Ok(targets)

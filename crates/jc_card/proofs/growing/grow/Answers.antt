@@ -16,6 +16,15 @@ last_of bodies all body n d is at =
     let place : n ≡ length bodies = omega (arith, at, size) in
     rw (is, place) (get_or-append_seam bodies body [] d)
 
+pub grown-requires : goal.grown-requires
+grown-requires c = record {
+  before = c.args.world.now;
+  linked = c.args.linked;
+  bound = c.requires.bound;
+  world_is = c.in_ok-before.ensures.done;
+  tables = c.requires.tables;
+}
+
 pub returns-in-Ok-load-clause-machine : goal.returns-in-Ok-load-clause-machine
 returns-in-Ok-load-clause-machine c =
     let before = c.args.machine.now in

@@ -11,7 +11,8 @@ use jc_loaded::Program;
 use std::alloc::{AllocError, Global};
 
 /// Puts a package behind those of a world, and its static fields and arrays into the machine over it, if there is room
-/// for these: the tables of the world with it, made from those of the world before. Where no memory is left both are as they were.
+/// for these: the tables of the world with it, made from those of the world before. Where no memory is left both are as
+/// they were.
 pub(crate) fn grow(
     alloc: Global,
     world: &mut World,

@@ -28,7 +28,7 @@ use Rattle.jc_cap_class.specs.Component.{is_class}
 use Rattle.jc_classes.specs.Methods.{entry_visit, is_this, table_visit, record_visit, virtual_visit, virtual_method_of, package_visible, interface_visit, listing_visit, indexes_visit, row_for}
 use Rattle.jc_classes.specs.PrivatePlaces.{place_at}
 use Rattle.jc_classes.specs.Listed.{ListNothing, Listed, class_behind, indexes_in}
-use Rattle.jc_classes.specs.PrivateTables.{Tabled, no_methods, row_at, row_entry, visible_entry, entry_in, depth_above, entry_above, listed_above, lists_above, lists_any, IsTabled, IsTabledAbove, entry_made, listed_row, index_at, table_in, table_of, AreTables, AreBefore, AreSameRows, AreVisibleOver, IsRowOver, IsTableOver}
+use Rattle.jc_classes.specs.PrivateTables.{Tabled, no_methods, row_at, row_entry, visible_entry, entry_in, depth_above, listed_above, lists_above, lists_any, IsTabled, IsTabledAbove, entry_made, listed_row, index_at, table_in, table_of, AreTables, AreBefore, AreSameRows, AreVisibleOver, IsRowOver, IsTableOver}
 use Rattle.jc_classes.specs.Subtype.{comes_to_end, has_whole_chain}
 use Rattle.jc_classes.specs.Walk.{most_classes, found_from, walk, found}
 use Rattle.jc_names.specs.Names.{home_of, offset_of}
@@ -41,18 +41,22 @@ use Rattle.jc_classes.specs.declared.walk.Visit.TheVariants.{Above}
 -- ---- walks that have come to their end
 
 -- more steps find the same
-stable : {A : Type 0} (visit : ClassName → ClassShape → Visit A) (world : List Shape) (n m : ℕ) (c : ClassName) → comes_to_end world n c ≡ true → n ≤ m → walk visit world m c ≡ walk visit world n c
+stable : {A : Type 0} (visit : ClassName → ClassShape → Visit A) (world : List Shape) (n m : ℕ) (c : ClassName)
+    → comes_to_end world n c ≡ true → n ≤ m → walk visit world m c ≡ walk visit world n c
 stable visit world zero m c e h = absurd (true_false (sym e))
 stable visit world (suc n) zero c e h = absurd (omega arith)
 stable {A} visit world (suc n) (suc m) c e h = ap (λ (o : Option A). option_and_then (λ k. found_from (visit c k) o) (class_at world c)) (above (superclass_of world c) e (λ d f. stable visit world n m d f (omega arith)))
   where
-    above : (o : Option ClassName) → option_map_or (comes_to_end world n) o true ≡ true → ((d : ClassName) → comes_to_end world n d ≡ true → walk visit world m d ≡ walk visit world n d)
+    above : (o : Option ClassName) → option_map_or (comes_to_end world n) o true ≡ true → ((d : ClassName)
+        → comes_to_end world n d ≡ true → walk visit world m d ≡ walk visit world n d)
         → option_and_then (walk visit world m) o ≡ option_and_then (walk visit world n) o
     above None e rest = refl
     above (Some d) e rest = rest d e
 
 -- what a class says, or what is found above it
-pub one_visit : {A : Type 0} (visit : ClassName → ClassShape → Visit A) (world : List Shape) (n : ℕ) (c : ClassName) (k : ClassShape) → comes_to_end world n c ≡ true → n ≤ most_classes → class_at world c ≡ Some k
+pub one_visit : {A : Type 0} (visit : ClassName → ClassShape
+    → Visit A) (world : List Shape) (n : ℕ) (c : ClassName) (k : ClassShape) → comes_to_end world n c ≡ true
+    → n ≤ most_classes → class_at world c ≡ Some k
     → found visit world c ≡ found_from (visit c k) (option_and_then (found visit world) (superclass_of world c))
 one_visit visit world n c k e h at =
     stable visit world n most_classes c e h ∙ sym (stable visit world n (suc most_classes) c e (omega arith))
@@ -64,12 +68,14 @@ one_at_least : (world : List Shape) (c : ClassName) (n : ℕ) → comes_to_end w
 one_at_least world c zero e = absurd (true_false (sym e))
 one_at_least world c (suc n) e = omega arith
 
-one_more : (world : List Shape) (c d : ClassName) (depth : ℕ) → superclass_of world c ≡ Some d → ((n : ℕ) → comes_to_end world n d ≡ true → depth ≤ n) → (n : ℕ) → comes_to_end world n c ≡ true → suc depth ≤ n
+one_more : (world : List Shape) (c d : ClassName) (depth : ℕ) → superclass_of world c ≡ Some d → ((n : ℕ)
+    → comes_to_end world n d ≡ true → depth ≤ n) → (n : ℕ) → comes_to_end world n c ≡ true → suc depth ≤ n
 one_more world c d depth s least zero e = absurd (true_false (sym e))
 one_more world c d depth s least (suc n) e = let l = least n (sym (ap (λ (o : Option ClassName). option_map_or (comes_to_end world n) o true) s) ∙ e) in omega (arith, l)
 
 -- an interface's table has nothing
-no_entry : (token asker : ℕ) (b : Bool) → cond b (place_at no_methods.public token) (place_at (row_at no_methods.visible asker) (token - package_visible)) ≡ None
+no_entry : (token asker : ℕ) (b : Bool)
+    → cond b (place_at no_methods.public token) (place_at (row_at no_methods.visible asker) (token - package_visible)) ≡ None
 no_entry token asker true = refl
 no_entry token asker false = refl
 
@@ -82,7 +88,8 @@ none_above world c e = record {
   nothing = λ none d up. absurd (none_some d (sym e ∙ up));
 }
 
-pub some_above : (world : List Shape) (c d : ClassName) (table : Tabled) → superclass_of world c ≡ Some d → IsTabled world d table → IsTabledAbove world c (Some table)
+pub some_above : (world : List Shape) (c d : ClassName) (table : Tabled) → superclass_of world c ≡ Some d
+    → IsTabled world d table → IsTabledAbove world c (Some table)
 some_above world c d table e t = record {
   ends = ap (λ (o : Option ClassName). option_map_or (comes_to_end world table.depth) o true) e ∙ t.ends;
   least = one_more world c d table.depth e t.least;
@@ -107,7 +114,9 @@ nothing_made world c k above at up none (suc n) d k2 here there =
     up.nothing (no_rows (interface_rows k.body) (lists_above above) none).1 s.0 s.1 n d k2 s.2 there
 
 -- a table of what a class says, and of what the table above has
-pub made_right : (world : List Shape) (c : ClassName) (k : ClassShape) (above : Option Tabled) (table : Tabled) → class_at world c ≡ Some k → IsTabledAbove world c above → table.depth ≡ suc (depth_above above) → table.depth ≤ most_classes
+pub made_right : (world : List Shape) (c : ClassName) (k : ClassShape) (above : Option Tabled) (table : Tabled)
+    → class_at world c ≡ Some k → IsTabledAbove world c above → table.depth ≡ suc (depth_above above)
+    → table.depth ≤ most_classes
     → ((token asker : ℕ) → token < 256 → entry_in table token asker ≡ entry_made world above (home_of c) k.body token asker)
     → ((interface : ClassName) → indexes_in table.listed interface ≡ found_from (listing_visit world interface (home_of c) k.body) (indexes_in (listed_above above) interface))
     → table.lists ≡ lists_any (interface_rows k.body) (lists_above above) → IsTabled world c table
@@ -167,13 +176,16 @@ module _ (world : List Shape) (c : ClassName) (k : ClassShape) (at : class_at wo
 
 -- ---- worlds that grow
 
-ends_keep : (world : List Shape) (more : Shape) (n : ℕ) (c : ClassName) → IsWithin world c → comes_to_end (grown world more) n c ≡ comes_to_end world n c
+ends_keep : (world : List Shape) (more : Shape) (n : ℕ) (c : ClassName) → IsWithin world c
+    → comes_to_end (grown world more) n c ≡ comes_to_end world n c
 ends_keep world more zero c w = refl
 ends_keep world more (suc n) c w =
     ap (λ (o : Option ClassName). option_map_or (comes_to_end (grown world more) n) o true) (superclasses_keep world more c w)
     ∙ above (superclass_of world c) (λ d e. ends_keep world more n d (superclass_within world c d w e))
   where
-    above : (o : Option ClassName) → ((d : ClassName) → o ≡ Some d → comes_to_end (grown world more) n d ≡ comes_to_end world n d) → option_map_or (comes_to_end (grown world more) n) o true ≡ option_map_or (comes_to_end world n) o true
+    above : (o : Option ClassName) → ((d : ClassName) → o ≡ Some d
+        → comes_to_end (grown world more) n d ≡ comes_to_end world n d)
+        → option_map_or (comes_to_end (grown world more) n) o true ≡ option_map_or (comes_to_end world n) o true
     above None rest = refl
     above (Some d) rest = rest d refl
 
@@ -203,7 +215,8 @@ nothing_keeps world more c w nothing n d k here there =
     let before = sym (behind_keeps world more n c w) ∙ here in
     nothing n d k before (sym (classes_keep world more d (behind_within world n c d w before)) ∙ there)
 
-table_grows : (world : List Shape) (more : Shape) (c : ClassName) (table : Tabled) → IsWithin world c → IsTabled world c table → IsTabled (grown world more) c table
+table_grows : (world : List Shape) (more : Shape) (c : ClassName) (table : Tabled) → IsWithin world c
+    → IsTabled world c table → IsTabled (grown world more) c table
 table_grows world more c table w t = record {
   ends = ends_keep world more table.depth c w ∙ t.ends;
   least = λ n e. t.least n (sym (ends_keep world more n c w) ∙ e);
@@ -213,10 +226,12 @@ table_grows world more c table w t = record {
   nothing = λ none. nothing_keeps world more c w (t.nothing none);
 }
 
-indexes_keep : (world : List Shape) (more : Shape) (c : ClassName) → IsWithin world c → index_at (grown world more) c ≡ index_at world c
+indexes_keep : (world : List Shape) (more : Shape) (c : ClassName) → IsWithin world c
+    → index_at (grown world more) c ≡ index_at world c
 indexes_keep world more c w = ap (option_and_then (λ (shape : Shape). position (λ (k : ClassShape). k.offset == offset_of c) shape.classes)) (packages_keep world more c w)
 
-table_within : (tables : List (List (Option Tabled))) (home index : ℕ) (table : Tabled) → table_in tables home index ≡ Some table → home < length tables
+table_within : (tables : List (List (Option Tabled))) (home index : ℕ) (table : Tabled)
+    → table_in tables home index ≡ Some table → home < length tables
 table_within tables home index table e =
     let row = some_of (λ (row : List (Option Tabled)). place_at row index) (slice_get tables home) table e in
     slice_get_within tables home row.0 row.1
@@ -226,15 +241,18 @@ index_within world c i e =
     let shape = some_of (λ (shape : Shape). position (λ (k : ClassShape). k.offset == offset_of c) shape.classes) (package_at world c) i e in
     slice_get_within world (home_of c) shape.0 (package_there world c shape.0 shape.1)
 
-table_keeps : (world : List Shape) (more : Shape) (tables : List (List (Option Tabled))) (c : ClassName) → IsWithin world c → table_of (grown world more) tables c ≡ table_of world tables c
+table_keeps : (world : List Shape) (more : Shape) (tables : List (List (Option Tabled))) (c : ClassName)
+    → IsWithin world c → table_of (grown world more) tables c ≡ table_of world tables c
 table_keeps world more tables c w = ap (option_and_then (table_in tables (home_of c))) (indexes_keep world more c w)
 
-chain_keeps : (world : List Shape) (more : Shape) (c : ClassName) → IsWithin world c → has_whole_chain (grown world more) c ≡ has_whole_chain world c
+chain_keeps : (world : List Shape) (more : Shape) (c : ClassName) → IsWithin world c
+    → has_whole_chain (grown world more) c ≡ has_whole_chain world c
 chain_keeps world more c w =
     ap (λ (o : Option ClassShape). is_some o && comes_to_end (grown world more) most_classes c) (classes_keep world more c w)
     ∙ ap (λ b. is_some (class_at world c) && b) (ends_keep world more most_classes c w)
 
-pub tables_grow : (world : List Shape) (more : Shape) (tables : List (List (Option Tabled))) → AreTables world tables → AreBefore (grown world more) tables
+pub tables_grow : (world : List Shape) (more : Shape) (tables : List (List (Option Tabled)))
+    → AreTables world tables → AreBefore (grown world more) tables
 tables_grow world more tables t = record {
   count = omega (arith, t.count, length-append world (more ∷ []));
   right = λ c table e.
@@ -249,14 +267,17 @@ tables_grow world more tables t = record {
 
 -- ---- one class at one place
 
-pub placed_index : (world : List Shape) (c : ClassName) (i : ℕ) → index_at world c ≡ Some i → place world c ≡ Some (256 * home_of c + i)
+pub placed_index : (world : List Shape) (c : ClassName) (i : ℕ) → index_at world c ≡ Some i
+    → place world c ≡ Some (256 * home_of c + i)
 placed_index world c i e = by_package (package_at world c) e
   where
-    by_package : (o : Option Shape) → option_and_then (λ (shape : Shape). position (λ (k : ClassShape). k.offset == offset_of c) shape.classes) o ≡ Some i → option_and_then (place_in (home_of c) (offset_of c)) o ≡ Some (256 * home_of c + i)
+    by_package : (o : Option Shape)
+        → option_and_then (λ (shape : Shape). position (λ (k : ClassShape). k.offset == offset_of c) shape.classes) o ≡ Some i → option_and_then (place_in (home_of c) (offset_of c)) o ≡ Some (256 * home_of c + i)
     by_package None e = absurd (none_some i e)
     by_package (Some shape) e = ap (option_map (λ (i : ℕ). 256 * home_of c + i)) e
 
-pub one_class : (world : List Shape) (c d : ClassName) (i j : ℕ) → IsSmall world → index_at world c ≡ Some i → index_at world d ≡ Some j → home_of d ≡ home_of c → j ≡ i → c ≡ d
+pub one_class : (world : List Shape) (c d : ClassName) (i j : ℕ) → IsSmall world → index_at world c ≡ Some i
+    → index_at world d ≡ Some j → home_of d ≡ home_of c → j ≡ i → c ≡ d
 one_class world c d i j small e f home same =
     let n : 256 * home_of d + j ≡ 256 * home_of c + i = omega (arith, home, same) in
     one_place world c d (256 * home_of c + i) small (placed_index world c i e) (placed_index world d j f ∙ ap Some n)
@@ -311,32 +332,38 @@ pub listed_right : (world : List Shape) (home : ℕ) (rows : List Implemented) (
 listed_right world home [] rest interface = refl
 listed_right world home (row ∷ rows) rest interface = by_name (class_named world home row.interface) (listed_right world home rows rest interface)
   where
-    by_test : (b : Bool) (c : ClassName) → indexes_in (filter_map (listed_row world home) rows ++ rest) interface ≡ found_from (indexes_visit (row_for world interface home rows)) (indexes_in rest interface)
+    by_test : (b : Bool) (c : ClassName)
+        → indexes_in (filter_map (listed_row world home) rows ++ rest) interface ≡ found_from (indexes_visit (row_for world interface home rows)) (indexes_in rest interface)
         → option_map (λ (l : Listed). l.indexes) (cond b (Some (record { interface = c; indexes = row.indexes })) (find (λ (l : Listed). is_same_name l.interface interface) (filter_map (listed_row world home) rows ++ rest)))
         ≡ found_from (indexes_visit (cond b (Some row) (row_for world interface home rows))) (indexes_in rest interface)
     by_test true c others = refl
     by_test false c others = others
 
-    by_name : (o : Option ClassName) → indexes_in (filter_map (listed_row world home) rows ++ rest) interface ≡ found_from (indexes_visit (row_for world interface home rows)) (indexes_in rest interface)
+    by_name : (o : Option ClassName)
+        → indexes_in (filter_map (listed_row world home) rows ++ rest) interface ≡ found_from (indexes_visit (row_for world interface home rows)) (indexes_in rest interface)
         → indexes_in (cons_option (option_map (λ (c : ClassName). record { interface = c; indexes = row.indexes }) o) (filter_map (listed_row world home) rows) ++ rest) interface
         ≡ found_from (indexes_visit (cond (is_this interface o) (Some row) (row_for world interface home rows))) (indexes_in rest interface)
     by_name None others = others
     by_name (Some c) others = by_test (is_same_name c interface) c others
 
-pub class_listing : (world : List Shape) (interface : ClassName) (home : ℕ) (body : RecordBody) → is_class body ≡ true → listing_visit world interface home body ≡ indexes_visit (row_for world interface home (interface_rows body))
+pub class_listing : (world : List Shape) (interface : ClassName) (home : ℕ) (body : RecordBody)
+    → is_class body ≡ true
+    → listing_visit world interface home body ≡ indexes_visit (row_for world interface home (interface_rows body))
 class_listing world interface home (Interface r) e = absurd (true_false (sym e))
 class_listing world interface home (Class r) e = refl
 
 -- ---- rows that are made
 
-place_before : {A : Type 0} (xs : List (Option A)) (y : Option A) (i : ℕ) → i < length xs → place_at (xs ++ y ∷ []) i ≡ place_at xs i
+place_before : {A : Type 0} (xs : List (Option A)) (y : Option A) (i : ℕ) → i < length xs
+    → place_at (xs ++ y ∷ []) i ≡ place_at xs i
 place_before {A} xs y i h = ap (λ (o : Option (Option A)). unwrap_or o None) (get_before xs y i h)
 
 place_last : {A : Type 0} (xs : List (Option A)) (y : Option A) → place_at (xs ++ y ∷ []) (length xs) ≡ y
 place_last [] y = refl
 place_last (x ∷ xs) y = place_last xs y
 
-pub each_pushed : {A : Type 0} (xs : List (Option A)) (y : Option A) (f : ℕ → Option A) (n : ℕ) → length xs ≡ n → ((i : ℕ) → i < n → place_at xs i ≡ f i) → y ≡ f n → (i : ℕ) → i < n + 1 → place_at (xs ++ y ∷ []) i ≡ f i
+pub each_pushed : {A : Type 0} (xs : List (Option A)) (y : Option A) (f : ℕ → Option A) (n : ℕ) → length xs ≡ n
+    → ((i : ℕ) → i < n → place_at xs i ≡ f i) → y ≡ f n → (i : ℕ) → i < n + 1 → place_at (xs ++ y ∷ []) i ≡ f i
 each_pushed xs y f n count so_far last i less = by_order (cases_lt i n)
   where
     by_order : (i < n) ⊎ (n ≤ i) → place_at (xs ++ y ∷ []) i ≡ f i
@@ -358,7 +385,8 @@ row_whole world home table above made n count so_far none i less = by_order (cas
         ∙ sym (none i behind less)
 
 -- a table without methods says nothing of its own
-pub row_shared : (world : List Shape) (home : ℕ) (table : VirtualTable) (above : List (Option MethodName)) → length table.methods ≡ 0
+pub row_shared : (world : List Shape) (home : ℕ) (table : VirtualTable) (above : List (Option MethodName))
+    → length table.methods ≡ 0
     → IsRowOver world home table above above
 row_shared world home table above none i less =
     sym (ap (λ b. found_from (cond b Above (entry_visit world home (slice_get table.methods (i - table.base)))) (place_at above i))
@@ -372,7 +400,8 @@ pub visible_shared : (world : List Shape) (home : ℕ) (table : VirtualTable) (a
     → AreVisibleOver world home table above above
 visible_shared world home table above none asker i less = by_home (home == asker)
   where
-    by_home : (b : Bool) → place_at (row_at above asker) i ≡ cond b (row_entry world home table (row_at above asker) i) (place_at (row_at above asker) i)
+    by_home : (b : Bool)
+        → place_at (row_at above asker) i ≡ cond b (row_entry world home table (row_at above asker) i) (place_at (row_at above asker) i)
     by_home true = row_shared world home table (row_at above asker) none i less
     by_home false = refl
 
@@ -381,7 +410,8 @@ pub row_ends : (world : List Shape) (home : ℕ) (table : VirtualTable) (above :
     → length table.methods + table.base ≤ i → place_at above i ≡ None → row_entry world home table above i ≡ None
 row_ends world home table above i past none = by_test (nat_lt i table.base || length table.methods == 0)
   where
-    by_test : (b : Bool) → found_from (cond b Above (entry_visit world home (slice_get table.methods (i - table.base)))) (place_at above i) ≡ None
+    by_test : (b : Bool)
+        → found_from (cond b Above (entry_visit world home (slice_get table.methods (i - table.base)))) (place_at above i) ≡ None
     by_test true = none
     by_test false = ap (λ (o : Option ℕ). found_from (entry_visit world home o) (place_at above i)) (slice_get_past table.methods (i - table.base) (omega (arith, past)))
 
@@ -390,7 +420,8 @@ pub put_right : (world : List Shape) (home : ℕ) (table : VirtualTable) (rows :
     → IsRowOver world home table (row_at rows home) made → AreVisibleOver world home table rows (set rows home made)
 put_right world home table rows made less over asker i few = by_home (home == asker) refl
   where
-    by_home : (b : Bool) → (home == asker) ≡ b → place_at (row_at (set rows home made) asker) i ≡ cond b (row_entry world home table (row_at rows asker) i) (place_at (row_at rows asker) i)
+    by_home : (b : Bool) → (home == asker) ≡ b
+        → place_at (row_at (set rows home made) asker) i ≡ cond b (row_entry world home table (row_at rows asker) i) (place_at (row_at rows asker) i)
     by_home true e =
         subst (λ asker. place_at (row_at (set rows home made) asker) i ≡ row_entry world home table (row_at rows asker) i) (eqb-true home asker e)
         (ap (λ row. place_at row i) (unwrap_or-slice_get (set rows home made) home [] ∙ get_or-set_same rows home made [] less) ∙ over i few)

@@ -101,7 +101,8 @@ visible_entry world home table above asker i =
 abbrev pub AreVisibleOver : List Shape → ℕ → VirtualTable → List (List (Option MethodName))
     → List (List (Option MethodName)) → Type 0
 AreVisibleOver world home table above made =
-    (asker i : ℕ) → i < 128 → place_at (row_at made asker) i ≡ visible_entry world home table (row_at above asker) asker i
+    (asker i : ℕ) → i < 128
+    → place_at (row_at made asker) i ≡ visible_entry world home table (row_at above asker) asker i
 
 -- the same rows, and empty ones behind them
 abbrev pub AreSameRows : List (List (Option MethodName)) → List (List (Option MethodName)) → Type 0

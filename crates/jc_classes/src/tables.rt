@@ -480,8 +480,8 @@ impl Shapes {
         Ok(listed)
     }
 
-    /// The interfaces of a class: those that its record lists, and then those of the class above, which are shared where
-    /// it lists none.
+    /// The interfaces of a class: those that its record lists, and then those of the class above, shared with it where
+    /// the record lists none.
     fn listed_over(
         &self,
         alloc: Global,
@@ -504,19 +504,19 @@ impl Shapes {
         &self,
         alloc: Global,
         home: PackagePlace,
-        record: &ClassBody,
+        body: &ClassBody,
         above: &MethodTable,
         depth: u16,
     ) -> Result<MethodTable, AllocError>
-        ensures { IfOk result (IsTableOver self.now home record.now.public_methods record.now.package_methods
-            record.now.interfaces.items above.now depth) }
+        ensures { IfOk result (IsTableOver self.now home body.now.public_methods body.now.package_methods
+            body.now.interfaces.items above.now depth) }
     {
         Ok(MethodTable {
             depth,
-            public: self.row_over(alloc, home, &record.public_methods, &above.public)?,
-            visible: self.visible_over(alloc, home, &record.package_methods, &above.visible)?,
-            listed: self.listed_over(alloc, home, &record.interfaces, &above.listed)?,
-            lists: record.interfaces.len() != 0 || above.lists,
+            public: self.row_over(alloc, home, &body.public_methods, &above.public)?,
+            visible: self.visible_over(alloc, home, &body.package_methods, &above.visible)?,
+            listed: self.listed_over(alloc, home, &body.interfaces, &above.listed)?,
+            lists: body.interfaces.len() != 0 || above.lists,
         })
     }
 
@@ -538,9 +538,9 @@ impl Shapes {
         let none = MethodTable::of_interface(alloc)?;
         match &found.body {
             Body::Interface(_) => Ok(none),
-            Body::Class(record) => {
+            Body::Class(body) => {
                 let above = above_or(above, &none);
-                self.table_over(alloc, class.home(), record, above, depth)
+                self.table_over(alloc, class.home(), body, above, depth)
             }
         }
     }

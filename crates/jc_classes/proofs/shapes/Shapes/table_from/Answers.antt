@@ -16,7 +16,7 @@ returns-in-Interface c =
 pub returns-in-Class : goal.returns-in-Class
 returns-in-Class c =
     let body = ap (λ (k : ClassShape). k.body) (sym c.found.view_is) ∙ ap record_of c.in-Class.is in
-    let r = c.in-Class.record in
+    let r = c.in-Class.body in
     map_ok
     (λ made. IsTableOver c.args.self.now c.home.result r.public_methods r.package_methods r.interfaces.items
     c.above_or-above.result.now c.args.depth made)

@@ -10,8 +10,7 @@ use Rattle.jc_cert.specs.Cert.{Row, Stated}
 use Rattle.jc_cert.specs.declared.stated_type.SpelledClass.{SpelledClass}
 use Rattle.jc_cert.specs.declared.stated_type.StatedType.{StatedType}
 use Rattle.jc_names.specs.declared.name.ClassName.{ClassName}
-use Rattle.jc_code.specs.Instructions.{instr_at}
-use Rattle.jc_code.specs.Listing.{IsListing, PlacedInstr, begins, placed_at}
+use Rattle.jc_code.specs.Listing.{PlacedInstr, placed_at}
 use Rattle.jc_code.specs.Targets.{falls_of, targets_of}
 use Rattle.jc_code.specs.declared.instr.Instr.{Instr}
 use Rattle.jc_link.specs.Linked.{Linked}
@@ -35,7 +34,7 @@ use Rattle.jc_verify.specs.declared.place.Place.{Place}
 use Rattle.jc_verify.proofs.Carrying.{all_by_place}
 use Rattle.jc_verify.proofs.Passing.{all_at, all_contained, contains_at}
 use Rattle.jc_verify.proofs.Refusing.{carried_at, goes_on, live_typed}
-use Rattle.jc_verify.proofs.Starting.{none_past, placed_begins, placed_here}
+use Rattle.jc_verify.proofs.Starting.{none_past, placed_here}
 
 -- ---- what is claimed is stated
 

@@ -1,5 +1,5 @@
 -- Where control flow is refused to go on, nothing that lies above what is held carries the method.
-use Rattle.std.proofs.Common.{◌≡◌, ℕ, List, length, Bool, true, false, Option, None, refl, sym, subst, ◌∙◌, arith}
+use Rattle.std.proofs.Common.{◌≡◌, ℕ, List, length, Bool, true, false, Option, None, sym, subst, ◌∙◌, arith}
 use Rattle.std.proofs.lemmas.Option.{none-some}
 use Rattle.jc_base.specs.declared.reason.Reason.{Reason}
 use Rattle.jc_classes.specs.Subtype.{is_class_below}
@@ -43,9 +43,6 @@ falls_in f false place falls = falls
 -- ---- refusals
 
 module _ {f : Flow} {asks : Typing → Type 0} where
-  pub denies_memory : {places : Places} → IsDenial f asks places faults.Memory
-  denies_memory = record { each = λ pc reason is. absurd cc }
-
   -- by what was known before
   pub denies_on : {more_asks : Typing → Type 0} {before now : Places} {fault : WordFault} → IsDenial f asks now fault
       → ((typing : Typing) → IsCarrier f.linked.now f.method.now f.numbers.now typing → IsUnder f.linked.now f.numbers.now before typing → more_asks typing → IsUnder f.linked.now f.numbers.now now typing × asks typing)

@@ -27,9 +27,6 @@ pub if_refusal : (fault : WordFault) (P Q : ℕ → Reason → Type 0) → IfRef
 if_refusal (Refused pc reason) P Q h on = on pc reason h
 if_refusal Memory P Q h on = tt
 
-pub no_refusal : (fault : WordFault) (P : ℕ → Reason → Type 0) → fault ≡ Memory → IfRefusal fault P
-no_refusal fault P e = subst (λ (f : WordFault). IfRefusal f P) (sym e) tt
-
 -- of these places the one with a number is no pc at which an instruction begins
 pub off_one : (places : List ℤ) (k : ℕ) → k < length places → (listing : List PlacedInstr) → ((p : ℕ) → slice_get places k ≡ Some (pos p) → begins listing p ≡ false)
     → (place : ℤ) × Contains places place × ((p : ℕ) → place ≡ pos p → begins listing p ≡ false)

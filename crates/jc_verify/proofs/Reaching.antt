@@ -1,5 +1,5 @@
 -- The states that flow to a pc, and what is told where control flow is refused to go on.
-use Rattle.std.proofs.Common.{◌≡◌, ◌≢◌, ◌⊎◌, inl, inr, ℕ, ℤ, pos, ◌<◌, ◌≤◌, true, List, [], length, Option, Some, None, Ok, Err, refl, sym, ap, subst, ◌∙◌, slice_get, slice_set}
+use Rattle.std.proofs.Common.{◌≡◌, ◌⊎◌, inl, inr, ℕ, ℤ, pos, ◌<◌, ◌≤◌, true, List, length, Option, Some, None, Ok, Err, refl, sym, ap, subst, ◌∙◌, slice_get, slice_set}
 use Rattle.std.specs.Prelude.{negsuc}
 use Rattle.std.specs.List.{AllByRecursion, Contains}
 use Rattle.std.specs.Option.{option_map}
@@ -7,14 +7,13 @@ use Rattle.std.proofs.lemmas.Bool.{cases_eq, cases_lt}
 use Rattle.std.proofs.lemmas.Option.{none-some, same_Some, slice_get_within}
 use Rattle.jc_base.specs.declared.reason.Reason.{Reason}
 use Rattle.jc_base.specs.declared.reason.Reason.TheVariants.{CertMismatch, FallsOff, NoTarget}
-use Rattle.jc_names.specs.declared.name.ClassName.{ClassName}
 use Rattle.jc_code.specs.Listing.{IsListing, PlacedInstr, placed_at}
 use Rattle.jc_code.specs.Targets.{falls_of, targets_of}
 use Rattle.jc_code.specs.declared.instr.Instr.{Instr}
 use Rattle.jc_link.specs.Linked.{Linked}
 use Rattle.jc_types.specs.State.{StateWithRoom, Types}
 use Rattle.jc_check.specs.Carried.{HandlerStands}
-use Rattle.jc_check.specs.Method.{Handler, Method, caught_types, covers, entry_of}
+use Rattle.jc_check.specs.Method.{Method, caught_types, entry_of}
 use Rattle.jc_check.specs.Package.{package_rules}
 use Rattle.jc_check.specs.Rules.{Rules}
 use Rattle.jc_verify.specs.Live.{IsEntered, IsLive, first, behind, by_branch, by_handler, branched, caught}
@@ -22,10 +21,10 @@ use Rattle.jc_verify.specs.PrivateWork.{IsDecodedAt}
 use Rattle.jc_verify.specs.PrivateFlow.{HasLaws, IsNumbered, Places, below_in, held_at, placed}
 use Rattle.jc_verify.specs.PrivateNames.{AreNamed, HasNames, KeepsNames}
 use Rattle.jc_verify.specs.PrivatePlaces.{IsTakenIn, put, joined}
-use Rattle.jc_verify.specs.PrivateTold.{AreReached, IsFlowing, IsGroundOf, IsHeldAt, IsUncaught, IsUncaughtAt, IsUnled, MeetsUnlike, Reaches, caught_no_room, caught_unlike, meets_unlike}
+use Rattle.jc_verify.specs.PrivateTold.{AreReached, IsFlowing, IsHeldAt, IsUncaught, IsUncaughtAt, IsUnled, MeetsUnlike, Reaches, caught_no_room, caught_unlike, meets_unlike}
 use Rattle.jc_verify.specs.PrivateWork.{FlowsIn, FlowsTo, GoesOn, IsAtWork, IsBranchsWay, IsHandlersWay, IsSound, IsToldAt, MeetsHeld, StandsAt}
 use Rattle.jc_verify.specs.declared.flow.Flow.{Flow}
-use Rattle.jc_verify.specs.Told.{Flows, IsStopped, IsToldOf, Passes, branches, catches, entry, falls, falls_off, joins, no_effect, no_room, no_target, passes, stopped, unlike}
+use Rattle.jc_verify.specs.Told.{Flows, IsStopped, Passes, branches, catches, entry, falls, falls_off, joins, no_effect, no_room, no_target, passes, stopped, unlike}
 use Rattle.jc_verify.specs.declared.place.Place.{Place}
 use Rattle.jc_verify.proofs.Arriving.{IsHeldBy, held_by, set_other, set_same}
 use Rattle.jc_verify.proofs.Carrying.{all_by_place}

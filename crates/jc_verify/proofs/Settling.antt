@@ -10,14 +10,14 @@ use Rattle.jc_check.specs.Package.{package_rules}
 use Rattle.jc_check.specs.Typing.{BranchLeads, HandlerLeads, HasShape, Leads, Typing}
 use Rattle.jc_link.specs.Linked.{Linked}
 use Rattle.jc_types.specs.State.{StateWithRoom, Types}
-use Rattle.jc_verify.specs.PrivateFlow.{AreShaped, Grown, HasLaws, HasRoom, IsClosed, IsNumbered, IsUnder, IsUpper, IsVisited, Places, Risen, held_at, height_in, left_in, most_height, number_at, types_held, below_in, ends, meets, goes_on}
-use Rattle.jc_verify.specs.PrivateTold.{AreReached, Reaches}
+use Rattle.jc_verify.specs.PrivateFlow.{Grown, HasLaws, HasRoom, IsClosed, IsUnder, IsUpper, IsVisited, Places, Risen, held_at, height_in, left_in, most_height, number_at, types_held, below_in, ends, meets, goes_on}
+use Rattle.jc_verify.specs.PrivateTold.{AreReached}
 use Rattle.jc_verify.specs.PrivatePlaces.{IsStep, left_of}
 use Rattle.jc_verify.specs.PrivateSettled.{IsFollowed, IsSettled, IsSwept, settled_place}
 use Rattle.jc_verify.specs.PrivateWork.{Bears, ClosedFrom, FlowsTo, HasTaken, HaveRoom, IsAtWork, LeadsTo}
 use Rattle.jc_verify.specs.declared.flow.Flow.{Flow}
 use Rattle.jc_verify.specs.declared.place.Place.{Place}
-use Rattle.jc_verify.proofs.Arriving.{IsHeldBy, at_number, held_by, number_within, set_length, set_other, set_same}
+use Rattle.jc_verify.proofs.Arriving.{IsHeldBy, at_number, held_by, set_length, set_other, set_same}
 use Rattle.jc_verify.proofs.Growing.{grown_self, leads_on, risen_self, risen_through}
 use Rattle.jc_verify.proofs.Reaching.{reached_cleared, types_reached}
 use Rattle.jc_verify.proofs.Taking.{work_on}

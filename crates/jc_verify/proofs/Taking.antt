@@ -1,9 +1,8 @@
 -- What places have taken in, one step behind the other.
-use Rattle.std.proofs.Common.{◌≡◌, ℕ, ◌+◌, ◌≤◌, Bool, true, false, List, length, drop, None, Some, Ok, slice_get, slice_set, refl, sym, ap, subst, ◌∙◌}
+use Rattle.std.proofs.Common.{◌≡◌, ℕ, ◌+◌, ◌≤◌, Bool, true, false, List, length, None, Some, Ok, slice_get, slice_set, refl, sym, ap, subst, ◌∙◌}
 use Rattle.std.specs.List.{AllByRecursion}
 use Rattle.std.specs.Option.{option_map}
 use Rattle.std.proofs.lemmas.Option.{none-some, slice_get-get_or}
-use Rattle.jc_base.specs.declared.reason.Reason.{Reason}
 use Rattle.jc_code.specs.Targets.{falls_of, targets_of}
 use Rattle.jc_code.specs.declared.instr.Instr.{Instr}
 use Rattle.jc_check.specs.Package.{package_rules}

@@ -1,4 +1,4 @@
-use Rattle.std.proofs.Common.{List, ◌≡◌, ℕ, inl, true, map, refl, rules, subst, sym}
+use Rattle.std.proofs.Common.{List, ◌≡◌, inl, true, map, refl, rules, subst, sym}
 use Rattle.jc_code.specs.Listing.{PlacedInstr, begins}
 use Rattle.jc_verify.specs.Live.{IsEntered}
 use Rattle.jc_cert.specs.Cert.{Stated, stated}

@@ -1,8 +1,7 @@
 use Rattle.std.proofs.lemmas.Result.{err_from_is_err_and}
-use Rattle.jc_verify.proofs.Denying.{denies_memory, denies_on}
+use Rattle.jc_verify.proofs.Denying.{denies_on}
 use Rattle.jc_verify.proofs.Growing.{risen_through}
 use Rattle.jc_verify.proofs.Settling.{settled_first, under_first}
-use Rattle.jc_verify.proofs.Taking.{blank_work}
 use Rattle.jc_verify.proofs.Visiting.{if_err, if_ok}
 use Rattle.jc_verify.proofs.settle.fill.Goals as goal
 

@@ -10,8 +10,7 @@ use Rattle.jc_cert.specs.Cert.{Row, Stated}
 use Rattle.jc_cert.specs.declared.stated_type.SpelledClass.{SpelledClass}
 use Rattle.jc_cert.specs.declared.stated_type.StatedType.{StatedType}
 use Rattle.jc_names.specs.declared.name.ClassName.{ClassName}
-use Rattle.jc_code.specs.Instructions.{instr_at}
-use Rattle.jc_code.specs.Listing.{IsListing, PlacedInstr, begins, placed_at}
+use Rattle.jc_code.specs.Listing.{PlacedInstr, placed_at}
 use Rattle.jc_code.specs.Targets.{falls_of, targets_of}
 use Rattle.jc_code.specs.declared.instr.Instr.{Instr}
 use Rattle.jc_link.specs.Linked.{Linked}
@@ -26,16 +25,16 @@ use Rattle.jc_check.specs.Rules.{Rules}
 use Rattle.jc_check.specs.Typing.{BranchLeads, HandlerLeads, IsFine, Leads, Typing}
 use Rattle.jc_verify.specs.Inferred.{HasAllStates}
 use Rattle.jc_verify.specs.Live.{IsEntered, IsLive, first, behind, by_branch, by_handler, branched, caught}
-use Rattle.jc_verify.specs.PrivateCarrier.{BranchHasPlace, HandlerHasPlace, HasPlace, HasWays, IsCarrier}
+use Rattle.jc_verify.specs.PrivateCarrier.{HasPlace, IsCarrier}
 use Rattle.jc_verify.specs.PrivateFlow.{HasLaws, IsNumbered, Places, placed}
 use Rattle.jc_verify.specs.PrivateGathered.{IsDenied}
 use Rattle.jc_verify.specs.PrivateNames.{KeepsNames}
-use Rattle.jc_verify.specs.PrivateLive.{AreLive}
+use Rattle.jc_verify.specs.PrivateLive.{HasEntries, HasFound}
 use Rattle.jc_verify.specs.declared.place.Place.{Place}
 use Rattle.jc_verify.proofs.Carrying.{all_by_place}
 use Rattle.jc_verify.proofs.Passing.{all_at, all_contained, contains_at}
 use Rattle.jc_verify.proofs.Refusing.{carried_at, goes_on, live_typed}
-use Rattle.jc_verify.proofs.Starting.{none_past, placed_begins, placed_here}
+use Rattle.jc_verify.proofs.Starting.{none_past, placed_here}
 
 -- ---- what is claimed is stated
 
@@ -190,15 +189,6 @@ module _ (l : Linked) (laws : HasLaws l) (m : Method) (numbers : List (Option �
       falls = λ falls. goes_leads instr.next_pc is_carried.after (behind (placed pc instr) at is_live falls) (falls_on falls).1;
     }
 
-    has_ways : HasWays m numbers pc instr
-    has_ways = record {
-      handlers = all_by_place (HandlerHasPlace numbers pc) m.handlers (λ n h is covered. has_place h.goes_on (caught (placed pc instr) h at is_live (contains_at m.handlers n h is) covered));
-      branches =
-          all_by_place (BranchHasPlace numbers) (targets_of pc instr.operation) (λ n place is to same.
-          has_place to (branched (placed pc instr) to at is_live (subst (Contains (targets_of pc instr.operation)) same (contains_at (targets_of pc instr.operation) n place is))));
-      within = λ falls. (falls_on falls).0;
-    }
-
   room_there : (pc : ℕ) (t : Types) → HasPlace numbers pc → live_typing pc ≡ Some t → length t.operands ≤ m.max_stack
   room_there pc t place e =
       let c : IsClaimedAt rules m states k pc = entered_claimed rules m states k (entered pc place) in
@@ -215,41 +205,32 @@ module _ (l : Linked) (laws : HasLaws l) (m : Method) (numbers : List (Option �
   pub carrier : IsCarrier l m numbers live_typing
   carrier = record {
     upper = record { entry = goes_leads 0 (entry_of m) first k.entry.1; each = λ pc t instr e decoded. is_fine pc t instr e decoded };
-    some = let w = k.entry.0 in omega (arith, w);
-    decoded = λ pc t e.
-        let x = placed_begins k.listing pc (k.starts pc t (of_live pc t e).1) in
-        record { instr = x.0.instr; is = (laws.listing.has m.code k.listing pc x.0 k.whole x.1).1 };
-    ways = has_ways;
     room = room_there;
   }
 
 -- where nothing is a carrier, no states carry the method
-pub denied : (l : Linked) (laws : HasLaws l) (m : Method) (numbers : List (Option ℕ)) (places : Places) (entries : List ℕ) → IsNumbered numbers places
-    → (live : List ℕ) × ((listing : List PlacedInstr) → IsListing instr_at m.code listing → AreLive m listing live)
-    → ((listing : List PlacedInstr) → IsListing instr_at m.code listing → (pc : ℕ) → has_number entries pc ≡ true → begins listing pc ≡ true)
-    → ((listing : List PlacedInstr) → IsListing instr_at m.code listing → (pc : ℕ) → has_number entries pc ≡ true → IsEntered m listing pc)
-    → ((listing : List PlacedInstr) → IsListing instr_at m.code listing → (pc : ℕ) → IsEntered m listing pc → has_number entries pc ≡ true)
+pub denied : (l : Linked) (laws : HasLaws l) (m : Method) (numbers : List (Option ℕ)) (places : Places) (entries : List ℕ) → IsNumbered numbers places → HasEntries m entries
     → ((n : ℕ) (p : Place StateWithRoom) → slice_get places n ≡ Some p → has_number entries p.pc ≡ true) → ((pc : ℕ) → pc < length m.code → has_number entries pc ≡ true → HasPlace numbers pc)
     → ((typing : Typing) → IsCarrier l m numbers typing → ⊥) ⊎ (KeepsNames l m → ⊥) → IsDenied l m
-denied l laws m numbers places entries numbered live starts entered all at_entries has_place (inr unnamed) = inr unnamed
-denied l laws m numbers places entries numbered live starts entered all at_entries has_place (inl never) = inl (λ can.
+denied l laws m numbers places entries numbered of at_entries has_place (inr unnamed) = inr unnamed
+denied l laws m numbers places entries numbered of at_entries has_place (inl never) = inl (λ can.
     let k : Carries (package_rules l) m can.states = can.carried in
-    let lives : AreLive m k.listing live.0 = live.1 k.listing k.whole in
-    never (live_typing l laws m numbers can.states k live.0 lives.all lives.reached (there k) (is_entered k))
-    (carrier l laws m numbers can.states k live.0 lives.all lives.reached (there k) (is_entered k)))
+    let found : HasFound m k.listing entries = subst (λ (xs : List PlacedInstr). HasFound m xs entries) (laws.listing.one_listing m.code of.listing k.listing of.whole k.whole) of.found in
+    never (live_typing l laws m numbers can.states k found.live.0 found.live.1.all found.live.1.reached (there k found) (is_entered k found))
+    (carrier l laws m numbers can.states k found.live.0 found.live.1.all found.live.1.reached (there k found) (is_entered k found)))
   where
-    there : {cs : List Stated} (k : Carries (package_rules l) m cs) (pc : ℕ) → IsEntered m k.listing pc → HasPlace numbers pc
-    there k pc e =
-        let f : has_number entries pc ≡ true = all k.listing k.whole pc e in
-        has_place pc (none_past laws.listing m.code k.listing pc k.whole (starts k.listing k.whole pc f)) f
+    there : {cs : List Stated} (k : Carries (package_rules l) m cs) → HasFound m k.listing entries → (pc : ℕ) → IsEntered m k.listing pc → HasPlace numbers pc
+    there k found pc e =
+        let f : has_number entries pc ≡ true = found.are.all pc e in
+        has_place pc (none_past laws.listing m.code k.listing pc k.whole (found.are.entered pc f).begin) f
 
     blank : Place StateWithRoom
     blank = record { pc = 0; held = None; changed = false }
 
-    is_entered : {cs : List Stated} (k : Carries (package_rules l) m cs) (pc : ℕ) → HasPlace numbers pc → IsEntered m k.listing pc
-    is_entered k pc place =
+    is_entered : {cs : List Stated} (k : Carries (package_rules l) m cs) → HasFound m k.listing entries → (pc : ℕ) → HasPlace numbers pc → IsEntered m k.listing pc
+    is_entered k found pc place =
         let at = slice_get-get_or places place.number blank (numbered.within pc place.number place.is) in
-        subst (IsEntered m k.listing) (numbered.found pc place.number (get_or places place.number blank) place.is at) (entered k.listing k.whole _ (at_entries place.number _ at))
+        subst (IsEntered m k.listing) (numbered.found pc place.number (get_or places place.number blank) place.is at) (found.are.entered _ (at_entries place.number _ at)).entered
 
 -- what carries a package has a state at each pc that is entered
 pub all_states : (l : Linked) → HasLaws l → (cs : List Row) → CarriesPackage l cs → HasAllStates l cs

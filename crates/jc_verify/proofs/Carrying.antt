@@ -220,7 +220,7 @@ module _ (l : Linked) (laws : HasLaws l) (m : Method) (numbers : List (Option �
           let g : Goes (visit rules m listing claims x flow_in) x.instr.next_pc = visit_fine x flow_in is (subst (IsFlow flow_in) (sym runs.0) fine) in
           rw g.is (walked g.flow x.instr.next_pc xs runs.2 g.fine)
 
-      flow_fine : IsEntryMet l m numbers places → flow_findings_of rules m listing claims ≡ Ok tt
+      flow_fine : IsEntryMet l m numbers (held_at numbers places) → flow_findings_of rules m listing claims ≡ Ok tt
       flow_fine entered = by_on entered.on entered.falls entered.closed
         where
           of_goes : Goes (falls_to rules m claims (entry_of m) 0) 0 → flow_findings_of rules m listing claims ≡ Ok tt
@@ -269,7 +269,7 @@ all_by_place P (x ∷ xs) h = (h 0 x refl, all_by_place P xs (λ n y e. h (suc n
 
 -- what is found of the rows of places from which control flow was followed
 pub found_fine : (l : Linked) (laws : HasLaws l) (m : Method) (numbers : List (Option ℕ)) (places : Places) (listing : List PlacedInstr) (cs : List Stated) → IsNumbered numbers places → length numbers ≡ length m.code
-    → IsListing (package_rules l).decoder m.code listing → ((n : ℕ) (p : Place StateWithRoom) → slice_get places n ≡ Some p → begins listing p.pc ≡ true) → AreShaped m places → AreAllClosed l m numbers places → IsEntryMet l m numbers places
+    → IsListing (package_rules l).decoder m.code listing → ((n : ℕ) (p : Place StateWithRoom) → slice_get places n ≡ Some p → begins listing p.pc ≡ true) → AreShaped m places → AreAllClosed l m numbers places → IsEntryMet l m numbers (held_at numbers places)
     → AllByRecursion (HandlerStands listing) m.handlers → AreStateRows (class_of_name l.world) places cs → findings_of (package_rules l) m listing cs ≡ Ok tt
 unfolding findings_of
 found_fine l laws m numbers places listing cs numbered sized whole starts shaped closed entered handlers rows =

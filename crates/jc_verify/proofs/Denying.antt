@@ -1,58 +1,83 @@
 -- Where control flow is refused to go on, nothing that lies above what is held carries the method.
-use Rattle.std.proofs.Common.{◌≡◌, ℕ, List, length, Option, None, Ok, Err, refl, sym, ◌∙◌, arith}
-use Rattle.std.specs.List.{AllByRecursion}
+use Rattle.std.proofs.Common.{◌≡◌, ℕ, List, length, Bool, true, false, Option, None, sym, subst, ◌∙◌, arith}
 use Rattle.std.proofs.lemmas.Option.{none-some}
-use Rattle.jc_base.proofs.Binding.{ok_err}
 use Rattle.jc_base.specs.declared.reason.Reason.{Reason}
 use Rattle.jc_classes.specs.Subtype.{is_class_below}
 use Rattle.jc_names.specs.declared.name.ClassName.{ClassName}
-use Rattle.jc_code.specs.declared.instr.Instr.{Instr}
 use Rattle.jc_link.specs.Linked.{Linked}
 use Rattle.jc_types.specs.State.{Types}
 use Rattle.jc_check.specs.Method.{Method, caught_types}
 use Rattle.jc_check.specs.Package.{package_rules}
-use Rattle.jc_check.specs.Typing.{HandlerLeads, IsFine, Leads, Typing}
+use Rattle.jc_check.specs.Typing.{Leads, Typing}
+use Rattle.jc_check.specs.declared.fault.WordFault.{WordFault}
 use Rattle.jc_check.specs.declared.fault.WordFault.TheVariants as faults
-use Rattle.jc_verify.specs.PrivateCarrier.{HasPlace, HasWays, IsCarrier}
-use Rattle.jc_verify.specs.PrivateFlow.{HasLaws, number_at, placed}
-use Rattle.jc_verify.specs.PrivateStop.{fault_at, stop_of}
-use Rattle.jc_verify.specs.declared.place.NotTaken.{NotTaken}
-use Rattle.jc_verify.specs.declared.place.NotTaken.TheVariants as taking
+use Rattle.jc_verify.specs.PrivateCarrier.{HasPlace, IsCarrier}
+use Rattle.jc_verify.specs.PrivateFlow.{IsUnder, Places, number_at}
+use Rattle.jc_verify.specs.PrivateStop.{fault_at}
+use Rattle.jc_verify.specs.PrivateWork.{Falls, IsDenial, IsRefusedFor, IsToldAt, LeadsTo, Refuses}
+use Rattle.jc_verify.specs.declared.flow.Flow.{Flow}
 use Rattle.jc_verify.specs.declared.stop.Stop.{Stop}
 use Rattle.jc_verify.specs.declared.stop.Stop.TheVariants.{Refused, Memory}
 use Rattle.jc_verify.proofs.Arriving.{below_lengths}
-use Rattle.jc_verify.proofs.Lying.{handlers_down}
 
-pub unlike_of : (why : NotTaken) (reason : Reason) → stop_of why ≡ Refused reason → why ≡ taking.Unlike
-unlike_of taking.Unlike reason e = refl
-unlike_of taking.Memory reason e = absurd cc
-
-pub stop_told : (pc at : ℕ) (stop : Stop) (reason : Reason) → fault_at pc stop ≡ faults.Refused at reason → stop ≡ Refused reason
-stop_told pc at (Refused other) reason e = cc
-stop_told pc at Memory reason e = absurd cc
+told_where : (pc at : ℕ) (stop : Stop) (reason : Reason) → fault_at pc stop ≡ faults.Refused at reason → (pc ≡ at) × (stop ≡ Refused reason)
+told_where pc at (Refused other) reason e = (cc, cc)
+told_where pc at Memory reason e = absurd cc
 
 pub no_place : (numbers : List (Option ℕ)) (pc : ℕ) → number_at numbers pc ≡ None → HasPlace numbers pc → ⊥
 no_place numbers pc none place = none-some place.number (sym none ∙ place.is)
 
-module _ (l : Linked) (laws : HasLaws l) (m : Method) (numbers : List (Option ℕ)) (typing : Typing) (carrier : IsCarrier l m numbers typing) where
-  -- there is room for what is caught
-  pub no_room : (class : ClassName) (t : Types) (pc : ℕ) → m.max_stack ≡ 0 → Leads (package_rules l) typing (caught_types class t) pc → HasPlace numbers pc → ⊥
-  no_room class t pc none leads place =
-      let few = carrier.room pc leads.state place leads.typed in
-      let one : 1 ≡ length leads.state.operands = (below_lengths (is_class_below l.world) (caught_types class t) leads.state leads.below).1 in
-      omega (arith, few, one, none)
+-- there is room for what is caught
+pub no_room : {l : Linked} {m : Method} {numbers : List (Option ℕ)} {typing : Typing} → IsCarrier l m numbers typing → (class : ClassName) (t : Types) (pc : ℕ) → m.max_stack ≡ 0
+    → Leads (package_rules l) typing (caught_types class t) pc → HasPlace numbers pc → ⊥
+no_room {l} carrier class t pc none leads place =
+    let few = carrier.room pc leads.state place leads.typed in
+    let one : 1 ≡ length leads.state.operands = (below_lengths (is_class_below l.world) (caught_types class t) leads.state leads.below).1 in
+    omega (arith, few, one, none)
 
-  module _ (pc : ℕ) (instr : Instr) (s : Types) (leads : Leads (package_rules l) typing s pc) (decoded : (package_rules l).decoder m.code pc ≡ Ok instr) where
-    fine : IsFine (package_rules l) m typing (placed pc instr) leads.state
-    fine = carrier.upper.each pc leads.state instr leads.typed decoded
+-- where there is a place control flow doesn't go on
+pub falls_in : (f : Flow) (on : Bool) {t : Types} {typing : Typing} {pc : ℕ} → HasPlace f.numbers.now pc → Falls f on pc t typing → LeadsTo f pc t typing
+falls_in f true {t} {typing} {pc} place falls = absurd (no_place f.numbers.now pc falls.1 place)
+falls_in f false place falls = falls
 
-    pub handled_there : AllByRecursion (HandlerLeads (package_rules l) typing pc s) m.handlers
-    handled_there = handlers_down l laws typing s leads.state leads.below pc m.handlers fine.handled
+-- ---- refusals
 
-    pub ways_there : HasWays m numbers pc instr
-    ways_there = carrier.ways pc leads.state instr leads.typed decoded
+module _ {f : Flow} {asks : Typing → Type 0} where
+  -- by what was known before
+  pub denies_on : {more_asks : Typing → Type 0} {before now : Places} {fault : WordFault} → IsDenial f asks now fault
+      → ((typing : Typing) → IsCarrier f.linked.now f.method.now f.numbers.now typing → IsUnder f.linked.now f.numbers.now before typing → more_asks typing → IsUnder f.linked.now f.numbers.now now typing × asks typing)
+      → IsDenial f more_asks before fault
+  denies_on h asks_on = record {
+    each = λ pc reason is.
+        let r = h.each pc reason is in record {
+          denied = λ typing carrier under asked. let now = asks_on typing carrier under asked in r.denied typing carrier now.0 now.1;
+          told = r.told;
+        };
+  }
 
-    pub has_effect : (reason : Reason) → (package_rules l).effect m.max_stack m.returned instr.operation s ≡ Err reason → ⊥
-    has_effect reason e =
-        let down = laws.monotone m instr.operation s leads.state fine.after leads.below fine.effect in
-        ok_err down.0 reason (sym down.1 ∙ e)
+  -- what is told where an instruction is visited
+  pub denial_of : {places : Places} {pc : ℕ} {stop : Stop} → Refuses f asks (IsToldAt f pc) places stop → IsDenial f asks places (fault_at pc stop)
+  denial_of {places} {pc} {stop} h = record {
+    each = λ at reason is.
+        let w = told_where pc at stop reason is in
+        subst (λ n. IsRefusedFor f asks (IsToldAt f n) places reason) w.0 (h.each reason w.1);
+  }
+
+  module _ {tells : Reason → Type 0} where
+    pub refused_for : {places : Places} {reason : Reason} → IsRefusedFor f asks tells places reason → Refuses f asks tells places (Refused reason)
+    refused_for {places} {reason} r = record { each = λ other is. let e : reason ≡ other = cc in subst (IsRefusedFor f asks tells places) e r }
+
+    pub refuses_memory : {places : Places} → Refuses f asks tells places Memory
+    refuses_memory = record { each = λ other is. absurd cc }
+
+    -- by what was known before, and for other reasons
+    pub refuses_on : {more_asks : Typing → Type 0} {more_tells : Reason → Type 0} {before now : Places} {stop : Stop} → Refuses f asks tells now stop
+        → ((typing : Typing) → IsCarrier f.linked.now f.method.now f.numbers.now typing → IsUnder f.linked.now f.numbers.now before typing → more_asks typing → IsUnder f.linked.now f.numbers.now now typing × asks typing)
+        → ((reason : Reason) → tells reason → more_tells reason) → Refuses f more_asks more_tells before stop
+    refuses_on h asks_on tells_on = record {
+      each = λ reason is.
+          let r = h.each reason is in record {
+            denied = λ typing carrier under asked. let now = asks_on typing carrier under asked in r.denied typing carrier now.0 now.1;
+            told = tells_on reason r.told;
+          };
+    }

@@ -2,7 +2,6 @@
 use Rattle.std.proofs.Common.{◌≡◌, ◌≢◌, ℕ, ◌+◌, List, [], ◌∷◌, drop, Some, Ok, Err, refl, ap, ◌∙◌, slice_get}
 use Rattle.jc_base.specs.Results.{◌>>=◌}
 use Rattle.jc_base.specs.declared.reason.Reason.{Reason}
-use Rattle.jc_base.specs.declared.reason.Reason.TheVariants.{CertMismatch}
 use Rattle.jc_code.specs.Instructions.{instr_at}
 use Rattle.jc_code.specs.Listing.{PlacedInstr, StopsAt}
 use Rattle.jc_code.specs.declared.fault.CodeFault.{CodeFault}
@@ -16,18 +15,13 @@ use Rattle.jc_check.specs.declared.fault.Fault.{Fault}
 use Rattle.jc_check.specs.declared.fault.WordFault.{WordFault}
 use Rattle.jc_check.specs.declared.fault.WordFault.TheVariants as faults
 use Rattle.jc_verify.specs.PrivateLive.{IfRefusal, IsAstray, IsDecoded, IsGround, leads}
-use Rattle.jc_verify.specs.PrivateStop.{fault_at, stop_of}
-use Rattle.jc_verify.specs.PrivateTold.{IfRefused, Tells, TellsAt}
+use Rattle.jc_verify.specs.PrivateTold.{Tells}
+use Rattle.jc_check.specs.Typing.{Typing}
+use Rattle.jc_verify.specs.PrivateFlow.{Places}
+use Rattle.jc_verify.specs.PrivateWork.{IsDenial}
+use Rattle.jc_verify.specs.declared.flow.Flow.{Flow}
 use Rattle.jc_verify.specs.Told.{IsToldOf, astray, handler, undecoded}
-use Rattle.jc_verify.specs.declared.place.NotTaken.{NotTaken}
-use Rattle.jc_verify.specs.declared.place.NotTaken.TheVariants as taking
-use Rattle.jc_verify.specs.declared.stop.Stop.{Stop}
-use Rattle.jc_verify.specs.declared.stop.Stop.TheVariants.{Refused, Memory}
 use Rattle.jc_verify.proofs.Lists.{drop_get}
-
-pub tells_at : (rules : Rules) (m : Method) (pc : ℕ) (stop : Stop) → TellsAt rules m pc stop → Tells rules m (fault_at pc stop)
-tells_at rules m pc (Refused reason) h = h
-tells_at rules m pc Memory h = tt
 
 pub tells_undecoded : (l : Linked) (m : Method) (pc : ℕ) (reason : Reason) (why : CodeFault) → StopsAt instr_at m.code pc why → reason ≡ reason_of why → IsToldOf (package_rules l) m (fault_of pc reason)
 tells_undecoded l m pc reason why stop is = rw is (undecoded pc why stop)
@@ -66,14 +60,10 @@ stop_one listing hs k h fault at e = ap (λ xs. handlers_stand listing xs) (drop
 
 -- ---- reasons
 
-pub if_refused : (stop : Stop) (P Q : Reason → Type 0) → IfRefused P stop → ((reason : Reason) → P reason → Q reason) → IfRefused Q stop
-if_refused (Refused reason) P Q h on = on reason h
-if_refused Memory P Q h on = tt
-
 pub never_told : (rules : Rules) (m : Method) (fault : WordFault) → ((pc : ℕ) (reason : Reason) → fault ≡ faults.Refused pc reason → ⊥) → Tells rules m fault
 never_told rules m (faults.Refused pc reason) never = absurd (never pc reason refl)
 never_told rules m faults.Memory never = tt
 
-pub stopped_by : (why : NotTaken) (P : Reason → Type 0) → (why ≡ taking.Unlike → P CertMismatch) → IfRefused P (stop_of why)
-stopped_by taking.Unlike P h = h refl
-stopped_by taking.Memory P h = tt
+pub denial_tells : {f : Flow} {asks : Typing → Type 0} {places : Places} (fault : WordFault) → IsDenial f asks places fault → Tells (package_rules f.linked.now) f.method.now fault
+denial_tells (faults.Refused pc reason) denial = (denial.each pc reason refl).told
+denial_tells faults.Memory denial = tt

@@ -1,6 +1,6 @@
 -- What an instruction that is reached leads to.
 use Rattle.std.proofs.Common.{◌≡◌, inl, ℕ, ◌<◌, ◌≤◌, ℤ, true, false, List, length, Some, None, Result, Ok, Err, pos, refl, sym, subst, ◌∙◌}
-use Rattle.std.specs.Prelude.{IfOk, IfErr}
+use Rattle.std.specs.Prelude.{IfErr}
 use Rattle.std.specs.List.{Contains}
 use Rattle.std.proofs.lemmas.Option.{same_Some}
 use Rattle.std.proofs.lemmas.Result.{IfErr-weaker}
@@ -63,7 +63,3 @@ module _ (m : Method) (listing : List PlacedInstr) (starts : List ℕ) (ground :
 pub if_err_refused : {A : Type 0} (r : Result A WordFault) (P Q : ℕ → Reason → Type 0) → IfErr r (λ fault. IfRefusal fault P) → ((pc : ℕ) (reason : Reason) → P pc reason → Q pc reason)
     → IfErr r (λ fault. IfRefusal fault Q)
 if_err_refused r P Q h on = IfErr-weaker r _ _ (λ fault k. if_refusal fault P Q k on) h
-
-pub if_ok_all : {A E : Type 0} (r : Result A E) (P Q R S : A → Type 0) → IfOk r P → IfOk r Q → IfOk r R → ((x : A) → P x → Q x → R x → S x) → IfOk r S
-if_ok_all (Ok x) P Q R S p q r on = on x p q r
-if_ok_all (Err e) P Q R S p q r on = tt

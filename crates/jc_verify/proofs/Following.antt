@@ -9,7 +9,7 @@ use Rattle.jc_check.specs.Method.{Method}
 use Rattle.jc_verify.specs.Live.{IsEntered, IsLive, first, behind, by_branch, by_handler, branched, caught}
 use Rattle.jc_code.specs.Targets.{targets_of}
 use Rattle.jc_verify.specs.Told.{GoesStraight, falls_off, no_target}
-use Rattle.jc_verify.specs.PrivateLive.{AreEntries, AreLive, Grown, IsAwaited, IsDone, IsFollowed, IsFound, IsGround, IsHeld, IsReached, all_numbers, left_of, left_out}
+use Rattle.jc_verify.specs.PrivateLive.{AreEntries, AreLive, Grown, IsAwaited, IsDone, IsFollowed, IsFound, IsGround, IsHeld, IsReached, all_numbers, left_out}
 use Rattle.jc_verify.specs.declared.entries.Followed.{Followed}
 use Rattle.jc_verify.proofs.Numbers.{has_cases, has_itself, has_kept, one_less}
 use Rattle.jc_verify.proofs.Starting.{none_past}
@@ -162,12 +162,6 @@ is_done m listing pc f done h = record {
 
 -- control flow is followed from the pc that was put on the stack last
 module _ (before after : Followed) (pc : ℕ) (live : after.live ≡ before.live) (entered : after.entered ≡ before.entered) (stack : before.stack.items ≡ after.stack.items ++ pc ∷ []) where
-  pub taken_left : left_of after + 1 ≡ left_of before
-  taken_left =
-      let same = ap (λ (s : List ℕ). left_out s all_numbers) live in
-      let more = ap (λ (s : List ℕ). length s) stack ∙ length-append after.stack.items (pc ∷ []) in
-      omega (arith, same, more)
-
   pub taken : (m : Method) (listing : List PlacedInstr) → IsFollowed m listing None before → IsFollowed m listing (Some pc) after
   taken m listing h = record {
     first = live_on 0 h.first;

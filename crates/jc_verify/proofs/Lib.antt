@@ -23,5 +23,6 @@ mod Entering
 mod Refusing
 mod Bearing
 mod Denying
+mod Taking
 mod Certified
 mod Certifying

@@ -1,23 +1,28 @@
 -- What lies below whatever carries a method, while places take in what flows.
-use Rattle.std.proofs.Common.{◌≡◌, ◌⊎◌, inl, inr, ℕ, ℤ, ◌&&◌, Bool, true, false, List, [], ◌∷◌, Option, Some, Ok, slice_get, slice_set, refl, sym, ap, subst, ◌∙◌}
+use Rattle.std.proofs.Common.{◌≡◌, ◌⊎◌, inl, inr, ℕ, ℤ, ◌&&◌, Bool, true, false, List, [], ◌∷◌, Option, Some, Ok, Err, slice_get, slice_set, refl, sym, ap, subst, ◌∙◌}
 use Rattle.std.specs.Prelude.{pos, negsuc}
 use Rattle.std.specs.List.{AllByRecursion}
 use Rattle.std.specs.Option.{option_map}
 use Rattle.std.proofs.lemmas.Bool.{cases_eq, eq-eqb}
 use Rattle.std.proofs.lemmas.Option.{same_Some, slice_get_within}
-use Rattle.jc_base.proofs.Binding.{the_ok}
+use Rattle.jc_base.proofs.Binding.{ok_err, the_ok}
+use Rattle.jc_base.specs.declared.reason.Reason.{Reason}
 use Rattle.jc_code.specs.Targets.{falls_of, targets_of}
 use Rattle.jc_code.specs.declared.instr.Instr.{Instr}
-use Rattle.jc_check.specs.Method.{Handler, Method, caught_types}
+use Rattle.jc_check.specs.Method.{Handler, Method, caught_types, covers}
 use Rattle.jc_check.specs.Package.{package_rules}
+use Rattle.jc_check.specs.Rules.{Rules}
 use Rattle.jc_check.specs.Typing.{BranchLeads, CatchLeads, HandlerLeads, IsFine, Leads, Typing}
 use Rattle.jc_classes.specs.Subtype.{is_class_below}
 use Rattle.jc_names.specs.declared.name.ClassName.{ClassName}
 use Rattle.jc_link.specs.Linked.{Linked}
 use Rattle.jc_types.specs.State.{StateWithRoom, Types, all_below, has_shape_of, types_below}
 use Rattle.jc_types.specs.declared.ty.Ty.TheVariants.{Class}
-use Rattle.jc_verify.specs.PrivateFlow.{HasLaws, IsNumbered, IsUnder, IsUpper, placed, Places, below_in, number_at}
+use Rattle.jc_verify.specs.PrivateFlow.{HasLaws, IsNumbered, IsUnder, placed, Places, below_in, number_at}
 use Rattle.jc_verify.specs.PrivatePlaces.{IsHeldBelow, IsUnlike}
+use Rattle.jc_verify.specs.PrivateTold.{IsUncaught, IsUncaughtAt}
+use Rattle.jc_verify.specs.PrivateWork.{Bears, BranchesAll, FlowsIn, HandlesAll, IsBranchsWay, IsWay, LeadsTo, StandsAt}
+use Rattle.jc_verify.specs.declared.flow.Flow.{Flow}
 use Rattle.jc_verify.specs.declared.place.Place.{Place}
 use Rattle.jc_verify.proofs.Arriving.{IsHeldBy, at_number, below_lengths, held_by, set_other, set_same}
 
@@ -70,17 +75,48 @@ number_of : ℤ → ℕ
 number_of (pos n) = n
 number_of (negsuc n) = 0
 
-pub branch_here : (l : Linked) (typing : Typing) (t : Types) (pc : ℕ) → BranchLeads (package_rules l) typing t (pos pc) → Leads (package_rules l) typing t pc
+pub branch_way : {f : Flow} {t : Types} {pc : ℕ} → IsBranchsWay f t (pos pc) → FlowsIn f pc t
 unfolding number_of
-branch_here l typing t pc h = subst (Leads (package_rules l) typing t) (sym (ap number_of h.is)) h.leads
+branch_way {f} {t} h = subst (λ (n : ℕ). FlowsIn f n t) (sym (ap number_of h.is)) h.flows
 
--- a handler catches the class that it names, and goes on where it says
-pub catch_here : (l : Linked) (typing : Typing) (t : Types) (h view : Handler) → view ≡ h → (class : ClassName) → view.caught ≡ Some class → CatchLeads (package_rules l) typing t h
-    → Leads (package_rules l) typing (caught_types class t) view.goes_on
-catch_here l typing t h view same class is k =
-    let e : class ≡ k.class = same_Some class k.class (sym is ∙ ap (λ (x : Handler). x.caught) same ∙ k.catches) in
-    subst (Leads (package_rules l) typing (caught_types class t)) (sym (ap (λ (x : Handler). x.goes_on) same))
-    (subst (λ (c : ClassName). Leads (package_rules l) typing (caught_types c t) h.goes_on) (sym e) k.leads)
+module _ {rules : Rules} {t : Types} {typing : Typing} where
+  pub branch_here : {pc : ℕ} → BranchLeads rules typing t (pos pc) → Leads rules typing t pc
+  unfolding number_of
+  branch_here h = subst (Leads rules typing t) (sym (ap number_of h.is)) h.leads
+
+  pub branch_at : (targets : List ℤ) (index : ℕ) {place other : ℤ} → slice_get targets index ≡ Some place → slice_get targets index ≡ Some other → BranchLeads rules typing t place → BranchLeads rules typing t other
+  branch_at targets index {place} {other} at is leads = subst (BranchLeads rules typing t) (same_Some place other (sym at ∙ is)) leads
+
+  pub branch_on : (targets : List ℤ) (index : ℕ) {pc : ℕ} {place : ℤ} → slice_get targets index ≡ Some (pos pc) → slice_get targets index ≡ Some place → Leads rules typing t pc → BranchLeads rules typing t place
+  branch_on targets index {pc} at is leads = branch_at targets index at is (record { pc = pc; is = refl; leads = leads })
+
+-- a handler that was looked at by its parts catches the class that it names, and goes on where it says
+module _ {h : Handler} (view : Handler) (same : view ≡ h) (class : ClassName) (is : view.caught ≡ Some class) where
+  named : h.caught ≡ Some class
+  named = ap (λ (x : Handler). x.caught) (sym same) ∙ is
+
+  pub catch_here : {rules : Rules} {t : Types} {typing : Typing} → CatchLeads rules typing t h → Leads rules typing (caught_types class t) view.goes_on
+  catch_here {rules} {t} {typing} k =
+      let e : k.class ≡ class = same_Some k.class class (sym k.catches ∙ named) in
+      subst (Leads rules typing (caught_types class t)) (sym (ap (λ (x : Handler). x.goes_on) same)) (subst (λ (c : ClassName). Leads rules typing (caught_types c t) h.goes_on) e k.leads)
+
+  pub catch_on : {rules : Rules} {t : Types} {typing : Typing} → Leads rules typing (caught_types class t) view.goes_on → CatchLeads rules typing t h
+  catch_on {rules} {t} {typing} leads = record { class = class; catches = named; leads = subst (Leads rules typing (caught_types class t)) (ap (λ (x : Handler). x.goes_on) same) leads }
+
+  pub way_here : {f : Flow} {t : Types} → IsWay f t h → FlowsIn f view.goes_on (caught_types class t)
+  way_here {f} {t} way =
+      let e : way.class ≡ class = same_Some way.class class (sym way.catches ∙ named) in
+      subst (λ (n : ℕ). FlowsIn f n (caught_types class t)) (sym (ap (λ (x : Handler). x.goes_on) same)) (subst (λ (c : ClassName). FlowsIn f h.goes_on (caught_types c t)) e way.flows)
+
+  pub uncaught_here : {l : Linked} {m : Method} {pc : ℕ} {t : Types} {reason : Reason} → covers h pc ≡ true → IsUncaughtAt l m view.goes_on (caught_types class t) reason → IsUncaught l m (λ x. x ≡ h) pc t reason
+  uncaught_here {l} {m} {pc} {t} {reason} covered why = record {
+    h = h;
+    class = class;
+    is = refl;
+    covered = covered;
+    catches = named;
+    untaken = subst (λ (n : ℕ). IsUncaughtAt l m n (caught_types class t) reason) (ap (λ (x : Handler). x.goes_on) same) why;
+  }
 
 module _ (l : Linked) (laws : HasLaws l) (typing : Typing) (s t : Types) (lower : types_below (is_class_below l.world) s t ≡ true) where
   pub leads_down : (pc : ℕ) → Leads (package_rules l) typing t pc → Leads (package_rules l) typing s pc
@@ -114,21 +150,34 @@ module _ (l : Linked) (laws : HasLaws l) (typing : Typing) (s t : Types) (lower 
           }
 
 -- an instruction on types, and the types behind it, go where a typing says
-pub record GoesWith (l : Linked) (m : Method) (typing : Typing) (pc : ℕ) (instr : Instr) (s after : Types) : Type 0 where
-  pub handled : AllByRecursion (HandlerLeads (package_rules l) typing pc s) m.handlers
-  pub branches : AllByRecursion (BranchLeads (package_rules l) typing after) (targets_of pc instr.operation)
-  pub falls : falls_of instr.operation ≡ true → Leads (package_rules l) typing after instr.next_pc
+pub record GoesWith (f : Flow) (pc : ℕ) (instr : Instr) (s after : Types) (typing : Typing) : Type 0 where
+  pub handled : HandlesAll f pc s typing
+  pub branches : BranchesAll f (targets_of pc instr.operation) after typing
+  pub falls : falls_of instr.operation ≡ true → LeadsTo f instr.next_pc after typing
 
--- an instruction that is fine on the state of a typing goes with it on each state below
-pub fine_down : (l : Linked) (laws : HasLaws l) (m : Method) (typing : Typing) → IsUpper l m typing → (pc : ℕ) (instr : Instr) (s after : Types) → Leads (package_rules l) typing s pc
-    → (package_rules l).decoder m.code pc ≡ Ok instr → (package_rules l).effect m.max_stack m.returned instr.operation s ≡ Ok after → GoesWith l m typing pc instr s after
-fine_down l laws m typing upper pc instr s after leads decoded effect =
-    let fine : IsFine (package_rules l) m typing (placed pc instr) leads.state = upper.each pc leads.state instr leads.typed decoded in
-    let down = laws.monotone m instr.operation s leads.state fine.after leads.below fine.effect in
-    let same : down.0 ≡ after = the_ok down.0 after (sym down.1 ∙ effect) in
-    let lower : types_below (is_class_below l.world) after fine.after ≡ true = subst (λ t. types_below (is_class_below l.world) t fine.after ≡ true) same down.2 in
-    record {
-      handled = handlers_down l laws typing s leads.state leads.below pc m.handlers fine.handled;
-      branches = branches_down l laws typing after fine.after lower (targets_of pc instr.operation) fine.branches;
-      falls = λ on. leads_down l laws typing after fine.after lower instr.next_pc (fine.falls on);
-    }
+module _ {f : Flow} {pc : ℕ} {s : Types} {instr : Instr} (x : StandsAt f pc s instr) {typing : Typing} (b : Bears f pc s typing) where
+  abbrev rules : Rules
+  rules = package_rules f.linked.now
+
+  fine : IsFine rules f.method.now typing (placed pc instr) b.leads.state
+  fine = b.upper.each pc b.leads.state instr b.leads.typed x.decoded
+
+  pub handled_there : HandlesAll f pc s typing
+  handled_there = handlers_down f.linked.now x.sound.laws typing s b.leads.state b.leads.below pc f.method.now.handlers fine.handled
+
+  pub has_effect : (reason : Reason) → rules.effect f.method.now.max_stack f.method.now.returned instr.operation s ≡ Err reason → ⊥
+  has_effect reason e =
+      let down = x.sound.laws.monotone f.method.now instr.operation s b.leads.state fine.after b.leads.below fine.effect in
+      ok_err down.0 reason (sym down.1 ∙ e)
+
+  -- an instruction that is fine on the state of a typing goes with it on each state below
+  pub goes_with : {after : Types} → rules.effect f.method.now.max_stack f.method.now.returned instr.operation s ≡ Ok after → GoesWith f pc instr s after typing
+  goes_with {after} effect =
+      let down = x.sound.laws.monotone f.method.now instr.operation s b.leads.state fine.after b.leads.below fine.effect in
+      let one : down.0 ≡ after = the_ok down.0 after (sym down.1 ∙ effect) in
+      let lower : types_below (is_class_below f.linked.now.world) after fine.after ≡ true = subst (λ t. types_below (is_class_below f.linked.now.world) t fine.after ≡ true) one down.2 in
+      record {
+        handled = handled_there;
+        branches = branches_down f.linked.now x.sound.laws typing after fine.after lower (targets_of pc instr.operation) fine.branches;
+        falls = λ on. leads_down f.linked.now x.sound.laws typing after fine.after lower instr.next_pc (fine.falls on);
+      }

@@ -5,10 +5,10 @@ use Rattle.std.proofs.lemmas.Bool.{cases_eq}
 use Rattle.std.proofs.lemmas.Option.{none-some, same_Some, slice_get-get_or, slice_get_within, get_or_from_slice_get}
 use Rattle.jc_base.specs.declared.reason.Reason.{Reason}
 use Rattle.jc_code.specs.Listing.{PlacedInstr, begins}
-use Rattle.jc_check.specs.Method.{Handler}
+use Rattle.jc_check.specs.Method.{Handler, Method}
 use Rattle.jc_check.specs.declared.fault.WordFault.{WordFault}
 use Rattle.jc_check.specs.declared.fault.WordFault.TheVariants.{Refused, Memory}
-use Rattle.jc_verify.specs.PrivateLive.{Grown, IfRefusal, IsBranchIn, IsCaughtIn}
+use Rattle.jc_verify.specs.PrivateLive.{Grown, HasLed, IfRefusal, IsBranchIn, IsCaughtIn}
 use Rattle.jc_verify.specs.declared.entries.Followed.{Followed}
 use Rattle.jc_verify.proofs.Following.{grown_self, grown_through, held_on}
 
@@ -27,9 +27,6 @@ pub if_refusal : (fault : WordFault) (P Q : ℕ → Reason → Type 0) → IfRef
 if_refusal (Refused pc reason) P Q h on = on pc reason h
 if_refusal Memory P Q h on = tt
 
-pub no_refusal : (fault : WordFault) (P : ℕ → Reason → Type 0) → fault ≡ Memory → IfRefusal fault P
-no_refusal fault P e = subst (λ (f : WordFault). IfRefusal f P) (sym e) tt
-
 -- of these places the one with a number is no pc at which an instruction begins
 pub off_one : (places : List ℤ) (k : ℕ) → k < length places → (listing : List PlacedInstr) → ((p : ℕ) → slice_get places k ≡ Some (pos p) → begins listing p ≡ false)
     → (place : ℤ) × Contains places place × ((p : ℕ) → place ≡ pos p → begins listing p ≡ false)
@@ -37,28 +34,37 @@ off_one places k within listing none =
     let at = slice_get-get_or places k (pos 0) within in
     (_, contains_at places k _ at, λ p is. none p (at ∙ ap Some is))
 
+-- ---- where control flow was led
+
+pub led_none : {gives : Followed → Type 0} {asks : Method → List PlacedInstr → Type 0} (f : Followed) → gives f → HasLed gives asks f f
+led_none f met = record { met = met; grown = grown_self f; followed = λ m listing now asked h. h }
+
+pub led_as : {gives more_gives : Followed → Type 0} {asks more_asks : Method → List PlacedInstr → Type 0} {before after : Followed} → HasLed gives asks before after → (gives after → more_gives after)
+    → ((m : Method) (listing : List PlacedInstr) → more_asks m listing → asks m listing) → HasLed more_gives more_asks before after
+led_as led gives_on asks_on = record { met = gives_on led.met; grown = led.grown; followed = λ m listing now asked h. led.followed m listing now (asks_on m listing asked) h }
+
 -- the first of these are met
-pub record ArePassed {A : Type 0} (holds : Followed → A → Type 0) (xs : List A) (k : ℕ) (start now : Followed) : Type 0 where
-  pub grown : Grown start now
-  pub met : (n : ℕ) (x : A) → n < k → slice_get xs n ≡ Some x → holds now x
+abbrev pub AreMet : {A : Type 0} → (Followed → A → Type 0) → List A → ℕ → Followed → Type 0
+AreMet {A} holds xs k f = (n : ℕ) (x : A) → n < k → slice_get xs n ≡ Some x → holds f x
 
-module _ {A : Type 0} (holds : Followed → A → Type 0) (xs : List A) where
-  pub passed_none : (f : Followed) → ArePassed holds xs 0 f f
-  passed_none f = record { grown = grown_self f; met = λ n x h. absurd (omega (arith, h)) }
+module _ {A : Type 0} (holds : Followed → A → Type 0) (xs : List A) {asks : Method → List PlacedInstr → Type 0} where
+  pub passed_none : (f : Followed) → HasLed (AreMet holds xs 0) asks f f
+  passed_none f = led_none f (λ n x h. absurd (omega (arith, h)))
 
-  pub passed_one : ((f g : Followed) → Grown f g → (x : A) → holds f x → holds g x) → (k : ℕ) (x : A) (start now next : Followed) → slice_get xs k ≡ Some x → ArePassed holds xs k start now → Grown now next
-      → holds next x → ArePassed holds xs (k + 1) start next
-  passed_one on k x start now next at passed grown met = record {
-    grown = grown_through start now next passed.grown grown;
+  pub passed_one : ((f g : Followed) → Grown f g → (x : A) → holds f x → holds g x) → (k : ℕ) (x : A) {one : Method → List PlacedInstr → Type 0} {start now next : Followed} → slice_get xs k ≡ Some x
+      → HasLed (AreMet holds xs k) asks start now → HasLed (λ f. holds f x) one now next → ((m : Method) (listing : List PlacedInstr) → asks m listing → one m listing) → HasLed (AreMet holds xs (k + 1)) asks start next
+  passed_one on k x {one} {start} {now} {next} at passed led asks_on = record {
     met = λ n y h e. by n y h e (cases_eq n k);
+    grown = grown_through start now next passed.grown led.grown;
+    followed = λ m listing at asked h. led.followed m listing at (asks_on m listing asked) (passed.followed m listing at asked h);
   }
     where
       by : (n : ℕ) (y : A) → n < k + 1 → slice_get xs n ≡ Some y → (n ≡ k) ⊎ (n ≡ k → ⊥) → holds next y
-      by n y h e (inl is) = subst (holds next) (same_Some x y (sym at ∙ ap (slice_get xs) (sym is) ∙ e)) met
-      by n y h e (inr apart) = on now next grown y (passed.met n y (omega (arith, h, apart)) e)
+      by n y h e (inl is) = subst (holds next) (same_Some x y (sym at ∙ ap (slice_get xs) (sym is) ∙ e)) led.met
+      by n y h e (inr apart) = on now next led.grown y (passed.met n y (omega (arith, h, apart)) e)
 
-  pub passed_all : (k : ℕ) (start now : Followed) → length xs ≤ k → ArePassed holds xs k start now → (x : A) → Contains xs x → holds now x
-  passed_all k start now past passed x c = passed.met c.0 x (omega (arith, past, c.1)) (slice_get-get_or xs c.0 x c.1 ∙ ap Some c.2)
+  pub passed_all : (k : ℕ) {start now : Followed} → length xs ≤ k → HasLed (AreMet holds xs k) asks start now → HasLed (λ f. (x : A) → Contains xs x → holds f x) asks start now
+  passed_all k past passed = led_as passed (λ met x c. met c.0 x (omega (arith, past, c.1)) (slice_get-get_or xs c.0 x c.1 ∙ ap Some c.2)) (λ m listing asked. asked)
 
 pub caught_on : (pc : ℕ) (f g : Followed) → Grown f g → (h : Handler) → IsCaughtIn f pc h → IsCaughtIn g pc h
 caught_on pc f g grown h held covered = held_on f g grown h.goes_on (held covered)

@@ -1,35 +1,35 @@
 -- The states that flow to a pc, and what is told where control flow is refused to go on.
-use Rattle.std.proofs.Common.{◌≡◌, ◌≢◌, ◌⊎◌, inl, inr, ℕ, ℤ, pos, ◌<◌, true, List, [], length, Option, Some, None, Ok, Err, refl, sym, ap, subst, ◌∙◌, slice_get, slice_set}
+use Rattle.std.proofs.Common.{◌≡◌, ◌⊎◌, inl, inr, ℕ, ℤ, pos, ◌<◌, ◌≤◌, true, List, length, Option, Some, None, Ok, Err, refl, sym, ap, subst, ◌∙◌, slice_get, slice_set}
+use Rattle.std.specs.Prelude.{negsuc}
 use Rattle.std.specs.List.{AllByRecursion, Contains}
 use Rattle.std.specs.Option.{option_map}
-use Rattle.std.proofs.lemmas.Bool.{cases_eq}
+use Rattle.std.proofs.lemmas.Bool.{cases_eq, cases_lt}
 use Rattle.std.proofs.lemmas.Option.{none-some, same_Some, slice_get_within}
 use Rattle.jc_base.specs.declared.reason.Reason.{Reason}
 use Rattle.jc_base.specs.declared.reason.Reason.TheVariants.{CertMismatch, FallsOff, NoTarget}
-use Rattle.jc_names.specs.declared.name.ClassName.{ClassName}
 use Rattle.jc_code.specs.Listing.{IsListing, PlacedInstr, placed_at}
 use Rattle.jc_code.specs.Targets.{falls_of, targets_of}
 use Rattle.jc_code.specs.declared.instr.Instr.{Instr}
 use Rattle.jc_link.specs.Linked.{Linked}
 use Rattle.jc_types.specs.State.{StateWithRoom, Types}
 use Rattle.jc_check.specs.Carried.{HandlerStands}
-use Rattle.jc_check.specs.FirstFault.{fault_at}
-use Rattle.jc_check.specs.Method.{Handler, Method, caught_types, covers, entry_of}
+use Rattle.jc_check.specs.Method.{Method, caught_types, entry_of}
 use Rattle.jc_check.specs.Package.{package_rules}
 use Rattle.jc_check.specs.Rules.{Rules}
 use Rattle.jc_verify.specs.Live.{IsEntered, IsLive, first, behind, by_branch, by_handler, branched, caught}
-use Rattle.jc_verify.specs.PrivateCarrier.{BranchHasPlace, IsDecodedAt}
+use Rattle.jc_verify.specs.PrivateWork.{IsDecodedAt}
 use Rattle.jc_verify.specs.PrivateFlow.{HasLaws, IsNumbered, Places, below_in, held_at, placed}
 use Rattle.jc_verify.specs.PrivateNames.{AreNamed, HasNames, KeepsNames}
 use Rattle.jc_verify.specs.PrivatePlaces.{IsTakenIn, put, joined}
-use Rattle.jc_verify.specs.PrivateTold.{AreReached, IsFallen, IsFlowing, IsGroundOf, IsHandlersWay, IsHeldAt, IsUncaught, IsUncaughtAt, IsUnled, MeetsUnlike, Reaches, caught_no_room, caught_unlike, falls_past, falls_unlike, leads_before, leads_unlike, meets_unlike}
-use Rattle.jc_verify.specs.Told.{Flows, IsStopped, IsToldOf, Passes, branches, catches, entry, falls, falls_off, joins, no_effect, no_room, no_target, passes, stopped, unlike}
+use Rattle.jc_verify.specs.PrivateTold.{AreReached, IsFlowing, IsHeldAt, IsUncaught, IsUncaughtAt, IsUnled, MeetsUnlike, Reaches, caught_no_room, caught_unlike, meets_unlike}
+use Rattle.jc_verify.specs.PrivateWork.{FlowsIn, FlowsTo, GoesOn, IsAtWork, IsBranchsWay, IsHandlersWay, IsSound, IsToldAt, MeetsHeld, StandsAt}
+use Rattle.jc_verify.specs.declared.flow.Flow.{Flow}
+use Rattle.jc_verify.specs.Told.{Flows, IsStopped, Passes, branches, catches, entry, falls, falls_off, joins, no_effect, no_room, no_target, passes, stopped, unlike}
 use Rattle.jc_verify.specs.declared.place.Place.{Place}
 use Rattle.jc_verify.proofs.Arriving.{IsHeldBy, held_by, set_other, set_same}
 use Rattle.jc_verify.proofs.Carrying.{all_by_place}
-use Rattle.jc_verify.proofs.Lists.{none_left}
 use Rattle.jc_verify.proofs.Passing.{all_at, contains_at}
-use Rattle.jc_verify.proofs.Starting.{behind_begins, first_begins, placed_begins, placed_here}
+use Rattle.jc_verify.proofs.Starting.{behind_begins, first_begins, none_past, placed_begins, placed_here}
 
 -- ---- where states flow control flow goes
 
@@ -102,21 +102,14 @@ module _ (l : Linked) (m : Method) where
       let by : IsHeldBy l laws m numbers places pc t = held_by l laws m numbers places pc t e in
       subst (Reaches l m pc) by.types (subst (λ n. Reaches l m n by.state.types) (numbered.found pc by.number by.place by.numbered by.stands) (h by.number by.place by.state by.stands by.held))
 
-  -- a handler that was looked at by its parts
-  pub caught_here : (s : Types) (h view : Handler) → view ≡ h → (class : ClassName) → view.caught ≡ Some class → (h.caught ≡ Some class → Reaches l m h.goes_on (caught_types class s)) → Reaches l m view.goes_on (caught_types class s)
-  caught_here s h view same class is there =
-      subst (λ (n : ℕ). Reaches l m n (caught_types class s)) (sym (ap (λ (x : Handler). x.goes_on) same)) (there (ap (λ (x : Handler). x.caught) (sym same) ∙ is))
-
   pub unled_in : (among other : ℤ → Type 0) (t : Types) → ((place : ℤ) → among place → other place) → (reason : Reason) → IsUnled l m among t reason → IsUnled l m other t reason
-  unled_in among other t on reason (leads_before place is never) = leads_before place (on place is) never
-  unled_in among other t on reason (leads_unlike pc why is meets) = leads_unlike pc why (on (pos pc) is) meets
+  unled_in among other t on reason u = record { pc = u.pc; is = on (pos u.pc) u.is; meets = u.meets }
 
-  -- nothing is told where nothing is held
-  pub never_fallen : HasLaws l → (numbers : List (Option ℕ)) (places : Places) → ((n : ℕ) (p : Place StateWithRoom) → slice_get places n ≡ Some p → p.held ≡ None) → m.code ≢ [] → (t : Types) (reason : Reason)
-      → IsFallen m (IsHeldAt numbers places) 0 t reason → ⊥
-  never_fallen laws numbers places empty some t reason (falls_past past) = some (none_left m.code past)
-  never_fallen laws numbers places empty some t reason (falls_unlike why (meets_unlike other held apart)) =
-      let by : IsHeldBy l laws m numbers places 0 other = held_by l laws m numbers places 0 other held in
+  -- nothing is met where nothing is held
+  pub never_met : HasLaws l → (numbers : List (Option ℕ)) (places : Places) → ((n : ℕ) (p : Place StateWithRoom) → slice_get places n ≡ Some p → p.held ≡ None) → (pc : ℕ) (t : Types) (reason : Reason)
+      → MeetsUnlike (IsHeldAt numbers places) pc t reason → ⊥
+  never_met laws numbers places empty pc t reason (meets_unlike other held apart) =
+      let by : IsHeldBy l laws m numbers places pc other = held_by l laws m numbers places pc other held in
       none-some by.state (sym (empty by.number by.place by.stands) ∙ by.held)
 
   pub meets_reached : HasLaws l → (numbers : List (Option ℕ)) (places : Places) → IsNumbered numbers places → AreReached l m places → (pc : ℕ) (t : Types) (reason : Reason) → MeetsUnlike (IsHeldAt numbers places) pc t reason
@@ -125,85 +118,89 @@ module _ (l : Linked) (m : Method) where
 
 -- ---- on the listing of a method
 
-module _ (l : Linked) (laws : HasLaws l) (m : Method) (numbers : List (Option ℕ)) (g : IsGroundOf l m numbers) where
-  abbrev rules : Rules
-  rules = package_rules l
+module _ {f : Flow} (k : IsSound f) where
+  reaches : (pc : ℕ) (t : Types) → IsFlowing (package_rules f.linked.now) f.method.now k.ground.listing pc t → FlowsTo f pc t
+  reaches pc t flowing listing whole = subst (λ xs. IsFlowing (package_rules f.linked.now) f.method.now xs pc t) (k.laws.listing.one_listing f.method.now.code k.ground.listing listing k.ground.whole whole) flowing
 
-  reaches : (pc : ℕ) (t : Types) → IsFlowing rules m g.listing pc t → Reaches l m pc t
-  reaches pc t f listing whole = subst (λ xs. IsFlowing rules m xs pc t) (laws.listing.one_listing m.code g.listing listing g.whole whole) f
+  pub reaches_entry : FlowsTo f 0 (entry_of f.method.now)
+  reaches_entry = reaches 0 (entry_of f.method.now) (record { flows = entry; begin = first_begins f.method.now.code k.ground.listing k.ground.whole k.ground.some })
 
-  pub reaches_entry : Reaches l m 0 (entry_of m)
-  reaches_entry = reaches 0 (entry_of m) (record { flows = entry; begin = first_begins m.code g.listing g.whole g.some })
+  pub flows_within : (pc : ℕ) (s : Types) → FlowsTo f pc s → pc < length f.method.now.code
+  flows_within pc s there = none_past k.laws.listing f.method.now.code k.ground.listing pc k.ground.whole (there k.ground.listing k.ground.whole).begin
 
-  pub decoded_there : (pc : ℕ) (s : Types) → Reaches l m pc s → IsDecodedAt l m pc
+  pub decoded_there : (pc : ℕ) (s : Types) → FlowsTo f pc s → IsDecodedAt f.linked.now f.method.now pc
   decoded_there pc s there =
-      let x = placed_begins g.listing pc (there g.listing g.whole).begin in
-      record { instr = x.0.instr; is = (laws.listing.has m.code g.listing pc x.0 g.whole x.1).1 }
+      let x = placed_begins k.ground.listing pc (there k.ground.listing k.ground.whole).begin in
+      record { instr = x.0.instr; is = (k.laws.listing.has f.method.now.code k.ground.listing pc x.0 k.ground.whole x.1).1 }
 
-  module _ (pc : ℕ) (s : Types) (there : Reaches l m pc s) (instr : Instr) (decoded : rules.decoder m.code pc ≡ Ok instr) where
-    flows : Flows rules m g.listing pc s
-    flows = (there g.listing g.whole).flows
+module _ {f : Flow} {pc : ℕ} {s : Types} {instr : Instr} (x : StandsAt f pc s instr) where
+  flows : Flows (package_rules f.linked.now) f.method.now x.sound.ground.listing pc s
+  flows = (x.flows x.sound.ground.listing x.sound.ground.whole).flows
 
-    at : placed_at g.listing pc ≡ Some (placed pc instr)
-    at = placed_here laws.listing m.code g.listing pc instr g.whole (there g.listing g.whole).begin decoded
+  at : placed_at x.sound.ground.listing pc ≡ Some (placed pc instr)
+  at = placed_here x.sound.laws.listing f.method.now.code x.sound.ground.listing pc instr x.sound.ground.whole (x.flows x.sound.ground.listing x.sound.ground.whole).begin x.decoded
 
-    live : IsLive m g.listing pc
-    live = flows_live rules m g.listing flows
+  live : IsLive f.method.now x.sound.ground.listing pc
+  live = flows_live (package_rules f.linked.now) f.method.now x.sound.ground.listing flows
 
-    is_caught : (h : Handler) → Contains m.handlers h → covers h pc ≡ true → IsEntered m g.listing h.goes_on
-    is_caught h among covered = caught (placed pc instr) h at live among covered
+  -- where types flow that control flow enters with
+  flows_in : (to : ℕ) (t : Types) → Passes (package_rules f.linked.now) f.method.now (placed pc instr) s to t → IsEntered f.method.now x.sound.ground.listing to → FlowsIn f to t
+  flows_in to t p entered = record { flows = reaches x.sound to t (record { flows = passes (placed pc instr) s to t at flows p; begin = x.sound.ground.begin to entered }); place = x.sound.ground.has_place to entered }
 
-    is_branched : (to : ℕ) → Contains (targets_of pc instr.operation) (pos to) → IsEntered m g.listing to
-    is_branched to among = branched (placed pc instr) to at live among
+  pub handlers_ways : AllByRecursion (IsHandlersWay f pc s) f.method.now.handlers
+  handlers_ways =
+      all_by_place (IsHandlersWay f pc s) f.method.now.handlers (λ n h is covered.
+      let stands = all_at (HandlerStands x.sound.ground.listing) f.method.now.handlers n h is x.sound.ground.stand in
+      let among = contains_at f.method.now.handlers n h is in
+      record {
+        class = stands.class;
+        catches = stands.catches;
+        flows = flows_in h.goes_on (caught_types stands.class s) (catches h stands.class among covered stands.catches) (caught (placed pc instr) h at live among covered);
+      })
 
-    pub caught_reaches : (h : Handler) (class : ClassName) → Contains m.handlers h → covers h pc ≡ true → h.caught ≡ Some class → Reaches l m h.goes_on (caught_types class s)
-    caught_reaches h class among covered is =
-        reaches h.goes_on (caught_types class s) (record {
-          flows = passes (placed pc instr) s h.goes_on (caught_types class s) at flows (catches h class among covered is);
-          begin = g.begin h.goes_on (is_caught h among covered);
-        })
+  tells : (reason : Reason) → IsStopped (package_rules f.linked.now) f.method.now x.sound.ground.listing (placed pc instr) reason → IsToldAt f pc reason
+  tells reason why = stopped x.sound.ground.listing (placed pc instr) reason x.sound.ground.whole x.sound.ground.stand x.sound.ground.straight at why
 
-    pub handlers_ways : AllByRecursion (IsHandlersWay numbers pc) m.handlers
-    handlers_ways =
-        all_by_place (IsHandlersWay numbers pc) m.handlers (λ n h is covered.
-        let stands = all_at (HandlerStands g.listing) m.handlers n h is g.stand in
-        record { class = stands.class; catches = stands.catches; place = g.has_place h.goes_on (is_caught h (contains_at m.handlers n h is) covered) })
+  pub told_effect : (reason : Reason) → (package_rules f.linked.now).effect f.method.now.max_stack f.method.now.returned instr.operation s ≡ Err reason → IsToldAt f pc reason
+  told_effect reason e = tells reason (no_effect s reason flows e)
 
-    pub branches_places : AllByRecursion (BranchHasPlace numbers) (targets_of pc instr.operation)
-    branches_places =
-        all_by_place (BranchHasPlace numbers) (targets_of pc instr.operation) (λ n place is to same.
-        g.has_place to (is_branched to (subst (Contains (targets_of pc instr.operation)) same (contains_at (targets_of pc instr.operation) n place is))))
+  told_unlike : (to : ℕ) (t : Types) → Passes (package_rules f.linked.now) f.method.now (placed pc instr) s to t → (reason : Reason) → MeetsUnlike (Reaches f.linked.now f.method.now) to t reason → IsToldAt f pc reason
+  told_unlike to t p reason (meets_unlike other here apart) = tells CertMismatch (unlike s to t other flows p (here x.sound.ground.listing x.sound.ground.whole).flows apart)
 
-    tells : (reason : Reason) → IsStopped rules m g.listing (placed pc instr) reason → IsToldOf rules m (fault_at pc reason)
-    tells reason why = stopped g.listing (placed pc instr) reason g.whole g.stand g.straight at why
+  pub told_uncaught : (reason : Reason) → IsUncaught f.linked.now f.method.now (Contains f.method.now.handlers) pc s reason → IsToldAt f pc reason
+  told_uncaught reason u = by_why reason u.untaken
+    where
+      by_why : (r : Reason) → IsUncaughtAt f.linked.now f.method.now u.h.goes_on (caught_types u.class s) r → IsToldAt f pc r
+      by_why r (caught_no_room none) = tells CertMismatch (no_room s u.h flows u.is u.covered none)
+      by_why r (caught_unlike why meets) = told_unlike u.h.goes_on (caught_types u.class s) (catches u.h u.class u.is u.covered u.catches) why meets
 
-    pub told_effect : (reason : Reason) → rules.effect m.max_stack m.returned instr.operation s ≡ Err reason → IsToldOf rules m (fault_at pc reason)
-    told_effect reason e = tells reason (no_effect s reason flows e)
+  module _ {t : Types} (e : (package_rules f.linked.now).effect f.method.now.max_stack f.method.now.returned instr.operation s ≡ Ok t) where
+    -- no branch leads before the code
+    branch_way : (n : ℕ) (place : ℤ) → slice_get (targets_of pc instr.operation) n ≡ Some place → IsBranchsWay f t place
+    branch_way n (pos to) is =
+        let among = contains_at (targets_of pc instr.operation) n (pos to) is in
+        record { pc = to; is = refl; flows = flows_in to t (branches to t e among) (branched (placed pc instr) to at live among) }
+    branch_way n (negsuc to) is = absurd (x.sound.ground.straight (placed pc instr) NoTarget at live (no_target (negsuc to) (contains_at (targets_of pc instr.operation) n (negsuc to) is) (λ pc same. absurd cc)))
 
-    told_unlike : (to : ℕ) (t : Types) → Passes rules m (placed pc instr) s to t → (reason : Reason) → MeetsUnlike (Reaches l m) to t reason → IsToldOf rules m (fault_at pc reason)
-    told_unlike to t p reason (meets_unlike other here apart) = tells CertMismatch (unlike s to t other flows p (here g.listing g.whole).flows apart)
+    pub branches_ways : AllByRecursion (IsBranchsWay f t) (targets_of pc instr.operation)
+    branches_ways = all_by_place (IsBranchsWay f t) (targets_of pc instr.operation) branch_way
 
-    pub told_uncaught : (reason : Reason) → IsUncaught l m (Contains m.handlers) pc s reason → IsToldOf rules m (fault_at pc reason)
-    told_uncaught reason u = by_why reason u.untaken
-      where
-        by_why : (r : Reason) → IsUncaughtAt l m u.h.goes_on (caught_types u.class s) r → IsToldOf rules m (fault_at pc r)
-        by_why r (caught_no_room none) = tells CertMismatch (no_room s u.h flows u.is u.covered none)
-        by_why r (caught_unlike why meets) = told_unlike u.h.goes_on (caught_types u.class s) (catches u.h u.class u.is u.covered u.catches) why meets
+    pub told_unled : (reason : Reason) → IsUnled f.linked.now f.method.now (Contains (targets_of pc instr.operation)) t reason → IsToldAt f pc reason
+    told_unled reason u = told_unlike u.pc t (branches u.pc t e u.is) reason u.meets
 
-    module _ (t : Types) (e : rules.effect m.max_stack m.returned instr.operation s ≡ Ok t) where
-      pub branch_reaches : (to : ℕ) → Contains (targets_of pc instr.operation) (pos to) → Reaches l m to t
-      branch_reaches to among = reaches to t (record { flows = passes (placed pc instr) s to t at flows (branches to t e among); begin = g.begin to (is_branched to among) })
+    module _ (goes : falls_of instr.operation ≡ true) where
+      pub falls_reaches : GoesOn f instr.next_pc t
+      falls_reaches = by_place (cases_lt instr.next_pc (length f.method.now.code))
+        where
+          by_place : (instr.next_pc < length f.method.now.code) ⊎ (length f.method.now.code ≤ instr.next_pc) → GoesOn f instr.next_pc t
+          by_place (inl within) = record {
+            flows = reaches x.sound instr.next_pc t (record {
+              flows = passes (placed pc instr) s instr.next_pc t at flows (falls t e goes);
+              begin = behind_begins f.method.now.code x.sound.ground.listing pc (placed pc instr) x.sound.ground.whole at within;
+            });
+            within = within;
+          }
+          by_place (inr past) = absurd (x.sound.ground.straight (placed pc instr) FallsOff at live (falls_off goes past))
 
-      pub told_unled : (reason : Reason) → IsUnled l m (Contains (targets_of pc instr.operation)) t reason → IsToldOf rules m (fault_at pc reason)
-      told_unled reason (leads_before place among never) = absurd (g.straight (placed pc instr) NoTarget at live (no_target place among (λ to is. absurd (never to is))))
-      told_unled reason (leads_unlike to why among meets) = told_unlike to t (branches to t e among) why meets
-
-      pub falls_reaches : falls_of instr.operation ≡ true → instr.next_pc < length m.code → Reaches l m instr.next_pc t
-      falls_reaches goes within =
-          reaches instr.next_pc t (record { flows = passes (placed pc instr) s instr.next_pc t at flows (falls t e goes); begin = behind_begins m.code g.listing pc (placed pc instr) g.whole at within })
-
-      pub told_fallen : falls_of instr.operation ≡ true → (places : Places) → IsNumbered numbers places → AreReached l m places → (reason : Reason) → IsFallen m (IsHeldAt numbers places) instr.next_pc t reason
-          → IsToldOf rules m (fault_at pc reason)
-      told_fallen goes places numbered reached reason (falls_past past) = absurd (g.straight (placed pc instr) FallsOff at live (falls_off goes past))
-      told_fallen goes places numbered reached reason (falls_unlike why meets) =
-          told_unlike instr.next_pc t (falls t e goes) why (meets_reached l m laws numbers places numbered reached instr.next_pc t why meets)
+      pub told_fallen : {places : Places} → IsAtWork f places → (reason : Reason) → MeetsHeld f places instr.next_pc t reason → IsToldAt f pc reason
+      told_fallen {places} work reason meets = told_unlike instr.next_pc t (falls t e goes) reason (meets_reached f.linked.now f.method.now x.sound.laws f.numbers.now places work.numbered work.reached instr.next_pc t reason meets)

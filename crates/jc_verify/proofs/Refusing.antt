@@ -1,5 +1,5 @@
 -- What is refused while control flow is followed isn't carried by any certificate.
-use Rattle.std.proofs.Common.{◌≡◌, ℕ, pos, ◌<◌, ◌^◌, Bool, true, false, List, [], length, Option, Some, None, sym, ap, subst, ◌∙◌, arith, refl}
+use Rattle.std.proofs.Common.{◌≡◌, ℕ, pos, ◌<◌, ◌^◌, Bool, true, false, List, length, Option, Some, None, sym, ap, subst, ◌∙◌, arith, refl}
 use Rattle.jc_base.specs.declared.reason.Reason.{Reason}
 use Rattle.jc_cert.specs.Cert.{Stated}
 use Rattle.jc_code.specs.Instructions.{instr_at}
@@ -71,9 +71,6 @@ module _ (rules : Rules) (m : Method) (states : List Stated) (k : Carries rules 
 
   never_astray : {pc : ℕ} {reason : Reason} → IsAstray m k.listing pc reason → ⊥
   never_astray (leads x reason at live off) = never_leads x at live off
-
-  pub never_empty : m.code ≡ [] → ⊥
-  never_empty e = let w = k.entry.0 in let n = ap (λ (bytes : List ℕ). length bytes) e in absurd (omega (arith, w, n))
 
   module _ (laws : ListingLaws instr_at) (decodes : rules.decoder ≡ instr_at) where
     whole : IsListing instr_at m.code k.listing

@@ -1,21 +1,13 @@
 -- The rows of a package's methods, one more.
 use Rattle.std.proofs.Common.{◌≡◌, ◌⊎◌, inl, inr, ℕ, ◌+◌, ◌<◌, ◌≤◌, ◌^◌, List, [], ◌∷◌, ◌++◌, length, Some, slice_get, refl, sym, ap, subst, ◌∙◌, arith}
 use Rattle.std.proofs.lemmas.Bool.{cases_eq}
-use Rattle.std.proofs.lemmas.Option.{none-some, same_Some}
+use Rattle.std.proofs.lemmas.Option.{same_Some}
 use Rattle.jc_cap_desc.specs.Shape.{MethodBody, StandApart}
 use Rattle.jc_cert.specs.Cert.{Row, Stated}
 use Rattle.jc_link.specs.Linked.{Linked}
 use Rattle.jc_check.specs.Package.{method_of}
 use Rattle.jc_verify.specs.PrivateGathered.{AreGathered, HasRow, IsInferred, IsPut, IsRowOf, Stands}
 use Rattle.jc_verify.proofs.Lists.{get_either, get_kept, get_last, length_more}
-
-pub none_gathered : (l : Linked) → AreGathered l 0 []
-none_gathered l = record {
-  each = λ k b s. absurd (omega (arith, s.first));
-  come = λ k r e. absurd (none-some r e);
-  distinct = λ j k r s e. absurd (none-some r e);
-  few = omega arith;
-}
 
 module _ (l : Linked) (apart : StandApart l.body.kept.methods) (n : ℕ) (of : List Row) (so_far : AreGathered l n of) (b : MethodBody) (at : slice_get l.body.kept.methods n ≡ Some b) where
   -- a method among one more is one of those before, or the last

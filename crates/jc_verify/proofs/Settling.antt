@@ -10,14 +10,17 @@ use Rattle.jc_check.specs.Package.{package_rules}
 use Rattle.jc_check.specs.Typing.{BranchLeads, HandlerLeads, HasShape, Leads, Typing}
 use Rattle.jc_link.specs.Linked.{Linked}
 use Rattle.jc_types.specs.State.{StateWithRoom, Types}
-use Rattle.jc_verify.specs.PrivateFlow.{AreShaped, Grown, HasLaws, IsClosed, IsNumbered, IsUnder, IsUpper, IsVisited, Places, Risen, held_at, height_in, left_in, most_height, number_at, types_held, below_in, ends, meets, goes_on}
-use Rattle.jc_verify.specs.PrivateTold.{AreReached, Reaches}
+use Rattle.jc_verify.specs.PrivateFlow.{Grown, HasLaws, HasRoom, IsClosed, IsUnder, IsUpper, IsVisited, Places, Risen, held_at, height_in, left_in, most_height, number_at, types_held, below_in, ends, meets, goes_on}
+use Rattle.jc_verify.specs.PrivateTold.{AreReached}
 use Rattle.jc_verify.specs.PrivatePlaces.{IsStep, left_of}
 use Rattle.jc_verify.specs.PrivateSettled.{IsFollowed, IsSettled, IsSwept, settled_place}
+use Rattle.jc_verify.specs.PrivateWork.{Bears, ClosedFrom, FlowsTo, HasTaken, HaveRoom, IsAtWork, LeadsTo}
+use Rattle.jc_verify.specs.declared.flow.Flow.{Flow}
 use Rattle.jc_verify.specs.declared.place.Place.{Place}
-use Rattle.jc_verify.proofs.Arriving.{IsHeldBy, at_number, held_by, number_within, set_length, set_other, set_same}
+use Rattle.jc_verify.proofs.Arriving.{IsHeldBy, at_number, held_by, set_length, set_other, set_same}
 use Rattle.jc_verify.proofs.Growing.{grown_self, leads_on, risen_self, risen_through}
 use Rattle.jc_verify.proofs.Reaching.{reached_cleared, types_reached}
+use Rattle.jc_verify.proofs.Taking.{work_on}
 use Rattle.jc_verify.proofs.Stepping.{left_falls, raised_falls, stands}
 
 all_on : {A : Type 0} (P Q : A → Type 0) → ((x : A) → P x → Q x) → (xs : List A) → AllByRecursion P xs → AllByRecursion Q xs
@@ -254,38 +257,6 @@ module _ (l : Linked) (laws : HasLaws l) (m : Method) (numbers : List (Option �
         (followed places number p at (cleared places number p) (grown_self l laws m numbers (cleared places number p)) (λ t e. absurd (none-some t (sym none ∙ e)))
         (λ typing upper under. cleared_under places number p at typing under) (λ h. reached_cleared l m places number p (settled_place p) at refl refl h))
 
-    pub one_taken : (start : ℕ) (s : Types) (after : Places) → IsNumbered numbers places → p.pc ≡ start → q ≡ settled_place p → types_held p ≡ Some s → Grown l m numbers (slice_set places number q) after
-        → ((final : Places) → Risen l m numbers after final → IsClosed (package_rules l) m numbers (held_at numbers final) start s)
-        → ((typing : Typing) → IsUpper l m typing → IsUnder l numbers (slice_set places number q) typing → Leads (package_rules l) typing s start → IsUnder l numbers after typing)
-        → AreReached l m after → IsFollowed l m numbers number places after
-    one_taken start s after numbered pc same held g closed least reached =
-        followed places number p at after (subst (λ x. Grown l m numbers (slice_set places number x) after) same g)
-        (λ t e. subst (λ u. IsClosed (package_rules l) m numbers (held_at numbers after) p.pc u) (same_Some s t (sym held ∙ e))
-        (subst (λ n. IsClosed (package_rules l) m numbers (held_at numbers after) n s) (sym pc) (closed after (risen_self l laws m numbers after))))
-        (λ typing upper under.
-        least typing upper (subst (λ x. IsUnder l numbers (slice_set places number x) typing) (sym same) (cleared_under places number p at typing under))
-        (subst (Leads (package_rules l) typing s) pc (under p.pc s (at_number l laws m numbers places p.pc number p (numbered.known number p at) at ∙ held))))
-        (λ h. reached)
-
-    -- what is known of states that flow, of what was taken up
-    pub taken_reached : (start : ℕ) (s : Types) → p.pc ≡ start → q ≡ settled_place p → types_held p ≡ Some s → AreReached l m places → AreReached l m (slice_set places number q) × Reaches l m start s
-    taken_reached start s pc same held h = (
-      reached_cleared l m places number p q at (ap (λ (x : Place StateWithRoom). x.pc) same) (ap (λ (x : Place StateWithRoom). x.held) same) h,
-      subst (λ n. Reaches l m n s) pc (types_reached l m p.pc p.held s held (λ x e. h number p x at e)),
-    )
-
-    -- what a typing says of what was taken up
-    pub taken_under : (start : ℕ) (s : Types) → IsNumbered numbers places → p.pc ≡ start → q ≡ settled_place p → types_held p ≡ Some s → (typing : Typing) → IsUnder l numbers places typing
-        → IsUnder l numbers (slice_set places number q) typing × Leads (package_rules l) typing s start
-    taken_under start s numbered pc same held typing under = (
-      subst (λ x. IsUnder l numbers (slice_set places number x) typing) (sym same) (cleared_under places number p at typing under),
-      subst (Leads (package_rules l) typing s) pc (under p.pc s (at_number l laws m numbers places p.pc number p (numbered.known number p at) at ∙ held)),
-    )
-
-  -- a place stands within the code
-  pub within_code : (places : Places) (number : ℕ) (p : Place StateWithRoom) → IsNumbered numbers places → length numbers ≡ length m.code → slice_get places number ≡ Some p → p.pc < length m.code
-  within_code places number p h sized at = let k = number_within numbers p.pc number (h.known number p at) in omega (arith, k, sized)
-
   -- ---- where nothing was held before
 
   module _ (before after : Places) (empty : (n : ℕ) (p : Place StateWithRoom) → slice_get before n ≡ Some p → p.held ≡ None) where
@@ -304,5 +275,49 @@ module _ (l : Linked) (laws : HasLaws l) (m : Method) (numbers : List (Option �
     pub under_first : (typing : Typing) → IsUnder l numbers before typing
     under_first typing pc t e = let by : IsHeldBy l laws m numbers before pc t = held_by l laws m numbers before pc t e in absurd (none-some by.state (sym (empty by.number by.place by.stands) ∙ by.held))
 
-    pub shaped_first : AreShaped m before
-    shaped_first n p s e held = absurd (none-some s (sym (empty n p e) ∙ held))
+-- ---- a place that was taken up
+
+module _ {f : Flow} {places : Places} (work : IsAtWork f places) (number : ℕ) {p q : Place StateWithRoom} (at : slice_get places number ≡ Some p) {start : ℕ} {s : Types}
+    (taken : (p.pc ≡ start) × (q ≡ settled_place p) × (types_held p ≡ Some s)) where
+  pub taken_work : IsAtWork f (slice_set places number q)
+  taken_work = subst (λ (x : Place StateWithRoom). IsAtWork f (slice_set places number x)) (sym taken.1)
+      (work_on work (cleared_risen f.linked.now work.sound.laws f.method.now f.numbers.now places number p at) (reached_cleared f.linked.now f.method.now places number p (settled_place p) at refl refl work.reached))
+
+  pub taken_flows : FlowsTo f start s
+  taken_flows = subst (λ (n : ℕ). FlowsTo f n s) taken.0 (types_reached f.linked.now f.method.now p.pc p.held s taken.2 (λ x e. work.reached number p x at e))
+
+  pub taken_under : {typing : Typing} → IsUnder f.linked.now f.numbers.now places typing → IsUnder f.linked.now f.numbers.now (slice_set places number q) typing
+  taken_under {typing} under =
+      subst (λ (x : Place StateWithRoom). IsUnder f.linked.now f.numbers.now (slice_set places number x) typing) (sym taken.1) (cleared_under f.linked.now work.sound.laws f.method.now f.numbers.now places number p at typing under)
+
+  -- what a typing says of it
+  pub taken_bears : {typing : Typing} → IsUpper f.linked.now f.method.now typing → IsUnder f.linked.now f.numbers.now places typing → Bears f start s typing
+  taken_bears {typing} upper under = record {
+    upper = upper;
+    leads =
+        subst (λ (n : ℕ). LeadsTo f n s typing) taken.0
+        (under p.pc s (at_number f.linked.now work.sound.laws f.method.now f.numbers.now places p.pc number p (work.numbered.known number p at) at ∙ taken.2));
+  }
+
+  pub one_taken : {after : Places} → HasTaken f (ClosedFrom f start s) (Bears f start s) (slice_set places number q) after → IsFollowed f.linked.now f.method.now f.numbers.now number places after
+  one_taken {after} t =
+      let l = f.linked.now in
+      let laws = work.sound.laws in
+      let closed : ClosedFrom f start s (held_at f.numbers.now after) = t.met after (risen_self l laws f.method.now f.numbers.now after) in
+      followed l laws f.method.now f.numbers.now places number p at after (subst (λ (x : Place StateWithRoom). Grown l f.method.now f.numbers.now (slice_set places number x) after) taken.1 t.grown)
+      (λ u e. subst (λ (v : Types). ClosedFrom f p.pc v (held_at f.numbers.now after)) (same_Some s u (sym taken.2 ∙ e)) (subst (λ (n : ℕ). ClosedFrom f n s (held_at f.numbers.now after)) (sym taken.0) closed))
+      (λ typing upper under. t.least typing (taken_under under) (taken_bears upper under)) (λ h. t.work.reached)
+
+-- what a place holds fits into a state with room, which has room then
+pub fits_place : {f : Flow} {places : Places} (number : ℕ) {p : Place StateWithRoom} {state : StateWithRoom} → IsAtWork f places → HasRoom f.method.now state → slice_get places number ≡ Some p
+    → (s : StateWithRoom) → p.held ≡ Some s → (length s.types.locals ≡ length state.types.locals) × (length s.types.operands ≤ state.room)
+fits_place {f} {places} number {p} {state} work room at s held =
+    let shape = work.shaped number p s at held in
+    (shape.locals ∙ sym room.locals, omega (arith, shape.operands, room.room))
+
+pub room_taken : {f : Flow} {caught state after : StateWithRoom} → HaveRoom f caught state → after.room ≡ state.room → length after.types.locals ≡ length state.types.locals → HaveRoom f caught after
+room_taken have room locals = record { caught = have.caught; state = record { locals = locals ∙ have.state.locals; room = room ∙ have.state.room } }
+
+-- places that were swept are at work
+pub swept_work : {f : Flow} {first end : ℕ} {places after : Places} → IsAtWork f places → IsSwept f.linked.now f.method.now f.numbers.now first end places after → IsAtWork f after
+swept_work work swept = work_on work swept.risen (swept.reached work.reached)

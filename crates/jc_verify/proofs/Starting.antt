@@ -8,7 +8,6 @@ use Rattle.jc_code.specs.declared.instr.Instr.{Instr}
 use Rattle.jc_code.specs.Instructions.{instr_at}
 use Rattle.jc_code.specs.Listing.{PlacedInstr, StandBetween, IsListing, ListingLaws, begins, placed_at}
 use Rattle.jc_verify.specs.PrivateFlow.{placed}
-use Rattle.jc_verify.specs.PrivateLive.{IsDecoded}
 
 -- what the set has once the instructions up to a pc have been decoded
 pub record SoFar (code : List ℕ) (pc : ℕ) (starts : List ℕ) : Type 0 where
@@ -58,12 +57,6 @@ starts_more code pc i old new at within is s = record {
         last : (b : Bool) → b ≡ b || false
         last true = refl
         last false = refl
-
-pub all_starts : (code : List ℕ) (pc : ℕ) (starts : List ℕ) → length code ≤ pc → SoFar code pc starts → (listing : List PlacedInstr) × IsDecoded code listing starts
-all_starts code pc starts past s =
-    let end : pc ≡ length code = omega (arith, past, s.within) in
-    let R : ℕ → Type 0 = λ n. StandBetween instr_at code 0 s.front n in
-    (s.front, record { whole = subst R end s.runs; each = s.each })
 
 -- ---- in a listing
 

@@ -18,10 +18,6 @@ pub if_ok_both : {A E : Type 0} (r : Result A E) (P Q R : A → Type 0) → IfOk
 if_ok_both (Ok x) P Q R h k on = on x h k
 if_ok_both (Err e) P Q R h k on = tt
 
-pub if_ok_three : {A E : Type 0} (r : Result A E) (P Q S R : A → Type 0) → IfOk r P → IfOk r Q → IfOk r S → ((x : A) → P x → Q x → S x → R x) → IfOk r R
-if_ok_three (Ok x) P Q S R h k i on = on x h k i
-if_ok_three (Err e) P Q S R h k i on = tt
-
 -- an instruction whose handlers and branches lead on, and behind which there is no place, or one that holds what goes on
 pub closed_by : (rules : Rules) (m : Method) (numbers : List (Option ℕ)) (typing : Typing) (on : Bool) (x : PlacedInstr) (s after : Types) → rules.decoder m.code x.pc ≡ Ok x.instr
     → IsVisited rules m typing x s after → FallsIf on rules m numbers typing x.instr.next_pc after → ClosedIf on rules m numbers typing x.instr.next_pc after → IsClosed rules m numbers typing x.pc s
@@ -42,6 +38,6 @@ pub holds : {A : Type 0} (o : Option A) (P : A → Type 0) (x : A) → o ≡ Som
 holds None P x e h = absurd (none-some x e)
 holds (Some y) P x e h = subst P (same_Some y x e) h
 
-pub if_ok_four : {A E : Type 0} (r : Result A E) (P Q S T R : A → Type 0) → IfOk r P → IfOk r Q → IfOk r S → IfOk r T → ((x : A) → P x → Q x → S x → T x → R x) → IfOk r R
-if_ok_four (Ok x) P Q S T R h k i j on = on x h k i j
-if_ok_four (Err e) P Q S T R h k i j on = tt
+pub if_ok_five : {A E : Type 0} (r : Result A E) (P Q S T U R : A → Type 0) → IfOk r P → IfOk r Q → IfOk r S → IfOk r T → IfOk r U → ((x : A) → P x → Q x → S x → T x → U x → R x) → IfOk r R
+if_ok_five (Ok x) P Q S T U R p q s t u on = on x p q s t u
+if_ok_five (Err e) P Q S T U R p q s t u on = tt

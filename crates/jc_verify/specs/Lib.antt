@@ -7,6 +7,7 @@ pub mod PrivateFlow
 pub mod PrivateCarrier
 pub mod PrivateStop
 pub mod PrivateTold
+pub mod PrivateWork
 pub mod PrivateSettled
 pub mod PrivateStated
 pub mod PrivateNames

@@ -1,6 +1,6 @@
 -- Private. What the verifier knows while it follows control flow through a method: what is held at places, and what is
 -- closed, so that all that flows from there is held where it comes to.
-use Rattle.std.specs.Prelude.{◌≡◌, ℕ, ◌+◌, ◌*◌, ◌<◌, ◌≤◌, Bool, true, false, List, length, drop, Option, Some, None, Ok}
+use Rattle.std.specs.Prelude.{◌≡◌, ℕ, ◌+◌, ◌*◌, ◌<◌, ◌≤◌, Bool, true, false, List, length, Option, Some, None, Ok}
 use Rattle.std.specs.Prelude.{⊤, slice_get, slice_index_or}
 use Rattle.std.specs.List.{AllByRecursion}
 use Rattle.std.specs.Option.{option_and_then, option_map}
@@ -112,16 +112,6 @@ pub record IsUpper (l : Linked) (m : Method) (typing : Typing) : Type 0 where
   pub entry : Leads (package_rules l) typing (entry_of m) 0
   pub each : (pc : ℕ) (t : Types) (instr : Instr) → typing pc ≡ Some t → (package_rules l).decoder m.code pc ≡ Ok instr
       → IsFine (package_rules l) m typing (placed pc instr) t
-
--- the first of these were passed: whatever is held in the end, they hold if those behind them do
-pub record ArePassed (l : Linked) (m : Method) (numbers : List (Option ℕ)) {A : Type 0} (holds : Typing → A → Type 0)
-    (xs : List A) (k : ℕ) (start now : Places) : Type 0 where
-  pub grown : Grown l m numbers start now
-  pub numbered : IsNumbered numbers now
-  pub rest : (final : Places) → Risen l m numbers now final → AllByRecursion (holds (held_at numbers final)) (drop k xs)
-      → AllByRecursion (holds (held_at numbers final)) xs
-  pub under : (typing : Typing) → IsUnder l numbers start typing → AllByRecursion (holds typing) xs
-      → IsUnder l numbers now typing
 
 -- the handlers that cover an instruction catch, it has an effect, and its branches lead on
 pub record IsVisited (rules : Rules) (m : Method) (typing : Typing) (x : PlacedInstr) (s after : Types) : Type 0 where

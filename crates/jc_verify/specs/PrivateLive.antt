@@ -1,6 +1,6 @@
 -- Private. What is known while control flow is followed through a method, to find where it enters.
-use Rattle.std.specs.Prelude.{◌≡◌, ◌⊎◌, ⊤, ℕ, ℤ, zero, suc, ◌+◌, ◌<◌, ◌^◌, true, pos, List, length, Option, Some}
-use Rattle.std.specs.Prelude.{Contains, if◌then◌else◌}
+use Rattle.std.specs.Prelude.{◌≡◌, ◌≢◌, ◌⊎◌, ⊤, ℕ, ℤ, zero, suc, ◌+◌, ◌<◌, ◌^◌, true, pos, List, [], length}
+use Rattle.std.specs.Prelude.{Contains, Option, Some, if◌then◌else◌}
 use Rattle.std.specs.List.{AllByRecursion}
 use Rattle.jc_base.specs.NumberSet.{has_number}
 use Rattle.jc_base.specs.declared.reason.Reason.{Reason}
@@ -12,7 +12,7 @@ use Rattle.jc_check.specs.Method.{Handler, Method, covers}
 use Rattle.jc_check.specs.declared.fault.WordFault.{WordFault}
 use Rattle.jc_check.specs.declared.fault.WordFault.TheVariants.{Refused, Memory}
 use Rattle.jc_verify.specs.Live.{IsEntered, IsLive}
-use Rattle.jc_verify.specs.Told.{LeadsAstray}
+use Rattle.jc_verify.specs.Told.{GoesStraight, LeadsAstray}
 use Rattle.jc_verify.specs.declared.entries.Followed.{Followed}
 
 -- code that decodes, with the set of the pcs at which its instructions begin
@@ -91,6 +91,31 @@ pub record IsFollowed (m : Method) (listing : List PlacedInstr) (now : Option �
   pub done : (x : PlacedInstr) → placed_at listing x.pc ≡ Some x → has_number f.live x.pc ≡ true
       → IsAwaited now f x.pc ⊎ IsDone m f x
 
+-- control flow was led somewhere: the sets have what they are to have, and keep what they had; and if what is asked for
+-- holds of the method, it was followed so far
+pub record HasLed (gives : Followed → Type 0) (asks : Method → List PlacedInstr → Type 0)
+    (before after : Followed) : Type 0 where
+  pub met : gives after
+  pub grown : Grown before after
+  pub followed : (m : Method) (listing : List PlacedInstr) (now : ℕ) → asks m listing
+      → IsFollowed m listing (Some now) before → IsFollowed m listing (Some now) after
+
+-- where handlers that cover a pc go on control flow enters, and an instruction begins there
+abbrev pub AreCaughtIn : List Handler → ℕ → Followed → Type 0
+AreCaughtIn handlers pc f = (h : Handler) → Contains handlers h → IsCaughtIn f pc h
+
+abbrev pub AreFoundBy : List Handler → ℕ → Method → List PlacedInstr → Type 0
+AreFoundBy handlers pc m listing =
+    (h : Handler) → Contains handlers h → covers h pc ≡ true → IsFound m listing h.goes_on
+
+-- places are pcs that are entered; and so they are by branches of a method whose code decodes
+abbrev pub AreBranchesIn : (ℤ → Type 0) → Followed → Type 0
+AreBranchesIn among f = (place : ℤ) → among place → IsBranchIn f place
+
+abbrev pub AreEnteredBy : (ℤ → Type 0) → List ℕ → Method → List PlacedInstr → Type 0
+AreEnteredBy among starts m listing =
+    IsGround m listing starts × ((pc : ℕ) → among (pos pc) → IsEntered m listing pc)
+
 -- these are the pcs that control flow enters, and instructions begin there
 pub record AreEntries (m : Method) (listing : List PlacedInstr) (entries : List ℕ) : Type 0 where
   pub entered : (pc : ℕ) → has_number entries pc ≡ true → IsFound m listing pc
@@ -114,3 +139,18 @@ IfRefusal Memory holds = ⊤
 -- this is told at a pc, and something holds
 abbrev pub ToldAt : ℕ → Reason → Type 0 → ℕ → Reason → Type 0
 ToldAt pc why holds at reason = (at ≡ pc) × (reason ≡ why) × holds
+
+-- what is found of a method: the pcs that control flow enters and those that it reaches, and that none of these leads
+-- astray
+pub record HasFound (m : Method) (listing : List PlacedInstr) (entries : List ℕ) : Type 0 where
+  pub are : AreEntries m listing entries
+  pub live : (live : List ℕ) × AreLive m listing live
+  pub straight : GoesStraight m listing
+
+-- the pcs that control flow enters, of a method whose code decodes and whose handlers stand
+pub record HasEntries (m : Method) (entries : List ℕ) : Type 0 where
+  pub listing : List PlacedInstr
+  pub whole : IsListing instr_at m.code listing
+  pub some : m.code ≢ []
+  pub handlers : AllByRecursion (HandlerStands listing) m.handlers
+  pub found : HasFound m listing entries

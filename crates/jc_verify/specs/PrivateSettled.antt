@@ -11,6 +11,7 @@ use Rattle.jc_verify.specs.PrivateCarrier.{HasPlace}
 use Rattle.jc_verify.specs.PrivateFlow.{AreShaped, ClosedIf, FallsIf, IsClosed, IsNumbered, IsUnder, IsUpper, Places}
 use Rattle.jc_verify.specs.PrivateFlow.{Risen, held_at, left_in, number_at, types_held}
 use Rattle.jc_verify.specs.PrivateTold.{AreReached}
+use Rattle.jc_verify.specs.declared.flow.Flow.{Flow}
 use Rattle.jc_verify.specs.declared.place.Place.{Place}
 
 -- from each place that hasn't changed since, control flow was followed
@@ -26,10 +27,10 @@ AreAllClosed l m numbers places =
     → IsClosed (package_rules l) m numbers (held_at numbers places) p.pc t
 
 -- the entry state met the place at pc 0, or control flow was followed from there
-pub record IsEntryMet (l : Linked) (m : Method) (numbers : List (Option ℕ)) (places : Places) : Type 0 where
+pub record IsEntryMet (l : Linked) (m : Method) (numbers : List (Option ℕ)) (typing : Typing) : Type 0 where
   pub on : Bool
-  pub falls : FallsIf on (package_rules l) m numbers (held_at numbers places) 0 (entry_of m)
-  pub closed : ClosedIf on (package_rules l) m numbers (held_at numbers places) 0 (entry_of m)
+  pub falls : FallsIf on (package_rules l) m numbers typing 0 (entry_of m)
+  pub closed : ClosedIf on (package_rules l) m numbers typing 0 (entry_of m)
 
 -- a place that counts as unchanged
 abbrev pub settled_place : Place StateWithRoom → Place StateWithRoom
@@ -60,6 +61,14 @@ pub record IsSwept (l : Linked) (m : Method) (numbers : List (Option ℕ)) (firs
   pub flags : (n : ℕ) (p : Place StateWithRoom) → first ≤ n → n < end → slice_get after n ≡ Some p → p.changed ≡ true
       → left_in l m after < left_in l m before
 
+-- control flow was followed from each place that holds types
+pub record HasSettled (f : Flow) (before after : Places) : Type 0 where
+  pub risen : Risen f.linked.now f.method.now f.numbers.now before after
+  pub under : (typing : Typing) → IsUpper f.linked.now f.method.now typing
+      → IsUnder f.linked.now f.numbers.now before typing → IsUnder f.linked.now f.numbers.now after typing
+  pub reached : AreReached f.linked.now f.method.now after
+  pub closed : AreAllClosed f.linked.now f.method.now f.numbers.now after
+
 -- numbers ascend with the pcs
 abbrev pub AreAscending : List (Option ℕ) → Type 0
 AreAscending numbers = (pc at j k : ℕ) → number_at numbers pc ≡ Some j → number_at numbers at ≡ Some k → j < k → pc < at
@@ -81,5 +90,5 @@ pub record IsFilled (l : Linked) (m : Method) (numbers : List (Option ℕ)) (bef
   pub reached : AreReached l m after
   pub numbered : IsNumbered numbers after
   pub shaped : AreShaped m after
-  pub entry : IsEntryMet l m numbers after
+  pub entry : IsEntryMet l m numbers (held_at numbers after)
   pub closed : AreAllClosed l m numbers after

@@ -1,9 +1,8 @@
 -- Private. What is known of the states that places hold, and of what is told where control flow is refused to go on.
-use Rattle.std.specs.Prelude.{◌≡◌, ◌≢◌, ◌≤◌, ⊤, ℕ, ℤ, pos, true, false, List, [], length, Option, Some, Contains}
-use Rattle.std.specs.Prelude.{slice_get}
+use Rattle.std.specs.Prelude.{◌≡◌, ◌≢◌, ⊤, ℕ, ℤ, pos, true, false, List, [], Option, Some, slice_get}
 use Rattle.std.specs.List.{AllByRecursion}
 use Rattle.jc_base.specs.declared.reason.Reason.{Reason}
-use Rattle.jc_base.specs.declared.reason.Reason.TheVariants.{CertMismatch, FallsOff, NoTarget}
+use Rattle.jc_base.specs.declared.reason.Reason.TheVariants.{CertMismatch}
 use Rattle.jc_names.specs.declared.name.ClassName.{ClassName}
 use Rattle.jc_code.specs.Listing.{IsListing, PlacedInstr, begins}
 use Rattle.jc_link.specs.Linked.{Linked}
@@ -20,8 +19,6 @@ use Rattle.jc_verify.specs.PrivateCarrier.{HasPlace}
 use Rattle.jc_verify.specs.PrivateFlow.{Places, held_at}
 use Rattle.jc_verify.specs.Told.{Flows, GoesStraight, IsToldOf}
 use Rattle.jc_verify.specs.declared.place.Place.{Place}
-use Rattle.jc_verify.specs.declared.stop.Stop.{Stop}
-use Rattle.jc_verify.specs.declared.stop.Stop.TheVariants.{Refused, Memory}
 
 -- a state flows to a pc, where an instruction begins
 pub record IsFlowing (rules : Rules) (m : Method) (listing : List PlacedInstr) (pc : ℕ) (t : Types) : Type 0 where
@@ -62,45 +59,16 @@ pub record IsUncaught (l : Linked) (m : Method) (of : Handler → Type 0) (pc : 
   pub catches : h.caught ≡ Some class
   pub untaken : IsUncaughtAt l m h.goes_on (caught_types class s) r
 
--- a branch isn't followed: it leads before the code, or what flows there meets types of another shape
-pub data IsUnled (l : Linked) (m : Method) (among : ℤ → Type 0) (t : Types) : Reason → Type 0 where
-  leads_before : (place : ℤ) → among place → ((pc : ℕ) → place ≡ pos pc → ⊥) → IsUnled l m among t NoTarget
-  leads_unlike : (pc : ℕ) (reason : Reason) → among (pos pc) → MeetsUnlike (Reaches l m) pc t reason
-      → IsUnled l m among t reason
-
--- what goes on to a pc isn't followed: the code ends before it, or it meets types of another shape
-pub data IsFallen (m : Method) (at : ℕ → Types → Type 0) (pc : ℕ) (t : Types) : Reason → Type 0 where
-  falls_past : length m.code ≤ pc → IsFallen m at pc t FallsOff
-  falls_unlike : (reason : Reason) → MeetsUnlike at pc t reason → IsFallen m at pc t reason
-
--- where a handler covers a pc it catches a class, and there is a place where it goes on
-pub record IsWay (numbers : List (Option ℕ)) (h : Handler) : Type 0 where
-  pub class : ClassName
-  pub catches : h.caught ≡ Some class
-  pub place : HasPlace numbers h.goes_on
-
-abbrev pub IsHandlersWay : List (Option ℕ) → ℕ → Handler → Type 0
-IsHandlersWay numbers pc h = covers h pc ≡ true → IsWay numbers h
-
--- what handlers catch at a pc flows where they go on
-abbrev pub AreCaught : Linked → Method → ℕ → Types → Type 0
-AreCaught l m pc s =
-    (h : Handler) (class : ClassName) → Contains m.handlers h → covers h pc ≡ true → h.caught ≡ Some class
-    → Reaches l m h.goes_on (caught_types class s)
-
--- it holds of the reason where something is refused
-abbrev pub IfRefused : (Reason → Type 0) → Stop → Type 0
-IfRefused holds (Refused reason) = holds reason
-IfRefused holds Memory = ⊤
+-- a branch isn't followed: what flows there meets types of another shape
+pub record IsUnled (l : Linked) (m : Method) (among : ℤ → Type 0) (t : Types) (r : Reason) : Type 0 where
+  pub pc : ℕ
+  pub is : among (pos pc)
+  pub meets : MeetsUnlike (Reaches l m) pc t r
 
 -- where something is refused, that is told of the method
 abbrev pub Tells : Rules → Method → WordFault → Type 0
 Tells rules m (faults.Refused pc reason) = IsToldOf rules m (fault_at pc reason)
 Tells rules m faults.Memory = ⊤
-
--- the same at a pc
-abbrev pub TellsAt : Rules → Method → ℕ → Stop → Type 0
-TellsAt rules m pc = IfRefused (λ reason. IsToldOf rules m (fault_at pc reason))
 
 -- the listing of a method's code; its handlers stand, nothing that is reached leads astray, and where control flow
 -- enters an instruction begins and there is a place

@@ -8,7 +8,7 @@ ghost use Rattle.jc_base.specs.declared.reason.Reason.{Reason};
 ghost use Rattle.jc_base.specs.declared.reason.Reason.TheVariants.{FallsOff, NoTarget};
 ghost use Rattle.jc_cert.specs.Cert.{Stated};
 ghost use Rattle.jc_code.specs.Instructions.{instr_at};
-ghost use Rattle.jc_code.specs.Listing.{IsListing, PlacedInstr, StopsAt, begins, placed_at};
+ghost use Rattle.jc_code.specs.Listing.{PlacedInstr, StopsAt, begins, placed_at};
 ghost use Rattle.jc_code.specs.Targets.{falls_of, targets_of};
 ghost use Rattle.jc_code.specs.declared.fault.CodeFault.{CodeFault};
 ghost use Rattle.jc_check.specs.Rules.{Rules};
@@ -17,15 +17,13 @@ ghost use Rattle.jc_check.specs.FirstFault.{handler_stands, handlers_stand, reas
 ghost use Rattle.jc_check.specs.Method.{covers};
 ghost use Rattle.jc_check.specs.Method as methods;
 ghost use Rattle.jc_check.specs.declared.fault.WordFault.TheVariants.{Memory, Refused};
-ghost use Rattle.jc_verify.specs.Live.{IsEntered};
 ghost use Rattle.jc_verify.specs.PrivateFlow.{placed};
-ghost use Rattle.jc_verify.specs.PrivateLive.{AreEntries, AreLive, Grown, IfRefusal, IsAstray, IsBranchIn, IsCaughtIn};
-ghost use Rattle.jc_verify.specs.PrivateLive.{IsDecoded, IsFollowed, IsFound, IsGround, IsHeld, IsReached, ToldAt};
-ghost use Rattle.jc_verify.specs.PrivateLive.{left_of};
+ghost use Rattle.jc_verify.specs.PrivateLive.{AreBranchesIn, AreCaughtIn, AreEnteredBy, AreFoundBy, HasEntries};
+ghost use Rattle.jc_verify.specs.PrivateLive.{HasFound, HasLed, IfRefusal, IsAstray, IsCaughtIn, IsDecoded};
+ghost use Rattle.jc_verify.specs.PrivateLive.{IsFollowed, IsFound, IsGround, IsHeld, IsReached, ToldAt, left_of};
 ghost use Rattle.jc_check.specs.Package.{package_rules};
 ghost use Rattle.jc_link.specs.Linked.{Linked};
 ghost use Rattle.jc_verify.specs.PrivateTold.{Tells};
-ghost use Rattle.jc_verify.specs.Told.{GoesStraight};
 
 use jc_base::{NumberSet, Reason};
 use jc_check::{Fault, Handler, Method, WordFault};
@@ -120,12 +118,8 @@ pub(crate) struct Followed {
 
 /// A pc is reached: control flow has to be followed from there, unless it was reached before.
 fn reach(followed: &mut Followed, pc: u16) -> Result<(), WordFault>
-    ensures live { IfOk result (λ u. has_number followed.new.live pc ≡ true) }
-    ensures same { IfOk result (λ u. followed.new.entered ≡ followed.old.entered) }
-    ensures grown { IfOk result (λ u. Grown followed.old followed.new) }
-    ensures followed { IfOk result (λ u. (m : methods.Method) (listing : List PlacedInstr) (now : ℕ)
-        → IsReached m listing pc
-        → IsFollowed m listing (Some now) followed.old → IsFollowed m listing (Some now) followed.new) }
+    ensures led { IfOk result (λ u. HasLed (λ f. has_number f.live pc ≡ true)
+        (λ m listing. IsReached m listing pc) followed.old followed.new) }
     ensures memory { IfErr result (λ fault. fault ≡ Memory) }
 {
     if followed.live.contains(pc) {
@@ -138,11 +132,8 @@ fn reach(followed: &mut Followed, pc: u16) -> Result<(), WordFault>
 
 /// A pc is entered.
 fn enter(followed: &mut Followed, pc: u16) -> Result<(), WordFault>
-    ensures held { IfOk result (λ u. IsHeld followed.new pc) }
-    ensures grown { IfOk result (λ u. Grown followed.old followed.new) }
-    ensures followed { IfOk result (λ u. (m : methods.Method) (listing : List PlacedInstr) (now : ℕ)
-        → IsFound m listing pc
-        → IsFollowed m listing (Some now) followed.old → IsFollowed m listing (Some now) followed.new) }
+    ensures led { IfOk result (λ u. HasLed (λ f. IsHeld f pc) (λ m listing. IsFound m listing pc)
+        followed.old followed.new) }
     ensures memory { IfErr result (λ fault. fault ≡ Memory) }
 {
     followed.entered.insert(pc);
@@ -150,13 +141,10 @@ fn enter(followed: &mut Followed, pc: u16) -> Result<(), WordFault>
 }
 
 /// A handler at an instruction: where it covers it, the pc at which it goes on is entered.
-#[tactic(auto, using(crate::proofs::Following::grown_self))]
 fn handle(followed: &mut Followed, pc: u16, handler: &Handler) -> Result<(), WordFault>
-    ensures met { IfOk result (λ u. IsCaughtIn followed.new pc handler.now) }
-    ensures grown { IfOk result (λ u. Grown followed.old followed.new) }
-    ensures followed { IfOk result (λ u. (m : methods.Method) (listing : List PlacedInstr) (now : ℕ)
-        → (covers handler.now pc ≡ true → IsFound m listing handler.now.goes_on)
-        → IsFollowed m listing (Some now) followed.old → IsFollowed m listing (Some now) followed.new) }
+    ensures led { IfOk result (λ u. HasLed (λ f. IsCaughtIn f pc handler.now)
+        (λ m listing. covers handler.now pc ≡ true → IsFound m listing handler.now.goes_on)
+        followed.old followed.new) }
     ensures memory { IfErr result (λ fault. fault ≡ Memory) }
 {
     if !handler.covers(pc) {
@@ -167,11 +155,8 @@ fn handle(followed: &mut Followed, pc: u16, handler: &Handler) -> Result<(), Wor
 
 /// Each handler in turn.
 fn handle_all(followed: &mut Followed, handlers: &[Handler], pc: u16) -> Result<(), WordFault>
-    ensures met { IfOk result (λ u. (h : methods.Handler) → Contains handlers.now h → IsCaughtIn followed.new pc h) }
-    ensures grown { IfOk result (λ u. Grown followed.old followed.new) }
-    ensures followed { IfOk result (λ u. (m : methods.Method) (listing : List PlacedInstr) (now : ℕ)
-        → ((h : methods.Handler) → Contains handlers.now h → covers h pc ≡ true → IsFound m listing h.goes_on)
-        → IsFollowed m listing (Some now) followed.old → IsFollowed m listing (Some now) followed.new) }
+    ensures led { IfOk result (λ u. HasLed (AreCaughtIn handlers.now pc) (AreFoundBy handlers.now pc)
+        followed.old followed.new) }
     ensures memory { IfErr result (λ fault. fault ≡ Memory) }
 {
     for index in 0..handlers.len() {
@@ -198,13 +183,8 @@ fn branch_to(
     index: usize,
 ) -> Result<(), WordFault>
     requires index { index < length targets.now }
-    ensures met { IfOk result (λ u. (place : ℤ) → slice_get targets.now index ≡ Some place
-        → IsBranchIn followed.new place) }
-    ensures grown { IfOk result (λ u. Grown followed.old followed.new) }
-    ensures followed { IfOk result (λ u. (m : methods.Method) (listing : List PlacedInstr) (now : ℕ)
-        → IsGround m listing starts.now
-        → ((p : ℕ) → slice_get targets.now index ≡ Some (pos p) → IsEntered m listing p)
-        → IsFollowed m listing (Some now) followed.old → IsFollowed m listing (Some now) followed.new) }
+    ensures led { IfOk result (λ u. HasLed (AreBranchesIn (λ place. slice_get targets.now index ≡ Some place))
+        (AreEnteredBy (λ place. slice_get targets.now index ≡ Some place) starts.now) followed.old followed.new) }
     ensures refused { IfErr result (λ fault. IfRefusal fault (ToldAt pc NoTarget
         ((m : methods.Method) (listing : List PlacedInstr) → IsGround m listing starts.now
         → (p : ℕ) → slice_get targets.now index ≡ Some (pos p) → begins listing p ≡ false))) }
@@ -234,13 +214,8 @@ fn branch_all(
     pc: u16,
     instr: &Instr,
 ) -> Result<(), WordFault>
-    ensures met { IfOk result (λ u. (place : ℤ) → Contains (targets_of pc instr.now.operation) place
-        → IsBranchIn followed.new place) }
-    ensures grown { IfOk result (λ u. Grown followed.old followed.new) }
-    ensures followed { IfOk result (λ u. (m : methods.Method) (listing : List PlacedInstr) (now : ℕ)
-        → IsGround m listing starts.now
-        → ((p : ℕ) → Contains (targets_of pc instr.now.operation) (pos p) → IsEntered m listing p)
-        → IsFollowed m listing (Some now) followed.old → IsFollowed m listing (Some now) followed.new) }
+    ensures led { IfOk result (λ u. HasLed (AreBranchesIn (Contains (targets_of pc instr.now.operation)))
+        (AreEnteredBy (Contains (targets_of pc instr.now.operation)) starts.now) followed.old followed.new) }
     ensures refused { IfErr result (λ fault. IfRefusal fault (ToldAt pc NoTarget
         ((m : methods.Method) (listing : List PlacedInstr) → IsGround m listing starts.now
         → (place : ℤ) × Contains (targets_of pc instr.now.operation) place
@@ -254,17 +229,12 @@ fn branch_all(
 }
 
 /// What goes on behind an instruction.
-#[tactic(auto, using(crate::proofs::Following::grown_self))]
 fn fall(followed: &mut Followed, method: &Method, pc: u16, instr: &Instr) -> Result<(), WordFault>
     requires short { length method.now.code < 2 ^ 16 }
-    ensures met { IfOk result (λ u. falls_of instr.now.operation ≡ true
-        → has_number followed.new.live instr.now.next_pc ≡ true) }
-    ensures grown { IfOk result (λ u. Grown followed.old followed.new) }
-    ensures followed { IfOk result (λ u. (listing : List PlacedInstr) (now : ℕ)
-        → (falls_of instr.now.operation ≡ true → instr.now.next_pc < length method.now.code
-        → IsReached method.now listing instr.now.next_pc)
-        → IsFollowed method.now listing (Some now) followed.old
-        → IsFollowed method.now listing (Some now) followed.new) }
+    ensures led { IfOk result (λ u. HasLed
+        (λ f. falls_of instr.now.operation ≡ true → has_number f.live instr.now.next_pc ≡ true)
+        (λ m listing. falls_of instr.now.operation ≡ true → instr.now.next_pc < length method.now.code
+        → IsReached m listing instr.now.next_pc) followed.old followed.new) }
     ensures refused { IfErr result (λ fault. IfRefusal fault (ToldAt pc FallsOff
         ((falls_of instr.now.operation ≡ true) × (length method.now.code ≤ instr.now.next_pc)))) }
 {
@@ -341,11 +311,7 @@ fn follow_all(alloc: Global, method: &Method, starts: &NumberSet) -> Result<Numb
     requires short { length method.now.code < 2 ^ 16 }
     requires some { method.now.code ≢ [] }
     ensures found { IfOk result (λ entries. (listing : List PlacedInstr) → IsGround method.now listing starts.now
-        → AreEntries method.now listing entries) }
-    ensures live { IfOk result (λ entries. (live : List ℕ)
-        × ((listing : List PlacedInstr) → IsGround method.now listing starts.now → AreLive method.now listing live)) }
-    ensures straight { IfOk result (λ entries. (listing : List PlacedInstr) → IsGround method.now listing starts.now
-        → GoesStraight method.now listing) }
+        → HasFound method.now listing entries) }
     ensures refused { IfErr result (λ fault. IfRefusal fault (λ at reason. (listing : List PlacedInstr)
         → IsGround method.now listing starts.now → IsAstray method.now listing at reason)) }
 {
@@ -360,21 +326,7 @@ fn follow_all(alloc: Global, method: &Method, starts: &NumberSet) -> Result<Numb
 /// stand.
 pub(crate) fn entries_of(alloc: Global, method: &Method) -> Result<NumberSet, WordFault>
     requires short { length method.now.code < 2 ^ 16 }
-    ensures listed { IfOk result (λ entries. (listing : List PlacedInstr)
-        × IsListing instr_at method.now.code listing) }
-    ensures starts { IfOk result (λ entries. (listing : List PlacedInstr) → IsListing instr_at method.now.code listing
-        → (pc : ℕ) → has_number entries pc ≡ true → begins listing pc ≡ true) }
-    ensures entered { IfOk result (λ entries. (listing : List PlacedInstr) → IsListing instr_at method.now.code listing
-        → (pc : ℕ) → has_number entries pc ≡ true → IsEntered method.now listing pc) }
-    ensures all { IfOk result (λ entries. (listing : List PlacedInstr) → IsListing instr_at method.now.code listing
-        → (pc : ℕ) → IsEntered method.now listing pc → has_number entries pc ≡ true) }
-    ensures live { IfOk result (λ entries. (live : List ℕ) × ((listing : List PlacedInstr)
-        → IsListing instr_at method.now.code listing → AreLive method.now listing live)) }
-    ensures handlers { IfOk result (λ entries. (listing : List PlacedInstr) → IsListing instr_at method.now.code listing
-        → AllByRecursion (HandlerStands listing) method.now.handlers) }
-    ensures straight { IfOk result (λ entries. (listing : List PlacedInstr) → IsListing instr_at method.now.code listing
-        → GoesStraight method.now listing) }
-    ensures some { IfOk result (λ entries. method.now.code ≢ []) }
+    ensures found { IfOk result (λ entries. HasEntries method.now entries) }
     ensures refused { IfErr result (λ fault. (pc : ℕ) (reason : Reason) → fault ≡ Refused pc reason → (rules : Rules)
         → rules.decoder ≡ instr_at → (states : List Stated) → Carries rules method.now states → ⊥) }
     ensures told { IfErr result (λ fault. (l : Linked) → Tells (package_rules l) method.now fault) }

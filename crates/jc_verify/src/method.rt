@@ -1,20 +1,19 @@
 //! The states of a method's certificate.
 
-ghost use Rattle.std.specs.Prelude.{◌≡◌, ◌⊎◌, ◌<◌, ◌^◌, ℕ, Some, None, length, map, slice_get, IfErr, IfOk};
+ghost use Rattle.std.specs.Prelude.{◌≡◌, ◌⊎◌, ◌<◌, ◌^◌, ℕ, length, map, IfErr, IfOk};
 ghost use Rattle.jc_base.specs.declared.reason.Reason.{Reason};
 ghost use Rattle.jc_cert.specs.Cert.{stated};
 ghost use Rattle.jc_check.specs.Typing.{Typing};
 ghost use Rattle.jc_check.specs.declared.fault.WordFault.TheVariants.{Refused};
 ghost use Rattle.jc_verify.specs.PrivateNames.{KeepsNames};
 ghost use Rattle.jc_verify.specs.PrivateCarrier.{IsCarrier};
-ghost use Rattle.jc_types.specs.State.{StateWithRoom};
-ghost use Rattle.jc_verify.specs.declared.place.Place.{Place as PlaceOf};
 ghost use Rattle.jc_check.specs.Package.{class_of_name, package_rules};
-ghost use Rattle.jc_verify.specs.PrivateTold.{IsGroundOf, Tells};
-ghost use Rattle.jc_verify.specs.PrivateFlow.{HasLaws, IsNumbered, Places};
+ghost use Rattle.jc_verify.specs.PrivateTold.{Tells};
+ghost use Rattle.jc_verify.specs.PrivateFlow.{HasLaws, Places};
 ghost use Rattle.jc_verify.specs.PrivateGathered.{IsDenied, IsInferred};
 ghost use Rattle.jc_verify.specs.PrivateSettled.{IsFilled};
 ghost use Rattle.jc_verify.specs.PrivateStated.{AreStateRows};
+ghost use Rattle.jc_verify.specs.PrivateWork.{IsBlank};
 
 use crate::entries::entries_of;
 use crate::flow::Flow;
@@ -30,12 +29,7 @@ use std::alloc::Global;
 
 /// What places hold once they are filled, as rows of a certificate. None holds anything before.
 fn rows_in(flow: &Flow, places: &mut [Place<State>]) -> Result<Vec<StateRow>, WordFault>
-    requires laws { HasLaws flow.now.linked.now }
-    requires numbered { IsNumbered flow.now.numbers.now places.old }
-    requires sized { length flow.now.numbers.now ≡ length flow.now.method.now.code }
-    requires ground { IsGroundOf flow.now.linked.now flow.now.method.now flow.now.numbers.now }
-    requires empty { (n : ℕ) (p : PlaceOf StateWithRoom) → slice_get places.old n ≡ Some p → p.held ≡ None }
-    requires short { length flow.now.method.now.code < 2 ^ 16 }
+    requires blank { IsBlank flow.now places.old }
     ensures rows { IfOk result (λ rows. (final : Places)
         × IsFilled flow.now.linked.now flow.now.method.now flow.now.numbers.now places.old final
         × AreStateRows (class_of_name flow.now.linked.now.world) final (map stated rows.items)) }

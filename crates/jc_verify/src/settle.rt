@@ -1,22 +1,16 @@
 //! Following control flow from the places that have changed, until none has.
 
-ghost use Rattle.std.specs.Prelude.{◌≡◌, ◌⊎◌, ◌<◌, ◌≤◌, ◌^◌, ℕ, true, false, Some, None, length, slice_get, IfErr};
-ghost use Rattle.std.specs.Prelude.{IfNone, IfOk, IfSome};
-ghost use Rattle.jc_base.specs.declared.reason.Reason.{Reason};
-ghost use Rattle.jc_check.specs.Method.{entry_of};
-ghost use Rattle.jc_check.specs.Typing.{HasShape, Typing};
-ghost use Rattle.jc_check.specs.declared.fault.WordFault.TheVariants.{Refused};
+ghost use Rattle.std.specs.Prelude.{◌≡◌, ◌⊎◌, ◌<◌, ◌≤◌, ℕ, true, false, Some, None, length, slice_get, IfErr, IfNone};
+ghost use Rattle.std.specs.Prelude.{IfOk, IfSome};
 ghost use Rattle.jc_types.specs.State.{StateWithRoom};
-ghost use Rattle.jc_verify.specs.PrivateTold.{AreReached, IsGroundOf, Tells};
-ghost use Rattle.jc_check.specs.Package.{package_rules};
-ghost use Rattle.jc_verify.specs.PrivateCarrier.{IsCarrier};
-ghost use Rattle.jc_verify.specs.PrivateFlow.{AreShaped, Grown, HasLaws, HasRoom, IsNumbered, IsUnder, IsUpper, Places};
-ghost use Rattle.jc_verify.specs.PrivateFlow.{Risen, types_held};
-ghost use Rattle.jc_verify.specs.declared.place.Place.{Place as PlaceOf};
-ghost use Rattle.jc_verify.specs.PrivateSettled.{AreAllClosed, IsEntryMet, IsFilled, IsFollowed, IsSettled, IsSwept};
+ghost use Rattle.jc_check.specs.Method.{entry_of};
+ghost use Rattle.jc_verify.specs.PrivateFlow.{IsUpper, types_held};
+ghost use Rattle.jc_verify.specs.PrivateSettled.{HasSettled, IsEntryMet, IsFilled, IsFollowed, IsSettled, IsSwept};
 ghost use Rattle.jc_verify.specs.PrivateSettled.{settled_place};
+ghost use Rattle.jc_verify.specs.PrivateWork.{Anything, HasTaken, HaveRoom, IsAtWork, IsBlank, IsDenial};
+ghost use Rattle.jc_verify.specs.declared.place.Place.{Place as PlaceOf};
 
-use crate::flow::{Flow, fall_to, follow, told_at};
+use crate::flow::{Flow, flow_to, follow, told_at};
 use crate::place::Place;
 use jc_check::WordFault;
 use jc_types::State;
@@ -70,24 +64,13 @@ fn follow_place(
     state: &mut State,
     number: usize,
 ) -> Result<(), WordFault>
-    requires laws { HasLaws flow.now.linked.now }
-    requires numbered { IsNumbered flow.now.numbers.now places.old }
-    requires sized { length flow.now.numbers.now ≡ length flow.now.method.now.code }
-    requires shaped { AreShaped flow.now.method.now places.old }
-    requires reached { AreReached flow.now.linked.now flow.now.method.now places.old }
-    requires ground { IsGroundOf flow.now.linked.now flow.now.method.now flow.now.numbers.now }
-    requires caught { HasRoom flow.now.method.now caught.old }
-    requires room { HasRoom flow.now.method.now state.old }
-    requires short { length flow.now.method.now.code < 2 ^ 16 }
+    requires work { IsAtWork flow.now places.old }
+    requires room { HaveRoom flow.now caught.old state.old }
     requires there { number < length places.old }
     ensures followed { IfOk result (λ u.
         IsFollowed flow.now.linked.now flow.now.method.now flow.now.numbers.now number places.old places.new) }
-    ensures caught { IfOk result (λ u. HasRoom flow.now.method.now caught.new) }
-    ensures room { IfOk result (λ u. HasRoom flow.now.method.now state.new) }
-    ensures refused { IfErr result (λ fault. (pc : ℕ) (reason : Reason) → fault ≡ Refused pc reason
-        → (typing : Typing) → IsCarrier flow.now.linked.now flow.now.method.now flow.now.numbers.now typing
-        → IsUnder flow.now.linked.now flow.now.numbers.now places.old typing → ⊥) }
-    ensures told { IfErr result (Tells (package_rules flow.now.linked.now) flow.now.method.now) }
+    ensures room { IfOk result (λ u. HaveRoom flow.now caught.new state.new) }
+    ensures refused { IfErr result (IsDenial flow.now Anything places.old) }
 {
     match take_up(&mut places[number], state) {
         Some(start) => follow(flow, places, caught, state, start),
@@ -102,23 +85,12 @@ fn sweep_forwards(
     caught: &mut State,
     state: &mut State,
 ) -> Result<(), WordFault>
-    requires laws { HasLaws flow.now.linked.now }
-    requires numbered { IsNumbered flow.now.numbers.now places.old }
-    requires sized { length flow.now.numbers.now ≡ length flow.now.method.now.code }
-    requires shaped { AreShaped flow.now.method.now places.old }
-    requires reached { AreReached flow.now.linked.now flow.now.method.now places.old }
-    requires ground { IsGroundOf flow.now.linked.now flow.now.method.now flow.now.numbers.now }
-    requires caught { HasRoom flow.now.method.now caught.old }
-    requires room { HasRoom flow.now.method.now state.old }
-    requires short { length flow.now.method.now.code < 2 ^ 16 }
+    requires work { IsAtWork flow.now places.old }
+    requires room { HaveRoom flow.now caught.old state.old }
     ensures swept { IfOk result (λ u. IsSwept flow.now.linked.now flow.now.method.now flow.now.numbers.now 0
         (length places.new) places.old places.new) }
-    ensures caught { IfOk result (λ u. HasRoom flow.now.method.now caught.new) }
-    ensures room { IfOk result (λ u. HasRoom flow.now.method.now state.new) }
-    ensures refused { IfErr result (λ fault. (pc : ℕ) (reason : Reason) → fault ≡ Refused pc reason
-        → (typing : Typing) → IsCarrier flow.now.linked.now flow.now.method.now flow.now.numbers.now typing
-        → IsUnder flow.now.linked.now flow.now.numbers.now places.old typing → ⊥) }
-    ensures told { IfErr result (Tells (package_rules flow.now.linked.now) flow.now.method.now) }
+    ensures room { IfOk result (λ u. HaveRoom flow.now caught.new state.new) }
+    ensures refused { IfErr result (IsDenial flow.now Anything places.old) }
 {
     for number in 0..places.len() {
         follow_place(flow, places, caught, state, number)?;
@@ -133,23 +105,12 @@ fn sweep_backwards(
     caught: &mut State,
     state: &mut State,
 ) -> Result<(), WordFault>
-    requires laws { HasLaws flow.now.linked.now }
-    requires numbered { IsNumbered flow.now.numbers.now places.old }
-    requires sized { length flow.now.numbers.now ≡ length flow.now.method.now.code }
-    requires shaped { AreShaped flow.now.method.now places.old }
-    requires reached { AreReached flow.now.linked.now flow.now.method.now places.old }
-    requires ground { IsGroundOf flow.now.linked.now flow.now.method.now flow.now.numbers.now }
-    requires caught { HasRoom flow.now.method.now caught.old }
-    requires room { HasRoom flow.now.method.now state.old }
-    requires short { length flow.now.method.now.code < 2 ^ 16 }
+    requires work { IsAtWork flow.now places.old }
+    requires room { HaveRoom flow.now caught.old state.old }
     ensures swept { IfOk result (λ u. IsSwept flow.now.linked.now flow.now.method.now flow.now.numbers.now 0
         (length places.new) places.old places.new) }
-    ensures caught { IfOk result (λ u. HasRoom flow.now.method.now caught.new) }
-    ensures room { IfOk result (λ u. HasRoom flow.now.method.now state.new) }
-    ensures refused { IfErr result (λ fault. (pc : ℕ) (reason : Reason) → fault ≡ Refused pc reason
-        → (typing : Typing) → IsCarrier flow.now.linked.now flow.now.method.now flow.now.numbers.now typing
-        → IsUnder flow.now.linked.now flow.now.numbers.now places.old typing → ⊥) }
-    ensures told { IfErr result (Tells (package_rules flow.now.linked.now) flow.now.method.now) }
+    ensures room { IfOk result (λ u. HaveRoom flow.now caught.new state.new) }
+    ensures refused { IfErr result (IsDenial flow.now Anything places.old) }
 {
     let mut number = places.len();
     while number > 0 {
@@ -181,28 +142,11 @@ fn settle(
     caught: &mut State,
     state: &mut State,
 ) -> Result<(), WordFault>
-    requires laws { HasLaws flow.now.linked.now }
-    requires numbered { IsNumbered flow.now.numbers.now places.old }
-    requires sized { length flow.now.numbers.now ≡ length flow.now.method.now.code }
-    requires shaped { AreShaped flow.now.method.now places.old }
-    requires reached { AreReached flow.now.linked.now flow.now.method.now places.old }
-    requires ground { IsGroundOf flow.now.linked.now flow.now.method.now flow.now.numbers.now }
+    requires work { IsAtWork flow.now places.old }
     requires settled { IsSettled flow.now.linked.now flow.now.method.now flow.now.numbers.now places.old }
-    requires caught { HasRoom flow.now.method.now caught.old }
-    requires room { HasRoom flow.now.method.now state.old }
-    requires short { length flow.now.method.now.code < 2 ^ 16 }
-    ensures risen { IfOk result (λ u.
-        Risen flow.now.linked.now flow.now.method.now flow.now.numbers.now places.old places.new) }
-    ensures closed { IfOk result (λ u.
-        AreAllClosed flow.now.linked.now flow.now.method.now flow.now.numbers.now places.new) }
-    ensures under { IfOk result (λ u. (typing : Typing) → IsUpper flow.now.linked.now flow.now.method.now typing
-        → IsUnder flow.now.linked.now flow.now.numbers.now places.old typing
-        → IsUnder flow.now.linked.now flow.now.numbers.now places.new typing) }
-    ensures reached { IfOk result (λ u. AreReached flow.now.linked.now flow.now.method.now places.new) }
-    ensures refused { IfErr result (λ fault. (pc : ℕ) (reason : Reason) → fault ≡ Refused pc reason
-        → (typing : Typing) → IsCarrier flow.now.linked.now flow.now.method.now flow.now.numbers.now typing
-        → IsUnder flow.now.linked.now flow.now.numbers.now places.old typing → ⊥) }
-    ensures told { IfErr result (Tells (package_rules flow.now.linked.now) flow.now.method.now) }
+    requires room { HaveRoom flow.now caught.old state.old }
+    ensures settled { IfOk result (λ u. HasSettled flow.now places.old places.new) }
+    ensures refused { IfErr result (IsDenial flow.now Anything places.old) }
 {
     loop {
         sweep_forwards(flow, places, caught, state)?;
@@ -220,31 +164,16 @@ fn enter(
     caught: &mut State,
     state: &mut State,
 ) -> Result<(), WordFault>
-    requires laws { HasLaws flow.now.linked.now }
-    requires numbered { IsNumbered flow.now.numbers.now places.old }
-    requires ground { IsGroundOf flow.now.linked.now flow.now.method.now flow.now.numbers.now }
-    requires empty { (n : ℕ) (p : PlaceOf StateWithRoom) → slice_get places.old n ≡ Some p → p.held ≡ None }
-    requires caught { HasRoom flow.now.method.now caught.old }
-    requires room { HasRoom flow.now.method.now state.old }
+    requires blank { IsBlank flow.now places.old }
+    requires room { HaveRoom flow.now caught.old state.old }
     requires entry { state.old.types ≡ entry_of flow.now.method.now }
-    requires short { length flow.now.method.now.code < 2 ^ 16 }
-    ensures grown { IfOk result (λ u.
-        Grown flow.now.linked.now flow.now.method.now flow.now.numbers.now places.old places.new) }
-    ensures entered { IfOk result (λ u. (final : Places)
-        → Risen flow.now.linked.now flow.now.method.now flow.now.numbers.now places.new final
-        → IsEntryMet flow.now.linked.now flow.now.method.now flow.now.numbers.now final) }
-    ensures caught { IfOk result (λ u. HasRoom flow.now.method.now caught.new) }
-    ensures room { IfOk result (λ u. HasRoom flow.now.method.now state.new) }
-    ensures under { IfOk result (λ u. (typing : Typing) → IsUpper flow.now.linked.now flow.now.method.now typing
-        → IsUnder flow.now.linked.now flow.now.numbers.now places.old typing
-        → IsUnder flow.now.linked.now flow.now.numbers.now places.new typing) }
-    ensures reached { IfOk result (λ u. AreReached flow.now.linked.now flow.now.method.now places.new) }
-    ensures refused { IfErr result (λ fault. (pc : ℕ) (reason : Reason) → fault ≡ Refused pc reason
-        → (typing : Typing) → IsCarrier flow.now.linked.now flow.now.method.now flow.now.numbers.now typing
-        → IsUnder flow.now.linked.now flow.now.numbers.now places.old typing → ⊥) }
-    ensures told { IfErr result (Tells (package_rules flow.now.linked.now) flow.now.method.now) }
+    ensures taken { IfOk result (λ u. HasTaken flow.now
+        (IsEntryMet flow.now.linked.now flow.now.method.now flow.now.numbers.now)
+        (IsUpper flow.now.linked.now flow.now.method.now) places.old places.new) }
+    ensures room { IfOk result (λ u. HaveRoom flow.now caught.new state.new) }
+    ensures refused { IfErr result (IsDenial flow.now Anything places.old) }
 {
-    match fall_to(flow, places, state, 0) {
+    match flow_to(flow, places, 0, state) {
         Ok(true) => follow(flow, places, caught, state, 0),
         Ok(false) => Ok(()),
         Err(stop) => Err(told_at(0, stop)),
@@ -254,17 +183,10 @@ fn enter(
 /// What places hold once control flow was followed from the entry, and from all places that took something in. None
 /// holds anything before.
 pub(crate) fn fill(flow: &Flow, places: &mut [Place<State>]) -> Result<(), WordFault>
-    requires laws { HasLaws flow.now.linked.now }
-    requires numbered { IsNumbered flow.now.numbers.now places.old }
-    requires sized { length flow.now.numbers.now ≡ length flow.now.method.now.code }
-    requires ground { IsGroundOf flow.now.linked.now flow.now.method.now flow.now.numbers.now }
-    requires empty { (n : ℕ) (p : PlaceOf StateWithRoom) → slice_get places.old n ≡ Some p → p.held ≡ None }
-    requires short { length flow.now.method.now.code < 2 ^ 16 }
+    requires blank { IsBlank flow.now places.old }
     ensures filled { IfOk result (λ u.
         IsFilled flow.now.linked.now flow.now.method.now flow.now.numbers.now places.old places.new) }
-    ensures refused { IfErr result (λ fault. (pc : ℕ) (reason : Reason) → fault ≡ Refused pc reason → (typing : Typing)
-        → IsCarrier flow.now.linked.now flow.now.method.now flow.now.numbers.now typing → ⊥) }
-    ensures told { IfErr result (Tells (package_rules flow.now.linked.now) flow.now.method.now) }
+    ensures refused { IfErr result (IsDenial flow.now Anything places.old) }
 {
     let method = flow.method;
     let mut state = State::entry(

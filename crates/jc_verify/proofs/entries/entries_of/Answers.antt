@@ -21,9 +21,14 @@ returns-clause-refused c =
     IfErr-weaker c.follow_all.result _ _ (λ fault off pc reason is rules decodes states k.
     never_refused rules m states k c.listing_laws.ensures.all decodes found.0 c.in_ok-starts.starts c.requires.short found.1 fault off pc reason is) c.follow_all.ensures.refused
 
-pub returns-clause-live : goal.returns-clause-live
-returns-clause-live c =
-    if_ok c.follow_all.result _ _ c.follow_all.ensures.live (λ entries live. (live.0, λ listing whole. live.1 listing (search rules)))
+pub returns-clause-found : goal.returns-clause-found
+returns-clause-found c =
+    let m = c.args.method.now in
+    let found = rw c.code-code.ensures at c.in_ok-starts.ensures.ok in
+    let stand = rw c.handlers.ensures at c.in_ok-stand_handlers.ensures.ok in
+    let some : m.code ≢ [] = search rules in
+    let ground : IsGround m found.0 c.in_ok-starts.starts = record { laws = c.listing_laws.ensures.all; short = c.requires.short; decoded = found.1; handlers = stand m.code found.0 found.1 } in
+    if_ok c.follow_all.result _ _ c.follow_all.ensures.found (λ entries of. record { listing = found.0; whole = found.1.whole; some = some; handlers = ground.handlers; found = of found.0 ground })
 
 pub returns-in_err-starts-clause-told : goal.returns-in_err-starts-clause-told
 returns-in_err-starts-clause-told c =

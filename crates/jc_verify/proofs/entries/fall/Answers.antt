@@ -1,8 +1,15 @@
-use Rattle.std.proofs.Common.{sym, ◌∙◌}
+use Rattle.std.proofs.Common.{◌≡◌, true, false, sym, ◌∙◌}
+use Rattle.jc_code.specs.Targets.{falls_of}
+use Rattle.jc_verify.proofs.Passing.{led_as, led_none}
 use Rattle.jc_verify.proofs.Visiting.{if_ok}
 use Rattle.jc_verify.proofs.entries.fall.Goals as goal
 
-pub returns-clause-followed : goal.returns-clause-followed
-returns-clause-followed c =
-    if_ok c.reach.result _ _ c.reach.ensures.followed (λ u on listing now reached h.
-    on c.args.method.now listing now (reached (sym c.falls_through.ensures ∙ c.if-not-falls_through.false) (rw c.code.ensures at c.if-instr-code.false)) h)
+pub returns-then-not-falls_through-clause-led : goal.returns-then-not-falls_through-clause-led
+returns-then-not-falls_through-clause-led c =
+    let stops : falls_of c.args.instr.now.operation ≡ false = sym c.falls_through.ensures ∙ c.if-not-falls_through.true in
+    led_none c.args.followed.now (λ falls. let e : true ≡ false = sym falls ∙ stops in absurd cc)
+
+pub returns-clause-led : goal.returns-clause-led
+returns-clause-led c =
+    if_ok c.reach.result _ _ c.reach.ensures.led (λ u led.
+    led_as led (λ live falls. live) (λ m listing reached. reached (sym c.falls_through.ensures ∙ c.if-not-falls_through.false) (rw c.code.ensures at c.if-instr-code.false)))

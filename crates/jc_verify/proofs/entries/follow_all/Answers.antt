@@ -1,4 +1,4 @@
-use Rattle.std.proofs.Common.{refl, rules}
+use Rattle.std.proofs.Common.{◌≡◌, [], refl, rules}
 use Rattle.std.proofs.lemmas.Result.{err_from_is_err_and}
 use Rattle.jc_verify.proofs.Following.{entries_found, goes_straight, live_found, taken}
 use Rattle.jc_verify.proofs.Passing.{if_refusal}
@@ -22,10 +22,9 @@ returns-in_err-visit_at-clause-refused c =
     off listing ground (taken f (record { live = f.live; entered = f.entered; stack = c.pop.new.self }) c.in-Some.pc refl refl c.in-Some.ensures.items c.args.method.now listing (c.loop-pc.invariant listing ground))))
 
 pub returns-clause-found : goal.returns-clause-found
-returns-clause-found c listing ground = entries_found c.args.method.now listing c.loop-pc.followed (c.loop-pc.invariant listing ground) (search rules)
-
-pub returns-clause-live : goal.returns-clause-live
-returns-clause-live c = (c.loop-pc.followed.live, λ listing ground. live_found c.args.method.now listing c.loop-pc.followed (c.loop-pc.invariant listing ground) (search rules))
-
-pub returns-clause-straight : goal.returns-clause-straight
-returns-clause-straight c listing ground = goes_straight c.args.method.now listing c.loop-pc.followed (c.loop-pc.invariant listing ground) (search rules) c.args.starts.now ground
+returns-clause-found c listing ground =
+    let m = c.args.method.now in
+    let f = c.loop-pc.followed in
+    let followed = c.loop-pc.invariant listing ground in
+    let over : f.stack.items ≡ [] = search rules in
+    record { are = entries_found m listing f followed over; live = (f.live, live_found m listing f followed over); straight = goes_straight m listing f followed over c.args.starts.now ground }

@@ -1,13 +1,19 @@
 use Rattle.std.proofs.Common.{Some, arith, refl, sym, ◌∙◌}
 use Rattle.jc_verify.proofs.Following.{reached_followed, reached_grown}
+use Rattle.jc_verify.proofs.Numbers.{has_itself}
+use Rattle.jc_verify.proofs.Passing.{led_none}
+use Rattle.jc_verify.specs.declared.entries.Followed.{Followed}
 use Rattle.jc_verify.proofs.entries.reach.Goals as goal
 
-pub returns-clause-grown : goal.returns-clause-grown
-returns-clause-grown c =
-    reached_grown c.args.followed.now (record { live = c.insert.new.self; entered = c.args.followed.now.entered; stack = c.push.new.self }) c.args.pc c.insert.ensures refl c.in_ok-push.ensures.items
-    (sym c.contains.ensures ∙ c.if-contains.false) (omega (arith, c.ranges.pc.fits))
+pub returns-then-contains-clause-led : goal.returns-then-contains-clause-led
+returns-then-contains-clause-led c = led_none c.args.followed.now (sym c.contains.ensures ∙ c.if-contains.true)
 
-pub returns-clause-followed : goal.returns-clause-followed
-returns-clause-followed c m listing now =
-    reached_followed c.args.followed.now (record { live = c.insert.new.self; entered = c.args.followed.now.entered; stack = c.push.new.self }) c.args.pc c.insert.ensures refl c.in_ok-push.ensures.items m listing
-    (Some now)
+pub returns-clause-led : goal.returns-clause-led
+returns-clause-led c =
+    let before = c.args.followed.now in
+    let after : Followed = record { live = c.insert.new.self; entered = before.entered; stack = c.push.new.self } in
+    record {
+      met = has_itself before.live c.insert.new.self c.args.pc c.insert.ensures;
+      grown = reached_grown before after c.args.pc c.insert.ensures refl c.in_ok-push.ensures.items (sym c.contains.ensures ∙ c.if-contains.false) (omega (arith, c.ranges.pc.fits));
+      followed = λ m listing now. reached_followed before after c.args.pc c.insert.ensures refl c.in_ok-push.ensures.items m listing (Some now);
+    }

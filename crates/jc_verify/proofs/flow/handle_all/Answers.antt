@@ -3,67 +3,40 @@ use Rattle.std.specs.List.{AllByRecursion, Contains}
 use Rattle.jc_check.specs.Method.{Handler}
 use Rattle.jc_check.specs.Package.{package_rules}
 use Rattle.jc_check.specs.Typing.{HandlerLeads}
-use Rattle.jc_verify.specs.PrivateCarrier.{HandlerHasPlace}
 use Rattle.std.proofs.lemmas.Option.{slice_get_read}
 use Rattle.std.proofs.lemmas.Result.{err_from_is_err_and}
-use Rattle.jc_verify.proofs.Growing.{passed_none, passed_one}
+use Rattle.jc_verify.proofs.Denying.{refuses_on}
 use Rattle.jc_verify.proofs.Passing.{all_at, contains_at}
-use Rattle.jc_verify.specs.PrivateTold.{IsHandlersWay}
-use Rattle.jc_verify.proofs.Ending.{if_refused}
+use Rattle.jc_verify.proofs.Taking.{passed_none, passed_one}
+use Rattle.jc_verify.specs.PrivateWork.{IsHandlersWay}
 use Rattle.jc_verify.proofs.flow.handle_all.Goals as goal
 
 pub loop-index-init : goal.loop-index-init
-loop-index-init c = record {
-  passed = passed_none c.args.flow.now.linked.now c.requires.laws c.args.flow.now.method.now c.args.flow.now.numbers.now _ _ c.args.places.now c.requires.numbered;
-  room = c.requires.caught;
-  reached = c.requires.reached;
-}
+loop-index-init c = record { passed = passed_none _ _ c.requires.work; caught = c.requires.room.caught }
 
 pub loop-index-preserved : goal.loop-index-preserved
 loop-index-preserved c =
     let handlers = c.handlers-handlers.result.now in
-    let at = slice_get_read handlers (length handlers) c.loop-index.index c.index-handlers-index.result refl c.loop-index-test.true c.index-handlers-index.is in record {
-      passed =
-          passed_one c.args.flow.now.linked.now c.requires.laws c.args.flow.now.method.now c.args.flow.now.numbers.now _ _ c.loop-index.index c.index-handlers-index.result c.args.places.now c.loop-index.places c.handle.new.places
-          c.loop-index.invariant.passed at c.in_ok-handle.ensures.grown (λ final g. c.in_ok-handle.ensures.met final g) (λ typing under leads. c.in_ok-handle.ensures.least typing under leads);
-      room = c.handle.ensures.caught;
-      reached = c.in_ok-handle.ensures.reached;
-    }
+    let at = slice_get_read handlers (length handlers) c.loop-index.index c.index-handlers-index.result refl c.loop-index-test.true c.index-handlers-index.is in
+    record { passed = passed_one _ _ c.loop-index.index c.index-handlers-index.result at c.loop-index.invariant.passed c.in_ok-handle.ensures.taken; caught = c.handle.ensures.caught }
+
+pub handle-requires-clause-way : goal.handle-requires-clause-way
+handle-requires-clause-way c =
+    let handlers = c.handlers-handlers.result.now in
+    let at = slice_get_read handlers (length handlers) c.loop-index.index c.index-handlers-index.result refl c.loop-index-test.true c.index-handlers-index.is in
+    let ways : AllByRecursion (IsHandlersWay c.args.flow.now c.args.pc c.args.state.now.types) handlers = rw c.handlers-handlers.ensures c.requires.ways in
+    all_at _ handlers c.loop-index.index c.index-handlers-index.result at ways
 
 pub returns-in_err-handle-clause-refused : goal.returns-in_err-handle-clause-refused
 returns-in_err-handle-clause-refused c =
     let p = err_from_is_err_and c.from_residual.result c.from_residual.ensures.1 in
     let handlers = c.handlers-handlers.result.now in
     let at = slice_get_read handlers (length handlers) c.loop-index.index c.index-handlers-index.result refl c.loop-index-test.true c.index-handlers-index.is in
-    rw (p.1, p.2) (λ reason is typing carrier under leads places.
+    let among : Contains c.args.flow.now.method.now.handlers c.index-handlers-index.result =
+    subst (λ (hs : List Handler). Contains hs c.index-handlers-index.result) c.handlers-handlers.ensures (contains_at handlers c.loop-index.index c.index-handlers-index.result at) in
+    rw (p.1, p.2) (refuses_on c.in_err-handle.ensures.refused (λ typing carrier under leads.
     let lead : AllByRecursion (HandlerLeads (package_rules c.args.flow.now.linked.now) typing c.args.pc c.args.state.now.types) handlers = rw c.handlers-handlers.ensures leads in
-    let have : AllByRecursion (HandlerHasPlace c.args.flow.now.numbers.now c.args.pc) handlers = rw c.handlers-handlers.ensures places in
-    c.in_err-handle.ensures.refused reason is typing carrier (c.loop-index.invariant.passed.under typing under lead) (all_at _ handlers c.loop-index.index c.index-handlers-index.result at lead)
-    (all_at _ handlers c.loop-index.index c.index-handlers-index.result at have))
-
-pub handle-requires-clause-here : goal.handle-requires-clause-here
-handle-requires-clause-here c class covered is =
-    let handlers = c.handlers-handlers.result.now in
-    let at = slice_get_read handlers (length handlers) c.loop-index.index c.index-handlers-index.result refl c.loop-index-test.true c.index-handlers-index.is in
-    let among : Contains c.args.flow.now.method.now.handlers c.index-handlers-index.result =
-    subst (λ (hs : List Handler). Contains hs c.index-handlers-index.result) c.handlers-handlers.ensures (contains_at handlers c.loop-index.index c.index-handlers-index.result at) in
-    c.requires.here c.index-handlers-index.result class among covered is
-
-pub handle-requires-clause-way : goal.handle-requires-clause-way
-handle-requires-clause-way c =
-    let handlers = c.handlers-handlers.result.now in
-    let at = slice_get_read handlers (length handlers) c.loop-index.index c.index-handlers-index.result refl c.loop-index-test.true c.index-handlers-index.is in
-    let ways : AllByRecursion (IsHandlersWay c.args.flow.now.numbers.now c.args.pc) handlers = rw c.handlers-handlers.ensures c.requires.ways in
-    all_at _ handlers c.loop-index.index c.index-handlers-index.result at ways
-
-pub returns-in_err-handle-clause-told : goal.returns-in_err-handle-clause-told
-returns-in_err-handle-clause-told c =
-    let p = err_from_is_err_and c.from_residual.result c.from_residual.ensures.1 in
-    let handlers = c.handlers-handlers.result.now in
-    let at = slice_get_read handlers (length handlers) c.loop-index.index c.index-handlers-index.result refl c.loop-index-test.true c.index-handlers-index.is in
-    let among : Contains c.args.flow.now.method.now.handlers c.index-handlers-index.result =
-    subst (λ (hs : List Handler). Contains hs c.index-handlers-index.result) c.handlers-handlers.ensures (contains_at handlers c.loop-index.index c.index-handlers-index.result at) in
-    rw (p.1, p.2) (if_refused c.in_err-handle.field-0.0 _ _ c.in_err-handle.ensures.told (λ reason u. record {
+    (c.loop-index.invariant.passed.least typing under lead, all_at _ handlers c.loop-index.index c.index-handlers-index.result at lead)) (λ reason u. record {
       h = u.h;
       class = u.class;
       is = subst (Contains c.args.flow.now.method.now.handlers) (sym u.is) among;

@@ -1,52 +1,43 @@
-use Rattle.std.proofs.Common.{subst, sym, ◌∙◌}
-use Rattle.jc_check.specs.Package.{package_rules}
-use Rattle.jc_check.specs.Typing.{Leads}
-use Rattle.jc_verify.proofs.Denying.{stop_told}
-use Rattle.jc_verify.proofs.Growing.{grown_through}
+use Rattle.std.proofs.Common.{true, false}
+use Rattle.jc_verify.proofs.Denying.{denial_of, denies_on, refuses_on}
+use Rattle.jc_verify.proofs.Reaching.{never_met, reaches_entry}
+use Rattle.jc_verify.proofs.Taking.{blank_work, taken_as, taken_then}
 use Rattle.jc_verify.proofs.Visiting.{if_err, if_ok}
-use Rattle.jc_verify.specs.PrivateTold.{Reaches}
-use Rattle.jc_verify.proofs.Ending.{if_refused, tells_at}
-use Rattle.jc_verify.proofs.Reaching.{never_fallen, reached_first, reaches_entry}
 use Rattle.jc_verify.proofs.settle.enter.Goals as goal
 
-pub returns-in-Ok-true-clause-grown : goal.returns-in-Ok-true-clause-grown
-returns-in-Ok-true-clause-grown c =
-    if_ok c.follow.result _ _ c.follow.ensures.grown (λ u g.
-    grown_through c.args.flow.now.linked.now c.requires.laws c.args.flow.now.method.now c.args.flow.now.numbers.now c.args.places.now c.fall_to.new.places c.follow.new.places c.in-Ok-true.ensures.grown g)
+pub flow_to-requires-clause-work : goal.flow_to-requires-clause-work
+flow_to-requires-clause-work c = blank_work c.requires.blank
 
-pub returns-in-Ok-true-clause-under : goal.returns-in-Ok-true-clause-under
-returns-in-Ok-true-clause-under c =
-    if_ok c.follow.result _ _ c.follow.ensures.least (λ u least typing upper under.
-    let entry = subst (λ t. Leads (package_rules c.args.flow.now.linked.now) typing t 0) (sym c.requires.entry) upper.entry in
-    least typing upper (c.in-Ok-true.ensures.least typing under entry) entry)
+pub flow_to-requires-clause-flows : goal.flow_to-requires-clause-flows
+flow_to-requires-clause-flows c = rw c.requires.entry (reaches_entry c.requires.blank.sound)
 
-pub returns-in-Ok-false-clause-under : goal.returns-in-Ok-false-clause-under
-returns-in-Ok-false-clause-under c typing upper under =
-    c.in-Ok-false.ensures.least typing under (subst (λ t. Leads (package_rules c.args.flow.now.linked.now) typing t 0) (sym c.requires.entry) upper.entry)
+pub follow-requires-clause-flows : goal.follow-requires-clause-flows
+follow-requires-clause-flows c = rw c.requires.entry (reaches_entry c.requires.blank.sound)
+
+pub returns-in-Ok-true-clause-taken : goal.returns-in-Ok-true-clause-taken
+returns-in-Ok-true-clause-taken c =
+    let first = rw (c.in-Ok-true.field-0-test, c.requires.entry) at c.in-Ok-true.ensures.taken in
+    if_ok c.follow.result _ _ c.follow.ensures.taken (λ u taken.
+    let more = rw c.requires.entry at taken in
+    taken_as (taken_then first more) (λ typing (falls, closed). record { on = true; falls = falls; closed = closed }) (λ typing upper. (upper.entry, record { upper = upper; leads = upper.entry })))
+
+pub returns-in-Ok-false-clause-taken : goal.returns-in-Ok-false-clause-taken
+returns-in-Ok-false-clause-taken c =
+    let first = rw (c.in-Ok-false.field-0-test, c.requires.entry) at c.in-Ok-false.ensures.taken in
+    taken_as first (λ typing leads. record { on = false; falls = leads; closed = tt }) (λ typing upper. upper.entry)
 
 pub returns-in-Ok-true-clause-refused : goal.returns-in-Ok-true-clause-refused
 returns-in-Ok-true-clause-refused c =
-    if_err c.follow.result _ _ c.follow.ensures.refused (λ fault refused pc reason is typing carrier under.
-    let entry = subst (λ t. Leads (package_rules c.args.flow.now.linked.now) typing t 0) (sym c.requires.entry) carrier.upper.entry in
-    refused pc reason is typing carrier (c.in-Ok-true.ensures.least typing under entry) entry)
+    let first = rw c.requires.entry at c.in-Ok-true.ensures.taken in
+    if_err c.follow.result _ _ c.follow.ensures.refused (λ fault refused.
+    let later = rw c.requires.entry at refused in
+    denies_on later (λ typing carrier under any. (first.least typing under carrier.upper.entry, record { upper = carrier.upper; leads = carrier.upper.entry })))
 
 pub returns-in-Err-clause-refused : goal.returns-in-Err-clause-refused
-returns-in-Err-clause-refused c pc reason is typing carrier under =
-    let entry = subst (λ t. Leads (package_rules c.args.flow.now.linked.now) typing t 0) (sym c.requires.entry) carrier.upper.entry in
-    c.in-Err.ensures.refused reason (stop_told 0 pc c.in-Err.stop reason (sym c.told_at.ensures ∙ is)) typing under entry carrier.some
-
-pub fall_to-requires-clause-reached : goal.fall_to-requires-clause-reached
-fall_to-requires-clause-reached c = reached_first c.args.flow.now.linked.now c.args.flow.now.method.now c.args.places.now c.requires.empty
-
-pub fall_to-requires-clause-here : goal.fall_to-requires-clause-here
-fall_to-requires-clause-here c within = subst (Reaches c.args.flow.now.linked.now c.args.flow.now.method.now 0) (sym c.requires.entry) (reaches_entry c.args.flow.now.linked.now c.requires.laws c.args.flow.now.method.now c.args.flow.now.numbers.now c.requires.ground)
-
-pub follow-requires-clause-here : goal.follow-requires-clause-here
-follow-requires-clause-here c = subst (Reaches c.args.flow.now.linked.now c.args.flow.now.method.now 0) (sym c.requires.entry) (reaches_entry c.args.flow.now.linked.now c.requires.laws c.args.flow.now.method.now c.args.flow.now.numbers.now c.requires.ground)
-
-pub returns-in-Err-clause-told : goal.returns-in-Err-clause-told
-returns-in-Err-clause-told c =
+returns-in-Err-clause-refused c =
     let l = c.args.flow.now.linked.now in
-    let m = c.args.flow.now.method.now in
-    rw c.told_at.ensures (tells_at (package_rules l) m 0 c.in-Err.stop (if_refused c.in-Err.stop _ _ c.in-Err.ensures.told (λ reason fallen.
-    absurd (never_fallen l m c.requires.laws c.args.flow.now.numbers.now c.args.places.now c.requires.empty c.requires.ground.some c.args.state.now.types reason fallen))))
+    let blank = c.requires.blank in
+    let refused = rw c.requires.entry at c.in-Err.ensures.refused in
+    rw c.told_at.ensures
+    (denial_of (refuses_on refused (λ typing carrier under any. (under, carrier.upper.entry)) (λ reason meets.
+    absurd (never_met l c.args.flow.now.method.now blank.sound.laws c.args.flow.now.numbers.now c.args.places.now blank.empty 0 _ reason meets))))

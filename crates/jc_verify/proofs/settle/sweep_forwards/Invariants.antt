@@ -1,10 +1,9 @@
-use Rattle.jc_verify.specs.PrivateFlow.{HasRoom}
 use Rattle.jc_verify.specs.PrivateSettled.{IsSwept}
+use Rattle.jc_verify.specs.PrivateWork.{HaveRoom}
 use Rattle.jc_verify.proofs.settle.sweep_forwards.Given as goal
 
 abbrev pub invariant-loop-number : goal.invariant-loop-number
 invariant-loop-number l = record {
   swept : IsSwept l.flow.linked.now l.flow.method.now l.flow.numbers.now 0 l.number l.fn.places l.places;
-  caught : HasRoom l.flow.method.now l.caught;
-  room : HasRoom l.flow.method.now l.state;
+  room : HaveRoom l.flow l.caught l.state;
 }

@@ -1,0 +1,204 @@
+-- Private. What is known while control flow is followed through a method, and what that comes to: places have taken in
+-- what flows there, or control flow isn't followed further.
+use Rattle.std.specs.Prelude.{◌≡◌, ⊤, ℕ, ℤ, pos, ◌<◌, ◌^◌, Bool, true, List, length, drop, Some}
+use Rattle.std.specs.Prelude.{None, Ok, slice_get}
+use Rattle.std.specs.List.{AllByRecursion}
+use Rattle.jc_base.specs.declared.reason.Reason.{Reason}
+use Rattle.jc_names.specs.declared.name.ClassName.{ClassName}
+use Rattle.jc_code.specs.Listing.{PlacedInstr}
+use Rattle.jc_code.specs.declared.instr.Instr.{Instr}
+use Rattle.jc_link.specs.Linked.{Linked}
+use Rattle.jc_types.specs.State.{StateWithRoom, Types}
+use Rattle.jc_check.specs.FirstFault.{fault_at}
+use Rattle.jc_check.specs.Method.{Handler, Method, caught_types, covers}
+use Rattle.jc_check.specs.Package.{package_rules}
+use Rattle.jc_check.specs.Typing.{BranchLeads, HandlerLeads, Leads, Typing}
+use Rattle.jc_check.specs.declared.fault.WordFault.{WordFault}
+use Rattle.jc_check.specs.declared.fault.WordFault.TheVariants as faults
+use Rattle.jc_verify.specs.PrivateCarrier.{HasPlace, IsCarrier}
+use Rattle.jc_verify.specs.PrivateFlow.{AreShaped, ClosedIf, FallsIf, Grown, HasLaws, HasRoom, IsClosed, IsNumbered}
+use Rattle.jc_verify.specs.PrivateFlow.{IsUnder, IsUpper, Places, Risen, held_at, number_at}
+use Rattle.jc_verify.specs.PrivateTold.{AreReached, IsGroundOf, IsHeldAt, MeetsUnlike, Reaches}
+use Rattle.jc_verify.specs.Told.{IsToldOf}
+use Rattle.jc_verify.specs.declared.flow.Flow.{Flow}
+use Rattle.jc_verify.specs.declared.place.Place.{Place}
+use Rattle.jc_verify.specs.declared.stop.Stop.{Stop}
+use Rattle.jc_verify.specs.declared.stop.Stop.TheVariants.{Refused}
+
+-- ---- what is known
+
+-- what is known of a method, whatever its places hold
+pub record IsSound (f : Flow) : Type 0 where
+  pub laws : HasLaws f.linked.now
+  pub ground : IsGroundOf f.linked.now f.method.now f.numbers.now
+  pub short : length f.method.now.code < 2 ^ 16
+
+-- the places are numbered, and what they hold is in the method's shape and flows there
+pub record IsAtWork (f : Flow) (places : Places) : Type 0 where
+  pub sound : IsSound f
+  pub numbered : IsNumbered f.numbers.now places
+  pub shaped : AreShaped f.method.now places
+  pub reached : AreReached f.linked.now f.method.now places
+
+-- the places are numbered, and hold nothing yet
+pub record IsBlank (f : Flow) (places : Places) : Type 0 where
+  pub sound : IsSound f
+  pub numbered : IsNumbered f.numbers.now places
+  pub empty : (n : ℕ) (p : Place StateWithRoom) → slice_get places n ≡ Some p → p.held ≡ None
+
+-- the states to work on have room: for what is caught, and for what is followed
+pub record HaveRoom (f : Flow) (c s : StateWithRoom) : Type 0 where
+  pub caught : HasRoom f.method.now c
+  pub state : HasRoom f.method.now s
+
+-- ---- what flows in
+
+-- types flow to a pc
+abbrev pub FlowsTo : Flow → ℕ → Types → Type 0
+FlowsTo f pc t = Reaches f.linked.now f.method.now pc t
+
+-- types flow to a pc, which is in the code
+pub record GoesOn (f : Flow) (pc : ℕ) (t : Types) : Type 0 where
+  pub flows : FlowsTo f pc t
+  pub within : pc < length f.method.now.code
+
+-- types flow to a pc where there is a place
+pub record FlowsIn (f : Flow) (pc : ℕ) (t : Types) : Type 0 where
+  pub flows : FlowsTo f pc t
+  pub place : HasPlace f.numbers.now pc
+
+-- types flow to the place of a number
+pub record FlowsInto (f : Flow) (places : Places) (number : ℕ) (t : Types) : Type 0 where
+  pub within : number < length places
+  pub flows : (p : Place StateWithRoom) → slice_get places number ≡ Some p → FlowsTo f p.pc t
+
+-- an instruction is decoded at a pc
+pub record IsDecodedAt (l : Linked) (m : Method) (pc : ℕ) : Type 0 where
+  pub instr : Instr
+  pub is : (package_rules l).decoder m.code pc ≡ Ok instr
+
+-- an instruction stands at a pc to which types flow
+pub record StandsAt (f : Flow) (pc : ℕ) (t : Types) (instr : Instr) : Type 0 where
+  pub sound : IsSound f
+  pub flows : FlowsTo f pc t
+  pub decoded : (package_rules f.linked.now).decoder f.method.now.code pc ≡ Ok instr
+
+-- a handler catches a class, and with it types flow in where it goes on
+pub record IsWay (f : Flow) (t : Types) (h : Handler) : Type 0 where
+  pub class : ClassName
+  pub catches : h.caught ≡ Some class
+  pub flows : FlowsIn f h.goes_on (caught_types class t)
+
+-- so it is where the handler covers a pc
+abbrev pub IsHandlersWay : Flow → ℕ → Types → Handler → Type 0
+IsHandlersWay f pc t h = covers h pc ≡ true → IsWay f t h
+
+-- types flow in where a branch leads
+pub record IsBranchsWay (f : Flow) (t : Types) (place : ℤ) : Type 0 where
+  pub pc : ℕ
+  pub is : place ≡ pos pc
+  pub flows : FlowsIn f pc t
+
+-- ---- what is said of a typing
+
+-- types lie below its state at a pc
+abbrev pub LeadsTo : Flow → ℕ → Types → Typing → Type 0
+LeadsTo f pc t typing = Leads (package_rules f.linked.now) typing t pc
+
+-- so it is at the pc of the place of a number
+abbrev pub LeadsInto : Flow → ℕ → Types → Typing → Type 0
+LeadsInto f number t typing = (pc : ℕ) → number_at f.numbers.now pc ≡ Some number → LeadsTo f pc t typing
+
+-- there is no place at a pc, so that control flow has to be followed on, or its state there lies above types
+abbrev pub Falls : Flow → Bool → ℕ → Types → Typing → Type 0
+Falls f on pc t typing = FallsIf on (package_rules f.linked.now) f.method.now f.numbers.now typing pc t
+
+-- a handler, and all handlers, lead on from a pc with types
+abbrev pub Handles : Flow → ℕ → Types → Handler → Typing → Type 0
+Handles f pc t h typing = HandlerLeads (package_rules f.linked.now) typing pc t h
+
+abbrev pub HandlesAll : Flow → ℕ → Types → Typing → Type 0
+HandlesAll f pc t typing = AllByRecursion (HandlerLeads (package_rules f.linked.now) typing pc t) f.method.now.handlers
+
+-- the branch of an index, and all branches, lead on with types
+abbrev pub Branches : Flow → List ℤ → ℕ → Types → Typing → Type 0
+Branches f targets index t typing =
+    (place : ℤ) → slice_get targets index ≡ Some place → BranchLeads (package_rules f.linked.now) typing t place
+
+abbrev pub BranchesAll : Flow → List ℤ → Types → Typing → Type 0
+BranchesAll f targets t typing = AllByRecursion (BranchLeads (package_rules f.linked.now) typing t) targets
+
+-- from a pc with types control flow was followed up to places; or that is owed only where control flow goes on there
+abbrev pub ClosedFrom : Flow → ℕ → Types → Typing → Type 0
+ClosedFrom f pc t typing = IsClosed (package_rules f.linked.now) f.method.now f.numbers.now typing pc t
+
+abbrev pub ClosedFromIf : Flow → Bool → ℕ → Types → Typing → Type 0
+ClosedFromIf f on pc t typing = ClosedIf on (package_rules f.linked.now) f.method.now f.numbers.now typing pc t
+
+-- it is a typing of the method, whose state at a pc lies above types
+pub record Bears (f : Flow) (pc : ℕ) (t : Types) (typing : Typing) : Type 0 where
+  pub upper : IsUpper f.linked.now f.method.now typing
+  pub leads : LeadsTo f pc t typing
+
+-- nothing is asked of it
+abbrev pub Anything : Typing → Type 0
+Anything typing = ⊤
+
+-- ---- what following comes to
+
+-- places took in what flows: whatever is held in the end gives what is to be given; and a typing that asks for that
+-- lies above what they hold, if it did before
+pub record HasTaken (f : Flow) (gives asks : Typing → Type 0) (before after : Places) : Type 0 where
+  pub grown : Grown f.linked.now f.method.now f.numbers.now before after
+  pub met : (final : Places) → Risen f.linked.now f.method.now f.numbers.now after final
+      → gives (held_at f.numbers.now final)
+  pub least : (typing : Typing) → IsUnder f.linked.now f.numbers.now before typing → asks typing
+      → IsUnder f.linked.now f.numbers.now after typing
+  pub work : IsAtWork f after
+
+-- the same where both are one
+abbrev pub HasTakenIn : Flow → (Typing → Type 0) → Places → Places → Type 0
+HasTakenIn f leads before after = HasTaken f leads leads before after
+
+-- the first of these were passed: they lead on if those behind them do
+abbrev pub ArePassed : Flow → {A : Type 0} → (Typing → A → Type 0) → List A → ℕ → Places → Places → Type 0
+ArePassed f leads xs k before after =
+    HasTaken f (λ typing. AllByRecursion (leads typing) (drop k xs) → AllByRecursion (leads typing) xs)
+    (λ typing. AllByRecursion (leads typing) xs) before after
+
+-- an instruction was visited: from there control flow is closed if it is so from the next pc, where it goes on; types
+-- flow there then, and what bears the types before the instruction bears those behind it
+pub record HasVisited (f : Flow) (on : Bool) (x : PlacedInstr) (s t : Types) (before after : Places) : Type 0 where
+  pub taken : HasTaken f (λ typing. ClosedFromIf f on x.instr.next_pc t typing → ClosedFrom f x.pc s typing)
+      (Bears f x.pc s) before after
+  pub next : on ≡ true → GoesOn f x.instr.next_pc t
+  pub bears : on ≡ true → (typing : Typing) → Bears f x.pc s typing → Bears f x.instr.next_pc t typing
+
+-- control flow isn't followed: no carrier that lies above what places hold asks for it, and the reason is told of
+pub record IsRefusedFor (f : Flow) (asks : Typing → Type 0) (tells : Reason → Type 0) (before : Places)
+    (reason : Reason) : Type 0 where
+  pub denied : (typing : Typing) → IsCarrier f.linked.now f.method.now f.numbers.now typing
+      → IsUnder f.linked.now f.numbers.now before typing → asks typing → ⊥
+  pub told : tells reason
+
+-- so it is where it is refused, and not for want of memory
+pub record Refuses (f : Flow) (asks : Typing → Type 0) (tells : Reason → Type 0) (before : Places)
+    (stop : Stop) : Type 0 where
+  pub each : (reason : Reason) → stop ≡ Refused reason → IsRefusedFor f asks tells before reason
+
+-- types meet others of another shape that places hold at a pc; and so at the pc of the place of a number
+abbrev pub MeetsHeld : Flow → Places → ℕ → Types → Reason → Type 0
+MeetsHeld f places pc t reason = MeetsUnlike (IsHeldAt f.numbers.now places) pc t reason
+
+abbrev pub MeetsHeldBy : Flow → Places → ℕ → Types → Reason → Type 0
+MeetsHeldBy f places number t reason =
+    (pc : ℕ) → number_at f.numbers.now pc ≡ Some number → MeetsHeld f places pc t reason
+
+-- a fault is told of the method, with a reason at a pc
+abbrev pub IsToldAt : Flow → ℕ → Reason → Type 0
+IsToldAt f pc reason = IsToldOf (package_rules f.linked.now) f.method.now (fault_at pc reason)
+
+-- the same by the fault that is told
+pub record IsDenial (f : Flow) (asks : Typing → Type 0) (before : Places) (fault : WordFault) : Type 0 where
+  pub each : (pc : ℕ) (reason : Reason) → fault ≡ faults.Refused pc reason
+      → IsRefusedFor f asks (IsToldAt f pc) before reason

@@ -18,11 +18,13 @@ last_of bodies all body n d is at =
 
 pub grown-requires : goal.grown-requires
 grown-requires c = record {
-  before = c.args.world.now;
-  linked = c.args.linked;
-  bound = c.requires.bound;
-  world_is = c.in_ok-before.ensures.done;
-  tables = c.requires.tables;
+  grown = record {
+    before = c.args.world.now;
+    linked = c.args.linked;
+    bound = c.requires.bound;
+    world_is = c.in_ok-before.ensures.done;
+    tables = c.requires.tables;
+  };
 }
 
 pub returns-in-Ok-load-clause-machine : goal.returns-in-Ok-load-clause-machine

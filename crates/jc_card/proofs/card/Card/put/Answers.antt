@@ -8,6 +8,9 @@ use Rattle.jc_card.specs.contracts.card.Card.{the_view}
 use Rattle.jc_card.proofs.Loading.{holds_behind}
 use Rattle.jc_card.proofs.card.Card.put.Goals as goal
 
+pub grow-requires-clause-tables : goal.grow-requires-clause-tables
+grow-requires-clause-tables c = c.self.invariant.holds.program
+
 pub invariant_of-self-2 : goal.invariant_of-self-2
 invariant_of-self-2 c =
     let k : CardWords = the_view c.self.inside in

@@ -1,5 +1,5 @@
--- The interfaces that a class and its superclasses list, as the look-up of an interface's method goes through them (Java
--- Card Virtual Machine Specification, invokeinterface; CAP file format: Class component).
+-- The interfaces that a class and its superclasses list, as the look-up of an interface's method goes through them
+-- (Java Card Virtual Machine Specification, invokeinterface; CAP file format: Class component).
 use Rattle.std.specs.Prelude.{◌≡◌, ℕ, zero, suc, List, [], Option, Some}
 use Rattle.std.specs.List.{find}
 use Rattle.std.specs.Option.{option_and_then, option_map}

@@ -12,7 +12,7 @@ mod objects;
 OBJECTS = '''//! The runtime's own objects: its exceptions, in the order of their numbers.
 
 use jc_api::ApiClass;
-use jc_loaded::Program;
+use jc_program::Program;
 use jc_names::{ClassName, Owner};
 use jc_store::{Kind, Mark, ObjectType, Store};
 
@@ -55,9 +55,9 @@ use jc_check::check;
 use jc_frames::{CodePlace, FrameHeader, FrameSize, Frames};
 use jc_interp::{Statics, WordMachine};
 use jc_link::{World, link};
-use jc_loaded::Program;
+use jc_program::Program;
 use jc_names::Owner;
-use jc_packages::put;
+use jc_offcard::put;
 use jc_store::Store;
 use jc_verify::infer;
 use std::alloc::Global;

@@ -5,7 +5,7 @@ use Rattle.std.proofs.lemmas.Bool.{eqb-true}
 use Rattle.std.specs.List.{cons_option, filter_map, find}
 use Rattle.jc_base.proofs.Binding.{both_true, none_some, the_some}
 use Rattle.jc_base.specs.declared.placed_rows.Placed.{Placed}
-use Rattle.jc_cap_class.specs.declared.record.Record.{Record}
+use Rattle.jc_cap.specs.declared.record.Record.{Record}
 use Rattle.jc_cap_desc.specs.Across.{count_rows, is_row_of}
 use Rattle.jc_cap_desc.specs.PrivateRecordRows.{AreAmong, IsAmong, each_has_row}
 use Rattle.jc_cap_desc.specs.declared.class_row.ClassRow.{ClassRow}

@@ -10,10 +10,10 @@ use Rattle.jc_base.specs.PlacedRows.{row_at}
 use Rattle.jc_base.specs.Rows.{part}
 use Rattle.jc_base.specs.declared.fault.LoadFault.{LoadFault}
 use Rattle.jc_base.proofs.Binding.{the_some, none_some, both_true}
-use Rattle.jc_cap_data.specs.declared.applets.Applet.{Applet}
-use Rattle.jc_cap_method.specs.Component.{Method, Methods, header_at, method_at}
-use Rattle.jc_cap_method.specs.declared.handler.Handler.{Handler}
-use Rattle.jc_cap_method.specs.declared.header.MethodHeader.{MethodHeader}
+use Rattle.jc_cap.specs.declared.applets.Applet.{Applet}
+use Rattle.jc_cap.specs.MethodComponent.{Method, Methods, header_at, method_at}
+use Rattle.jc_cap.specs.declared.handler.Handler.{Handler}
+use Rattle.jc_cap.specs.declared.method_header.MethodHeader.{MethodHeader}
 use Rattle.jc_cap_desc.proofs.Differing.{body_offset, clash, is_not, made, or_left, or_right}
 use Rattle.jc_cap_desc.proofs.Few.{is_equal}
 use Rattle.jc_cap_desc.proofs.Lists.{no_true, there_some, all_at, any_at, made_from, made_at}

@@ -11,11 +11,11 @@ use Rattle.jc_base.specs.Rows.{part, repeat}
 use Rattle.jc_base.specs.Tag.{method_tag}
 use Rattle.jc_base.specs.declared.fault.LoadFault.{LoadFault}
 use Rattle.jc_base.proofs.Binding.{bind_ok, the_ok, the_some, none_some, both_true}
-use Rattle.jc_cap_method.specs.Component.{Method, Methods, method_at, methods_of}
-use Rattle.jc_cap_method.specs.Handler.{next_handler}
-use Rattle.jc_cap_method.specs.Header.{next_header}
-use Rattle.jc_cap_method.specs.declared.header.MethodHeader.{MethodHeader}
-use Rattle.jc_cap_method.specs.declared.handler.Handler.{Handler}
+use Rattle.jc_cap.specs.MethodComponent.{Method, Methods, method_at, methods_of}
+use Rattle.jc_cap.specs.Handler.{next_handler}
+use Rattle.jc_cap.specs.MethodHeader.{next_header}
+use Rattle.jc_cap.specs.declared.method_header.MethodHeader.{MethodHeader}
+use Rattle.jc_cap.specs.declared.handler.Handler.{Handler}
 use Rattle.jc_cap_desc.proofs.Reading.{read_of}
 use Rattle.jc_cap_desc.specs.Across.{are_distinct, class_methods, has_code, is_among}
 use Rattle.jc_cap_desc.specs.Package.{package_of}

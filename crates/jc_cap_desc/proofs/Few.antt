@@ -16,17 +16,17 @@ use Rattle.jc_base.specs.declared.placed_rows.Placed.{Placed}
 use Rattle.jc_base.proofs.Binding.{bind_ok, guard_ok, the_ok, both_true}
 use Rattle.jc_base.proofs.PlacedLemmas.{read_placed}
 use Rattle.jc_base.proofs.Repeats.{length-rows}
-use Rattle.jc_cap_class.specs.Component as Class
-use Rattle.jc_cap_class.specs.PrivateRecord.{record_shrinks}
-use Rattle.jc_cap_class.specs.Record.{next_record}
-use Rattle.jc_cap_class.specs.declared.record.Record.{Record}
-use Rattle.jc_cap_data.specs.Applets.{applets_of}
-use Rattle.jc_cap_data.specs.declared.applets.Applet.{Applet}
-use Rattle.jc_cap_head.specs.Header.{Heading, header_of}
-use Rattle.jc_cap_head.specs.declared.header.Format.{Format}
-use Rattle.jc_cap_method.specs.Component.{Methods, methods_of}
-use Rattle.jc_cap_pool.specs.Pool.{pool_of}
-use Rattle.jc_cap_pool.specs.declared.entry.PoolEntry.{PoolEntry}
+use Rattle.jc_cap.specs.ClassComponent as Class
+use Rattle.jc_cap.specs.PrivateRecord.{record_shrinks}
+use Rattle.jc_cap.specs.Record.{next_record}
+use Rattle.jc_cap.specs.declared.record.Record.{Record}
+use Rattle.jc_cap.specs.Applets.{applets_of}
+use Rattle.jc_cap.specs.declared.applets.Applet.{Applet}
+use Rattle.jc_cap.specs.Header.{Heading, header_of}
+use Rattle.jc_cap.specs.declared.header.Format.{Format}
+use Rattle.jc_cap.specs.MethodComponent.{Methods, methods_of}
+use Rattle.jc_cap.specs.Pool.{pool_of}
+use Rattle.jc_cap.specs.declared.entry.PoolEntry.{PoolEntry}
 use Rattle.jc_cap_desc.specs.Across.{is_row_of, count_rows, rows_match, methods_differ}
 use Rattle.jc_cap_desc.specs.Component as Descriptor
 use Rattle.jc_cap_desc.specs.Package.{told, unless, pool_fault, methods_fault, applets_fault, classes_fault, across_fault, layout_in, component_fault, package_fault}

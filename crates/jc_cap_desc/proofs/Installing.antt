@@ -6,7 +6,7 @@ use Rattle.std.proofs.lemmas.List.Folds.{list_any-append}
 use Rattle.std.specs.List.{list_all}
 use Rattle.jc_base.specs.NumberSet.{has_number}
 use Rattle.jc_base.specs.declared.placed_rows.Placed.{Placed}
-use Rattle.jc_cap_class.specs.declared.record.Record.{Record}
+use Rattle.jc_cap.specs.declared.record.Record.{Record}
 use Rattle.jc_cap_desc.proofs.Testing.{class_in_front}
 use Rattle.jc_cap_desc.specs.Across.{class_methods, installs, is_interface_row}
 use Rattle.jc_cap_desc.specs.PrivateApplets.{installs_at}

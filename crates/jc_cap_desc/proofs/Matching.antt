@@ -10,7 +10,7 @@ use Rattle.jc_base.specs.PlacedRows.{row_at}
 use Rattle.jc_base.specs.declared.class_ref.ClassRef.{ClassRef}
 use Rattle.jc_base.specs.declared.class_ref.ClassRef.TheVariants.{Internal, External}
 use Rattle.jc_base.specs.declared.placed_rows.Placed.{Placed}
-use Rattle.jc_cap_class.specs.declared.record.Record.{Record}
+use Rattle.jc_cap.specs.declared.record.Record.{Record}
 use Rattle.jc_cap_desc.proofs.Installing.{same_all}
 use Rattle.jc_cap_desc.specs.Across.{count_rows, is_row_of, record_of, rows_match}
 use Rattle.jc_cap_desc.specs.PrivateRecordRows.{AreNamed, HoldsRecords, all_recorded, is_in, offset_named}

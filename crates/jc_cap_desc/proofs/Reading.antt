@@ -8,16 +8,16 @@ use Rattle.jc_base.specs.declared.fault.LoadFault.{LoadFault}
 use Rattle.jc_base.specs.declared.fault.LoadFault.TheVariants.{Malformed}
 use Rattle.jc_base.specs.declared.placed_rows.Placed.{Placed}
 use Rattle.jc_base.proofs.Binding.{bind_ok, guard_ok, the_ok, ok_err}
-use Rattle.jc_cap_class.specs.Component as Class
-use Rattle.jc_cap_class.specs.declared.record.Record.{Record}
-use Rattle.jc_cap_data.specs.Applets.{applets_of}
-use Rattle.jc_cap_data.specs.Exports.{exports_of}
-use Rattle.jc_cap_data.specs.Imports.{imports_of}
-use Rattle.jc_cap_data.specs.Statics.{static_fields_of}
-use Rattle.jc_cap_data.specs.declared.applets.Applet.{Applet}
-use Rattle.jc_cap_head.specs.Header.{Heading, header_of}
-use Rattle.jc_cap_method.specs.Component.{Methods, methods_of}
-use Rattle.jc_cap_pool.specs.Pool.{pool_of}
+use Rattle.jc_cap.specs.ClassComponent as Class
+use Rattle.jc_cap.specs.declared.record.Record.{Record}
+use Rattle.jc_cap.specs.Applets.{applets_of}
+use Rattle.jc_cap.specs.Exports.{exports_of}
+use Rattle.jc_cap.specs.Imports.{imports_of}
+use Rattle.jc_cap.specs.Statics.{static_fields_of}
+use Rattle.jc_cap.specs.declared.applets.Applet.{Applet}
+use Rattle.jc_cap.specs.Header.{Heading, header_of}
+use Rattle.jc_cap.specs.MethodComponent.{Methods, methods_of}
+use Rattle.jc_cap.specs.Pool.{pool_of}
 use Rattle.jc_cap_desc.proofs.Few.{Ascend, descriptor_is, layout_is, none_told, records_ascend}
 use Rattle.jc_cap_desc.proofs.Tested.{IsTested, tested}
 use Rattle.jc_cap_desc.proofs.Typing.{classes_typed}

@@ -11,10 +11,10 @@ use Rattle.jc_base.specs.declared.class_ref.ClassRef.{ClassRef}
 use Rattle.jc_base.specs.declared.class_ref.ClassRef.TheVariants.{Internal, External}
 use Rattle.jc_base.specs.declared.placed_rows.Placed.{Placed}
 use Rattle.jc_base.proofs.Binding.{the_some, none_some, both_true}
-use Rattle.jc_cap_class.specs.Component.{is_class}
-use Rattle.jc_cap_class.specs.declared.record.Record.{Record}
-use Rattle.jc_cap_method.specs.Component.{Methods, header_at}
-use Rattle.jc_cap_method.specs.declared.header.MethodHeader.{MethodHeader}
+use Rattle.jc_cap.specs.ClassComponent.{is_class}
+use Rattle.jc_cap.specs.declared.record.Record.{Record}
+use Rattle.jc_cap.specs.MethodComponent.{Methods, header_at}
+use Rattle.jc_cap.specs.declared.method_header.MethodHeader.{MethodHeader}
 use Rattle.jc_cap_desc.proofs.Few.{Ascend, is_equal}
 use Rattle.jc_cap_desc.proofs.Lists.{no_true, there_some, mapped, all_at, found_at}
 use Rattle.jc_cap_desc.proofs.Lists.{made_from, made_at, flat_in, flat_at}

@@ -4,10 +4,10 @@ use Rattle.std.specs.List.{list_all}
 use Rattle.jc_base.specs.Tag.{applet_tag, descriptor_tag, method_tag}
 use Rattle.jc_base.specs.declared.placed_rows.Placed.{Placed}
 use Rattle.jc_base.proofs.Binding.{both_true}
-use Rattle.jc_cap_class.specs.declared.record.Record.{Record}
-use Rattle.jc_cap_data.specs.declared.applets.Applet.{Applet}
-use Rattle.jc_cap_method.specs.Component.{Methods}
-use Rattle.jc_cap_pool.specs.declared.entry.PoolEntry.{PoolEntry}
+use Rattle.jc_cap.specs.declared.record.Record.{Record}
+use Rattle.jc_cap.specs.declared.applets.Applet.{Applet}
+use Rattle.jc_cap.specs.MethodComponent.{Methods}
+use Rattle.jc_cap.specs.declared.entry.PoolEntry.{PoolEntry}
 use Rattle.jc_cap_desc.proofs.Few.{is_fine, none_told}
 use Rattle.jc_cap_desc.specs.Across.{applets_install, class_methods, is_described, methods_differ}
 use Rattle.jc_cap_desc.specs.Across.{rows_match, stands_inside}

@@ -4,7 +4,7 @@ use Rattle.std.proofs.Math.Bool.{and-true, and_assoc}
 use Rattle.std.proofs.lemmas.List.Folds.{list_all-append}
 use Rattle.std.specs.List.{list_all}
 use Rattle.jc_base.specs.declared.placed_rows.Placed.{Placed}
-use Rattle.jc_cap_class.specs.declared.record.Record.{Record}
+use Rattle.jc_cap.specs.declared.record.Record.{Record}
 use Rattle.jc_cap_desc.specs.Across.{class_methods, is_interface_row}
 use Rattle.jc_cap_desc.specs.declared.class_row.ClassRow.{ClassRow}
 

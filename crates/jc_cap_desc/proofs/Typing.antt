@@ -7,7 +7,7 @@ use Rattle.jc_base.specs.PlacedRows.{row_at}
 use Rattle.jc_base.specs.Signature.{Signature}
 use Rattle.jc_base.specs.declared.class_ref.ClassRef.{ClassRef}
 use Rattle.jc_base.specs.declared.placed_rows.Placed.{Placed}
-use Rattle.jc_cap_method.specs.declared.header.MethodHeader.{MethodHeader}
+use Rattle.jc_cap.specs.declared.method_header.MethodHeader.{MethodHeader}
 use Rattle.jc_cap_desc.specs.Shape.{MethodShape, method_shape}
 use Rattle.jc_cap_desc.specs.Types.{fields_are_typed, methods_are_typed, classes_are_typed, pool_is_typed, types_are_there}
 use Rattle.jc_cap_desc.specs.declared.class_row.ClassRow.{ClassRow}

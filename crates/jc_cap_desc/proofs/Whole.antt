@@ -12,9 +12,9 @@ use Rattle.jc_base.specs.declared.declared_type.DeclaredType.{DeclaredType}
 use Rattle.jc_base.specs.declared.fault.LoadFault.{LoadFault}
 use Rattle.jc_base.specs.declared.placed_rows.Placed.{Placed}
 use Rattle.jc_base.proofs.Binding.{the_some, none_some, both_true}
-use Rattle.jc_cap_class.specs.declared.record.Record.{Record}
-use Rattle.jc_cap_method.specs.Component.{Methods, method_at}
-use Rattle.jc_cap_method.specs.declared.header.MethodHeader.{MethodHeader}
+use Rattle.jc_cap.specs.declared.record.Record.{Record}
+use Rattle.jc_cap.specs.MethodComponent.{Methods, method_at}
+use Rattle.jc_cap.specs.declared.method_header.MethodHeader.{MethodHeader}
 use Rattle.jc_cap_desc.proofs.Bodied.{body_in, coded_there, its_handlers}
 use Rattle.jc_cap_desc.proofs.Few.{is_equal}
 use Rattle.jc_cap_desc.proofs.Lists.{all_at, mapped, no_true}

@@ -14,11 +14,11 @@ use Rattle.jc_base.specs.declared.declared_type.DeclaredType.TheVariants.{Byte, 
 use Rattle.jc_base.specs.declared.declared_type.ReturnType.{ReturnType}
 use Rattle.jc_base.specs.declared.declared_type.ReturnType.TheVariants.{Void, Value}
 use Rattle.jc_base.specs.declared.placed_rows.Placed.{Placed}
-use Rattle.jc_cap_class.specs.Component.{is_class}
-use Rattle.jc_cap_class.specs.declared.record.Record.{Record}
-use Rattle.jc_cap_data.specs.declared.applets.Applet.{Applet}
-use Rattle.jc_cap_method.specs.Component.{Method, Methods, method_at}
-use Rattle.jc_cap_method.specs.declared.handler.Handler.{Handler}
+use Rattle.jc_cap.specs.ClassComponent.{is_class}
+use Rattle.jc_cap.specs.declared.record.Record.{Record}
+use Rattle.jc_cap.specs.declared.applets.Applet.{Applet}
+use Rattle.jc_cap.specs.MethodComponent.{Method, Methods, method_at}
+use Rattle.jc_cap.specs.declared.handler.Handler.{Handler}
 use Rattle.jc_cap_desc.specs.declared.class_row.ClassRow.{ClassRow}
 use Rattle.jc_cap_desc.specs.declared.class_row.MethodRow.{MethodRow}
 

@@ -8,7 +8,7 @@ use Rattle.jc_base.specs.Results.{◌>>=◌}
 use Rattle.jc_base.specs.Rows.{repeat}
 use Rattle.jc_base.specs.Tag.{descriptor_tag}
 use Rattle.jc_base.specs.declared.fault.LoadFault.{LoadFault}
-use Rattle.jc_cap_pool.specs.Descriptor.{next_descriptor}
+use Rattle.jc_cap.specs.Descriptor.{next_descriptor}
 use Rattle.jc_cap_desc.specs.ClassRow.{next_class_row}
 use Rattle.jc_cap_desc.specs.declared.component.DescriptorInfo.{DescriptorInfo}
 

@@ -9,17 +9,17 @@ use Rattle.jc_base.specs.Tag.{applet_tag, method_tag, descriptor_tag}
 use Rattle.jc_base.specs.declared.fault.LoadFault.{LoadFault}
 use Rattle.jc_base.specs.declared.fault.LoadFault.TheVariants.{Malformed}
 use Rattle.jc_base.specs.declared.placed_rows.Placed.{Placed}
-use Rattle.jc_cap_class.specs.Component as Class
-use Rattle.jc_cap_class.specs.declared.record.Record.{Record}
-use Rattle.jc_cap_data.specs.Applets.{applets_of}
-use Rattle.jc_cap_data.specs.Exports.{exports_of}
-use Rattle.jc_cap_data.specs.Imports.{imports_of}
-use Rattle.jc_cap_data.specs.Statics.{static_fields_of}
-use Rattle.jc_cap_data.specs.declared.applets.Applet.{Applet}
-use Rattle.jc_cap_head.specs.Header.{Heading, header_of}
-use Rattle.jc_cap_method.specs.Component.{Methods, methods_of}
-use Rattle.jc_cap_pool.specs.Pool.{pool_of}
-use Rattle.jc_cap_pool.specs.declared.entry.PoolEntry.{PoolEntry}
+use Rattle.jc_cap.specs.ClassComponent as Class
+use Rattle.jc_cap.specs.declared.record.Record.{Record}
+use Rattle.jc_cap.specs.Applets.{applets_of}
+use Rattle.jc_cap.specs.Exports.{exports_of}
+use Rattle.jc_cap.specs.Imports.{imports_of}
+use Rattle.jc_cap.specs.Statics.{static_fields_of}
+use Rattle.jc_cap.specs.declared.applets.Applet.{Applet}
+use Rattle.jc_cap.specs.Header.{Heading, header_of}
+use Rattle.jc_cap.specs.MethodComponent.{Methods, methods_of}
+use Rattle.jc_cap.specs.Pool.{pool_of}
+use Rattle.jc_cap.specs.declared.entry.PoolEntry.{PoolEntry}
 use Rattle.jc_cap_desc.specs.Component as Descriptor
 use Rattle.jc_cap_desc.specs.Types.{descriptor_of}
 use Rattle.jc_cap_desc.specs.Across.{class_methods, rows_match, methods_differ, stands_inside, is_described}

@@ -4,8 +4,8 @@ use Rattle.std.specs.Option.{option_map_or}
 use Rattle.jc_base.specs.NumberSet.{has_number}
 use Rattle.jc_base.specs.PlacedRows.{row_at}
 use Rattle.jc_base.specs.declared.placed_rows.Placed.{Placed}
-use Rattle.jc_cap_class.specs.Component.{is_class}
-use Rattle.jc_cap_class.specs.declared.record.Record.{Record}
+use Rattle.jc_cap.specs.ClassComponent.{is_class}
+use Rattle.jc_cap.specs.declared.record.Record.{Record}
 
 abbrev pub is_interface_record : Record → Bool
 is_interface_record r = not (is_class r.body)

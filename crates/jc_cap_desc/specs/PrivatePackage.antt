@@ -7,15 +7,15 @@ use Rattle.jc_base.specs.Results.{◌>>=◌}
 use Rattle.jc_base.specs.Tag.{class_tag, descriptor_tag}
 use Rattle.jc_base.specs.declared.fault.LoadFault.{LoadFault}
 use Rattle.jc_base.specs.declared.placed_rows.Placed.{Placed}
-use Rattle.jc_cap_class.specs.Component as Class
-use Rattle.jc_cap_class.specs.declared.record.Record.{Record}
-use Rattle.jc_cap_data.specs.Applets.{applets_of}
-use Rattle.jc_cap_data.specs.Exports.{exports_of}
-use Rattle.jc_cap_data.specs.Imports.{imports_of}
-use Rattle.jc_cap_data.specs.Statics.{static_fields_of}
-use Rattle.jc_cap_head.specs.Header.{Heading, header_of}
-use Rattle.jc_cap_method.specs.Component.{methods_of}
-use Rattle.jc_cap_pool.specs.Pool.{pool_of}
+use Rattle.jc_cap.specs.ClassComponent as Class
+use Rattle.jc_cap.specs.declared.record.Record.{Record}
+use Rattle.jc_cap.specs.Applets.{applets_of}
+use Rattle.jc_cap.specs.Exports.{exports_of}
+use Rattle.jc_cap.specs.Imports.{imports_of}
+use Rattle.jc_cap.specs.Statics.{static_fields_of}
+use Rattle.jc_cap.specs.Header.{Heading, header_of}
+use Rattle.jc_cap.specs.MethodComponent.{methods_of}
+use Rattle.jc_cap.specs.Pool.{pool_of}
 use Rattle.jc_cap_desc.specs.Component as Descriptor
 use Rattle.jc_cap_desc.specs.Types.{classes_are_typed, types_are_there}
 use Rattle.jc_cap_desc.specs.Shape.{Package, shape_of, body_of}

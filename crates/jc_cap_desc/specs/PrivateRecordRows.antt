@@ -7,7 +7,7 @@ use Rattle.jc_base.specs.PlacedRows.{row_at}
 use Rattle.jc_base.specs.declared.class_ref.ClassRef.{ClassRef}
 use Rattle.jc_base.specs.declared.class_ref.ClassRef.TheVariants.{Internal, External}
 use Rattle.jc_base.specs.declared.placed_rows.Placed.{Placed}
-use Rattle.jc_cap_class.specs.declared.record.Record.{Record}
+use Rattle.jc_cap.specs.declared.record.Record.{Record}
 use Rattle.jc_cap_desc.specs.Across.{count_rows, record_of}
 use Rattle.jc_cap_desc.specs.declared.class_row.ClassRow.{ClassRow}
 

@@ -1,7 +1,7 @@
 -- Private. The headers of methods, where they are looked at.
 use Rattle.std.specs.Prelude.{ℕ, Bool, Option, None, if◌then◌else◌}
-use Rattle.jc_cap_method.specs.Component.{Methods, header_at}
-use Rattle.jc_cap_method.specs.declared.header.MethodHeader.{MethodHeader}
+use Rattle.jc_cap.specs.MethodComponent.{Methods, header_at}
+use Rattle.jc_cap.specs.declared.method_header.MethodHeader.{MethodHeader}
 
 -- the header at an offset, if it counts
 abbrev pub header_if : Bool → Methods → ℕ → Option MethodHeader

@@ -6,7 +6,7 @@ use Rattle.jc_base.specs.PlacedRows.{row_at}
 use Rattle.jc_base.specs.Signature.{Signature}
 use Rattle.jc_base.specs.declared.class_ref.ClassRef.{ClassRef}
 use Rattle.jc_base.specs.declared.placed_rows.Placed.{Placed}
-use Rattle.jc_cap_pool.specs.Descriptor.{field_type_of}
+use Rattle.jc_cap.specs.Descriptor.{field_type_of}
 use Rattle.jc_cap_desc.specs.Across.{is_install_signature}
 use Rattle.jc_cap_desc.specs.PrivateOffsets.{PassedSoFar}
 use Rattle.jc_cap_desc.specs.declared.type_index.TypeIndex.{TypeIndex}

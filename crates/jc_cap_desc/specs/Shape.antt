@@ -11,16 +11,16 @@ use Rattle.jc_base.specs.declared.class_ref.ClassRef.{ClassRef}
 use Rattle.jc_base.specs.declared.declared_type.DeclaredType.{DeclaredType}
 use Rattle.jc_base.specs.declared.package_info.PackageInfo.{PackageInfo}
 use Rattle.jc_base.specs.declared.placed_rows.Placed.{Placed}
-use Rattle.jc_cap_class.specs.Component.{is_class}
-use Rattle.jc_cap_class.specs.declared.record.Record.{Record}
-use Rattle.jc_cap_class.specs.declared.record.RecordBody.{RecordBody}
-use Rattle.jc_cap_data.specs.Statics.{StaticImage}
-use Rattle.jc_cap_data.specs.declared.applets.Applet.{Applet}
-use Rattle.jc_cap_data.specs.declared.exports.ExportedClass.{ExportedClass}
-use Rattle.jc_cap_method.specs.Component.{Methods, method_at, header_at}
-use Rattle.jc_cap_method.specs.declared.handler.Handler.{Handler}
-use Rattle.jc_cap_method.specs.declared.header.MethodHeader.{MethodHeader}
-use Rattle.jc_cap_pool.specs.declared.entry.PoolEntry.{PoolEntry}
+use Rattle.jc_cap.specs.ClassComponent.{is_class}
+use Rattle.jc_cap.specs.declared.record.Record.{Record}
+use Rattle.jc_cap.specs.declared.record.RecordBody.{RecordBody}
+use Rattle.jc_cap.specs.Statics.{StaticImage}
+use Rattle.jc_cap.specs.declared.applets.Applet.{Applet}
+use Rattle.jc_cap.specs.declared.exports.ExportedClass.{ExportedClass}
+use Rattle.jc_cap.specs.MethodComponent.{Methods, method_at, header_at}
+use Rattle.jc_cap.specs.declared.handler.Handler.{Handler}
+use Rattle.jc_cap.specs.declared.method_header.MethodHeader.{MethodHeader}
+use Rattle.jc_cap.specs.declared.entry.PoolEntry.{PoolEntry}
 use Rattle.jc_cap_desc.specs.Types.{type_of_field, no_type}
 use Rattle.jc_cap_desc.specs.Across.{class_methods, has_code, is_install_signature, is_row_of}
 use Rattle.jc_cap_desc.specs.declared.class_row.ClassRow.{ClassRow}

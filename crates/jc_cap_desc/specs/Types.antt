@@ -13,7 +13,7 @@ use Rattle.jc_base.specs.declared.declared_type.DeclaredType.TheVariants as Know
 use Rattle.jc_base.specs.declared.fault.LoadFault.{LoadFault}
 use Rattle.jc_base.specs.declared.fault.LoadFault.TheVariants.{Malformed}
 use Rattle.jc_base.specs.declared.placed_rows.Placed.{Placed}
-use Rattle.jc_cap_pool.specs.Descriptor.{field_type_of}
+use Rattle.jc_cap.specs.Descriptor.{field_type_of}
 use Rattle.jc_cap_desc.specs.Component.{layout_of}
 use Rattle.jc_cap_desc.specs.declared.class_row.FieldPlace.{FieldPlace}
 use Rattle.jc_cap_desc.specs.declared.class_row.FieldPlace.TheVariants.{Static, Instance}

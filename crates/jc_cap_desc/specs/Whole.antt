@@ -4,10 +4,10 @@ use Rattle.std.specs.Prelude.{◌≡◌, ◌≤◌, ℕ, true, List, length, map
 use Rattle.std.specs.List.{filter, find}
 use Rattle.jc_base.specs.Parts.{Infos}
 use Rattle.jc_base.specs.declared.placed_rows.Placed.{Placed}
-use Rattle.jc_cap_class.specs.Component.{classes_of}
-use Rattle.jc_cap_class.specs.declared.record.Record.{Record}
-use Rattle.jc_cap_head.specs.Header.{Heading, header_of}
-use Rattle.jc_cap_method.specs.Component.{Methods, methods_of}
+use Rattle.jc_cap.specs.ClassComponent.{classes_of}
+use Rattle.jc_cap.specs.declared.record.Record.{Record}
+use Rattle.jc_cap.specs.Header.{Heading, header_of}
+use Rattle.jc_cap.specs.MethodComponent.{Methods, methods_of}
 use Rattle.jc_cap_desc.specs.Across.{class_methods, has_code, is_row_of, rows_match}
 use Rattle.jc_cap_desc.specs.Shape.{ClassShape, Package, body_of_method, class_shape, field_shape, headers_of}
 use Rattle.jc_cap_desc.specs.Shape.{method_shape}

@@ -4,7 +4,7 @@ ghost use Rattle.std.specs.Prelude.{◌≡◌, ◌&&◌, ◌||◌, ◌∷◌, �
 ghost use Rattle.std.specs.List.{list_all};
 ghost use Rattle.jc_base.specs.NumberSet.{has_number};
 ghost use Rattle.jc_base.specs.declared.placed_rows.Placed.{Placed};
-ghost use Rattle.jc_cap_class.specs.declared.record.Record.{Record};
+ghost use Rattle.jc_cap.specs.declared.record.Record.{Record};
 ghost use Rattle.jc_cap_desc.specs.Across.{is_row_of, rows_match, class_methods};
 ghost use Rattle.jc_cap_desc.specs.Across.{is_interface_row, is_among, are_distinct, methods_differ};
 ghost use Rattle.jc_cap_desc.specs.PrivateFreshNumbers.{are_fresh, put_in, Holds};
@@ -15,7 +15,7 @@ ghost use Rattle.jc_cap_desc.specs.PrivateRecordRows.{AreNamed, HoldsRecords, is
 use crate::class_row::{ClassRow, ClassRows, MethodRows};
 use crate::interfaces::is_interface_row;
 use jc_base::{ClassRef, NumberSet};
-use jc_cap_class::Records;
+use jc_cap::Records;
 
 /// Whether a row is of the record at an offset.
 pub(crate) fn is_row_of(offset: usize, row: &ClassRow) -> bool

@@ -4,7 +4,7 @@ ghost use Rattle.std.specs.Prelude.{◌≡◌, ◌||◌, ℕ, List};
 ghost use Rattle.std.specs.List.{list_all};
 ghost use Rattle.jc_base.specs.NumberSet.{has_number};
 ghost use Rattle.jc_base.specs.declared.placed_rows.Placed.{Placed};
-ghost use Rattle.jc_cap_class.specs.declared.record.Record.{Record};
+ghost use Rattle.jc_cap.specs.declared.record.Record.{Record};
 ghost use Rattle.jc_cap_desc.specs.Across.{class_methods, installs, applets_install};
 ghost use Rattle.jc_cap_desc.specs.PrivateApplets.{HoldsInstalls, installs_at};
 ghost use Rattle.jc_cap_desc.specs.PrivateInterfaceRows.{HoldsInterfaces};
@@ -14,7 +14,7 @@ use crate::class_row::{ClassRows, MethodRow, MethodRows};
 use crate::interfaces::is_interface_row;
 use crate::type_index::TypeIndex;
 use jc_base::NumberSet;
-use jc_cap_data::Applets;
+use jc_cap::Applets;
 
 /// Whether a method of a class is static, has code, and takes and gives what an install method does.
 fn installs(index: &TypeIndex, method: &MethodRow) -> bool

@@ -3,7 +3,7 @@
 ghost use Rattle.std.specs.Prelude.{◌≡◌, ◌<◌, ◌^◌, ◌∷◌, List, [], length, IfSome, IfNone, if◌then◌else◌};
 ghost use Rattle.std.specs.List.{filter_map};
 ghost use Rattle.jc_base.specs.declared.placed_rows.Placed.{Placed};
-ghost use Rattle.jc_cap_class.specs.declared.record.Record.{Record};
+ghost use Rattle.jc_cap.specs.declared.record.Record.{Record};
 ghost use Rattle.jc_cap_desc.specs.Across.{class_methods, is_interface_row};
 ghost use Rattle.jc_cap_desc.specs.PrivateInterfaceRows.{HoldsInterfaces};
 ghost use Rattle.jc_cap_desc.specs.Shape.{body_of_method};
@@ -12,8 +12,7 @@ use crate::class_row::{ClassRow, ClassRows, MethodRow, MethodRows};
 use crate::interfaces::{is_interface_row, record_offsets};
 use crate::standing::has_code;
 use jc_base::{Cursor, NumberSet, Rows};
-use jc_cap_class::Records;
-use jc_cap_method::{Handlers, MethodInfo};
+use jc_cap::{Handlers, MethodInfo, Records};
 use std::marker::Model;
 
 /// A method with code.

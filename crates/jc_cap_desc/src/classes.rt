@@ -15,8 +15,7 @@ use crate::interfaces::is_interface;
 use crate::methods::ClassMethods;
 use crate::type_descriptors::TypeDescriptors;
 use jc_base::{ClassRef, Placed};
-use jc_cap_class::{Record, RecordBody, Records};
-use jc_cap_method::MethodInfo;
+use jc_cap::{MethodInfo, Record, RecordBody, Records};
 use std::marker::Model;
 
 /// A class or an interface: what its record says, and what its row says.

@@ -3,7 +3,7 @@
 ghost use Rattle.std.specs.Prelude.{◌≡◌, ◌&&◌, List};
 ghost use Rattle.std.specs.Result.{result_ok};
 ghost use Rattle.jc_base.specs.declared.placed_rows.Placed.{Placed};
-ghost use Rattle.jc_cap_class.specs.declared.record.Record.{Record};
+ghost use Rattle.jc_cap.specs.declared.record.Record.{Record};
 ghost use Rattle.jc_cap_desc.specs.Package.{fault_of, unless, told, methods_fault, applets_fault, classes_fault};
 ghost use Rattle.jc_cap_desc.specs.Package.{pool_fault, across_fault};
 ghost use Rattle.jc_cap_desc.specs.PrivateInterfaceRows.{HoldsInterfaces};
@@ -18,10 +18,7 @@ use crate::standing::methods_standing;
 use crate::type_index::TypeIndex;
 use jc_base::tag::{APPLET, DESCRIPTOR, METHOD};
 use jc_base::{LoadFault, NumberSet};
-use jc_cap_class::Records;
-use jc_cap_data::Applets;
-use jc_cap_method::MethodInfo;
-use jc_cap_pool::ConstantPool;
+use jc_cap::{Applets, ConstantPool, MethodInfo, Records};
 
 /// Why something wasn't read.
 pub(crate) fn fault_of<T>(read: &Result<T, LoadFault>) -> Option<LoadFault>

@@ -2,8 +2,8 @@
 
 ghost use Rattle.std.specs.Prelude.{◌≡◌, List, not};
 ghost use Rattle.jc_base.specs.declared.placed_rows.Placed.{Placed};
-ghost use Rattle.jc_cap_class.specs.Component.{is_class};
-ghost use Rattle.jc_cap_class.specs.declared.record.Record.{Record};
+ghost use Rattle.jc_cap.specs.ClassComponent.{is_class};
+ghost use Rattle.jc_cap.specs.declared.record.Record.{Record};
 ghost use Rattle.jc_cap_desc.specs.Across.{is_interface_row};
 ghost use Rattle.jc_cap_desc.specs.PrivateInterfaceRows.{HoldsInterfaces};
 ghost use Rattle.jc_cap_desc.specs.PrivateRecordRows.{HoldsRecords};
@@ -11,7 +11,7 @@ ghost use Rattle.jc_cap_desc.specs.PrivateRecordRows.{HoldsRecords};
 use crate::class_row::ClassRow;
 use crate::offsets::{mark, put};
 use jc_base::{ClassRef, NumberSet};
-use jc_cap_class::{RecordBody, Records};
+use jc_cap::{RecordBody, Records};
 
 /// Whether a record is an interface's.
 pub(crate) fn is_interface(body: &RecordBody) -> bool

@@ -6,8 +6,7 @@ ghost use Rattle.jc_cap_desc.specs.Shape.{method_shape};
 
 use crate::class_row::{MethodRow, MethodRows};
 use crate::type_descriptors::TypeDescriptors;
-use jc_cap_method::{MethodHeader, MethodInfo};
-use jc_cap_pool::Descriptor;
+use jc_cap::{Descriptor, MethodHeader, MethodInfo};
 use std::marker::Model;
 
 /// A method of a class or an interface.

@@ -18,14 +18,11 @@ use crate::type_index::TypeIndex;
 use crate::types::{NO_TYPE, types_are_there};
 use jc_base::tag::{CLASS, DESCRIPTOR};
 use jc_base::{LoadFault, PackageInfo, Parts};
-use jc_cap_class::{Records, class_layout, none_remote};
-use jc_cap_data::{
-    Applets, Exports, Imports, StaticFields, read_applets, read_exports, read_imports,
-    read_static_fields,
+use jc_cap::{
+    Applets, ConstantPool, Descriptor, Exports, Header, Imports, MethodInfo, Records, StaticFields,
+    class_layout, none_remote, read_applets, read_exports, read_header, read_imports, read_method,
+    read_pool, read_static_fields,
 };
-use jc_cap_head::{Header, read_header};
-use jc_cap_method::{MethodInfo, read_method};
-use jc_cap_pool::{ConstantPool, Descriptor, read_pool};
 use std::marker::Model;
 
 /// A package, lent from its image.

@@ -3,7 +3,7 @@
 ghost use Rattle.std.specs.Prelude.{◌≡◌, ◌+◌, ◌&&◌, List};
 ghost use Rattle.std.specs.List.{list_all};
 ghost use Rattle.jc_base.specs.declared.placed_rows.Placed.{Placed};
-ghost use Rattle.jc_cap_class.specs.declared.record.Record.{Record};
+ghost use Rattle.jc_cap.specs.declared.record.Record.{Record};
 ghost use Rattle.jc_cap_desc.specs.Across.{class_methods, has_code, stays_inside, stands_inside, is_described};
 ghost use Rattle.jc_cap_desc.specs.PrivateInterfaceRows.{HoldsInterfaces};
 ghost use Rattle.jc_cap_desc.specs.PrivateMethods.{code_is_described, handlers_are_inside, is_inside, IsStandingOf};
@@ -11,7 +11,7 @@ ghost use Rattle.jc_cap_desc.specs.PrivateMethods.{code_is_described, handlers_a
 use crate::class_row::{ClassRows, MethodRow, MethodRows};
 use crate::interfaces::is_interface_row;
 use jc_base::NumberSet;
-use jc_cap_method::{Handler, Handlers, Method, MethodInfo};
+use jc_cap::{Handler, Handlers, Method, MethodInfo};
 
 /// Whether a method has code.
 pub(crate) fn has_code(row: &MethodRow) -> bool

@@ -4,11 +4,11 @@ ghost use Rattle.std.specs.Prelude.{◌≡◌, ◌∷◌};
 ghost use Rattle.jc_base.specs.PlacedRows.{placed_rows, row_at};
 ghost use Rattle.jc_cap_desc.specs.PrivateOffsets.{PassedSoFar};
 ghost use Rattle.jc_cap_desc.specs.PrivateTypes.{HasStarts, PlacedTypes, is_any};
-ghost use Rattle.jc_cap_pool.specs.Descriptor.{next_descriptor};
+ghost use Rattle.jc_cap.specs.Descriptor.{next_descriptor};
 
 use crate::offsets::put;
 use jc_base::{Cursor, LoadFault, NumberSet, Placed};
-use jc_cap_pool::{Descriptor, Descriptors};
+use jc_cap::{Descriptor, Descriptors};
 use std::marker::Model;
 
 /// Type descriptors one behind the other, with the offsets at which they begin. They are read where they are asked for.

@@ -7,7 +7,7 @@ ghost use Rattle.jc_cap_desc.specs.PrivateTypes.{IndexedSoFar, IndexesTypes, Pla
 use crate::offsets::{mark, put};
 use crate::type_descriptors::TypeDescriptors;
 use jc_base::{DeclaredType, NumberSet, Placed, ReturnType};
-use jc_cap_pool::Descriptor;
+use jc_cap::Descriptor;
 
 /// The offsets at which type descriptors begin.
 #[derive(Drop)]

@@ -6,8 +6,8 @@ use Rattle.jc_interp.specs.Calling.{IsCall, IsMethodFor, MayCall}
 use Rattle.jc_interp.specs.declared.call.FirstCall.{FirstCall}
 use Rattle.jc_interp.specs.declared.ends.RunEnd.{RunEnd}
 use Rattle.jc_link.specs.Linked.{World}
-use Rattle.jc_loaded.specs.Called.{called_of}
-use Rattle.jc_loaded.specs.Program.{IsProgramOf}
+use Rattle.jc_program.specs.Called.{called_of}
+use Rattle.jc_program.specs.Program.{IsProgramOf}
 use Rattle.jc_machine.specs.Reading.{Pointwise, Reads}
 use Rattle.jc_names.specs.declared.name.MethodName.{MethodName}
 use Rattle.jc_natives.specs.Meaning.{fits_instance, meaning}

@@ -6,9 +6,9 @@ use Rattle.jc_interp.specs.Following.{EndsAs, WordState}
 use Rattle.jc_interp.specs.declared.call.FirstCall.{FirstCall}
 use Rattle.jc_interp.specs.declared.ends.RunEnd.{RunEnd}
 use Rattle.jc_link.specs.Linked.{World}
-use Rattle.jc_loaded.specs.Called.{called_of}
-use Rattle.jc_loaded.specs.Program.{IsProgramOf}
-use Rattle.jc_loaded.specs.declared.program.Program.{Program}
+use Rattle.jc_program.specs.Called.{called_of}
+use Rattle.jc_program.specs.Program.{IsProgramOf}
+use Rattle.jc_program.specs.declared.program.Program.{Program}
 use Rattle.jc_machine.specs.Machine.{Machine, Surroundings, Touch}
 use Rattle.jc_machine.specs.Reading.{Pointwise, Reads}
 use Rattle.jc_machine.specs.Step.{CallEnd, Called, Gave, RanOut, Start, Threw, WasStuck, runtime_call}

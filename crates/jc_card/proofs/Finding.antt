@@ -3,7 +3,7 @@ use Rattle.std.proofs.Common.{◌≡◌, ℕ, suc, ◌+◌, List, [], ◌∷◌,
 use Rattle.std.proofs.Common.{IfSome, bytes_eq, refl, sym, ap, ◌∙◌, subst, arith}
 use Rattle.std.specs.List.{find}
 use Rattle.std.specs.Option.{option_and_then, option_map_or}
-use Rattle.jc_cap_data.specs.declared.applets.Applet.{Applet}
+use Rattle.jc_cap.specs.declared.applets.Applet.{Applet}
 use Rattle.jc_link.specs.Linked.{HasInstall, IsKnown, IsWorld, LinkedBody, World}
 use Rattle.jc_machine.specs.Lookup.{body_at}
 use Rattle.jc_names.specs.Names.{home_at}

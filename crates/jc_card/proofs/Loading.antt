@@ -8,8 +8,8 @@ use Rattle.jc_interp.specs.Loading.{LoadsWords, with_package as with_words}
 use Rattle.jc_interp.specs.declared.machine.WordMachine.{WordMachine}
 use Rattle.jc_link.specs.Linked.{IsBoundTo, Linked, World, with_linked}
 use Rattle.jc_machine.specs.Reading.{ReadsObject}
-use Rattle.jc_loaded.specs.Program.{IsProgramOf}
-use Rattle.jc_loaded.specs.declared.program.Program.{Program}
+use Rattle.jc_program.specs.Program.{IsProgramOf}
+use Rattle.jc_program.specs.declared.program.Program.{Program}
 use Rattle.jc_machine.specs.Accepted.{IsAccepted}
 use Rattle.jc_machine.specs.Machine.{Machine, Surroundings}
 use Rattle.jc_natives.specs.Kept.{Kept}

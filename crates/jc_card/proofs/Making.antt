@@ -7,7 +7,7 @@ use Rattle.std.specs.List.{list_all}
 use Rattle.std.proofs.lemmas.Bool.{and_parts}
 use Rattle.std.proofs.lemmas.List.{length-append, length-replicate}
 use Rattle.jc_interp.specs.Agree.{AreNumbered, IsNumbered}
-use Rattle.jc_loaded.specs.Classes.{HasNumber, class_number}
+use Rattle.jc_program.specs.Classes.{HasNumber, class_number}
 use Rattle.jc_machine.specs.Lookup.{class_of}
 use Rattle.jc_machine.specs.Reading.{HeapReads, Pointwise, Reads}
 use Rattle.jc_machine.specs.Runtime.{new_heap}

@@ -9,8 +9,8 @@ use Rattle.jc_interp.specs.Agree.{HoldsFields}
 use Rattle.jc_link.specs.ApiClasses.{StandsThere}
 use Rattle.jc_link.specs.Built.{IsBuilt}
 use Rattle.jc_link.specs.Linked.{World}
-use Rattle.jc_loaded.specs.Program.{AnswersFor, IsProgramOf}
-use Rattle.jc_loaded.specs.declared.program.Program.{Program}
+use Rattle.jc_program.specs.Program.{AnswersFor, IsProgramOf}
+use Rattle.jc_program.specs.declared.program.Program.{Program}
 use Rattle.jc_machine.specs.Accepted.{IsAccepted, api_alone}
 use Rattle.jc_machine.specs.Machine.{Frame}
 use Rattle.jc_machine.specs.Reading.{Pointwise}

@@ -21,7 +21,7 @@ use Rattle.std.proofs.Common.{◌≢◌, ap, nat_le, ◌==◌, arith, eqb-true}
 use Rattle.std.proofs.lemmas.Bool.{and_from, and_parts, le-leb, leb-false, ne_eqb}
 use Rattle.std.proofs.lemmas.Option.{same_Some}
 use Rattle.std.specs.List.{find, list_all}
-use Rattle.jc_cap_data.specs.declared.applets.Applet.{Applet}
+use Rattle.jc_cap.specs.declared.applets.Applet.{Applet}
 use Rattle.jc_link.specs.Linked.{LinkedBody}
 use Rattle.jc_machine.specs.Apart.{is_applets}
 use Rattle.jc_machine.specs.Runtime.{most_instances}

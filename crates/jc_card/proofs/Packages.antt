@@ -2,18 +2,18 @@
 use Rattle.std.proofs.Common.{◌≡◌, ◌<◌, ◌≤◌, ◌^◌, length, Option, Some, None, Result, Ok, IfOk, arith}
 use Rattle.jc_base.specs.Parts.{Infos}
 use Rattle.jc_base.specs.declared.fault.LoadFault.{LoadFault}
-use Rattle.jc_cap_class.specs.Component.{classes_of}
-use Rattle.jc_cap_data.specs.Applets.{applets_of}
-use Rattle.jc_cap_data.specs.Exports.{exports_of}
-use Rattle.jc_cap_data.specs.Imports.{imports_of}
-use Rattle.jc_cap_data.specs.Statics.{static_fields_of}
+use Rattle.jc_cap.specs.ClassComponent.{classes_of}
+use Rattle.jc_cap.specs.Applets.{applets_of}
+use Rattle.jc_cap.specs.Exports.{exports_of}
+use Rattle.jc_cap.specs.Imports.{imports_of}
+use Rattle.jc_cap.specs.Statics.{static_fields_of}
 use Rattle.jc_cap_desc.specs.Package.{components_of, package_fault, package_of, refused}
 use Rattle.jc_cap_desc.specs.Shape.{HaveBodies, HaveHeaders, InstallMethods, Package, StandApart}
 use Rattle.jc_cap_desc.specs.Types.{descriptor_of}
 use Rattle.jc_cap_desc.specs.Whole.{HasRows}
-use Rattle.jc_cap_head.specs.Header.{header_of}
-use Rattle.jc_cap_method.specs.Component.{methods_of}
-use Rattle.jc_cap_pool.specs.Pool.{pool_of}
+use Rattle.jc_cap.specs.Header.{header_of}
+use Rattle.jc_cap.specs.MethodComponent.{methods_of}
+use Rattle.jc_cap.specs.Pool.{pool_of}
 use Rattle.jc_machine.specs.Accepted.{HaveByteTokens}
 use Rattle.jc_card.proofs.Cut.{AreInfos}
 use Rattle.jc_card.proofs.Tokens.{few_rows, of_ok, ok_then, pool_tokens}

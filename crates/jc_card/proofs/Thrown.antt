@@ -4,7 +4,7 @@ use Rattle.std.proofs.Common.{slice_get, refl, sym, ap, ◌∙◌, subst}
 use Rattle.std.specs.Option.{option_map_or}
 use Rattle.jc_api.specs.declared.class.ApiClass.{ApiClass}
 use Rattle.jc_api.specs.declared.class.ApiClass.TheVariants.{IsoException}
-use Rattle.jc_cap_class.specs.Component.{is_class}
+use Rattle.jc_cap.specs.ClassComponent.{is_class}
 use Rattle.jc_cap_desc.specs.Shape.{ClassShape, Shape}
 use Rattle.jc_classes.specs.Limits.{IsSmall}
 use Rattle.jc_classes.specs.Subtype.{is_class_below, is_interface_at, is_subtype}
@@ -12,10 +12,10 @@ use Rattle.jc_classes.specs.World.{class_at}
 use Rattle.jc_link.specs.ApiClasses.{StandsThere}
 use Rattle.jc_link.specs.Built.{IsBuilt}
 use Rattle.jc_link.specs.Linked.{World}
-use Rattle.jc_loaded.specs.Classes.{class_number}
-use Rattle.jc_loaded.specs.Program.{AnswersFor, IsProgramOf}
-use Rattle.jc_loaded.specs.Supertypes.{is_listed}
-use Rattle.jc_loaded.specs.declared.program.Program.{Program}
+use Rattle.jc_program.specs.Classes.{class_number}
+use Rattle.jc_program.specs.Program.{AnswersFor, IsProgramOf}
+use Rattle.jc_program.specs.Supertypes.{is_listed}
+use Rattle.jc_program.specs.declared.program.Program.{Program}
 use Rattle.jc_machine.specs.Lookup.{class_of, is_of_class}
 use Rattle.jc_machine.specs.Reading.{HeapReads, ReadsObject}
 use Rattle.jc_names.specs.declared.name.ClassName.{ClassName}

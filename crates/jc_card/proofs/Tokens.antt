@@ -14,16 +14,16 @@ use Rattle.jc_cap_desc.specs.ClassRow.{next_class_row}
 use Rattle.jc_cap_desc.specs.Component.{layout_of}
 use Rattle.jc_cap_desc.specs.Types.{descriptor_of, types_are_there}
 use Rattle.jc_cap_desc.specs.declared.component.DescriptorInfo.{DescriptorInfo}
-use Rattle.jc_cap_pool.specs.Descriptor.{next_descriptor}
-use Rattle.jc_cap_pool.specs.Entry.{as_entry, classref_tag, instance_fieldref_tag, next_entry, next_external}
-use Rattle.jc_cap_pool.specs.Entry.{next_internal, next_member_ref, next_static_ref, next_tagged_entry}
-use Rattle.jc_cap_pool.specs.Entry.{static_fieldref_tag, static_methodref_tag, super_methodref_tag}
-use Rattle.jc_cap_pool.specs.Entry.{virtual_methodref_tag}
-use Rattle.jc_cap_pool.specs.Pool.{pool_of}
-use Rattle.jc_cap_pool.specs.declared.entry.MemberRef.{MemberRef}
-use Rattle.jc_cap_pool.specs.declared.entry.PoolEntry.{PoolEntry}
-use Rattle.jc_cap_pool.specs.declared.entry.PoolEntry.TheVariants.{Classref, InstanceFieldref, VirtualMethodref}
-use Rattle.jc_cap_pool.specs.declared.entry.PoolEntry.TheVariants.{SuperMethodref, StaticFieldref, StaticMethodref}
+use Rattle.jc_cap.specs.Descriptor.{next_descriptor}
+use Rattle.jc_cap.specs.Entry.{as_entry, classref_tag, instance_fieldref_tag, next_entry, next_external}
+use Rattle.jc_cap.specs.Entry.{next_internal, next_member_ref, next_static_ref, next_tagged_entry}
+use Rattle.jc_cap.specs.Entry.{static_fieldref_tag, static_methodref_tag, super_methodref_tag}
+use Rattle.jc_cap.specs.Entry.{virtual_methodref_tag}
+use Rattle.jc_cap.specs.Pool.{pool_of}
+use Rattle.jc_cap.specs.declared.entry.MemberRef.{MemberRef}
+use Rattle.jc_cap.specs.declared.entry.PoolEntry.{PoolEntry}
+use Rattle.jc_cap.specs.declared.entry.PoolEntry.TheVariants.{Classref, InstanceFieldref, VirtualMethodref}
+use Rattle.jc_cap.specs.declared.entry.PoolEntry.TheVariants.{SuperMethodref, StaticFieldref, StaticMethodref}
 use Rattle.jc_machine.specs.Accepted.{HaveByteTokens}
 use Rattle.jc_card.proofs.Cut.{AllBytes}
 

@@ -4,7 +4,7 @@ use Rattle.std.specs.Prelude.{ℕ, suc, ◌-◌, Bool, false, List, [], ◌∷�
 use Rattle.std.specs.Prelude.{is_some, nat_le, nat_lt, replicate, if◌then◌else◌}
 use Rattle.std.specs.List.{find}
 use Rattle.std.specs.Option.{option_and_then, option_map_or}
-use Rattle.jc_cap_data.specs.declared.applets.Applet.{Applet}
+use Rattle.jc_cap.specs.declared.applets.Applet.{Applet}
 use Rattle.jc_link.specs.Linked.{LinkedBody}
 use Rattle.jc_machine.specs.Runtime.{install_array, most_instances}
 use Rattle.jc_names.specs.declared.name.MethodName.TheVariants.{Loaded}

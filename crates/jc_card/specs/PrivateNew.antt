@@ -9,7 +9,7 @@ use Rattle.jc_api.specs.declared.class.ApiClass.TheVariants.{SecurityException, 
 use Rattle.jc_api.specs.declared.class.ApiClass.TheVariants.{ApduException, Aid, Apdu}
 use Rattle.jc_firewall.specs.Verdict.{runtime}
 use Rattle.jc_interp.specs.Agree.{AreNumbered}
-use Rattle.jc_loaded.specs.Classes.{HasNumber}
+use Rattle.jc_program.specs.Classes.{HasNumber}
 use Rattle.jc_names.specs.declared.name.ClassName.{ClassName}
 use Rattle.jc_names.specs.declared.name.ClassName.TheVariants.{Api}
 use Rattle.jc_store.specs.Heap.{Heap, Object, cells_in}

@@ -7,8 +7,8 @@ use Rattle.jc_interp.specs.declared.ends.RunEnd.{RunEnd}
 use Rattle.jc_interp.specs.declared.ends.RunEnd.TheVariants.{Gave, RanOut, Threw}
 use Rattle.jc_interp.specs.declared.machine.WordMachine.{WordMachine}
 use Rattle.jc_link.specs.Linked.{World}
-use Rattle.jc_loaded.specs.Program.{IsProgramOf}
-use Rattle.jc_loaded.specs.declared.program.Program.{Program}
+use Rattle.jc_program.specs.Program.{IsProgramOf}
+use Rattle.jc_program.specs.declared.program.Program.{Program}
 use Rattle.jc_machine.specs.Reading.{ReadsResult}
 use Rattle.jc_names.specs.declared.owner.Owner.{Owner}
 use Rattle.jc_natives.specs.Kept.{Kept}

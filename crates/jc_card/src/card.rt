@@ -3,9 +3,9 @@
 use jc_firewall::Denial;
 use jc_interp::WordMachine;
 use jc_link::World;
-use jc_loaded::Program;
 use jc_names::Owner;
 use jc_natives::Runtime;
+use jc_program::Program;
 use std::marker::Model;
 
 /// A card: the loaded packages, the objects, and the instances of applets (Java Card Runtime Environment

@@ -3,11 +3,11 @@
 ghost use Rattle.std.specs.Prelude.{◌≡◌, ◌<◌, IfErr, IfOk, length};
 ghost use Rattle.jc_card.specs.PrivateLoad.{Grows};
 ghost use Rattle.jc_link.specs.Linked.{IsBoundTo, most_in_world, with_linked};
-ghost use Rattle.jc_loaded.specs.Program.{IsProgramOf};
+ghost use Rattle.jc_program.specs.Program.{IsProgramOf};
 
 use jc_interp::{WordMachine, static_words};
 use jc_link::{Linked, World};
-use jc_loaded::Program;
+use jc_program::Program;
 use std::alloc::{AllocError, Global};
 
 /// Puts a package behind those of a world, and its static fields and arrays into the machine over it, if there is room

@@ -14,9 +14,9 @@ use jc_api::Binding;
 use jc_frames::Frames;
 use jc_interp::{Statics, WordMachine};
 use jc_link::{World, built_worlds_have_the_api};
-use jc_loaded::{Program, program_laws};
 use jc_machine::{accepted_worlds_grow, new_machines_are_typed};
 use jc_natives::{Runtime, calls_keep_fitting};
+use jc_program::{Program, program_laws};
 use jc_store::Store;
 use std::alloc::Global;
 

@@ -5,7 +5,7 @@ ghost use Rattle.jc_card.specs.Install.{applet_from, applet_in, row_with};
 ghost use Rattle.jc_card.specs.PrivateWords.{IsInstallPlace};
 
 use jc_base::Aid;
-use jc_cap_data::Applet;
+use jc_cap::Applet;
 use jc_link::{LinkedBody, World};
 
 /// An applet of a loaded package.

@@ -8,8 +8,8 @@ ghost use Rattle.jc_machine.specs.Lookup.{class_of};
 ghost use Rattle.jc_store.specs.Store.{Store};
 
 use jc_api::ApiClass;
-use jc_loaded::{Classes, classes_have_numbers};
 use jc_names::{ClassName, Owner};
+use jc_program::{Classes, classes_have_numbers};
 use jc_store::{Kind, Mark, ObjectType, Store};
 
 /// One of them, as it is made: all its components are 0.

@@ -19,8 +19,8 @@ use crate::card::Card;
 use jc_api::ApiClass;
 use jc_interp::RunEnd;
 use jc_link::built_worlds_have_the_api;
-use jc_loaded::{ClassNumber, class_subtypes_are_below, classes_have_numbers, program_laws};
 use jc_names::ClassName;
+use jc_program::{ClassNumber, class_subtypes_are_below, classes_have_numbers, program_laws};
 
 /// All went well.
 pub(crate) const NORMAL: u16 = 0x9000;

@@ -11,7 +11,7 @@ use Rattle.jc_api.specs.Class.{number_of}
 use Rattle.jc_api.specs.declared.class.ApiClass.{ApiClass}
 use Rattle.jc_api.specs.declared.class.ApiClass.TheVariants.{Object, Throwable, Exception, RuntimeException, ArithmeticException, ArrayStoreException, ClassCastException, IndexOutOfBoundsException, ArrayIndexOutOfBoundsException, NegativeArraySizeException, NullPointerException, SecurityException, Shareable, CardRuntimeException, IsoException, SystemException, ApduException, Aid, Apdu, Applet, JcSystem, Util}
 use Rattle.jc_cap_desc.specs.Shape.{MethodBody, Shape}
-use Rattle.jc_cap_method.specs.declared.header.MethodHeader.{MethodHeader}
+use Rattle.jc_cap.specs.declared.method_header.MethodHeader.{MethodHeader}
 use Rattle.jc_classes.specs.Members.{DeclaredMethod}
 use Rattle.jc_classes.specs.Methods.{method_name}
 use Rattle.jc_names.specs.Names.{is_same_name}
@@ -30,8 +30,8 @@ use Rattle.jc_link.specs.Sound.{HaveMethods}
 use Rattle.jc_link.specs.Target.{pool_target_of, pool_targets}
 use Rattle.jc_link.specs.declared.target.PoolTarget.{PoolTarget}
 use Rattle.jc_link.specs.declared.target.PoolTarget.TheVariants as To
-use Rattle.jc_step.specs.Laws.{NamesKnown}
-use Rattle.jc_step.specs.Method.{own_method}
+use Rattle.jc_effects.specs.Laws.{NamesKnown}
+use Rattle.jc_effects.specs.Method.{own_method}
 use Rattle.jc_types.specs.Known.{AreKnown, is_known}
 use Rattle.jc_types.specs.State.{entry_types}
 use Rattle.jc_types.specs.Ty.{type_of_declared}

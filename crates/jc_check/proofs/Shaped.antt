@@ -14,8 +14,8 @@ use Rattle.jc_code.specs.declared.instr.Operation.TheVariants.{Object, Word}
 use Rattle.jc_code.specs.declared.instr.WordOperation.{WordOperation}
 use Rattle.jc_classes.specs.Subtype.{is_class_below}
 use Rattle.jc_names.specs.declared.name.ClassName.{ClassName}
-use Rattle.jc_step.specs.Laws.{KeepsShape, StaysWithin}
-use Rattle.jc_step.specs.Words.{word_effect}
+use Rattle.jc_effects.specs.Laws.{KeepsShape, StaysWithin}
+use Rattle.jc_effects.specs.Words.{word_effect}
 use Rattle.jc_types.specs.State.{Types}
 use Rattle.jc_types.specs.declared.ty.Ty.{Ty}
 use Rattle.jc_types.specs.declared.ty.Ty.TheVariants.{Top}

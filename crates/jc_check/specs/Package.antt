@@ -6,7 +6,7 @@ use Rattle.std.specs.Option.{option_and_then, option_map_or}
 use Rattle.jc_base.specs.declared.class_ref.ClassRef.TheVariants.{Internal}
 use Rattle.jc_api.specs.declared.class.ApiClass.TheVariants.{Throwable}
 use Rattle.jc_cap_desc.specs.Shape.{MethodBody, Shape}
-use Rattle.jc_cap_method.specs.declared.handler.Handler as rows
+use Rattle.jc_cap.specs.declared.handler.Handler as rows
 use Rattle.jc_cert.specs.declared.stated_type.SpelledClass.{SpelledClass}
 use Rattle.jc_cert.specs.declared.stated_type.SpelledClass.TheVariants.{Own, Api, Other}
 use Rattle.jc_classes.specs.Members.{DeclaredMethod}
@@ -19,8 +19,8 @@ use Rattle.jc_link.specs.Linked.{Linked}
 use Rattle.jc_link.specs.MemberType.{declared_type_of}
 use Rattle.jc_link.specs.declared.target.PoolTarget.{PoolTarget}
 use Rattle.jc_link.specs.declared.target.PoolTarget.TheVariants as To
-use Rattle.jc_step.specs.Effect.{effect_of}
-use Rattle.jc_step.specs.Method.{max_stack_of, own_method, result_of}
+use Rattle.jc_effects.specs.Effect.{effect_of}
+use Rattle.jc_effects.specs.Method.{max_stack_of, own_method, result_of}
 use Rattle.jc_types.specs.Ty.{type_of_declared}
 use Rattle.jc_types.specs.declared.ty.Ty.{Ty}
 use Rattle.jc_types.specs.declared.ty.Ty.TheVariants.{Class}

@@ -10,7 +10,7 @@ use Rattle.jc_code.specs.declared.instr.Operation.{Operation}
 use Rattle.jc_code.specs.declared.instr.Operation.TheVariants.{Word, Object}
 use Rattle.jc_code.specs.Instructions.{word_instr_at}
 use Rattle.jc_code.specs.Listing.{Decoder}
-use Rattle.jc_step.specs.Words.{word_effect}
+use Rattle.jc_effects.specs.Words.{word_effect}
 use Rattle.jc_types.specs.declared.ty.Ty.{Ty}
 use Rattle.jc_types.specs.State.{Types}
 

@@ -18,8 +18,8 @@ ghost use Rattle.jc_check.specs.PrivateKnown.{AreSmallFrames, IsSmallFrame, IsSm
 use crate::package::methods_of;
 use crate::package_method::{max_locals_of, max_stack_of};
 use jc_classes::DeclaredMethod;
+use jc_effects::{effects_name_classes, own_method};
 use jc_link::{Linked, MethodCode, built_worlds_are_sound, built_worlds_name_classes};
-use jc_step::{effects_name_classes, own_method};
 use jc_types::known_laws;
 
 /// How many words of arguments a method takes, by its header.

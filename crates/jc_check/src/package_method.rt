@@ -2,7 +2,7 @@
 
 ghost use Rattle.std.specs.Prelude.{◌≡◌, ◌-◌, ◌++◌, map, IfOk, [], OnOk, IfErr, ◌<◌, ◌^◌, length, vec_capacity};
 ghost use Rattle.std.specs.Option.{option_and_then, option_map_or};
-ghost use Rattle.jc_step.specs.Method.{max_stack_of, own_method, result_of};
+ghost use Rattle.jc_effects.specs.Method.{max_stack_of, own_method, result_of};
 ghost use Rattle.jc_cert.specs.Cert.{stated};
 ghost use Rattle.jc_types.specs.Ty.{type_of_declared};
 ghost use Rattle.jc_check.specs.Carried.{Carries};
@@ -18,12 +18,12 @@ use crate::method_check::check_method;
 use crate::package_rules::PackageRules;
 use jc_api::ApiClass;
 use jc_base::DeclaredType;
-use jc_cap_method::Handler as HandlerRow;
+use jc_cap::Handler as HandlerRow;
 use jc_cert::StateRow;
 use jc_classes::{ClassTable, DeclaredMethod};
+use jc_effects::{own_method, result_of};
 use jc_link::{Linked, MethodCode, PoolTarget, member_type};
 use jc_names::ClassName;
-use jc_step::{own_method, result_of};
 use jc_types::Ty;
 use std::alloc::{AllocError, Global};
 

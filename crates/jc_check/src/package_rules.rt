@@ -8,9 +8,9 @@ use jc_base::Reason;
 use jc_cert::SpelledClass;
 use jc_classes::ClassTable;
 use jc_code::{CodeFault, Instr, Operation, decode, listing_laws};
+use jc_effects::{Setting, transfer_in};
 use jc_link::Linked;
 use jc_names::ClassName;
-use jc_step::{Setting, transfer_in};
 use jc_types::{State, Ty};
 
 /// The rules of a linked package: all instructions, read against its constant pool, and the classes of its world.

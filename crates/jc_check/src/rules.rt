@@ -9,8 +9,8 @@ ghost use Rattle.jc_check.specs.Rules.{Rules, word_rules};
 use jc_base::Reason;
 use jc_cert::SpelledClass;
 use jc_code::{CodeFault, Instr, Operation, decode_words, listing_laws};
+use jc_effects::transfer_word;
 use jc_names::ClassName;
-use jc_step::transfer_word;
 use jc_types::{Classes, NoClasses, State, Ty};
 
 /// What code is checked by: how it decodes, what its instructions do to types, how its classes are ordered, and which

@@ -16,7 +16,7 @@ use crate::rules::WordRules;
 use jc_base::Reason;
 use jc_cert::{Cert, StateRow};
 use jc_code::listing_laws;
-use jc_step::effects_keep_shapes;
+use jc_effects::effects_keep_shapes;
 use jc_types::order_laws;
 use std::alloc::Global;
 use std::marker::Model;

@@ -7,8 +7,8 @@ use Rattle.std.specs.Option.{option_map_or}
 use Rattle.jc_base.proofs.Binding.{the_some, none_some}
 use Rattle.jc_base.specs.NumberSet.{has_number}
 use Rattle.jc_base.specs.declared.class_ref.ClassRef.{ClassRef}
-use Rattle.jc_cap_class.specs.declared.record.RecordBody.{RecordBody}
-use Rattle.jc_cap_class.specs.declared.record.RecordBody.TheVariants.{Interface, Class}
+use Rattle.jc_cap.specs.declared.record.RecordBody.{RecordBody}
+use Rattle.jc_cap.specs.declared.record.RecordBody.TheVariants.{Interface, Class}
 use Rattle.jc_cap_desc.specs.Shape.{ClassShape, Shape}
 use Rattle.jc_classes.proofs.Below.{name_is, name_itself, edge, edge_marked, super_there, list_there, super_edge, list_edge, placed_if_there}
 use Rattle.jc_classes.proofs.Marking.{true_false}

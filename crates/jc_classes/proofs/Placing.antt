@@ -6,7 +6,7 @@ use Rattle.std.proofs.lemmas.List.Folds.{find_at}
 use Rattle.std.proofs.lemmas.Option.{slice_get_past, slice_get-get_or}
 use Rattle.std.specs.List.{find, list_any, position, position_or_len, position_from}
 use Rattle.std.specs.Option.{option_map, option_and_then, option_or}
-use Rattle.jc_cap_class.specs.Component.{is_class}
+use Rattle.jc_cap.specs.ClassComponent.{is_class}
 use Rattle.jc_cap_desc.specs.Shape.{ClassShape, MethodShape, Shape}
 use Rattle.jc_classes.proofs.Passing.{position_is}
 use Rattle.jc_classes.specs.Members.{DeclaredMethod, declared_in, name_of}

@@ -8,11 +8,11 @@ use Rattle.std.proofs.lemmas.Option.{slice_get_past, slice_get_within, unwrap_or
 use Rattle.std.specs.List.{find, position, filter_map, cons_option}
 use Rattle.std.specs.Option.{option_map, option_and_then, option_map_or, option_to_list}
 use Rattle.jc_base.proofs.Binding.{none_some, the_some}
-use Rattle.jc_cap_class.specs.Interfaces.{Implemented}
-use Rattle.jc_cap_class.specs.declared.record.ClassRecord.{ClassRecord}
-use Rattle.jc_cap_class.specs.declared.record.RecordBody.{RecordBody}
-use Rattle.jc_cap_class.specs.declared.record.VirtualTable.{VirtualTable}
-use Rattle.jc_cap_class.specs.declared.record.RecordBody.TheVariants.{Interface, Class}
+use Rattle.jc_cap.specs.Interfaces.{Implemented}
+use Rattle.jc_cap.specs.declared.record.ClassRecord.{ClassRecord}
+use Rattle.jc_cap.specs.declared.record.RecordBody.{RecordBody}
+use Rattle.jc_cap.specs.declared.record.VirtualTable.{VirtualTable}
+use Rattle.jc_cap.specs.declared.record.RecordBody.TheVariants.{Interface, Class}
 use Rattle.jc_cap_desc.specs.Shape.{ClassShape, Shape}
 use Rattle.jc_classes.proofs.Growing.{get_before, packages_keep, classes_keep, superclasses_keep, superclass_within, virtual_methods_keep, listings_found_keep}
 use Rattle.jc_classes.proofs.Below.{one_place}
@@ -24,7 +24,7 @@ use Rattle.jc_classes.specs.Limits.{IsSmall}
 use Rattle.jc_names.specs.Names.{is_same_name}
 use Rattle.jc_classes.specs.PrivateSearch.{place_in, place}
 use Rattle.jc_classes.specs.Record.{interface_rows}
-use Rattle.jc_cap_class.specs.Component.{is_class}
+use Rattle.jc_cap.specs.ClassComponent.{is_class}
 use Rattle.jc_classes.specs.Methods.{entry_visit, is_this, table_visit, record_visit, virtual_visit, virtual_method_of, package_visible, interface_visit, listing_visit, indexes_visit, row_for}
 use Rattle.jc_classes.specs.PrivatePlaces.{place_at}
 use Rattle.jc_classes.specs.Listed.{ListNothing, Listed, class_behind, indexes_in}

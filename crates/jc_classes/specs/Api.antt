@@ -9,10 +9,10 @@ use Rattle.jc_base.specs.Signature.{signature_map}
 use Rattle.jc_base.specs.declared.class_ref.ClassRef.{ClassRef}
 use Rattle.jc_base.specs.declared.class_ref.ClassRef.TheVariants.{Internal, External}
 use Rattle.jc_base.specs.declared.package_info.PackageInfo.{PackageInfo}
-use Rattle.jc_cap_class.specs.declared.record.RecordBody.{RecordBody}
-use Rattle.jc_cap_class.specs.declared.record.RecordBody.TheVariants as Record
-use Rattle.jc_cap_class.specs.declared.record.VirtualTable.{VirtualTable}
-use Rattle.jc_cap_data.specs.declared.exports.ExportedClass.{ExportedClass}
+use Rattle.jc_cap.specs.declared.record.RecordBody.{RecordBody}
+use Rattle.jc_cap.specs.declared.record.RecordBody.TheVariants as Record
+use Rattle.jc_cap.specs.declared.record.VirtualTable.{VirtualTable}
+use Rattle.jc_cap.specs.declared.exports.ExportedClass.{ExportedClass}
 use Rattle.jc_cap_desc.specs.Shape.{ClassShape, MethodShape, Shape}
 use Rattle.jc_api.specs.Bound.{Bound, package_in}
 use Rattle.jc_api.specs.Class.{class_of, is_abstract, is_interface, number_of, package_of, size_of, superclass_of}

@@ -3,11 +3,11 @@ use Rattle.std.specs.Prelude.{ℕ, ◌-◌, ◌==◌, Bool, false, ◌||◌, Lis
 use Rattle.std.specs.Prelude.{is_some, if◌then◌else◌}
 use Rattle.std.specs.List.{find, list_any}
 use Rattle.std.specs.Option.{option_and_then, option_map_or}
-use Rattle.jc_cap_class.specs.Component.{is_class}
-use Rattle.jc_cap_class.specs.Interfaces.{Implemented}
-use Rattle.jc_cap_class.specs.declared.record.RecordBody.{RecordBody}
-use Rattle.jc_cap_class.specs.declared.record.RecordBody.TheVariants.{Interface, Class}
-use Rattle.jc_cap_class.specs.declared.record.VirtualTable.{VirtualTable}
+use Rattle.jc_cap.specs.ClassComponent.{is_class}
+use Rattle.jc_cap.specs.Interfaces.{Implemented}
+use Rattle.jc_cap.specs.declared.record.RecordBody.{RecordBody}
+use Rattle.jc_cap.specs.declared.record.RecordBody.TheVariants.{Interface, Class}
+use Rattle.jc_cap.specs.declared.record.VirtualTable.{VirtualTable}
 use Rattle.jc_cap_desc.specs.Shape.{ClassShape, MethodShape, Shape}
 use Rattle.jc_names.specs.Names.{is_same_name}
 use Rattle.jc_classes.specs.Walk.{found}

@@ -2,7 +2,7 @@
 use Rattle.std.specs.Prelude.{◌≡◌, ℕ, ◌==◌, if◌then◌else◌, List, [], ◌∷◌, Option, None, slice_get, unwrap_or}
 use Rattle.std.specs.List.{position}
 use Rattle.std.specs.Option.{option_map, option_and_then, option_or}
-use Rattle.jc_cap_class.specs.Component.{is_class}
+use Rattle.jc_cap.specs.ClassComponent.{is_class}
 use Rattle.jc_cap_desc.specs.Shape.{ClassShape, MethodShape}
 use Rattle.jc_classes.specs.Methods.{method_of_class}
 use Rattle.jc_classes.specs.declared.shape.MethodPlace.{MethodPlace}

@@ -4,8 +4,8 @@ use Rattle.std.specs.Prelude.{Some, slice_get, if◌then◌else◌}
 use Rattle.std.specs.List.{filter_map, cons_option, list_any, position}
 use Rattle.std.specs.Option.{option_map, option_and_then}
 use Rattle.jc_base.specs.NumberSet.{has_number}
-use Rattle.jc_cap_class.specs.declared.record.RecordBody.{RecordBody}
-use Rattle.jc_cap_class.specs.declared.record.RecordBody.TheVariants.{Interface, Class}
+use Rattle.jc_cap.specs.declared.record.RecordBody.{RecordBody}
+use Rattle.jc_cap.specs.declared.record.RecordBody.TheVariants.{Interface, Class}
 use Rattle.jc_cap_desc.specs.Shape.{ClassShape, Shape}
 use Rattle.jc_classes.specs.Methods.{is_this}
 use Rattle.jc_classes.specs.Subtype.{IsAmong, IsSubtype, IsOrderly, is_class_at, comes_to_end}

@@ -1,6 +1,6 @@
 -- Private. What is kept of a record.
-use Rattle.jc_cap_class.specs.declared.record.RecordBody.{RecordBody}
-use Rattle.jc_cap_class.specs.declared.record.RecordBody.TheVariants as Read
+use Rattle.jc_cap.specs.declared.record.RecordBody.{RecordBody}
+use Rattle.jc_cap.specs.declared.record.RecordBody.TheVariants as Read
 use Rattle.jc_classes.specs.declared.shape.Body.{Body}
 use Rattle.jc_classes.specs.declared.shape.Body.TheVariants.{Interface, Class}
 

@@ -3,9 +3,9 @@ use Rattle.std.specs.Prelude.{◌≡◌, ℕ, suc, ◌-◌, ◌<◌, ◌≤◌, 
 use Rattle.std.specs.Prelude.{◌++◌, ◌||◌, length, nat_lt, not, slice_get, unwrap_or, if◌then◌else◌}
 use Rattle.std.specs.List.{filter_map, position}
 use Rattle.std.specs.Option.{option_map, option_and_then}
-use Rattle.jc_cap_class.specs.Interfaces.{Implemented}
-use Rattle.jc_cap_class.specs.declared.record.RecordBody.{RecordBody}
-use Rattle.jc_cap_class.specs.declared.record.VirtualTable.{VirtualTable}
+use Rattle.jc_cap.specs.Interfaces.{Implemented}
+use Rattle.jc_cap.specs.declared.record.RecordBody.{RecordBody}
+use Rattle.jc_cap.specs.declared.record.VirtualTable.{VirtualTable}
 use Rattle.jc_cap_desc.specs.Shape.{Shape}
 use Rattle.jc_classes.specs.Limits.{IsSmall}
 use Rattle.jc_classes.specs.Listed.{AreListedBy, ListNothing, Listed, indexes_in}

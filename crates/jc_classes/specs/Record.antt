@@ -1,9 +1,9 @@
 -- What a record says of its class. An interface declares no cells and no methods, and lists its superinterfaces.
 use Rattle.std.specs.Prelude.{ℕ, List, []}
-use Rattle.jc_cap_class.specs.Interfaces.{Implemented}
-use Rattle.jc_cap_class.specs.declared.interfaces.Superinterface.{Superinterface}
-use Rattle.jc_cap_class.specs.declared.record.RecordBody.{RecordBody}
-use Rattle.jc_cap_class.specs.declared.record.RecordBody.TheVariants.{Interface, Class}
+use Rattle.jc_cap.specs.Interfaces.{Implemented}
+use Rattle.jc_cap.specs.declared.interfaces.Superinterface.{Superinterface}
+use Rattle.jc_cap.specs.declared.record.RecordBody.{RecordBody}
+use Rattle.jc_cap.specs.declared.record.RecordBody.TheVariants.{Interface, Class}
 
 -- how many cells of an object a class itself declares
 abbrev pub declared_size : RecordBody → ℕ

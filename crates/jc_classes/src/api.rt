@@ -18,7 +18,7 @@ use crate::shapes::Shapes;
 use crate::table::ClassTable;
 use jc_api::{ApiClass, ApiPackage, Binding, Member, MemberKind, is_at_or_above};
 use jc_base::{ClassRef, DeclaredType, PackageInfo, ReturnType};
-use jc_cap_method::MethodHeader;
+use jc_cap::MethodHeader;
 use std::alloc::{AllocError, Global};
 
 /// The greatest number of a class.

@@ -1,7 +1,7 @@
 //! Copies of a package's shape, which lends from its image.
 
 ghost use Rattle.std.specs.Prelude.{◌≡◌, ◌<◌, ◌≤◌, ◌^◌, length, vec_capacity, IfOk};
-ghost use Rattle.jc_cap_class.specs.declared.record.RecordBody.TheVariants as Read;
+ghost use Rattle.jc_cap.specs.declared.record.RecordBody.TheVariants as Read;
 ghost use Rattle.jc_classes.specs.Limits.{most_classes_of_one};
 ghost use Rattle.jc_classes.specs.PrivateShape.{record_of};
 ghost use Rattle.jc_classes.specs.declared.shape.Body.TheVariants as Kept;
@@ -10,8 +10,7 @@ use crate::shape::{
     Body, Class, ClassBody, Export, Field, ImplementedInterface, Method, PackageShape, Table,
 };
 use jc_base::{U2s, owned_rows};
-use jc_cap_class::{ClassRecord, RecordBody, VirtualTable};
-use jc_cap_data::ExportedClass;
+use jc_cap::{ClassRecord, ExportedClass, RecordBody, VirtualTable};
 use jc_cap_desc::{ClassMethod, Package};
 use std::alloc::{AllocError, Global};
 
@@ -38,7 +37,7 @@ fn table_of(alloc: Global, table: &VirtualTable) -> Result<Table, AllocError>
 
 fn implemented_of(
     alloc: Global,
-    row: &jc_cap_class::ImplementedInterface,
+    row: &jc_cap::ImplementedInterface,
 ) -> Result<ImplementedInterface, AllocError>
     ensures { IfOk result (λ copied. copied ≡ row.now) }
 {
@@ -51,7 +50,7 @@ fn implemented_of(
 
 fn all_implemented_of(
     alloc: Global,
-    rows: &jc_cap_class::ImplementedInterfaces,
+    rows: &jc_cap::ImplementedInterfaces,
 ) -> Result<Vec<ImplementedInterface>, AllocError>
     ensures { IfOk result (λ copied. copied.items ≡ rows.now) }
 {

@@ -1,7 +1,7 @@
 //! What a table lends of its packages.
 
 ghost use Rattle.std.specs.Prelude.{◌≡◌, slice_get};
-ghost use Rattle.jc_cap_class.specs.Component.{is_class};
+ghost use Rattle.jc_cap.specs.ClassComponent.{is_class};
 ghost use Rattle.jc_classes.specs.PrivateShape.{record_of};
 ghost use Rattle.jc_classes.specs.Record.{declared_size, public_entries, package_entries, superinterfaces};
 ghost use Rattle.jc_classes.specs.Record.{interface_rows};
@@ -9,9 +9,8 @@ ghost use Rattle.jc_classes.specs.World.{superclass_ref, listed_refs};
 
 use crate::shape::{Body, Class, Export, Field, ImplementedInterface, Method, PackageShape, Table};
 use jc_base::{ClassRef, DeclaredType, PackageInfo, ReturnType};
-use jc_cap_class::Superinterface;
+use jc_cap::{MethodHeader, Superinterface};
 use jc_cap_desc::FieldPlace;
-use jc_cap_method::MethodHeader;
 
 impl PackageShape {
     /// The package's AID and version.

@@ -13,7 +13,7 @@ use crate::search::PLACES;
 use crate::shape::{Body, ImplementedInterface};
 use crate::table::ClassTable;
 use jc_base::NumberSet;
-use jc_cap_class::Superinterface;
+use jc_cap::Superinterface;
 use jc_names::{ClassName, PackagePlace};
 
 impl ClassTable {

@@ -13,7 +13,7 @@ use crate::places::place_at;
 use crate::shape::{Body, Class, ImplementedInterface, PackageShape};
 use crate::table::ClassTable;
 use jc_base::{ClassRef, NumberSet};
-use jc_cap_class::Superinterface;
+use jc_cap::Superinterface;
 use jc_names::{ClassName, PackagePlace};
 
 /// How many places there are for the classes of one package.

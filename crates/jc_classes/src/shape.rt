@@ -1,9 +1,8 @@
 //! Shapes of packages, owned.
 
 use jc_base::{ClassRef, DeclaredType, PackageInfo, ReturnType};
-use jc_cap_class::Superinterface;
+use jc_cap::{MethodHeader, Superinterface};
 use jc_cap_desc::FieldPlace;
-use jc_cap_method::MethodHeader;
 use std::marker::Model;
 
 /// What a package exports of a class.
@@ -18,7 +17,7 @@ pub struct Export {
 }
 
 impl Model for Export {
-    ghost use Rattle.jc_cap_data.specs.declared.exports.ExportedClass.{ExportedClass};
+    ghost use Rattle.jc_cap.specs.declared.exports.ExportedClass.{ExportedClass};
 
     ghost Value = { ExportedClass };
 
@@ -35,7 +34,7 @@ pub(crate) struct Table {
 }
 
 impl Model for Table {
-    ghost use Rattle.jc_cap_class.specs.declared.record.VirtualTable.{VirtualTable};
+    ghost use Rattle.jc_cap.specs.declared.record.VirtualTable.{VirtualTable};
 
     ghost Value = { VirtualTable };
 
@@ -51,7 +50,7 @@ pub struct ImplementedInterface {
 }
 
 impl Model for ImplementedInterface {
-    ghost use Rattle.jc_cap_class.specs.Interfaces.{Implemented};
+    ghost use Rattle.jc_cap.specs.Interfaces.{Implemented};
 
     ghost Value = { Implemented };
 

@@ -1,9 +1,9 @@
 -- A linked package that is loaded, on words: the words of its static fields, and its initialised arrays in the store.
 use Rattle.std.specs.Prelude.{◌≡◌, ℕ, Bool, List, [], ◌∷◌, ◌++◌, length, map, replicate}
-use Rattle.jc_cap_data.specs.declared.arrays.StaticArray.{StaticArray}
+use Rattle.jc_cap.specs.declared.arrays.StaticArray.{StaticArray}
 use Rattle.jc_link.specs.Linked.{Linked, LinkedBody, with_linked}
-use Rattle.jc_loaded.specs.Program.{IsProgramOf}
-use Rattle.jc_loaded.specs.declared.program.Program.{Program}
+use Rattle.jc_program.specs.Program.{IsProgramOf}
+use Rattle.jc_program.specs.declared.program.Program.{Program}
 use Rattle.jc_machine.specs.Machine.{Limits, Machine, Surroundings}
 use Rattle.jc_machine.specs.Reading.{HeapReads}
 use Rattle.jc_safety.specs.Loading.{MayLoad, has_room_for, kind_of_array, loaded_arrays, loaded_statics}

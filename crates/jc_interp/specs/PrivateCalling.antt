@@ -2,12 +2,12 @@
 use Rattle.std.specs.Prelude.{◌≡◌, ◌<◌, ℕ, [], Option, None, Some, length, slice_get, unwrap_or}
 use Rattle.std.specs.Option.{option_and_then, option_map}
 use Rattle.jc_frames.specs.Frames as frames
-use Rattle.jc_loaded.specs.Called.{called_at}
-use Rattle.jc_loaded.specs.MemberTokens.{token_at}
-use Rattle.jc_loaded.specs.Methods.{LoadedMethod}
-use Rattle.jc_loaded.specs.declared.called.Called.{Called}
-use Rattle.jc_loaded.specs.declared.called.Called.TheVariants as calls
-use Rattle.jc_loaded.specs.declared.program.Program.{Program}
+use Rattle.jc_program.specs.Called.{called_at}
+use Rattle.jc_program.specs.MemberTokens.{token_at}
+use Rattle.jc_program.specs.Methods.{LoadedMethod}
+use Rattle.jc_program.specs.declared.called.Called.{Called}
+use Rattle.jc_program.specs.declared.called.Called.TheVariants as calls
+use Rattle.jc_program.specs.declared.program.Program.{Program}
 use Rattle.jc_store.specs.Store.{Store}
 use Rattle.jc_interp.specs.PrivateSeen.{seen_of}
 use Rattle.jc_interp.specs.declared.seen.Seen.{Seen}

@@ -1,7 +1,7 @@
 -- Private. Initialised arrays in the store, word by word, and the room that they take.
 use Rattle.std.specs.Prelude.{ℕ, ◌+◌, ◌≤◌, ◌&&◌, Bool, nat_le, List, [], ◌∷◌, ◌++◌, length, slice_get}
 use Rattle.std.specs.Option.{option_map_or}
-use Rattle.jc_cap_data.specs.declared.arrays.StaticArray.{StaticArray}
+use Rattle.jc_cap.specs.declared.arrays.StaticArray.{StaticArray}
 use Rattle.jc_safety.specs.Loading.{words_of_array}
 use Rattle.jc_store.specs.Heap.{Heap, cells_in}
 use Rattle.jc_store.specs.Store.{Store}

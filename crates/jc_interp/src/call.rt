@@ -2,7 +2,7 @@
 //! Environment Specification, Applet lifetime).
 
 ghost use Rattle.std.specs.Prelude.{◌≡◌, []};
-ghost use Rattle.jc_loaded.specs.declared.called.Called.TheVariants.{Method, NativeMethod};
+ghost use Rattle.jc_program.specs.declared.called.Called.TheVariants.{Method, NativeMethod};
 ghost use Rattle.jc_interp.specs.Calling.{IsCall, IsMethodFor, MayCall};
 ghost use Rattle.jc_interp.specs.PrivateCalling.{EntersFirst, called_for, called_on, first_end};
 ghost use Rattle.jc_interp.specs.PrivateDone.{done};
@@ -14,9 +14,9 @@ use crate::seen::look_at;
 use crate::step::tables_are_known;
 use jc_firewall::Denial;
 use jc_link::World;
-use jc_loaded::{Called, ClassNumber, MethodNumber, Program};
 use jc_machine::{Budget, Natives, WordCall, WordOutcome};
 use jc_names::Owner;
+use jc_program::{Called, ClassNumber, MethodNumber, Program};
 use jc_safety::accepted_packages_are_type_safe;
 use jc_store::Store;
 

@@ -14,8 +14,8 @@ use crate::here::Here;
 use crate::machine::WordMachine;
 use crate::seen::{Seen, class_named, look_at, verdict};
 use jc_firewall::{Access, Verdict};
-use jc_loaded::{Called, ClassNumber, Entry, InterfaceCall};
 use jc_names::{ClassName, Owner};
+use jc_program::{Called, ClassNumber, Entry, InterfaceCall};
 
 /// The context of the runtime.
 const RUNTIME: u8 = 0;

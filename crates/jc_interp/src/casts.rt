@@ -14,8 +14,8 @@ use crate::seen::{Seen, class_named, is_below, look_at, verdict};
 use jc_api::ApiClass;
 use jc_code::{TestedType, WordKind};
 use jc_firewall::{Access, Verdict};
-use jc_loaded::Program;
 use jc_names::ClassName;
+use jc_program::Program;
 use jc_store::{ObjectType, Store};
 
 /// What a reference is tested against.

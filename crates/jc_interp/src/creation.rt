@@ -12,8 +12,8 @@ use crate::here::Here;
 use crate::machine::WordMachine;
 use crate::seen::{class_named, put};
 use jc_code::{Creation, WordKind};
-use jc_loaded::ClassNumber;
 use jc_names::{ClassName, Owner};
+use jc_program::ClassNumber;
 use jc_store::{Kind, Mark, ObjectType, Store};
 
 /// The number of Object, whose class arrays are of: it is the first of a world's classes.

@@ -17,8 +17,8 @@ use jc_code::{
 };
 use jc_firewall::{Access, Denial, denial};
 use jc_link::World;
-use jc_loaded::{Entry, Program};
 use jc_machine::{Natives, WordCall};
+use jc_program::{Entry, Program};
 use jc_store::Mark;
 
 /// An access of the instruction at which a frame stands.

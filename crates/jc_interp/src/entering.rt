@@ -7,10 +7,10 @@ ghost use Rattle.jc_interp.specs.PrivateEntering.{Enters, EntersWith, header_of,
 use crate::ends::StepEnd;
 use crate::here::Here;
 use crate::machine::WordMachine;
-use jc_cap_method::MethodHeader;
+use jc_cap::MethodHeader;
 use jc_frames::{CodePlace, FrameHeader, FrameSize};
-use jc_loaded::{LoadedMethod, MethodNumber};
 use jc_names::Owner;
+use jc_program::{LoadedMethod, MethodNumber};
 
 /// The owners of a called frame.
 #[derive(Clone, Copy)]

@@ -2,7 +2,7 @@
 
 use jc_frames::FrameHeader;
 use jc_link::World;
-use jc_loaded::Program;
+use jc_program::Program;
 
 /// What surrounds the machine in a step, and where its top frame stands.
 #[derive(Clone, Copy)]

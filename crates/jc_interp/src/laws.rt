@@ -5,12 +5,12 @@ ghost use Rattle.jc_interp.specs.Agree.{AgreeBeside};
 ghost use Rattle.jc_interp.specs.Loading.{LoadsWords, with_package};
 ghost use Rattle.jc_interp.specs.declared.machine.WordMachine.{WordMachine};
 ghost use Rattle.jc_link.specs.Linked.{Linked};
-ghost use Rattle.jc_loaded.specs.declared.program.Program.{Program};
+ghost use Rattle.jc_program.specs.declared.program.Program.{Program};
 ghost use Rattle.jc_machine.specs.Machine.{Machine, Surroundings};
 ghost use Rattle.jc_safety.specs.Loading.{around_behind, machine_behind, next_package};
 
-use jc_loaded::classes_have_numbers;
 use jc_machine::Natives;
+use jc_program::classes_have_numbers;
 
 /// Behind a load words that read the defensive machine read it still: with the package's initialised arrays in the
 /// store and the words of its static fields behind those of the others, over the tables of the world with the package.

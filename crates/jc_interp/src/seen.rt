@@ -8,8 +8,8 @@ ghost use Rattle.jc_store.specs.Store.{IsThere, with_objects};
 
 use crate::here::Here;
 use jc_firewall::{Access, Facts, Verdict, decide};
-use jc_loaded::{ClassNumber, Entry, Program};
 use jc_names::{ClassName, Owner};
+use jc_program::{ClassNumber, Entry, Program};
 use jc_store::{Kind, Mark, ObjectType, Store};
 
 /// What is seen of an object.

@@ -11,7 +11,7 @@ use crate::fetch::method_of;
 use crate::machine::WordMachine;
 use crate::seen::{is_below, look_at};
 use jc_frames::FrameHeader;
-use jc_loaded::{Caught, LoadedHandler, LoadedMethod, Program};
+use jc_program::{Caught, LoadedHandler, LoadedMethod, Program};
 
 /// Whether a handler of this kind catches objects of the class with a number.
 fn is_caught(program: &Program, class: u16, caught: Caught) -> bool

@@ -5,8 +5,8 @@ use Rattle.std.specs.List.{list_all, list_any}
 use Rattle.std.specs.Option.{option_and_then, option_map, option_map_or}
 use Rattle.std.specs.Str.{bytes_eq}
 use Rattle.jc_base.specs.declared.class_ref.ClassRef.TheVariants.{Internal, External}
-use Rattle.jc_cap_class.specs.declared.record.RecordBody.TheVariants as Record
-use Rattle.jc_cap_data.specs.declared.exports.ExportedClass.{ExportedClass}
+use Rattle.jc_cap.specs.declared.record.RecordBody.TheVariants as Record
+use Rattle.jc_cap.specs.declared.exports.ExportedClass.{ExportedClass}
 use Rattle.jc_cap_desc.specs.Shape.{ClassShape}
 use Rattle.jc_api.specs.Bound.{Bound}
 use Rattle.jc_api.specs.Class.{class_of, is_interface, number_of, numbered_classes, package_of, size_of, superclass_of}

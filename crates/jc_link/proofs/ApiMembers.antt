@@ -9,10 +9,10 @@ use Rattle.jc_base.specs.declared.declared_type.DeclaredType.{DeclaredType}
 use Rattle.jc_base.specs.declared.declared_type.DeclaredType.TheVariants.{Boolean, Byte, Short, Reference, BooleanArray, ByteArray, ShortArray, ReferenceArray}
 use Rattle.jc_base.specs.declared.declared_type.ReturnType.{ReturnType}
 use Rattle.jc_base.specs.declared.declared_type.ReturnType.TheVariants.{Void, Value}
-use Rattle.jc_cap_class.specs.Component.{is_class}
-use Rattle.jc_cap_class.specs.declared.record.ClassRecord.{ClassRecord}
-use Rattle.jc_cap_class.specs.declared.record.InterfaceRecord.{InterfaceRecord}
-use Rattle.jc_cap_class.specs.declared.record.RecordBody.TheVariants.{Interface, Class}
+use Rattle.jc_cap.specs.ClassComponent.{is_class}
+use Rattle.jc_cap.specs.declared.record.ClassRecord.{ClassRecord}
+use Rattle.jc_cap.specs.declared.record.InterfaceRecord.{InterfaceRecord}
+use Rattle.jc_cap.specs.declared.record.RecordBody.TheVariants.{Interface, Class}
 use Rattle.jc_cap_desc.specs.Shape.{ClassShape, MethodShape}
 use Rattle.jc_api.specs.Bound.{Bound}
 use Rattle.jc_api.specs.Class.{is_interface, number_of, package_of, size_of, superclass_of}

@@ -7,7 +7,7 @@ use Rattle.std.specs.List.{list_all}
 use Rattle.std.specs.Option.{option_and_then, option_map_or, option_or}
 use Rattle.jc_base.specs.declared.fault.LoadFault.{LoadFault}
 use Rattle.jc_cap_desc.specs.Shape.{Shape}
-use Rattle.jc_cap_pool.specs.declared.entry.PoolEntry.{PoolEntry}
+use Rattle.jc_cap.specs.declared.entry.PoolEntry.{PoolEntry}
 use Rattle.jc_link.specs.Named.{named_by}
 use Rattle.jc_link.specs.PrivateFaults.{IsTold}
 use Rattle.jc_link.specs.PrivateNames.{AreNamed, NamesLead}

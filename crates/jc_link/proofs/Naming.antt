@@ -8,10 +8,10 @@ use Rattle.jc_base.specs.declared.declared_type.DeclaredType.{DeclaredType}
 use Rattle.jc_base.specs.declared.declared_type.DeclaredType.TheVariants.{Boolean, Byte, Short, Reference, BooleanArray, ByteArray, ShortArray, ReferenceArray}
 use Rattle.jc_base.specs.declared.declared_type.ReturnType.{ReturnType}
 use Rattle.jc_base.specs.declared.declared_type.ReturnType.TheVariants.{Void, Value}
-use Rattle.jc_cap_class.specs.Component.{is_class}
+use Rattle.jc_cap.specs.ClassComponent.{is_class}
 use Rattle.jc_cap_desc.specs.Shape.{ClassShape, Shape}
-use Rattle.jc_cap_pool.specs.declared.entry.PoolEntry.{PoolEntry}
-use Rattle.jc_cap_pool.specs.declared.entry.PoolEntry.TheVariants.{Classref, InstanceFieldref, VirtualMethodref, SuperMethodref, StaticFieldref, StaticMethodref}
+use Rattle.jc_cap.specs.declared.entry.PoolEntry.{PoolEntry}
+use Rattle.jc_cap.specs.declared.entry.PoolEntry.TheVariants.{Classref, InstanceFieldref, VirtualMethodref, SuperMethodref, StaticFieldref, StaticMethodref}
 use Rattle.jc_api.specs.Class.{is_interface, package_of}
 use Rattle.jc_api.specs.declared.class.ApiClass.{ApiClass}
 use Rattle.jc_api.specs.declared.class.ApiClass.TheVariants.{Object, Throwable}

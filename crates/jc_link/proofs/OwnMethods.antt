@@ -5,7 +5,7 @@ use Rattle.std.proofs.Common.{arith, List, length, Option, Some, None, is_some, 
 use Rattle.std.proofs.lemmas.Bool.{eq-eqb, eqb-true, le-ltb}
 use Rattle.std.specs.List.{find}
 use Rattle.std.specs.Option.{option_and_then, option_map, option_map_or}
-use Rattle.jc_cap_class.specs.Component.{is_class}
+use Rattle.jc_cap.specs.ClassComponent.{is_class}
 use Rattle.jc_cap_desc.specs.Across.{is_install_signature}
 use Rattle.jc_cap_desc.specs.Shape.{ClassShape, HaveBodies, HaveHeaders, IsConcrete, IsOfClass, MethodShape}
 use Rattle.jc_cap_desc.specs.Shape.{HasBody, InstallMethods, Package, Shape}

@@ -5,11 +5,11 @@ use Rattle.std.specs.List.{cons_option, find, list_any, filter_map, flat_map}
 use Rattle.std.specs.Option.{IsSome, option_and_then, option_map, option_map_or}
 use Rattle.jc_base.specs.declared.class_ref.ClassRef.{ClassRef}
 use Rattle.jc_base.specs.declared.declared_type.DeclaredType.{DeclaredType}
-use Rattle.jc_cap_class.specs.Component.{is_class}
+use Rattle.jc_cap.specs.ClassComponent.{is_class}
 use Rattle.jc_cap_desc.specs.Shape.{ClassShape, FieldShape, MethodShape, Shape}
 use Rattle.jc_cap_desc.specs.declared.class_row.FieldPlace.{FieldPlace}
 use Rattle.jc_cap_desc.specs.declared.class_row.FieldPlace.TheVariants.{Static, Instance}
-use Rattle.jc_cap_method.specs.declared.header.MethodHeader.{MethodHeader}
+use Rattle.jc_cap.specs.declared.method_header.MethodHeader.{MethodHeader}
 use Rattle.jc_names.specs.Names.{method_home, method_offset}
 use Rattle.jc_classes.specs.Members.{DeclaredMethod, declared_in, method_at, name_of}
 use Rattle.jc_classes.specs.Methods.{method_of_class}

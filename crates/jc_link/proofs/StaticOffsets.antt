@@ -3,7 +3,7 @@ use Rattle.std.proofs.Common.{◌≡◌, ℕ, ◌+◌, ◌<◌, ◌++◌, Bool, 
 use Rattle.std.proofs.lemmas.List.{drop_more}
 use Rattle.std.specs.List.{filter, filter_map, flat_map, cons_option}
 use Rattle.std.specs.Option.{option_and_then}
-use Rattle.jc_cap_data.specs.Statics.{StaticImage}
+use Rattle.jc_cap.specs.Statics.{StaticImage}
 use Rattle.jc_cap_desc.specs.Shape.{ClassShape, FieldShape}
 use Rattle.jc_link.specs.PrivateStatics.{earlier, offset_if_bad, bad_offset, first_bad_among}
 use Rattle.jc_link.specs.Statics.{StaticField, static_of, is_bad_static, least}

@@ -1,7 +1,7 @@
 -- The classes of the API in the world of a card, by the API's tables (Java Card API Specification).
 use Rattle.std.specs.Prelude.{◌≡◌, ℕ, zero, suc, ◌+◌, not, List, Some, None}
 use Rattle.std.specs.Option.{option_map, option_map_or}
-use Rattle.jc_cap_class.specs.Component.{is_class}
+use Rattle.jc_cap.specs.ClassComponent.{is_class}
 use Rattle.jc_cap_desc.specs.Shape.{ClassShape, Shape}
 use Rattle.jc_api.specs.Class as tables
 use Rattle.jc_api.specs.declared.class.ApiClass.{ApiClass}

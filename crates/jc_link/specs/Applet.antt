@@ -4,9 +4,9 @@ use Rattle.std.specs.Prelude.{true, false, [], ◌∷◌, Some, None}
 use Rattle.jc_base.specs.declared.class_ref.ClassRef.TheVariants.{Internal, External}
 use Rattle.jc_base.specs.declared.declared_type.DeclaredType.TheVariants.{Byte, Short, Reference, ByteArray}
 use Rattle.jc_base.specs.declared.declared_type.ReturnType.TheVariants.{Void}
-use Rattle.jc_cap_class.specs.declared.record.RecordBody.TheVariants as Record
+use Rattle.jc_cap.specs.declared.record.RecordBody.TheVariants as Record
 use Rattle.jc_cap_desc.specs.Shape.{Package}
-use Rattle.jc_cap_pool.specs.declared.entry.PoolEntry.TheVariants.{Classref, VirtualMethodref}
+use Rattle.jc_cap.specs.declared.entry.PoolEntry.TheVariants.{Classref, VirtualMethodref}
 use Rattle.jc_api.specs.Bound.{default_framework}
 
 abbrev pub applet : Package

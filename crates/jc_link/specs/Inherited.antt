@@ -5,8 +5,8 @@ use Rattle.std.specs.Prelude.{ℕ, zero, suc, ◌==◌, Bool, false, not, ◌&&�
 use Rattle.std.specs.Prelude.{is_some, slice_get}
 use Rattle.std.specs.List.{list_any, range_with_len}
 use Rattle.std.specs.Option.{option_and_then, option_map_or}
-use Rattle.jc_cap_class.specs.Component.{is_class}
-use Rattle.jc_cap_class.specs.Interfaces.{Implemented}
+use Rattle.jc_cap.specs.ClassComponent.{is_class}
+use Rattle.jc_cap.specs.Interfaces.{Implemented}
 use Rattle.jc_cap_desc.specs.Shape.{ClassShape, MethodShape, Shape}
 use Rattle.jc_classes.specs.Members.{method_at}
 use Rattle.jc_classes.specs.Methods.{public_method_of, virtual_method_of}

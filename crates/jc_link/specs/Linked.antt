@@ -5,7 +5,7 @@ use Rattle.std.specs.Prelude.{Result, Ok, Err, is_some, slice_get}
 use Rattle.jc_base.specs.declared.fault.LoadFault.{LoadFault}
 use Rattle.jc_base.specs.declared.fault.LoadFault.TheVariants.{Memory}
 use Rattle.jc_base.specs.Parts.{Infos}
-use Rattle.jc_cap_data.specs.declared.applets.Applet.{Applet}
+use Rattle.jc_cap.specs.declared.applets.Applet.{Applet}
 use Rattle.jc_cap_desc.specs.Across.{is_install_signature}
 use Rattle.jc_cap_desc.specs.Package.{package_of}
 use Rattle.jc_cap_desc.specs.Shape.{HasBody, HaveBodies, HaveHeaders, InstallMethods, IsConcrete, MethodBody}

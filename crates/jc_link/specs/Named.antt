@@ -4,15 +4,15 @@ use Rattle.std.specs.Prelude.{ℕ, zero, suc, ◌+◌, ◌==◌, Bool, false, no
 use Rattle.std.specs.Prelude.{if◌then◌else◌}
 use Rattle.std.specs.List.{find, flat_map}
 use Rattle.std.specs.Option.{option_and_then, option_map, option_map_or}
-use Rattle.jc_cap_data.specs.declared.exports.ExportedClass.{ExportedClass}
+use Rattle.jc_cap.specs.declared.exports.ExportedClass.{ExportedClass}
 use Rattle.jc_cap_desc.specs.Shape.{ClassShape, FieldShape, MethodShape, Shape}
 use Rattle.jc_cap_desc.specs.declared.class_row.FieldPlace.{FieldPlace}
 use Rattle.jc_cap_desc.specs.declared.class_row.FieldPlace.TheVariants.{Static, Instance}
-use Rattle.jc_cap_pool.specs.declared.entry.PoolEntry.{PoolEntry}
-use Rattle.jc_cap_pool.specs.declared.entry.PoolEntry.TheVariants.{Classref, InstanceFieldref, VirtualMethodref}
-use Rattle.jc_cap_pool.specs.declared.entry.PoolEntry.TheVariants.{SuperMethodref, StaticFieldref, StaticMethodref}
-use Rattle.jc_cap_pool.specs.declared.entry.StaticRef.{StaticRef}
-use Rattle.jc_cap_pool.specs.declared.entry.StaticRef.TheVariants.{Internal, External}
+use Rattle.jc_cap.specs.declared.entry.PoolEntry.{PoolEntry}
+use Rattle.jc_cap.specs.declared.entry.PoolEntry.TheVariants.{Classref, InstanceFieldref, VirtualMethodref}
+use Rattle.jc_cap.specs.declared.entry.PoolEntry.TheVariants.{SuperMethodref, StaticFieldref, StaticMethodref}
+use Rattle.jc_cap.specs.declared.entry.StaticRef.{StaticRef}
+use Rattle.jc_cap.specs.declared.entry.StaticRef.TheVariants.{Internal, External}
 use Rattle.jc_classes.specs.Members.{method_at}
 use Rattle.jc_classes.specs.Methods.{method_name, virtual_method_of}
 use Rattle.jc_classes.specs.Record.{declared_size}

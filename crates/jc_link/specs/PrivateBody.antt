@@ -1,7 +1,7 @@
 -- Private. Initialised arrays as they are kept.
 use Rattle.std.specs.Prelude.{ℤ, List}
-use Rattle.jc_cap_data.specs.declared.arrays.StaticArray.{StaticArray}
-use Rattle.jc_cap_data.specs.declared.arrays.StaticArray.TheVariants as Of
+use Rattle.jc_cap.specs.declared.arrays.StaticArray.{StaticArray}
+use Rattle.jc_cap.specs.declared.arrays.StaticArray.TheVariants as Of
 use Rattle.jc_link.specs.declared.body.ArrayKind.{ArrayKind}
 use Rattle.jc_link.specs.declared.body.ArrayKind.TheVariants.{Boolean, Byte, Short}
 

@@ -2,7 +2,7 @@
 use Rattle.std.specs.Prelude.{◌≡◌, ℕ, true, List, map, Some, is_some}
 use Rattle.std.specs.List.{list_all}
 use Rattle.jc_cap_desc.specs.Shape.{Shape}
-use Rattle.jc_cap_pool.specs.declared.entry.PoolEntry.{PoolEntry}
+use Rattle.jc_cap.specs.declared.entry.PoolEntry.{PoolEntry}
 use Rattle.jc_link.specs.Named.{named_by}
 use Rattle.jc_link.specs.Target.{target_of}
 use Rattle.jc_link.specs.declared.named.Named.{Named}

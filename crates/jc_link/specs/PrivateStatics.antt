@@ -4,7 +4,7 @@ use Rattle.std.specs.Prelude.{Option, Some, None, if◌then◌else◌}
 use Rattle.std.specs.List.{count_by, filter, filter_map}
 use Rattle.std.specs.Option.{option_and_then, option_map_or}
 use Rattle.jc_base.specs.NumberSet.{has_number}
-use Rattle.jc_cap_data.specs.Statics.{StaticImage}
+use Rattle.jc_cap.specs.Statics.{StaticImage}
 use Rattle.jc_cap_desc.specs.Shape.{FieldShape}
 use Rattle.jc_link.specs.Statics.{StaticField, static_of, width_of, behind, is_bad_static, least}
 

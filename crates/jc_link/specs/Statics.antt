@@ -7,9 +7,9 @@ use Rattle.std.specs.Option.{option_map_or}
 use Rattle.jc_base.specs.declared.class_ref.ClassRef.{ClassRef}
 use Rattle.jc_base.specs.declared.declared_type.DeclaredType.{DeclaredType}
 use Rattle.jc_base.specs.declared.declared_type.DeclaredType.TheVariants as Declared
-use Rattle.jc_cap_data.specs.Statics.{StaticImage}
-use Rattle.jc_cap_data.specs.declared.arrays.StaticArray.{StaticArray}
-use Rattle.jc_cap_data.specs.declared.arrays.StaticArray.TheVariants as Of
+use Rattle.jc_cap.specs.Statics.{StaticImage}
+use Rattle.jc_cap.specs.declared.arrays.StaticArray.{StaticArray}
+use Rattle.jc_cap.specs.declared.arrays.StaticArray.TheVariants as Of
 use Rattle.jc_cap_desc.specs.Shape.{FieldShape, Shape}
 use Rattle.jc_cap_desc.specs.declared.class_row.FieldPlace.{FieldPlace}
 use Rattle.jc_cap_desc.specs.declared.class_row.FieldPlace.TheVariants.{Static, Instance}

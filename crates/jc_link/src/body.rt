@@ -5,10 +5,8 @@ ghost use Rattle.std.specs.Option.{option_map};
 ghost use Rattle.jc_link.specs.Kept.{kept_of};
 
 use jc_base::{S1s, S2s, owned_rows};
-use jc_cap_data::{Applet, StaticArray, StaticFields};
+use jc_cap::{Applet, Handler, PoolEntry, StaticArray, StaticFields};
 use jc_cap_desc::{MethodBody, Package};
-use jc_cap_method::Handler;
-use jc_cap_pool::PoolEntry;
 use std::alloc::{AllocError, Global};
 use std::marker::Model;
 
@@ -29,7 +27,7 @@ pub struct InitialArray {
 }
 
 impl Model for InitialArray {
-    ghost use Rattle.jc_cap_data.specs.declared.arrays.StaticArray.{StaticArray};
+    ghost use Rattle.jc_cap.specs.declared.arrays.StaticArray.{StaticArray};
     ghost use Rattle.jc_link.specs.PrivateBody.{array_of};
 
     ghost Value = { StaticArray };
@@ -53,7 +51,7 @@ pub struct Statics {
 }
 
 impl Model for Statics {
-    ghost use Rattle.jc_cap_data.specs.Statics.{StaticImage};
+    ghost use Rattle.jc_cap.specs.Statics.{StaticImage};
 
     ghost Value = { StaticImage };
 

@@ -14,8 +14,8 @@ use crate::fields::{instance_field_at, static_field_at};
 use crate::named::{Named, StaticPlace};
 use crate::types::{return_agrees, type_agrees};
 use jc_base::{ClassRef, DeclaredType, ReturnType};
+use jc_cap::{Descriptor, Parameters, PoolEntry};
 use jc_cap_desc::Package;
-use jc_cap_pool::{Descriptor, Parameters, PoolEntry};
 use jc_classes::ClassTable;
 use jc_names::{ClassName, MethodName, PackagePlace};
 

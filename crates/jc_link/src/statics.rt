@@ -11,7 +11,7 @@ ghost use Rattle.jc_link.specs.Statics.{is_misplaced, overlaps_another, is_of_ty
 ghost use Rattle.jc_link.specs.Statics.{is_bad_static, first_bad_static};
 
 use jc_base::{ClassRef, DeclaredType, NumberSet};
-use jc_cap_data::{StaticArray, StaticFields};
+use jc_cap::{StaticArray, StaticFields};
 use jc_cap_desc::FieldPlace;
 use jc_classes::{Field, PackageShape};
 use std::marker::Model;

@@ -27,9 +27,9 @@ use Rattle.jc_code.specs.declared.object.ObjectOperation.TheVariants.{ReturnVoid
 use Rattle.jc_link.specs.Applet.{applet}
 use Rattle.jc_link.specs.WellFormed.{IsWellFormed}
 use Rattle.jc_names.specs.declared.name.ClassName.TheVariants.{Api, Loaded}
-use Rattle.jc_step.specs.Effect.{effect_of}
-use Rattle.jc_step.specs.Objects.{object_row}
-use Rattle.jc_step.specs.Row.{after, applied}
+use Rattle.jc_effects.specs.Effect.{effect_of}
+use Rattle.jc_effects.specs.Objects.{object_row}
+use Rattle.jc_effects.specs.Row.{after, applied}
 use Rattle.jc_types.specs.State.{Types}
 use Rattle.jc_types.specs.declared.ty.Ty.TheVariants as types
 use Rattle.jc_machine.specs.Accepted.{HaveByteTokens, IsAccepted, api_alone}

@@ -10,8 +10,8 @@ use Rattle.jc_api.specs.NoClash.{HasNoClash}
 use Rattle.jc_base.specs.declared.class_ref.ClassRef.TheVariants.{External}
 use Rattle.jc_base.specs.declared.declared_type.DeclaredType.TheVariants.{Byte, Short, Reference, ByteArray}
 use Rattle.jc_base.specs.declared.declared_type.ReturnType.TheVariants.{Void}
-use Rattle.jc_cap_class.specs.declared.record.RecordBody.TheVariants as Record
-use Rattle.jc_cap_data.specs.declared.applets.Applet.{Applet}
+use Rattle.jc_cap.specs.declared.record.RecordBody.TheVariants as Record
+use Rattle.jc_cap.specs.declared.applets.Applet.{Applet}
 use Rattle.jc_cap_desc.specs.Shape.{ClassShape, HasBody, HasConcrete, HasInstallMethod, HaveBodies, HaveHeaders}
 use Rattle.jc_cap_desc.specs.Shape.{InstallMethods, IsConcrete, IsOfClass, MethodBody, MethodShape, StandApart}
 use Rattle.jc_classes.specs.Api.{api_world}

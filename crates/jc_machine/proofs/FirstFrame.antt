@@ -30,9 +30,9 @@ use Rattle.jc_link.specs.MemberType.{field_type_of}
 use Rattle.jc_link.specs.Named.{static_field_at}
 use Rattle.jc_names.specs.Names.{home_at}
 use Rattle.jc_names.specs.declared.name.ClassName.TheVariants.{Loaded}
-use Rattle.jc_step.specs.Effect.{effect_of}
-use Rattle.jc_step.specs.Objects.{object_row}
-use Rattle.jc_step.specs.Row.{after, applied}
+use Rattle.jc_effects.specs.Effect.{effect_of}
+use Rattle.jc_effects.specs.Objects.{object_row}
+use Rattle.jc_effects.specs.Row.{after, applied}
 use Rattle.jc_types.specs.State.{Types}
 use Rattle.jc_types.specs.declared.ty.Ty.{Ty}
 use Rattle.jc_types.specs.declared.ty.Ty.TheVariants as types

@@ -11,7 +11,7 @@ use Rattle.jc_names.specs.declared.name.ClassName.{ClassName}
 use Rattle.jc_names.specs.declared.name.MethodName.{MethodName}
 use Rattle.jc_names.specs.declared.name.MethodName.TheVariants.{Api, Loaded}
 use Rattle.jc_names.specs.declared.owner.Owner.{Owner}
-use Rattle.jc_step.specs.Objects.{class_target, interface_method_type}
+use Rattle.jc_effects.specs.Objects.{class_target, interface_method_type}
 use Rattle.jc_store.specs.Heap.{Object, object_at}
 use Rattle.jc_machine.specs.Apart.{HaveApiMembers, has_no_code, is_member}
 use Rattle.jc_machine.specs.Calls.{MethodTarget, VirtualTarget, act_call, act_interface, act_of_interface, act_special}

@@ -19,7 +19,7 @@ use Rattle.jc_code.specs.declared.object.TestedType.TheVariants as Tested
 use Rattle.jc_firewall.specs.declared.access.Access.{Access}
 use Rattle.jc_firewall.specs.declared.access.Access.TheVariants as accesses
 use Rattle.jc_names.specs.declared.name.ClassName.{ClassName}
-use Rattle.jc_step.specs.Objects.{class_target, has_objects}
+use Rattle.jc_effects.specs.Objects.{class_target, has_objects}
 use Rattle.jc_store.specs.Heap.{Heap, Object, next_number, object_at}
 use Rattle.jc_store.specs.declared.kind.Mark.{Mark}
 use Rattle.jc_store.specs.declared.kind.Mark.TheVariants.{Plain, TemporaryEntryPoint}

@@ -6,7 +6,7 @@ use Rattle.std.proofs.lemmas.Option.{none-some, same_Some}
 use Rattle.std.specs.List.{AllByRecursion, list_all}
 use Rattle.std.specs.Option.{option_map_or}
 use Rattle.jc_cap_desc.specs.Shape.{MethodBody}
-use Rattle.jc_cap_method.specs.declared.handler.Handler.{Handler}
+use Rattle.jc_cap.specs.declared.handler.Handler.{Handler}
 use Rattle.jc_code.specs.declared.instr.Operation.{Operation}
 use Rattle.jc_code.specs.declared.instr.Operation.TheVariants as operations
 use Rattle.jc_firewall.specs.Verdict.{runtime_context}

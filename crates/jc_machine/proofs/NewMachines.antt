@@ -21,7 +21,7 @@ use Rattle.jc_link.specs.Named.{size_of, static_field_at}
 use Rattle.jc_link.specs.Target.{instance_type_of}
 use Rattle.jc_names.specs.declared.name.ClassName.{ClassName}
 use Rattle.jc_names.specs.declared.name.ClassName.TheVariants.{Api, Loaded}
-use Rattle.jc_step.specs.Objects.{has_objects}
+use Rattle.jc_effects.specs.Objects.{has_objects}
 use Rattle.jc_store.specs.Heap.{Heap, object_at}
 use Rattle.jc_store.specs.declared.kind.Mark.{Mark}
 use Rattle.jc_store.specs.declared.kind.ObjectType.{ObjectType}

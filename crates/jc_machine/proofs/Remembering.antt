@@ -3,7 +3,7 @@ use Rattle.std.proofs.Common.{◌≡◌, ℕ, zero, suc, ◌+◌, Bool, true, fa
 use Rattle.std.proofs.Common.{refl}
 use Rattle.std.specs.Option.{option_map_or}
 use Rattle.jc_base.specs.Signature.{Signature}
-use Rattle.jc_cap_method.specs.declared.header.MethodHeader.{MethodHeader}
+use Rattle.jc_cap.specs.declared.method_header.MethodHeader.{MethodHeader}
 use Rattle.jc_classes.specs.Members.{DeclaredMethod}
 use Rattle.jc_machine.specs.Calls.{frame_of, has_room, native_may_begin, native_type}
 use Rattle.jc_machine.specs.Guarded.{machine_of}

@@ -1,10 +1,10 @@
 -- The worlds whose packages a machine runs: each loaded package was linked, and its code was checked.
 use Rattle.std.specs.Prelude.{◌≡◌, ℕ, suc, ◌<◌, List, [], slice_get, take, false, Some, IsSome}
 use Rattle.jc_api.specs.Bound.{Bound}
-use Rattle.jc_cap_method.specs.declared.header.MethodHeader.{MethodHeader}
-use Rattle.jc_cap_pool.specs.declared.entry.MemberRef.{MemberRef}
-use Rattle.jc_cap_pool.specs.declared.entry.PoolEntry.{PoolEntry}
-use Rattle.jc_cap_pool.specs.declared.entry.PoolEntry.TheVariants.{VirtualMethodref}
+use Rattle.jc_cap.specs.declared.method_header.MethodHeader.{MethodHeader}
+use Rattle.jc_cap.specs.declared.entry.MemberRef.{MemberRef}
+use Rattle.jc_cap.specs.declared.entry.PoolEntry.{PoolEntry}
+use Rattle.jc_cap.specs.declared.entry.PoolEntry.TheVariants.{VirtualMethodref}
 use Rattle.jc_check.specs.Checked.{IsPackageCarried, IsPackageTyped}
 use Rattle.jc_classes.specs.Api.{api_world}
 use Rattle.jc_classes.specs.Limits.{IsSmall}

@@ -9,16 +9,16 @@ use Rattle.jc_base.specs.declared.declared_type.DeclaredType.{DeclaredType}
 use Rattle.jc_base.specs.declared.declared_type.DeclaredType.TheVariants.{ByteArray, Reference, Short}
 use Rattle.jc_base.specs.declared.declared_type.ReturnType.TheVariants.{Value}
 use Rattle.jc_base.specs.declared.package_info.PackageInfo.{PackageInfo}
-use Rattle.jc_cap_class.specs.Interfaces.{Implemented}
-use Rattle.jc_cap_class.specs.declared.record.RecordBody.TheVariants as Records
-use Rattle.jc_cap_data.specs.declared.exports.ExportedClass.{ExportedClass}
+use Rattle.jc_cap.specs.Interfaces.{Implemented}
+use Rattle.jc_cap.specs.declared.record.RecordBody.TheVariants as Records
+use Rattle.jc_cap.specs.declared.exports.ExportedClass.{ExportedClass}
 use Rattle.jc_cap_desc.specs.Shape.{ClassShape, FieldShape, MethodBody, MethodShape, Package}
 use Rattle.jc_cap_desc.specs.declared.class_row.FieldPlace.TheVariants.{Instance}
-use Rattle.jc_cap_method.specs.declared.handler.Handler.{Handler}
-use Rattle.jc_cap_pool.specs.declared.entry.PoolEntry.{PoolEntry}
-use Rattle.jc_cap_pool.specs.declared.entry.PoolEntry.TheVariants.{Classref, InstanceFieldref, StaticMethodref}
-use Rattle.jc_cap_pool.specs.declared.entry.PoolEntry.TheVariants.{VirtualMethodref}
-use Rattle.jc_cap_pool.specs.declared.entry.StaticRef.TheVariants as places
+use Rattle.jc_cap.specs.declared.handler.Handler.{Handler}
+use Rattle.jc_cap.specs.declared.entry.PoolEntry.{PoolEntry}
+use Rattle.jc_cap.specs.declared.entry.PoolEntry.TheVariants.{Classref, InstanceFieldref, StaticMethodref}
+use Rattle.jc_cap.specs.declared.entry.PoolEntry.TheVariants.{VirtualMethodref}
+use Rattle.jc_cap.specs.declared.entry.StaticRef.TheVariants as places
 
 -- ---- parts of packages
 

@@ -17,8 +17,8 @@ use Rattle.jc_link.specs.Linked.{LinkedBody, World}
 use Rattle.jc_link.specs.MemberType.{counted}
 use Rattle.jc_link.specs.Target.{static_type_of}
 use Rattle.jc_link.specs.declared.named.StaticPlace.{StaticPlace}
-use Rattle.jc_step.specs.Method.{result_of}
-use Rattle.jc_step.specs.Objects.{has_objects}
+use Rattle.jc_effects.specs.Method.{result_of}
+use Rattle.jc_effects.specs.Objects.{has_objects}
 use Rattle.jc_store.specs.Heap as heaps
 use Rattle.jc_store.specs.Heap.{Heap}
 use Rattle.jc_store.specs.declared.kind.ObjectType.{ObjectType}

@@ -3,7 +3,7 @@ use Rattle.std.specs.Prelude.{◌≡◌, ℕ, ◌+◌, ◌++◌, List, [], lengt
 use Rattle.std.specs.Option.{option_map_or}
 use Rattle.jc_base.specs.declared.declared_type.DeclaredType.{DeclaredType}
 use Rattle.jc_cap_desc.specs.Shape.{Shape}
-use Rattle.jc_cap_pool.specs.declared.entry.PoolEntry.{PoolEntry}
+use Rattle.jc_cap.specs.declared.entry.PoolEntry.{PoolEntry}
 use Rattle.jc_classes.specs.Subtype.{is_class_below}
 use Rattle.jc_classes.specs.Walk.{most_classes}
 use Rattle.jc_classes.specs.World.{superclass_of}

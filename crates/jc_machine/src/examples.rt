@@ -31,8 +31,8 @@ ghost use Rattle.jc_machine.specs.TypedExamples.{applet_body, applet_world, idle
 ghost use Rattle.jc_machine.specs.TypedExamples.{new_machine};
 ghost use Rattle.jc_link.specs.Linked.{IsResolved};
 
+use jc_effects::api_classes_have_objects;
 use jc_link::{an_applet_is_well_formed, built_worlds_have_the_api};
-use jc_step::api_classes_have_objects;
 
 /// An applet is installed: its object is made, and registers itself. It does nothing.
 pub fn install_runs()

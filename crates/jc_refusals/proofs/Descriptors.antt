@@ -12,23 +12,23 @@ use Rattle.jc_base.specs.declared.declared_type.ReturnType.{ReturnType}
 use Rattle.jc_base.specs.declared.declared_type.ReturnType.TheVariants.{Void, Value}
 use Rattle.jc_base.specs.declared.fault.LoadFault.{LoadFault}
 use Rattle.jc_base.specs.declared.fault.LoadFault.TheVariants.{Malformed}
-use Rattle.jc_cap_class.specs.Component as Class
-use Rattle.jc_cap_class.specs.Component.{first_record, interfaces_first, none_remote}
-use Rattle.jc_cap_class.specs.Interfaces.{next_implemented, next_superinterface}
-use Rattle.jc_cap_class.specs.Record.{next_body, next_class_record, next_interface, next_methods, next_record}
-use Rattle.jc_cap_class.specs.Record.{next_table_size}
+use Rattle.jc_cap.specs.ClassComponent as Class
+use Rattle.jc_cap.specs.ClassComponent.{first_record, interfaces_first, none_remote}
+use Rattle.jc_cap.specs.Interfaces.{next_implemented, next_superinterface}
+use Rattle.jc_cap.specs.Record.{next_body, next_class_record, next_interface, next_methods, next_record}
+use Rattle.jc_cap.specs.Record.{next_table_size}
 use Rattle.jc_cap_desc.specs.ClassRow.{acc_static, next_class_row, next_field_row, next_method_row, next_place}
 use Rattle.jc_base.specs.Numbers.{has_flag}
 use Rattle.jc_cap_desc.specs.Component as Descriptor
 use Rattle.jc_cap_desc.specs.Types.{descriptor_of, types_are_there}
-use Rattle.jc_cap_head.specs.declared.header.Format.{Format}
-use Rattle.jc_cap_head.specs.declared.header.Format.TheVariants.{TwoOne, TwoTwo}
-use Rattle.jc_cap_pool.specs.DeclaredType.{next_class, next_coded_return, next_coded_type, next_return, no_more}
-use Rattle.jc_cap_pool.specs.DeclaredType.{boolean_array_code, boolean_code, byte_array_code, byte_code, of_class}
-use Rattle.jc_cap_pool.specs.DeclaredType.{reference_array_code, reference_code, short_array_code, short_code}
-use Rattle.jc_cap_pool.specs.DeclaredType.{void_code}
-use Rattle.jc_cap_pool.specs.Descriptor.{next_descriptor, signature_in, signature_of, with_parameter}
-use Rattle.jc_cap_pool.specs.Nibbles.{next_nibble, next_nibbles}
+use Rattle.jc_cap.specs.declared.header.Format.{Format}
+use Rattle.jc_cap.specs.declared.header.Format.TheVariants.{TwoOne, TwoTwo}
+use Rattle.jc_cap.specs.DeclaredType.{next_class, next_coded_return, next_coded_type, next_return, no_more}
+use Rattle.jc_cap.specs.DeclaredType.{boolean_array_code, boolean_code, byte_array_code, byte_code, of_class}
+use Rattle.jc_cap.specs.DeclaredType.{reference_array_code, reference_code, short_array_code, short_code}
+use Rattle.jc_cap.specs.DeclaredType.{void_code}
+use Rattle.jc_cap.specs.Descriptor.{next_descriptor, signature_in, signature_of, with_parameter}
+use Rattle.jc_cap.specs.Nibbles.{next_nibble, next_nibbles}
 use Rattle.jc_refusals.proofs.Ranges.{Refuses, behind, either, gives, guarded, in_field, in_placed_rows, in_rows}
 use Rattle.jc_refusals.proofs.Ranges.{malformed, refuses}
 

@@ -11,22 +11,22 @@ use Rattle.jc_base.specs.Tag.{applet_tag, constant_pool_tag, export_tag, header_
 use Rattle.jc_base.specs.Tag.{import_tag, method_tag, static_field_tag}
 use Rattle.jc_base.specs.declared.fault.LoadFault.{LoadFault}
 use Rattle.jc_base.specs.declared.fault.LoadFault.TheVariants.{BadAid, BadMagic, FormatVersion, IntPackage, Malformed}
-use Rattle.jc_cap_data.specs.Applets.{applets_in, applets_of, next_applet}
-use Rattle.jc_cap_data.specs.Arrays.{array_of, next_static_array}
-use Rattle.jc_cap_data.specs.Exports.{exports_in, exports_of, next_exported_class}
-use Rattle.jc_cap_data.specs.Imports.{imports_in, imports_of}
-use Rattle.jc_cap_data.specs.Statics.{fits, next_static_image, static_fields_of}
-use Rattle.jc_cap_head.specs.Header.{behind_magic, format_of, header_of, magic, next_format, next_heading, next_name}
-use Rattle.jc_cap_head.specs.declared.header.Format.{Format}
-use Rattle.jc_cap_head.specs.declared.header.Format.TheVariants.{TwoOne, TwoTwo}
-use Rattle.jc_cap_method.specs.Component.{methods_of}
-use Rattle.jc_cap_method.specs.Handler.{next_handler}
-use Rattle.jc_cap_pool.specs.Entry.{as_entry, next_entry, next_external, next_internal, next_member_ref}
-use Rattle.jc_cap_pool.specs.Entry.{next_static_ref, next_tagged_entry}
-use Rattle.jc_cap_pool.specs.Pool.{pool_of}
-use Rattle.jc_cap_pool.specs.declared.entry.PoolEntry.{PoolEntry}
-use Rattle.jc_cap_pool.specs.declared.entry.PoolEntry.TheVariants.{Classref, InstanceFieldref, StaticFieldref}
-use Rattle.jc_cap_pool.specs.declared.entry.PoolEntry.TheVariants.{StaticMethodref, SuperMethodref, VirtualMethodref}
+use Rattle.jc_cap.specs.Applets.{applets_in, applets_of, next_applet}
+use Rattle.jc_cap.specs.Arrays.{array_of, next_static_array}
+use Rattle.jc_cap.specs.Exports.{exports_in, exports_of, next_exported_class}
+use Rattle.jc_cap.specs.Imports.{imports_in, imports_of}
+use Rattle.jc_cap.specs.Statics.{fits, next_static_image, static_fields_of}
+use Rattle.jc_cap.specs.Header.{behind_magic, format_of, header_of, magic, next_format, next_heading, next_name}
+use Rattle.jc_cap.specs.declared.header.Format.{Format}
+use Rattle.jc_cap.specs.declared.header.Format.TheVariants.{TwoOne, TwoTwo}
+use Rattle.jc_cap.specs.MethodComponent.{methods_of}
+use Rattle.jc_cap.specs.Handler.{next_handler}
+use Rattle.jc_cap.specs.Entry.{as_entry, next_entry, next_external, next_internal, next_member_ref}
+use Rattle.jc_cap.specs.Entry.{next_static_ref, next_tagged_entry}
+use Rattle.jc_cap.specs.Pool.{pool_of}
+use Rattle.jc_cap.specs.declared.entry.PoolEntry.{PoolEntry}
+use Rattle.jc_cap.specs.declared.entry.PoolEntry.TheVariants.{Classref, InstanceFieldref, StaticFieldref}
+use Rattle.jc_cap.specs.declared.entry.PoolEntry.TheVariants.{StaticMethodref, SuperMethodref, VirtualMethodref}
 use Rattle.jc_refusals.proofs.Ranges.{Refuses, behind, either, gives, guarded, in_field, in_rows}
 use Rattle.jc_refusals.proofs.Ranges.{in_whole, malformed, refuses}
 

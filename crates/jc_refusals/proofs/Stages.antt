@@ -15,13 +15,13 @@ use Rattle.jc_base.specs.declared.fault.LoadFault.TheVariants.{BadClass, BadStat
 use Rattle.jc_base.specs.declared.fault.LoadFault.TheVariants.{MissingComponent, MissingImport, RepeatedComponent}
 use Rattle.jc_base.specs.declared.fault.LoadFault.TheVariants.{ShortComponent, TypeMismatch, Unresolved}
 use Rattle.jc_base.specs.declared.placed_rows.Placed.{Placed}
-use Rattle.jc_cap_class.specs.Component.{classes_of}
-use Rattle.jc_cap_class.specs.declared.record.Record.{Record}
-use Rattle.jc_cap_data.specs.Applets.{applets_of}
-use Rattle.jc_cap_data.specs.Exports.{exports_of}
-use Rattle.jc_cap_data.specs.Imports.{imports_of}
-use Rattle.jc_cap_data.specs.Statics.{static_fields_of}
-use Rattle.jc_cap_data.specs.declared.applets.Applet.{Applet}
+use Rattle.jc_cap.specs.ClassComponent.{classes_of}
+use Rattle.jc_cap.specs.declared.record.Record.{Record}
+use Rattle.jc_cap.specs.Applets.{applets_of}
+use Rattle.jc_cap.specs.Exports.{exports_of}
+use Rattle.jc_cap.specs.Imports.{imports_of}
+use Rattle.jc_cap.specs.Statics.{static_fields_of}
+use Rattle.jc_cap.specs.declared.applets.Applet.{Applet}
 use Rattle.jc_cap_desc.specs.Across.{applets_install, class_methods, is_described, methods_differ, rows_match}
 use Rattle.jc_cap_desc.specs.Across.{stands_inside}
 use Rattle.jc_cap_desc.specs.Component as Descriptor
@@ -31,10 +31,10 @@ use Rattle.jc_cap_desc.specs.Package.{pool_fault, refused, unless}
 use Rattle.jc_cap_desc.specs.Shape.{Package, Shape}
 use Rattle.jc_cap_desc.specs.Types.{descriptor_of}
 use Rattle.jc_cap_desc.specs.declared.component.DescriptorInfo.{DescriptorInfo}
-use Rattle.jc_cap_head.specs.Header.{Heading, header_of}
-use Rattle.jc_cap_method.specs.Component.{Methods, methods_of}
-use Rattle.jc_cap_pool.specs.Pool.{pool_of}
-use Rattle.jc_cap_pool.specs.declared.entry.PoolEntry.{PoolEntry}
+use Rattle.jc_cap.specs.Header.{Heading, header_of}
+use Rattle.jc_cap.specs.MethodComponent.{Methods, methods_of}
+use Rattle.jc_cap.specs.Pool.{pool_of}
+use Rattle.jc_cap.specs.declared.entry.PoolEntry.{PoolEntry}
 use Rattle.jc_cert.specs.Cert.{Row}
 use Rattle.jc_check.specs.Checked.{IsFirstRefusal, method, stray}
 use Rattle.jc_link.specs.Linked.{Linked}

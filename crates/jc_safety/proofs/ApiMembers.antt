@@ -20,10 +20,10 @@ use Rattle.jc_api.specs.declared.class.ApiPackage.{ApiPackage}
 use Rattle.jc_api.specs.declared.class.ApiPackage.TheVariants.{Framework, Lang}
 use Rattle.jc_api.specs.declared.member.MemberKind.{MemberKind}
 use Rattle.jc_api.specs.declared.member.MemberKind.TheVariants.{Static, Virtual}
-use Rattle.jc_cap_class.specs.declared.record.ClassRecord.{ClassRecord}
-use Rattle.jc_cap_class.specs.declared.record.RecordBody.{RecordBody}
-use Rattle.jc_cap_class.specs.declared.record.RecordBody.TheVariants.{Class, Interface}
-use Rattle.jc_cap_class.specs.declared.record.VirtualTable.{VirtualTable}
+use Rattle.jc_cap.specs.declared.record.ClassRecord.{ClassRecord}
+use Rattle.jc_cap.specs.declared.record.RecordBody.{RecordBody}
+use Rattle.jc_cap.specs.declared.record.RecordBody.TheVariants.{Class, Interface}
+use Rattle.jc_cap.specs.declared.record.VirtualTable.{VirtualTable}
 use Rattle.jc_cap_desc.specs.Shape.{ClassShape, Shape}
 use Rattle.jc_classes.specs.Api.{api_shape, api_world, class_in_api, each_below, is_static, last_member, method_in}
 use Rattle.jc_classes.specs.Api.{number_to, public_table}

@@ -11,11 +11,11 @@ use Rattle.jc_code.specs.declared.object.Form.{Form}
 use Rattle.jc_code.specs.declared.object.Form.TheVariants as Forms
 use Rattle.jc_names.specs.declared.name.ClassName.{ClassName}
 use Rattle.jc_names.specs.declared.name.ClassName.TheVariants.{Api}
-use Rattle.jc_step.specs.Objects.{array_of, component_loaded, component_stored}
-use Rattle.jc_step.specs.Row.{Row, after, component_of}
-use Rattle.jc_step.specs.Words.{takes, word}
-use Rattle.jc_step.specs.declared.row.Demand.TheVariants.{Array, Below, Reference}
-use Rattle.jc_step.specs.declared.row.Given.TheVariants.{ComponentOf, Exactly, Nothing}
+use Rattle.jc_effects.specs.Objects.{array_of, component_loaded, component_stored}
+use Rattle.jc_effects.specs.Row.{Row, after, component_of}
+use Rattle.jc_effects.specs.Words.{takes, word}
+use Rattle.jc_effects.specs.declared.row.Demand.TheVariants.{Array, Below, Reference}
+use Rattle.jc_effects.specs.declared.row.Given.TheVariants.{ComponentOf, Exactly, Nothing}
 use Rattle.jc_store.specs.Heap as heaps
 use Rattle.jc_store.specs.Heap.{Heap, object_at}
 use Rattle.jc_store.specs.declared.kind.ObjectType.{ObjectType}

@@ -1,7 +1,7 @@
 -- What is a subtype of a class or an interface is below each class that this counts below.
 use Rattle.std.proofs.Common.{◌≡◌, Bool, true, false, cond, not, Option, Some, None, refl, sym, ◌∙◌, subst}
 use Rattle.std.specs.Option.{option_map_or}
-use Rattle.jc_cap_class.specs.Component.{is_class}
+use Rattle.jc_cap.specs.ClassComponent.{is_class}
 use Rattle.jc_api.specs.declared.class.ApiClass.TheVariants as api
 use Rattle.jc_cap_desc.specs.Shape.{ClassShape}
 use Rattle.jc_classes.specs.Subtype.{IsSubtype, is_class_at, is_class_below, is_interface_at, is_subtype}

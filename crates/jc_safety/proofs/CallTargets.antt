@@ -5,11 +5,11 @@ use Rattle.std.proofs.Common.{refl, sym, ap, ◌∙◌, subst, eqb-true}
 use Rattle.std.specs.List.{find}
 use Rattle.std.specs.Option.{option_and_then}
 use Rattle.jc_base.specs.Signature.{Signature}
-use Rattle.jc_cap_class.specs.Component.{is_class}
+use Rattle.jc_cap.specs.ClassComponent.{is_class}
 use Rattle.jc_cap_desc.specs.Shape.{ClassShape, MethodShape, Shape}
-use Rattle.jc_cap_pool.specs.declared.entry.MemberRef.{MemberRef}
-use Rattle.jc_cap_pool.specs.declared.entry.PoolEntry.{PoolEntry}
-use Rattle.jc_cap_pool.specs.declared.entry.PoolEntry.TheVariants as Entries
+use Rattle.jc_cap.specs.declared.entry.MemberRef.{MemberRef}
+use Rattle.jc_cap.specs.declared.entry.PoolEntry.{PoolEntry}
+use Rattle.jc_cap.specs.declared.entry.PoolEntry.TheVariants as Entries
 use Rattle.jc_classes.specs.Members.{DeclaredMethod, method_at}
 use Rattle.jc_classes.specs.Methods.{method_name}
 use Rattle.jc_classes.specs.Methods.{virtual_method_of}
@@ -26,7 +26,7 @@ use Rattle.jc_link.specs.declared.target.PoolTarget.TheVariants as To
 use Rattle.jc_names.specs.Names.{home_of}
 use Rattle.jc_names.specs.declared.name.ClassName.{ClassName}
 use Rattle.jc_names.specs.declared.name.MethodName.{MethodName}
-use Rattle.jc_step.specs.Objects.{interface_method_type}
+use Rattle.jc_effects.specs.Objects.{interface_method_type}
 use Rattle.jc_safety.proofs.Callees.{and_then, mapped_from}
 use Rattle.jc_safety.proofs.Ground.{found_there}
 

@@ -6,7 +6,7 @@ use Rattle.std.specs.Option.{option_and_then, option_map, option_map_or}
 use Rattle.jc_base.specs.Signature.{Signature}
 use Rattle.jc_base.specs.declared.declared_type.DeclaredType.{DeclaredType}
 use Rattle.jc_cap_desc.specs.Shape.{MethodBody, MethodShape, Shape}
-use Rattle.jc_cap_method.specs.declared.header.MethodHeader.{MethodHeader}
+use Rattle.jc_cap.specs.declared.method_header.MethodHeader.{MethodHeader}
 use Rattle.jc_check.specs.Checked.{IsMethodTyped}
 use Rattle.jc_check.specs.Method.{Method, entry_of}
 use Rattle.jc_check.specs.Package.{arguments_of, method_of}
@@ -19,7 +19,7 @@ use Rattle.jc_names.specs.declared.name.ClassName.{ClassName}
 use Rattle.jc_names.specs.declared.name.MethodName.{MethodName}
 use Rattle.jc_names.specs.declared.name.MethodName.TheVariants.{Loaded}
 use Rattle.jc_names.specs.declared.owner.Owner.{Owner}
-use Rattle.jc_step.specs.Method.{result_of}
+use Rattle.jc_effects.specs.Method.{result_of}
 use Rattle.jc_store.specs.Heap.{Heap}
 use Rattle.jc_types.specs.State.{all_below}
 use Rattle.jc_types.specs.Ty.{type_of_declared}

@@ -10,7 +10,7 @@ use Rattle.jc_base.specs.declared.declared_type.DeclaredType.{DeclaredType}
 use Rattle.jc_base.specs.declared.declared_type.ReturnType.{ReturnType}
 use Rattle.jc_base.specs.declared.declared_type.ReturnType.TheVariants.{Value, Void}
 use Rattle.jc_cap_desc.specs.Shape.{Shape}
-use Rattle.jc_cap_pool.specs.declared.entry.PoolEntry.{PoolEntry}
+use Rattle.jc_cap.specs.declared.entry.PoolEntry.{PoolEntry}
 use Rattle.jc_classes.specs.Members.{DeclaredMethod}
 use Rattle.jc_classes.specs.Methods.{interface_method_of, interface_visit, public_method_of, virtual_method_of}
 use Rattle.jc_classes.specs.Methods.{package_visible}
@@ -30,14 +30,14 @@ use Rattle.jc_names.specs.Names.{home_at}
 use Rattle.jc_names.specs.declared.name.ClassName.{ClassName}
 use Rattle.jc_names.specs.declared.name.MethodName.{MethodName}
 use Rattle.jc_names.specs.declared.owner.Owner.{Owner}
-use Rattle.jc_step.specs.Method.{returned_type}
-use Rattle.jc_step.specs.Objects.{Setting, call, class_target, interface_method_type, interface_row}
-use Rattle.jc_step.specs.Objects.{interface_target_row}
-use Rattle.jc_step.specs.Objects.{invocation_row, result_given, special_row, static_call_row, virtual_row}
-use Rattle.jc_step.specs.Row.{Row, after}
-use Rattle.jc_step.specs.Words.{takes}
-use Rattle.jc_step.specs.declared.row.Demand.{Demand}
-use Rattle.jc_step.specs.declared.row.Demand.TheVariants.{Below, Reference}
+use Rattle.jc_effects.specs.Method.{returned_type}
+use Rattle.jc_effects.specs.Objects.{Setting, call, class_target, interface_method_type, interface_row}
+use Rattle.jc_effects.specs.Objects.{interface_target_row}
+use Rattle.jc_effects.specs.Objects.{invocation_row, result_given, special_row, static_call_row, virtual_row}
+use Rattle.jc_effects.specs.Row.{Row, after}
+use Rattle.jc_effects.specs.Words.{takes}
+use Rattle.jc_effects.specs.declared.row.Demand.{Demand}
+use Rattle.jc_effects.specs.declared.row.Demand.TheVariants.{Below, Reference}
 use Rattle.jc_store.specs.Heap as heaps
 use Rattle.jc_store.specs.Heap.{Heap, object_at}
 use Rattle.jc_store.specs.declared.kind.ObjectType.{ObjectType}

@@ -14,12 +14,12 @@ use Rattle.jc_firewall.specs.declared.access.Access.TheVariants as accesses
 use Rattle.jc_link.specs.MemberType.{counted}
 use Rattle.jc_link.specs.declared.target.PoolTarget.{PoolTarget}
 use Rattle.jc_names.specs.declared.name.ClassName.{ClassName}
-use Rattle.jc_step.specs.Objects as checked
-use Rattle.jc_step.specs.Objects.{Setting, class_of_entry, class_target, reference_array, tested_type}
-use Rattle.jc_step.specs.Row.{Row}
-use Rattle.jc_step.specs.Words.{takes}
-use Rattle.jc_step.specs.declared.row.Demand.TheVariants.{Reference}
-use Rattle.jc_step.specs.declared.row.Given.TheVariants.{Exactly}
+use Rattle.jc_effects.specs.Objects as checked
+use Rattle.jc_effects.specs.Objects.{Setting, class_of_entry, class_target, reference_array, tested_type}
+use Rattle.jc_effects.specs.Row.{Row}
+use Rattle.jc_effects.specs.Words.{takes}
+use Rattle.jc_effects.specs.declared.row.Demand.TheVariants.{Reference}
+use Rattle.jc_effects.specs.declared.row.Given.TheVariants.{Exactly}
 use Rattle.jc_store.specs.Heap as heaps
 use Rattle.jc_store.specs.Heap.{object_at}
 use Rattle.jc_store.specs.declared.kind.ObjectType.{ObjectType}

@@ -10,7 +10,7 @@ use Rattle.jc_base.specs.declared.declared_type.DeclaredType.{DeclaredType}
 use Rattle.jc_base.specs.declared.declared_type.DeclaredType.TheVariants as Declared
 use Rattle.jc_base.specs.declared.declared_type.ReturnType.{ReturnType}
 use Rattle.jc_base.specs.declared.declared_type.ReturnType.TheVariants.{Value}
-use Rattle.jc_cap_class.specs.Component.{is_class}
+use Rattle.jc_cap.specs.ClassComponent.{is_class}
 use Rattle.jc_cap_desc.specs.Shape.{ClassShape, FieldShape, Shape}
 use Rattle.jc_classes.specs.Growth.{IsWithin, KeepsAllLookups, StandWithin}
 use Rattle.jc_classes.specs.Subtype.{IsAmong, IsSubtype, is_class_at, is_class_below}
@@ -27,7 +27,7 @@ use Rattle.jc_link.specs.declared.named.StaticPlace.{StaticPlace}
 use Rattle.jc_names.specs.Names.{home_of}
 use Rattle.jc_names.specs.declared.name.ClassName.{ClassName}
 use Rattle.jc_names.specs.declared.name.ClassName.TheVariants.{Api}
-use Rattle.jc_step.specs.Growth.{KeepsAllMembers}
+use Rattle.jc_effects.specs.Growth.{KeepsAllMembers}
 use Rattle.jc_store.specs.Heap as heaps
 use Rattle.jc_store.specs.Heap.{Heap}
 use Rattle.jc_store.specs.declared.kind.ObjectType.{ObjectType}

@@ -13,7 +13,7 @@ use Rattle.jc_code.specs.declared.object.ObjectOperation.TheVariants.{Invoke}
 use Rattle.jc_link.specs.Linked.{LinkedBody}
 use Rattle.jc_names.specs.declared.name.MethodName.TheVariants.{Loaded}
 use Rattle.jc_names.specs.declared.owner.Owner.{Owner}
-use Rattle.jc_step.specs.Method.{result_of}
+use Rattle.jc_effects.specs.Method.{result_of}
 use Rattle.jc_store.specs.Heap.{Heap}
 use Rattle.jc_types.specs.State.{Types}
 use Rattle.jc_types.specs.declared.ty.Ty.{Ty}

@@ -20,12 +20,12 @@ use Rattle.jc_link.specs.declared.target.PoolTarget.{PoolTarget}
 use Rattle.jc_link.specs.declared.target.PoolTarget.TheVariants as To
 use Rattle.jc_names.specs.Names.{home_at}
 use Rattle.jc_names.specs.declared.name.ClassName.{ClassName}
-use Rattle.jc_step.specs.Objects.{field_row, if_form, is_form_of, object_holder_row, operand_row}
-use Rattle.jc_step.specs.Objects.{static_holder_row, static_row, this_row}
-use Rattle.jc_step.specs.Row.{Row}
-use Rattle.jc_step.specs.Words.{takes}
-use Rattle.jc_step.specs.declared.row.Demand.TheVariants.{Below}
-use Rattle.jc_step.specs.declared.row.Given.TheVariants.{Exactly, Nothing}
+use Rattle.jc_effects.specs.Objects.{field_row, if_form, is_form_of, object_holder_row, operand_row}
+use Rattle.jc_effects.specs.Objects.{static_holder_row, static_row, this_row}
+use Rattle.jc_effects.specs.Row.{Row}
+use Rattle.jc_effects.specs.Words.{takes}
+use Rattle.jc_effects.specs.declared.row.Demand.TheVariants.{Below}
+use Rattle.jc_effects.specs.declared.row.Given.TheVariants.{Exactly, Nothing}
 use Rattle.jc_store.specs.Heap as heaps
 use Rattle.jc_store.specs.Heap.{Heap, object_at}
 use Rattle.jc_types.specs.State.{Types}

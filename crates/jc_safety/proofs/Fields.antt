@@ -13,13 +13,13 @@ use Rattle.jc_firewall.specs.declared.access.Access.TheVariants.{GetField}
 use Rattle.jc_classes.specs.Subtype.{is_class_below}
 use Rattle.jc_names.specs.declared.name.ClassName.{ClassName}
 use Rattle.jc_names.specs.declared.name.ClassName.TheVariants.{Api}
-use Rattle.jc_step.specs.Objects.{if_form, is_form_of}
-use Rattle.jc_step.specs.Row.{Row, after}
-use Rattle.jc_step.specs.declared.row.Demand.{Demand}
-use Rattle.jc_step.specs.declared.row.Given.{Given}
-use Rattle.jc_step.specs.Words.{reads, takes}
-use Rattle.jc_step.specs.declared.row.Demand.TheVariants.{Below}
-use Rattle.jc_step.specs.declared.row.Given.TheVariants.{Exactly, Nothing}
+use Rattle.jc_effects.specs.Objects.{if_form, is_form_of}
+use Rattle.jc_effects.specs.Row.{Row, after}
+use Rattle.jc_effects.specs.declared.row.Demand.{Demand}
+use Rattle.jc_effects.specs.declared.row.Given.{Given}
+use Rattle.jc_effects.specs.Words.{reads, takes}
+use Rattle.jc_effects.specs.declared.row.Demand.TheVariants.{Below}
+use Rattle.jc_effects.specs.declared.row.Given.TheVariants.{Exactly, Nothing}
 use Rattle.jc_store.specs.Heap.{Heap, object_at}
 use Rattle.jc_store.specs.declared.kind.ObjectType.{ObjectType}
 use Rattle.jc_store.specs.declared.kind.ObjectType.TheVariants.{BooleanArray, ByteArray, Instance, ReferenceArray}

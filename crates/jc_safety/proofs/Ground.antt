@@ -6,14 +6,14 @@ use Rattle.std.proofs.Common.{eqb-true}
 use Rattle.std.specs.List.{find}
 use Rattle.std.specs.Option.{option_and_then, option_map, option_map_or}
 use Rattle.jc_cap_desc.specs.Shape.{MethodBody, Shape}
-use Rattle.jc_cap_method.specs.declared.header.MethodHeader.{MethodHeader}
+use Rattle.jc_cap.specs.declared.method_header.MethodHeader.{MethodHeader}
 use Rattle.jc_api.specs.declared.class.ApiClass.{ApiClass}
 use Rattle.jc_base.specs.Signature.{Signature}
 use Rattle.jc_base.specs.declared.declared_type.DeclaredType.{DeclaredType}
 use Rattle.jc_check.specs.Checked.{IsMethodTyped}
-use Rattle.jc_cap_pool.specs.declared.entry.MemberRef.{MemberRef}
-use Rattle.jc_cap_pool.specs.declared.entry.PoolEntry.{PoolEntry}
-use Rattle.jc_cap_pool.specs.declared.entry.PoolEntry.TheVariants.{VirtualMethodref}
+use Rattle.jc_cap.specs.declared.entry.MemberRef.{MemberRef}
+use Rattle.jc_cap.specs.declared.entry.PoolEntry.{PoolEntry}
+use Rattle.jc_cap.specs.declared.entry.PoolEntry.TheVariants.{VirtualMethodref}
 use Rattle.jc_check.specs.Package.{arguments_of, max_locals_of, method_of, receiver_of}
 use Rattle.jc_classes.specs.Growth.{KeepsAllLookups, LiesWithin, StandWithin}
 use Rattle.jc_classes.specs.Members.{DeclaredMethod, method_at}
@@ -34,8 +34,8 @@ use Rattle.jc_link.specs.declared.target.PoolTarget.TheVariants.{InstanceField}
 use Rattle.jc_names.specs.Names.{home_at}
 use Rattle.jc_names.specs.declared.name.ClassName.{ClassName}
 use Rattle.jc_names.specs.declared.name.MethodName.TheVariants.{Api, Loaded}
-use Rattle.jc_step.specs.Growth.{KeepsAllMembers, KeepsAllOrders, KeepsOwnMethods}
-use Rattle.jc_step.specs.Method.{own_method, result_of}
+use Rattle.jc_effects.specs.Growth.{KeepsAllMembers, KeepsAllOrders, KeepsOwnMethods}
+use Rattle.jc_effects.specs.Method.{own_method, result_of}
 use Rattle.jc_store.specs.Heap.{Heap}
 use Rattle.jc_types.specs.Ty.{type_of_declared}
 use Rattle.jc_types.specs.declared.ty.Ty.{Ty}

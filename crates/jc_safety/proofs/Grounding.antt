@@ -20,7 +20,7 @@ use Rattle.jc_link.specs.Linked.{IsKnown, IsWorld, Linked, LinkedBody, World}
 use Rattle.jc_link.specs.Sound.{IsSound}
 use Rattle.jc_names.specs.declared.name.ClassName.{ClassName}
 use Rattle.jc_names.specs.declared.name.ClassName.TheVariants.{Api}
-use Rattle.jc_step.specs.Growth.{KeepsAllMembers, KeepsAllOrders, KeepsOwnMethods}
+use Rattle.jc_effects.specs.Growth.{KeepsAllMembers, KeepsAllOrders, KeepsOwnMethods}
 use Rattle.jc_store.specs.Heap.{Heap}
 use Rattle.jc_machine.specs.Accepted.{HaveCode, IsAccepted, linked_as}
 use Rattle.jc_machine.specs.Running.{MayRun}

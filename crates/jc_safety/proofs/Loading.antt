@@ -11,9 +11,9 @@ use Rattle.std.specs.Option.{option_and_then, option_map, option_map_or, option_
 use Rattle.jc_base.specs.declared.declared_type.DeclaredType.{DeclaredType}
 use Rattle.jc_base.specs.declared.fault.LoadFault.TheVariants.{BadClass, BadStatic, MissingImport, TypeMismatch}
 use Rattle.jc_base.specs.declared.fault.LoadFault.TheVariants.{Unresolved}
-use Rattle.jc_cap_data.specs.Statics.{StaticImage}
-use Rattle.jc_cap_data.specs.declared.arrays.StaticArray.{StaticArray}
-use Rattle.jc_cap_data.specs.declared.arrays.StaticArray.TheVariants as Of
+use Rattle.jc_cap.specs.Statics.{StaticImage}
+use Rattle.jc_cap.specs.declared.arrays.StaticArray.{StaticArray}
+use Rattle.jc_cap.specs.declared.arrays.StaticArray.TheVariants as Of
 use Rattle.jc_cap_desc.specs.Shape.{FieldShape, Package, Shape}
 use Rattle.jc_classes.specs.Growth.{LiesWithin, grown}
 use Rattle.jc_link.specs.Found.{type_found}

@@ -4,10 +4,10 @@ use Rattle.std.proofs.Common.{true, Option, Some, nat_lt, unwrap_or, refl, ap, s
 use Rattle.std.proofs.lemmas.Bool.{lt-ltb, ltb-true}
 use Rattle.jc_cap_desc.specs.Shape.{Shape}
 use Rattle.jc_classes.specs.Subtype.{is_class_below}
-use Rattle.jc_step.specs.Row.{after, meets}
-use Rattle.jc_step.specs.Words.{reads, writes}
-use Rattle.jc_step.specs.declared.row.Demand.{Demand}
-use Rattle.jc_step.specs.declared.row.Given.TheVariants.{Exactly, Nothing, OfLocal}
+use Rattle.jc_effects.specs.Row.{after, meets}
+use Rattle.jc_effects.specs.Words.{reads, writes}
+use Rattle.jc_effects.specs.declared.row.Demand.{Demand}
+use Rattle.jc_effects.specs.declared.row.Given.TheVariants.{Exactly, Nothing, OfLocal}
 use Rattle.jc_store.specs.Heap.{Heap}
 use Rattle.jc_types.specs.State.{Types}
 use Rattle.jc_types.specs.declared.ty.Ty.{Ty}

@@ -17,11 +17,11 @@ use Rattle.jc_link.specs.MemberType.{counted}
 use Rattle.jc_link.specs.declared.target.PoolTarget.{PoolTarget}
 use Rattle.jc_names.specs.declared.name.ClassName.{ClassName}
 use Rattle.jc_names.specs.declared.name.ClassName.TheVariants.{Api}
-use Rattle.jc_step.specs.Objects as checked
-use Rattle.jc_step.specs.Objects.{Setting, class_of_entry, class_target, creation_row, has_objects, if_form, reference_array}
-use Rattle.jc_step.specs.Row.{Row}
-use Rattle.jc_step.specs.Words.{takes, word}
-use Rattle.jc_step.specs.declared.row.Given.TheVariants.{Exactly}
+use Rattle.jc_effects.specs.Objects as checked
+use Rattle.jc_effects.specs.Objects.{Setting, class_of_entry, class_target, creation_row, has_objects, if_form, reference_array}
+use Rattle.jc_effects.specs.Row.{Row}
+use Rattle.jc_effects.specs.Words.{takes, word}
+use Rattle.jc_effects.specs.declared.row.Given.TheVariants.{Exactly}
 use Rattle.jc_store.specs.Heap as heaps
 use Rattle.jc_store.specs.Heap.{Heap, next_number, object_at, with_cell, with_new, with_object}
 use Rattle.jc_store.specs.declared.kind.Mark.TheVariants.{Plain}

@@ -2,7 +2,7 @@
 use Rattle.std.proofs.Common.{◌≡◌, ℕ, List, Option, Some, None, Bool, true, false, cond, not, slice_get, refl, subst}
 use Rattle.std.specs.Option.{option_map_or}
 use Rattle.jc_api.specs.declared.class.ApiClass.TheVariants as api
-use Rattle.jc_cap_class.specs.Component.{is_class}
+use Rattle.jc_cap.specs.ClassComponent.{is_class}
 use Rattle.jc_cap_desc.specs.Shape.{ClassShape, Shape}
 use Rattle.jc_classes.specs.Growth.{IsWithin, StandWithin}
 use Rattle.jc_classes.specs.Subtype.{is_class_at, is_interface_at}
@@ -14,7 +14,7 @@ use Rattle.jc_link.specs.declared.target.PoolTarget.{PoolTarget}
 use Rattle.jc_link.specs.declared.target.PoolTarget.TheVariants as To
 use Rattle.jc_names.specs.declared.name.ClassName.{ClassName}
 use Rattle.jc_names.specs.declared.name.ClassName.TheVariants.{Api}
-use Rattle.jc_step.specs.Objects.{class_target, has_objects}
+use Rattle.jc_effects.specs.Objects.{class_target, has_objects}
 use Rattle.jc_machine.specs.Accepted.{linked_as}
 use Rattle.jc_safety.proofs.Ground.{Stands}
 

@@ -10,11 +10,11 @@ use Rattle.jc_code.specs.declared.object.ReferenceCondition.TheVariants as Condi
 use Rattle.jc_firewall.specs.declared.access.Access.TheVariants.{Throw}
 use Rattle.jc_names.specs.declared.name.ClassName.{ClassName}
 use Rattle.jc_names.specs.declared.name.ClassName.TheVariants.{Api}
-use Rattle.jc_step.specs.Objects.{references_compared}
-use Rattle.jc_step.specs.Row.{meets}
-use Rattle.jc_step.specs.Words.{reads, takes, writes}
-use Rattle.jc_step.specs.declared.row.Demand.TheVariants.{Below, Reference}
-use Rattle.jc_step.specs.declared.row.Given.TheVariants.{Exactly, Nothing, OfLocal}
+use Rattle.jc_effects.specs.Objects.{references_compared}
+use Rattle.jc_effects.specs.Row.{meets}
+use Rattle.jc_effects.specs.Words.{reads, takes, writes}
+use Rattle.jc_effects.specs.declared.row.Demand.TheVariants.{Below, Reference}
+use Rattle.jc_effects.specs.declared.row.Given.TheVariants.{Exactly, Nothing, OfLocal}
 use Rattle.jc_store.specs.Heap.{Heap, object_at}
 use Rattle.jc_store.specs.declared.kind.ObjectType.{ObjectType}
 use Rattle.jc_types.specs.State.{Types}

@@ -9,17 +9,17 @@ use Rattle.jc_base.specs.declared.declared_type.DeclaredType.TheVariants as Decl
 use Rattle.jc_base.specs.declared.declared_type.ReturnType.{ReturnType}
 use Rattle.jc_base.specs.declared.declared_type.ReturnType.TheVariants.{Value, Void}
 use Rattle.jc_cap_desc.specs.Shape.{MethodBody, Shape}
-use Rattle.jc_cap_method.specs.declared.header.MethodHeader.{MethodHeader}
+use Rattle.jc_cap.specs.declared.method_header.MethodHeader.{MethodHeader}
 use Rattle.jc_classes.specs.Members.{DeclaredMethod}
 use Rattle.jc_classes.specs.Subtype.{is_class_below}
 use Rattle.jc_code.specs.declared.instr.Instr.{Instr}
 use Rattle.jc_link.specs.MemberType.{declared_type_of}
 use Rattle.jc_names.specs.declared.name.ClassName.{ClassName}
-use Rattle.jc_step.specs.Method.{result_of, returned_type}
-use Rattle.jc_step.specs.Objects.{if_form, return_row}
-use Rattle.jc_step.specs.Words.{takes, word}
-use Rattle.jc_step.specs.declared.row.Demand.TheVariants.{Below}
-use Rattle.jc_step.specs.declared.row.Given.TheVariants.{Nothing}
+use Rattle.jc_effects.specs.Method.{result_of, returned_type}
+use Rattle.jc_effects.specs.Objects.{if_form, return_row}
+use Rattle.jc_effects.specs.Words.{takes, word}
+use Rattle.jc_effects.specs.declared.row.Demand.TheVariants.{Below}
+use Rattle.jc_effects.specs.declared.row.Given.TheVariants.{Nothing}
 use Rattle.jc_store.specs.Heap.{Heap}
 use Rattle.jc_types.specs.State.{Types, all_below}
 use Rattle.jc_types.specs.Ty.{is_word, type_of_declared}

@@ -13,10 +13,10 @@ use Rattle.jc_link.specs.Target.{pool_target_of, pool_targets}
 use Rattle.jc_link.specs.declared.target.PoolTarget.{PoolTarget}
 use Rattle.jc_names.specs.Names.{home_at}
 use Rattle.jc_names.specs.declared.name.ClassName.{ClassName}
-use Rattle.jc_step.specs.Row.{Row}
-use Rattle.jc_step.specs.Words.{takes}
-use Rattle.jc_step.specs.declared.row.Demand.{Demand}
-use Rattle.jc_step.specs.declared.row.Given.TheVariants.{Exactly, Nothing}
+use Rattle.jc_effects.specs.Row.{Row}
+use Rattle.jc_effects.specs.Words.{takes}
+use Rattle.jc_effects.specs.declared.row.Demand.{Demand}
+use Rattle.jc_effects.specs.declared.row.Given.TheVariants.{Exactly, Nothing}
 use Rattle.jc_store.specs.Heap as heaps
 use Rattle.jc_store.specs.Heap.{object_at}
 use Rattle.jc_types.specs.State.{Types}

@@ -6,7 +6,7 @@ use Rattle.std.proofs.Common.{refl, sym, ap, ◌∙◌, subst}
 use Rattle.std.specs.Option.{option_and_then, option_map_or}
 use Rattle.jc_base.specs.Signature.{Signature}
 use Rattle.jc_cap_desc.specs.Shape.{Shape}
-use Rattle.jc_cap_method.specs.declared.header.MethodHeader.{MethodHeader}
+use Rattle.jc_cap.specs.declared.method_header.MethodHeader.{MethodHeader}
 use Rattle.jc_check.specs.Package.{arguments_of}
 use Rattle.jc_classes.specs.Members.{DeclaredMethod, method_at}
 use Rattle.jc_classes.specs.Methods.{virtual_method_of}
@@ -17,7 +17,7 @@ use Rattle.jc_names.specs.declared.name.ClassName.{ClassName}
 use Rattle.jc_names.specs.declared.name.ClassName.TheVariants as classes
 use Rattle.jc_names.specs.declared.name.MethodName.{MethodName}
 use Rattle.jc_names.specs.declared.name.MethodName.TheVariants.{Api, Loaded}
-use Rattle.jc_step.specs.Method.{returned_type}
+use Rattle.jc_effects.specs.Method.{returned_type}
 use Rattle.jc_store.specs.Heap.{Object}
 use Rattle.jc_types.specs.declared.ty.Ty.{Ty}
 use Rattle.jc_machine.specs.Calls.{VirtualMember, has_room, native_may_begin, native_type, takes}

@@ -6,7 +6,7 @@ use Rattle.std.proofs.lemmas.Bool.{ltb-false}
 use Rattle.std.specs.Option.{option_and_then, option_map}
 use Rattle.jc_base.specs.declared.declared_type.DeclaredType.{DeclaredType}
 use Rattle.jc_cap_desc.specs.Shape.{Shape}
-use Rattle.jc_cap_pool.specs.declared.entry.PoolEntry.{PoolEntry}
+use Rattle.jc_cap.specs.declared.entry.PoolEntry.{PoolEntry}
 use Rattle.jc_classes.specs.Members.{DeclaredMethod, method_at}
 use Rattle.jc_link.specs.MemberType.{declared_type_of, method_type_of}
 use Rattle.jc_link.specs.Named.{named_by}

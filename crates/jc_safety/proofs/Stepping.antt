@@ -14,11 +14,11 @@ use Rattle.jc_code.specs.declared.object.Form.TheVariants as Forms
 use Rattle.jc_code.specs.declared.object.Invocation.{Invocation}
 use Rattle.jc_code.specs.declared.object.ObjectOperation.{ObjectOperation}
 use Rattle.jc_code.specs.declared.object.ObjectOperation.TheVariants as objects
-use Rattle.jc_step.specs.Effect.{effect_of}
-use Rattle.jc_step.specs.Objects.{Setting, invocation_row, object_row}
-use Rattle.jc_step.specs.Row.{applied}
-use Rattle.jc_step.specs.Words.{word_effect}
-use Rattle.jc_step.specs.Method.{result_of}
+use Rattle.jc_effects.specs.Effect.{effect_of}
+use Rattle.jc_effects.specs.Objects.{Setting, invocation_row, object_row}
+use Rattle.jc_effects.specs.Row.{applied}
+use Rattle.jc_effects.specs.Words.{word_effect}
+use Rattle.jc_effects.specs.Method.{result_of}
 use Rattle.jc_types.specs.State.{Types}
 use Rattle.jc_types.specs.declared.ty.Ty.{Ty}
 use Rattle.jc_names.specs.declared.name.ClassName.{ClassName}

@@ -7,11 +7,11 @@ use Rattle.jc_cap_desc.specs.Shape.{Shape}
 use Rattle.jc_classes.specs.Subtype.{IsOrder, is_class_below}
 use Rattle.jc_code.specs.declared.object.Form.TheVariants as Forms
 use Rattle.jc_names.specs.declared.name.ClassName.{ClassName}
-use Rattle.jc_step.specs.Row.{Row, after, all_meet, applied, count_of, has_local, is_met, local_meets, local_of, meets, taken_by}
-use Rattle.jc_step.specs.Words.{takes}
-use Rattle.jc_step.specs.declared.row.Demand.{Demand}
-use Rattle.jc_step.specs.declared.row.Demand.TheVariants.{Array, Below, Bytes, Reference}
-use Rattle.jc_step.specs.declared.row.Given.TheVariants.{Exactly, Nothing}
+use Rattle.jc_effects.specs.Row.{Row, after, all_meet, applied, count_of, has_local, is_met, local_meets, local_of, meets, taken_by}
+use Rattle.jc_effects.specs.Words.{takes}
+use Rattle.jc_effects.specs.declared.row.Demand.{Demand}
+use Rattle.jc_effects.specs.declared.row.Demand.TheVariants.{Array, Below, Bytes, Reference}
+use Rattle.jc_effects.specs.declared.row.Given.TheVariants.{Exactly, Nothing}
 use Rattle.jc_store.specs.Heap.{Heap}
 use Rattle.jc_store.specs.declared.kind.ObjectType.{ObjectType}
 use Rattle.jc_store.specs.declared.kind.ObjectType.TheVariants.{BooleanArray, ByteArray, Instance, ReferenceArray, ShortArray}

@@ -18,10 +18,10 @@ use Rattle.jc_code.specs.declared.instr.WordOperation.{WordOperation}
 use Rattle.jc_code.specs.declared.tables.Case.{Case}
 use Rattle.jc_code.specs.declared.instr.WordOperation.TheVariants as ops
 use Rattle.jc_names.specs.declared.name.ClassName.{ClassName}
-use Rattle.jc_step.specs.Words.{reads, takes, word, word_effect, writes}
-use Rattle.jc_step.specs.declared.row.Demand.{Demand}
-use Rattle.jc_step.specs.declared.row.Given.{Given}
-use Rattle.jc_step.specs.declared.row.Given.TheVariants.{Exactly, Nothing}
+use Rattle.jc_effects.specs.Words.{reads, takes, word, word_effect, writes}
+use Rattle.jc_effects.specs.declared.row.Demand.{Demand}
+use Rattle.jc_effects.specs.declared.row.Given.{Given}
+use Rattle.jc_effects.specs.declared.row.Given.TheVariants.{Exactly, Nothing}
 use Rattle.jc_store.specs.Heap.{Heap}
 use Rattle.jc_types.specs.Changes.{drop_types, duplicate_types, swap_types, with_operands}
 use Rattle.jc_types.specs.State.{Types}

@@ -7,10 +7,10 @@ use Rattle.std.specs.Option.{option_map_or}
 use Rattle.jc_base.specs.declared.class_ref.ClassRef.{ClassRef}
 use Rattle.jc_base.specs.declared.declared_type.DeclaredType.{DeclaredType}
 use Rattle.jc_base.specs.declared.declared_type.DeclaredType.TheVariants as Declared
-use Rattle.jc_cap_data.specs.Statics.{StaticImage}
-use Rattle.jc_cap_data.specs.declared.applets.Applet.{Applet}
-use Rattle.jc_cap_data.specs.declared.arrays.StaticArray.{StaticArray}
-use Rattle.jc_cap_data.specs.declared.arrays.StaticArray.TheVariants as Of
+use Rattle.jc_cap.specs.Statics.{StaticImage}
+use Rattle.jc_cap.specs.declared.applets.Applet.{Applet}
+use Rattle.jc_cap.specs.declared.arrays.StaticArray.{StaticArray}
+use Rattle.jc_cap.specs.declared.arrays.StaticArray.TheVariants as Of
 use Rattle.jc_cap_desc.specs.Shape.{Shape}
 use Rattle.jc_firewall.specs.Verdict.{runtime}
 use Rattle.jc_link.specs.Linked.{IsBoundTo, Linked, LinkedBody, World, with_linked}

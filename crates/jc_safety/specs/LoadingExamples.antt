@@ -1,8 +1,8 @@
 -- A small static image, by which examples are computed of what a load brings.
 use Rattle.std.specs.Prelude.{pos, negsuc, [], ◌∷◌}
-use Rattle.jc_cap_data.specs.Statics.{StaticImage}
-use Rattle.jc_cap_data.specs.declared.arrays.StaticArray.{StaticArray}
-use Rattle.jc_cap_data.specs.declared.arrays.StaticArray.TheVariants.{Byte, Short}
+use Rattle.jc_cap.specs.Statics.{StaticImage}
+use Rattle.jc_cap.specs.declared.arrays.StaticArray.{StaticArray}
+use Rattle.jc_cap.specs.declared.arrays.StaticArray.TheVariants.{Byte, Short}
 
 -- the bytes -1 and 2; and the short -2
 abbrev pub two_bytes : StaticArray

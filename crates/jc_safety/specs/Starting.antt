@@ -6,7 +6,7 @@ use Rattle.jc_api.specs.Member.{ApiMember, member_of}
 use Rattle.jc_api.specs.declared.member.MemberKind.TheVariants.{Virtual}
 use Rattle.jc_base.specs.Signature.{Signature}
 use Rattle.jc_cap_desc.specs.Shape.{Shape}
-use Rattle.jc_cap_method.specs.declared.header.MethodHeader.{MethodHeader}
+use Rattle.jc_cap.specs.declared.method_header.MethodHeader.{MethodHeader}
 use Rattle.jc_classes.specs.Members.{DeclaredMethod, method_at}
 use Rattle.jc_classes.specs.Methods.{virtual_method_of}
 use Rattle.jc_names.specs.declared.name.ClassName.{ClassName}

@@ -25,6 +25,7 @@ mod examples;
 pub use examples::images_are_read;
 use jc_classes::{found_subtypes_are_subtypes, growing_keeps_lookups, superclass_laws};
 use jc_code::listing_laws;
+use jc_effects::growing_keeps_effects;
 use jc_link::{
     built_worlds_are_sound, built_worlds_have_the_api, built_worlds_name_classes,
     growing_keeps_linking,
@@ -33,7 +34,6 @@ use jc_machine::{
     Natives, accepted_methods_are_typed, accepted_worlds_grow, cells_follow_superclasses,
     instructions_begin_in_turn, methods_have_code, runtime_objects_stay,
 };
-use jc_step::growing_keeps_effects;
 
 /// Accepted packages are type-safe. Where each package of a world was linked and checked, and the native members keep
 /// their law, a machine that is well typed is never stuck. In each step it goes on and is well typed, or its call ends:

@@ -1,6 +1,5 @@
 use jc_base::{ClassRef, LoadFault, cut};
-use jc_cap_class::*;
-use jc_cap_head::Format;
+use jc_cap::{Format, *};
 use std::test::*;
 
 /// In the Class component interfaces at 0 and 1, and a class at 4; the other components have no bytes.

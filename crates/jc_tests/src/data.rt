@@ -1,5 +1,5 @@
 use jc_base::{Aid, PackageInfo, cut};
-use jc_cap_data::*;
+use jc_cap::*;
 use std::test::*;
 
 /// Two applets, an imported package, static fields and an exported class; the other components have no bytes.

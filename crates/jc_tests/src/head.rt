@@ -1,5 +1,5 @@
 use jc_base::{Aid, PackageInfo, cut};
-use jc_cap_head::*;
+use jc_cap::*;
 use std::test::*;
 
 /// An image of format 2.1 whose Header names the package 1.0 with the AID 0102030405; the other components have no

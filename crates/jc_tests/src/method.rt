@@ -1,5 +1,5 @@
 use jc_base::cut;
-use jc_cap_method::*;
+use jc_cap::*;
 use std::test::*;
 
 /// An image whose Method component has two handlers, the first for three bytes from 10 on with its stop bit set, a

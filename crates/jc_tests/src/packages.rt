@@ -1,6 +1,6 @@
 use jc_api::Binding;
 use jc_base::LoadFault;
-use jc_packages::*;
+use jc_offcard::*;
 use jc_source::*;
 use std::alloc::Global;
 use std::test::*;

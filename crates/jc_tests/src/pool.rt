@@ -1,5 +1,5 @@
 use jc_base::{ClassRef, Cursor, DeclaredType, ReturnType, cut};
-use jc_cap_pool::*;
+use jc_cap::*;
 use std::test::*;
 
 const OBJECT: ClassRef = ClassRef::External {

@@ -11,7 +11,7 @@ use Rattle.jc_code.specs.Listing.{ListingLaws, PlacedInstr}
 use Rattle.jc_code.specs.Targets.{targets_of, falls_of}
 use Rattle.jc_code.specs.declared.instr.Instr.{Instr}
 use Rattle.jc_code.specs.declared.instr.Operation.{Operation}
-use Rattle.jc_step.specs.Laws.{IsMonotone}
+use Rattle.jc_effects.specs.Laws.{IsMonotone}
 use Rattle.jc_link.specs.Linked.{Linked}
 use Rattle.jc_types.specs.State.{StateWithRoom, Types, height_of_types, types_below}
 use Rattle.jc_check.specs.Method.{Method, entry_of}

@@ -19,9 +19,9 @@ use crate::stop::Stop;
 use jc_base::Reason;
 use jc_check::{Handler, Method, WordFault};
 use jc_code::{Instr, Targets, decode, listing_laws};
+use jc_effects::{Setting, transfer_in};
 use jc_link::Linked;
 use jc_names::ClassName;
-use jc_step::{Setting, transfer_in};
 use jc_types::{State, Ty};
 use std::alloc::Global;
 

@@ -14,8 +14,8 @@ use crate::gathering::{Gathered, gather};
 use jc_cert::{Cert, MethodRow};
 use jc_check::types_name_classes;
 use jc_code::listing_laws;
+use jc_effects::effects_are_monotone;
 use jc_link::{Linked, MethodCode, built_worlds_are_sound};
-use jc_step::effects_are_monotone;
 use jc_types::order_laws;
 use std::alloc::Global;
 

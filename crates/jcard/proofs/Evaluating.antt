@@ -9,9 +9,9 @@ use Rattle.jc_cert.specs.Cert.{Row}
 use Rattle.jcard.specs.declared.answer.EvalAnswer.{EvalAnswer}
 use Rattle.jcard.specs.declared.answer.EvalAnswer.TheVariants.{Value, Throws, Refused, BadCertificate, StepsUsedUp}
 use Rattle.jcard.specs.declared.answer.EvalAnswer.TheVariants.{Memory}
-use Rattle.jc_alone.specs.Alone.{EndsAs, GivesWord, ThrowsArithmetic, UsesUp, alone_call}
-use Rattle.jc_alone.specs.declared.run.CodeEnd.{CodeEnd}
-use Rattle.jc_alone.specs.declared.run.CodeEnd.TheVariants as ends
+use Rattle.jc_eval.specs.Alone.{EndsAs, GivesWord, ThrowsArithmetic, UsesUp, alone_call}
+use Rattle.jc_eval.specs.declared.run.CodeEnd.{CodeEnd}
+use Rattle.jc_eval.specs.declared.run.CodeEnd.TheVariants as ends
 use Rattle.jc_machine.specs.Step.{CallEnd}
 use Rattle.jcard.specs.Eval.{SpellsCert, SpellsNone, HasFirstFault, RunEnds, RunGives, IsAnswer, tells_fault, tells_end}
 use Rattle.jcard.specs.PrivateEval.{answer_to}

@@ -6,7 +6,7 @@ use Rattle.jc_cert.specs.Cert.{Row, IsCert}
 use Rattle.jc_cert.specs.Writing.{spelling}
 use Rattle.jc_code.specs.Instructions.{word_instr_at}
 use Rattle.jc_code.specs.Listing.{PlacedInstr, IsListing}
-use Rattle.jc_alone.specs.Alone.{GivesWord, ThrowsArithmetic, UsesUp, alone_call}
+use Rattle.jc_eval.specs.Alone.{GivesWord, ThrowsArithmetic, UsesUp, alone_call}
 use Rattle.jc_check.specs.Method.{states_of}
 use Rattle.jc_check.specs.Carried.{CertCarriesCode}
 use Rattle.jc_check.specs.FirstFault.{fault_at, IsFirstFaultOf}

@@ -1,8 +1,8 @@
 -- Private. The answer to how a run ends.
 use Rattle.jcard.specs.declared.answer.EvalAnswer.{EvalAnswer}
 use Rattle.jcard.specs.declared.answer.EvalAnswer.TheVariants.{Value, Throws, StepsUsedUp}
-use Rattle.jc_alone.specs.declared.run.CodeEnd.{CodeEnd}
-use Rattle.jc_alone.specs.declared.run.CodeEnd.TheVariants as ends
+use Rattle.jc_eval.specs.declared.run.CodeEnd.{CodeEnd}
+use Rattle.jc_eval.specs.declared.run.CodeEnd.TheVariants as ends
 use Rattle.jc_words.specs.Shorts.{short}
 
 abbrev pub answer_to : CodeEnd → EvalAnswer

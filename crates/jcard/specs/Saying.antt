@@ -9,7 +9,7 @@ use Rattle.clap.specs.Words.{Text, kind_of}
 use Rattle.clap.specs.declared.error.Error.{Error}
 use Rattle.clap.specs.declared.error.kind.ErrorKind.TheVariants.{DisplayHelp, DisplayVersion}
 use Rattle.jc_base.specs.Reason.{name_of}
-use Rattle.jc_packages.specs.Answer.{verify_line_of}
+use Rattle.jc_offcard.specs.Answer.{verify_line_of}
 use Rattle.jcard.specs.Answer.{line_of}
 use Rattle.jc_run.specs.Texts.{script_fault_text}
 use Rattle.jcard.specs.Files.{Entry, Written, file_line}
@@ -36,8 +36,8 @@ use Rattle.jcard.specs.declared.files.ReadFault.{ReadFault}
 use Rattle.jcard.specs.declared.files.ReadFault.TheVariants as reading
 use Rattle.jcard.specs.declared.texts.TextFault.{TextFault}
 use Rattle.jcard.specs.declared.texts.TextFault.TheVariants.{BadCode, LongCode, BadCert, Memory}
-use Rattle.jc_packages.specs.declared.verify_answer.VerifyAnswer.{VerifyAnswer}
-use Rattle.jc_packages.specs.declared.verify_answer.VerifyAnswer.TheVariants as answers
+use Rattle.jc_offcard.specs.declared.verify_answer.VerifyAnswer.{VerifyAnswer}
+use Rattle.jc_offcard.specs.declared.verify_answer.VerifyAnswer.TheVariants as answers
 
 -- the exit status as a number
 abbrev pub status_number : Status → ℕ

@@ -3,10 +3,10 @@
 use Rattle.std.specs.Prelude.{ℕ, ◌∷◌, [], List, map}
 use Rattle.std.specs.List.{AllZip}
 use Rattle.jc_api.specs.Bound.{Bound}
-use Rattle.jc_packages.specs.Named.{AnswersNamed}
-use Rattle.jc_packages.specs.declared.verify_answer.VerifyAnswer.{VerifyAnswer}
-use Rattle.jc_packages.specs.declared.verify_answer.VerifyAnswer.TheVariants.{Certificate, NoCertificate, Refused}
-use Rattle.jc_packages.specs.declared.verify_answer.VerifyAnswer.TheVariants.{Memory}
+use Rattle.jc_offcard.specs.Named.{AnswersNamed}
+use Rattle.jc_offcard.specs.declared.verify_answer.VerifyAnswer.{VerifyAnswer}
+use Rattle.jc_offcard.specs.declared.verify_answer.VerifyAnswer.TheVariants.{Certificate, NoCertificate, Refused}
+use Rattle.jc_offcard.specs.declared.verify_answer.VerifyAnswer.TheVariants.{Memory}
 use Rattle.jcard.specs.Binding.{IsBindingFault, IsBindingFor}
 use Rattle.jcard.specs.Files.{Entry, IsFaultAt, IsUnwritten, Written}
 use Rattle.jcard.specs.Folders.{FailsFirst, IsFolderFault, IsImage}

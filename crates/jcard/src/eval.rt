@@ -5,9 +5,9 @@ ghost use Rattle.jcard.specs.Eval.{IsAnswer};
 ghost use Rattle.jcard.specs.PrivateEval.{answer_to};
 
 use crate::answer::EvalAnswer;
-use jc_alone::{CodeEnd, run_code};
 use jc_base::LoadFault;
 use jc_check::{WordFault, check_words};
+use jc_eval::{CodeEnd, run_code};
 use std::alloc::Global;
 
 fn ending_answer(end: CodeEnd) -> EvalAnswer

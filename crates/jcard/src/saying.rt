@@ -15,7 +15,7 @@ use crate::play::PlayFault;
 use crate::texts::{TextFault, answer_of};
 use clap::Error;
 use jc_check::Fault;
-use jc_packages::VerifyAnswer;
+use jc_offcard::VerifyAnswer;
 use jc_run::ScriptFault;
 use std::alloc::Global;
 use std::convert::AsStr;

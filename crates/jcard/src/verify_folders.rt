@@ -10,7 +10,7 @@ use crate::files::{FileCause, Files, ReadFault, fault_of};
 use crate::folders::{image_in, images_in};
 use crate::job::VerifyJob;
 use crate::saying::{Said, may_be_written, said_of_files, said_of_verified};
-use jc_packages::{VerifyAnswer, verify};
+use jc_offcard::{VerifyAnswer, verify};
 use std::alloc::Global;
 
 /// What is said of a package. Its certificate is written first, if it gets one. Whatever comes of it, no other file

@@ -1,7 +1,7 @@
 use Rattle.std.proofs.Common.{◌≡◌, ◌||◌, List, length, map, not}
 use Rattle.std.specs.List.{list_all}
 use Rattle.jc_base.specs.declared.placed_rows.Placed.{Placed}
-use Rattle.jc_cap_class.specs.declared.record.Record.{Record}
+use Rattle.jc_cap.specs.declared.record.Record.{Record}
 use Rattle.jc_cap_desc.specs.Across.{are_distinct, is_interface_row}
 use Rattle.jc_cap_desc.specs.PrivateInterfaceRows.{HoldsInterfaces}
 use Rattle.jc_cap_desc.proofs.across.interfaces_differ.Given as goal

@@ -1,6 +1,6 @@
 use Rattle.std.proofs.Common.{List, [], length, map}
 use Rattle.jc_base.specs.declared.placed_rows.Placed.{Placed}
-use Rattle.jc_cap_class.specs.declared.record.Record.{Record}
+use Rattle.jc_cap.specs.declared.record.Record.{Record}
 use Rattle.jc_cap_desc.specs.Across.{class_methods}
 use Rattle.jc_cap_desc.specs.PrivateInterfaceRows.{HoldsInterfaces}
 use Rattle.jc_cap_desc.proofs.FreshNumbers.{IsSoFar}

@@ -1,7 +1,7 @@
 use Rattle.std.proofs.Common.{◌≡◌, ◌||◌, ℕ, List, length}
 use Rattle.jc_base.specs.NumberSet.{has_number}
 use Rattle.jc_base.specs.declared.placed_rows.Placed.{Placed}
-use Rattle.jc_cap_class.specs.declared.record.Record.{Record}
+use Rattle.jc_cap.specs.declared.record.Record.{Record}
 use Rattle.jc_cap_desc.specs.Across.{class_methods}
 use Rattle.jc_cap_desc.specs.PrivateApplets.{installs_at}
 use Rattle.jc_cap_desc.specs.PrivateInterfaceRows.{HoldsInterfaces}

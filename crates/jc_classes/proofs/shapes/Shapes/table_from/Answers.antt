@@ -1,5 +1,5 @@
 use Rattle.std.proofs.Common.{ap, sym, subst, ◌∙◌}
-use Rattle.jc_cap_class.specs.Component.{is_class}
+use Rattle.jc_cap.specs.ClassComponent.{is_class}
 use Rattle.jc_cap_desc.specs.Shape.{ClassShape}
 use Rattle.jc_classes.proofs.Filling.{map_ok}
 use Rattle.jc_classes.proofs.Tabling.{interface_tabled, table_right}

@@ -1,6 +1,6 @@
 use Rattle.std.proofs.Common.{[], ap, ◌∙◌, subst}
 use Rattle.std.specs.List.{cons_option}
-use Rattle.jc_cap_class.specs.Interfaces.{Implemented}
+use Rattle.jc_cap.specs.Interfaces.{Implemented}
 use Rattle.jc_classes.specs.PrivateSearch.{AreMarked}
 use Rattle.jc_classes.specs.World.{class_named}
 use Rattle.jc_classes.proofs.Marking.{one_more}

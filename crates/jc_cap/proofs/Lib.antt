@@ -1,0 +1,5 @@
+mod Few
+mod HeaderLemmas
+mod Halves
+mod Signatures
+mod Spelling

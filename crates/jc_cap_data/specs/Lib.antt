@@ -1,5 +1,0 @@
-pub mod Imports
-pub mod Applets
-pub mod Exports
-pub mod Arrays
-pub mod Statics

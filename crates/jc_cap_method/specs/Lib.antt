@@ -1,4 +1,0 @@
-pub mod Handler
-pub mod PrivateHandler
-pub mod Header
-pub mod Component

@@ -1,6 +1,0 @@
-use Rattle.std.proofs.Common.{arith}
-use Rattle.jc_cap_pool.proofs.Signatures.{few_nibbles}
-use Rattle.jc_cap_pool.proofs.descriptor.next_descriptor.Goals as goal
-
-pub signature-requires : goal.signature-requires
-signature-requires c = few_nibbles c.in_ok-count.count _ _ (omega arith) c.in_ok-nibbles.ensures

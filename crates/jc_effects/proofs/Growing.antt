@@ -1,0 +1,378 @@
+-- Packages behind the others change nothing of what instructions do in methods of those before them.
+use Rattle.std.proofs.Common.{◌≡◌, ℕ, ◌+◌, ◌-◌, ◌==◌, ◌&&◌, not, List, [], ◌∷◌, Bool, true, false, cond, refl, ap, ◌∙◌, arith, length, take, Option, Some, None, Result, Ok, Err, nat_lt, slice_get}
+use Rattle.std.proofs.Math.Path.{fun_ext}
+use Rattle.std.specs.List.{find, list_all}
+use Rattle.std.specs.Option.{option_and_then, option_map, option_map_or}
+use Rattle.jc_base.specs.Signature.{Signature}
+use Rattle.jc_base.specs.declared.class_ref.ClassRef.{ClassRef}
+use Rattle.jc_base.specs.declared.reason.Reason.{Reason}
+use Rattle.jc_base.specs.declared.reason.Reason.TheVariants.{BadLocal, StackUnder, WrongType, StackOver}
+use Rattle.jc_cap.specs.ClassComponent.{is_class}
+use Rattle.jc_cap_desc.specs.Shape.{ClassShape, MethodShape, Shape}
+use Rattle.jc_api.specs.Class.{is_abstract, is_interface}
+use Rattle.jc_api.specs.declared.class.ApiClass.{ApiClass}
+use Rattle.jc_api.specs.declared.class.ApiClass.TheVariants.{Object}
+use Rattle.jc_code.specs.declared.instr.Operation.{Operation}
+use Rattle.jc_code.specs.declared.instr.Operation.TheVariants as Operations
+use Rattle.jc_code.specs.declared.instr.WordOperation.{WordOperation}
+use Rattle.jc_code.specs.declared.instr.WordOperation.TheVariants as Words
+use Rattle.jc_code.specs.declared.object.Creation.{Creation}
+use Rattle.jc_code.specs.declared.object.Creation.TheVariants as Creations
+use Rattle.jc_code.specs.declared.object.Invocation.{Invocation}
+use Rattle.jc_code.specs.declared.object.Invocation.TheVariants.{Virtual, Special, Static, Interface}
+use Rattle.jc_code.specs.declared.object.ObjectOperation.{ObjectOperation}
+use Rattle.jc_code.specs.declared.object.ObjectOperation.TheVariants.{PushNull, Load, Store, LoadComponent, StoreComponent, ArrayLength, Branch, Field, Invoke, Create, CheckCast, InstanceOf, Throw, ReturnReference, ReturnVoid}
+use Rattle.jc_code.specs.declared.object.TestedType.{TestedType}
+use Rattle.jc_code.specs.declared.object.TestedType.TheVariants as Tested
+use Rattle.jc_classes.specs.Growth.{IsWithin, KeepsAllLookups, StandWithin}
+use Rattle.jc_classes.specs.Members.{DeclaredMethod}
+use Rattle.jc_classes.specs.Methods.{method_name}
+use Rattle.jc_classes.specs.Subtype.{is_class_at, is_class_below, is_interface_at}
+use Rattle.jc_names.specs.Names.{home_of}
+use Rattle.jc_classes.specs.World.{class_at}
+use Rattle.jc_names.specs.declared.name.ClassName.{ClassName}
+use Rattle.jc_names.specs.declared.name.ClassName.TheVariants.{Api}
+use Rattle.jc_link.specs.ApiClasses.{StandsThere}
+use Rattle.jc_link.specs.Growth.{HasApi, KeepsAllLinking}
+use Rattle.jc_link.specs.Linked.{Linked}
+use Rattle.jc_link.specs.MemberType.{counted, member_type_of}
+use Rattle.jc_link.specs.declared.target.PoolTarget.{PoolTarget}
+use Rattle.jc_link.specs.declared.target.PoolTarget.TheVariants as To
+use Rattle.jc_types.specs.Known.{AreKnown, is_known}
+use Rattle.jc_types.specs.State.{Types, all_below, types_below}
+use Rattle.jc_types.specs.Ty.{is_below}
+use Rattle.jc_types.specs.declared.ty.Ty.{Ty}
+use Rattle.jc_types.specs.declared.ty.Ty.TheVariants.{Top, Word, Null, Class, BooleanArray, ByteArray, ShortArray, ReferenceArray}
+use Rattle.jc_effects.proofs.Knowing.{entry_class, local_known, reverse_known, take_known}
+use Rattle.jc_effects.proofs.Order.{and_true, both}
+use Rattle.jc_effects.specs.Effect.{effect_of}
+use Rattle.jc_effects.specs.Growth.{KeepsAllMembers, KeepsAllOrders, KeepsOwnMethods, in_world}
+use Rattle.jc_effects.specs.Laws.{NamesKnown}
+use Rattle.jc_effects.specs.Method.{own_method, result_of, returned_type}
+use Rattle.jc_effects.specs.Objects.{Setting, class_of_entry, class_target, creation_row, has_objects, if_form, interface_method_type, interface_row, interface_target_row, invocation_row, object_row, tested_type}
+use Rattle.jc_effects.specs.Row.{Row, after, all_meet, applied, count_of, has_local, is_met, local_meets, local_of, meets, taken_by}
+use Rattle.jc_effects.specs.Words.{takes, word, word_effect}
+use Rattle.jc_effects.specs.declared.row.Demand.{Demand}
+use Rattle.jc_effects.specs.declared.row.Demand.TheVariants.{Below, Reference, Bytes, Array}
+use Rattle.jc_effects.specs.declared.row.Given.TheVariants.{Exactly}
+use Rattle.jc_effects.specs.declared.row.Place.{Place}
+use Rattle.jc_effects.specs.declared.row.Place.TheVariants.{Nowhere, At}
+
+-- ---- options
+
+then_same : {A B : Type 0} (f g : A → Option B) (o : Option A) → ((a : A) → o ≡ Some a → f a ≡ g a)
+    → option_and_then f o ≡ option_and_then g o
+then_same f g None h = refl
+then_same f g (Some a) h = h a refl
+
+map_same : {A B : Type 0} (f g : A → B) (o : Option A) → ((a : A) → o ≡ Some a → f a ≡ g a)
+    → option_map f o ≡ option_map g o
+map_same f g None h = refl
+map_same f g (Some a) h = ap Some (h a refl)
+
+-- ---- classes and methods of the earlier world
+
+module _ (before later : List Shape) (lookups : KeepsAllLookups before later)
+    (linking : KeepsAllLinking before later) where
+  objects_stay : (c : ClassName) → IsWithin before c → has_objects later c ≡ has_objects before c
+  objects_stay c w =
+      ap (λ (o : Option ClassShape). option_map_or (λ k. is_class k.body && not k.is_abstract) o false)
+      (lookups.classes c w)
+
+  interface_type_stays : (c : ClassName) (token : ℕ) → IsWithin before c
+      → interface_method_type later c token ≡ interface_method_type before c token
+  interface_type_stays c token w =
+      ap (type_in (member_type_of later (home_of c))) (lookups.classes c w)
+      ∙ ap (λ (types : Signature ClassRef → Option (Signature ClassName)). type_in types (class_at before c))
+      (fun_ext (λ s. linking.types (home_of c) s w))
+    where
+      type_in : (Signature ClassRef → Option (Signature ClassName)) → Option ClassShape → Option (Signature ClassName)
+      type_in types o =
+          option_and_then (λ (k : ClassShape).
+          cond (is_class k.body) None
+          (option_and_then (λ (m : MethodShape). types m.signature) (find (λ m. m.token == token) k.methods))) o
+
+  result_stays : (d : DeclaredMethod) → IsWithin before d.class → result_of later d ≡ result_of before d
+  result_stays d w =
+      ap (option_and_then (λ (s : Signature ClassName). returned_type s.result)) (linking.declared_types d w)
+
+  pub members_stay : KeepsAllMembers before later
+  members_stay = record { objects = objects_stay; interface_types = interface_type_stays; results = result_stays }
+
+pub own_methods_stay : (l : Linked) (later : List Shape) → KeepsAllLookups l.world later → KeepsAllLinking l.world later
+    → StandWithin l.world → HasApi l.world → KeepsOwnMethods l later
+own_methods_stay l later lookups linking there has = record {
+  declared = λ offset.
+      lookups.methods (method_name (length l.world - 1) offset)
+      (there.names (length l.world - 1) offset has (omega (arith, has)));
+  returned = λ offset.
+      then_same (result_of later) (result_of l.world) (own_method l offset)
+      (λ d e.
+      result_stays l.world later lookups linking d (there.declared (method_name (length l.world - 1) offset) d e));
+}
+
+-- ---- classes of the API
+
+pub api_objects : (world : List Shape) (c : ApiClass) → StandsThere world c
+    → has_objects world (Api c) ≡ not (is_interface c) && not (is_abstract c)
+api_objects world c stands =
+    ap (λ (o : Option ClassShape). option_map_or (λ k. is_class k.body && not k.is_abstract) o false) stands.there
+    ∙ ap (λ b. b && not (stands.shape).is_abstract) stands.class_or_not
+    ∙ ap (λ b. not (is_interface c) && not b) stands.abstract_or_not
+
+-- ---- orders that say the same of known classes
+
+module _ (known : ClassName → Bool) (one other : ClassName → ClassName → Bool)
+    (same : (c d : ClassName) → known c ≡ true → one c d ≡ other c d) (object : known (Api Object) ≡ true) where
+  class_same : (t : Ty) (d : ClassName) → is_known known t ≡ true
+      → is_below one t (Class d) ≡ is_below other t (Class d)
+  class_same Top d h = refl
+  class_same Word d h = refl
+  class_same Null d h = refl
+  class_same (Class c) d h = same c d h
+  class_same BooleanArray d h = same (Api Object) d object
+  class_same ByteArray d h = same (Api Object) d object
+  class_same ShortArray d h = same (Api Object) d object
+  class_same (ReferenceArray c) d h = same (Api Object) d object
+
+  array_same : (t : Ty) (d : ClassName) → is_known known t ≡ true
+      → is_below one t (ReferenceArray d) ≡ is_below other t (ReferenceArray d)
+  array_same Top d h = refl
+  array_same Word d h = refl
+  array_same Null d h = refl
+  array_same (Class c) d h = refl
+  array_same BooleanArray d h = refl
+  array_same ByteArray d h = refl
+  array_same ShortArray d h = refl
+  array_same (ReferenceArray c) d h = same c d h
+
+  below_same : (t u : Ty) → is_known known t ≡ true → is_below one t u ≡ is_below other t u
+  below_same t Top h = refl
+  below_same t Word h = refl
+  below_same t Null h = refl
+  below_same t (Class d) h = class_same t d h
+  below_same t BooleanArray h = refl
+  below_same t ByteArray h = refl
+  below_same t ShortArray h = refl
+  below_same t (ReferenceArray d) h = array_same t d h
+
+  meets_same : (demand : Demand) (t : Ty) → is_known known t ≡ true → meets one demand t ≡ meets other demand t
+  meets_same (Below wanted) t h = below_same t wanted h
+  meets_same Reference t h = refl
+  meets_same Bytes t h = refl
+  meets_same Array t h = refl
+
+  all_meet_same : (demands : List Demand) (ts : List Ty) → list_all (is_known known) ts ≡ true
+      → all_meet one demands ts ≡ all_meet other demands ts
+  all_meet_same [] [] h = refl
+  all_meet_same [] (t ∷ ts) h = refl
+  all_meet_same (d ∷ demands) [] h = refl
+  all_meet_same (d ∷ demands) (t ∷ ts) h =
+      let two = both (is_known known t) (list_all (is_known known) ts) h in
+      ap (λ b. b && all_meet one demands ts) (meets_same d t two.0)
+      ∙ ap (λ b. meets other d t && b) (all_meet_same demands ts two.1)
+
+  local_same : (place : Place) (t : Ty) → is_known known t ≡ true → local_meets one place t ≡ local_meets other place t
+  local_same Nowhere t h = refl
+  local_same (At index demand) t h = meets_same demand t h
+
+  met_same : (row : Row) (s : Types) → AreKnown known s → is_met one row s ≡ is_met other row s
+  met_same row s have =
+      let n = length row.operands in
+      let taken = reverse_known known (take n s.operands) (take_known known n s.operands have.operands) in
+      ap (λ b. row.fits && b && all_meet one row.operands (taken_by row s))
+      (local_same row.local (local_of row.local s.locals) (local_known known row.local s.locals have.locals))
+      ∙ ap (λ b. row.fits && local_meets other row.local (local_of row.local s.locals) && b)
+      (all_meet_same row.operands (taken_by row s) taken)
+
+  applied_same : (most : ℕ) (o : Option Row) (s : Types) → AreKnown known s
+      → applied one most o s ≡ applied other most o s
+  unfolding applied
+  applied_same most None s have = refl
+  applied_same most (Some row) s have = ap by_met (met_same row s have)
+    where
+      by_met : Bool → Result Types Reason
+      by_met met =
+          cond (not (has_local row.local s.locals)) (Err BadLocal)
+          (cond (nat_lt (length s.operands) (length row.operands)) (Err StackUnder)
+          (cond (not met) (Err WrongType)
+          (cond (nat_lt most (length s.operands - length row.operands + count_of row.pushed)) (Err StackOver)
+          (Ok (after row s)))))
+
+  word_same : (most : ℕ) (returned : Option Ty) (operation : WordOperation) (s : Types) → AreKnown known s
+      → word_effect one most returned operation s ≡ word_effect other most returned operation s
+  unfolding word_effect
+  word_same most returned Words.Nop s have = applied_same most _ s have
+  word_same most returned (Words.Push value) s have = applied_same most _ s have
+  word_same most returned (Words.Load local) s have = applied_same most _ s have
+  word_same most returned (Words.Store local) s have = applied_same most _ s have
+  word_same most returned (Words.Increment local by) s have = applied_same most _ s have
+  word_same most returned (Words.Shuffle shuffle) s have = refl
+  word_same most returned (Words.Binary operator) s have = applied_same most _ s have
+  word_same most returned (Words.Unary operator) s have = applied_same most _ s have
+  word_same most returned (Words.Branch when offset) s have = applied_same most _ s have
+  word_same most returned (Words.StableSwitch default low offsets) s have = applied_same most _ s have
+  word_same most returned (Words.LookupSwitch default cases) s have = applied_same most _ s have
+  word_same most returned Words.ReturnWord s have = applied_same most _ s have
+
+-- ---- an order of classes with more below others
+
+module _ (one other : ClassName → ClassName → Bool) (more : (c d : ClassName) → one c d ≡ true → other c d ≡ true) where
+  class_up : (t : Ty) (d : ClassName) → is_below one t (Class d) ≡ true → is_below other t (Class d) ≡ true
+  class_up Top d h = h
+  class_up Word d h = h
+  class_up Null d h = h
+  class_up (Class c) d h = more c d h
+  class_up BooleanArray d h = more (Api Object) d h
+  class_up ByteArray d h = more (Api Object) d h
+  class_up ShortArray d h = more (Api Object) d h
+  class_up (ReferenceArray c) d h = more (Api Object) d h
+
+  array_up : (t : Ty) (d : ClassName) → is_below one t (ReferenceArray d) ≡ true
+      → is_below other t (ReferenceArray d) ≡ true
+  array_up Top d h = h
+  array_up Word d h = h
+  array_up Null d h = h
+  array_up (Class c) d h = h
+  array_up BooleanArray d h = h
+  array_up ByteArray d h = h
+  array_up ShortArray d h = h
+  array_up (ReferenceArray c) d h = more c d h
+
+  type_up : (t u : Ty) → is_below one t u ≡ true → is_below other t u ≡ true
+  type_up t Top h = h
+  type_up t Word h = h
+  type_up t Null h = h
+  type_up t (Class d) h = class_up t d h
+  type_up t BooleanArray h = h
+  type_up t ByteArray h = h
+  type_up t ShortArray h = h
+  type_up t (ReferenceArray d) h = array_up t d h
+
+  all_up : (ts us : List Ty) → all_below one ts us ≡ true → all_below other ts us ≡ true
+  all_up [] [] h = h
+  all_up [] (u ∷ us) h = h
+  all_up (t ∷ ts) [] h = h
+  all_up (t ∷ ts) (u ∷ us) h =
+      let two = both (is_below one t u) (all_below one ts us) h in
+      and_true (is_below other t u) (all_below other ts us) (type_up t u two.0) (all_up ts us two.1)
+
+  state_up : (s t : Types) → types_below one s t ≡ true → types_below other s t ≡ true
+  state_up s t h =
+      let two = both (all_below one s.locals t.locals) (all_below one s.operands t.operands) h in
+      and_true (all_below other s.locals t.locals) (all_below other s.operands t.operands)
+      (all_up s.locals t.locals two.0) (all_up s.operands t.operands two.1)
+
+pub orders_stay : (before later : List Shape)
+    → ((c d : ClassName) → is_class_below before c d ≡ true → is_class_below later c d ≡ true)
+    → KeepsAllOrders before later
+orders_stay before later more = record {
+  types = type_up (is_class_below before) (is_class_below later) more;
+  states = state_up (is_class_below before) (is_class_below later) more;
+}
+
+-- ---- effects
+
+there_of : (test : ClassShape → Bool) (o : Option ClassShape) → option_map_or test o false ≡ true
+    → (k : ClassShape) × (o ≡ Some k)
+there_of test None e = absurd cc
+there_of test (Some k) e = (k, refl)
+
+module _ (set : Setting) (later : List Shape) (lookups : KeepsAllLookups set.world later)
+    (linking : KeepsAllLinking set.world later) (there : StandWithin set.world) (names : NamesKnown set) where
+  class_within : (c : ClassName) → is_class_at set.world c ≡ true → IsWithin set.world c
+  class_within c e = let k = there_of (λ k. is_class k.body) (class_at set.world c) e in there.classes c k.0 k.1
+
+  interface_within : (c : ClassName) → is_interface_at set.world c ≡ true → IsWithin set.world c
+  interface_within c e =
+      let k = there_of (λ k. not (is_class k.body)) (class_at set.world c) e in there.classes c k.0 k.1
+
+  counted_within : (c : ClassName) → is_class_at set.world (counted set.world c) ≡ true → IsWithin set.world c
+  counted_within c e = by_kind (is_interface_at set.world c) refl e
+    where
+      by_kind : (b : Bool) → is_interface_at set.world c ≡ b → is_class_at set.world (cond b (Api Object) c) ≡ true
+          → IsWithin set.world c
+      by_kind true f e = interface_within c f
+      by_kind false f e = class_within c e
+
+  entry_within : (index : ℕ) (c : ClassName) → class_of_entry set index ≡ Some c → IsWithin set.world c
+  entry_within index c e = counted_within c (entry_class set names index c e)
+
+  interface_target_same : (arguments token index : ℕ) (o : Option PoolTarget) → slice_get set.targets index ≡ o
+      → option_and_then (interface_target_row later arguments token) o
+      ≡ option_and_then (interface_target_row set.world arguments token) o
+  interface_target_same arguments token index None e = refl
+  interface_target_same arguments token index (Some (To.Class c)) e =
+      ap (option_and_then (interface_row arguments))
+      (interface_type_stays set.world later lookups linking c token
+      (entry_within index c (ap (option_and_then class_target) e)))
+  interface_target_same arguments token index (Some (To.InstanceField class cell declared)) e = refl
+  interface_target_same arguments token index (Some (To.StaticField place declared)) e = refl
+  interface_target_same arguments token index (Some (To.VirtualMethod class number signature)) e = refl
+  interface_target_same arguments token index (Some (To.SuperMethod class method signature)) e = refl
+  interface_target_same arguments token index (Some (To.StaticMethod class method is_static signature)) e = refl
+
+  invocation_same : (invocation : Invocation)
+      → invocation_row (in_world later set) invocation ≡ invocation_row set invocation
+  invocation_same (Virtual index) = refl
+  invocation_same (Special index) = refl
+  invocation_same (Static index) = refl
+  invocation_same (Interface arguments index token) =
+      interface_target_same arguments token index (slice_get set.targets index) refl
+
+  creation_same : (creation : Creation) → creation_row (in_world later set) creation ≡ creation_row set creation
+  creation_same (Creations.Object index) =
+      map_same (λ c. if_form (has_objects later c) (takes [] (Exactly (Class c))))
+      (λ c. if_form (has_objects set.world c) (takes [] (Exactly (Class c)))) (class_of_entry set index)
+      (λ c e.
+      ap (λ b. if_form b (takes [] (Exactly (Class c))))
+      (objects_stay set.world later lookups linking c (entry_within index c e)))
+  creation_same (Creations.WordArray kind) = refl
+  creation_same (Creations.ReferenceArray index) =
+      map_same (λ c. takes (word ∷ []) (Exactly (ReferenceArray (counted later c))))
+      (λ c. takes (word ∷ []) (Exactly (ReferenceArray (counted set.world c)))) (class_of_entry set index)
+      (λ c e. ap (λ d. takes (word ∷ []) (Exactly (ReferenceArray d))) (linking.counts c (entry_within index c e)))
+
+  tested_same : (tested : TestedType) → tested_type (in_world later set) tested ≡ tested_type set tested
+  tested_same (Tested.Class index) =
+      map_same (λ c. Class (counted later c)) (λ c. Class (counted set.world c)) (class_of_entry set index)
+      (λ c e. ap Class (linking.counts c (entry_within index c e)))
+  tested_same (Tested.WordArray kind) = refl
+  tested_same (Tested.ReferenceArray index) =
+      map_same (λ c. ReferenceArray (counted later c)) (λ c. ReferenceArray (counted set.world c))
+      (class_of_entry set index)
+      (λ c e. ap ReferenceArray (linking.counts c (entry_within index c e)))
+
+  row_same : (operation : ObjectOperation) → object_row (in_world later set) operation ≡ object_row set operation
+  unfolding object_row
+  row_same PushNull = refl
+  row_same (Load local) = refl
+  row_same (Store local) = refl
+  row_same (LoadComponent form) = refl
+  row_same (StoreComponent form) = refl
+  row_same ArrayLength = refl
+  row_same (Branch when offset) = refl
+  row_same (Field access index) = refl
+  row_same (Invoke invocation) = invocation_same invocation
+  row_same (Create creation) = creation_same creation
+  row_same (CheckCast tested) = ap (option_map (λ t. takes (Reference ∷ []) (Exactly t))) (tested_same tested)
+  row_same (InstanceOf tested) = ap (option_map (λ t. takes (Reference ∷ []) (Exactly Word))) (tested_same tested)
+  row_same Throw = refl
+  row_same ReturnReference = refl
+  row_same ReturnVoid = refl
+
+  order_same : (c d : ClassName) → is_class_at set.world c ≡ true
+      → is_class_below later c d ≡ is_class_below set.world c d
+  order_same c d e = lookups.order c d (class_within c e)
+
+  pub effect_stays : (most : ℕ) (operation : Operation) (s : Types) → AreKnown (is_class_at set.world) s
+      → effect_of (in_world later set) most operation s ≡ effect_of set most operation s
+  unfolding effect_of
+  effect_stays most (Operations.Word operation) s have =
+      word_same (is_class_at set.world) (is_class_below later) (is_class_below set.world) order_same names.world.object
+      most set.returned operation s have
+  effect_stays most (Operations.Object operation) s have =
+      ap (λ (o : Option Row). applied (is_class_below later) most o s) (row_same operation)
+      ∙ applied_same (is_class_at set.world) (is_class_below later) (is_class_below set.world) order_same
+      names.world.object
+      most (object_row set operation) s have

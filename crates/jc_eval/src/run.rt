@@ -1,0 +1,90 @@
+//! Code alone on words.
+
+ghost use Rattle.std.specs.Prelude.{◌≡◌, ◌≤◌, length, reverse, slice_index, take};
+ghost use Rattle.jc_eval.specs.Alone.{EndsAs, alone_call};
+ghost use Rattle.jc_eval.specs.PrivateRuns.{end_of, is_return};
+ghost use Rattle.jc_code.specs.Instructions.{word_instr_at};
+ghost use Rattle.jc_check.specs.Method.{word_method};
+ghost use Rattle.jc_check.specs.Rules.{word_rules};
+ghost use Rattle.jc_check.specs.Typing.{IsTyping, Typing};
+
+use crate::carried_code_is_safe;
+use jc_check::{CheckedWords, WORD_LOCALS, WORD_MAX_STACK};
+use jc_code::{Operation, WordOperation, decode_words};
+use jc_follow::words_follow;
+use jc_loop::{Place, run_words, words_are_decoded};
+use jc_machine::IdleNatives;
+
+/// How a run of code alone ends.
+#[derive(Clone, Copy, Debug, PartialEq, Eq)]
+pub enum CodeEnd {
+    /// The code returned a word.
+    Gave(u16),
+    /// The code threw the exception of a division by 0.
+    Divided,
+    /// The code hadn't ended after so many steps.
+    UsedUp,
+}
+
+fn returns(operation: &Operation<'_>) -> bool
+    ensures { result ≡ is_return operation.now }
+{
+    match operation {
+        Operation::Word(operation) => match operation {
+            WordOperation::ReturnWord => true,
+            WordOperation::Nop | WordOperation::Push(_) | WordOperation::Load(_) => false,
+            WordOperation::Store(_) | WordOperation::Increment { .. } => false,
+            WordOperation::Shuffle(_) | WordOperation::Binary(_) | WordOperation::Unary(_) => false,
+            WordOperation::Branch { .. } | WordOperation::StableSwitch { .. } => false,
+            WordOperation::LookupSwitch { .. } => false,
+        },
+        Operation::Object(_) => false,
+    }
+}
+
+/// The top operand; 0 where there is none.
+fn top_of(slots: &[u16], depth: u8) -> u16
+    requires held { depth ≤ length slots.now }
+    ensures { result ≡ slice_index (reverse (take depth slots.now)) 0 }
+{
+    if depth == 0 {
+        return 0;
+    }
+    slots[usize::from(depth) - 1]
+}
+
+/// How code ends where the loop over words has stopped with steps left: it returns, or divides by 0.
+fn end_at(code: &[u8], slots: &[u16], place: Place) -> CodeEnd
+    requires held { place.depth ≤ length slots.now }
+    ensures { result ≡ end_of (word_instr_at code.now place.pc) (slice_index (reverse (take place.depth slots.now)) 0) }
+{
+    match decode_words(code, usize::from(place.pc)) {
+        Ok(instr) => {
+            if returns(&instr.operation) {
+                return CodeEnd::Gave(top_of(slots, place.depth));
+            }
+            CodeEnd::Divided
+        },
+        Err(_) => CodeEnd::Divided,
+    }
+}
+
+/// Runs code that a certificate carries for at most so many steps. It ends as the defensive machine's run of the code
+/// ends, which is never stuck.
+pub fn run_code(checked: &CheckedWords<'_>, steps: u32) -> CodeEnd
+    ensures { (typing : Typing) → (t : IsTyping word_rules (word_method checked.now) typing)
+        → EndsAs result (alone_call t.listing steps).ends }
+{
+    carried_code_is_safe();
+    words_follow(&IdleNatives);
+    words_are_decoded();
+    let code = checked.code();
+    let mut locals = [0; WORD_LOCALS];
+    let mut slots = [0; WORD_MAX_STACK];
+    let start = Place { pc: 0, depth: 0 };
+    let stopped = run_words(code, &mut locals, &mut slots, start, steps);
+    if stopped.left == 0 {
+        return CodeEnd::UsedUp;
+    }
+    end_at(code, &slots, stopped.place)
+}

@@ -1,5 +1,0 @@
-use Rattle.jc_loaded.proofs.Unknown.{below_itself}
-use Rattle.jc_loaded.proofs.laws.unknown_classes_are_below_themselves.Goals as goal
-
-pub returns : goal.returns
-returns c = below_itself

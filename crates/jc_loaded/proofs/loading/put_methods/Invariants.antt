@@ -1,8 +1,0 @@
-use Rattle.std.proofs.Common.{◌≡◌, ◌++◌, drop, map, Some}
-use Rattle.jc_loaded.specs.Methods.{loaded_method}
-use Rattle.jc_loaded.proofs.loading.put_methods.Given as goal
-
-abbrev pub invariant-loop-method : goal.invariant-loop-method
-invariant-loop-method l =
-    map Some l.laid ++ map (loaded_method l.table l.«package» l.body) (drop l.method-index l.methods)
-    ≡ map Some l.fn.laid ++ map (loaded_method l.table l.«package» l.body) l.methods

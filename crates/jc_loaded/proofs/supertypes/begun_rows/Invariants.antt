@@ -1,5 +1,0 @@
-use Rattle.jc_loaded.specs.PrivateSupertypes.{AreBegun}
-use Rattle.jc_loaded.proofs.supertypes.begun_rows.Given as goal
-
-abbrev pub invariant-loop-at : goal.invariant-loop-at
-invariant-loop-at l = AreBegun l.classes l.first l.at l.rows.items

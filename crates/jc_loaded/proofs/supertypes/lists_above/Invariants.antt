@@ -1,9 +1,0 @@
-use Rattle.std.proofs.Common.{◌≡◌, ◌+◌, length}
-use Rattle.jc_loaded.specs.PrivateSupertypes.{AreAbove}
-use Rattle.jc_loaded.proofs.supertypes.lists_above.Given as goal
-
-abbrev pub invariant-loop-at : goal.invariant-loop-at
-invariant-loop-at l = record {
-  count : l.first + length l.lists.items ≡ l.at;
-  above : AreAbove l.table l.classes l.first l.lists.items;
-}

@@ -1,5 +1,0 @@
-use Rattle.jc_packages.proofs.Verifying.{stopped_first}
-use Rattle.jc_packages.proofs.verification.first_world.Goals as goal
-
-pub returns-in-Err-clause-stopped : goal.returns-in-Err-clause-stopped
-returns-in-Err-clause-stopped c = stopped_first _ _ _ _ c.first_of.ensures (c.unlinked.ensures _)

@@ -1,0 +1,52 @@
+-- Classes and their superclasses.
+use Rattle.std.proofs.Common.{◌≡◌, ℕ, zero, suc, ◌&&◌, false, true, List, Option, Some, None, is_some}
+use Rattle.std.proofs.Common.{refl, sym, ap, ◌∙◌}
+use Rattle.std.specs.Option.{option_and_then}
+use Rattle.jc_cap_desc.specs.Shape.{ClassShape, Shape}
+use Rattle.jc_classes.specs.Methods.{interface_visit, virtual_method_of, virtual_visit}
+use Rattle.jc_classes.specs.Subtype.{comes_to_end, has_whole_chain}
+use Rattle.jc_classes.specs.Walk.{found, most_classes, walk}
+use Rattle.jc_classes.specs.World.{class_at}
+use Rattle.jc_link.specs.Sound.{IsSound}
+use Rattle.jc_names.specs.declared.name.ClassName.{ClassName}
+use Rattle.jc_program.proofs.Same.{true_false}
+
+pub most_is : most_classes ≡ 17_085
+unfolding most_classes
+most_is = refl
+
+-- ---- a class that isn't there
+
+nothing : {A B : Type 0} (f : A → Option B) (o : Option A) → o ≡ None → option_and_then f o ≡ None
+nothing f o none = ap (option_and_then f) none
+
+module _ (world : List Shape) (c : ClassName) (none : class_at world c ≡ None) where
+  pub no_method : (token asker : ℕ) → virtual_method_of world c token asker ≡ None
+  no_method token asker = within most_classes
+    where
+      within : (n : ℕ) → walk (virtual_visit world asker token) world n c ≡ None
+      within zero = refl
+      within (suc n) = nothing _ (class_at world c) none
+
+  pub not_listed : (interface : ClassName) → found (interface_visit world interface) world c ≡ None
+  not_listed interface = within most_classes
+    where
+      within : (n : ℕ) → walk (interface_visit world interface) world n c ≡ None
+      within zero = refl
+      within (suc n) = nothing _ (class_at world c) none
+
+-- ---- a class that is
+
+module _ (world : List Shape) (c : ClassName) (sound : IsSound world) where
+  -- in a sound world the chain of each class that is there comes to its end
+  pub whole_chain : (k : ClassShape) → class_at world c ≡ Some k → has_whole_chain world c ≡ true
+  whole_chain k there =
+      ap (λ (o : Option ClassShape). is_some o && comes_to_end world most_classes c) there
+      ∙ sound.superclasses.orderly.ends c
+
+  pub not_there : has_whole_chain world c ≡ false → class_at world c ≡ None
+  not_there e = by_class (class_at world c) refl
+    where
+      by_class : (o : Option ClassShape) → class_at world c ≡ o → class_at world c ≡ None
+      by_class None at = at
+      by_class (Some k) at = true_false (sym (whole_chain k at) ∙ e)

@@ -1,0 +1,345 @@
+-- Rows of bits.
+use Rattle.std.proofs.Common.{◌≡◌, ◌≢◌, ◌⊎◌, inl, inr, ℕ, zero, suc, ◌+◌, ◌*◌, ◌/◌, ◌%◌, ◌^◌, ◌<◌, ◌≤◌, ◌==◌}
+use Rattle.std.proofs.Common.{◌&&◌, ◌||◌, Bool, true, false, not, cond, max, nat_lt, List, [], ◌∷◌, ◌++◌}
+use Rattle.std.proofs.Common.{length, get_or, set, take, bit_or}
+use Rattle.std.proofs.Common.{refl, sym, ap, ◌∙◌, arith}
+use Rattle.std.specs.Int.{bit_at, w64}
+use Rattle.std.proofs.lemmas.Bool.{cases_eq, cases_lt, cases_order, eq-eqb, eqb-true, le-ltb, lt-ltb, ne_eqb}
+use Rattle.std.proofs.lemmas.List.{get_or-set_same, get_or-set_other, get_or_past}
+use Rattle.std.proofs.lemmas.Nat.Bits.{bit_at-lt, bit_at-zero, bit_at_or}
+use Rattle.std.proofs.lemmas.Nat.Bits.{bit_at_set_other, bit_at_set_same, same_from_bits_below}
+use lib.Bits.{or_lt, or_zero_l}
+use Rattle.jc_program.specs.BitRow.{has_bit}
+use Rattle.jc_program.specs.PrivateBitRow.{AreUnited, bits_of, most_bits, unset}
+
+no_such : {P : Type 0} → true ≡ false → P
+no_such e = absurd cc
+
+-- ---- longer rows
+
+pushed : (words : List ℕ) (i : ℕ) → get_or (words ++ 0 ∷ []) i 0 ≡ get_or words i 0
+pushed [] zero = refl
+pushed [] (suc i) = refl
+pushed (w ∷ words) zero = refl
+pushed (w ∷ words) (suc i) = pushed words i
+
+pub same_pushed : (words : List ℕ) (n : ℕ) → has_bit (words ++ 0 ∷ []) n ≡ has_bit words n
+same_pushed words n = ap (λ word. bit_at word (n % 64) == 1) (pushed words (n / 64))
+
+pub empty_row : (n : ℕ) → has_bit [] n ≡ false
+empty_row n = ap (λ b. b == 1) (bit_at-zero (n % 64))
+
+-- ---- how many numbers aren't there
+
+abbrev one_if : Bool → ℕ
+one_if there = cond there 0 1
+
+module _ (old new : List ℕ) (kept : (n : ℕ) → has_bit old n ≡ true → has_bit new n ≡ true) where
+  least : (n : ℕ) → cond (has_bit new n) 0 1 ≤ cond (has_bit old n) 0 1
+  least n = by_old (has_bit old n) (has_bit new n) (kept n)
+    where
+      by_old : (a b : Bool) → (a ≡ true → b ≡ true) → cond b 0 1 ≤ cond a 0 1
+      by_old true true k = omega arith
+      by_old true false k = no_such (sym (k refl))
+      by_old false true k = omega arith
+      by_old false false k = omega arith
+
+  pub unset_most : (n : ℕ) → unset new n ≤ unset old n
+  unset_most zero = omega arith
+  unset_most (suc n) = let a = least n in let b = unset_most n in omega (arith, a, b)
+
+  pub unset_less : (k n : ℕ) → has_bit old k ≡ false → has_bit new k ≡ true → k < n → unset new n < unset old n
+  unset_less k zero before now less = absurd (omega (arith, less))
+  unset_less k (suc n) before now less = by_number (unset_less k n before now) (cases_eq k n)
+    where
+      by_number : (k < n → unset new n < unset old n) → (k ≡ n) ⊎ (k ≡ n → ⊥)
+          → unset new (suc n) < unset old (suc n)
+      by_number rest (inl e) =
+          let a = ap one_if (ap (has_bit old) (sym e) ∙ before) in
+          let b = ap one_if (ap (has_bit new) (sym e) ∙ now) in
+          let m = unset_most n in
+          omega (arith, a, b, m)
+      by_number rest (inr other) =
+          let a = least n in
+          let b = rest (omega (arith, other, less)) in
+          omega (arith, a, b)
+
+-- ---- what was put in, put together
+
+module _ (a b c : List ℕ) (p q : ℕ → Bool) (s t : Bool) (one : AreUnited p a b s) (two : AreUnited q b c t) where
+  then_kept : (n : ℕ) → has_bit b n ≡ true → has_bit c n ≡ true
+  then_kept n e = two.bits n ∙ ap (λ x. x || q n) e
+
+  first_kept : (n : ℕ) → has_bit a n ≡ true → has_bit b n ≡ true
+  first_kept n e = one.bits n ∙ ap (λ x. x || p n) e
+
+  fewer_both : (s t : Bool) → AreUnited p a b s → AreUnited q b c t → (s || t) ≡ true
+      → unset c most_bits < unset a most_bits
+  fewer_both true t f g e =
+      let x = f.fewer refl in let y = unset_most b c then_kept most_bits in omega (arith, x, y)
+  fewer_both false true f g e =
+      let x = unset_most a b first_kept most_bits in let y = g.fewer refl in omega (arith, x, y)
+  fewer_both false false f g e = no_such (sym e)
+
+  same_both : (s t : Bool) → AreUnited p a b s → AreUnited q b c t → (s || t) ≡ false
+      → (n : ℕ) → has_bit c n ≡ has_bit a n
+  same_both true t f g e n = no_such e
+  same_both false true f g e n = no_such e
+  same_both false false f g e n = g.same refl n ∙ f.same refl n
+
+  grouped : (x y z : Bool) → ((x || y) || z) ≡ (x || (y || z))
+  grouped true y z = refl
+  grouped false y z = refl
+
+  pub united_both : AreUnited (λ n. p n || q n) a c (s || t)
+  united_both = record {
+    bits = λ n. two.bits n ∙ ap (λ x. x || q n) (one.bits n) ∙ grouped (has_bit a n) (p n) (q n);
+    fewer = fewer_both s t one two;
+    same = same_both s t one two;
+  }
+
+pub united_alike : (p q : ℕ → Bool) (a b : List ℕ) (s : Bool) → ((n : ℕ) → p n ≡ q n) → AreUnited p a b s
+    → AreUnited q a b s
+united_alike p q a b s alike u = record {
+  bits = λ n. u.bits n ∙ ap (λ x. has_bit a n || x) (alike n);
+  fewer = u.fewer;
+  same = u.same;
+}
+
+either_none : (b : Bool) → b ≡ (b || false)
+either_none true = refl
+either_none false = refl
+
+pub united_none : (p : ℕ → Bool) (a b : List ℕ) → ((n : ℕ) → p n ≡ false) → ((n : ℕ) → has_bit b n ≡ has_bit a n)
+    → AreUnited p a b false
+united_none p a b none alike = record {
+  bits = λ n. alike n ∙ either_none (has_bit a n) ∙ ap (λ x. has_bit a n || x) (sym (none n));
+  fewer = λ e. no_such (sym e);
+  same = λ e. alike;
+}
+
+-- ---- one word
+
+pub or_small : (word more : ℕ) → word < 2 ^ 64 → more < 2 ^ 64 → bit_or word more < 2 ^ 64
+or_small word more small less = or_lt 64 word more small less
+
+differs : (w a b : ℕ) → ((i : ℕ) × (i < w) × (bit_at a i ≢ bit_at b i)) ⊎ ((i : ℕ) → i < w → bit_at a i ≡ bit_at b i)
+differs zero a b = inr (λ i less. absurd (omega (arith, less)))
+differs (suc w) a b = by_last (cases_eq (bit_at a w) (bit_at b w)) (differs w a b)
+  where
+    all : (bit_at a w ≡ bit_at b w) → ((i : ℕ) → i < w → bit_at a i ≡ bit_at b i) → (i : ℕ) → i < suc w
+        → bit_at a i ≡ bit_at b i
+    all last before i less = by_number (cases_eq i w)
+      where
+        by_number : (i ≡ w) ⊎ (i ≡ w → ⊥) → bit_at a i ≡ bit_at b i
+        by_number (inl e) = ap (bit_at a) e ∙ last ∙ ap (bit_at b) (sym e)
+        by_number (inr other) = before i (omega (arith, other, less))
+
+    by_last : (bit_at a w ≡ bit_at b w) ⊎ (bit_at a w ≡ bit_at b w → ⊥)
+        → ((i : ℕ) × (i < w) × (bit_at a i ≢ bit_at b i)) ⊎ ((i : ℕ) → i < w → bit_at a i ≡ bit_at b i)
+        → ((i : ℕ) × (i < suc w) × (bit_at a i ≢ bit_at b i))
+        ⊎ ((i : ℕ) → i < suc w → bit_at a i ≡ bit_at b i)
+    by_last (inr other) rest = inl (w, omega arith, other)
+    by_last (inl last) (inl r) = let l = r.1 in inl (r.0, omega (arith, l), r.2)
+    by_last (inl last) (inr before) = inr (all last before)
+
+one_of_two : (x y : ℕ) → x < 2 → y < 2 → (max x y == 1) ≡ ((x == 1) || (y == 1))
+one_of_two zero zero p q = refl
+one_of_two zero (suc zero) p q = refl
+one_of_two (suc zero) zero p q = refl
+one_of_two (suc zero) (suc zero) p q = refl
+one_of_two zero (suc (suc y)) p q = absurd (omega (arith, q))
+one_of_two (suc zero) (suc (suc y)) p q = absurd (omega (arith, q))
+one_of_two (suc (suc x)) y p q = absurd (omega (arith, p))
+
+or_bit : (x y i : ℕ) → (bit_at (bit_or x y) i == 1) ≡ (bit_at x i == 1 || bit_at y i == 1)
+or_bit x y i =
+    ap (λ b. b == 1) (bit_at_or x y i) ∙ one_of_two (bit_at x i) (bit_at y i) (bit_at-lt x i) (bit_at-lt y i)
+
+same_bit : (x y : ℕ) → x < 2 → y < 2 → (x == 1) ≡ (y == 1) → x ≡ y
+same_bit zero zero p q e = refl
+same_bit zero (suc zero) p q e = no_such (sym e)
+same_bit (suc zero) zero p q e = no_such e
+same_bit (suc zero) (suc zero) p q e = refl
+same_bit zero (suc (suc y)) p q e = absurd (omega (arith, q))
+same_bit (suc zero) (suc (suc y)) p q e = absurd (omega (arith, q))
+same_bit (suc (suc x)) y p q e = absurd (omega (arith, p))
+
+module _ (words : List ℕ) (at more : ℕ) (within : at < length words) where
+  abbrev word : ℕ
+  word = get_or words at 0
+
+  abbrev new : List ℕ
+  new = set words at (bit_or word more)
+
+  here : (n : ℕ) → n / 64 ≡ at → has_bit new n ≡ (has_bit words n || bits_of at more n)
+  here n e =
+      let t : n / 64 == at ≡ true = eq-eqb (n / 64) at e in
+      ap (λ i. bit_at (get_or new i 0) (n % 64) == 1) e
+      ∙ ap (λ w. bit_at w (n % 64) == 1) (get_or-set_same words at (bit_or word more) 0 within)
+      ∙ or_bit word more (n % 64)
+      ∙ ap (λ i. bit_at (get_or words i 0) (n % 64) == 1 || bit_at more (n % 64) == 1) (sym e)
+      ∙ ap (λ b. has_bit words n || (b && bit_at more (n % 64) == 1)) (sym t)
+
+  there : (n : ℕ) → (n / 64 ≡ at → ⊥) → has_bit new n ≡ (has_bit words n || bits_of at more n)
+  there n other =
+      let t : n / 64 == at ≡ false = ne_eqb (n / 64) at other in
+      ap (λ w. bit_at w (n % 64) == 1) (get_or-set_other words at (n / 64) (bit_or word more) 0 other)
+      ∙ either_none (has_bit words n)
+      ∙ ap (λ b. has_bit words n || (b && bit_at more (n % 64) == 1)) (sym t)
+
+  bits : (n : ℕ) → has_bit new n ≡ (has_bit words n || bits_of at more n)
+  bits n = by_word (cases_eq (n / 64) at)
+    where
+      by_word : (n / 64 ≡ at) ⊎ (n / 64 ≡ at → ⊥) → has_bit new n ≡ (has_bit words n || bits_of at more n)
+      by_word (inl e) = here n e
+      by_word (inr other) = there n other
+
+  kept : (n : ℕ) → has_bit words n ≡ true → has_bit new n ≡ true
+  kept n e = bits n ∙ ap (λ b. b || bits_of at more n) e
+
+  fewer : at < 1024 → word < 2 ^ 64 → bit_or word more < 2 ^ 64 → bit_or word more ≢ word
+      → unset new most_bits < unset words most_bits
+  unfolding most_bits
+  fewer low small large other = by_bit (differs 64 (bit_or word more) word)
+    where
+      by_had : (i : ℕ) → i < 64 → (bit_at (bit_or word more) i ≢ bit_at word i) → (b c : Bool)
+          → (bit_at word i == 1) ≡ b → (bit_at (bit_or word more) i == 1) ≡ c
+          → (b ≡ false) × (c ≡ true)
+      by_had i less apart false true had has = (refl, refl)
+      by_had i less apart true true had has =
+          absurd (apart (same_bit _ _ (bit_at-lt (bit_or word more) i) (bit_at-lt word i) (has ∙ sym had)))
+      by_had i less apart false false had has =
+          absurd (apart (same_bit _ _ (bit_at-lt (bit_or word more) i) (bit_at-lt word i) (has ∙ sym had)))
+      by_had i less apart true false had has =
+          no_such (sym (or_bit word more i ∙ ap (λ b. b || bit_at more i == 1) had) ∙ has)
+
+      by_bit : ((i : ℕ) × (i < 64) × (bit_at (bit_or word more) i ≢ bit_at word i))
+          ⊎ ((i : ℕ) → i < 64 → bit_at (bit_or word more) i ≡ bit_at word i)
+          → unset new most_bits < unset words most_bits
+      by_bit (inr all) = absurd (other (same_from_bits_below 64 (bit_or word more) word large small all))
+      by_bit (inl r) =
+          let less = r.1 in
+          let n = at * 64 + r.0 in
+          let whole : n / 64 ≡ at = omega (arith, less) in
+          let rest : n % 64 ≡ r.0 = omega (arith, less) in
+          let h = by_had r.0 r.1 r.2 _ _ refl refl in
+          unset_less words new kept n most_bits
+          (ap (λ k. bit_at (get_or words k 0) (n % 64) == 1) whole ∙ ap (λ k. bit_at word k == 1) rest ∙ h.0)
+          (ap (λ k. bit_at (get_or new k 0) (n % 64) == 1) whole
+          ∙ ap (λ w. bit_at w (n % 64) == 1) (get_or-set_same words at (bit_or word more) 0 within)
+          ∙ ap (λ k. bit_at (bit_or word more) k == 1) rest ∙ h.1)
+          (omega (arith, less, low))
+
+  set_itself : (ws : List ℕ) (i : ℕ) → i < length ws → (k : ℕ) → get_or (set ws i (get_or ws i 0)) k 0 ≡ get_or ws k 0
+  set_itself ws i less k = by_place (cases_eq k i)
+    where
+      by_place : (k ≡ i) ⊎ (k ≡ i → ⊥) → get_or (set ws i (get_or ws i 0)) k 0 ≡ get_or ws k 0
+      by_place (inl e) =
+          ap (λ j. get_or (set ws i (get_or ws i 0)) j 0) e ∙ get_or-set_same ws i (get_or ws i 0) 0 less
+          ∙ ap (λ j. get_or ws j 0) (sym e)
+      by_place (inr other) = get_or-set_other ws i k (get_or ws i 0) 0 other
+
+  -- a word's bits were put in, and it was looked whether the word changed
+  pub united_word : at < 1024 → word < 2 ^ 64 → bit_or word more < 2 ^ 64
+      → AreUnited (bits_of at more) words new (not (bit_or word more == word))
+  united_word low small large = record {
+    bits = bits;
+    fewer = λ e. fewer low small large (λ same. no_such
+        (sym e ∙ ap not (eq-eqb (bit_or word more) word same)));
+    same = λ e n. ap (λ w. bit_at (get_or (set words at w) (n / 64) 0) (n % 64) == 1)
+        (eqb-true (bit_or word more) word (was (bit_or word more == word) e))
+        ∙ ap (λ w. bit_at w (n % 64) == 1) (set_itself words at within (n / 64));
+  }
+    where
+      was : (b : Bool) → not b ≡ false → b ≡ true
+      was true e = refl
+      was false e = no_such e
+
+-- ---- one number
+
+abbrev one_at : ℕ → ℕ
+one_at k = 1 * 2 ^ k % 2 ^ 64
+
+one_here : (k : ℕ) → k < 64 → bit_at (one_at k) k ≡ 1
+one_here k less = ap (λ w. bit_at w k) (sym (or_zero_l (one_at k))) ∙ bit_at_set_same w64 0 k less
+
+one_there : (k i : ℕ) → k < 64 → (i ≡ k → ⊥) → bit_at (one_at k) i ≡ 0
+one_there k i less other =
+    ap (λ w. bit_at w i) (sym (or_zero_l (one_at k))) ∙ bit_at_set_other w64 0 k less i other ∙ bit_at-zero i
+
+pub one_bit : (number n : ℕ) → bits_of (number / 64) (1 * 2 ^ (number % 64) % 2 ^ 64) n ≡ (n == number)
+one_bit number n = by_number (cases_eq n number)
+  where
+    by_word : (b : Bool) → (n / 64 == number / 64) ≡ b → (n ≡ number → ⊥)
+        → (b && bit_at (one_at (number % 64)) (n % 64) == 1) ≡ false
+    by_word true t other =
+        let same = eqb-true (n / 64) (number / 64) t in
+        ap (λ b. b == 1) (one_there (number % 64) (n % 64) (omega arith) (λ e. other (omega (arith, same, e))))
+    by_word false t other = refl
+
+    by_number : (n ≡ number) ⊎ (n ≡ number → ⊥)
+        → bits_of (number / 64) (1 * 2 ^ (number % 64) % 2 ^ 64) n ≡ (n == number)
+    by_number (inl e) =
+        let t : n == number ≡ true = eq-eqb n number e in
+        ap (λ k. bits_of (number / 64) (one_at (number % 64)) k) e
+        ∙ ap (λ b. b && bit_at (one_at (number % 64)) (number % 64) == 1) (eq-eqb (number / 64) (number / 64) refl)
+        ∙ ap (λ b. b == 1) (one_here (number % 64) (omega arith)) ∙ sym t
+    by_number (inr other) =
+        let t : n == number ≡ false = ne_eqb n number other in by_word (n / 64 == number / 64) refl other ∙ sym t
+
+-- ---- the first of other words
+
+abbrev pub bits_before : List ℕ → ℕ → ℕ → Bool
+bits_before words at n = nat_lt (n / 64) at && has_bit words n
+
+pub none_before : (words : List ℕ) (n : ℕ) → bits_before words 0 n ≡ false
+none_before words n = ap (λ b. b && has_bit words n) (le-ltb (n / 64) 0 (omega arith))
+
+pub word_more : (words : List ℕ) (at word n : ℕ) → word ≡ get_or words at 0
+    → (bits_before words at n || bits_of at word n) ≡ bits_before words (at + 1) n
+word_more words at word n is = by_order (cases_order (n / 64) at)
+  where
+    by_order : (n / 64 ≡ at) ⊎ ((n / 64 < at) ⊎ (at < n / 64))
+        → (bits_before words at n || bits_of at word n) ≡ bits_before words (at + 1) n
+    by_order (inl e) =
+        let before : nat_lt (n / 64) at ≡ false = le-ltb (n / 64) at (omega (arith, e)) in
+        let behind : nat_lt (n / 64) (at + 1) ≡ true = lt-ltb (n / 64) (at + 1) (omega (arith, e)) in
+        let same : n / 64 == at ≡ true = eq-eqb (n / 64) at e in
+        ap (λ b. (b && has_bit words n) || bits_of at word n) before
+        ∙ ap (λ b. b && bit_at word (n % 64) == 1) same
+        ∙ ap (λ w. bit_at w (n % 64) == 1) (is ∙ ap (λ k. get_or words k 0) (sym e))
+        ∙ ap (λ b. b && has_bit words n) (sym behind)
+    by_order (inr (inl less)) =
+        let before : nat_lt (n / 64) at ≡ true = lt-ltb (n / 64) at less in
+        let behind : nat_lt (n / 64) (at + 1) ≡ true = lt-ltb (n / 64) (at + 1) (omega (arith, less)) in
+        let other : n / 64 == at ≡ false = ne_eqb (n / 64) at (λ e. omega (arith, e, less)) in
+        ap (λ b. (nat_lt (n / 64) at && has_bit words n) || (b && bit_at word (n % 64) == 1)) other
+        ∙ sym (either_none (nat_lt (n / 64) at && has_bit words n))
+        ∙ ap (λ b. b && has_bit words n) (before ∙ sym behind)
+    by_order (inr (inr more)) =
+        let before : nat_lt (n / 64) at ≡ false = le-ltb (n / 64) at (omega (arith, more)) in
+        let behind : nat_lt (n / 64) (at + 1) ≡ false = le-ltb (n / 64) (at + 1) (omega (arith, more)) in
+        let other : n / 64 == at ≡ false = ne_eqb (n / 64) at (λ e. omega (arith, e, more)) in
+        ap (λ b. (b && has_bit words n) || bits_of at word n) before
+        ∙ ap (λ b. b && bit_at word (n % 64) == 1) other
+        ∙ ap (λ b. b && has_bit words n) (sym behind)
+
+pub all_before : (words : List ℕ) (at n : ℕ) → length words ≤ at → bits_before words at n ≡ has_bit words n
+all_before words at n past = by_order (cases_lt (n / 64) at)
+  where
+    by_order : (n / 64 < at) ⊎ (at ≤ n / 64) → bits_before words at n ≡ has_bit words n
+    by_order (inl less) = ap (λ b. b && has_bit words n) (lt-ltb (n / 64) at less)
+    by_order (inr behind) =
+        ap (λ b. b && has_bit words n) (le-ltb (n / 64) at behind)
+        ∙ sym (ap (λ w. bit_at w (n % 64) == 1) (get_or_past words (n / 64) 0 (omega (arith, past, behind)))
+        ∙ ap (λ b. b == 1) (bit_at-zero (n % 64)))
+
+-- ---- words in a list that has others behind
+
+pub refilled : {A : Type 0} (words rest : List A) (count : ℕ) → count ≡ length words
+    → take count (words ++ rest) ≡ words
+refilled [] rest zero is = refl
+refilled [] rest (suc count) is = absurd (omega (arith, is))
+refilled (w ∷ words) rest zero is = absurd (omega (arith, is))
+refilled (w ∷ words) rest (suc count) is = ap (λ ws. w ∷ ws) (refilled words rest count (omega (arith, is)))

@@ -1,0 +1,40 @@
+-- The virtual tokens of the API's members, by their numbers: for calls that native members make (Java Card API
+-- Specification; Java Card Virtual Machine Specification, Binary Compatibility: Token-based linking).
+use Rattle.std.specs.Prelude.{◌≡◌, ℕ, ◌+◌, ◌<◌, ◌==◌, List, Option, Some, None, slice_get, unwrap_or}
+use Rattle.std.specs.List.{position}
+use Rattle.std.specs.Option.{option_and_then, option_map}
+use Rattle.jc_api.specs.Member.{ApiMember, member_of}
+use Rattle.jc_cap.specs.declared.record.RecordBody.{RecordBody}
+use Rattle.jc_cap.specs.declared.record.RecordBody.TheVariants.{Interface, Class}
+use Rattle.jc_cap_desc.specs.Shape.{ClassShape, Shape}
+use Rattle.jc_classes.specs.Methods.{package_visible}
+use Rattle.jc_classes.specs.World.{class_at}
+use Rattle.jc_names.specs.declared.name.ClassName.{ClassName}
+use Rattle.jc_names.specs.declared.name.ClassName.TheVariants.{Api}
+
+-- the token at which a member stands in the table of public methods of a record; an interface's has none
+abbrev pub token_in : ℕ → RecordBody → Option ℕ
+token_in member (Interface r) = None
+token_in member (Class r) =
+    option_map (λ n. r.public_methods.base + n) (position (λ m. m == member) r.public_methods.methods)
+
+-- in the record of a class; none where the class isn't there
+abbrev pub token_of_class : List Shape → ClassName → ℕ → Option ℕ
+token_of_class world c member = option_and_then (λ (k : ClassShape). token_in member k.body) (class_at world c)
+
+-- in that of its own class, found anew in the world; none where no member has the number
+abbrev pub member_token : List Shape → ℕ → Option ℕ
+member_token world member =
+    option_and_then (λ (m : ApiMember). token_of_class world (Api m.class) member) (member_of member)
+
+-- what a table has for the member with a number; none behind its end
+abbrev pub token_at : List (Option ℕ) → ℕ → Option ℕ
+token_at tokens member = unwrap_or (slice_get tokens member) None
+
+-- these are the tokens of the API's members in a world
+abbrev pub AreMemberTokens : List Shape → List (Option ℕ) → Type 0
+AreMemberTokens world tokens = (member : ℕ) → token_at tokens member ≡ member_token world member
+
+-- no member of the API has a package-visible token
+abbrev pub HavePublicTokens : List Shape → Type 0
+HavePublicTokens world = (member token : ℕ) → member_token world member ≡ Some token → token < package_visible

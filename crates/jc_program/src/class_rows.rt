@@ -1,0 +1,275 @@
+//! What is asked of a world's classes, by number: a row of 8 bytes each.
+
+ghost use Rattle.std.specs.Prelude.{◌≡◌, ◌+◌, ◌<◌, ◌==◌, length, slice_get, Some, IfOk, IfSome};
+ghost use Rattle.jc_api.specs.declared.class.ApiClass.TheVariants.{Shareable};
+ghost use Rattle.jc_classes.specs.Limits.{IsSmall};
+ghost use Rattle.jc_classes.specs.Subtype.{is_class_at, is_interface_at, is_subtype};
+ghost use Rattle.jc_link.specs.Named.{size_of};
+ghost use Rattle.jc_link.specs.Sound.{IsSound};
+ghost use Rattle.jc_program.specs.ClassRows.{AreClassRows, cells_of, class_row_of, row_at};
+ghost use Rattle.jc_program.specs.PrivateClassRows.{HaveRows};
+ghost use Rattle.jc_program.specs.Supertypes.{AreSupertypes};
+ghost use Rattle.jc_names.specs.declared.name.ClassName.{ClassName as Name};
+ghost use Rattle.jc_names.specs.declared.name.ClassName.TheVariants.{Api};
+
+use crate::classes::{ClassNumber, Classes};
+use crate::supertypes::Supertypes;
+use jc_api::ApiClass;
+use jc_classes::{ClassTable, found_subtypes_are_subtypes};
+use jc_link::{World, built_worlds_are_sound};
+use jc_names::ClassName;
+use std::alloc::{AllocError, Global};
+use std::marker::Model;
+
+/// How many classes and interfaces there are at most.
+const MOST_CLASSES: u16 = 17_085;
+
+/// The interface whose objects other applets may call.
+const SHAREABLE: ClassName = ClassName::Api(ApiClass::Shareable);
+
+/// What is asked of a class: 8 bytes.
+#[derive(Clone, Copy, Debug)]
+pub struct ClassRow {
+    /// How many cells an object of it takes: what it and its superclasses declare.
+    pub cells: u32,
+    pub is_interface: bool,
+    /// Whether it is Shareable or below it.
+    pub is_shareable: bool,
+}
+
+/// The row of no class.
+const NO_ROW: ClassRow = ClassRow {
+    cells: 0,
+    is_interface: false,
+    is_shareable: false,
+};
+
+/// How many cells of an object a class itself declares; none where it isn't there.
+fn size_of(table: &ClassTable, class: ClassName) -> u8
+    ensures { result ≡ size_of table.now class }
+{
+    match table.class_at(class) {
+        Some(found) => found.declared_size(),
+        None => 0,
+    }
+}
+
+/// The sum of two numbers of cells.
+fn sum_of(cells: u32, more: u32) -> Result<u32, AllocError>
+    ensures { IfOk result (λ sum. sum ≡ cells + more) }
+{
+    match cells.checked_add(more) {
+        Some(sum) => Ok(sum),
+        None => Err(AllocError),
+    }
+}
+
+/// How many cells an object of a class takes, if the class's row is made.
+#[tactic(auto, using(crate::proofs::Summing::cells_there))]
+fn cells_made(
+    rows: &[ClassRow],
+    table: &ClassTable,
+    classes: &Classes,
+    class: ClassName,
+) -> Option<u32>
+    requires made { HaveRows table.now classes.now (length rows.now) rows.now }
+    ensures { IfSome result (λ cells. cells ≡ cells_of table.now class) }
+{
+    let place = usize::from(classes.number_of(class)?.index());
+    if place < rows.len() {
+        Some(rows[place].cells)
+    } else {
+        None
+    }
+}
+
+/// How many cells an object of a class takes: its own, and those of its superclasses up to one whose row is made. A
+/// chain of more classes than there are has a cycle, which linking refuses.
+#[tactic(auto, using(crate::proofs::Summing::cells_alone, crate::proofs::Summing::cells_up))]
+fn cells_of(
+    rows: &[ClassRow],
+    table: &ClassTable,
+    classes: &Classes,
+    class: ClassName,
+) -> Result<u32, AllocError>
+    requires sound { IsSound table.now }
+    requires made { HaveRows table.now classes.now (length rows.now) rows.now }
+    ensures { IfOk result (λ cells. cells ≡ cells_of table.now class) }
+{
+    let mut cells: u32 = 0;
+    let mut at = class;
+    for _ in 0..MOST_CLASSES {
+        cells = sum_of(cells, u32::from(size_of(table, at)))?;
+        let Some(above) = table.superclass_of(at) else {
+            return Ok(cells);
+        };
+        if let Some(rest) = cells_made(rows, table, classes, above) {
+            return sum_of(cells, rest);
+        }
+        at = above;
+    }
+    Err(AllocError)
+}
+
+/// Whether a class stands there, and not an interface.
+fn is_class_at(table: &ClassTable, class: ClassName) -> bool
+    ensures { result ≡ is_class_at table.now class }
+{
+    match table.class_at(class) {
+        Some(found) => found.is_class(),
+        None => false,
+    }
+}
+
+/// Whether a class is another one or below it. Below a class it is along superclasses, and they are walked; for an
+/// interface all classes are passed over.
+#[tactic(auto, using(crate::proofs::Summing::alike, crate::proofs::Summing::orderly, crate::proofs::Summing::top))]
+fn is_subtype(table: &ClassTable, class: ClassName, above: ClassName) -> bool
+    requires small { IsSmall table.now }
+    requires sound { IsSound table.now }
+    ensures { result ≡ is_subtype table.now class above }
+{
+    found_subtypes_are_subtypes();
+    if is_class_at(table, above) {
+        table.is_class_below(class, above)
+    } else {
+        table.is_subclass(class, above)
+    }
+}
+
+/// Whether the class with a number is Shareable or below it: read from its row, or found anew where Shareable has no
+/// number.
+fn is_shareable(
+    table: &ClassTable,
+    classes: &Classes,
+    supertypes: &Supertypes,
+    number: ClassNumber,
+) -> bool
+    requires small { IsSmall table.now }
+    requires sound { IsSound table.now }
+    requires above { AreSupertypes table.now classes.now supertypes.now }
+    requires there { number < length classes.now }
+    ensures { (c : Name) → slice_get classes.now number ≡ Some c → result ≡ is_subtype table.now c (Api Shareable) }
+{
+    match classes.number_of(SHAREABLE) {
+        Some(shareable) => supertypes.is_subtype(number, shareable),
+        None => is_subtype(table, classes.name(number), SHAREABLE),
+    }
+}
+
+/// Whether an interface stands there.
+fn is_interface_at(table: &ClassTable, class: ClassName) -> bool
+    ensures { result ≡ is_interface_at table.now class }
+{
+    match table.class_at(class) {
+        Some(found) => !found.is_class(),
+        None => false,
+    }
+}
+
+/// The row of the class with a number, with the rows of the classes before it.
+fn class_row_of(
+    rows: &[ClassRow],
+    table: &ClassTable,
+    classes: &Classes,
+    supertypes: &Supertypes,
+    number: ClassNumber,
+) -> Result<ClassRow, AllocError>
+    requires small { IsSmall table.now }
+    requires sound { IsSound table.now }
+    requires above { AreSupertypes table.now classes.now supertypes.now }
+    requires made { HaveRows table.now classes.now (length rows.now) rows.now }
+    requires there { number < length classes.now }
+    ensures { IfOk result (λ row. (c : Name) → slice_get classes.now number ≡ Some c → row ≡ class_row_of table.now c) }
+{
+    let class = classes.name(number);
+    let cells = cells_of(rows, table, classes, class)?;
+    Ok(ClassRow {
+        cells,
+        is_interface: is_interface_at(table, class),
+        is_shareable: is_shareable(table, classes, supertypes, number),
+    })
+}
+
+/// The rows of classes: each is made with those before it.
+fn rows_of(
+    alloc: Global,
+    table: &ClassTable,
+    classes: &Classes,
+    supertypes: &Supertypes,
+) -> Result<Vec<ClassRow>, AllocError>
+    requires small { IsSmall table.now }
+    requires sound { IsSound table.now }
+    requires above { AreSupertypes table.now classes.now supertypes.now }
+    ensures { IfOk result (λ rows. HaveRows table.now classes.now (length classes.now) rows.items) }
+{
+    let mut rows = Vec::new(alloc);
+    for at in 0..classes.len() {
+        let number = ClassNumber::new(at as u16);
+        let row = class_row_of(&rows, table, classes, supertypes, number)?;
+        rows.push(row)?;
+    }
+    Ok(rows)
+}
+
+/// For each class and interface of a world what a machine asks of it.
+#[derive(Drop)]
+pub struct ClassRows {
+    rows: Vec<ClassRow>,
+}
+
+impl Model for ClassRows {
+    ghost use Rattle.std.specs.Prelude.{List};
+    ghost use Rattle.jc_program.specs.declared.class_rows.ClassRow.{ClassRow as Row};
+
+    ghost Value = { List Row };
+
+    ghost view = { λ r. r.rows.items };
+}
+
+impl ClassRows {
+    /// The rows of these classes of a world, which have these supertypes.
+    #[tactic(auto, using(crate::proofs::Summing::are_rows))]
+    pub fn new(
+        alloc: Global,
+        world: &World,
+        classes: &Classes,
+        supertypes: &Supertypes,
+    ) -> Result<ClassRows, AllocError>
+        requires above { AreSupertypes world.now.shapes classes.now supertypes.now }
+        ensures rows { IfOk result (λ rows. AreClassRows world.now.shapes classes.now rows) }
+        ensures count { IfOk result (λ rows. length rows ≡ length classes.now) }
+    {
+        let table = world.table();
+        // Only its contract counts: what always holds of a table.
+        let _count = table.len();
+        built_worlds_are_sound();
+        let rows = rows_of(alloc, table, classes, supertypes)?;
+        Ok(ClassRows { rows })
+    }
+
+    /// For how many classes.
+    pub fn len(&self) -> usize
+        ensures { result ≡ length self.now }
+    {
+        self.rows.len()
+    }
+
+    /// Whether for none.
+    pub fn is_empty(&self) -> bool
+        ensures { result ≡ (length self.now == 0) }
+    {
+        self.rows.len() == 0
+    }
+
+    /// The row of the class with a number: one without cells, and of no interface, where no class has it.
+    #[inline]
+    pub fn row(&self, number: ClassNumber) -> ClassRow
+        ensures { result ≡ row_at self.now number }
+    {
+        self.rows
+            .get(usize::from(number.index()))
+            .copied()
+            .unwrap_or(NO_ROW)
+    }
+}

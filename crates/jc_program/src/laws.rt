@@ -1,0 +1,84 @@
+//! What holds of lists of loaded methods and of classes.
+
+ghost use Rattle.std.specs.Prelude.{◌≡◌, ◌||◌, ℕ, List, None, Some, false, slice_get};
+ghost use Rattle.jc_api.specs.declared.class.ApiClass.TheVariants.{Object};
+ghost use Rattle.jc_cap_desc.specs.Shape.{Shape};
+ghost use Rattle.jc_cap.specs.declared.handler.Handler.{Handler};
+ghost use Rattle.jc_classes.specs.Limits.{IsSmall};
+ghost use Rattle.jc_classes.specs.Subtype.{is_class_below, is_interface_at, is_subtype};
+ghost use Rattle.jc_classes.specs.World.{class_at};
+ghost use Rattle.jc_link.specs.Built.{IsBuilt};
+ghost use Rattle.jc_link.specs.Linked.{IsBoundTo, IsWorld, Linked, LinkedBody, World};
+ghost use Rattle.jc_program.specs.Classes.{HaveNumbers, KeepsNumbers, class_names, class_number};
+ghost use Rattle.jc_program.specs.Growth.{KeepsLoaded};
+ghost use Rattle.jc_program.specs.MemberTokens.{HavePublicTokens};
+ghost use Rattle.jc_program.specs.Methods.{CoversSame, AreFound, AreLoaded, LoadedMethod};
+ghost use Rattle.jc_program.specs.Program.{AnswersFor, IsProgramOf};
+ghost use Rattle.jc_program.specs.declared.program.Program.{Program};
+ghost use Rattle.jc_names.specs.Names.{is_same_name};
+ghost use Rattle.jc_names.specs.declared.name.ClassName.{ClassName};
+ghost use Rattle.jc_names.specs.declared.name.ClassName.TheVariants.{Api};
+
+use jc_classes::{adding_keeps_lookups, found_subtypes_are_subtypes};
+use jc_link::{adding_keeps_linking, built_worlds_are_sound};
+
+/// The position of a name leads to the method that is looked up anew by that name in the world.
+#[tactic(auto, using(crate::proofs::Finding::are_found))]
+pub fn loaded_methods_are_found()
+    ensures { (world : World) (methods : List LoadedMethod) → AreLoaded world methods → AreFound world methods }
+{}
+
+/// Handlers whose pcs count in the code cover what their rows cover.
+#[tactic(auto, using(crate::proofs::Covering::covers_same))]
+pub fn loaded_handlers_cover_the_same()
+    ensures { (world : List Shape) (number : ℕ) (body : LinkedBody) (code_offset : ℕ) (h : Handler)
+        → CoversSame world number body code_offset h }
+{}
+
+/// Each class that is looked up in a world has a number, and each number is that of a class that is there. A package
+/// behind the others leaves the numbers as they are. In a world that is built the number of Object is 0. In any list of
+/// names the one at a class's number is the class's.
+pub fn classes_have_numbers()
+    ensures numbers { (world : List Shape) → HaveNumbers world }
+    ensures object { (world : List Shape) → IsBuilt world → class_number (class_names world) (Api Object) ≡ Some 0 }
+    ensures kept { (world : List Shape) (more : Shape) → KeepsNumbers world more }
+    ensures named { (names : List ClassName) (c : ClassName) (n : ℕ)
+        → class_number names c ≡ Some n → slice_get names n ≡ Some c }
+{}
+
+/// A linked package behind the others of a world leaves their methods and what their entries lead to as they are: its
+/// own methods come behind those of the others.
+pub fn loading_keeps_methods()
+    ensures { (w : World) (l : Linked) → IsWorld w → IsBoundTo w l → KeepsLoaded w l }
+{
+    adding_keeps_lookups();
+    adding_keeps_linking();
+}
+
+/// In a world that is built no member of the API has a package-visible token.
+#[tactic(auto, using(crate::proofs::Tokening::public_tokens))]
+pub fn api_tokens_are_public()
+    ensures { (world : List Shape) → IsBuilt world → HavePublicTokens world }
+{}
+
+/// What the tables of a world answer by number and name.
+#[tactic(auto, using(crate::proofs::Following::follows))]
+pub fn program_laws()
+    ensures { (w : World) (p : Program) → IsProgramOf w p → AnswersFor w p }
+{}
+
+/// In a world that is built, what is above a class by its supertypes is above it by superclasses, unless it is an
+/// interface.
+pub fn class_subtypes_are_below()
+    ensures { (world : List Shape) → IsSmall world → IsBuilt world → (c d : ClassName)
+        → is_interface_at world d ≡ false → is_class_below world c d ≡ is_subtype world c d }
+{
+    built_worlds_are_sound();
+    found_subtypes_are_subtypes();
+}
+
+/// A class that isn't there is below itself and Object, and below no other.
+pub fn unknown_classes_are_below_themselves()
+    ensures { (world : List Shape) (c : ClassName) → class_at world c ≡ None → (d : ClassName)
+        → is_subtype world c d ≡ (is_same_name (Api Object) d || is_same_name c d) }
+{}

@@ -1,0 +1,154 @@
+//! The package-visible virtual methods of a world's classes, by number, token and package.
+
+ghost use Rattle.std.specs.Prelude.{◌≡◌, ◌+◌, ◌==◌, [], length, IfOk};
+ghost use Rattle.jc_link.specs.Sound.{IsSound};
+ghost use Rattle.jc_program.specs.Called.{AreVisible, visible_at};
+ghost use Rattle.jc_program.specs.PrivateCalled.{AreListed, HasNoPlaceFrom, HasPlaces, HasVisible};
+
+use crate::called::{Called, PACKAGE_VISIBLE, table_made};
+use crate::classes::{ClassNumber, Classes};
+use crate::keyed::KeyedLists;
+use crate::methods::Methods;
+use crate::tables::short_of;
+use jc_classes::ClassTable;
+use jc_link::{World, built_worlds_are_sound};
+use jc_names::{ClassName, PackagePlace};
+use std::alloc::{AllocError, Global};
+use std::marker::Model;
+
+/// A number of places of packages: none from there on finds a package-visible method of a class.
+#[tactic(auto, using(crate::proofs::Chaining::no_method, crate::proofs::Chaining::whole_chain))]
+fn places_of(table: &ClassTable, class: ClassName) -> usize
+    requires sound { IsSound table.now }
+    ensures { HasNoPlaceFrom table.now class result }
+{
+    match table.class_at(class) {
+        Some(_) => table.visible_places(class),
+        None => 0,
+    }
+}
+
+/// Makes a class's table for the package that stands at a place, if it finds a method there.
+fn put_place(
+    alloc: Global,
+    lists: &mut KeyedLists,
+    table: &ClassTable,
+    methods: &Methods,
+    class: ClassName,
+    place: u16,
+) -> Result<(), AllocError>
+    requires first { HasPlaces table.now methods.now class place lists.old.last }
+    ensures whole { IfOk result (λ u. lists.new.whole ≡ lists.old.whole) }
+    ensures last { IfOk result (λ u. HasPlaces table.now methods.now class (place + 1) lists.new.last) }
+{
+    let tokens = table.visible_tokens(class, usize::from(place));
+    if tokens == 0 {
+        return Ok(());
+    }
+    let called = table_made(alloc, table, methods, class, PACKAGE_VISIBLE, place, tokens)?;
+    lists.put(place, &called)?;
+    Ok(())
+}
+
+/// Makes the tables of a class.
+fn put_visible(
+    alloc: Global,
+    lists: &mut KeyedLists,
+    table: &ClassTable,
+    methods: &Methods,
+    class: ClassName,
+) -> Result<(), AllocError>
+    requires sound { IsSound table.now }
+    requires first { lists.old.last ≡ [] }
+    ensures whole { IfOk result (λ u. lists.new.whole ≡ lists.old.whole) }
+    ensures last { IfOk result (λ u. HasVisible table.now methods.now class lists.new.last) }
+{
+    let places = short_of(places_of(table, class))?;
+    for place in 0..places {
+        put_place(alloc, lists, table, methods, class, place)?;
+    }
+    Ok(())
+}
+
+/// The tables of classes.
+fn lists_of(
+    alloc: Global,
+    table: &ClassTable,
+    methods: &Methods,
+    names: &[ClassName],
+) -> Result<KeyedLists, AllocError>
+    requires sound { IsSound table.now }
+    ensures { IfOk result (λ lists. AreListed (HasVisible table.now methods.now)
+        names.now (length names.now) lists.whole) }
+{
+    let mut lists = KeyedLists::new(alloc);
+    for at in 0..names.len() {
+        put_visible(alloc, &mut lists, table, methods, names[at])?;
+        lists.close()?;
+    }
+    Ok(lists)
+}
+
+/// For each class of a world what its package-visible methods are: for each package in which it or a superclass
+/// declares some, by their tokens.
+#[derive(Drop)]
+pub struct VisibleMethods {
+    lists: KeyedLists,
+}
+
+impl Model for VisibleMethods {
+    ghost use Rattle.std.specs.Prelude.{List};
+    ghost use Rattle.jc_program.specs.Called.{KeyedTable};
+
+    ghost Value = { List (List KeyedTable) };
+
+    ghost view = { λ v. v.lists.whole };
+}
+
+impl VisibleMethods {
+    /// The package-visible methods of these classes in a world, with these methods with code.
+    #[tactic(auto, using(crate::proofs::Showing::are_visible))]
+    pub fn new(
+        alloc: Global,
+        world: &World,
+        methods: &Methods,
+        classes: &Classes,
+    ) -> Result<VisibleMethods, AllocError>
+        ensures visible { IfOk result (λ made. AreVisible world.now.shapes methods.now classes.now made) }
+        ensures count { IfOk result (λ made. length made ≡ length classes.now) }
+    {
+        let table = world.table();
+        // Only its contract counts: what always holds of a table.
+        let _count = table.len();
+        built_worlds_are_sound();
+        let lists = lists_of(alloc, table, methods, classes.names())?;
+        Ok(VisibleMethods { lists })
+    }
+
+    /// For how many classes.
+    pub fn len(&self) -> usize
+        ensures { result ≡ length self.now }
+    {
+        self.lists.len()
+    }
+
+    /// Whether for none.
+    pub fn is_empty(&self) -> bool
+        ensures { result ≡ (length self.now == 0) }
+    {
+        self.lists.len() == 0
+    }
+
+    /// What a call of the method with a package-visible token, from 128 on, leads to for an object of the class with a
+    /// number, where a method of the loaded package with a number makes it; nothing where no class has its number.
+    #[inline]
+    pub fn visible_method(&self, number: ClassNumber, token: u8, package: u8) -> Called
+        ensures { result ≡ visible_at self.now number token «package» }
+    {
+        let asker = PackagePlace::of_loaded(package).index() as u16;
+        let place = token.saturating_sub(PACKAGE_VISIBLE);
+        self.lists
+            .find(usize::from(number.index()), asker, place)
+            .unwrap_or(Called::Nothing)
+    }
+}

@@ -2,6 +2,8 @@ mod TableLemmas
 mod Advance
 mod ObjectAdvance
 mod Ascents
+mod LengthTable
+mod ByLength
 mod BothBytes
 mod Listings
 mod Stops

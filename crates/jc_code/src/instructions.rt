@@ -3,7 +3,7 @@
 ghost use Rattle.std.specs.Prelude.{◌≡◌, ◌+◌, ◌<◌, ◌≤◌, drop, length, None, Some, IfErr, IfOk};
 ghost use Rattle.jc_base.specs.Cursor.{next_u1};
 ghost use Rattle.jc_code.specs.declared.fault.CodeFault.TheVariants.{CutShort};
-ghost use Rattle.jc_code.specs.Instructions.{instr_at, word_instr_at, next_pc_of};
+ghost use Rattle.jc_code.specs.Instructions.{instr_at, word_instr_at};
 
 use crate::decoding::next_constant;
 use crate::fault::CodeFault;
@@ -70,11 +70,4 @@ pub fn decode_words<'a>(code: &'a [u8], pc: usize) -> Result<Instr<'a>, CodeFaul
         operation: Operation::Word(operation),
         next_pc: code.len() - cursor.len(),
     })
-}
-
-/// Where the instruction behind the one at a pc begins.
-pub fn next_pc(code: &[u8], pc: usize) -> Result<usize, CodeFault>
-    ensures { result ≡ next_pc_of (instr_at code.now pc) }
-{
-    Ok(decode(code, pc)?.next_pc)
 }

@@ -5,6 +5,7 @@ mod decoding;
 mod fault;
 mod instr;
 mod instructions;
+mod lengths;
 mod listing;
 mod object;
 mod objects;
@@ -17,7 +18,8 @@ pub use fault::CodeFault;
 pub use instr::{
     BinaryOperator, Condition, Instr, Operation, Shuffle, UnaryOperator, When, WordOperation,
 };
-pub use instructions::{decode, decode_words, next_pc};
+pub use instructions::{decode, decode_words};
+pub use lengths::{next_pc, next_words_pc};
 pub use listing::listing_laws;
 pub use object::{
     Creation, FieldAccess, FieldAction, Form, Holder, Invocation, ObjectOperation,

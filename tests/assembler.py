@@ -1,62 +1,18 @@
-"""Writes code from instructions by their names (docs/profile/instructions.md), with labels for places:
+"""Writes code from instructions by their names (docs/profile/instructions.md, whose table tools/instructions.py reads),
+with labels for places:
 
     here: sload_0; ifeq done; getfield_a A.next; goto here; done: return
 
 A branch names a label, or says an offset with its sign. An entry of the pool is named, or an index stands in its place.
-`stableswitch done 1 2 here done` has its default first, low, high and the targets; `slookupswitch done 5:here 7:done` its
-default and pairs. `raw 7A94` is bytes as they stand.
+`stableswitch done 1 2 here done` has its default first, low, high and the targets; `slookupswitch done 5:here 7:done`
+its default and pairs. `raw 7A94` is bytes as they stand.
 """
+import os
 import re
+import sys
 
-# The first opcode, what stands behind it, and the instructions from there on. Operands: numbers u1, u2, s1, s2; the index of
-# an entry of the pool p1, p2; the offset of a branch b1, b2; the tables of the two switches.
-INSTRUCTIONS = """
-0    -         nop aconst_null sconst_m1 sconst_0 sconst_1 sconst_2 sconst_3 sconst_4 sconst_5
-16   s1        bspush
-17   s2        sspush
-21   u1        aload sload
-24   -         aload_0 aload_1 aload_2 aload_3 sload_0 sload_1 sload_2 sload_3
-36   -         aaload baload saload
-40   u1        astore sstore
-43   -         astore_0 astore_1 astore_2 astore_3 sstore_0 sstore_1 sstore_2 sstore_3
-55   -         aastore bastore sastore
-59   -         pop pop2 dup dup2
-63   u1        dup_x swap_x
-65   -         sadd . ssub . smul . sdiv . srem . sneg . sshl . sshr . sushr . sand . sor . sxor
-89   u1,s1     sinc
-91   -         s2b
-96   b1        ifeq ifne iflt ifge ifgt ifle ifnull ifnonnull if_acmpeq if_acmpne
-106  b1        if_scmpeq if_scmpne if_scmplt if_scmpge if_scmpgt if_scmple goto
-115  table     stableswitch
-117  pairs     slookupswitch
-119  -         areturn sreturn . return
-123  p2        getstatic_a getstatic_b getstatic_s . putstatic_a putstatic_b putstatic_s
-131  p1        getfield_a getfield_b getfield_s . putfield_a putfield_b putfield_s
-139  p2        invokevirtual invokespecial invokestatic
-142  u1,p2,u1  invokeinterface
-143  p2        new
-144  u1        newarray
-145  p2        anewarray
-146  -         arraylength athrow
-148  u1,p2     checkcast instanceof
-150  u1,s2     sinc_w
-152  b2        ifeq_w ifne_w iflt_w ifge_w ifgt_w ifle_w ifnull_w ifnonnull_w if_acmpeq_w if_acmpne_w
-162  b2        if_scmpeq_w if_scmpne_w if_scmplt_w if_scmpge_w if_scmpgt_w if_scmple_w goto_w
-169  p2        getfield_a_w getfield_b_w getfield_s_w
-173  p1        getfield_a_this getfield_b_this getfield_s_this
-177  p2        putfield_a_w putfield_b_w putfield_s_w
-181  p1        putfield_a_this putfield_b_this putfield_s_this
-"""
-
-FORMS = {}
-for line in INSTRUCTIONS.split('\n')[1:-1]:
-    first, operands, *names = line.split()
-    for number, name in enumerate(names):
-        if name != '.':
-            FORMS[name] = int(first) + number, [] if operands == '-' else operands.split(',')
-
-# Nothing falls through these.
-ENDS = ['goto', 'goto_w', 'stableswitch', 'slookupswitch', 'areturn', 'sreturn', 'return', 'athrow']
+sys.path.append(os.path.join(os.path.dirname(os.path.dirname(os.path.abspath(__file__))), 'tools'))
+from instructions import ENDS, FORMS  # noqa: E402, F401
 
 
 def number_of_bytes(name, operands):

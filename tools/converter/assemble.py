@@ -2,12 +2,14 @@
 from bisect import bisect_left
 
 from converter.classfile import Refusal
-from converter.translate import Entry, OPCODES, WIDER
+from converter.translate import Entry
+from instructions import NAMES, OPCODES
 
-SWITCHES = OPCODES['table'], OPCODES['lookup']
+SWITCHES = OPCODES['stableswitch'], OPCODES['slookupswitch']
 LONGEST = 0x7FFF  # of a method's code
-NARROW = range(OPCODES['get_object'], OPCODES['get_object'] + 8)  # instructions whose entry is one byte
-OF_THIS = range(OPCODES['get_this'], OPCODES['get_this'] + 3)
+# Instructions on fields whose entry is one byte.
+NARROW = [OPCODES[how + form] for how in ('getfield_', 'putfield_') for form in 'abs']
+OF_THIS = [OPCODES['getfield_%s_this' % form] for form in 'abs']
 
 
 def u1(number):
@@ -22,15 +24,19 @@ def spelled(number, size):
     return (number % 256 ** size).to_bytes(size, 'big')
 
 
+def wide(opcode):
+    """The opcode of the same with two bytes behind it."""
+    return OPCODES[NAMES[opcode] + '_w']
+
+
 def with_entry(card, index):
     """A field's instruction, by how far its entry stands in the pool."""
     if index < 256:
         return u1(card.opcode) + u1(index)
     if card.opcode in OF_THIS:
-        return u1(OPCODES['aload_0']) + u1(card.opcode - OF_THIS[0] + OPCODES['get_object_w']) + u2(index)
-    is_put = card.opcode >= OPCODES['put_object']
-    return u1(card.opcode - OPCODES['put_object'] + OPCODES['put_object_w'] if is_put
-              else card.opcode - OPCODES['get_object'] + OPCODES['get_object_w']) + u2(index)
+        name = NAMES[card.opcode].replace('_this', '')
+        return u1(OPCODES['aload_0']) + u1(wide(OPCODES[name])) + u2(index)
+    return u1(wide(card.opcode)) + u2(index)
 
 
 class Assembler:
@@ -88,7 +94,8 @@ class Assembler:
             return self.plain(card)
         offsets = [self.offset(n, target) for target in card.targets]
         if card.opcode not in SWITCHES:
-            return u1(card.opcode + (WIDER if n in self.wide else 0)) + spelled(offsets[0], 2 if n in self.wide else 1)
+            opcode, size = (wide(card.opcode), 2) if n in self.wide else (card.opcode, 1)
+            return u1(opcode) + spelled(offsets[0], size)
         matches = [number for _, number in card.operands]
         if card.opcode == SWITCHES[0]:
             numbers = [offsets[0], matches[0], matches[-1], *offsets[1:]]

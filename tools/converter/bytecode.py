@@ -2,26 +2,29 @@
 from dataclasses import dataclass
 
 from converter.classfile import Refusal, parameters, result, words_of
+from instructions import OPCODES
 
 # Instructions that stand for one of the card's: the opcode of a class file, and the last of its family where there are
-# several; what is taken, the top at the right; what is given; the opcode of the card. Taken is a reference r, anything
-# x, a number n of which the low 16 bits count, one e that has to lie within a short, or an index i. Given is a
-# reference r, a byte b, a short s, a length l, or nothing.
+# several; what is taken, the top at the right; what is given; the card's instruction, of a family the first. Taken is a
+# reference r, anything x, a number n of which the low 16 bits count, one e that has to lie within a short, or an index
+# i. Given is a reference r, a byte b, a short s, a length l, or nothing.
 SIMPLE = """
-00 - - 0       01 - r 1       32 ri r 36     33 ri b 37     35 ri s 38     53 rir - 55    54 rin - 56    56 rin - 57
-57 x - 59      58 xx - 60     BE r l 146     BF r - 147     99-9E e - 96   9F-A4 ee - 106 A5-A6 rr - 104 C6-C7 r - 102
-A7 - - 112     C8 - - 112
+00 - - nop           01 - r aconst_null   32 ri r aaload       33 ri b baload       35 ri s saload
+53 rir - aastore     54 rin - bastore     56 rin - sastore     57 x - pop           58 xx - pop2
+BE r l arraylength   BF r - athrow        99-9E e - ifeq       9F-A4 ee - if_scmpeq A5-A6 rr - if_acmpeq
+C6-C7 r - ifnull     A7 - - goto          C8 - - goto
 """
 
-# Operators: the opcode of a class file, what is taken, the name, the opcode of the card.
+# Operators: the opcode of a class file, what is taken, the name, the card's instruction.
 OPERATORS = """
-60 nn add 65   64 nn sub 67   68 nn mul 69   6C ee div 71   70 ee rem 73   74 n neg 75    78 nn shl 77   7A en shr 79
-7C en ushr 81  7E nn and 83   80 nn or 85    82 nn xor 87
+60 nn add sadd   64 nn sub ssub   68 nn mul smul   6C ee div sdiv   70 ee rem srem   74 n neg sneg    78 nn shl sshl
+7A en shr sshr   7C en ushr sushr 7E nn and sand   80 nn or sor     82 nn xor sxor
 """
 
-# What `dup` and its like leave of the operands on top, by their places counted from the top; the bytes of the card.
+# What `dup` and its like leave of the operands on top, by their places counted from the top; the card's instruction,
+# and the byte behind it where it has one.
 MOVES = """
-59 11 3D       5A 121 3F12    5B 1321 3F13   5C 2121 3E     5D 21321 3F23  5E 214321 3F24 5F 12 4011
+59 11 dup - 5A 121 dup_x 12 5B 1321 dup_x 13 5C 2121 dup2 - 5D 21321 dup_x 23 5E 214321 dup_x 24 5F 12 swap_x 11
 """
 
 # Opcodes for which there is nothing in the profile: what they are for, how many words they take and give, and how many
@@ -61,7 +64,7 @@ def rows(text, width):
     return found
 
 
-SIMPLE, OPERATORS, MOVES, REFUSED = rows(SIMPLE, 4), rows(OPERATORS, 4), rows(MOVES, 3), rows(REFUSED, 5)
+SIMPLE, OPERATORS, MOVES, REFUSED = rows(SIMPLE, 4), rows(OPERATORS, 4), rows(MOVES, 4), rows(REFUSED, 5)
 
 
 @dataclass
@@ -124,10 +127,11 @@ class Decoder:
             return self.simple(opcode, *SIMPLE[opcode])
         if opcode in OPERATORS:
             _, takes, name, card = OPERATORS[opcode]
-            return self.made('operate', takes, name, int(card))
+            return self.made('operate', takes, name, OPCODES[card])
         if opcode in MOVES:
-            _, places, card = MOVES[opcode]
-            return self.made('move', [int(place) for place in places], bytes.fromhex(card))
+            _, places, card, behind = MOVES[opcode]
+            card = bytes([OPCODES[card]]) + bytes.fromhex(behind.strip('-'))
+            return self.made('move', [int(place) for place in places], card)
         for read in self.constant, self.on_local, self.on_member, self.other:
             found = read(opcode)
             if found:
@@ -139,7 +143,7 @@ class Decoder:
         if 0x99 <= opcode <= 0xA7 or opcode >= 0xC6:
             targets = self.start + self.number(4 if opcode == 0xC8 else 2, signed=True),
         ends = opcode in (0xA7, 0xBF, 0xC8)
-        return self.made('simple', takes.strip('-'), gives.strip('-'), int(card) + at, targets=targets, ends=ends)
+        return self.made('simple', takes.strip('-'), gives.strip('-'), OPCODES[card] + at, targets=targets, ends=ends)
 
     def constant(self, opcode):
         if 0x02 <= opcode <= 0x08:

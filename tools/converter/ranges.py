@@ -12,12 +12,14 @@ that a comparison says something of a local, on either way that goes on from it.
 """
 from converter.classfile import Refusal, STATIC, parameters, result
 from converter.numbers import BYTE, INT, OPERATORS, SHORT, common, left_of, lies_in, widened
+from instructions import OPCODES
 
 OF_TYPE = {'Z': BYTE, 'B': BYTE, 'S': SHORT}
 REFERENCE, TOLD = 'reference', 'told'
 GIVEN = {'r': REFERENCE, 'b': BYTE, 's': SHORT, 'l': (0, SHORT[1])}
 NEEDED = {'e': SHORT, 'i': (SHORT[0], 0xFFFF)}
-WITH_ZERO, WITH_ANOTHER = range(96, 102), range(106, 112)  # the card's branches that compare numbers, by conditions
+# The card's branches that compare numbers, by conditions.
+WITH_ZERO, WITH_ANOTHER = (range(OPCODES[first], OPCODES[first] + 6) for first in ('ifeq', 'if_scmpeq'))
 PATIENCE = 4  # how often a loop is looked at before its numbers are widened
 WIDE = 'an int here may need more than 16 bits: cast the value to short or byte before'
 

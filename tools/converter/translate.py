@@ -7,21 +7,12 @@ from converter.layout import method_of, place_of
 from converter.numbers import BYTE, INT, SHORT, lies_in
 from converter.ranges import Ranges
 from converter.world import MOST, OBJECT, dotted
+from instructions import OPCODES
 
-# Opcodes of the card, of a family the first. The forms for references, bytes and shorts stand one behind the other.
-OPCODES = {
-    'sconst_0': 3, 'bspush': 16, 'sspush': 17, 'aload': 21, 'sload': 22, 'aload_0': 24, 'sload_0': 28, 'astore': 40,
-    'sstore': 41, 'astore_0': 43, 'sstore_0': 47, 'sinc': 89, 's2b': 91, 'table': 115, 'lookup': 117, 'areturn': 119,
-    'sreturn': 120, 'return': 122, 'get_static': 123, 'put_static': 127, 'get_object': 131, 'put_object': 135,
-    'virtual': 139, 'special': 140, 'static': 141, 'interface': 142, 'new': 143, 'new_words': 144,
-    'new_references': 145, 'cast': 148, 'test': 149, 'sinc_w': 150, 'get_object_w': 169, 'get_this': 173,
-    'put_object_w': 177, 'aconst_null': 1, 'pop': 59, 'dup': 61, 'ifnonnull': 103, 'throw': 147,
-}
 TESTS_NULL = Reference('java/util/Objects', 'requireNonNull', '(Ljava/lang/Object;)Ljava/lang/Object;')
 KINDS = {'Z': 10, 'B': 11, 'S': 12}  # of arrays, for newarray, checkcast and instanceof
-FORMS = {'Z': 1, 'B': 1, 'S': 2}
+FORMS = {'Z': 'b', 'B': 'b', 'S': 's'}  # of instructions on fields; of a reference a
 BEFORE = -1  # the place in front of a method's code
-WIDER = 56  # between a branch and the same with an offset of two bytes
 
 
 @dataclass(frozen=True)
@@ -159,7 +150,7 @@ class Translator:
         of, how, field = waiting[1].operands
         if (of, how) != ('object', 'get'):
             return 0
-        self.emit(OPCODES['get_this'] + FORMS.get(field.type, 0), self.field_entry(field))
+        self.emit(OPCODES['getfield_%s_this' % FORMS.get(field.type, 'a')], self.field_entry(field))
         self.used = max(self.used, 1)
         return 2
 
@@ -175,7 +166,7 @@ class Translator:
         count = 2 if is_dropped else 1
         self.emit(OPCODES['ifnonnull'], targets=(waiting[count].at,))
         self.emit(OPCODES['aconst_null'])
-        self.emit(OPCODES['throw'])
+        self.emit(OPCODES['athrow'])
         return count
 
     # Numbers, locals and the stack
@@ -226,7 +217,7 @@ class Translator:
         """A switch; a case that no short can be is refused."""
         if any(not lies_in((m, m), SHORT) for m in matches):
             raise Refusal('a case of a switch isn\'t a short')
-        self.emit(OPCODES[kind], *((2, m) for m in matches), targets=self.targets)
+        self.emit(OPCODES['s%sswitch' % kind], *((2, m) for m in matches), targets=self.targets)
 
     def on_return(self, card):
         self.emit(OPCODES[card])
@@ -234,12 +225,12 @@ class Translator:
     # Arrays
 
     def on_new_words(self, kind):
-        self.emit(OPCODES['new_words'], (1, KINDS[kind]))
+        self.emit(OPCODES['newarray'], (1, KINDS[kind]))
 
     def on_new_references(self, name):
         if name.startswith('['):
             raise Refusal('an array of arrays isn\'t in the profile')
-        self.emit(OPCODES['new_references'], self.class_entry(name))
+        self.emit(OPCODES['anewarray'], self.class_entry(name))
 
     # Classes, fields and methods
 
@@ -262,10 +253,10 @@ class Translator:
                 self.emit(opcode, (1, 14), self.class_entry(element[1:-1]))
 
     def on_cast(self, name):
-        self.tested(OPCODES['cast'], name)
+        self.tested(OPCODES['checkcast'], name)
 
     def on_test(self, name):
-        self.tested(OPCODES['test'], name)
+        self.tested(OPCODES['instanceof'], name)
 
     def missing(self, member):
         return Refusal('%s.%s isn\'t among the members that a package can name' % (dotted(member.of), member.name))
@@ -294,7 +285,8 @@ class Translator:
 
     def on_field(self, of, how, member):
         entry = self.static_field_entry(member) if of == 'static' else self.field_entry(member)
-        self.emit(OPCODES['%s_%s' % (how, of)] + FORMS.get(member.type, 0), entry)
+        name = '%s%s_%s' % (how, 'static' if of == 'static' else 'field', FORMS.get(member.type, 'a'))
+        self.emit(OPCODES[name], entry)
 
     def on_call(self, how, member):
         if member.of.startswith('['):
@@ -314,27 +306,27 @@ class Translator:
         k = self.world.find(member.of)
         token = self.virtual_token(k, member)
         if self.is_private(k, key):
-            self.emit(OPCODES['special'], self.static_entry('static method', k, key))
+            self.emit(OPCODES['invokespecial'], self.static_entry('static method', k, key))
         elif token is None or k.is_interface:
             raise self.missing(member)
         else:
-            self.emit(OPCODES['virtual'], Entry('virtual', k.name, token, member.type))
+            self.emit(OPCODES['invokevirtual'], Entry('virtual', k.name, token, member.type))
 
     def call_special(self, member, key):
         """A constructor, a private method, or one of the class above."""
         k = self.world.find(member.of)
         if self.is_private(k, key) or member.name == '<init>' and key in k.static_methods:
-            self.emit(OPCODES['special'], self.static_entry('static method', k, key))
+            self.emit(OPCODES['invokespecial'], self.static_entry('static method', k, key))
             return
         token = self.virtual_token(k, member)
         if token is None or k.is_interface:
             raise self.missing(member)
-        self.emit(OPCODES['special'], Entry('super', self.known.name, token, member.type))
+        self.emit(OPCODES['invokespecial'], Entry('super', self.known.name, token, member.type))
 
     def call_static(self, member, key):
         for k in self.world.chain(member.of):
             if key in k.static_methods and member.name != '<init>':
-                self.emit(OPCODES['static'], self.static_entry('static method', k, key))
+                self.emit(OPCODES['invokestatic'], self.static_entry('static method', k, key))
                 return
         raise self.missing(member)
 
@@ -342,9 +334,10 @@ class Translator:
         k = self.world.find(member.of)
         if k.is_interface and key in k.virtual:
             words = len(parameters(member.type)) + 1
-            self.emit(OPCODES['interface'], (1, words), self.class_entry(k.name), (1, k.virtual[key]))
+            self.emit(OPCODES['invokeinterface'], (1, words), self.class_entry(k.name), (1, k.virtual[key]))
         elif key in self.world.find(OBJECT).virtual:
-            self.emit(OPCODES['virtual'], Entry('virtual', OBJECT, self.world.find(OBJECT).virtual[key], member.type))
+            token = self.world.find(OBJECT).virtual[key]
+            self.emit(OPCODES['invokevirtual'], Entry('virtual', OBJECT, token, member.type))
         else:
             raise self.missing(member)
 

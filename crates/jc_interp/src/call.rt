@@ -163,13 +163,14 @@ impl WordMachine {
             return NO_STEP;
         }
         let native_call = WordCall {
+            world,
             member,
             arguments: call.arguments,
             active: call.owner,
             previous: None,
             selected,
         };
-        native_end(natives.call(world, &mut self.store, &native_call))
+        native_end(natives.call(&mut self.store, &native_call))
     }
 
     /// Makes a call, whatever is called.

@@ -199,13 +199,14 @@ impl WordMachine {
         };
         let owners = owners_of(here, None);
         let call = WordCall {
+            world: here.world,
             member: native_in(called)?,
             arguments: self.frames.arguments(words),
             active: owners.active,
             previous: owners.previous,
             selected: here.selected,
         };
-        natives.denial(here.world, &self.store, &call)
+        natives.denial(&self.store, &call)
     }
 
     /// What is denied of an instruction on references.

@@ -45,11 +45,11 @@ impl Natives for IdleNatives {
 
     ghost meaning = { idle };
 
-    fn call(&mut self, _world: &World, _store: &mut Store, call: &WordCall<'_>) -> WordOutcome {
+    fn call(&mut self, _store: &mut Store, call: &WordCall<'_>) -> WordOutcome {
         WordOutcome::Returned(idle_result(call.member))
     }
 
-    fn denial(&self, _world: &World, _store: &Store, _call: &WordCall<'_>) -> Option<Denial> {
+    fn denial(&self, _store: &Store, _call: &WordCall<'_>) -> Option<Denial> {
         None
     }
 

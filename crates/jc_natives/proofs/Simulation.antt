@@ -229,13 +229,13 @@ ended_agrees call touches s None work outcome objects most cells told =
     (with_room call.limits.objects call.limits.cells call.heap call.runtime work) outcome objects refl) told
 
 -- what a call shows is the same
-same_seen : (w : World) (s : Store) (word : WordCall) (call : NativeCall Kept) → s.objects ≡ bared call.heap
+same_seen : (s : Store) (word : WordCall) (call : NativeCall Kept) → s.objects ≡ bared call.heap
     → word.active ≡ call.active → word.previous ≡ call.previous → word.selected ≡ call.selected
     → s.most_objects ≡ call.limits.objects → s.most_cells ≡ call.limits.cells
-    → seen_in w s word ≡ seen_of w call
-same_seen w s word call objects active previous selected most cells =
+    → seen_in s word ≡ seen_of word.world.now call
+same_seen s word call objects active previous selected most cells =
     ap (λ x. record {
-      shapes = w.shapes;
+      shapes = word.world.now.shapes;
       objects = x;
       active = word.active;
       previous = word.previous;
@@ -245,7 +245,7 @@ same_seen w s word call objects active previous selected most cells =
       most_cells = s.most_cells;
     }) objects
     ∙ ap (λ x. record {
-      shapes = w.shapes;
+      shapes = word.world.now.shapes;
       objects = bared call.heap;
       active = x;
       previous = word.previous;
@@ -255,7 +255,7 @@ same_seen w s word call objects active previous selected most cells =
       most_cells = s.most_cells;
     }) active
     ∙ ap (λ x. record {
-      shapes = w.shapes;
+      shapes = word.world.now.shapes;
       objects = bared call.heap;
       active = call.active;
       previous = x;
@@ -265,7 +265,7 @@ same_seen w s word call objects active previous selected most cells =
       most_cells = s.most_cells;
     }) previous
     ∙ ap (λ x. record {
-      shapes = w.shapes;
+      shapes = word.world.now.shapes;
       objects = bared call.heap;
       active = call.active;
       previous =
@@ -275,7 +275,7 @@ same_seen w s word call objects active previous selected most cells =
       most_cells = s.most_cells;
     }) selected
     ∙ ap (λ x. record {
-      shapes = w.shapes;
+      shapes = word.world.now.shapes;
       objects = bared call.heap;
       active = call.active;
       previous =
@@ -285,7 +285,7 @@ same_seen w s word call objects active previous selected most cells =
       most_cells = s.most_cells;
     }) most
     ∙ ap (λ x. record {
-      shapes = w.shapes;
+      shapes = word.world.now.shapes;
       objects = bared call.heap;
       active = call.active;
       previous =
@@ -370,23 +370,24 @@ abbrev answers : World → NativeCall Kept → Bool → Option Native → Native
 answers w call b o = cond b (begun_on_words w call o) (unchanged call [] IsStuck)
 
 -- what the code did is what the member means
-pub answered : (w : World) (s : Store) (k : Kept) (word : WordCall) (d : Done) (outcome : WordOutcome)
-    → d ≡ done_of word.active s k (word_work (seen_in w s word) k word.arguments.now (numbered natives word.member))
+pub answered : (s : Store) (k : Kept) (word : WordCall) (d : Done) (outcome : WordOutcome)
+    → d ≡ done_of word.active s k (word_work (seen_in s word) k word.arguments.now (numbered natives word.member))
     → TellsEnd outcome d.ended → (call : NativeCall Kept) → CallAgrees (record { store = s; runtime = k }) word call
-    → IsFitCall meaning w call → answer_of w call ≡ answer_on_words w call
-    → AnswerAgrees (state_of d) outcome (answer_of w call)
-answered w s k word d outcome is told call agrees fit means =
+    → IsFitCall meaning word.world.now call → answer_of word.world.now call ≡ answer_on_words word.world.now call
+    → AnswerAgrees (state_of d) outcome (answer_of word.world.now call)
+answered s k word d outcome is told call agrees fit means =
+    let w = word.world.now in
     let objects = heap_bits w.shapes call.heap s.objects call.heap agrees.heap fit.heap in
     let arguments = arguments_are w call word.arguments.now agrees.arguments fit in
-    let seen = same_seen w s word call objects agrees.active agrees.previous agrees.selected agrees.most_objects
+    let seen = same_seen s word call objects agrees.active agrees.previous agrees.selected agrees.most_objects
     agrees.most_cells in
     let b = begins_of w call fit.begins in
     let whole : d ≡ done_of call.active s call.runtime
     (native_work (seen_of w call) call.runtime (arguments_of call) b.native) = is
     ∙ ap (λ owner. done_of owner s k
-    (word_work (seen_in w s word) k word.arguments.now (numbered natives word.member))) agrees.active
+    (word_work (seen_in s word) k word.arguments.now (numbered natives word.member))) agrees.active
     ∙ ap (λ x. done_of call.active s x
-    (word_work (seen_in w s word) x word.arguments.now (numbered natives word.member))) agrees.runtime
+    (word_work (seen_in s word) x word.arguments.now (numbered natives word.member))) agrees.runtime
     ∙ ap (λ x. done_of call.active s call.runtime
     (word_work x call.runtime word.arguments.now (numbered natives word.member))) seen
     ∙ ap (λ x. done_of call.active s call.runtime

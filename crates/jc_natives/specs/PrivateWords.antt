@@ -1,6 +1,5 @@
 -- What a work leaves on words: what the code is proved against.
 use Rattle.std.specs.Prelude.{◌≡◌, ℕ, List, [], ◌∷◌, Option, Some, None}
-use Rattle.jc_link.specs.Linked.{World}
 use Rattle.jc_machine.specs.declared.natives.WordCall.{WordCall}
 use Rattle.jc_machine.specs.declared.natives.WordCallback.{WordCallback}
 use Rattle.jc_machine.specs.declared.natives.WordOutcome.{WordOutcome}
@@ -26,9 +25,9 @@ use Rattle.jc_store.specs.declared.kind.Kind.{Kind}
 use Rattle.jc_store.specs.declared.kind.Mark.TheVariants.{Plain}
 
 -- what a call on words shows
-abbrev pub seen_in : World → Store → WordCall → Seen
-seen_in w store call = record {
-  shapes = w.shapes;
+abbrev pub seen_in : Store → WordCall → Seen
+seen_in store call = record {
+  shapes = call.world.now.shapes;
   objects = store.objects;
   active = call.active;
   previous = call.previous;

@@ -14,10 +14,10 @@ use crate::bytes::{copy_bytes, same_bytes};
 use crate::cells::{aid_count, argument, bit, extended, put};
 use crate::ended::{Ended, throw_system};
 use crate::kept::Runtime;
+use crate::member::{Member, tested};
 use crate::native::AidNative;
+use crate::row::Row;
 use crate::rows::aid_row;
-use crate::tests::refusal;
-use jc_link::World;
 use jc_machine::WordCall;
 use jc_store::Store;
 
@@ -40,10 +40,10 @@ fn keep(store: &mut Store, aid: u16, array: u16, offset: u16, count: u16)
     put(store, aid, 0, count);
 }
 
-fn construct(world: &World, store: &mut Store, call: &WordCall<'_>, runtime: &Runtime) -> Ended
+fn construct(store: &mut Store, call: &WordCall<'_>, runtime: &Runtime) -> Ended
     ensures { record { store = store.new; kept = runtime.now; ended = result }
         ≡ done_of call.now.active store.old runtime.now
-        (aid_work (seen_in world.now store.old call.now) runtime.now call.now.arguments.now natives.Construct) }
+        (aid_work (seen_in store.old call.now) runtime.now call.now.arguments.now natives.Construct) }
 {
     let aid = argument(call.arguments, 0);
     let array = argument(call.arguments, 1);
@@ -58,7 +58,6 @@ fn construct(world: &World, store: &mut Store, call: &WordCall<'_>, runtime: &Ru
 
 // Whether an AID is exactly the bytes of a range.
 fn is_range(
-    world: &World,
     store: &Store,
     call: &WordCall<'_>,
     aid: u16,
@@ -66,7 +65,7 @@ fn is_range(
     offset: u16,
     count: u16,
 ) -> bool
-    ensures { result ≡ is_range (seen_in world.now store.now call.now) aid array offset count }
+    ensures { result ≡ is_range (seen_in store.now call.now) aid array offset count }
 {
     if array == 0 {
         return false;
@@ -74,8 +73,8 @@ fn is_range(
     aid_count(store, aid) == count && same_bytes(store, aid, 1, array, usize::from(offset), count)
 }
 
-fn equals(world: &World, store: &Store, call: &WordCall<'_>) -> bool
-    ensures { result ≡ is_range (seen_in world.now store.now call.now) (argument call.now.arguments.now 0)
+fn equals(store: &Store, call: &WordCall<'_>) -> bool
+    ensures { result ≡ is_range (seen_in store.now call.now) (argument call.now.arguments.now 0)
         (argument call.now.arguments.now 1) (argument call.now.arguments.now 2)
         (extended (argument call.now.arguments.now 3)) }
 {
@@ -83,13 +82,13 @@ fn equals(world: &World, store: &Store, call: &WordCall<'_>) -> bool
     let array = argument(call.arguments, 1);
     let offset = argument(call.arguments, 2);
     let count = extended(argument(call.arguments, 3));
-    is_range(world, store, call, aid, array, offset, count)
+    is_range(store, call, aid, array, offset, count)
 }
 
-fn get_bytes(world: &World, store: &mut Store, call: &WordCall<'_>, runtime: &Runtime) -> Ended
+fn get_bytes(store: &mut Store, call: &WordCall<'_>, runtime: &Runtime) -> Ended
     ensures { record { store = store.new; kept = runtime.now; ended = result }
         ≡ done_of call.now.active store.old runtime.now
-        (aid_work (seen_in world.now store.old call.now) runtime.now call.now.arguments.now natives.GetBytes) }
+        (aid_work (seen_in store.old call.now) runtime.now call.now.arguments.now natives.GetBytes) }
 {
     let aid = argument(call.arguments, 0);
     let array = argument(call.arguments, 1);
@@ -101,59 +100,49 @@ fn get_bytes(world: &World, store: &mut Store, call: &WordCall<'_>, runtime: &Ru
 
 // Does the work of a member of AID.
 #[inline(always)]
-fn aid_work(
-    world: &World,
-    store: &mut Store,
-    call: &WordCall<'_>,
-    runtime: &Runtime,
-    native: AidNative,
-) -> Ended
+fn aid_work(store: &mut Store, call: &WordCall<'_>, runtime: &Runtime, native: AidNative) -> Ended
     ensures { record { store = store.new; kept = runtime.now; ended = result }
         ≡ done_of call.now.active store.old runtime.now
-        (aid_work (seen_in world.now store.old call.now) runtime.now call.now.arguments.now native) }
+        (aid_work (seen_in store.old call.now) runtime.now call.now.arguments.now native) }
 {
     match native {
-        AidNative::Construct => construct(world, store, call, runtime),
-        AidNative::Equals => Ended::Returned(Some(bit(equals(world, store, call)))),
-        AidNative::GetBytes => get_bytes(world, store, call, runtime),
+        AidNative::Construct => construct(store, call, runtime),
+        AidNative::Equals => Ended::Returned(Some(bit(equals(store, call)))),
+        AidNative::GetBytes => get_bytes(store, call, runtime),
     }
 }
 
-// Tests the arguments of a member of AID, and does its work.
-#[inline(always)]
-fn tested(
-    world: &World,
-    store: &mut Store,
-    call: &WordCall<'_>,
-    runtime: &Runtime,
-    native: AidNative,
-) -> Ended
-    ensures { record { store = store.new; kept = runtime.now; ended = result }
-        ≡ done_of call.now.active store.old runtime.now
-        (native_work (seen_in world.now store.old call.now) runtime.now call.now.arguments.now (OfAid native)) }
-{
-    match refusal(world, store, call, &aid_row(native)) {
-        Some(object) => Ended::Thrown(object),
-        None => aid_work(world, store, call, runtime, native),
+impl Member for AidNative {
+    ghost use Rattle.jc_natives.specs.declared.native.Native.TheVariants.{OfAid};
+
+    ghost native = { λ member. OfAid member };
+
+    #[inline(always)]
+    fn row(self) -> Row {
+        aid_row(self)
+    }
+
+    #[inline(always)]
+    fn work(self, store: &mut Store, call: &WordCall<'_>, runtime: &mut Runtime) -> Ended {
+        aid_work(store, call, runtime, self)
     }
 }
 
 /// Calls a member of AID. Each arm names its member, so that its row is known when it is compiled.
 #[inline(never)]
 pub(crate) fn aid_native(
-    world: &World,
     store: &mut Store,
     call: &WordCall<'_>,
-    runtime: &Runtime,
+    runtime: &mut Runtime,
     native: AidNative,
 ) -> Ended
-    ensures { record { store = store.new; kept = runtime.now; ended = result }
-        ≡ done_of call.now.active store.old runtime.now
-        (native_work (seen_in world.now store.old call.now) runtime.now call.now.arguments.now (OfAid native)) }
+    ensures { record { store = store.new; kept = runtime.new; ended = result }
+        ≡ done_of call.now.active store.old runtime.old
+        (native_work (seen_in store.old call.now) runtime.old call.now.arguments.now (OfAid native)) }
 {
     match native {
-        AidNative::Construct => tested(world, store, call, runtime, AidNative::Construct),
-        AidNative::Equals => tested(world, store, call, runtime, AidNative::Equals),
-        AidNative::GetBytes => tested(world, store, call, runtime, AidNative::GetBytes),
+        AidNative::Construct => tested(AidNative::Construct, store, call, runtime),
+        AidNative::Equals => tested(AidNative::Equals, store, call, runtime),
+        AidNative::GetBytes => tested(AidNative::GetBytes, store, call, runtime),
     }
 }

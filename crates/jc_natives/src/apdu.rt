@@ -11,10 +11,10 @@ use crate::bytes::put_bytes;
 use crate::cells::{argument, is_within, size};
 use crate::ended::{Ended, throw_apdu};
 use crate::kept::{ApduState, Runtime};
+use crate::member::{Member, tested};
 use crate::native::ApduNative;
+use crate::row::Row;
 use crate::rows::apdu_row;
-use crate::tests::refusal;
-use jc_link::World;
 use jc_machine::WordCall;
 use jc_store::Store;
 
@@ -71,10 +71,10 @@ fn is_length_set(state: ApduState) -> bool
     }
 }
 
-fn receive(world: &World, store: &mut Store, call: &WordCall<'_>, runtime: &mut Runtime) -> Ended
+fn receive(store: &mut Store, call: &WordCall<'_>, runtime: &mut Runtime) -> Ended
     ensures { record { store = store.new; kept = runtime.new; ended = result }
         ≡ done_of call.now.active store.old runtime.old
-        (apdu_work (seen_in world.now store.old call.now)
+        (apdu_work (seen_in store.old call.now)
         runtime.old call.now.arguments.now natives.SetIncomingAndReceive) }
 {
     if !is_fresh(runtime.state()) {
@@ -86,10 +86,10 @@ fn receive(world: &World, store: &mut Store, call: &WordCall<'_>, runtime: &mut 
     Ended::Returned(Some(count))
 }
 
-fn turn(world: &World, store: &mut Store, call: &WordCall<'_>, runtime: &mut Runtime) -> Ended
+fn turn(store: &mut Store, call: &WordCall<'_>, runtime: &mut Runtime) -> Ended
     ensures { record { store = store.new; kept = runtime.new; ended = result }
         ≡ done_of call.now.active store.old runtime.old
-        (apdu_work (seen_in world.now store.old call.now) runtime.old call.now.arguments.now natives.SetOutgoing) }
+        (apdu_work (seen_in store.old call.now) runtime.old call.now.arguments.now natives.SetOutgoing) }
 {
     if !is_incoming(runtime.state()) {
         return throw_apdu(store, ILLEGAL_USE);
@@ -99,10 +99,10 @@ fn turn(world: &World, store: &mut Store, call: &WordCall<'_>, runtime: &mut Run
     Ended::Returned(Some(expected))
 }
 
-fn set_length(world: &World, store: &mut Store, call: &WordCall<'_>, runtime: &mut Runtime) -> Ended
+fn set_length(store: &mut Store, call: &WordCall<'_>, runtime: &mut Runtime) -> Ended
     ensures { record { store = store.new; kept = runtime.new; ended = result }
         ≡ done_of call.now.active store.old runtime.old
-        (apdu_work (seen_in world.now store.old call.now)
+        (apdu_work (seen_in store.old call.now)
         runtime.old call.now.arguments.now natives.SetOutgoingLength) }
 {
     if !is_outgoing(runtime.state()) {
@@ -118,7 +118,6 @@ fn set_length(world: &World, store: &mut Store, call: &WordCall<'_>, runtime: &m
 
 // Sends so many bytes of an array more, where they are no more in all than was announced.
 fn send(
-    world: &World,
     store: &mut Store,
     call: &WordCall<'_>,
     runtime: &mut Runtime,
@@ -128,7 +127,7 @@ fn send(
 ) -> Ended
     ensures { record { store = store.new; kept = runtime.new; ended = result }
         ≡ done_of call.now.active store.old runtime.old
-        (sends (seen_in world.now store.old call.now) runtime.old array offset count) }
+        (sends (seen_in store.old call.now) runtime.old array offset count) }
 {
     if !runtime.may_send(count) {
         return throw_apdu(store, ILLEGAL_USE);
@@ -138,37 +137,32 @@ fn send(
 }
 
 // Whether a range lies in the buffer.
-fn is_in_buffer(world: &World, store: &Store, call: &WordCall<'_>, offset: u16, count: u16) -> bool
-    ensures { result ≡ is_in_buffer (seen_in world.now store.now call.now) offset count }
+fn is_in_buffer(store: &Store, call: &WordCall<'_>, offset: u16, count: u16) -> bool
+    ensures { result ≡ is_in_buffer (seen_in store.now call.now) offset count }
 {
     is_within(size(store, BUFFER), offset, count)
 }
 
-fn send_bytes(world: &World, store: &mut Store, call: &WordCall<'_>, runtime: &mut Runtime) -> Ended
+fn send_bytes(store: &mut Store, call: &WordCall<'_>, runtime: &mut Runtime) -> Ended
     ensures { record { store = store.new; kept = runtime.new; ended = result }
         ≡ done_of call.now.active store.old runtime.old
-        (apdu_work (seen_in world.now store.old call.now) runtime.old call.now.arguments.now natives.SendBytes) }
+        (apdu_work (seen_in store.old call.now) runtime.old call.now.arguments.now natives.SendBytes) }
 {
     if !is_length_set(runtime.state()) {
         return throw_apdu(store, ILLEGAL_USE);
     }
     let offset = argument(call.arguments, 1);
     let count = argument(call.arguments, 2);
-    if !is_in_buffer(world, store, call, offset, count) {
+    if !is_in_buffer(store, call, offset, count) {
         return throw_apdu(store, BUFFER_BOUNDS);
     }
-    send(world, store, call, runtime, BUFFER, offset, count)
+    send(store, call, runtime, BUFFER, offset, count)
 }
 
-fn send_bytes_long(
-    world: &World,
-    store: &mut Store,
-    call: &WordCall<'_>,
-    runtime: &mut Runtime,
-) -> Ended
+fn send_bytes_long(store: &mut Store, call: &WordCall<'_>, runtime: &mut Runtime) -> Ended
     ensures { record { store = store.new; kept = runtime.new; ended = result }
         ≡ done_of call.now.active store.old runtime.old
-        (apdu_work (seen_in world.now store.old call.now) runtime.old call.now.arguments.now natives.SendBytesLong) }
+        (apdu_work (seen_in store.old call.now) runtime.old call.now.arguments.now natives.SendBytesLong) }
 {
     if !is_length_set(runtime.state()) {
         return throw_apdu(store, ILLEGAL_USE);
@@ -176,12 +170,11 @@ fn send_bytes_long(
     let array = argument(call.arguments, 1);
     let offset = argument(call.arguments, 2);
     let count = argument(call.arguments, 3);
-    send(world, store, call, runtime, array, offset, count)
+    send(store, call, runtime, array, offset, count)
 }
 
 // Sends a range of the buffer as all that is sent.
 fn send_at_once(
-    world: &World,
     store: &mut Store,
     call: &WordCall<'_>,
     runtime: &mut Runtime,
@@ -190,7 +183,7 @@ fn send_at_once(
 ) -> Ended
     ensures { record { store = store.new; kept = runtime.new; ended = result }
         ≡ done_of call.now.active store.old runtime.old
-        (sends_at_once (seen_in world.now store.old call.now) runtime.old offset count) }
+        (sends_at_once (seen_in store.old call.now) runtime.old offset count) }
 {
     if !is_incoming(runtime.state()) {
         return throw_apdu(store, ILLEGAL_USE);
@@ -198,7 +191,7 @@ fn send_at_once(
     if count > MOST_SENT {
         return throw_apdu(store, BAD_LENGTH);
     }
-    if !is_in_buffer(world, store, call, offset, count) {
+    if !is_in_buffer(store, call, offset, count) {
         return throw_apdu(store, BUFFER_BOUNDS);
     }
     runtime.announce(count);
@@ -210,7 +203,6 @@ fn send_at_once(
 // Does the work of a member of APDU.
 #[inline(always)]
 fn apdu_work(
-    world: &World,
     store: &mut Store,
     call: &WordCall<'_>,
     runtime: &mut Runtime,
@@ -218,46 +210,42 @@ fn apdu_work(
 ) -> Ended
     ensures { record { store = store.new; kept = runtime.new; ended = result }
         ≡ done_of call.now.active store.old runtime.old
-        (apdu_work (seen_in world.now store.old call.now) runtime.old call.now.arguments.now native) }
+        (apdu_work (seen_in store.old call.now) runtime.old call.now.arguments.now native) }
 {
     match native {
         ApduNative::GetBuffer => Ended::Returned(Some(BUFFER)),
-        ApduNative::SetIncomingAndReceive => receive(world, store, call, runtime),
-        ApduNative::SetOutgoing => turn(world, store, call, runtime),
-        ApduNative::SetOutgoingLength => set_length(world, store, call, runtime),
-        ApduNative::SendBytes => send_bytes(world, store, call, runtime),
-        ApduNative::SendBytesLong => send_bytes_long(world, store, call, runtime),
+        ApduNative::SetIncomingAndReceive => receive(store, call, runtime),
+        ApduNative::SetOutgoing => turn(store, call, runtime),
+        ApduNative::SetOutgoingLength => set_length(store, call, runtime),
+        ApduNative::SendBytes => send_bytes(store, call, runtime),
+        ApduNative::SendBytesLong => send_bytes_long(store, call, runtime),
         ApduNative::SetOutgoingAndSend => {
             let offset = argument(call.arguments, 1);
             let count = argument(call.arguments, 2);
-            send_at_once(world, store, call, runtime, offset, count)
+            send_at_once(store, call, runtime, offset, count)
         }
     }
 }
 
-// Tests the arguments of a member of APDU, and does its work.
-#[inline(always)]
-fn tested(
-    world: &World,
-    store: &mut Store,
-    call: &WordCall<'_>,
-    runtime: &mut Runtime,
-    native: ApduNative,
-) -> Ended
-    ensures { record { store = store.new; kept = runtime.new; ended = result }
-        ≡ done_of call.now.active store.old runtime.old
-        (native_work (seen_in world.now store.old call.now) runtime.old call.now.arguments.now (OfApdu native)) }
-{
-    match refusal(world, store, call, &apdu_row(native)) {
-        Some(object) => Ended::Thrown(object),
-        None => apdu_work(world, store, call, runtime, native),
+impl Member for ApduNative {
+    ghost use Rattle.jc_natives.specs.declared.native.Native.TheVariants.{OfApdu};
+
+    ghost native = { λ member. OfApdu member };
+
+    #[inline(always)]
+    fn row(self) -> Row {
+        apdu_row(self)
+    }
+
+    #[inline(always)]
+    fn work(self, store: &mut Store, call: &WordCall<'_>, runtime: &mut Runtime) -> Ended {
+        apdu_work(store, call, runtime, self)
     }
 }
 
 /// Calls a member of APDU. Each arm names its member, so that its row is known when it is compiled.
 #[inline(never)]
 pub(crate) fn apdu_native(
-    world: &World,
     store: &mut Store,
     call: &WordCall<'_>,
     runtime: &mut Runtime,
@@ -265,27 +253,21 @@ pub(crate) fn apdu_native(
 ) -> Ended
     ensures { record { store = store.new; kept = runtime.new; ended = result }
         ≡ done_of call.now.active store.old runtime.old
-        (native_work (seen_in world.now store.old call.now) runtime.old call.now.arguments.now (OfApdu native)) }
+        (native_work (seen_in store.old call.now) runtime.old call.now.arguments.now (OfApdu native)) }
 {
     match native {
-        ApduNative::GetBuffer => tested(world, store, call, runtime, ApduNative::GetBuffer),
+        ApduNative::GetBuffer => tested(ApduNative::GetBuffer, store, call, runtime),
         ApduNative::SetIncomingAndReceive => {
-            tested(
-                world,
-                store,
-                call,
-                runtime,
-                ApduNative::SetIncomingAndReceive,
-            )
+            tested(ApduNative::SetIncomingAndReceive, store, call, runtime)
         }
-        ApduNative::SetOutgoing => tested(world, store, call, runtime, ApduNative::SetOutgoing),
+        ApduNative::SetOutgoing => tested(ApduNative::SetOutgoing, store, call, runtime),
         ApduNative::SetOutgoingLength => {
-            tested(world, store, call, runtime, ApduNative::SetOutgoingLength)
+            tested(ApduNative::SetOutgoingLength, store, call, runtime)
         }
-        ApduNative::SendBytes => tested(world, store, call, runtime, ApduNative::SendBytes),
-        ApduNative::SendBytesLong => tested(world, store, call, runtime, ApduNative::SendBytesLong),
+        ApduNative::SendBytes => tested(ApduNative::SendBytes, store, call, runtime),
+        ApduNative::SendBytesLong => tested(ApduNative::SendBytesLong, store, call, runtime),
         ApduNative::SetOutgoingAndSend => {
-            tested(world, store, call, runtime, ApduNative::SetOutgoingAndSend)
+            tested(ApduNative::SetOutgoingAndSend, store, call, runtime)
         }
     }
 }

@@ -14,12 +14,12 @@ use crate::bytes::{append_bytes, put_bytes};
 use crate::cells::{argument, bit, extended, put};
 use crate::ended::{Ended, throw_system};
 use crate::kept::{Installing, Instance, Runtime};
+use crate::member::{Member, tested};
 use crate::native::AppletNative;
+use crate::row::Row;
 use crate::rows::applet_row;
-use crate::tests::refusal;
 use arrayvec::ArrayVec;
 use jc_base::Aid;
-use jc_link::World;
 use jc_machine::WordCall;
 use jc_names::Owner;
 use jc_store::Store;
@@ -46,31 +46,19 @@ fn owner_of(store: &Store, number: u16) -> Owner
 }
 
 // Whether an object belongs to the instance that is being installed, which hasn't registered.
-fn may_register(
-    world: &World,
-    store: &Store,
-    call: &WordCall<'_>,
-    object: u16,
-    installing: &Installing,
-) -> bool
-    ensures { result ≡ may_register (seen_in world.now store.now call.now) object installing.now }
+fn may_register(store: &Store, call: &WordCall<'_>, object: u16, installing: &Installing) -> bool
+    ensures { result ≡ may_register (seen_in store.now call.now) object installing.now }
 {
     !installing.registered && owner_of(store, object).instance == installing.owner.instance
 }
 
 // The instance that is being installed, if an object may register in its name.
-fn allowed(
-    world: &World,
-    store: &Store,
-    call: &WordCall<'_>,
-    runtime: &Runtime,
-    object: u16,
-) -> Option<Installing>
-    ensures allowed { result ≡ allowed (seen_in world.now store.now call.now) object runtime.now.installing }
+fn allowed(store: &Store, call: &WordCall<'_>, runtime: &Runtime, object: u16) -> Option<Installing>
+    ensures allowed { result ≡ allowed (seen_in store.now call.now) object runtime.now.installing }
     ensures waits { IfSome result (λ i. waits runtime.now ≡ true) }
 {
     let installing = runtime.installing()?;
-    if may_register(world, store, call, object, &installing) {
+    if may_register(store, call, object, &installing) {
         Some(installing)
     } else {
         None
@@ -86,7 +74,6 @@ fn is_free(runtime: &Runtime, aid: &[u8]) -> bool
 
 // Registers the instance with a number under an AID that no registered instance has.
 fn register_as(
-    world: &World,
     store: &mut Store,
     call: &WordCall<'_>,
     runtime: &mut Runtime,
@@ -97,7 +84,7 @@ fn register_as(
     requires { waits runtime.old ≡ true }
     ensures { record { store = store.new; kept = runtime.new; ended = result }
         ≡ done_of call.now.active store.old runtime.old
-        (registers (seen_in world.now store.old call.now) runtime.old instance object aid) }
+        (registers (seen_in store.old call.now) runtime.old instance object aid) }
 {
     if !is_free(runtime, aid.as_slice()) {
         return throw_system(store, ILLEGAL_AID);
@@ -110,17 +97,17 @@ fn register_as(
     Ended::Returned(None)
 }
 
-fn register(world: &World, store: &mut Store, call: &WordCall<'_>, runtime: &mut Runtime) -> Ended
+fn register(store: &mut Store, call: &WordCall<'_>, runtime: &mut Runtime) -> Ended
     ensures { record { store = store.new; kept = runtime.new; ended = result }
         ≡ done_of call.now.active store.old runtime.old
-        (applet_work (seen_in world.now store.old call.now) runtime.old call.now.arguments.now natives.Register) }
+        (applet_work (seen_in store.old call.now) runtime.old call.now.arguments.now natives.Register) }
 {
     let object = argument(call.arguments, 0);
-    match allowed(world, store, call, runtime, object) {
+    match allowed(store, call, runtime, object) {
         None => throw_system(store, ILLEGAL_AID),
         Some(installing) => {
             let number = installing.owner.instance;
-            register_as(world, store, call, runtime, number, object, installing.aid)
+            register_as(store, call, runtime, number, object, installing.aid)
         }
     }
 }
@@ -139,7 +126,6 @@ fn aid_in(store: &Store, array: u16, offset: u16, count: u16) -> Option<Aid>
 
 // Registers the instance with a number under the bytes of a range.
 fn register_range(
-    world: &World,
     store: &mut Store,
     call: &WordCall<'_>,
     runtime: &mut Runtime,
@@ -148,7 +134,7 @@ fn register_range(
     requires { waits runtime.old ≡ true }
     ensures { record { store = store.new; kept = runtime.new; ended = result }
         ≡ done_of call.now.active store.old runtime.old
-        (registers_range (seen_in world.now store.old call.now) runtime.old call.now.arguments.now instance) }
+        (registers_range (seen_in store.old call.now) runtime.old call.now.arguments.now instance) }
 {
     let object = argument(call.arguments, 0);
     let array = argument(call.arguments, 1);
@@ -156,33 +142,25 @@ fn register_range(
     let count = extended(argument(call.arguments, 3));
     match aid_in(store, array, offset, count) {
         None => throw_system(store, ILLEGAL_VALUE),
-        Some(aid) => register_as(world, store, call, runtime, instance, object, aid),
+        Some(aid) => register_as(store, call, runtime, instance, object, aid),
     }
 }
 
-fn register_bytes(
-    world: &World,
-    store: &mut Store,
-    call: &WordCall<'_>,
-    runtime: &mut Runtime,
-) -> Ended
+fn register_bytes(store: &mut Store, call: &WordCall<'_>, runtime: &mut Runtime) -> Ended
     ensures { record { store = store.new; kept = runtime.new; ended = result }
         ≡ done_of call.now.active store.old runtime.old
-        (applet_work (seen_in world.now store.old call.now) runtime.old call.now.arguments.now natives.RegisterBytes) }
+        (applet_work (seen_in store.old call.now) runtime.old call.now.arguments.now natives.RegisterBytes) }
 {
     let object = argument(call.arguments, 0);
-    match allowed(world, store, call, runtime, object) {
+    match allowed(store, call, runtime, object) {
         None => throw_system(store, ILLEGAL_AID),
-        Some(installing) => {
-            register_range(world, store, call, runtime, installing.owner.instance)
-        }
+        Some(installing) => { register_range(store, call, runtime, installing.owner.instance) }
     }
 }
 
 // Does the work of a member of Applet.
 #[inline(always)]
 fn applet_work(
-    world: &World,
     store: &mut Store,
     call: &WordCall<'_>,
     runtime: &mut Runtime,
@@ -190,11 +168,11 @@ fn applet_work(
 ) -> Ended
     ensures { record { store = store.new; kept = runtime.new; ended = result }
         ≡ done_of call.now.active store.old runtime.old
-        (applet_work (seen_in world.now store.old call.now) runtime.old call.now.arguments.now native) }
+        (applet_work (seen_in store.old call.now) runtime.old call.now.arguments.now native) }
 {
     match native {
-        AppletNative::Register => register(world, store, call, runtime),
-        AppletNative::RegisterBytes => register_bytes(world, store, call, runtime),
+        AppletNative::Register => register(store, call, runtime),
+        AppletNative::RegisterBytes => register_bytes(store, call, runtime),
         AppletNative::Select => Ended::Returned(Some(1)),
         AppletNative::Deselect | AppletNative::Process => Ended::Returned(None),
         AppletNative::SelectingApplet => Ended::Returned(Some(bit(runtime.is_selecting()))),
@@ -202,29 +180,25 @@ fn applet_work(
     }
 }
 
-// Tests the arguments of a member of Applet, and does its work.
-#[inline(always)]
-fn tested(
-    world: &World,
-    store: &mut Store,
-    call: &WordCall<'_>,
-    runtime: &mut Runtime,
-    native: AppletNative,
-) -> Ended
-    ensures { record { store = store.new; kept = runtime.new; ended = result }
-        ≡ done_of call.now.active store.old runtime.old
-        (native_work (seen_in world.now store.old call.now) runtime.old call.now.arguments.now (OfApplet native)) }
-{
-    match refusal(world, store, call, &applet_row(native)) {
-        Some(object) => Ended::Thrown(object),
-        None => applet_work(world, store, call, runtime, native),
+impl Member for AppletNative {
+    ghost use Rattle.jc_natives.specs.declared.native.Native.TheVariants.{OfApplet};
+
+    ghost native = { λ member. OfApplet member };
+
+    #[inline(always)]
+    fn row(self) -> Row {
+        applet_row(self)
+    }
+
+    #[inline(always)]
+    fn work(self, store: &mut Store, call: &WordCall<'_>, runtime: &mut Runtime) -> Ended {
+        applet_work(store, call, runtime, self)
     }
 }
 
 /// Calls a member of Applet. Each arm names its member, so that its row is known when it is compiled.
 #[inline(never)]
 pub(crate) fn applet_native(
-    world: &World,
     store: &mut Store,
     call: &WordCall<'_>,
     runtime: &mut Runtime,
@@ -232,21 +206,17 @@ pub(crate) fn applet_native(
 ) -> Ended
     ensures { record { store = store.new; kept = runtime.new; ended = result }
         ≡ done_of call.now.active store.old runtime.old
-        (native_work (seen_in world.now store.old call.now) runtime.old call.now.arguments.now (OfApplet native)) }
+        (native_work (seen_in store.old call.now) runtime.old call.now.arguments.now (OfApplet native)) }
 {
     match native {
-        AppletNative::Register => tested(world, store, call, runtime, AppletNative::Register),
-        AppletNative::RegisterBytes => {
-            tested(world, store, call, runtime, AppletNative::RegisterBytes)
-        }
-        AppletNative::Select => tested(world, store, call, runtime, AppletNative::Select),
-        AppletNative::Deselect => tested(world, store, call, runtime, AppletNative::Deselect),
-        AppletNative::Process => tested(world, store, call, runtime, AppletNative::Process),
+        AppletNative::Register => tested(AppletNative::Register, store, call, runtime),
+        AppletNative::RegisterBytes => { tested(AppletNative::RegisterBytes, store, call, runtime) }
+        AppletNative::Select => tested(AppletNative::Select, store, call, runtime),
+        AppletNative::Deselect => tested(AppletNative::Deselect, store, call, runtime),
+        AppletNative::Process => tested(AppletNative::Process, store, call, runtime),
         AppletNative::SelectingApplet => {
-            tested(world, store, call, runtime, AppletNative::SelectingApplet)
+            tested(AppletNative::SelectingApplet, store, call, runtime)
         }
-        AppletNative::GetShareable => {
-            tested(world, store, call, runtime, AppletNative::GetShareable)
-        }
+        AppletNative::GetShareable => { tested(AppletNative::GetShareable, store, call, runtime) }
     }
 }

@@ -9,7 +9,6 @@ use crate::row::{Row, Test, Way};
 use crate::rows::{aid_row, apdu_row, applet_row, object_row, system_row, utility_row};
 use crate::tests::{access_of, facts_of};
 use jc_firewall::{Denial, denial};
-use jc_link::World;
 use jc_machine::WordCall;
 use jc_store::Store;
 
@@ -28,41 +27,30 @@ fn row_of(native: Native) -> Row
 }
 
 // What is denied of a use of an object.
-fn denied_use(
-    world: &World,
-    store: &Store,
-    call: &WordCall<'_>,
-    way: Way,
-    number: u16,
-) -> Option<Denial> {
+fn denied_use(store: &Store, call: &WordCall<'_>, way: Way, number: u16) -> Option<Denial> {
     if !store.is_there(number) {
         return None;
     }
-    let facts = facts_of(world, store, call, number);
+    let facts = facts_of(store, call, number);
     denial(access_of(way), call.active.context, &facts)
 }
 
 // What is denied of what is tested.
-fn denied_test(world: &World, store: &Store, call: &WordCall<'_>, wanted: Test) -> Option<Denial> {
+fn denied_test(store: &Store, call: &WordCall<'_>, wanted: Test) -> Option<Denial> {
     match wanted {
         Test::Nothing => None,
         Test::Object(place, way) | Test::ObjectOrNull(place, way) => {
-            denied_use(world, store, call, way, argument(call.arguments, place))
+            denied_use(store, call, way, argument(call.arguments, place))
         }
-        Test::BesideAid => denied_use(world, store, call, Way::Calls, argument(call.arguments, 1)),
+        Test::BesideAid => denied_use(store, call, Way::Calls, argument(call.arguments, 1)),
     }
 }
 
 /// The first that is denied of what a member tests.
-pub(crate) fn denied(
-    world: &World,
-    store: &Store,
-    call: &WordCall<'_>,
-    native: Native,
-) -> Option<Denial> {
+pub(crate) fn denied(store: &Store, call: &WordCall<'_>, native: Native) -> Option<Denial> {
     let row = row_of(native);
-    match denied_test(world, store, call, row.first) {
+    match denied_test(store, call, row.first) {
         Some(denial) => Some(denial),
-        None => denied_test(world, store, call, row.second),
+        None => denied_test(store, call, row.second),
     }
 }

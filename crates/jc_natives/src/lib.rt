@@ -11,6 +11,7 @@ mod ended;
 mod examples;
 mod kept;
 mod laws;
+mod member;
 mod members;
 mod native;
 mod object;

@@ -18,14 +18,15 @@ use crate::applet::applet_native;
 use crate::denied::denied;
 use crate::ended::{Ended, Question};
 use crate::kept::Runtime;
+use crate::member::tested;
 use crate::native::{Native, UtilityNative, native_of};
 use crate::object::object_native;
 use crate::system::system_native;
-use crate::utility::{tested, utility_called, utility_native};
+use crate::utility::{utility_called, utility_native};
 use arrayvec::ArrayVec;
 use jc_classes::growing_keeps_lookups;
 use jc_firewall::Denial;
-use jc_link::{World, built_worlds_are_sound, built_worlds_have_the_api, growing_keeps_linking};
+use jc_link::{built_worlds_are_sound, built_worlds_have_the_api, growing_keeps_linking};
 use jc_machine::{Natives, WordCall, WordCallback, WordOutcome};
 use jc_store::Store;
 
@@ -35,7 +36,6 @@ const ANSWERING_MEMBER: u16 = 40;
 // Tests the arguments of a member, and does its work.
 #[inline(always)]
 fn call_native(
-    world: &World,
     store: &mut Store,
     call: &WordCall<'_>,
     runtime: &mut Runtime,
@@ -43,48 +43,39 @@ fn call_native(
 ) -> Ended
     ensures { record { store = store.new; kept = runtime.new; ended = result }
         ≡ done_of call.now.active store.old runtime.old
-        (native_work (seen_in world.now store.old call.now) runtime.old call.now.arguments.now native) }
+        (native_work (seen_in store.old call.now) runtime.old call.now.arguments.now native) }
 {
     match native {
-        Native::OfObject(native) => object_native(world, store, call, runtime, native),
-        Native::OfAid(native) => aid_native(world, store, call, runtime, native),
-        Native::OfApdu(native) => apdu_native(world, store, call, runtime, native),
-        Native::OfApplet(native) => applet_native(world, store, call, runtime, native),
-        Native::OfSystem(native) => system_native(world, store, call, runtime, native),
-        Native::OfUtility(native) => utility_native(world, store, call, runtime, native),
+        Native::OfObject(native) => object_native(store, call, runtime, native),
+        Native::OfAid(native) => aid_native(store, call, runtime, native),
+        Native::OfApdu(native) => apdu_native(store, call, runtime, native),
+        Native::OfApplet(native) => applet_native(store, call, runtime, native),
+        Native::OfSystem(native) => system_native(store, call, runtime, native),
+        Native::OfUtility(native) => utility_native(store, call, runtime, native),
     }
 }
 
 // Calls the member with a number, if there is one. Those of Util are named by their numbers. The smallest are compiled
 // in place, for calls with as many words as they take: so their arguments are known to be there.
 #[inline(always)]
-fn call_member(
-    world: &World,
-    store: &mut Store,
-    call: &WordCall<'_>,
-    runtime: &mut Runtime,
-) -> Ended
+fn call_member(store: &mut Store, call: &WordCall<'_>, runtime: &mut Runtime) -> Ended
     ensures { record { store = store.new; kept = runtime.new; ended = result }
         ≡ done_of call.now.active store.old runtime.old
-        (word_work (seen_in world.now store.old call.now) runtime.old call.now.arguments.now
+        (word_work (seen_in store.old call.now) runtime.old call.now.arguments.now
         (numbered natives call.now.member)) }
 {
     match call.member {
-        49 => utility_called(world, store, call, runtime, UtilityNative::ArrayCopy),
-        50 => utility_called(world, store, call, runtime, UtilityNative::ArrayCopy),
-        51 => utility_called(world, store, call, runtime, UtilityNative::ArrayFill),
-        52 => utility_called(world, store, call, runtime, UtilityNative::ArrayCompare),
-        53 if call.arguments.len() == 2 => {
-            tested(world, store, call, runtime, UtilityNative::GetShort)
-        }
-        54 if call.arguments.len() == 3 => {
-            tested(world, store, call, runtime, UtilityNative::SetShort)
-        }
+        49 => utility_called(store, call, runtime, UtilityNative::ArrayCopy),
+        50 => utility_called(store, call, runtime, UtilityNative::ArrayCopy),
+        51 => utility_called(store, call, runtime, UtilityNative::ArrayFill),
+        52 => utility_called(store, call, runtime, UtilityNative::ArrayCompare),
+        53 if call.arguments.len() == 2 => { tested(UtilityNative::GetShort, store, call, runtime) }
+        54 if call.arguments.len() == 3 => { tested(UtilityNative::SetShort, store, call, runtime) }
         55 if call.arguments.len() == 2 => {
-            tested(world, store, call, runtime, UtilityNative::MakeShort)
+            tested(UtilityNative::MakeShort, store, call, runtime)
         }
         member => match native_of(member) {
-            Some(native) => call_native(world, store, call, runtime, native),
+            Some(native) => call_native(store, call, runtime, native),
             None => Ended::Returned(None),
         },
     }
@@ -140,15 +131,15 @@ impl Natives for Runtime {
     ghost meaning = { meaning };
 
     #[inline(always)]
-    fn call(&mut self, world: &World, store: &mut Store, call: &WordCall<'_>) -> WordOutcome {
+    fn call(&mut self, store: &mut Store, call: &WordCall<'_>) -> WordOutcome {
         members_mean_the_same();
         // each object has a number for its class
         let _used = store.objects_used();
-        outcome_of(call_member(world, store, call, self))
+        outcome_of(call_member(store, call, self))
     }
 
-    fn denial(&self, world: &World, store: &Store, call: &WordCall<'_>) -> Option<Denial> {
-        denied(world, store, call, native_of(call.member)?)
+    fn denial(&self, store: &Store, call: &WordCall<'_>) -> Option<Denial> {
+        denied(store, call, native_of(call.member)?)
     }
 
     fn law(&self) {

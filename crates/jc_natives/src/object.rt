@@ -10,10 +10,11 @@ use crate::bytes::same_bytes;
 use crate::cells::{aid_count, argument, bit, cell, put};
 use crate::ended::{Ended, throw_with};
 use crate::kept::Runtime;
+use crate::member::{Member, tested};
 use crate::native::ObjectNative;
+use crate::row::Row;
 use crate::rows::object_row;
-use crate::tests::{is_aid_object, refusal};
-use jc_link::World;
+use crate::tests::is_aid_object;
 use jc_machine::WordCall;
 use jc_store::Store;
 
@@ -26,23 +27,22 @@ fn have_same_aid(store: &Store, one: u16, other: u16) -> bool
 }
 
 // Whether two objects are AIDs of the same bytes.
-fn are_same_aids(world: &World, store: &Store, call: &WordCall<'_>, one: u16, other: u16) -> bool
-    ensures { result ≡ are_same_aids (seen_in world.now store.now call.now) one other }
+fn are_same_aids(store: &Store, call: &WordCall<'_>, one: u16, other: u16) -> bool
+    ensures { result ≡ are_same_aids (seen_in store.now call.now) one other }
 {
-    (is_aid_object(world, store, call, one) && is_aid_object(world, store, call, other))
+    (is_aid_object(store, call, one) && is_aid_object(store, call, other))
         && have_same_aid(store, one, other)
 }
 
-fn equals(world: &World, store: &Store, call: &WordCall<'_>, one: u16, other: u16) -> bool
-    ensures { result ≡ equals (seen_in world.now store.now call.now) one other }
+fn equals(store: &Store, call: &WordCall<'_>, one: u16, other: u16) -> bool
+    ensures { result ≡ equals (seen_in store.now call.now) one other }
 {
-    one == other || are_same_aids(world, store, call, one, other)
+    one == other || are_same_aids(store, call, one, other)
 }
 
 // Does the work of a member of Object or of an exception.
 #[inline(always)]
 fn object_work(
-    world: &World,
     store: &mut Store,
     call: &WordCall<'_>,
     runtime: &Runtime,
@@ -50,15 +50,13 @@ fn object_work(
 ) -> Ended
     ensures { record { store = store.new; kept = runtime.now; ended = result }
         ≡ done_of call.now.active store.old runtime.now
-        (object_work (seen_in world.now store.old call.now) runtime.now call.now.arguments.now native) }
+        (object_work (seen_in store.old call.now) runtime.now call.now.arguments.now native) }
 {
     let first = argument(call.arguments, 0);
     let second = argument(call.arguments, 1);
     match native {
         ObjectNative::Construct => Ended::Returned(None),
-        ObjectNative::Equals => {
-            Ended::Returned(Some(bit(equals(world, store, call, first, second))))
-        }
+        ObjectNative::Equals => { Ended::Returned(Some(bit(equals(store, call, first, second)))) }
         ObjectNative::ConstructWithReason | ObjectNative::SetReason => {
             put(store, first, 0, second);
             Ended::Returned(None)
@@ -68,22 +66,19 @@ fn object_work(
     }
 }
 
-// Tests the arguments of a member of Object or of an exception, and does its work.
-#[inline(always)]
-fn tested(
-    world: &World,
-    store: &mut Store,
-    call: &WordCall<'_>,
-    runtime: &Runtime,
-    native: ObjectNative,
-) -> Ended
-    ensures { record { store = store.new; kept = runtime.now; ended = result }
-        ≡ done_of call.now.active store.old runtime.now
-        (native_work (seen_in world.now store.old call.now) runtime.now call.now.arguments.now (OfObject native)) }
-{
-    match refusal(world, store, call, &object_row(native)) {
-        Some(object) => Ended::Thrown(object),
-        None => object_work(world, store, call, runtime, native),
+impl Member for ObjectNative {
+    ghost use Rattle.jc_natives.specs.declared.native.Native.TheVariants.{OfObject};
+
+    ghost native = { λ member. OfObject member };
+
+    #[inline(always)]
+    fn row(self) -> Row {
+        object_row(self)
+    }
+
+    #[inline(always)]
+    fn work(self, store: &mut Store, call: &WordCall<'_>, runtime: &mut Runtime) -> Ended {
+        object_work(store, call, runtime, self)
     }
 }
 
@@ -91,32 +86,25 @@ fn tested(
 /// compiled.
 #[inline(never)]
 pub(crate) fn object_native(
-    world: &World,
     store: &mut Store,
     call: &WordCall<'_>,
-    runtime: &Runtime,
+    runtime: &mut Runtime,
     native: ObjectNative,
 ) -> Ended
-    ensures { record { store = store.new; kept = runtime.now; ended = result }
-        ≡ done_of call.now.active store.old runtime.now
-        (native_work (seen_in world.now store.old call.now) runtime.now call.now.arguments.now (OfObject native)) }
+    ensures { record { store = store.new; kept = runtime.new; ended = result }
+        ≡ done_of call.now.active store.old runtime.old
+        (native_work (seen_in store.old call.now) runtime.old call.now.arguments.now (OfObject native)) }
 {
     match native {
-        ObjectNative::Construct => tested(world, store, call, runtime, ObjectNative::Construct),
-        ObjectNative::Equals => tested(world, store, call, runtime, ObjectNative::Equals),
+        ObjectNative::Construct => tested(ObjectNative::Construct, store, call, runtime),
+        ObjectNative::Equals => tested(ObjectNative::Equals, store, call, runtime),
         ObjectNative::ConstructWithReason => {
-            tested(
-                world,
-                store,
-                call,
-                runtime,
-                ObjectNative::ConstructWithReason,
-            )
+            tested(ObjectNative::ConstructWithReason, store, call, runtime)
         }
-        ObjectNative::GetReason => tested(world, store, call, runtime, ObjectNative::GetReason),
-        ObjectNative::SetReason => tested(world, store, call, runtime, ObjectNative::SetReason),
+        ObjectNative::GetReason => tested(ObjectNative::GetReason, store, call, runtime),
+        ObjectNative::SetReason => tested(ObjectNative::SetReason, store, call, runtime),
         ObjectNative::ThrowIt(object) => {
-            tested(world, store, call, runtime, ObjectNative::ThrowIt(object))
+            tested(ObjectNative::ThrowIt(object), store, call, runtime)
         }
     }
 }

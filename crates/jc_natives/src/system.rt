@@ -16,11 +16,11 @@ use crate::applet::aid_object;
 use crate::cells::{aid_count, argument, extended, is_count};
 use crate::ended::{Ended, Question, throw_system};
 use crate::kept::{Instance, Runtime};
+use crate::member::{Member, tested};
 use crate::native::{Elements, SystemNative};
+use crate::row::Row;
 use crate::rows::system_row;
-use crate::tests::refusal;
 use jc_api::ApiClass;
-use jc_link::World;
 use jc_machine::WordCall;
 use jc_names::{ClassName, Owner};
 use jc_store::{ClearingEvent, Kind, Mark, ObjectType, Store};
@@ -69,7 +69,6 @@ fn lookup_aid(store: &Store, call: &WordCall<'_>, runtime: &Runtime) -> u16
 
 // Asks an applet for a shareable object, if it is there.
 fn ask(
-    world: &World,
     store: &mut Store,
     call: &WordCall<'_>,
     runtime: &Runtime,
@@ -78,7 +77,7 @@ fn ask(
 ) -> Ended
     ensures { record { store = store.new; kept = runtime.now; ended = result }
         ≡ done_of call.now.active store.old runtime.now
-        (asks (seen_in world.now store.old call.now) runtime.now word instance) }
+        (asks (seen_in store.old call.now) runtime.now word instance) }
 {
     match instance {
         None => Ended::Returned(Some(0)),
@@ -90,22 +89,17 @@ fn ask(
     }
 }
 
-fn ask_for_shareable(
-    world: &World,
-    store: &mut Store,
-    call: &WordCall<'_>,
-    runtime: &Runtime,
-) -> Ended
+fn ask_for_shareable(store: &mut Store, call: &WordCall<'_>, runtime: &Runtime) -> Ended
     ensures { record { store = store.new; kept = runtime.now; ended = result }
         ≡ done_of call.now.active store.old runtime.now
-        (system_work (seen_in world.now store.old call.now)
+        (system_work (seen_in store.old call.now)
         runtime.now call.now.arguments.now natives.AskForShareable) }
 {
     let aid = argument(call.arguments, 0);
     let word = argument(call.arguments, 1);
     let count = aid_count(store, aid);
     let instance = runtime.instance_in(store, aid, 1, count);
-    ask(world, store, call, runtime, word, instance)
+    ask(store, call, runtime, word, instance)
 }
 
 // The event that a number stands for.
@@ -122,8 +116,8 @@ fn event_of(number: u16) -> Option<ClearingEvent>
 }
 
 // Whether an array that an event clears may be made.
-fn may_make(world: &World, store: &Store, call: &WordCall<'_>, event: ClearingEvent) -> bool
-    ensures { result ≡ may_make (seen_in world.now store.now call.now) event }
+fn may_make(store: &Store, call: &WordCall<'_>, event: ClearingEvent) -> bool
+    ensures { result ≡ may_make (seen_in store.now call.now) event }
 {
     match event {
         ClearingEvent::Reset => true,
@@ -173,7 +167,6 @@ fn make_where_room(
 
 // Makes an array that an event clears.
 fn make(
-    world: &World,
     store: &mut Store,
     call: &WordCall<'_>,
     runtime: &Runtime,
@@ -183,12 +176,12 @@ fn make(
 ) -> Ended
     ensures { record { store = store.new; kept = runtime.now; ended = result }
         ≡ done_of call.now.active store.old runtime.now
-        (makes (seen_in world.now store.old call.now) runtime.now elements size event) }
+        (makes (seen_in store.old call.now) runtime.now elements size event) }
 {
     let Some(event) = event else {
         return throw_system(store, ILLEGAL_VALUE);
     };
-    if !may_make(world, store, call, event) {
+    if !may_make(store, call, event) {
         return throw_system(store, ILLEGAL_TRANSIENT);
     }
     if !is_count(size) {
@@ -198,7 +191,6 @@ fn make(
 }
 
 fn make_array(
-    world: &World,
     store: &mut Store,
     call: &WordCall<'_>,
     runtime: &Runtime,
@@ -206,17 +198,16 @@ fn make_array(
 ) -> Ended
     ensures { record { store = store.new; kept = runtime.now; ended = result }
         ≡ done_of call.now.active store.old runtime.now
-        (makes_array (seen_in world.now store.old call.now) runtime.now call.now.arguments.now elements) }
+        (makes_array (seen_in store.old call.now) runtime.now call.now.arguments.now elements) }
 {
     let size = argument(call.arguments, 0);
     let event = event_of(extended(argument(call.arguments, 1)));
-    make(world, store, call, runtime, elements, size, event)
+    make(store, call, runtime, elements, size, event)
 }
 
 // Does the work of a member of JCSystem.
 #[inline(always)]
 fn system_work(
-    world: &World,
     store: &mut Store,
     call: &WordCall<'_>,
     runtime: &Runtime,
@@ -224,70 +215,62 @@ fn system_work(
 ) -> Ended
     ensures { record { store = store.new; kept = runtime.now; ended = result }
         ≡ done_of call.now.active store.old runtime.now
-        (system_work (seen_in world.now store.old call.now) runtime.now call.now.arguments.now native) }
+        (system_work (seen_in store.old call.now) runtime.now call.now.arguments.now native) }
 {
     match native {
         SystemNative::GetAid => Ended::Returned(Some(aid_of_owner(runtime, Some(call.active)))),
         SystemNative::LookupAid => Ended::Returned(Some(lookup_aid(store, call, runtime))),
         SystemNative::GetPreviousAid => Ended::Returned(Some(aid_of_owner(runtime, call.previous))),
-        SystemNative::AskForShareable => ask_for_shareable(world, store, call, runtime),
-        SystemNative::MakeBooleans => make_array(world, store, call, runtime, Elements::Booleans),
-        SystemNative::MakeBytes => make_array(world, store, call, runtime, Elements::Bytes),
-        SystemNative::MakeShorts => make_array(world, store, call, runtime, Elements::Shorts),
-        SystemNative::MakeReferences => {
-            make_array(world, store, call, runtime, Elements::References)
-        }
+        SystemNative::AskForShareable => ask_for_shareable(store, call, runtime),
+        SystemNative::MakeBooleans => make_array(store, call, runtime, Elements::Booleans),
+        SystemNative::MakeBytes => make_array(store, call, runtime, Elements::Bytes),
+        SystemNative::MakeShorts => make_array(store, call, runtime, Elements::Shorts),
+        SystemNative::MakeReferences => { make_array(store, call, runtime, Elements::References) }
     }
 }
 
-// Tests the arguments of a member of JCSystem, and does its work.
-#[inline(always)]
-fn tested(
-    world: &World,
-    store: &mut Store,
-    call: &WordCall<'_>,
-    runtime: &Runtime,
-    native: SystemNative,
-) -> Ended
-    ensures { record { store = store.new; kept = runtime.now; ended = result }
-        ≡ done_of call.now.active store.old runtime.now
-        (native_work (seen_in world.now store.old call.now) runtime.now call.now.arguments.now (OfSystem native)) }
-{
-    match refusal(world, store, call, &system_row(native)) {
-        Some(object) => Ended::Thrown(object),
-        None => system_work(world, store, call, runtime, native),
+impl Member for SystemNative {
+    ghost use Rattle.jc_natives.specs.declared.native.Native.TheVariants.{OfSystem};
+
+    ghost native = { λ member. OfSystem member };
+
+    #[inline(always)]
+    fn row(self) -> Row {
+        system_row(self)
+    }
+
+    #[inline(always)]
+    fn work(self, store: &mut Store, call: &WordCall<'_>, runtime: &mut Runtime) -> Ended {
+        system_work(store, call, runtime, self)
     }
 }
 
 /// Calls a member of JCSystem. Each arm names its member, so that its row is known when it is compiled.
 #[inline(never)]
 pub(crate) fn system_native(
-    world: &World,
     store: &mut Store,
     call: &WordCall<'_>,
-    runtime: &Runtime,
+    runtime: &mut Runtime,
     native: SystemNative,
 ) -> Ended
-    ensures { record { store = store.new; kept = runtime.now; ended = result }
-        ≡ done_of call.now.active store.old runtime.now
-        (native_work (seen_in world.now store.old call.now) runtime.now call.now.arguments.now (OfSystem native)) }
+    ensures { record { store = store.new; kept = runtime.new; ended = result }
+        ≡ done_of call.now.active store.old runtime.old
+        (native_work (seen_in store.old call.now) runtime.old call.now.arguments.now (OfSystem native)) }
 {
     match native {
-        SystemNative::GetAid => tested(world, store, call, runtime, SystemNative::GetAid),
-        SystemNative::LookupAid => tested(world, store, call, runtime, SystemNative::LookupAid),
+        SystemNative::GetAid => tested(SystemNative::GetAid, store, call, runtime),
+        SystemNative::LookupAid => tested(SystemNative::LookupAid, store, call, runtime),
         SystemNative::GetPreviousAid => {
-            tested(world, store, call, runtime, SystemNative::GetPreviousAid)
+            tested(SystemNative::GetPreviousAid, store, call, runtime)
         }
         SystemNative::AskForShareable => {
-            tested(world, store, call, runtime, SystemNative::AskForShareable)
+            tested(SystemNative::AskForShareable, store, call, runtime)
         }
-        SystemNative::MakeBooleans => {
-            tested(world, store, call, runtime, SystemNative::MakeBooleans)
-        }
-        SystemNative::MakeBytes => tested(world, store, call, runtime, SystemNative::MakeBytes),
-        SystemNative::MakeShorts => tested(world, store, call, runtime, SystemNative::MakeShorts),
+        SystemNative::MakeBooleans => { tested(SystemNative::MakeBooleans, store, call, runtime) }
+        SystemNative::MakeBytes => tested(SystemNative::MakeBytes, store, call, runtime),
+        SystemNative::MakeShorts => tested(SystemNative::MakeShorts, store, call, runtime),
         SystemNative::MakeReferences => {
-            tested(world, store, call, runtime, SystemNative::MakeReferences)
+            tested(SystemNative::MakeReferences, store, call, runtime)
         }
     }
 }

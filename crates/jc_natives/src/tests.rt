@@ -7,7 +7,6 @@ ghost use Rattle.jc_natives.specs.PrivateSeen.{is_aid_object};
 ghost use Rattle.jc_natives.specs.PrivateTests.{by_verdict, facts_of, is_in_range, length_of, ranged, test, tested};
 ghost use Rattle.jc_natives.specs.PrivateTests.{used};
 ghost use Rattle.jc_natives.specs.declared.row.Test.TheVariants.{BesideAid};
-ghost use Rattle.jc_link.specs.Linked as linked;
 ghost use Rattle.jc_machine.specs.Lookup.{class_of, is_array};
 ghost use Rattle.jc_machine.specs.declared.natives.WordCall as words;
 ghost use Rattle.jc_store.specs.Heap as heaps;
@@ -19,7 +18,6 @@ use crate::cells::{aid_count, argument, extended, is_within, size};
 use crate::row::{Length, Range, Row, Test, Way};
 use jc_api::ApiClass;
 use jc_firewall::{Access, Facts, Verdict, decide, own_is_allowed};
-use jc_link::World;
 use jc_machine::WordCall;
 use jc_names::ClassName;
 use jc_store::{ObjectType, Store};
@@ -61,10 +59,10 @@ fn is_array(object: ObjectType) -> bool
 
 // What the firewall asks of an object that is there.
 #[inline(always)]
-pub(crate) fn facts_of(world: &World, store: &Store, call: &WordCall<'_>, number: u16) -> Facts
+pub(crate) fn facts_of(store: &Store, call: &WordCall<'_>, number: u16) -> Facts
     requires { IsThere store.now number }
     ensures { (object : heaps.Object ℕ) → object_at store.now.objects number ≡ Some object
-        → result ≡ facts_of (seen_in world.now store.now call.now) object }
+        → result ≡ facts_of (seen_in store.now call.now) object }
 {
     let kind = store.class_of(number);
     Facts {
@@ -82,8 +80,8 @@ pub(crate) fn facts_of(world: &World, store: &Store, call: &WordCall<'_>, number
 // What is thrown by a verdict, if it denies.
 #[inline(always)]
 fn thrown_by(verdict: Verdict) -> Option<u16>
-    ensures { (world : linked.World) (store : stores.Store) (call : words.WordCall) (way : Way) (number : ℕ)
-        → result ≡ (by_verdict (seen_in world store call) way number verdict).thrown }
+    ensures { (store : stores.Store) (call : words.WordCall) (way : Way) (number : ℕ)
+        → result ≡ (by_verdict (seen_in store call) way number verdict).thrown }
 {
     match verdict {
         Verdict::Allowed | Verdict::AllowedSwitch(_) => None,
@@ -103,18 +101,18 @@ fn is_own(store: &Store, call: &WordCall<'_>, number: u16) -> bool
 
 // Tests a use of any object, by the firewall.
 #[inline(never)]
-fn judged(world: &World, store: &Store, call: &WordCall<'_>, way: Way, number: u16) -> Option<u16>
+fn judged(store: &Store, call: &WordCall<'_>, way: Way, number: u16) -> Option<u16>
     requires { IsThere store.now number }
-    ensures { result ≡ (used (seen_in world.now store.now call.now) way number).thrown }
+    ensures { result ≡ (used (seen_in store.now call.now) way number).thrown }
 {
-    let facts = facts_of(world, store, call, number);
+    let facts = facts_of(store, call, number);
     thrown_by(decide(access_of(way), call.active.context, &facts))
 }
 
 // Tests a use of an object.
 #[inline(always)]
-fn used(world: &World, store: &Store, call: &WordCall<'_>, way: Way, number: u16) -> Option<u16>
-    ensures { result ≡ (used (seen_in world.now store.now call.now) way number).thrown }
+fn used(store: &Store, call: &WordCall<'_>, way: Way, number: u16) -> Option<u16>
+    ensures { result ≡ (used (seen_in store.now call.now) way number).thrown }
 {
     if !store.is_there(number) {
         return Some(NULL_POINTER_EXCEPTION);
@@ -123,7 +121,7 @@ fn used(world: &World, store: &Store, call: &WordCall<'_>, way: Way, number: u16
         own_is_allowed();
         return None;
     }
-    judged(world, store, call, way, number)
+    judged(store, call, way, number)
 }
 
 // The class whose methods an object has.
@@ -141,44 +139,45 @@ fn class_of(object: ObjectType) -> ClassName
 }
 
 /// Whether a number is that of an AID.
-pub(crate) fn is_aid_object(world: &World, store: &Store, call: &WordCall<'_>, number: u16) -> bool
-    ensures { result ≡ is_aid_object (seen_in world.now store.now call.now) number }
+pub(crate) fn is_aid_object(store: &Store, call: &WordCall<'_>, number: u16) -> bool
+    ensures { result ≡ is_aid_object (seen_in store.now call.now) number }
 {
     store.is_there(number)
-        && world
+        && call
+            .world
             .table()
             .is_class_below(class_of(store.class_of(number).object), AID)
 }
 
 // Makes one test.
 #[inline(always)]
-fn test(world: &World, store: &Store, call: &WordCall<'_>, wanted: Test) -> Option<u16>
-    ensures { result ≡ (test (seen_in world.now store.now call.now) call.now.arguments.now wanted).thrown }
+fn test(store: &Store, call: &WordCall<'_>, wanted: Test) -> Option<u16>
+    ensures { result ≡ (test (seen_in store.now call.now) call.now.arguments.now wanted).thrown }
 {
     match wanted {
         Test::Nothing => None,
-        Test::Object(place, way) => used(world, store, call, way, argument(call.arguments, place)),
+        Test::Object(place, way) => used(store, call, way, argument(call.arguments, place)),
         Test::ObjectOrNull(place, way) => {
             let number = argument(call.arguments, place);
             if number == 0 {
                 None
             } else {
-                used(world, store, call, way, number)
+                used(store, call, way, number)
             }
         }
-        Test::BesideAid => beside_aid(world, store, call),
+        Test::BesideAid => beside_aid(store, call),
     }
 }
 
 // The second argument may be called, where both are AIDs.
 #[inline(never)]
-fn beside_aid(world: &World, store: &Store, call: &WordCall<'_>) -> Option<u16>
-    ensures { result ≡ (test (seen_in world.now store.now call.now) call.now.arguments.now BesideAid).thrown }
+fn beside_aid(store: &Store, call: &WordCall<'_>) -> Option<u16>
+    ensures { result ≡ (test (seen_in store.now call.now) call.now.arguments.now BesideAid).thrown }
 {
     let one = argument(call.arguments, 0);
     let other = argument(call.arguments, 1);
-    if is_aid_object(world, store, call, one) && is_aid_object(world, store, call, other) {
-        used(world, store, call, Way::Calls, other)
+    if is_aid_object(store, call, one) && is_aid_object(store, call, other) {
+        used(store, call, Way::Calls, other)
     } else {
         None
     }
@@ -186,8 +185,8 @@ fn beside_aid(world: &World, store: &Store, call: &WordCall<'_>) -> Option<u16>
 
 // How many components a range has.
 #[inline(always)]
-fn length_of(world: &World, store: &Store, call: &WordCall<'_>, length: Length) -> u16
-    ensures { result ≡ length_of (seen_in world.now store.now call.now) call.now.arguments.now length }
+fn length_of(store: &Store, call: &WordCall<'_>, length: Length) -> u16
+    ensures { result ≡ length_of (seen_in store.now call.now) call.now.arguments.now length }
 {
     match length {
         Length::ShortAt(place) => argument(call.arguments, place),
@@ -198,21 +197,21 @@ fn length_of(world: &World, store: &Store, call: &WordCall<'_>, length: Length) 
 }
 
 #[inline(always)]
-fn is_in_range(world: &World, store: &Store, call: &WordCall<'_>, range: Range) -> bool
-    ensures { result ≡ is_in_range (seen_in world.now store.now call.now) call.now.arguments.now range }
+fn is_in_range(store: &Store, call: &WordCall<'_>, range: Range) -> bool
+    ensures { result ≡ is_in_range (seen_in store.now call.now) call.now.arguments.now range }
 {
     let array = argument(call.arguments, range.array);
     let offset = argument(call.arguments, range.offset);
-    let count = length_of(world, store, call, range.length);
+    let count = length_of(store, call, range.length);
     array == 0 || is_within(size(store, array), offset, count)
 }
 
 #[inline(always)]
-fn ranged(world: &World, store: &Store, call: &WordCall<'_>, range: Option<Range>) -> Option<u16>
-    ensures { result ≡ (ranged (seen_in world.now store.now call.now) call.now.arguments.now range).thrown }
+fn ranged(store: &Store, call: &WordCall<'_>, range: Option<Range>) -> Option<u16>
+    ensures { result ≡ (ranged (seen_in store.now call.now) call.now.arguments.now range).thrown }
 {
     let range = range?;
-    if is_in_range(world, store, call, range) {
+    if is_in_range(store, call, range) {
         None
     } else {
         Some(ARRAY_INDEX_EXCEPTION)
@@ -221,17 +220,17 @@ fn ranged(world: &World, store: &Store, call: &WordCall<'_>, range: Option<Range
 
 /// Makes the tests of a member. What is thrown is told where one fails.
 #[inline(always)]
-pub(crate) fn refusal(world: &World, store: &Store, call: &WordCall<'_>, row: &Row) -> Option<u16>
-    ensures { result ≡ (tested (seen_in world.now store.now call.now) call.now.arguments.now row.now).thrown }
+pub(crate) fn refusal(store: &Store, call: &WordCall<'_>, row: &Row) -> Option<u16>
+    ensures { result ≡ (tested (seen_in store.now call.now) call.now.arguments.now row.now).thrown }
 {
-    if let Some(object) = test(world, store, call, row.first) {
+    if let Some(object) = test(store, call, row.first) {
         return Some(object);
     }
-    if let Some(object) = test(world, store, call, row.second) {
+    if let Some(object) = test(store, call, row.second) {
         return Some(object);
     }
-    if let Some(object) = ranged(world, store, call, row.first_range) {
+    if let Some(object) = ranged(store, call, row.first_range) {
         return Some(object);
     }
-    ranged(world, store, call, row.second_range)
+    ranged(store, call, row.second_range)
 }

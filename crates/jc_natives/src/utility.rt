@@ -10,20 +10,20 @@ use crate::bytes::{compare_bytes, copy_words, fill_bytes, put_short, short_at};
 use crate::cells::{argument, sum, word_of};
 use crate::ended::Ended;
 use crate::kept::Runtime;
+use crate::member::{Member, tested};
 use crate::native::UtilityNative;
+use crate::row::Row;
 use crate::rows::utility_row;
-use crate::tests::refusal;
 use crate::words::low;
-use jc_link::World;
 use jc_machine::WordCall;
 use jc_store::Store;
 
-fn array_copy(world: &World, store: &mut Store, call: &WordCall<'_>, runtime: &Runtime) -> Ended
-    requires passed { Passes (seen_in world.now store.old call.now) call.now.arguments.now
+fn array_copy(store: &mut Store, call: &WordCall<'_>, runtime: &Runtime) -> Ended
+    requires passed { Passes (seen_in store.old call.now) call.now.arguments.now
         (OfUtility natives.ArrayCopy) }
     ensures { record { store = store.new; kept = runtime.now; ended = result }
         ≡ done_of call.now.active store.old runtime.now
-        (utility_work (seen_in world.now store.old call.now) runtime.now call.now.arguments.now natives.ArrayCopy) }
+        (utility_work (seen_in store.old call.now) runtime.now call.now.arguments.now natives.ArrayCopy) }
 {
     let source = argument(call.arguments, 0);
     let from = argument(call.arguments, 1);
@@ -34,12 +34,12 @@ fn array_copy(world: &World, store: &mut Store, call: &WordCall<'_>, runtime: &R
     Ended::Returned(Some(sum(to, count)))
 }
 
-fn array_fill(world: &World, store: &mut Store, call: &WordCall<'_>, runtime: &Runtime) -> Ended
-    requires passed { Passes (seen_in world.now store.old call.now) call.now.arguments.now
+fn array_fill(store: &mut Store, call: &WordCall<'_>, runtime: &Runtime) -> Ended
+    requires passed { Passes (seen_in store.old call.now) call.now.arguments.now
         (OfUtility natives.ArrayFill) }
     ensures { record { store = store.new; kept = runtime.now; ended = result }
         ≡ done_of call.now.active store.old runtime.now
-        (utility_work (seen_in world.now store.old call.now) runtime.now call.now.arguments.now natives.ArrayFill) }
+        (utility_work (seen_in store.old call.now) runtime.now call.now.arguments.now natives.ArrayFill) }
 {
     let array = argument(call.arguments, 0);
     let from = argument(call.arguments, 1);
@@ -49,12 +49,12 @@ fn array_fill(world: &World, store: &mut Store, call: &WordCall<'_>, runtime: &R
     Ended::Returned(Some(sum(from, count)))
 }
 
-fn array_compare(world: &World, store: &mut Store, call: &WordCall<'_>, runtime: &Runtime) -> Ended
-    requires passed { Passes (seen_in world.now store.old call.now) call.now.arguments.now
+fn array_compare(store: &mut Store, call: &WordCall<'_>, runtime: &Runtime) -> Ended
+    requires passed { Passes (seen_in store.old call.now) call.now.arguments.now
         (OfUtility natives.ArrayCompare) }
     ensures { record { store = store.new; kept = runtime.now; ended = result }
         ≡ done_of call.now.active store.old runtime.now
-        (utility_work (seen_in world.now store.old call.now) runtime.now call.now.arguments.now natives.ArrayCompare) }
+        (utility_work (seen_in store.old call.now) runtime.now call.now.arguments.now natives.ArrayCompare) }
 {
     let one = argument(call.arguments, 0);
     let one_from = argument(call.arguments, 1);
@@ -65,12 +65,12 @@ fn array_compare(world: &World, store: &mut Store, call: &WordCall<'_>, runtime:
 }
 
 #[inline(always)]
-fn get_short(world: &World, store: &mut Store, call: &WordCall<'_>, runtime: &Runtime) -> Ended
-    requires passed { Passes (seen_in world.now store.old call.now) call.now.arguments.now
+fn get_short(store: &mut Store, call: &WordCall<'_>, runtime: &Runtime) -> Ended
+    requires passed { Passes (seen_in store.old call.now) call.now.arguments.now
         (OfUtility natives.GetShort) }
     ensures { record { store = store.new; kept = runtime.now; ended = result }
         ≡ done_of call.now.active store.old runtime.now
-        (utility_work (seen_in world.now store.old call.now) runtime.now call.now.arguments.now natives.GetShort) }
+        (utility_work (seen_in store.old call.now) runtime.now call.now.arguments.now natives.GetShort) }
 {
     let array = argument(call.arguments, 0);
     let from = argument(call.arguments, 1);
@@ -78,12 +78,12 @@ fn get_short(world: &World, store: &mut Store, call: &WordCall<'_>, runtime: &Ru
 }
 
 #[inline(always)]
-fn set_short(world: &World, store: &mut Store, call: &WordCall<'_>, runtime: &Runtime) -> Ended
-    requires passed { Passes (seen_in world.now store.old call.now) call.now.arguments.now
+fn set_short(store: &mut Store, call: &WordCall<'_>, runtime: &Runtime) -> Ended
+    requires passed { Passes (seen_in store.old call.now) call.now.arguments.now
         (OfUtility natives.SetShort) }
     ensures { record { store = store.new; kept = runtime.now; ended = result }
         ≡ done_of call.now.active store.old runtime.now
-        (utility_work (seen_in world.now store.old call.now) runtime.now call.now.arguments.now natives.SetShort) }
+        (utility_work (seen_in store.old call.now) runtime.now call.now.arguments.now natives.SetShort) }
 {
     let array = argument(call.arguments, 0);
     let from = argument(call.arguments, 1);
@@ -92,10 +92,10 @@ fn set_short(world: &World, store: &mut Store, call: &WordCall<'_>, runtime: &Ru
     Ended::Returned(Some(sum(from, 2)))
 }
 
-fn make_short(world: &World, store: &mut Store, call: &WordCall<'_>, runtime: &Runtime) -> Ended
+fn make_short(store: &mut Store, call: &WordCall<'_>, runtime: &Runtime) -> Ended
     ensures { record { store = store.new; kept = runtime.now; ended = result }
         ≡ done_of call.now.active store.old runtime.now
-        (utility_work (seen_in world.now store.old call.now) runtime.now call.now.arguments.now natives.MakeShort) }
+        (utility_work (seen_in store.old call.now) runtime.now call.now.arguments.now natives.MakeShort) }
 {
     let first = argument(call.arguments, 0);
     let second = argument(call.arguments, 1);
@@ -105,130 +105,109 @@ fn make_short(world: &World, store: &mut Store, call: &WordCall<'_>, runtime: &R
 // Does the work of a member of Util.
 #[inline(always)]
 fn utility_work(
-    world: &World,
     store: &mut Store,
     call: &WordCall<'_>,
     runtime: &Runtime,
     native: UtilityNative,
 ) -> Ended
-    requires passed { Passes (seen_in world.now store.old call.now) call.now.arguments.now (OfUtility native) }
+    requires passed { Passes (seen_in store.old call.now) call.now.arguments.now (OfUtility native) }
     ensures { record { store = store.new; kept = runtime.now; ended = result }
         ≡ done_of call.now.active store.old runtime.now
-        (utility_work (seen_in world.now store.old call.now) runtime.now call.now.arguments.now native) }
+        (utility_work (seen_in store.old call.now) runtime.now call.now.arguments.now native) }
 {
     match native {
-        UtilityNative::ArrayCopy => array_copy(world, store, call, runtime),
-        UtilityNative::ArrayFill => array_fill(world, store, call, runtime),
-        UtilityNative::ArrayCompare => array_compare(world, store, call, runtime),
-        UtilityNative::GetShort => get_short(world, store, call, runtime),
-        UtilityNative::SetShort => set_short(world, store, call, runtime),
-        UtilityNative::MakeShort => make_short(world, store, call, runtime),
+        UtilityNative::ArrayCopy => array_copy(store, call, runtime),
+        UtilityNative::ArrayFill => array_fill(store, call, runtime),
+        UtilityNative::ArrayCompare => array_compare(store, call, runtime),
+        UtilityNative::GetShort => get_short(store, call, runtime),
+        UtilityNative::SetShort => set_short(store, call, runtime),
+        UtilityNative::MakeShort => make_short(store, call, runtime),
     }
 }
 
-/// Tests the arguments of a member of Util, and does its work.
-#[inline(always)]
-pub(crate) fn tested(
-    world: &World,
-    store: &mut Store,
-    call: &WordCall<'_>,
-    runtime: &Runtime,
-    native: UtilityNative,
-) -> Ended
-    ensures { record { store = store.new; kept = runtime.now; ended = result }
-        ≡ done_of call.now.active store.old runtime.now
-        (native_work (seen_in world.now store.old call.now) runtime.now call.now.arguments.now (OfUtility native)) }
-{
-    match refusal(world, store, call, &utility_row(native)) {
-        Some(object) => Ended::Thrown(object),
-        None => utility_work(world, store, call, runtime, native),
+impl Member for UtilityNative {
+    ghost use Rattle.jc_natives.specs.declared.native.Native.TheVariants.{OfUtility};
+
+    ghost native = { λ member. OfUtility member };
+
+    #[inline(always)]
+    fn row(self) -> Row {
+        utility_row(self)
+    }
+
+    #[inline(always)]
+    fn work(self, store: &mut Store, call: &WordCall<'_>, runtime: &mut Runtime) -> Ended {
+        utility_work(store, call, runtime, self)
     }
 }
 
 // `arrayCopy` with its tests.
 #[inline(never)]
-fn array_copy_tested(
-    world: &World,
-    store: &mut Store,
-    call: &WordCall<'_>,
-    runtime: &Runtime,
-) -> Ended
-    ensures { record { store = store.new; kept = runtime.now; ended = result }
-        ≡ done_of call.now.active store.old runtime.now
-        (native_work (seen_in world.now store.old call.now) runtime.now call.now.arguments.now
+fn array_copy_tested(store: &mut Store, call: &WordCall<'_>, runtime: &mut Runtime) -> Ended
+    ensures { record { store = store.new; kept = runtime.new; ended = result }
+        ≡ done_of call.now.active store.old runtime.old
+        (native_work (seen_in store.old call.now) runtime.old call.now.arguments.now
         (OfUtility natives.ArrayCopy)) }
 {
-    tested(world, store, call, runtime, UtilityNative::ArrayCopy)
+    tested(UtilityNative::ArrayCopy, store, call, runtime)
 }
 
 // `arrayFill` with its tests.
 #[inline(never)]
-fn array_fill_tested(
-    world: &World,
-    store: &mut Store,
-    call: &WordCall<'_>,
-    runtime: &Runtime,
-) -> Ended
-    ensures { record { store = store.new; kept = runtime.now; ended = result }
-        ≡ done_of call.now.active store.old runtime.now
-        (native_work (seen_in world.now store.old call.now) runtime.now call.now.arguments.now
+fn array_fill_tested(store: &mut Store, call: &WordCall<'_>, runtime: &mut Runtime) -> Ended
+    ensures { record { store = store.new; kept = runtime.new; ended = result }
+        ≡ done_of call.now.active store.old runtime.old
+        (native_work (seen_in store.old call.now) runtime.old call.now.arguments.now
         (OfUtility natives.ArrayFill)) }
 {
-    tested(world, store, call, runtime, UtilityNative::ArrayFill)
+    tested(UtilityNative::ArrayFill, store, call, runtime)
 }
 
 // `arrayCompare` with its tests.
 #[inline(never)]
-fn array_compare_tested(
-    world: &World,
-    store: &mut Store,
-    call: &WordCall<'_>,
-    runtime: &Runtime,
-) -> Ended
-    ensures { record { store = store.new; kept = runtime.now; ended = result }
-        ≡ done_of call.now.active store.old runtime.now
-        (native_work (seen_in world.now store.old call.now) runtime.now call.now.arguments.now
+fn array_compare_tested(store: &mut Store, call: &WordCall<'_>, runtime: &mut Runtime) -> Ended
+    ensures { record { store = store.new; kept = runtime.new; ended = result }
+        ≡ done_of call.now.active store.old runtime.old
+        (native_work (seen_in store.old call.now) runtime.old call.now.arguments.now
         (OfUtility natives.ArrayCompare)) }
 {
-    tested(world, store, call, runtime, UtilityNative::ArrayCompare)
+    tested(UtilityNative::ArrayCompare, store, call, runtime)
 }
 
 /// Calls a member of Util. Each arm names its member, so that its row is known when it is compiled. Where a call names
 /// its member no more is left than that.
 #[inline(always)]
 pub(crate) fn utility_called(
-    world: &World,
     store: &mut Store,
     call: &WordCall<'_>,
-    runtime: &Runtime,
+    runtime: &mut Runtime,
     native: UtilityNative,
 ) -> Ended
-    ensures { record { store = store.new; kept = runtime.now; ended = result }
-        ≡ done_of call.now.active store.old runtime.now
-        (native_work (seen_in world.now store.old call.now) runtime.now call.now.arguments.now (OfUtility native)) }
+    ensures { record { store = store.new; kept = runtime.new; ended = result }
+        ≡ done_of call.now.active store.old runtime.old
+        (native_work (seen_in store.old call.now) runtime.old call.now.arguments.now (OfUtility native)) }
 {
     match native {
-        UtilityNative::ArrayCopy => array_copy_tested(world, store, call, runtime),
-        UtilityNative::ArrayFill => array_fill_tested(world, store, call, runtime),
-        UtilityNative::ArrayCompare => array_compare_tested(world, store, call, runtime),
-        UtilityNative::GetShort => tested(world, store, call, runtime, UtilityNative::GetShort),
-        UtilityNative::SetShort => tested(world, store, call, runtime, UtilityNative::SetShort),
-        UtilityNative::MakeShort => tested(world, store, call, runtime, UtilityNative::MakeShort),
+        UtilityNative::ArrayCopy => array_copy_tested(store, call, runtime),
+        UtilityNative::ArrayFill => array_fill_tested(store, call, runtime),
+        UtilityNative::ArrayCompare => array_compare_tested(store, call, runtime),
+        UtilityNative::GetShort => tested(UtilityNative::GetShort, store, call, runtime),
+        UtilityNative::SetShort => tested(UtilityNative::SetShort, store, call, runtime),
+        UtilityNative::MakeShort => tested(UtilityNative::MakeShort, store, call, runtime),
     }
 }
 
 /// Calls any member of Util.
 #[inline(never)]
 pub(crate) fn utility_native(
-    world: &World,
     store: &mut Store,
     call: &WordCall<'_>,
-    runtime: &Runtime,
+    runtime: &mut Runtime,
     native: UtilityNative,
 ) -> Ended
-    ensures { record { store = store.new; kept = runtime.now; ended = result }
-        ≡ done_of call.now.active store.old runtime.now
-        (native_work (seen_in world.now store.old call.now) runtime.now call.now.arguments.now (OfUtility native)) }
+    ensures { record { store = store.new; kept = runtime.new; ended = result }
+        ≡ done_of call.now.active store.old runtime.old
+        (native_work (seen_in store.old call.now) runtime.old call.now.arguments.now (OfUtility native)) }
 {
-    utility_called(world, store, call, runtime, native)
+    utility_called(store, call, runtime, native)
 }

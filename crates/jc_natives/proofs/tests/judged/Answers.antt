@@ -11,9 +11,9 @@ use Rattle.jc_store.specs.Heap.{Object}
 
 pub returns : goal.returns
 returns c =
-    let s = seen_in c.args.world.now c.args.store.now c.args.call.now in
+    let s = seen_in c.args.store.now c.args.call.now in
     let active = c.args.call.now.active.context in
-    c.thrown_by.ensures c.args.world.now c.args.store.now c.args.call.now c.args.way c.args.number
+    c.thrown_by.ensures c.args.store.now c.args.call.now c.args.way c.args.number
     ∙ ap (λ (v : Verdict). (by_verdict s c.args.way c.args.number v).thrown)
     (c.decide.ensures
     ∙ ap (λ (a : Access). verdict_of a active c.facts_of-facts.result) c.access_of.ensures

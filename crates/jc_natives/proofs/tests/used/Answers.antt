@@ -5,5 +5,5 @@ use Rattle.jc_natives.specs.PrivateWords.{seen_in}
 
 pub returns-then-is_own : goal.returns-then-is_own
 returns-then-is_own c =
-    sym (own_passes c.own_is_allowed.ensures (seen_in c.args.world.now c.args.store.now c.args.call.now)
+    sym (own_passes c.own_is_allowed.ensures (seen_in c.args.store.now c.args.call.now)
     c.args.store.now c.args.way c.args.number refl (c.is_own.ensures c.if-is_own.true))

@@ -11,6 +11,6 @@ fill_bytes-requires c =
     record {
       there = named store c.argument-array.result c.argument-from.result c.argument-count.result c.argument-array.ensures.argument
           c.argument-from.ensures.argument c.argument-count.ensures.argument
-          (one_part (seen_in c.args.world.now store c.args.call.now) store refl c.args.call.now.arguments.now Stores
+          (one_part (seen_in store c.args.call.now) store refl c.args.call.now.arguments.now Stores
           (ShortAt 2) c.requires.passed);
     }

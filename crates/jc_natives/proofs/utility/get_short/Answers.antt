@@ -11,6 +11,6 @@ short_at-requires c =
     record {
       there = named store c.argument-array.result c.argument-from.result 2 c.argument-array.ensures.argument
           c.argument-from.ensures.argument refl
-          (one_part (seen_in c.args.world.now store c.args.call.now) store refl c.args.call.now.arguments.now Loads
+          (one_part (seen_in store c.args.call.now) store refl c.args.call.now.arguments.now Loads
           (Fixed 2) c.requires.passed);
     }

@@ -1,0 +1,49 @@
+//! A native member: what it tests of its arguments, and what it does where they pass.
+
+ghost use Rattle.std.specs.Prelude.{◌≡◌};
+ghost use Rattle.jc_natives.specs.PrivateMeaning.{work_of};
+ghost use Rattle.jc_natives.specs.PrivateRows.{row_of};
+ghost use Rattle.jc_natives.specs.PrivateWords.{Passes, done_of, native_work, seen_in};
+ghost use Rattle.jc_natives.specs.declared.native.Native.{Native as Named};
+
+use crate::ended::Ended;
+use crate::kept::Runtime;
+use crate::row::Row;
+use crate::tests::refusal;
+use jc_machine::WordCall;
+use jc_store::Store;
+
+/// A member of one of the classes that have native members.
+pub(crate) trait Member: Copy {
+    // Which one it is of all.
+    ghost native: { Self → Named };
+
+    /// What it tests of its arguments.
+    fn row(self) -> Row
+        ensures { result ≡ row_of (native self) };
+
+    /// Does its work, where its arguments pass its tests.
+    fn work(self, store: &mut Store, call: &WordCall<'_>, runtime: &mut Runtime) -> Ended
+        requires passed { Passes (seen_in store.old call.now) call.now.arguments.now (native self) }
+        ensures { record { store = store.new; kept = runtime.new; ended = result }
+            ≡ done_of call.now.active store.old runtime.old
+            (work_of (seen_in store.old call.now) runtime.old call.now.arguments.now (native self)) };
+}
+
+/// Tests the arguments of a member, and does its work. Where the member is known so is its row when this is compiled.
+#[inline(always)]
+pub(crate) fn tested<M: Member>(
+    member: M,
+    store: &mut Store,
+    call: &WordCall<'_>,
+    runtime: &mut Runtime,
+) -> Ended
+    ensures { record { store = store.new; kept = runtime.new; ended = result }
+        ≡ done_of call.now.active store.old runtime.old
+        (native_work (seen_in store.old call.now) runtime.old call.now.arguments.now (M.native member)) }
+{
+    match refusal(store, call, &member.row()) {
+        Some(object) => Ended::Thrown(object),
+        None => member.work(store, call, runtime),
+    }
+}

@@ -9,7 +9,7 @@ use std::alloc::{AllocError, Global};
 use std::marker::Model;
 
 /// A number, or none, in four bytes.
-#[derive(Clone, Copy)]
+#[derive(Drop)]
 struct Place {
     // One more than the number; 0 for none.
     held: u32,
@@ -26,6 +26,7 @@ impl Model for Place {
 
 impl Place {
     #[inline]
+    #[tactic(auto, unfolding(crate::specs::PrivateLaid::place_of))]
     fn none() -> Place
         ensures { result ≡ None }
     {
@@ -33,6 +34,7 @@ impl Place {
     }
 
     #[inline]
+    #[tactic(auto, unfolding(crate::specs::PrivateLaid::place_of))]
     fn of(number: u32) -> Place
         requires few { number < 0xFFFF_FFFF }
         ensures { result ≡ Some number }
@@ -41,8 +43,9 @@ impl Place {
     }
 
     #[inline]
-    fn number(self) -> Option<u32>
-        ensures { result ≡ self }
+    #[tactic(auto, unfolding(crate::specs::PrivateLaid::place_of))]
+    fn number(&self) -> Option<u32>
+        ensures { result ≡ self.now }
     {
         if self.held == 0 {
             None

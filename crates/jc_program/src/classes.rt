@@ -129,6 +129,7 @@ fn put_name(
     name: ClassName,
     number: u32,
 ) -> Result<(), AllocError>
+    requires few { number < 0xFFFF_FFFF }
     ensures { IfOk result (λ u. (p i : ℕ) → number_in tables.new.items p i
         ≡ (if table_of name == p && offset_of name == i then option_or (number_in tables.old.items p i) (Some number)
         else number_in tables.old.items p i)) }

@@ -1,5 +1,8 @@
 -- Tables of the methods of classes.
-use Rattle.std.proofs.Common.{◌≡◌, ◌⊎◌, inl, inr, ℕ, zero, suc, ◌+◌, ◌-◌, ◌*◌, ◌<◌, ◌≤◌, ◌==◌, ◌&&◌, ◌||◌, not, Bool, true, false, cond, List, [], ◌∷◌, ◌++◌, length, set, take, get_or, Option, Some, None, refl, sym, ap, subst, ◌∙◌, arith, nat_lt, is_some, slice_get, unwrap_or, length-append, add-one}
+use Rattle.std.proofs.Common.{◌≡◌, ◌⊎◌, inl, inr, ℕ, zero, suc, ◌+◌, ◌-◌, ◌*◌, ◌<◌, ◌≤◌, ◌==◌, ◌&&◌, ◌||◌, not, Bool}
+use Rattle.std.proofs.Common.{true, false, cond, List, [], ◌∷◌, ◌++◌, length, set, take, get_or, Option, Some, None}
+use Rattle.std.proofs.Common.{refl, sym, ap, subst, ◌∙◌, arith, nat_lt, is_some, slice_get, unwrap_or, length-append}
+use Rattle.std.proofs.Common.{add-one}
 use Rattle.std.proofs.lemmas.Bool.{cases_lt, eqb-false, eqb-true, ltb-true, ltb-false, ne_eqb}
 use Rattle.std.proofs.lemmas.List.Elements.{filter_map-append}
 use Rattle.std.proofs.Math.Seq.{take-suc}
@@ -14,7 +17,8 @@ use Rattle.jc_cap.specs.declared.record.RecordBody.{RecordBody}
 use Rattle.jc_cap.specs.declared.record.VirtualTable.{VirtualTable}
 use Rattle.jc_cap.specs.declared.record.RecordBody.TheVariants.{Interface, Class}
 use Rattle.jc_cap_desc.specs.Shape.{ClassShape, Shape}
-use Rattle.jc_classes.proofs.Growing.{get_before, packages_keep, classes_keep, superclasses_keep, superclass_within, virtual_methods_keep, listings_found_keep}
+use Rattle.jc_classes.proofs.Growing.{get_before, packages_keep, classes_keep, superclasses_keep, superclass_within}
+use Rattle.jc_classes.proofs.Growing.{virtual_methods_keep, listings_found_keep}
 use Rattle.jc_classes.proofs.Below.{one_place}
 use Rattle.jc_classes.proofs.Passing.{some_of, package_there}
 use Rattle.jc_classes.proofs.Marking.{true_false}
@@ -25,10 +29,14 @@ use Rattle.jc_names.specs.Names.{is_same_name}
 use Rattle.jc_classes.specs.PrivateSearch.{place_in, place}
 use Rattle.jc_classes.specs.Record.{interface_rows}
 use Rattle.jc_cap.specs.ClassComponent.{is_class}
-use Rattle.jc_classes.specs.Methods.{entry_visit, is_this, table_visit, record_visit, virtual_visit, virtual_method_of, package_visible, interface_visit, listing_visit, indexes_visit, row_for}
+use Rattle.jc_classes.specs.Methods.{entry_visit, is_this, table_visit, record_visit, virtual_visit, virtual_method_of}
+use Rattle.jc_classes.specs.Methods.{package_visible, interface_visit, listing_visit, indexes_visit, row_for}
 use Rattle.jc_classes.specs.PrivatePlaces.{place_at}
 use Rattle.jc_classes.specs.Listed.{ListNothing, Listed, class_behind, indexes_in}
-use Rattle.jc_classes.specs.PrivateTables.{Tabled, no_methods, row_at, row_entry, visible_entry, entry_in, depth_above, listed_above, lists_above, lists_any, IsTabled, IsTabledAbove, entry_made, listed_row, index_at, table_in, table_of, AreTables, AreBefore, AreSameRows, AreVisibleOver, IsRowOver, IsTableOver}
+use Rattle.jc_classes.specs.PrivateTables.{Tabled, no_methods, row_at, row_entry, visible_entry, entry_in, depth_above}
+use Rattle.jc_classes.specs.PrivateTables.{listed_above, lists_above, lists_any, IsTabled, IsTabledAbove, entry_made}
+use Rattle.jc_classes.specs.PrivateTables.{listed_row, index_at, table_in, table_of, AreTables, AreBefore, AreSameRows}
+use Rattle.jc_classes.specs.PrivateTables.{AreVisibleOver, IsRowOver, IsTableOver}
 use Rattle.jc_classes.specs.Subtype.{comes_to_end, has_whole_chain}
 use Rattle.jc_classes.specs.Walk.{most_classes, found_from, walk, found}
 use Rattle.jc_names.specs.Names.{home_of, offset_of}
@@ -45,7 +53,9 @@ stable : {A : Type 0} (visit : ClassName → ClassShape → Visit A) (world : Li
     → comes_to_end world n c ≡ true → n ≤ m → walk visit world m c ≡ walk visit world n c
 stable visit world zero m c e h = absurd (true_false (sym e))
 stable visit world (suc n) zero c e h = absurd (omega arith)
-stable {A} visit world (suc n) (suc m) c e h = ap (λ (o : Option A). option_and_then (λ k. found_from (visit c k) o) (class_at world c)) (above (superclass_of world c) e (λ d f. stable visit world n m d f (omega arith)))
+stable {A} visit world (suc n) (suc m) c e h =
+    ap (λ (o : Option A). option_and_then (λ k. found_from (visit c k) o) (class_at world c))
+    (above (superclass_of world c) e (λ d f. stable visit world n m d f (omega arith)))
   where
     above : (o : Option ClassName) → option_map_or (comes_to_end world n) o true ≡ true → ((d : ClassName)
         → comes_to_end world n d ≡ true → walk visit world m d ≡ walk visit world n d)
@@ -60,7 +70,8 @@ pub one_visit : {A : Type 0} (visit : ClassName → ClassShape
     → found visit world c ≡ found_from (visit c k) (option_and_then (found visit world) (superclass_of world c))
 one_visit visit world n c k e h at =
     stable visit world n most_classes c e h ∙ sym (stable visit world n (suc most_classes) c e (omega arith))
-    ∙ ap (option_and_then (λ k. found_from (visit c k) (option_and_then (found visit world) (superclass_of world c)))) at
+    ∙ ap (option_and_then (λ k. found_from (visit c k) (option_and_then (found visit world) (superclass_of world c))))
+    at
 
 -- ---- tables of the class above
 
@@ -71,11 +82,14 @@ one_at_least world c (suc n) e = omega arith
 one_more : (world : List Shape) (c d : ClassName) (depth : ℕ) → superclass_of world c ≡ Some d → ((n : ℕ)
     → comes_to_end world n d ≡ true → depth ≤ n) → (n : ℕ) → comes_to_end world n c ≡ true → suc depth ≤ n
 one_more world c d depth s least zero e = absurd (true_false (sym e))
-one_more world c d depth s least (suc n) e = let l = least n (sym (ap (λ (o : Option ClassName). option_map_or (comes_to_end world n) o true) s) ∙ e) in omega (arith, l)
+one_more world c d depth s least (suc n) e =
+    let l = least n (sym (ap (λ (o : Option ClassName). option_map_or (comes_to_end world n) o true) s) ∙ e) in
+    omega (arith, l)
 
 -- an interface's table has nothing
 no_entry : (token asker : ℕ) (b : Bool)
-    → cond b (place_at no_methods.public token) (place_at (row_at no_methods.visible asker) (token - package_visible)) ≡ None
+    → cond b (place_at no_methods.public token) (place_at (row_at no_methods.visible asker) (token - package_visible))
+    ≡ None
 no_entry token asker true = refl
 no_entry token asker false = refl
 
@@ -83,7 +97,9 @@ pub none_above : (world : List Shape) (c : ClassName) → superclass_of world c 
 none_above world c e = record {
   ends = ap (λ (o : Option ClassName). option_map_or (comes_to_end world 0) o true) e;
   least = one_at_least world c;
-  methods = λ token asker b. no_entry token asker (nat_lt token package_visible) ∙ sym (ap (option_and_then (λ d. virtual_method_of world d token asker)) e);
+  methods =
+      λ token asker b. no_entry token asker (nat_lt token package_visible)
+      ∙ sym (ap (option_and_then (λ d. virtual_method_of world d token asker)) e);
   interfaces = λ interface. sym (ap (option_and_then (found (interface_visit world interface) world)) e);
   nothing = λ none d up. absurd (none_some d (sym e ∙ up));
 }
@@ -93,8 +109,12 @@ pub some_above : (world : List Shape) (c d : ClassName) (table : Tabled) → sup
 some_above world c d table e t = record {
   ends = ap (λ (o : Option ClassName). option_map_or (comes_to_end world table.depth) o true) e ∙ t.ends;
   least = one_more world c d table.depth e t.least;
-  methods = λ token asker b. t.methods token asker b ∙ sym (ap (option_and_then (λ d. virtual_method_of world d token asker)) e);
-  interfaces = λ interface. t.interfaces interface ∙ sym (ap (option_and_then (found (interface_visit world interface) world)) e);
+  methods =
+      λ token asker b. t.methods token asker b
+      ∙ sym (ap (option_and_then (λ d. virtual_method_of world d token asker)) e);
+  interfaces =
+      λ interface. t.interfaces interface
+      ∙ sym (ap (option_and_then (found (interface_visit world interface) world)) e);
   nothing = λ none d2 up. subst (ListNothing world) (the_some d d2 (sym e ∙ up)) (t.nothing none);
 }
 
@@ -108,7 +128,8 @@ nothing_made : (world : List Shape) (c : ClassName) (k : ClassShape) (above : Op
     → IsTabledAbove world c above → lists_any (interface_rows k.body) (lists_above above) ≡ false → ListNothing world c
 nothing_made world c k above at up none zero d k2 here there =
     let same : k ≡ k2 = the_some k k2 (sym at ∙ ap (class_at world) (the_some c d here) ∙ there) in
-    sym (ap (λ (k : ClassShape). interface_rows k.body) same) ∙ (no_rows (interface_rows k.body) (lists_above above) none).0
+    sym (ap (λ (k : ClassShape). interface_rows k.body) same)
+    ∙ (no_rows (interface_rows k.body) (lists_above above) none).0
 nothing_made world c k above at up none (suc n) d k2 here there =
     let s = some_of (class_behind world n) (superclass_of world c) d here in
     up.nothing (no_rows (interface_rows k.body) (lists_above above) none).1 s.0 s.1 n d k2 s.2 there
@@ -117,8 +138,11 @@ nothing_made world c k above at up none (suc n) d k2 here there =
 pub made_right : (world : List Shape) (c : ClassName) (k : ClassShape) (above : Option Tabled) (table : Tabled)
     → class_at world c ≡ Some k → IsTabledAbove world c above → table.depth ≡ suc (depth_above above)
     → table.depth ≤ most_classes
-    → ((token asker : ℕ) → token < 256 → entry_in table token asker ≡ entry_made world above (home_of c) k.body token asker)
-    → ((interface : ClassName) → indexes_in table.listed interface ≡ found_from (listing_visit world interface (home_of c) k.body) (indexes_in (listed_above above) interface))
+    → ((token asker : ℕ) → token < 256
+    → entry_in table token asker ≡ entry_made world above (home_of c) k.body token asker)
+    → ((interface : ClassName)
+    → indexes_in table.listed interface
+    ≡ found_from (listing_visit world interface (home_of c) k.body) (indexes_in (listed_above above) interface))
     → table.lists ≡ lists_any (interface_rows k.body) (lists_above above) → IsTabled world c table
 made_right world c k above table at up one few methods interfaces lists =
     let ends : comes_to_end world table.depth c ≡ true = ap (λ n. comes_to_end world n c) one ∙ up.ends in
@@ -126,29 +150,42 @@ made_right world c k above table at up one few methods interfaces lists =
       ends = ends;
       least = λ n e. let l = up.least n e in omega (arith, one, l);
       depth = few;
-      methods = λ token asker b. methods token asker b ∙ ap (found_from (record_visit world asker token (home_of c) k.body)) (up.methods token asker b) ∙ sym (one_visit (virtual_visit world asker token) world table.depth c k ends few at);
-      interfaces = λ interface. interfaces interface ∙ ap (found_from (listing_visit world interface (home_of c) k.body)) (up.interfaces interface) ∙ sym (one_visit (interface_visit world interface) world table.depth c k ends few at);
+      methods =
+          λ token asker b. methods token asker b
+          ∙ ap (found_from (record_visit world asker token (home_of c) k.body)) (up.methods token asker b)
+          ∙ sym (one_visit (virtual_visit world asker token) world table.depth c k ends few at);
+      interfaces =
+          λ interface. interfaces interface
+          ∙ ap (found_from (listing_visit world interface (home_of c) k.body)) (up.interfaces interface)
+          ∙ sym (one_visit (interface_visit world interface) world table.depth c k ends few at);
       nothing = λ none. nothing_made world c k above at up (sym lists ∙ none);
     }
 
 -- ---- the table of an interface
 
-module _ (world : List Shape) (c : ClassName) (k : ClassShape) (at : class_at world c ≡ Some k) (not_class : is_class k.body ≡ false) where
+module _ (world : List Shape) (c : ClassName) (k : ClassShape) (at : class_at world c ≡ Some k)
+    (not_class : is_class k.body ≡ false) where
   nothing_above : superclass_of world c ≡ None
-  nothing_above = ap (λ (o : Option ClassShape). option_and_then (class_named world (home_of c)) (option_and_then (λ (k : ClassShape). superclass_ref k.body) o)) at ∙ by_body k.body not_class
+  nothing_above =
+      ap
+      (λ (o : Option ClassShape). option_and_then (class_named world (home_of c))
+      (option_and_then (λ (k : ClassShape). superclass_ref k.body) o)) at ∙ by_body k.body not_class
     where
-      by_body : (body : RecordBody) → is_class body ≡ false → option_and_then (class_named world (home_of c)) (superclass_ref body) ≡ None
+      by_body : (body : RecordBody) → is_class body ≡ false
+          → option_and_then (class_named world (home_of c)) (superclass_ref body) ≡ None
       by_body (Interface r) e = refl
       by_body (Class r) e = absurd (true_false e)
 
   ends_there : comes_to_end world 1 c ≡ true
   ends_there = ap (λ (o : Option ClassName). option_map_or (comes_to_end world 0) o true) nothing_above
 
-  no_method : (token asker : ℕ) (rest : Option MethodName) (body : RecordBody) → is_class body ≡ false → found_from (record_visit world asker token (home_of c) body) rest ≡ None
+  no_method : (token asker : ℕ) (rest : Option MethodName) (body : RecordBody) → is_class body ≡ false
+      → found_from (record_visit world asker token (home_of c) body) rest ≡ None
   no_method token asker rest (Interface r) e = refl
   no_method token asker rest (Class r) e = absurd (true_false e)
 
-  no_row : (interface : ClassName) (rest : Option (List ℕ)) (body : RecordBody) → is_class body ≡ false → found_from (listing_visit world interface (home_of c) body) rest ≡ None
+  no_row : (interface : ClassName) (rest : Option (List ℕ)) (body : RecordBody) → is_class body ≡ false
+      → found_from (listing_visit world interface (home_of c) body) rest ≡ None
   no_row interface rest (Interface r) e = refl
   no_row interface rest (Class r) e = absurd (true_false e)
 
@@ -169,8 +206,13 @@ module _ (world : List Shape) (c : ClassName) (k : ClassShape) (at : class_at wo
     least = one_at_least world c;
     depth = omega (arith, most_is);
     methods = λ token asker b. no_entry token asker (nat_lt token package_visible)
-        ∙ sym (one_visit (virtual_visit world asker token) world 1 c k ends_there (omega (arith, most_is)) at ∙ no_method token asker _ k.body not_class);
-    interfaces = λ interface. sym (one_visit (interface_visit world interface) world 1 c k ends_there (omega (arith, most_is)) at ∙ no_row interface _ k.body not_class);
+        ∙ sym
+        (one_visit (virtual_visit world asker token) world 1 c k ends_there (omega (arith, most_is)) at
+        ∙ no_method token asker _ k.body not_class);
+    interfaces =
+        λ interface. sym
+        (one_visit (interface_visit world interface) world 1 c k ends_there (omega (arith, most_is)) at
+        ∙ no_row interface _ k.body not_class);
     nothing = λ none. no_rows_there;
   }
 
@@ -180,7 +222,8 @@ ends_keep : (world : List Shape) (more : Shape) (n : ℕ) (c : ClassName) → Is
     → comes_to_end (grown world more) n c ≡ comes_to_end world n c
 ends_keep world more zero c w = refl
 ends_keep world more (suc n) c w =
-    ap (λ (o : Option ClassName). option_map_or (comes_to_end (grown world more) n) o true) (superclasses_keep world more c w)
+    ap (λ (o : Option ClassName). option_map_or (comes_to_end (grown world more) n) o true)
+    (superclasses_keep world more c w)
     ∙ above (superclass_of world c) (λ d e. ends_keep world more n d (superclass_within world c d w e))
   where
     above : (o : Option ClassName) → ((d : ClassName) → o ≡ Some d
@@ -228,7 +271,9 @@ table_grows world more c table w t = record {
 
 indexes_keep : (world : List Shape) (more : Shape) (c : ClassName) → IsWithin world c
     → index_at (grown world more) c ≡ index_at world c
-indexes_keep world more c w = ap (option_and_then (λ (shape : Shape). position (λ (k : ClassShape). k.offset == offset_of c) shape.classes)) (packages_keep world more c w)
+indexes_keep world more c w =
+    ap (option_and_then (λ (shape : Shape). position (λ (k : ClassShape). k.offset == offset_of c) shape.classes))
+    (packages_keep world more c w)
 
 table_within : (tables : List (List (Option Tabled))) (home index : ℕ) (table : Tabled)
     → table_in tables home index ≡ Some table → home < length tables
@@ -238,7 +283,9 @@ table_within tables home index table e =
 
 pub index_within : (world : List Shape) (c : ClassName) (i : ℕ) → index_at world c ≡ Some i → IsWithin world c
 index_within world c i e =
-    let shape = some_of (λ (shape : Shape). position (λ (k : ClassShape). k.offset == offset_of c) shape.classes) (package_at world c) i e in
+    let shape =
+    some_of (λ (shape : Shape). position (λ (k : ClassShape). k.offset == offset_of c) shape.classes)
+    (package_at world c) i e in
     slice_get_within world (home_of c) shape.0 (package_there world c shape.0 shape.1)
 
 table_keeps : (world : List Shape) (more : Shape) (tables : List (List (Option Tabled))) (c : ClassName)
@@ -248,7 +295,8 @@ table_keeps world more tables c w = ap (option_and_then (table_in tables (home_o
 chain_keeps : (world : List Shape) (more : Shape) (c : ClassName) → IsWithin world c
     → has_whole_chain (grown world more) c ≡ has_whole_chain world c
 chain_keeps world more c w =
-    ap (λ (o : Option ClassShape). is_some o && comes_to_end (grown world more) most_classes c) (classes_keep world more c w)
+    ap (λ (o : Option ClassShape). is_some o && comes_to_end (grown world more) most_classes c)
+    (classes_keep world more c w)
     ∙ ap (λ b. is_some (class_at world c) && b) (ends_keep world more most_classes c w)
 
 pub tables_grow : (world : List Shape) (more : Shape) (tables : List (List (Option Tabled)))
@@ -272,7 +320,9 @@ pub placed_index : (world : List Shape) (c : ClassName) (i : ℕ) → index_at w
 placed_index world c i e = by_package (package_at world c) e
   where
     by_package : (o : Option Shape)
-        → option_and_then (λ (shape : Shape). position (λ (k : ClassShape). k.offset == offset_of c) shape.classes) o ≡ Some i → option_and_then (place_in (home_of c) (offset_of c)) o ≡ Some (256 * home_of c + i)
+        → option_and_then (λ (shape : Shape). position (λ (k : ClassShape). k.offset == offset_of c) shape.classes) o
+        ≡ Some i
+        → option_and_then (place_in (home_of c) (offset_of c)) o ≡ Some (256 * home_of c + i)
     by_package None e = absurd (none_some i e)
     by_package (Some shape) e = ap (option_map (λ (i : ℕ). 256 * home_of c + i)) e
 
@@ -286,37 +336,47 @@ one_class world c d i j small e f home same =
 
 -- what a class's record says at a token, over the table above
 module _ (world : List Shape) (home : ℕ) (r : ClassRecord) (above : Option Tabled) (table : Tabled) (depth : ℕ)
-    (over : IsTableOver world home r.public_methods r.package_methods r.interfaces (unwrap_or above no_methods) depth table) where
+    (over : IsTableOver world home r.public_methods r.package_methods r.interfaces (unwrap_or above no_methods) depth
+    table) where
   abbrev up : Tabled
   up = unwrap_or above no_methods
 
   abbrev says : ℕ → ℕ → Bool → Option MethodName
   says token asker b =
-      found_from (cond b (table_visit world home r.public_methods token) (cond (home == asker) (table_visit world home r.package_methods (token - package_visible)) Above))
+      found_from
+      (cond b (table_visit world home r.public_methods token)
+      (cond (home == asker) (table_visit world home r.package_methods (token - package_visible)) Above))
       (cond b (place_at up.public token) (place_at (row_at up.visible asker) (token - package_visible)))
 
-  by_package : (b : Bool) (visit : Visit MethodName) (rest : Option MethodName) → cond b (found_from visit rest) rest ≡ found_from (cond b visit Above) rest
+  by_package : (b : Bool) (visit : Visit MethodName) (rest : Option MethodName)
+      → cond b (found_from visit rest) rest ≡ found_from (cond b visit Above) rest
   by_package true visit rest = refl
   by_package false visit rest = refl
 
   by_token : (token asker : ℕ) → token < 256 → (b : Bool) → nat_lt token package_visible ≡ b
-      → cond b (place_at table.public token) (place_at (row_at table.visible asker) (token - package_visible)) ≡ says token asker b
+      → cond b (place_at table.public token) (place_at (row_at table.visible asker) (token - package_visible))
+      ≡ says token asker b
   by_token token asker less true e = over.methods token (ltb-true token 128 e)
   by_token token asker less false e =
       let l = ltb-false token 128 e in
       over.package_methods asker (token - 128) (omega (arith, l, less))
-      ∙ by_package (home == asker) (table_visit world home r.package_methods (token - package_visible)) (place_at (row_at up.visible asker) (token - package_visible))
+      ∙ by_package (home == asker) (table_visit world home r.package_methods (token - package_visible))
+      (place_at (row_at up.visible asker) (token - package_visible))
 
-  pub entries_over : (token asker : ℕ) → token < 256 → entry_in table token asker ≡ entry_made world above home (Class r) token asker
+  pub entries_over : (token asker : ℕ) → token < 256
+      → entry_in table token asker ≡ entry_made world above home (Class r) token asker
   entries_over token asker less = by_token token asker less (nat_lt token package_visible) refl
 
 -- ---- interfaces
 
-pub one_listed : (world : List Shape) (home : ℕ) (rows : List Implemented) (listed : List Listed) (i : ℕ) (row : Implemented) → listed ≡ filter_map (listed_row world home) (take i rows) → i < length rows → row ≡ get_or rows i row
+pub one_listed : (world : List Shape) (home : ℕ) (rows : List Implemented) (listed : List Listed) (i : ℕ)
+    (row : Implemented) → listed ≡ filter_map (listed_row world home) (take i rows) → i < length rows
+    → row ≡ get_or rows i row
     → listed ++ option_to_list (listed_row world home row) ≡ filter_map (listed_row world home) (take (i + 1) rows)
 one_listed world home rows listed i row so_far less at =
     ap (λ xs. xs ++ option_to_list (listed_row world home row)) so_far
-    ∙ ap (λ (xs : List Listed). filter_map (listed_row world home) (take i rows) ++ xs) (one_mapped (listed_row world home row))
+    ∙ ap (λ (xs : List Listed). filter_map (listed_row world home) (take i rows) ++ xs)
+    (one_mapped (listed_row world home row))
     ∙ sym (filter_map-append (listed_row world home) (take i rows) (row ∷ []))
     ∙ ap (λ x. filter_map (listed_row world home) (take i rows ++ x ∷ [])) at
     ∙ sym (ap (filter_map (listed_row world home)) (take-suc rows i row less))
@@ -327,22 +387,32 @@ one_listed world home rows listed i row so_far less at =
     one_mapped (Some l) = refl
 
 -- the rows of a class, and then those above
-pub listed_right : (world : List Shape) (home : ℕ) (rows : List Implemented) (rest : List Listed) (interface : ClassName)
-    → indexes_in (filter_map (listed_row world home) rows ++ rest) interface ≡ found_from (indexes_visit (row_for world interface home rows)) (indexes_in rest interface)
+pub listed_right : (world : List Shape) (home : ℕ) (rows : List Implemented) (rest : List Listed)
+    (interface : ClassName)
+    → indexes_in (filter_map (listed_row world home) rows ++ rest) interface
+    ≡ found_from (indexes_visit (row_for world interface home rows)) (indexes_in rest interface)
 listed_right world home [] rest interface = refl
-listed_right world home (row ∷ rows) rest interface = by_name (class_named world home row.interface) (listed_right world home rows rest interface)
+listed_right world home (row ∷ rows) rest interface =
+    by_name (class_named world home row.interface) (listed_right world home rows rest interface)
   where
     by_test : (b : Bool) (c : ClassName)
-        → indexes_in (filter_map (listed_row world home) rows ++ rest) interface ≡ found_from (indexes_visit (row_for world interface home rows)) (indexes_in rest interface)
-        → option_map (λ (l : Listed). l.indexes) (cond b (Some (record { interface = c; indexes = row.indexes })) (find (λ (l : Listed). is_same_name l.interface interface) (filter_map (listed_row world home) rows ++ rest)))
+        → indexes_in (filter_map (listed_row world home) rows ++ rest) interface
+        ≡ found_from (indexes_visit (row_for world interface home rows)) (indexes_in rest interface)
+        → option_map (λ (l : Listed). l.indexes)
+        (cond b (Some (record { interface = c; indexes = row.indexes }))
+        (find (λ (l : Listed). is_same_name l.interface interface) (filter_map (listed_row world home) rows ++ rest)))
         ≡ found_from (indexes_visit (cond b (Some row) (row_for world interface home rows))) (indexes_in rest interface)
     by_test true c others = refl
     by_test false c others = others
 
     by_name : (o : Option ClassName)
-        → indexes_in (filter_map (listed_row world home) rows ++ rest) interface ≡ found_from (indexes_visit (row_for world interface home rows)) (indexes_in rest interface)
-        → indexes_in (cons_option (option_map (λ (c : ClassName). record { interface = c; indexes = row.indexes }) o) (filter_map (listed_row world home) rows) ++ rest) interface
-        ≡ found_from (indexes_visit (cond (is_this interface o) (Some row) (row_for world interface home rows))) (indexes_in rest interface)
+        → indexes_in (filter_map (listed_row world home) rows ++ rest) interface
+        ≡ found_from (indexes_visit (row_for world interface home rows)) (indexes_in rest interface)
+        → indexes_in
+        (cons_option (option_map (λ (c : ClassName). record { interface = c; indexes = row.indexes }) o)
+        (filter_map (listed_row world home) rows) ++ rest) interface
+        ≡ found_from (indexes_visit (cond (is_this interface o) (Some row) (row_for world interface home rows)))
+        (indexes_in rest interface)
     by_name None others = others
     by_name (Some c) others = by_test (is_same_name c interface) c others
 
@@ -373,7 +443,8 @@ each_pushed xs y f n count so_far last i less = by_order (cases_lt i n)
         ap (place_at (xs ++ y ∷ [])) (same ∙ sym count) ∙ place_last xs y ∙ last ∙ sym (ap f same)
 
 -- so many entries that are right, where there is nothing to be behind them
-pub row_whole : (world : List Shape) (home : ℕ) (table : VirtualTable) (above made : List (Option MethodName)) (n : ℕ) → length made ≡ n
+pub row_whole : (world : List Shape) (home : ℕ) (table : VirtualTable) (above made : List (Option MethodName)) (n : ℕ)
+    → length made ≡ n
     → ((i : ℕ) → i < n → place_at made i ≡ row_entry world home table above i)
     → ((i : ℕ) → n ≤ i → i < 128 → row_entry world home table above i ≡ None) → IsRowOver world home table above made
 row_whole world home table above made n count so_far none i less = by_order (cases_lt i n)
@@ -389,19 +460,24 @@ pub row_shared : (world : List Shape) (home : ℕ) (table : VirtualTable) (above
     → length table.methods ≡ 0
     → IsRowOver world home table above above
 row_shared world home table above none i less =
-    sym (ap (λ b. found_from (cond b Above (entry_visit world home (slice_get table.methods (i - table.base)))) (place_at above i))
+    sym
+    (ap
+    (λ b. found_from (cond b Above (entry_visit world home (slice_get table.methods (i - table.base))))
+    (place_at above i))
     (ap (λ n. nat_lt i table.base || n == 0) none ∙ or_true (nat_lt i table.base)))
   where
     or_true : (b : Bool) → (b || true) ≡ true
     or_true true = refl
     or_true false = refl
 
-pub visible_shared : (world : List Shape) (home : ℕ) (table : VirtualTable) (above : List (List (Option MethodName))) → length table.methods ≡ 0
+pub visible_shared : (world : List Shape) (home : ℕ) (table : VirtualTable) (above : List (List (Option MethodName)))
+    → length table.methods ≡ 0
     → AreVisibleOver world home table above above
 visible_shared world home table above none asker i less = by_home (home == asker)
   where
     by_home : (b : Bool)
-        → place_at (row_at above asker) i ≡ cond b (row_entry world home table (row_at above asker) i) (place_at (row_at above asker) i)
+        → place_at (row_at above asker) i
+        ≡ cond b (row_entry world home table (row_at above asker) i) (place_at (row_at above asker) i)
     by_home true = row_shared world home table (row_at above asker) none i less
     by_home false = refl
 
@@ -411,33 +487,48 @@ pub row_ends : (world : List Shape) (home : ℕ) (table : VirtualTable) (above :
 row_ends world home table above i past none = by_test (nat_lt i table.base || length table.methods == 0)
   where
     by_test : (b : Bool)
-        → found_from (cond b Above (entry_visit world home (slice_get table.methods (i - table.base)))) (place_at above i) ≡ None
+        → found_from (cond b Above (entry_visit world home (slice_get table.methods (i - table.base))))
+        (place_at above i) ≡ None
     by_test true = none
-    by_test false = ap (λ (o : Option ℕ). found_from (entry_visit world home o) (place_at above i)) (slice_get_past table.methods (i - table.base) (omega (arith, past)))
+    by_test false =
+        ap (λ (o : Option ℕ). found_from (entry_visit world home o) (place_at above i))
+        (slice_get_past table.methods (i - table.base) (omega (arith, past)))
 
 -- the row of the class's own package in place of that above
-pub put_right : (world : List Shape) (home : ℕ) (table : VirtualTable) (rows : List (List (Option MethodName))) (made : List (Option MethodName)) → home < length rows
+pub put_right : (world : List Shape) (home : ℕ) (table : VirtualTable) (rows : List (List (Option MethodName)))
+    (made : List (Option MethodName)) → home < length rows
     → IsRowOver world home table (row_at rows home) made → AreVisibleOver world home table rows (set rows home made)
 put_right world home table rows made less over asker i few = by_home (home == asker) refl
   where
     by_home : (b : Bool) → (home == asker) ≡ b
-        → place_at (row_at (set rows home made) asker) i ≡ cond b (row_entry world home table (row_at rows asker) i) (place_at (row_at rows asker) i)
+        → place_at (row_at (set rows home made) asker) i
+        ≡ cond b (row_entry world home table (row_at rows asker) i) (place_at (row_at rows asker) i)
     by_home true e =
-        subst (λ asker. place_at (row_at (set rows home made) asker) i ≡ row_entry world home table (row_at rows asker) i) (eqb-true home asker e)
-        (ap (λ row. place_at row i) (unwrap_or-slice_get (set rows home made) home [] ∙ get_or-set_same rows home made [] less) ∙ over i few)
+        subst
+        (λ asker. place_at (row_at (set rows home made) asker) i ≡ row_entry world home table (row_at rows asker) i)
+        (eqb-true home asker e)
+        (ap (λ row. place_at row i)
+        (unwrap_or-slice_get (set rows home made) home [] ∙ get_or-set_same rows home made [] less) ∙ over i few)
     by_home false e =
-        ap (λ row. place_at row i) (unwrap_or-slice_get (set rows home made) asker [] ∙ get_or-set_other rows home asker made [] (λ same. eqb-false home asker e (sym same)) ∙ sym (unwrap_or-slice_get rows asker []))
+        ap (λ row. place_at row i)
+        (unwrap_or-slice_get (set rows home made) asker []
+        ∙ get_or-set_other rows home asker made [] (λ same. eqb-false home asker e (sym same))
+        ∙ sym (unwrap_or-slice_get rows asker []))
 
 -- rows that are the same, with that of the class's own package put behind
-pub visible_right : (world : List Shape) (home : ℕ) (table : VirtualTable) (above old made : List (List (Option MethodName))) → AreSameRows above old
+pub visible_right : (world : List Shape) (home : ℕ) (table : VirtualTable)
+    (above old made : List (List (Option MethodName))) → AreSameRows above old
     → AreVisibleOver world home table old made → AreVisibleOver world home table above made
 visible_right world home table above old made same over asker i less =
     over asker i less ∙ ap (λ row. visible_entry world home table row asker i) (same asker)
 
 -- ---- a table that is made
 
-pub table_right : (world : List Shape) (c : ClassName) (k : ClassShape) (r : ClassRecord) (above : Option Tabled) (table : Tabled) (home depth : ℕ) → home ≡ home_of c → k.body ≡ Class r → class_at world c ≡ Some k → IsTabledAbove world c above → depth ≡ suc (depth_above above) → depth ≤ most_classes
-    → IsTableOver world home r.public_methods r.package_methods r.interfaces (unwrap_or above no_methods) depth table → IsTabled world c table
+pub table_right : (world : List Shape) (c : ClassName) (k : ClassShape) (r : ClassRecord) (above : Option Tabled)
+    (table : Tabled) (home depth : ℕ) → home ≡ home_of c → k.body ≡ Class r → class_at world c ≡ Some k
+    → IsTabledAbove world c above → depth ≡ suc (depth_above above) → depth ≤ most_classes
+    → IsTableOver world home r.public_methods r.package_methods r.interfaces (unwrap_or above no_methods) depth table
+    → IsTabled world c table
 table_right world c k r above table home depth e body at up one few over =
     made_right world c k above table at up (over.deep ∙ one) (omega (arith, over.deep, few))
     (λ token asker less. entries_over world home r above table depth over token asker less
@@ -446,6 +537,9 @@ table_right world c k r above table home depth e body at up one few over =
     (λ interface.
     ap (λ (l : List Listed). indexes_in l interface) over.listing
     ∙ listed_right world home r.interfaces (listed_above above) interface
-    ∙ ap (λ home. found_from (listing_visit world interface home (Class r)) (indexes_in (listed_above above) interface)) e
-    ∙ ap (λ body. found_from (listing_visit world interface (home_of c) body) (indexes_in (listed_above above) interface)) (sym body))
+    ∙ ap
+    (λ home. found_from (listing_visit world interface home (Class r)) (indexes_in (listed_above above) interface)) e
+    ∙ ap
+    (λ body. found_from (listing_visit world interface (home_of c) body) (indexes_in (listed_above above) interface))
+    (sym body))
     (over.any ∙ ap (λ body. lists_any (interface_rows body) (lists_above above)) (sym body))

@@ -7,6 +7,7 @@ ghost use Rattle.jc_classes.specs.Subtype.{has_whole_chain};
 
 use crate::table::ClassTable;
 use crate::tables::ListedInterface;
+use jc_base::Shared;
 use jc_names::ClassName;
 
 impl ClassTable {
@@ -53,7 +54,7 @@ impl ClassTable {
 
     /// What a class and its superclasses list, the nearest class's first. There is no answer only where neither a class
     /// nor an interface stands there, or where the superclass chain doesn't come to its end.
-    pub fn listed_interfaces(&self, class: ClassName) -> Option<&[ListedInterface]>
+    pub fn listed_interfaces(&self, class: ClassName) -> Option<&[Shared<ListedInterface>]>
         ensures rows { IfSome result (λ rows. AreListedBy self.now class rows.now) }
         ensures none { IfNone result (has_whole_chain self.now class ≡ false) }
     {

@@ -12,7 +12,7 @@ ghost use Rattle.jc_classes.specs.PrivateSearch.{class_placed};
 ghost use Rattle.jc_classes.specs.PrivateShape.{record_of};
 ghost use Rattle.jc_classes.specs.Limits.{IsSmall, most_packages, most_classes_of_one};
 
-use crate::copies::{Copied, all_copied};
+use crate::copies::all_shared;
 use crate::shape::{Body, Class, PackageShape};
 use jc_base::{Aid, ClassRef, PackageInfo, Shared};
 use jc_names::{ClassName, PackagePlace, name_in};
@@ -35,14 +35,6 @@ impl Model for Shapes {
     ghost view = { λ s. s.packages.items };
 
     ghost invariant = { λ s. IsSmall s.packages.items };
-}
-
-impl Copied for Shapes {
-    fn copied(&self, alloc: Global) -> Result<Shapes, AllocError> {
-        Ok(Shapes {
-            packages: all_copied(alloc, &self.packages)?,
-        })
-    }
 }
 
 impl PackageShape {
@@ -107,6 +99,15 @@ impl Shapes {
         Shapes {
             packages: Vec::new(alloc),
         }
+    }
+
+    /// The same packages, shared with these.
+    pub(crate) fn shared(&self, alloc: Global) -> Result<Shapes, AllocError>
+        ensures { IfOk result (λ copy. copy ≡ self.now) }
+    {
+        Ok(Shapes {
+            packages: all_shared(alloc, &self.packages)?,
+        })
     }
 
     /// Where its memory is from.

@@ -13,7 +13,7 @@ ghost use Rattle.jc_classes.specs.PrivateTables.{IsTabledAbove};
 ghost use Rattle.jc_classes.specs.Walk.{most_classes};
 ghost use Rattle.jc_classes.specs.World.{class_at};
 
-use crate::copies::{Copied, all_copied, put_copies};
+use crate::copies::{all_shared, put_shared};
 use crate::methods::PACKAGE_VISIBLE;
 use crate::places::{make_room, place_at};
 use crate::shape::{Body, Class, ClassBody, ImplementedInterface, Table};
@@ -88,10 +88,10 @@ impl Model for VisibleRows {
     ghost view = { λ r. r.rows.items };
 }
 
-/// What a class and its superclasses list.
+/// What a class and its superclasses list. Each row is shared with the classes below.
 #[derive(Drop)]
 pub(crate) struct ListedRows {
-    rows: Vec<ListedInterface>,
+    rows: Vec<Shared<ListedInterface>>,
 }
 
 impl Model for ListedRows {
@@ -244,7 +244,7 @@ impl MethodTable {
     }
 
     /// What the class and its superclasses list.
-    pub(crate) fn listed(&self) -> &[ListedInterface]
+    pub(crate) fn listed(&self) -> &[Shared<ListedInterface>]
         ensures { result.now ≡ self.now.listed }
     {
         &self.listed.get().rows
@@ -261,8 +261,11 @@ impl MethodTable {
     pub(crate) fn indexes(&self, interface: ClassName) -> Option<&[u8]>
         ensures { option_map (λ i. i.now) result ≡ indexes_in self.now.listed interface }
     {
-        let found = self.listed().iter().find(|l| l.interface.is(interface))?;
-        Some(&found.indexes)
+        let found = self
+            .listed()
+            .iter()
+            .find(|l| l.get().interface.is(interface))?;
+        Some(&found.get().indexes)
     }
 }
 
@@ -293,15 +296,6 @@ impl PackageTables {
         ensures { self.new ≡ set self.old index (Some table) }
     {
         self.tables[index] = Some(table);
-    }
-}
-
-impl Copied for ListedInterface {
-    fn copied(&self, alloc: Global) -> Result<ListedInterface, AllocError> {
-        Ok(ListedInterface {
-            interface: self.interface,
-            indexes: Vec::from_slice(alloc, &self.indexes)?,
-        })
     }
 }
 
@@ -422,7 +416,7 @@ impl Shapes {
     ) -> Result<VisibleRows, AllocError>
         ensures { IfOk result (AreVisibleOver self.now home table.now above.now) }
     {
-        let mut rows = all_copied(alloc, &above.rows)?;
+        let mut rows = all_shared(alloc, &above.rows)?;
         widen(alloc, &mut rows, home.index() + 1)?;
         self.put_own_row(alloc, home, table, &mut rows)?;
         Ok(VisibleRows { rows })
@@ -451,14 +445,15 @@ impl Shapes {
         alloc: Global,
         home: PackagePlace,
         row: &ImplementedInterface,
-        listed: &mut Vec<ListedInterface>,
+        listed: &mut Vec<Shared<ListedInterface>>,
     ) -> Result<(), AllocError>
         ensures { IfOk result (λ u.
             listed.new.items ≡ listed.old.items ++ option_to_list (listed_row self.now home row.now)) }
     {
         if let Some(interface) = self.class_named(home, row.interface) {
             let indexes = Vec::from_slice(alloc, &row.indexes)?;
-            listed.push(ListedInterface { interface, indexes })?;
+            let shared = Shared::new(alloc, ListedInterface { interface, indexes })?;
+            listed.push(shared)?;
         }
         Ok(())
     }
@@ -470,7 +465,7 @@ impl Shapes {
         alloc: Global,
         home: PackagePlace,
         rows: &[ImplementedInterface],
-    ) -> Result<Vec<ListedInterface>, AllocError>
+    ) -> Result<Vec<Shared<ListedInterface>>, AllocError>
         ensures { IfOk result (λ made. made.items ≡ filter_map (listed_row self.now home) rows.now) }
     {
         let mut listed = Vec::new(alloc);
@@ -480,8 +475,8 @@ impl Shapes {
         Ok(listed)
     }
 
-    /// The interfaces of a class: those that its record lists, and then those of the class above, shared with it where
-    /// the record lists none.
+    /// The interfaces of a class: those that its record lists, and then those of the class above, whose rows are shared
+    /// one by one, and all at once where the record lists none.
     fn listed_over(
         &self,
         alloc: Global,
@@ -495,7 +490,7 @@ impl Shapes {
             return above.share();
         }
         let mut listed = self.own_listed(alloc, home, rows)?;
-        put_copies(&mut listed, alloc, &above.get().rows)?;
+        put_shared(&mut listed, &above.get().rows)?;
         Shared::new(alloc, ListedRows { rows: listed })
     }
 

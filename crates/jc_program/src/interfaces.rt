@@ -11,6 +11,7 @@ use crate::called::{Called, indexes_called};
 use crate::classes::{ClassNumber, Classes};
 use crate::keyed::KeyedLists;
 use crate::methods::Methods;
+use jc_base::Shared;
 use jc_classes::{ClassTable, ListedInterface};
 use jc_link::{World, built_worlds_are_sound};
 use jc_names::ClassName;
@@ -28,7 +29,7 @@ pub enum InterfaceCall {
 
 /// What a class and its superclasses list; nothing where no class stands there.
 #[tactic(auto, using(crate::proofs::Interfacing::none_listed))]
-fn listed_by(table: &ClassTable, class: ClassName) -> &[ListedInterface]
+fn listed_by(table: &ClassTable, class: ClassName) -> &[Shared<ListedInterface>]
     requires sound { IsSound table.now }
     ensures { AreListedBy table.now class result.now }
 {
@@ -76,7 +77,7 @@ fn put_tables(
 {
     let rows = listed_by(table, class);
     for row in rows {
-        put_row(alloc, lists, table, methods, classes, class, row)?;
+        put_row(alloc, lists, table, methods, classes, class, row.get())?;
     }
     Ok(())
 }

@@ -12,6 +12,7 @@ pub mod Leading
 pub mod Listed
 pub mod Places
 pub mod Rows
+pub mod RowsAbove
 pub mod SoundVirtual
 pub mod SoundFinished
 pub mod StaticOffsets

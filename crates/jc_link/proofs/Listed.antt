@@ -11,7 +11,7 @@ pub list_any_map : {A B : Type 0} (p : B → Bool) (f : A → B) (xs : List A) �
 list_any_map p f [] = refl
 list_any_map p f (x ∷ xs) = ap (λ b. p (f x) || b) (list_any_map p f xs)
 
-or_none : (b : Bool) → b ≡ (b || false)
+pub or_none : (b : Bool) → b ≡ (b || false)
 or_none true = refl
 or_none false = refl
 

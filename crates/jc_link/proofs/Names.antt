@@ -1,8 +1,10 @@
 -- What the entries of a pool name, each found once and kept in a list.
-use Rattle.std.proofs.Common.{◌≡◌, ℕ, zero, suc, ◌+◌, ◌<◌, ◌&&◌, inl, inr, Bool, true, false, List, [], ◌∷◌, ◌++◌, length, take, map, slice_get, Option, Some, None, refl, sym, subst, ap, ◌∙◌, arith, is_some, not, get_or, add-one}
+use Rattle.std.proofs.Common.{◌≡◌, ℕ, zero, suc, ◌+◌, ◌<◌, inl, inr, Bool, true, false, List, [], ◌∷◌, ◌++◌, length}
+use Rattle.std.proofs.Common.{take, map, slice_get, Option, Some, None, refl, sym, subst, ap, ◌∙◌, arith, is_some, not}
+use Rattle.std.proofs.Common.{get_or, add-one}
 use Rattle.std.proofs.lemmas.List.{map-append}
 use Rattle.std.proofs.lemmas.List.{take_more}
-use Rattle.std.proofs.lemmas.List.Folds.{list_all_at}
+use Rattle.std.proofs.lemmas.List.Folds.{list_all-map, list_all_at}
 use Rattle.std.specs.List.{list_all}
 use Rattle.std.specs.Option.{option_and_then, option_map_or, option_or}
 use Rattle.jc_base.specs.declared.fault.LoadFault.{LoadFault}
@@ -14,6 +16,10 @@ use Rattle.jc_link.specs.PrivateNames.{AreNamed, NamesLead}
 use Rattle.jc_link.specs.Sound.{LeadSomewhere}
 use Rattle.jc_link.specs.Target.{pool_targets, target_of}
 use Rattle.jc_link.specs.declared.named.Named.{Named}
+
+map_map : {A B C : Type 0} (g : B → C) (f : A → B) (xs : List A) → map g (map f xs) ≡ map (λ x. g (f x)) xs
+map_map g f [] = refl
+map_map g f (x ∷ xs) = ap (λ ys. g (f x) ∷ ys) (map_map g f xs)
 
 -- ---- what is found of each element of a list
 
@@ -68,28 +74,18 @@ module _ {A B : Type 0} (f : A → Option B) where
   -- what is made of what is kept, and what is asked of it
   map_are : {C : Type 0} (g : B → Option C) (xs : List A) (ys : List B) → map Some ys ≡ map f xs
       → map g ys ≡ map (λ x. option_and_then g (f x)) xs
-  map_are g [] [] e = refl
-  map_are g [] (b ∷ ys) e = absurd cc
-  map_are g (a ∷ xs) [] e = absurd cc
-  map_are g (a ∷ xs) (b ∷ ys) e =
-      let h : Some b ≡ f a = cc in
-      let t : map Some ys ≡ map f xs = cc in
-      ap (λ o. option_and_then g o ∷ map g ys) h ∙ ap (λ os. option_and_then g (f a) ∷ os) (map_are g xs ys t)
+  map_are g xs ys e =
+      sym (map_map (option_and_then g) Some ys) ∙ ap (map (option_and_then g)) e ∙ map_map (option_and_then g) f xs
 
   all_are : (p : Option B → Bool) (xs : List A) (ys : List B) → map Some ys ≡ map f xs
       → list_all (λ y. p (Some y)) ys ≡ list_all (λ x. p (f x)) xs
-  all_are p [] [] e = refl
-  all_are p [] (b ∷ ys) e = absurd cc
-  all_are p (a ∷ xs) [] e = absurd cc
-  all_are p (a ∷ xs) (b ∷ ys) e =
-      let h : Some b ≡ f a = cc in
-      let t : map Some ys ≡ map f xs = cc in
-      ap (λ o. p o && list_all (λ y. p (Some y)) ys) h ∙ ap (λ c. p (f a) && c) (all_are p xs ys t)
+  all_are p xs ys e = sym (list_all-map p Some ys) ∙ ap (list_all p) e ∙ list_all-map p f xs
 
 -- ---- names of entries
 
 -- the name that is kept of an entry is the entry's
-pub entry_name : (world : List Shape) (home : ℕ) (pool : List PoolEntry) (names : List Named) (i : ℕ) (entry : PoolEntry)
+pub entry_name : (world : List Shape) (home : ℕ) (pool : List PoolEntry) (names : List Named) (i : ℕ)
+    (entry : PoolEntry)
     (named : Named) → AreNamed world home pool names → slice_get pool i ≡ Some entry → slice_get names i ≡ Some named
     → named_by world home entry ≡ Some named
 entry_name world home pool names i entry named are there kept =

@@ -59,7 +59,7 @@ none_to_break world c b nothing e =
     sym (ap (list_any (breaks_row world c)) (no_rows_along world most_classes c (nothing e)))
 
 module _ (test : ListedRow → Bool) (world : List Shape) where
-  one_more : (k : ℕ) (at : ClassName) (b : Bool) (o : Option ClassName) → list_any test (rows_of world at) ≡ b
+  pub one_more : (k : ℕ) (at : ClassName) (b : Bool) (o : Option ClassName) → list_any test (rows_of world at) ≡ b
       → superclass_of world at ≡ o
       → list_any test (rows_along world (suc k) at) ≡ (b || list_any test (option_map_or (rows_along world k) o []))
   one_more k at b o e f =
@@ -68,7 +68,7 @@ module _ (test : ListedRow → Bool) (world : List Shape) where
       ∙ ap (λ x. x || list_any test (option_map_or (rows_along world k) o [])) e
 
   -- fewer classes have no such row where more have none
-  none_of_fewer : (n m : ℕ) (at : ClassName) → n ≤ m → list_any test (rows_along world m at) ≡ false
+  pub none_of_fewer : (n m : ℕ) (at : ClassName) → n ≤ m → list_any test (rows_along world m at) ≡ false
       → list_any test (rows_along world n at) ≡ false
   none_of_fewer zero m at l e = refl
   none_of_fewer (suc n) zero at l e = absurd (omega arith)

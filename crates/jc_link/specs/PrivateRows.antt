@@ -1,8 +1,13 @@
 -- Private. The rows of a class and of its superclasses, as a walk tests them that may end where it comes to a class
--- again.
-use Rattle.std.specs.Prelude.{◌≡◌, ℕ, ◌+◌, Bool, List}
+-- again; and where a class keeps them since the class above it does.
+use Rattle.std.specs.Prelude.{◌≡◌, ℕ, ◌+◌, Bool, false, not, ◌&&◌, List}
 use Rattle.std.specs.List.{list_any}
-use Rattle.jc_cap_desc.specs.Shape.{Shape}
+use Rattle.std.specs.Option.{option_map_or}
+use Rattle.jc_cap.specs.ClassComponent.{is_class}
+use Rattle.jc_cap_desc.specs.Shape.{ClassShape, Shape}
+use Rattle.jc_classes.specs.Members.{name_of}
+use Rattle.jc_classes.specs.Methods.{public_method_of}
+use Rattle.jc_names.specs.Names.{is_same_name}
 use Rattle.jc_names.specs.declared.name.ClassName.{ClassName}
 use Rattle.jc_link.specs.Inherited.{ListedRow, rows_along}
 
@@ -13,3 +18,12 @@ pub record IsOnRows (test : ListedRow → Bool) (world : List Shape) (anchor at 
   pub so_far : list_any test (rows_along world n at) ≡ total
   pub between : ℕ
   pub anchored : (m : ℕ) → list_any test (rows_along world (m + between) anchor) ≡ list_any test (rows_along world m at)
+
+-- the class with a name, not abstract, of the package that stands there
+abbrev pub is_finished_as : ℕ → ClassName → ClassShape → Bool
+is_finished_as home c k =
+    option_map_or (is_same_name c) (name_of home k) false && is_class k.body && not k.is_abstract
+
+-- two classes find the same public methods
+abbrev pub FindSame : List Shape → ClassName → ClassName → Type 0
+FindSame world c d = (token : ℕ) → public_method_of world c token ≡ public_method_of world d token

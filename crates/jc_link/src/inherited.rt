@@ -1,6 +1,6 @@
 //! What makes a class unfit for its world by what it inherits.
 
-ghost use Rattle.std.specs.Prelude.{◌≡◌, ◌≤◌};
+ghost use Rattle.std.specs.Prelude.{◌≡◌, ◌≤◌, false};
 ghost use Rattle.std.specs.List.{list_any, range_with_len};
 ghost use Rattle.jc_classes.specs.Methods.{public_method_of};
 ghost use Rattle.jc_link.specs.Inherited.{loses_at, loses_method, is_same_method, is_other_type, retypes_at};
@@ -8,7 +8,9 @@ ghost use Rattle.jc_link.specs.Inherited.{overrides_with_another_type, is_abstra
 ghost use Rattle.jc_link.specs.Inherited.{leaves_package_abstract, leaves_abstract, public_tokens, rows_of, misses};
 ghost use Rattle.jc_link.specs.Inherited.{method_for, is_unimplemented, lacks_methods_of, breaks_row, breaks_interface};
 ghost use Rattle.jc_link.specs.Inherited.{is_unfinished};
+ghost use Rattle.jc_link.specs.WellFormed.{is_bad_class};
 
+use crate::above::keeps_rows_above;
 use crate::classes::MOST_CLASSES;
 use crate::pool::{is_abstract_method, is_concrete, method_above};
 use crate::types::{implements_type, is_known_method, same_method_type};
@@ -41,7 +43,7 @@ pub(crate) fn loses_method(table: &ClassTable, home: PackagePlace, class: ClassN
 }
 
 /// Whether two names are of one method.
-fn is_same_method(one: MethodName, other: MethodName) -> bool
+pub(crate) fn is_same_method(one: MethodName, other: MethodName) -> bool
     ensures { result ≡ is_same_method one other }
 {
     match (one, other) {
@@ -150,7 +152,7 @@ fn leaves_abstract(table: &ClassTable, class: ClassName) -> bool
 }
 
 /// The public virtual method of a class at a token.
-fn public_method(table: &ClassTable, class: ClassName, token: u8) -> Option<MethodName>
+pub(crate) fn public_method(table: &ClassTable, class: ClassName, token: u8) -> Option<MethodName>
     ensures { result ≡ public_method_of table.now class token }
 {
     if token < PACKAGE_VISIBLE {
@@ -294,22 +296,40 @@ fn breaks_row_along(table: &ClassTable, class: ClassName) -> bool
     false
 }
 
-/// Whether a class doesn't keep one of its own rows, or of those of its superclasses. Most have none to look at.
-fn breaks_interface(table: &ClassTable, class: ClassName) -> bool
+/// Whether a class doesn't keep one of its own rows, or of those of its superclasses. Most have none to look at, and
+/// others only their own: the class above was looked at before, and finds the same methods.
+fn breaks_interface(
+    table: &ClassTable,
+    home: PackagePlace,
+    before: &[Class],
+    class: ClassName,
+) -> bool
+    requires { list_any (is_bad_class table.now home) before.now ≡ false }
     ensures { result ≡ breaks_interface table.now class }
 {
     if !table.may_list(class) {
         return false;
     }
+    if keeps_rows_above(table, home, before, class) {
+        return breaks_row_of(table, class, class);
+    }
     breaks_row_along(table, class)
 }
 
-/// Whether it is a class that isn't abstract, and leaves a method abstract or doesn't keep an interface's row.
-pub(crate) fn is_unfinished(table: &ClassTable, class: ClassName, found: &Class) -> bool
+/// Whether it is a class that isn't abstract, and leaves a method abstract or doesn't keep an interface's row. These
+/// classes of the package that stands there are well-formed.
+pub(crate) fn is_unfinished(
+    table: &ClassTable,
+    home: PackagePlace,
+    before: &[Class],
+    class: ClassName,
+    found: &Class,
+) -> bool
+    requires { list_any (is_bad_class table.now home) before.now ≡ false }
     ensures { result ≡ is_unfinished table.now class found.now }
 {
     if !found.is_class() || found.is_abstract() {
         return false;
     }
-    leaves_abstract(table, class) || breaks_interface(table, class)
+    leaves_abstract(table, class) || breaks_interface(table, home, before, class)
 }

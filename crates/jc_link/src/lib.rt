@@ -1,6 +1,7 @@
 //! Packages that are bound to those before them, or refused.
 #![tactic(auto)]
 
+mod above;
 mod body;
 mod classes;
 mod fields;

@@ -102,6 +102,13 @@ impl StaticField {
         }
     }
 
+    /// The first byte of the image that it takes.
+    fn first_byte(&self) -> u16
+        ensures { result ≡ self.now.offset }
+    {
+        self.offset
+    }
+
     /// The second byte of the image that it takes, if it takes two, and if the byte's number is below 65,536.
     fn second_byte(&self) -> Option<u16>
         ensures { result ≡ second_byte self.now }
@@ -155,7 +162,7 @@ impl TakenBytes {
     fn take_field(&mut self, field: &StaticField)
         ensures { HaveTaken (field.now ∷ []) self.old self.new }
     {
-        self.take_byte(field.offset);
+        self.take_byte(field.first_byte());
         if let Some(second) = field.second_byte() {
             self.take_byte(second);
         }
@@ -190,14 +197,21 @@ impl TakenBytes {
         taken
     }
 
+    /// Whether two fields take a byte.
+    fn is_twice(&self, byte: u16) -> bool
+        ensures { result ≡ has_number self.now.twice byte }
+    {
+        self.twice.contains(byte)
+    }
+
     /// Whether a byte of one of the fields that took theirs, which ends below 65,536, is taken by another one too.
     fn shares(&self, field: &StaticField) -> bool
         ensures { (all : List Shaped) → AreTaken self.now all → AreAmong (field.now ∷ []) all
             → behind field.now < 65536 → result ≡ overlaps_another all field.now }
     {
-        self.twice.contains(field.offset)
+        self.is_twice(field.first_byte())
             || match field.second_byte() {
-                Some(second) => self.twice.contains(second),
+                Some(second) => self.is_twice(second),
                 None => false,
             }
     }

@@ -1,7 +1,7 @@
 //! Whether the classes of a package are well-formed in its world.
 
-ghost use Rattle.std.specs.Prelude.{◌≡◌, ◌≤◌};
-ghost use Rattle.std.specs.List.{find};
+ghost use Rattle.std.specs.Prelude.{◌≡◌, ◌≤◌, false};
+ghost use Rattle.std.specs.List.{find, list_any};
 ghost use Rattle.std.specs.Option.{option_map};
 ghost use Rattle.jc_link.specs.WellFormed.{is_bad_alone, is_bad_heir, is_bad_class, first_bad_class};
 
@@ -27,28 +27,38 @@ fn is_bad_alone(table: &ClassTable, home: PackagePlace, class: ClassName, found:
         || has_other_nargs(found)
 }
 
-/// Whether something is wrong with a class by what it inherits.
-fn is_bad_heir(table: &ClassTable, home: PackagePlace, class: ClassName, found: &Class) -> bool
+/// Whether something is wrong with a class by what it inherits. These classes of its package are well-formed.
+fn is_bad_heir(
+    table: &ClassTable,
+    home: PackagePlace,
+    before: &[Class],
+    class: ClassName,
+    found: &Class,
+) -> bool
+    requires { list_any (is_bad_class table.now home) before.now ≡ false }
     ensures { result ≡ is_bad_heir table.now home class found.now }
 {
     loses_method(table, home, class)
         || overrides_with_another_type(table, home, class)
-        || is_unfinished(table, class, found)
+        || is_unfinished(table, home, before, class, found)
 }
 
-/// Whether a class of the package that stands there isn't well-formed. One that has no name isn't.
-fn is_bad_class(table: &ClassTable, home: PackagePlace, found: &Class) -> bool
+/// Whether a class of the package that stands there isn't well-formed, where these are. One that has no name isn't.
+fn is_bad_class(table: &ClassTable, home: PackagePlace, before: &[Class], found: &Class) -> bool
+    requires { list_any (is_bad_class table.now home) before.now ≡ false }
     ensures { result ≡ is_bad_class table.now home found.now }
 {
     match found.name(home) {
         Some(class) => {
-            is_bad_alone(table, home, class, found) || is_bad_heir(table, home, class, found)
+            is_bad_alone(table, home, class, found)
+                || is_bad_heir(table, home, before, class, found)
         }
         None => true,
     }
 }
 
 /// The first class of the package that stands there that isn't well-formed.
+#[tactic(auto, using(crate::proofs::RowsAbove::here, crate::proofs::RowsAbove::more, crate::proofs::RowsAbove::none))]
 fn bad_class<'t>(
     table: &ClassTable,
     home: PackagePlace,
@@ -56,10 +66,13 @@ fn bad_class<'t>(
 ) -> Option<&'t Class>
     ensures { option_map (λ k. k.now) result ≡ find (is_bad_class table.now home) shape.now.classes }
 {
-    shape
-        .classes()
-        .iter()
-        .find(|k| is_bad_class(table, home, k))
+    let classes = shape.classes();
+    for index in 0..classes.len() {
+        if is_bad_class(table, home, &classes[..index], &classes[index]) {
+            return Some(&classes[index]);
+        }
+    }
+    None
 }
 
 /// Where the first class stands of the package that stands there that isn't well-formed.

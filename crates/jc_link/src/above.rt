@@ -1,0 +1,89 @@
+//! Rows that a class keeps, since the class above it keeps them and finds the same methods.
+
+ghost use Rattle.std.specs.Prelude.{◌≡◌, ◌&&◌, true, false};
+ghost use Rattle.std.specs.List.{list_any};
+ghost use Rattle.std.specs.Option.{option_map_or};
+ghost use Rattle.jc_classes.specs.Members.{name_of};
+ghost use Rattle.jc_names.specs.Names.{is_same_name};
+ghost use Rattle.jc_link.specs.Inherited.{breaks_interface, breaks_row, rows_of};
+ghost use Rattle.jc_link.specs.PrivateRows.{is_finished_as, FindSame};
+ghost use Rattle.jc_link.specs.WellFormed.{is_bad_class};
+
+use crate::inherited::{is_same_method, public_method};
+use jc_classes::{Class, ClassTable};
+use jc_names::{ClassName, MethodName, PackagePlace};
+
+/// How many tokens there are for public methods.
+const PUBLIC_TOKENS: u8 = 128;
+
+/// Whether a class has a name.
+fn is_named(home: PackagePlace, class: ClassName, found: &Class) -> bool
+    ensures { result ≡ option_map_or (is_same_name class) (name_of home found.now) false }
+{
+    match found.name(home) {
+        Some(name) => class.is(name),
+        None => false,
+    }
+}
+
+/// Whether it is the class with a name, and isn't abstract.
+fn is_finished_as(home: PackagePlace, class: ClassName, found: &Class) -> bool
+    ensures { result ≡ is_finished_as home class found.now }
+{
+    is_named(home, class, found) && found.is_class() && !found.is_abstract()
+}
+
+/// Whether that is one of some classes.
+fn is_one_of(home: PackagePlace, class: ClassName, before: &[Class]) -> bool
+    ensures { result ≡ list_any (is_finished_as home class) before.now }
+{
+    before
+        .iter()
+        .any(|found| is_finished_as(home, class, found))
+}
+
+/// Whether two look-ups find the same.
+#[tactic(auto, using(crate::proofs::RowsAbove::same_method))]
+fn is_same_found(one: Option<MethodName>, other: Option<MethodName>) -> bool
+    ensures { result ≡ true → one ≡ other }
+{
+    match (one, other) {
+        (Some(one), Some(other)) => is_same_method(one, other),
+        (None, None) => true,
+        (Some(_), None) => false,
+        (None, Some(_)) => false,
+    }
+}
+
+/// Whether two classes find the same public methods.
+#[tactic(auto, using(crate::proofs::RowsAbove::same_so_far, crate::proofs::RowsAbove::same_all))]
+fn find_same(table: &ClassTable, class: ClassName, other: ClassName) -> bool
+    ensures { result ≡ true → FindSame table.now class other }
+{
+    for token in 0..PUBLIC_TOKENS {
+        let one = public_method(table, class, token);
+        let two = public_method(table, other, token);
+        if !is_same_found(one, two) {
+            return false;
+        }
+    }
+    true
+}
+
+/// Whether a class keeps the rows of its superclasses, as far as it is known from the class above: that is one of these
+/// classes of the package that stands there, which are well-formed, and both find the same public methods.
+pub(crate) fn keeps_rows_above(
+    table: &ClassTable,
+    home: PackagePlace,
+    before: &[Class],
+    class: ClassName,
+) -> bool
+    requires { list_any (is_bad_class table.now home) before.now ≡ false }
+    ensures { result ≡ true
+        → list_any (breaks_row table.now class) (rows_of table.now class) ≡ breaks_interface table.now class }
+{
+    match table.superclass_of(class) {
+        Some(above) => is_one_of(home, above, before) && find_same(table, class, above),
+        None => false,
+    }
+}

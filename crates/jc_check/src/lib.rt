@@ -20,7 +20,7 @@ mod table;
 mod words;
 
 pub use class_names::{class_of_name, name_of_class};
-pub use fault::{Fault, WordFault};
+pub use fault::{Fault, WordFault, reason_for};
 pub use handler::Handler;
 pub use known::types_name_classes;
 pub use law::first_fault_laws;

@@ -17,25 +17,14 @@ ghost use Rattle.jc_check.specs.PrivateMarks.{IsTable, claim_fits};
 ghost use Rattle.jc_check.specs.declared.mark.Mark.TheVariants.{Inside};
 
 use crate::claim::{Claim, types_found};
-use crate::fault::{Fault, WordFault};
+use crate::fault::{Fault, WordFault, reason_for};
 use crate::handler::Handler;
 use crate::mark::Mark;
 use crate::method::Method;
 use crate::rules::CheckRules;
 use jc_base::Reason;
 use jc_cert::StateRow;
-use jc_code::CodeFault;
 use std::alloc::{AllocError, Global};
-
-fn reason_for(fault: CodeFault) -> Reason
-    ensures { result ≡ reason_of fault }
-{
-    match fault {
-        CodeFault::BadOpcode => Reason::BadOpcode,
-        CodeFault::BadOperand => Reason::BadOperand,
-        CodeFault::CutShort => Reason::CutShort,
-    }
-}
 
 /// A table without marks for so many bytes.
 pub(crate) fn no_marks(alloc: Global, count: usize) -> Result<Vec<Mark>, AllocError>
@@ -49,8 +38,7 @@ pub(crate) fn no_marks(alloc: Global, count: usize) -> Result<Vec<Mark>, AllocEr
     Ok(marks)
 }
 
-/// Decodes the code from its first byte on, and marks where instructions begin. After a fault the marks aren't to be
-/// used.
+/// Goes from instruction to instruction, and marks where they begin. After a fault the marks aren't to be used.
 pub(crate) fn mark_starts<R: CheckRules>(
     rules: &R,
     method: &Method,
@@ -67,10 +55,10 @@ pub(crate) fn mark_starts<R: CheckRules>(
     let code = method.code();
     let mut pc = 0;
     while pc < code.len() {
-        match rules.decode(code, pc) {
-            Ok(instr) => {
+        match rules.next_pc(code, pc) {
+            Ok(behind) => {
                 marks[pc] = Mark::Start;
-                pc = instr.next_pc;
+                pc = behind;
             }
             Err(fault) => {
                 return Err(Fault {

@@ -5,6 +5,7 @@ mod claim;
 mod class_names;
 mod fault;
 mod handler;
+mod input;
 mod known;
 mod law;
 mod mark;

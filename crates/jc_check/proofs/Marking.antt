@@ -1,10 +1,13 @@
 -- Marking where instructions begin.
-use Rattle.std.proofs.Common.{◌≡◌, ℕ, zero, suc, ◌≤◌, ◌<◌, ◌==◌, List, [], ◌∷◌, ◌++◌, length, get_or, set, Ok, Bool, true, false, ◌||◌, inl, inr, refl, sym, ap, ◌∙◌, subst, arith, length-set, get_or-set_same, get_or-set_other}
+use Rattle.std.proofs.Common.{◌≡◌, ℕ, zero, suc, ◌≤◌, ◌<◌, ◌==◌, List, [], ◌∷◌, ◌++◌, length, get_or, set, Result, Ok, Err, Bool, true, false, ◌||◌, inl, inr, refl, sym, ap, ◌∙◌, subst, arith, length-set, get_or-set_same, get_or-set_other}
 use Rattle.std.specs.Prelude.{replicate}
 use Rattle.std.proofs.lemmas.List.{length-replicate}
 use Rattle.std.proofs.lemmas.Bool.{cases_eq, eq-eqb, ne_eqb}
 use Rattle.jc_code.specs.declared.instr.Instr.{Instr}
-use Rattle.jc_code.specs.Listing.{Decoder, PlacedInstr, StandBetween, IsListing, begins}
+use Rattle.jc_base.proofs.Binding.{the_ok, ok_err}
+use Rattle.jc_code.specs.declared.fault.CodeFault.{CodeFault}
+use Rattle.jc_code.specs.Instructions.{next_pc_of}
+use Rattle.jc_code.specs.Listing.{Decoder, ListingLaws, PlacedInstr, StandBetween, IsListing, begins}
 use Rattle.jc_check.proofs.Listings.{stand-append, begins-push}
 use Rattle.jc_check.specs.declared.mark.Mark.{Mark}
 use Rattle.jc_check.specs.declared.mark.Mark.TheVariants.{Inside, Start}
@@ -55,13 +58,29 @@ one_more code pc i front marks lt marked = record {
   ];
 }
 
-pub goes_on : (decoder : Decoder) (code : List ℕ) (pc : ℕ) (i : Instr) (marks : List Mark) → pc < length code → decoder code pc ≡ Ok i → i.next_pc ≤ length code → SoFar decoder code pc marks → SoFar decoder code i.next_pc (set marks pc Start)
-goes_on decoder code pc i marks lt at within s = record {
+with_instr : (decoder : Decoder) (code : List ℕ) (pc : ℕ) (i : Instr) (marks : List Mark) → pc < length code
+    → decoder code pc ≡ Ok i → i.next_pc ≤ length code → SoFar decoder code pc marks
+    → SoFar decoder code i.next_pc (set marks pc Start)
+with_instr decoder code pc i marks lt at within s = record {
   front = s.front ++ placed pc i ∷ [];
   runs = stand-append decoder code 0 pc i.next_pc s.front (placed pc i ∷ []) s.runs (refl, at, refl);
   within = within;
   marked = one_more code pc i s.front marks lt s.marked;
 }
+
+-- where an instruction goes on, one stands
+stands : (r : Result Instr CodeFault) (behind : ℕ) → Ok behind ≡ next_pc_of r
+    → (i : Instr) × (r ≡ Ok i) × (i.next_pc ≡ behind)
+stands (Ok i) behind e = (i, refl, sym (the_ok behind i.next_pc e))
+stands (Err fault) behind e = absurd (ok_err behind fault e)
+
+pub goes_on : (decoder : Decoder) → ListingLaws decoder → (code : List ℕ) (pc behind : ℕ) (marks : List Mark)
+    → pc < length code → Ok behind ≡ next_pc_of (decoder code pc) → SoFar decoder code pc marks
+    → SoFar decoder code behind (set marks pc Start)
+goes_on decoder laws code pc behind marks lt e so =
+    let s = stands (decoder code pc) behind e in
+    subst (λ (n : ℕ). SoFar decoder code n (set marks pc Start)) s.2
+    (with_instr decoder code pc s.0 marks lt s.1 (laws.ascends code pc s.0 s.1).1 so)
 
 pub is_done : (decoder : Decoder) (code : List ℕ) (pc : ℕ) (marks : List Mark) → length code ≤ pc → SoFar decoder code pc marks → (listing : List PlacedInstr) × IsListing decoder code listing × MarksStarts code listing marks
 is_done decoder code pc marks le s =

@@ -9,5 +9,6 @@ pub mod Package
 pub mod Checked
 pub mod PrivateFirst
 pub mod PrivateMarks
+pub mod PrivateInput
 pub mod PrivateNames
 pub mod PrivateKnown

@@ -1,5 +1,5 @@
 -- Private. The table of marks that the check keeps beside the code, and what its steps leave.
-use Rattle.std.specs.Prelude.{⊤, ◌≡◌, ℕ, ◌+◌, ◌==◌, ◌&&◌, nat_le, List, length, Option, Some, None, Result, Ok, Err}
+use Rattle.std.specs.Prelude.{⊤, ◌≡◌, ℕ, ◌+◌, ◌==◌, ◌&&◌, nat_le, List, [], length, Option, Some, None, Result, Ok, Err}
 use Rattle.std.specs.Prelude.{Bool, true, false, slice_get, slice_index_or, if◌then◌else◌}
 use Rattle.jc_base.specs.declared.reason.Reason.{Reason}
 use Rattle.jc_code.specs.Listing.{PlacedInstr, IsListing, begins}
@@ -45,6 +45,19 @@ pub record IsTable (rules : Rules) (m : Method) (listing : List PlacedInstr) (cl
   pub whole : IsListing rules.decoder m.code listing
   pub len : length marks ≡ length m.code
   pub each : (pc : ℕ) → IsMark m listing claims pc (slice_index_or marks pc Inside)
+
+-- what holds of the instructions that a method's table is of
+abbrev pub ForMethod : Rules → Method → List Mark → (List PlacedInstr → Type 0) → Type 0
+ForMethod rules m marks holds =
+    (listing : List PlacedInstr) (claims : List Claim) → IsTable rules m listing claims marks → holds listing
+
+-- the same, whatever method it is
+abbrev pub ForTable : List Mark → (List PlacedInstr → Type 0) → Type 0
+ForTable marks holds = (rules : Rules) (m : Method) → ForMethod rules m marks holds
+
+-- what holds of the instructions of a table without claims
+abbrev pub ForStarts : Rules → Method → List Mark → (List PlacedInstr → Type 0) → Type 0
+ForStarts rules m marks holds = (listing : List PlacedInstr) → IsTable rules m listing [] marks → holds listing
 
 -- a number is that of a claim in the method's shape
 abbrev pub IsSafe : Method → List Claim → Mark → Type 0

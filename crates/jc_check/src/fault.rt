@@ -1,9 +1,11 @@
 //! Why code isn't carried.
 
 ghost use Rattle.std.specs.Prelude.{◌≡◌};
+ghost use Rattle.jc_check.specs.FirstFault.{reason_of};
 ghost use Rattle.jc_check.specs.declared.fault.WordFault.TheVariants.{Memory, Refused};
 
 use jc_base::Reason;
+use jc_code::CodeFault;
 use std::alloc::{AllocError, AllocFailed};
 use thiserror::Error;
 
@@ -12,6 +14,17 @@ use thiserror::Error;
 pub struct Fault {
     pub pc: u16,
     pub reason: Reason,
+}
+
+/// The reason that is told of a fault in decoding.
+pub fn reason_for(fault: CodeFault) -> Reason
+    ensures { result ≡ reason_of fault }
+{
+    match fault {
+        CodeFault::BadOpcode => Reason::BadOpcode,
+        CodeFault::BadOperand => Reason::BadOperand,
+        CodeFault::CutShort => Reason::CutShort,
+    }
 }
 
 /// The first fault of a method of a package, and the offset of its header in the Method component.

@@ -5,6 +5,7 @@ mod claim;
 mod class_names;
 mod fault;
 mod handler;
+mod input;
 mod known;
 mod law;
 mod mark;
@@ -20,7 +21,7 @@ mod table;
 mod words;
 
 pub use class_names::{class_of_name, name_of_class};
-pub use fault::{Fault, WordFault};
+pub use fault::{Fault, WordFault, reason_for};
 pub use handler::Handler;
 pub use known::types_name_classes;
 pub use law::first_fault_laws;

@@ -1,19 +1,20 @@
 //! The check of a method with the certificate's states for it.
 
-ghost use Rattle.std.specs.Prelude.{◌≡◌, ◌≢◌, ◌<◌, ◌^◌, [], List, map, length, replicate, OnOk, IfErr};
-ghost use Rattle.jc_code.specs.Listing.{PlacedInstr};
+ghost use Rattle.std.specs.Prelude.{◌≡◌, ◌≢◌, ◌<◌, ◌^◌, [], map, length, replicate, OnOk, IfErr};
 ghost use Rattle.jc_cert.specs.Cert.{stated};
 ghost use Rattle.jc_check.specs.Fault.{IfRefused};
 ghost use Rattle.jc_check.specs.Method.{entry_of};
 ghost use Rattle.jc_check.specs.Carried.{Carries};
 ghost use Rattle.jc_check.specs.FirstFault.{IsFirstFault, flow_findings_of};
-ghost use Rattle.jc_check.specs.PrivateMarks.{IsTable, AreSafe, HasRoom};
+ghost use Rattle.jc_check.specs.PrivateMarks.{HasRoom};
+ghost use Rattle.jc_check.specs.PrivateInput.{ForListing, IsListed, IsSafeInput};
 ghost use Rattle.jc_check.specs.declared.mark.Mark.TheVariants.{Inside};
 
 use crate::fault::{Fault, WordFault};
+use crate::input::PassInput;
 use crate::mark::Mark;
 use crate::method::Method;
-use crate::pass::{PassInput, fall_to, walk_code};
+use crate::pass::{fall_to, walk_code};
 use crate::rules::CheckRules;
 use crate::table::{mark_starts, mark_states, no_marks, stand_handlers};
 use jc_base::Reason;
@@ -22,19 +23,17 @@ use jc_types::State;
 use std::alloc::Global;
 
 // What goes on from the entry, and the pass from there.
-fn check_flow<R: CheckRules>(input: &PassInput<R>, state: &mut State) -> Result<(), Fault>
-    requires listed { (listing : List PlacedInstr)
-        × IsTable (R.rules input.now.rules.now) input.now.method.now listing input.now.claims.now input.now.marks.now }
-    requires table { AreSafe input.now.method.now input.now.claims.now input.now.marks.now }
+fn check_flow<R: CheckRules>(rules: &R, input: &PassInput, state: &mut State) -> Result<(), Fault>
+    requires listed { IsListed (R.rules rules.now) input.now }
+    requires table { IsSafeInput input.now }
     requires short { length input.now.method.now.code < 2 ^ 16 }
     requires entry { state.old.types ≡ entry_of input.now.method.now }
     requires room { HasRoom input.now.method.now state.old }
-    ensures { (listing : List PlacedInstr)
-        → IsTable (R.rules input.now.rules.now) input.now.method.now listing input.now.claims.now input.now.marks.now
-        → result ≡ flow_findings_of (R.rules input.now.rules.now) input.now.method.now listing input.now.claims.now }
+    ensures { ForListing (R.rules rules.now) input.now (λ listing.
+        result ≡ flow_findings_of (R.rules rules.now) input.now.method.now listing input.now.claims.now) }
 {
-    match fall_to(input, state, 0) {
-        Ok(live) => walk_code(input, state, live),
+    match fall_to(rules, input, state, 0) {
+        Ok(live) => walk_code(rules, input, state, live),
         Err(reason) => Err(Fault { pc: 0, reason }),
     }
 }
@@ -63,12 +62,11 @@ fn check_code<R: CheckRules>(
     stand_handlers(marks, method.handlers())?;
     let claims = mark_states(alloc, rules, method, marks, states)?;
     let input = PassInput {
-        rules,
         method,
         marks,
         claims: &claims,
     };
-    check_flow(&input, state)?;
+    check_flow(rules, &input, state)?;
     Ok(())
 }
 

@@ -7,7 +7,7 @@ use crate::rules::CheckRules;
 use jc_base::Reason;
 use jc_cert::SpelledClass;
 use jc_classes::ClassTable;
-use jc_code::{CodeFault, Instr, Operation, decode, listing_laws};
+use jc_code::{CodeFault, Instr, Operation, decode, listing_laws, next_pc};
 use jc_effects::{Setting, transfer_in};
 use jc_link::Linked;
 use jc_names::ClassName;
@@ -27,6 +27,11 @@ impl<'l> CheckRules for PackageRules<'l> {
     #[inline(always)]
     fn decode<'a>(&self, code: &'a [u8], pc: usize) -> Result<Instr<'a>, CodeFault> {
         decode(code, pc)
+    }
+
+    #[inline(always)]
+    fn next_pc(&self, code: &[u8], pc: usize) -> Result<usize, CodeFault> {
+        next_pc(code, pc)
     }
 
     #[inline(always)]

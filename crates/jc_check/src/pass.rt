@@ -1,35 +1,26 @@
 //! The pass over the instructions by ascending pc, with one state that is changed in place.
 
-ghost use Rattle.std.specs.Prelude.{◌≡◌, ◌<◌, ◌^◌, ℤ, Some, List, length, pos, slice_get};
-ghost use Rattle.jc_code.specs.Listing.{PlacedInstr};
+ghost use Rattle.std.specs.Prelude.{◌≡◌, ◌<◌, ◌^◌, ℤ, Some, length, pos, slice_get};
 ghost use Rattle.jc_code.specs.Targets.{targets_of};
 ghost use Rattle.jc_types.specs.State.{types_below};
 ghost use Rattle.jc_check.specs.Method.{caught_types};
 ghost use Rattle.jc_check.specs.Carried.{types_of};
 ghost use Rattle.jc_check.specs.FirstFault.{arrives, all_arrive, catches_at, handles, all_handle, falls_to, visit_live};
 ghost use Rattle.jc_check.specs.FirstFault.{visit, walk};
-ghost use Rattle.jc_check.specs.PrivateMarks.{IsTable, AreSafe, Flowed, flowing, HasRoom, placed};
+ghost use Rattle.jc_check.specs.PrivateMarks.{Flowed, flowing, HasRoom, placed};
+ghost use Rattle.jc_check.specs.PrivateInput.{ForListing, IsListed, IsSafeInput};
 
 use crate::claim::Claim;
 use crate::fault::Fault;
 use crate::handler::Handler;
+use crate::input::PassInput;
 use crate::mark::Mark;
-use crate::method::Method;
 use crate::rules::CheckRules;
 use crate::table::mark_at;
 use jc_base::Reason;
 use jc_code::{Instr, Targets};
 use jc_names::ClassName;
 use jc_types::{State, Ty};
-
-/// What the pass goes by: the rules, the method, the table of its marks, and what the certificate claims.
-#[derive(Drop)]
-pub(crate) struct PassInput<'c, 'a, R> {
-    pub(crate) rules: &'c R,
-    pub(crate) method: &'c Method<'a>,
-    pub(crate) marks: &'c [Mark],
-    pub(crate) claims: &'c [Claim],
-}
 
 fn is_met<R: CheckRules>(rules: &R, state: &State, claim: &Claim) -> bool
     ensures { result ≡ types_below (R.rules rules.now).below state.now.types (types_of claim.now) }
@@ -50,25 +41,20 @@ fn is_caught<R: CheckRules>(rules: &R, state: &State, class: ClassName, claim: &
 
 /// A class that is caught where a handler goes on.
 fn catch_at<R: CheckRules>(
-    input: &PassInput<R>,
+    rules: &R,
+    input: &PassInput,
     state: &State,
     pc: u16,
     class: ClassName,
 ) -> Result<(), Reason>
-    requires { AreSafe input.now.method.now input.now.claims.now input.now.marks.now }
-    ensures { (listing : List PlacedInstr)
-        → IsTable (R.rules input.now.rules.now) input.now.method.now listing input.now.claims.now input.now.marks.now
-        → result ≡ catches_at (R.rules input.now.rules.now) input.now.claims.now state.now.types pc (Some class) }
+    requires { IsSafeInput input.now }
+    ensures { ForListing (R.rules rules.now) input.now (λ listing.
+        result ≡ catches_at (R.rules rules.now) input.now.claims.now state.now.types pc (Some class)) }
 {
     match mark_at(input.marks, usize::from(pc)) {
         Mark::Start | Mark::Inside => Err(Reason::CertMismatch),
         Mark::Holds(number) => {
-            if is_caught(
-                input.rules,
-                state,
-                class,
-                &input.claims[usize::from(number)],
-            ) {
+            if is_caught(rules, state, class, &input.claims[usize::from(number)]) {
                 Ok(())
             } else {
                 Err(Reason::CertMismatch)
@@ -80,56 +66,60 @@ fn catch_at<R: CheckRules>(
 /// A handler at an instruction: where it covers it, the state before it is caught.
 #[tactic(auto, unfolding(crate::specs::FirstFault::handles))]
 fn handle<R: CheckRules>(
-    input: &PassInput<R>,
+    rules: &R,
+    input: &PassInput,
     state: &State,
     pc: u16,
     handler: &Handler,
 ) -> Result<(), Reason>
-    requires { AreSafe input.now.method.now input.now.claims.now input.now.marks.now }
-    ensures { (listing : List PlacedInstr)
-        → IsTable (R.rules input.now.rules.now) input.now.method.now listing input.now.claims.now input.now.marks.now
-        → result ≡ handles (R.rules input.now.rules.now) input.now.claims.now pc state.now.types handler.now }
+    requires { IsSafeInput input.now }
+    ensures { ForListing (R.rules rules.now) input.now (λ listing.
+        result ≡ handles (R.rules rules.now) input.now.claims.now pc state.now.types handler.now) }
 {
     if !handler.covers(pc) {
         return Ok(());
     }
     match handler.caught {
-        Some(class) => catch_at(input, state, handler.goes_on, class),
+        Some(class) => catch_at(rules, input, state, handler.goes_on, class),
         None => Err(Reason::CertMismatch),
     }
 }
 
 /// Each handler in turn.
 fn handle_all<R: CheckRules>(
-    input: &PassInput<R>,
+    rules: &R,
+    input: &PassInput,
     state: &State,
     pc: u16,
     handlers: &[Handler],
 ) -> Result<(), Reason>
-    requires { AreSafe input.now.method.now input.now.claims.now input.now.marks.now }
-    ensures { (listing : List PlacedInstr)
-        → IsTable (R.rules input.now.rules.now) input.now.method.now listing input.now.claims.now input.now.marks.now
-        → result ≡ all_handle (R.rules input.now.rules.now) input.now.claims.now pc state.now.types handlers.now }
+    requires { IsSafeInput input.now }
+    ensures { ForListing (R.rules rules.now) input.now (λ listing.
+        result ≡ all_handle (R.rules rules.now) input.now.claims.now pc state.now.types handlers.now) }
 {
     for index in 0..handlers.len() {
-        handle(input, state, pc, &handlers[index])?;
+        handle(rules, input, state, pc, &handlers[index])?;
     }
     Ok(())
 }
 
 /// A branch from a state to a pc.
 #[tactic(auto, unfolding(crate::specs::FirstFault::arrives))]
-fn arrive_at<R: CheckRules>(input: &PassInput<R>, state: &State, pc: usize) -> Result<(), Reason>
-    requires { AreSafe input.now.method.now input.now.claims.now input.now.marks.now }
-    ensures { (listing : List PlacedInstr)
-        → IsTable (R.rules input.now.rules.now) input.now.method.now listing input.now.claims.now input.now.marks.now
-        → result ≡ arrives (R.rules input.now.rules.now) listing input.now.claims.now state.now.types (pos pc) }
+fn arrive_at<R: CheckRules>(
+    rules: &R,
+    input: &PassInput,
+    state: &State,
+    pc: usize,
+) -> Result<(), Reason>
+    requires { IsSafeInput input.now }
+    ensures { ForListing (R.rules rules.now) input.now (λ listing.
+        result ≡ arrives (R.rules rules.now) listing input.now.claims.now state.now.types (pos pc)) }
 {
     match mark_at(input.marks, pc) {
         Mark::Inside => Err(Reason::NoTarget),
         Mark::Start => Err(Reason::CertMismatch),
         Mark::Holds(number) => {
-            if is_met(input.rules, state, &input.claims[usize::from(number)]) {
+            if is_met(rules, state, &input.claims[usize::from(number)]) {
                 Ok(())
             } else {
                 Err(Reason::CertMismatch)
@@ -141,42 +131,42 @@ fn arrive_at<R: CheckRules>(input: &PassInput<R>, state: &State, pc: usize) -> R
 /// The branch of an index from a state to its place.
 #[tactic(auto, unfolding(crate::specs::FirstFault::arrives))]
 fn arrive<R: CheckRules>(
-    input: &PassInput<R>,
+    rules: &R,
+    input: &PassInput,
     state: &State,
     targets: &Targets,
     index: usize,
 ) -> Result<(), Reason>
-    requires table { AreSafe input.now.method.now input.now.claims.now input.now.marks.now }
+    requires table { IsSafeInput input.now }
     requires index { index < length targets.now }
-    ensures { (listing : List PlacedInstr)
-        → IsTable (R.rules input.now.rules.now) input.now.method.now listing input.now.claims.now input.now.marks.now
-        → (place : ℤ) → slice_get targets.now index ≡ Some place
-        → result ≡ arrives (R.rules input.now.rules.now) listing input.now.claims.now state.now.types place }
+    ensures { ForListing (R.rules rules.now) input.now (λ listing.
+        (place : ℤ) → slice_get targets.now index ≡ Some place
+        → result ≡ arrives (R.rules rules.now) listing input.now.claims.now state.now.types place) }
 {
     let target = targets.get(index).unwrap();
     if target < 0 {
         Err(Reason::NoTarget)
     } else {
-        arrive_at(input, state, target.unsigned_abs() as usize)
+        arrive_at(rules, input, state, target.unsigned_abs() as usize)
     }
 }
 
 /// Each branch of an instruction in turn.
 fn arrive_all<R: CheckRules>(
-    input: &PassInput<R>,
+    rules: &R,
+    input: &PassInput,
     state: &State,
     pc: u16,
     instr: &Instr,
 ) -> Result<(), Reason>
-    requires { AreSafe input.now.method.now input.now.claims.now input.now.marks.now }
-    ensures { (listing : List PlacedInstr)
-        → IsTable (R.rules input.now.rules.now) input.now.method.now listing input.now.claims.now input.now.marks.now
-        → result ≡ all_arrive (R.rules input.now.rules.now) listing input.now.claims.now state.now.types
-        (targets_of pc instr.now.operation) }
+    requires { IsSafeInput input.now }
+    ensures { ForListing (R.rules rules.now) input.now (λ listing.
+        result ≡ all_arrive (R.rules rules.now) listing input.now.claims.now state.now.types
+        (targets_of pc instr.now.operation)) }
 {
     let targets = instr.targets(pc);
     for index in 0..targets.len() {
-        arrive(input, state, &targets, index)?;
+        arrive(rules, input, state, &targets, index)?;
     }
     Ok(())
 }
@@ -184,15 +174,15 @@ fn arrive_all<R: CheckRules>(
 /// What goes on to a pc: the state as it is (true), or nothing, where the certificate has a state above it.
 #[tactic(auto, unfolding(crate::specs::FirstFault::falls_to))]
 pub(crate) fn fall_to<R: CheckRules>(
-    input: &PassInput<R>,
+    rules: &R,
+    input: &PassInput,
     state: &State,
     pc: usize,
 ) -> Result<bool, Reason>
-    requires { AreSafe input.now.method.now input.now.claims.now input.now.marks.now }
-    ensures { (listing : List PlacedInstr)
-        → IsTable (R.rules input.now.rules.now) input.now.method.now listing input.now.claims.now input.now.marks.now
-        → Flowed result state.now.types
-        (falls_to (R.rules input.now.rules.now) input.now.method.now input.now.claims.now state.now.types pc) }
+    requires { IsSafeInput input.now }
+    ensures { ForListing (R.rules rules.now) input.now (λ listing.
+        Flowed result state.now.types
+        (falls_to (R.rules rules.now) input.now.method.now input.now.claims.now state.now.types pc)) }
 {
     if pc >= input.marks.len() {
         return Err(Reason::FallsOff);
@@ -200,7 +190,7 @@ pub(crate) fn fall_to<R: CheckRules>(
     match mark_at(input.marks, pc) {
         Mark::Inside | Mark::Start => Ok(true),
         Mark::Holds(number) => {
-            if is_met(input.rules, state, &input.claims[usize::from(number)]) {
+            if is_met(rules, state, &input.claims[usize::from(number)]) {
                 Ok(false)
             } else {
                 Err(Reason::CertMismatch)
@@ -212,30 +202,30 @@ pub(crate) fn fall_to<R: CheckRules>(
 /// An instruction on the state before it: whether the state goes on to the instruction behind it.
 #[tactic(auto, unfolding(crate::specs::FirstFault::visit_live))]
 fn visit_live_at<R: CheckRules>(
-    input: &PassInput<R>,
+    rules: &R,
+    input: &PassInput,
     state: &mut State,
     pc: u16,
     instr: &Instr,
 ) -> Result<bool, Reason>
-    requires table { AreSafe input.now.method.now input.now.claims.now input.now.marks.now }
+    requires table { IsSafeInput input.now }
     requires room { HasRoom input.now.method.now state.old }
-    ensures flow { (listing : List PlacedInstr)
-        → IsTable (R.rules input.now.rules.now) input.now.method.now listing input.now.claims.now input.now.marks.now
-        → Flowed result state.new.types (visit_live (R.rules input.now.rules.now) input.now.method.now listing
-        input.now.claims.now (placed pc instr.now) state.old.types) }
+    ensures flow { ForListing (R.rules rules.now) input.now (λ listing.
+        Flowed result state.new.types (visit_live (R.rules rules.now) input.now.method.now listing
+        input.now.claims.now (placed pc instr.now) state.old.types)) }
     ensures room { HasRoom input.now.method.now state.new }
 {
     let method = input.method;
-    handle_all(input, state, pc, method.handlers())?;
-    input.rules.transfer(
+    handle_all(rules, input, state, pc, method.handlers())?;
+    rules.transfer(
         &instr.operation,
         state,
         method.max_stack,
         method.returned.as_ref(),
     )?;
-    arrive_all(input, state, pc, instr)?;
+    arrive_all(rules, input, state, pc, instr)?;
     if instr.falls_through() {
-        fall_to(input, state, instr.next_pc)
+        fall_to(rules, input, state, instr.next_pc)
     } else {
         Ok(false)
     }
@@ -245,30 +235,30 @@ fn visit_live_at<R: CheckRules>(
 /// (where it is live); with neither it is skipped.
 #[tactic(auto, unfolding(crate::specs::FirstFault::visit))]
 fn visit_at<R: CheckRules>(
-    input: &PassInput<R>,
+    rules: &R,
+    input: &PassInput,
     state: &mut State,
     live: bool,
     pc: u16,
     instr: &Instr,
 ) -> Result<bool, Reason>
-    requires table { AreSafe input.now.method.now input.now.claims.now input.now.marks.now }
+    requires table { IsSafeInput input.now }
     requires room { HasRoom input.now.method.now state.old }
     requires within { pc < length input.now.method.now.code }
-    ensures flow { (listing : List PlacedInstr)
-        → IsTable (R.rules input.now.rules.now) input.now.method.now listing input.now.claims.now input.now.marks.now
-        → Flowed result state.new.types (visit (R.rules input.now.rules.now) input.now.method.now listing
-        input.now.claims.now (placed pc instr.now) (flowing live state.old.types)) }
+    ensures flow { ForListing (R.rules rules.now) input.now (λ listing.
+        Flowed result state.new.types (visit (R.rules rules.now) input.now.method.now listing
+        input.now.claims.now (placed pc instr.now) (flowing live state.old.types))) }
     ensures room { HasRoom input.now.method.now state.new }
 {
     match mark_at(input.marks, usize::from(pc)) {
         Mark::Holds(number) => {
             let claim = &input.claims[usize::from(number)];
             state.load(&claim.locals, &claim.operands);
-            visit_live_at(input, state, pc, instr)
+            visit_live_at(rules, input, state, pc, instr)
         }
         Mark::Inside | Mark::Start => {
             if live {
-                visit_live_at(input, state, pc, instr)
+                visit_live_at(rules, input, state, pc, instr)
             } else {
                 Ok(false)
             }
@@ -279,29 +269,28 @@ fn visit_at<R: CheckRules>(
 /// The instructions by ascending pc, the first with the state that flows into it (where it is live). The state isn't to
 /// be used behind it.
 pub(crate) fn walk_code<R: CheckRules>(
-    input: &PassInput<R>,
+    rules: &R,
+    input: &PassInput,
     state: &mut State,
     live: bool,
 ) -> Result<(), Fault>
-    requires listed { (listing : List PlacedInstr)
-        × IsTable (R.rules input.now.rules.now) input.now.method.now listing input.now.claims.now input.now.marks.now }
-    requires table { AreSafe input.now.method.now input.now.claims.now input.now.marks.now }
+    requires listed { IsListed (R.rules rules.now) input.now }
+    requires table { IsSafeInput input.now }
     requires room { HasRoom input.now.method.now state.old }
     requires short { length input.now.method.now.code < 2 ^ 16 }
-    ensures { (listing : List PlacedInstr)
-        → IsTable (R.rules input.now.rules.now) input.now.method.now listing input.now.claims.now input.now.marks.now
-        → result ≡ walk (R.rules input.now.rules.now) input.now.method.now listing input.now.claims.now
-        (flowing live state.old.types) listing }
+    ensures { ForListing (R.rules rules.now) input.now (λ listing.
+        result ≡ walk (R.rules rules.now) input.now.method.now listing input.now.claims.now
+        (flowing live state.old.types) listing) }
 {
-    input.rules.listing_laws();
+    rules.listing_laws();
     let code = input.method.code();
     let mut live = live;
     let mut pc = 0;
     while pc < code.len() {
-        let Ok(instr) = input.rules.decode(code, pc) else {
+        let Ok(instr) = rules.decode(code, pc) else {
             unreachable!()
         };
-        match visit_at(input, state, live, pc as u16, &instr) {
+        match visit_at(rules, input, state, live, pc as u16, &instr) {
             Ok(falls) => live = falls,
             Err(reason) => {
                 return Err(Fault {

@@ -2,13 +2,14 @@
 
 ghost use Rattle.std.specs.Option.{option_copied};
 ghost use Rattle.std.specs.Prelude.{◌≡◌, ◌≤◌, length};
+ghost use Rattle.jc_code.specs.Instructions.{next_pc_of};
 ghost use Rattle.jc_code.specs.Listing.{ListingLaws};
 ghost use Rattle.jc_types.specs.Changes.{Became};
 ghost use Rattle.jc_check.specs.Rules.{Rules, word_rules};
 
 use jc_base::Reason;
 use jc_cert::SpelledClass;
-use jc_code::{CodeFault, Instr, Operation, decode_words, listing_laws};
+use jc_code::{CodeFault, Instr, Operation, decode_words, listing_laws, next_words_pc};
 use jc_effects::transfer_word;
 use jc_names::ClassName;
 use jc_types::{Classes, NoClasses, State, Ty};
@@ -24,6 +25,10 @@ pub(crate) trait CheckRules {
     /// The instruction that begins at a pc.
     fn decode<'a>(&self, code: &'a [u8], pc: usize) -> Result<Instr<'a>, CodeFault>
         ensures { result ≡ (rules self.now).decoder code.now pc };
+
+    /// Where the instruction behind the one at a pc begins.
+    fn next_pc(&self, code: &[u8], pc: usize) -> Result<usize, CodeFault>
+        ensures { result ≡ next_pc_of ((rules self.now).decoder code.now pc) };
 
     /// Puts the types after an operation in place of those before it, in a method of at most `max_stack` operands that
     /// returns a value of the type `returned`, or none. The state isn't to be used after a reason.
@@ -73,6 +78,11 @@ impl CheckRules for WordRules {
     #[inline(always)]
     fn decode<'a>(&self, code: &'a [u8], pc: usize) -> Result<Instr<'a>, CodeFault> {
         decode_words(code, pc)
+    }
+
+    #[inline(always)]
+    fn next_pc(&self, code: &[u8], pc: usize) -> Result<usize, CodeFault> {
+        next_words_pc(code, pc)
     }
 
     #[inline(always)]

@@ -13,29 +13,18 @@ ghost use Rattle.jc_check.specs.Claim.{claim_of};
 ghost use Rattle.jc_check.specs.Carried.{has_shape};
 ghost use Rattle.jc_check.specs.FirstFault.{reason_of, told_at, handler_stands, handlers_stand, state_stands};
 ghost use Rattle.jc_check.specs.FirstFault.{states_stand};
-ghost use Rattle.jc_check.specs.PrivateMarks.{IsTable, claim_fits};
+ghost use Rattle.jc_check.specs.PrivateMarks.{ForMethod, ForStarts, ForTable, IsTable, claim_fits};
 ghost use Rattle.jc_check.specs.declared.mark.Mark.TheVariants.{Inside};
 
 use crate::claim::{Claim, types_found};
-use crate::fault::{Fault, WordFault};
+use crate::fault::{Fault, WordFault, reason_for};
 use crate::handler::Handler;
 use crate::mark::Mark;
 use crate::method::Method;
 use crate::rules::CheckRules;
 use jc_base::Reason;
 use jc_cert::StateRow;
-use jc_code::CodeFault;
 use std::alloc::{AllocError, Global};
-
-fn reason_for(fault: CodeFault) -> Reason
-    ensures { result ≡ reason_of fault }
-{
-    match fault {
-        CodeFault::BadOpcode => Reason::BadOpcode,
-        CodeFault::BadOperand => Reason::BadOperand,
-        CodeFault::CutShort => Reason::CutShort,
-    }
-}
 
 /// A table without marks for so many bytes.
 pub(crate) fn no_marks(alloc: Global, count: usize) -> Result<Vec<Mark>, AllocError>
@@ -49,8 +38,7 @@ pub(crate) fn no_marks(alloc: Global, count: usize) -> Result<Vec<Mark>, AllocEr
     Ok(marks)
 }
 
-/// Decodes the code from its first byte on, and marks where instructions begin. After a fault the marks aren't to be
-/// used.
+/// Goes from instruction to instruction, and marks where they begin. After a fault the marks aren't to be used.
 pub(crate) fn mark_starts<R: CheckRules>(
     rules: &R,
     method: &Method,
@@ -67,10 +55,10 @@ pub(crate) fn mark_starts<R: CheckRules>(
     let code = method.code();
     let mut pc = 0;
     while pc < code.len() {
-        match rules.decode(code, pc) {
-            Ok(instr) => {
+        match rules.next_pc(code, pc) {
+            Ok(behind) => {
                 marks[pc] = Mark::Start;
-                pc = instr.next_pc;
+                pc = behind;
             }
             Err(fault) => {
                 return Err(Fault {
@@ -98,8 +86,7 @@ pub(crate) fn mark_at(marks: &[Mark], pc: usize) -> Mark
 /// Whether an instruction begins at a pc.
 fn begins_at(marks: &[Mark], pc: usize) -> bool
     ensures within { result ≡ true → pc < length marks.now }
-    ensures begins { (rules : Rules) (m : methods.Method) (listing : List PlacedInstr) (claims : List claimed.Claim)
-        → IsTable rules m listing claims marks.now → result ≡ begins listing pc }
+    ensures begins { ForTable marks.now (λ listing. result ≡ begins listing pc) }
 {
     match mark_at(marks, pc) {
         Mark::Inside => false,
@@ -108,8 +95,7 @@ fn begins_at(marks: &[Mark], pc: usize) -> bool
 }
 
 fn stand_handler(marks: &[Mark], handler: &Handler) -> Result<(), Reason>
-    ensures { (rules : Rules) (m : methods.Method) (listing : List PlacedInstr) (claims : List claimed.Claim)
-        → IsTable rules m listing claims marks.now → result ≡ handler_stands listing handler.now }
+    ensures { ForTable marks.now (λ listing. result ≡ handler_stands listing handler.now) }
 {
     if !begins_at(marks, usize::from(handler.goes_on)) {
         return Err(Reason::NoTarget);
@@ -122,8 +108,7 @@ fn stand_handler(marks: &[Mark], handler: &Handler) -> Result<(), Reason>
 
 /// The handlers in order: each goes on where an instruction begins, and catches a class.
 pub(crate) fn stand_handlers(marks: &[Mark], handlers: &[Handler]) -> Result<(), Fault>
-    ensures { (rules : Rules) (m : methods.Method) (listing : List PlacedInstr) (claims : List claimed.Claim)
-        → IsTable rules m listing claims marks.now → result ≡ handlers_stand listing handlers.now }
+    ensures { ForTable marks.now (λ listing. result ≡ handlers_stand listing handlers.now) }
 {
     for index in 0..handlers.len() {
         let handler = &handlers[index];
@@ -175,12 +160,11 @@ fn stand_state<R: CheckRules>(
     row: &StateRow,
 ) -> Result<Claim, WordFault>
     ensures within { IfOk result (λ claim. row.now.pc < length marks.now) }
-    ensures ok { IfOk result (λ claim. (listing : List PlacedInstr) (claims : List claimed.Claim)
-        → IsTable (R.rules rules.now) method.now listing claims marks.now
-        → state_stands (R.rules rules.now) method.now listing (stated row.now) ≡ Ok claim) }
-    ensures err { IfErr result (λ fault. IfRefused fault (λ f. (listing : List PlacedInstr)
-        (claims : List claimed.Claim) → IsTable (R.rules rules.now) method.now listing claims marks.now
-        → told_at row.now.pc (state_stands (R.rules rules.now) method.now listing (stated row.now)) ≡ Err f)) }
+    ensures ok { IfOk result (λ claim. ForMethod (R.rules rules.now) method.now marks.now (λ listing.
+        state_stands (R.rules rules.now) method.now listing (stated row.now) ≡ Ok claim)) }
+    ensures err { IfErr result (λ fault. IfRefused fault (λ f.
+        ForMethod (R.rules rules.now) method.now marks.now (λ listing.
+        told_at row.now.pc (state_stands (R.rules rules.now) method.now listing (stated row.now)) ≡ Err f))) }
 {
     if !begins_at(marks, usize::from(row.pc)) {
         return Err(mismatch(row.pc));
@@ -228,13 +212,12 @@ pub(crate) fn mark_states<R: CheckRules>(
     states: &[StateRow],
 ) -> Result<Vec<Claim>, WordFault>
     requires { length states.now < 2 ^ 16 }
-    ensures ok { IfOk result (λ claims. (listing : List PlacedInstr)
-        → IsTable (R.rules rules.now) method.now listing [] marks.old
-        → (states_stand (R.rules rules.now) method.now listing (map stated states.now) ≡ Ok claims.items)
-        × IsTable (R.rules rules.now) method.now listing claims.items marks.new) }
-    ensures err { IfErr result (λ fault. IfRefused fault (λ f. (listing : List PlacedInstr)
-        → IsTable (R.rules rules.now) method.now listing [] marks.old
-        → states_stand (R.rules rules.now) method.now listing (map stated states.now) ≡ Err f)) }
+    ensures ok { IfOk result (λ claims. ForStarts (R.rules rules.now) method.now marks.old (λ listing.
+        (states_stand (R.rules rules.now) method.now listing (map stated states.now) ≡ Ok claims.items)
+        × IsTable (R.rules rules.now) method.now listing claims.items marks.new)) }
+    ensures err { IfErr result (λ fault. IfRefused fault (λ f.
+        ForStarts (R.rules rules.now) method.now marks.old (λ listing.
+        states_stand (R.rules rules.now) method.now listing (map stated states.now) ≡ Err f))) }
     ensures room { IfOk result (λ claims. vec_capacity claims ≡ length states.now) }
 {
     let mut claims = Vec::with_capacity(alloc, states.len())?;

@@ -1,11 +1,12 @@
 -- Where instructions begin.
-use Rattle.std.proofs.Common.{◌≡◌, ◌≢◌, ◌⊎◌, inl, inr, ℕ, ◌≤◌, ◌<◌, ◌==◌, ◌||◌, List, [], ◌∷◌, ◌++◌, length, Ok, Some, Bool, true, false, cond, refl, sym, ap, ◌∙◌, subst, arith}
+use Rattle.std.proofs.Common.{◌≡◌, ◌≢◌, ◌⊎◌, inl, inr, ℕ, ◌≤◌, ◌<◌, ◌==◌, ◌||◌, List, [], ◌∷◌, ◌++◌, length, Result, Ok, Err, Some, Bool, true, false, cond, refl, sym, ap, ◌∙◌, subst, arith}
 use Rattle.std.proofs.lemmas.Bool.{cases_eq, eq-eqb, ne_eqb, or_left, or_right}
 use Rattle.std.proofs.lemmas.Option.{same_Some}
-use Rattle.jc_base.proofs.Binding.{the_ok}
+use Rattle.jc_base.proofs.Binding.{the_ok, ok_err}
 use Rattle.jc_base.specs.NumberSet.{has_number}
 use Rattle.jc_code.specs.declared.instr.Instr.{Instr}
-use Rattle.jc_code.specs.Instructions.{instr_at}
+use Rattle.jc_code.specs.declared.fault.CodeFault.{CodeFault}
+use Rattle.jc_code.specs.Instructions.{instr_at, next_pc_of}
 use Rattle.jc_code.specs.Listing.{PlacedInstr, StandBetween, IsListing, ListingLaws, begins, placed_at}
 use Rattle.jc_verify.specs.PrivateFlow.{placed}
 
@@ -38,9 +39,9 @@ begins-push (y ∷ ys) x pc = rw (begins-push ys x pc) (regroup (y.pc == pc) (be
     regroup false b c = refl
 
 -- the start of one instruction more is put in
-pub starts_more : (code : List ℕ) (pc : ℕ) (i : Instr) (old new : List ℕ) → instr_at code pc ≡ Ok i → i.next_pc ≤ length code → ((n : ℕ) → has_number new n ≡ (n == pc || has_number old n)) → SoFar code pc old
+with_instr : (code : List ℕ) (pc : ℕ) (i : Instr) (old new : List ℕ) → instr_at code pc ≡ Ok i → i.next_pc ≤ length code → ((n : ℕ) → has_number new n ≡ (n == pc || has_number old n)) → SoFar code pc old
     → SoFar code i.next_pc new
-starts_more code pc i old new at within is s = record {
+with_instr code pc i old new at within is s = record {
   front = s.front ++ placed pc i ∷ [];
   runs = stand-append code 0 pc i.next_pc s.front (placed pc i ∷ []) s.runs (refl, at, refl);
   within = within;
@@ -57,6 +58,20 @@ starts_more code pc i old new at within is s = record {
         last : (b : Bool) → b ≡ b || false
         last true = refl
         last false = refl
+
+-- where an instruction goes on, one stands
+stands : (r : Result Instr CodeFault) (behind : ℕ) → Ok behind ≡ next_pc_of r
+    → (i : Instr) × (r ≡ Ok i) × (i.next_pc ≡ behind)
+stands (Ok i) behind e = (i, refl, sym (the_ok behind i.next_pc e))
+stands (Err fault) behind e = absurd (ok_err behind fault e)
+
+pub start_more : (code : List ℕ) (pc behind : ℕ) (old new : List ℕ) → Ok behind ≡ next_pc_of (instr_at code pc)
+    → behind ≤ length code → ((n : ℕ) → has_number new n ≡ (n == pc || has_number old n)) → SoFar code pc old
+    → SoFar code behind new
+start_more code pc behind old new e within is s =
+    let i = stands (instr_at code pc) behind e in
+    let W : ℕ → Type 0 = λ n. n ≤ length code → SoFar code n new in
+    subst W i.2 (λ le. with_instr code pc i.0 old new i.1 le is s) within
 
 -- ---- in a listing
 

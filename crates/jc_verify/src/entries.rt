@@ -26,21 +26,11 @@ ghost use Rattle.jc_link.specs.Linked.{Linked};
 ghost use Rattle.jc_verify.specs.PrivateTold.{Tells};
 
 use jc_base::{NumberSet, Reason};
-use jc_check::{Fault, Handler, Method, WordFault};
-use jc_code::{CodeFault, Instr, Targets, decode, listing_laws};
+use jc_check::{Fault, Handler, Method, WordFault, reason_for};
+use jc_code::{Instr, Targets, decode, listing_laws, next_pc};
 use std::alloc::Global;
 
-fn reason_for(fault: CodeFault) -> Reason
-    ensures { result ≡ reason_of fault }
-{
-    match fault {
-        CodeFault::BadOpcode => Reason::BadOpcode,
-        CodeFault::BadOperand => Reason::BadOperand,
-        CodeFault::CutShort => Reason::CutShort,
-    }
-}
-
-/// Decodes code from its first byte on, for the pcs at which instructions begin.
+/// Goes from instruction to instruction, for the pcs at which they begin.
 fn starts_of(code: &[u8]) -> Result<NumberSet, Fault>
     requires short { length code.now < 2 ^ 16 }
     ensures ok { IfOk result (λ starts. (listing : List PlacedInstr) × IsDecoded code.now listing starts) }
@@ -51,10 +41,10 @@ fn starts_of(code: &[u8]) -> Result<NumberSet, Fault>
     let mut starts = NumberSet::empty();
     let mut pc = 0;
     while pc < code.len() {
-        match decode(code, pc) {
-            Ok(instr) => {
+        match next_pc(code, pc) {
+            Ok(behind) => {
                 starts.insert(pc as u16);
-                pc = instr.next_pc;
+                pc = behind;
             }
             Err(fault) => {
                 return Err(Fault {

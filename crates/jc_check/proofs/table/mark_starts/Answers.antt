@@ -4,16 +4,19 @@ use Rattle.jc_check.proofs.Standing.{no_claims}
 use Rattle.jc_check.proofs.table.mark_starts.Goals as goal
 
 pub loop-pc-init : goal.loop-pc-init
-loop-pc-init g c = none_yet (g.R.CheckRules.rules c.args.rules.now).decoder c.args.method.now.code c.args.marks.now c.requires.none
+loop-pc-init g c =
+    none_yet (g.R.CheckRules.rules c.args.rules.now).decoder c.args.method.now.code c.args.marks.now c.requires.none
 
 pub loop-pc-preserved : goal.loop-pc-preserved
 loop-pc-preserved g c =
-    let at = rw c.code-code.ensures at (sym c.decode.ensures ∙ c.in-Ok.is) in
+    let at = rw c.code-code.ensures at (sym c.in-Ok.is ∙ c.next_pc.ensures) in
     let lt = rw c.code-code.ensures at c.loop-pc-test.true in
-    goes_on (g.R.CheckRules.rules c.args.rules.now).decoder c.args.method.now.code c.loop-pc.pc c.in-Ok.instr c.loop-pc.marks lt at (c.listing_laws.ensures.ascends c.args.method.now.code c.loop-pc.pc c.in-Ok.instr at).1 c.loop-pc.invariant
+    goes_on (g.R.CheckRules.rules c.args.rules.now).decoder c.listing_laws.ensures c.args.method.now.code c.loop-pc.pc
+    c.in-Ok.behind c.loop-pc.marks lt at c.loop-pc.invariant
 
 pub returns-clause-ok : goal.returns-clause-ok
 returns-clause-ok g c =
     let rules = g.R.CheckRules.rules c.args.rules.now in
-    let done = is_done rules.decoder c.args.method.now.code c.loop-pc.pc c.loop-pc.marks (rw c.code-code.ensures at c.loop-pc-test.false) c.loop-pc.invariant in
+    let done = is_done rules.decoder c.args.method.now.code c.loop-pc.pc c.loop-pc.marks
+    (rw c.code-code.ensures at c.loop-pc-test.false) c.loop-pc.invariant in
     (done.0, no_claims rules c.listing_laws.ensures c.args.method.now done.0 c.loop-pc.marks done.1 done.2)

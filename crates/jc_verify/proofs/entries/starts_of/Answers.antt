@@ -1,5 +1,4 @@
-use Rattle.std.proofs.Common.{sym}
-use Rattle.jc_verify.proofs.Starting.{none_yet, starts_more}
+use Rattle.jc_verify.proofs.Starting.{none_yet, start_more}
 use Rattle.jc_verify.proofs.entries.starts_of.Goals as goal
 
 pub loop-pc-init : goal.loop-pc-init
@@ -7,4 +6,5 @@ loop-pc-init c = none_yet c.args.code.now c.empty-starts.result c.empty-starts.e
 
 pub loop-pc-preserved : goal.loop-pc-preserved
 loop-pc-preserved c =
-    starts_more c.args.code.now c.loop-pc.pc c.in-Ok.instr c.loop-pc.starts c.insert.new.self (sym c.in-Ok.ensures.instr) c.in-Ok.ensures.within c.insert.ensures c.loop-pc.invariant
+    start_more c.args.code.now c.loop-pc.pc c.in-Ok.behind c.loop-pc.starts c.insert.new.self c.in-Ok.ensures.pc
+    c.in-Ok.ensures.within c.insert.ensures c.loop-pc.invariant

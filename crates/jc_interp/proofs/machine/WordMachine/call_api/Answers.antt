@@ -34,6 +34,7 @@ returns g c =
     (λ accepted program. c.tables_are_known.ensures w accepted program) c.law.ensures
     (record { calls = laws.calls; first = laws.first }) c.args.member c.requires.native c.if-steps-eq0.false
     (record {
+      world = c.args.world;
       member = c.args.member;
       arguments = c.args.call.now.arguments;
       active = c.args.call.now.owner;

@@ -6,6 +6,7 @@ the row, and has operands of its own where as many are said.
 """
 import os
 import re
+import sys
 
 PAGE = os.path.join(os.path.dirname(os.path.dirname(os.path.abspath(__file__))), 'docs', 'profile', 'instructions.md')
 ROW = re.compile(r'^\| (\d[\d,; to]*) \| ([a-z][^|]*) \| ?([^|]*?) ?\| ?([^|]*?) ?\|', re.MULTILINE)
@@ -46,8 +47,11 @@ def rows(text):
         yield [int(number) for number in listed(opcodes)], list(listed(names)), each, meaning
 
 
-with open(PAGE, encoding='utf-8') as file:
-    ROWS = list(rows(file.read()))
+try:
+    with open(PAGE, encoding='utf-8') as file:
+        ROWS = list(rows(file.read()))
+except OSError as error:
+    sys.exit('the table of instructions is missing: %s' % error)
 
 # The opcode of each name and what stands behind it, by opcodes; the opcodes, and the names of opcodes; the names of
 # those behind which code goes on nowhere but where they lead to.

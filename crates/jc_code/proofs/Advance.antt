@@ -1,46 +1,67 @@
--- Reading goes forward: what is left behind an operation on words is no more than there was.
-use Rattle.std.proofs.Common.{ℕ, ◌+◌, ◌-◌, ◌*◌, ◌/◌, ◌%◌, ◌==◌, ◌≤◌, List, [], ◌∷◌, length, take, drop, Bool, true, false, cond, nat_lt, Option, Some, None, Result, Ok, Err, arith, length-drop}
+-- Reading goes forward: what is left behind an operation on words is no more than there was. What it pushes is a short.
+use Rattle.std.proofs.Common.{ℕ, ◌+◌, ◌-◌, ◌*◌, ◌/◌, ◌%◌, ◌==◌, ◌≤◌, List, [], ◌∷◌, length, take, drop, Bool}
+use Rattle.std.proofs.Common.{true, false, cond, nat_lt, Option, Some, None, Result, Ok, Err, pos, negsuc, arith}
+use Rattle.std.proofs.Common.{length-drop, rules}
+use Rattle.std.specs.Int.{cast_signed, w16, w8}
+use Rattle.std.specs.Int.RustNames.{FitsSigned}
 use Rattle.std.specs.Prelude.{◌-ℤ◌, unsigned_abs, int_lt}
 use Rattle.jc_base.specs.Cursor.{Read, next_u1, next_u2, next_s1, next_s2, next_bytes}
 use Rattle.jc_base.specs.Results.{◌>>=◌}
 use Rattle.jc_code.specs.declared.fault.CodeFault.{CodeFault}
-use Rattle.jc_code.specs.declared.fault.CodeFault.TheVariants.{BadOpcode, BadOperand}
+use Rattle.jc_code.specs.declared.fault.CodeFault.TheVariants.{BadOpcode, BadOperand, CutShort}
+use Rattle.jc_code.specs.declared.instr.WordOperation.{WordOperation}
+use Rattle.jc_code.specs.declared.instr.WordOperation.TheVariants.{Push}
 use Rattle.jc_code.specs.Tables.{operand, next_offsets, next_cases, offsets_of_bytes, cases_of_bytes}
-use Rattle.jc_code.specs.Decoding.{listed, next_stable_switch, next_lookup_switch, next_wide_increment, when_of, next_wide_branch, next_control, next_branch, operator_of, next_arithmetic, is_duplicate, is_swap, next_shuffle, next_local, next_constant}
+use Rattle.jc_code.specs.Decoding.{done, is_duplicate, is_swap, listed, next_arithmetic, next_branch, next_constant}
+use Rattle.jc_code.specs.Decoding.{next_control, next_local, next_lookup_switch, next_shuffle, next_stable_switch}
+use Rattle.jc_code.specs.Decoding.{next_wide_branch, next_wide_increment, operator_of, when_of}
 
--- what is left is no longer than n
-abbrev pub Left : {A : Type 0} → ℕ → Result (Read A) CodeFault → Type 0
-Left n (Ok read) = length read.rest ≤ n
-Left n (Err fault) = Unit {0}
+-- what is left is no longer than n, and P holds of what was read
+abbrev pub Left : {A : Type 0} → (A → Type 0) → ℕ → Result (Read A) CodeFault → Type 0
+Left P n (Ok read) = (length read.rest ≤ n) × P read.value
+Left P n (Err fault) = Unit {0}
 
-pub record IsLeft {A : Type 0} (n : ℕ) (read : Result (Read A) CodeFault) : Type 0 where
-  pub left : Left n read
+pub record Gives {A : Type 0} (P : A → Type 0) (n : ℕ) (read : Result (Read A) CodeFault) : Type 0 where
+  pub left : Left P n read
+
+-- the same, where nothing is asked of what was read
+abbrev pub IsLeft : {A : Type 0} → ℕ → Result (Read A) CodeFault → Type 0
+IsLeft {A} n read = Gives {A = A} (λ a. Unit {0}) n read
 
 abbrev pub Field : {A : Type 0} → ℕ → Option (Read A) → Type 0
 Field n (Some read) = length read.rest ≤ n
 Field n None = Unit {0}
 
-pub field : {A B : Type 0} (n : ℕ) (o : Option (Read A)) (f : Read A → Result (Read B) CodeFault) → Field n o → ((r : Read A) → length r.rest ≤ n → IsLeft n (f r)) → IsLeft n (operand o >>= f)
-field n (Some r) f h k = k r h
-field n None f h k = record { left = tt }
+module _ {A B : Type 0} {P : B → Type 0} (n : ℕ) where
+  pub field : (o : Option (Read A)) (f : Read A → Result (Read B) CodeFault) → Field n o
+      → ((r : Read A) → length r.rest ≤ n → Gives P n (f r)) → Gives P n (operand o >>= f)
+  field (Some r) f h k = k r h
+  field None f h k = record { left = tt }
 
-pub read_on : {A B : Type 0} (n : ℕ) (r : Result (Read A) CodeFault) (f : Read A → Result (Read B) CodeFault) → IsLeft n r → ((r : Read A) → length r.rest ≤ n → IsLeft n (f r)) → IsLeft n (r >>= f)
-read_on n (Ok r) f h k = k r h.left
-read_on n (Err fault) f h k = record { left = tt }
+  pub read_on : (r : Result (Read A) CodeFault) (f : Read A → Result (Read B) CodeFault) → IsLeft n r
+      → ((r : Read A) → length r.rest ≤ n → Gives P n (f r)) → Gives P n (r >>= f)
+  read_on (Ok r) f h k = k r h.left.0
+  read_on (Err fault) f h k = record { left = tt }
 
-pub chosen : {A : Type 0} (n : ℕ) (b : Bool) (x y : Result (Read A) CodeFault) → IsLeft n x → IsLeft n y → IsLeft n (cond b x y)
-chosen n true x y h k = h
-chosen n false x y h k = k
+  pub either : (o : Option A) (f : A → Result (Read B) CodeFault) (other : Result (Read B) CodeFault)
+      → ((x : A) → Gives P n (f x)) → Gives P n other → Gives P n (listed o f other)
+  either (Some x) f other k h = k x
+  either None f other k h = h
 
-pub either : {A B : Type 0} (n : ℕ) (o : Option A) (f : A → Result (Read B) CodeFault) (other : Result (Read B) CodeFault) → ((x : A) → IsLeft n (f x)) → IsLeft n other → IsLeft n (listed o f other)
-either n (Some x) f other k h = k x
-either n None f other k h = h
+module _ {A : Type 0} {P : A → Type 0} (n : ℕ) where
+  pub chosen : (b : Bool) (x y : Result (Read A) CodeFault) → Gives P n x → Gives P n y → Gives P n (cond b x y)
+  chosen true x y h k = h
+  chosen false x y h k = k
 
-pub none : {A : Type 0} (n : ℕ) (fault : CodeFault) → IsLeft {A = A} n (Err fault)
-none n fault = record { left = tt }
+  pub none : (fault : CodeFault) → Gives {A = A} P n (Err fault)
+  none fault = record { left = tt }
 
-pub same : {A : Type 0} (n : ℕ) (x : A) (rest : List ℕ) → length rest ≤ n → IsLeft {A = A} n (Ok (record { value = x; rest = rest }))
-same n x rest le = record { left = le }
+  gives : (x : A) (rest : List ℕ) → length rest ≤ n → P x → Gives P n (Ok (record { value = x; rest = rest }))
+  gives x rest le p = record { left = (le, p) }
+
+pub same : {A : Type 0} (n : ℕ) (x : A) (rest : List ℕ) → length rest ≤ n
+    → IsLeft {A = A} n (Ok (record { value = x; rest = rest }))
+same n x rest le = gives n x rest le tt
 
 pub u1_left : (n : ℕ) (bytes : List ℕ) → length bytes ≤ n → Field n (next_u1 bytes)
 u1_left n [] le = tt
@@ -65,7 +86,7 @@ bytes_left n k bytes true le = tt
 bytes_left n k bytes false le = omega (arith, length-drop k bytes)
 
 table_left : {A : Type 0} (n : ℕ) (o : Option (Read (List ℕ))) (view : List ℕ → A) → Field n o → IsLeft {A = A} n (operand o >>= (λ table. Ok (record { value = view table.value; rest = table.rest })))
-table_left n (Some r) view h = record { left = h }
+table_left n (Some r) view h = record { left = (h, tt) }
 table_left n None view h = record { left = tt }
 
 offsets_left : (n k : ℕ) (bytes : List ℕ) → length bytes ≤ n → IsLeft n (next_offsets k bytes)
@@ -86,42 +107,100 @@ lookup_switch_left : (n : ℕ) (bytes : List ℕ) → length bytes ≤ n → IsL
 unfolding next_lookup_switch
 lookup_switch_left n bytes le = field n (next_s2 bytes) _ (s2_left n bytes le) (λ d h. field n (next_u2 d.rest) _ (u2_left n d.rest h) (λ c i. read_on n (next_cases c.value c.rest) _ (cases_left n c.value c.rest i) (λ t k. same n _ t.rest k)))
 
-wide_increment_left : (n : ℕ) (bytes : List ℕ) → length bytes ≤ n → IsLeft n (next_wide_increment bytes)
+-- ---- operations on words
+
+-- an operation that pushes no more than a short
+abbrev pub IsSmall : WordOperation → Type 0
+IsSmall (Push value) = FitsSigned w16 value
+IsSmall _ = Unit {0}
+
+abbrev Reads : ℕ → Result (Read WordOperation) CodeFault → Type 0
+Reads n read = Gives IsSmall n read
+
+wide_increment_left : (n : ℕ) (bytes : List ℕ) → length bytes ≤ n → Reads n (next_wide_increment bytes)
 unfolding next_wide_increment
-wide_increment_left n bytes le = field n (next_u1 bytes) _ (u1_left n bytes le) (λ r h. field n (next_s2 r.rest) _ (s2_left n r.rest h) (λ s k. same n _ s.rest k))
+wide_increment_left n bytes le =
+    field n (next_u1 bytes) _ (u1_left n bytes le) (λ r h.
+    field n (next_s2 r.rest) _ (s2_left n r.rest h) (λ s k. gives n _ s.rest k tt))
 
-wide_branch_left : (n op : ℕ) (bytes : List ℕ) → length bytes ≤ n → IsLeft n (next_wide_branch op bytes)
+wide_branch_left : (n op : ℕ) (bytes : List ℕ) → length bytes ≤ n → Reads n (next_wide_branch op bytes)
 unfolding next_wide_branch
-wide_branch_left n op bytes le = either n (when_of (op - 56)) _ _ (λ when. field n (next_s2 bytes) _ (s2_left n bytes le) (λ r h. same n _ r.rest h)) (none n BadOpcode)
+wide_branch_left n op bytes le =
+    either n (when_of (op - 56)) _ _ (λ when.
+    field n (next_s2 bytes) _ (s2_left n bytes le) (λ r h. gives n _ r.rest h tt)) (none n BadOpcode)
 
-control_left : (n op : ℕ) (bytes : List ℕ) → length bytes ≤ n → IsLeft n (next_control op bytes)
+control_left : (n op : ℕ) (bytes : List ℕ) → length bytes ≤ n → Reads n (next_control op bytes)
 unfolding next_control
 control_left n op bytes le =
-    chosen n (op == 115) _ _ (read_on n (next_stable_switch bytes) _ (stable_switch_left n bytes le) (λ t k. same n _ t.rest k)) (chosen n (op == 117) _ _ (read_on n (next_lookup_switch bytes) _ (lookup_switch_left n bytes le) (λ t k. same n _ t.rest k)) (chosen n (op == 120) _ _ (same n _ bytes le) (chosen n (op == 150) _ _ (wide_increment_left n bytes le) (chosen n (nat_lt op 152) _ _ (none n BadOpcode) (wide_branch_left n op bytes le)))))
+    chosen n (op == 115) _ _
+    (read_on n (next_stable_switch bytes) _ (stable_switch_left n bytes le) (λ t k. gives n _ t.rest k tt))
+    (chosen n (op == 117) _ _
+    (read_on n (next_lookup_switch bytes) _ (lookup_switch_left n bytes le) (λ t k. gives n _ t.rest k tt))
+    (chosen n (op == 120) _ _ (gives n _ bytes le tt)
+    (chosen n (op == 150) _ _ (wide_increment_left n bytes le)
+    (chosen n (nat_lt op 152) _ _ (none n BadOpcode) (wide_branch_left n op bytes le)))))
 
-branch_left : (n op : ℕ) (bytes : List ℕ) → length bytes ≤ n → IsLeft n (next_branch op bytes)
+branch_left : (n op : ℕ) (bytes : List ℕ) → length bytes ≤ n → Reads n (next_branch op bytes)
 unfolding next_branch
-branch_left n op bytes le = either n (when_of op) _ _ (λ when. field n (next_s1 bytes) _ (s1_left n bytes le) (λ r h. same n _ r.rest h)) (control_left n op bytes le)
+branch_left n op bytes le =
+    either n (when_of op) _ _ (λ when.
+    field n (next_s1 bytes) _ (s1_left n bytes le) (λ r h. gives n _ r.rest h tt)) (control_left n op bytes le)
 
-arithmetic_left : (n op : ℕ) (bytes : List ℕ) → length bytes ≤ n → IsLeft n (next_arithmetic op bytes)
+arithmetic_left : (n op : ℕ) (bytes : List ℕ) → length bytes ≤ n → Reads n (next_arithmetic op bytes)
 unfolding next_arithmetic
 arithmetic_left n op bytes le =
-    chosen n (op == 75) _ _ (same n _ bytes le) (chosen n (op == 89) _ _ (field n (next_u1 bytes) _ (u1_left n bytes le) (λ r h. field n (next_s1 r.rest) _ (s1_left n r.rest h) (λ s k. same n _ s.rest k))) (chosen n (op == 91) _ _ (same n _ bytes le) (either n (operator_of op) _ _ (λ x. same n _ bytes le) (branch_left n op bytes le))))
+    chosen n (op == 75) _ _ (gives n _ bytes le tt)
+    (chosen n (op == 89) _ _
+    (field n (next_u1 bytes) _ (u1_left n bytes le) (λ r h.
+    field n (next_s1 r.rest) _ (s1_left n r.rest h) (λ s k. gives n _ s.rest k tt)))
+    (chosen n (op == 91) _ _ (gives n _ bytes le tt)
+    (either n (operator_of op) _ _ (λ x. gives n _ bytes le tt) (branch_left n op bytes le))))
 
-shuffle_left : (n op : ℕ) (bytes : List ℕ) → length bytes ≤ n → IsLeft n (next_shuffle op bytes)
+shuffle_left : (n op : ℕ) (bytes : List ℕ) → length bytes ≤ n → Reads n (next_shuffle op bytes)
 unfolding next_shuffle
 shuffle_left n op bytes le =
-    chosen n (op == 59) _ _ (same n _ bytes le) (chosen n (op == 60) _ _ (same n _ bytes le) (chosen n (op == 61) _ _ (same n _ bytes le) (chosen n (op == 62) _ _ (same n _ bytes le)
-    (chosen n (op == 63) _ _ (field n (next_u1 bytes) _ (u1_left n bytes le) (λ r h. chosen n (is_duplicate (r.value / 16) (r.value % 16)) _ _ (same n _ r.rest h) (none n BadOperand))) (chosen n (op == 64) _ _ (field n (next_u1 bytes) _ (u1_left n bytes le) (λ r h. chosen n (is_swap (r.value / 16) (r.value % 16)) _ _ (same n _ r.rest h) (none n BadOperand))) (arithmetic_left n op bytes le))))))
+    chosen n (op == 59) _ _ (gives n _ bytes le tt) (chosen n (op == 60) _ _ (gives n _ bytes le tt)
+    (chosen n (op == 61) _ _ (gives n _ bytes le tt) (chosen n (op == 62) _ _ (gives n _ bytes le tt)
+    (chosen n (op == 63) _ _ (field n (next_u1 bytes) _ (u1_left n bytes le) (λ r h.
+    chosen n (is_duplicate (r.value / 16) (r.value % 16)) _ _ (gives n _ r.rest h tt) (none n BadOperand)))
+    (chosen n (op == 64) _ _ (field n (next_u1 bytes) _ (u1_left n bytes le) (λ r h.
+    chosen n (is_swap (r.value / 16) (r.value % 16)) _ _ (gives n _ r.rest h tt) (none n BadOperand)))
+    (arithmetic_left n op bytes le))))))
 
-local_left : (n op : ℕ) (bytes : List ℕ) → length bytes ≤ n → IsLeft n (next_local op bytes)
+local_left : (n op : ℕ) (bytes : List ℕ) → length bytes ≤ n → Reads n (next_local op bytes)
 unfolding next_local
 local_left n op bytes le =
-    chosen n (op == 22) _ _ (field n (next_u1 bytes) _ (u1_left n bytes le) (λ r h. same n _ r.rest h)) (chosen n (op == 28) _ _ (same n _ bytes le) (chosen n (op == 29) _ _ (same n _ bytes le) (chosen n (op == 30) _ _ (same n _ bytes le) (chosen n (op == 31) _ _ (same n _ bytes le)
-    (chosen n (op == 41) _ _ (field n (next_u1 bytes) _ (u1_left n bytes le) (λ r h. same n _ r.rest h)) (chosen n (op == 47) _ _ (same n _ bytes le) (chosen n (op == 48) _ _ (same n _ bytes le) (chosen n (op == 49) _ _ (same n _ bytes le) (chosen n (op == 50) _ _ (same n _ bytes le) (shuffle_left n op bytes le))))))))))
+    chosen n (op == 22) _ _ (field n (next_u1 bytes) _ (u1_left n bytes le) (λ r h. gives n _ r.rest h tt))
+    (chosen n (op == 28) _ _ (gives n _ bytes le tt) (chosen n (op == 29) _ _ (gives n _ bytes le tt)
+    (chosen n (op == 30) _ _ (gives n _ bytes le tt) (chosen n (op == 31) _ _ (gives n _ bytes le tt)
+    (chosen n (op == 41) _ _ (field n (next_u1 bytes) _ (u1_left n bytes le) (λ r h. gives n _ r.rest h tt))
+    (chosen n (op == 47) _ _ (gives n _ bytes le tt) (chosen n (op == 48) _ _ (gives n _ bytes le tt)
+    (chosen n (op == 49) _ _ (gives n _ bytes le tt) (chosen n (op == 50) _ _ (gives n _ bytes le tt)
+    (shuffle_left n op bytes le))))))))))
 
-pub words_left : (n op : ℕ) (bytes : List ℕ) → length bytes ≤ n → IsLeft n (next_constant op bytes)
+-- a byte or two, with their sign
+pushed_byte : (n : ℕ) (bytes : List ℕ) → length bytes ≤ n
+    → Reads n (operand (next_s1 bytes) >>= λ r. done (Push r.value) r.rest)
+pushed_byte n [] le = none n CutShort
+pushed_byte n (b ∷ bytes) le = gives n (Push (cast_signed w8 b)) bytes (omega arith) (search rules)
+
+pushed_word : (n : ℕ) (bytes : List ℕ) → length bytes ≤ n
+    → Reads n (operand (next_s2 bytes) >>= λ r. done (Push r.value) r.rest)
+pushed_word n [] le = none n CutShort
+pushed_word n (high ∷ []) le = none n CutShort
+pushed_word n (high ∷ low ∷ bytes) le =
+    gives n (Push (cast_signed w16 (256 * high + low))) bytes (omega arith) (search rules)
+
+pub words_left : (n op : ℕ) (bytes : List ℕ) → length bytes ≤ n → Reads n (next_constant op bytes)
 unfolding next_constant
 words_left n op bytes le =
-    chosen n (op == 0) _ _ (same n _ bytes le) (chosen n (op == 2) _ _ (same n _ bytes le) (chosen n (op == 3) _ _ (same n _ bytes le) (chosen n (op == 4) _ _ (same n _ bytes le) (chosen n (op == 5) _ _ (same n _ bytes le) (chosen n (op == 6) _ _ (same n _ bytes le) (chosen n (op == 7) _ _ (same n _ bytes le) (chosen n (op == 8) _ _ (same n _ bytes le)
-    (chosen n (op == 16) _ _ (field n (next_s1 bytes) _ (s1_left n bytes le) (λ r h. same n _ r.rest h)) (chosen n (op == 17) _ _ (field n (next_s2 bytes) _ (s2_left n bytes le) (λ r h. same n _ r.rest h)) (local_left n op bytes le))))))))))
+    chosen n (op == 0) _ _ (gives n _ bytes le tt)
+    (chosen n (op == 2) _ _ (gives n (Push (negsuc 0)) bytes le (search rules))
+    (chosen n (op == 3) _ _ (gives n (Push (pos 0)) bytes le (search rules))
+    (chosen n (op == 4) _ _ (gives n (Push (pos 1)) bytes le (search rules))
+    (chosen n (op == 5) _ _ (gives n (Push (pos 2)) bytes le (search rules))
+    (chosen n (op == 6) _ _ (gives n (Push (pos 3)) bytes le (search rules))
+    (chosen n (op == 7) _ _ (gives n (Push (pos 4)) bytes le (search rules))
+    (chosen n (op == 8) _ _ (gives n (Push (pos 5)) bytes le (search rules))
+    (chosen n (op == 16) _ _ (pushed_byte n bytes le)
+    (chosen n (op == 17) _ _ (pushed_word n bytes le) (local_left n op bytes le))))))))))

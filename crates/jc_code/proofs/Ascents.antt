@@ -1,25 +1,28 @@
--- An instruction ends behind its pc, and within the code.
-use Rattle.std.proofs.Common.{◌≡◌, ℕ, suc, ◌+◌, ◌-◌, ◌≤◌, ◌<◌, List, [], ◌∷◌, length, drop, Result, Ok, Err, subst, arith, length-drop}
+-- An instruction ends behind its pc, and within the code; what it pushes is a short.
+use Rattle.std.proofs.Common.{◌≡◌, ℕ, ℤ, suc, ◌+◌, ◌-◌, ◌≤◌, ◌<◌, List, [], ◌∷◌, length, drop, Result, Ok, Err, subst}
+use Rattle.std.proofs.Common.{arith, length-drop}
+use Rattle.std.specs.Int.{w16}
+use Rattle.std.specs.Int.RustNames.{FitsSigned}
 use Rattle.jc_base.specs.Cursor.{Read}
 use Rattle.jc_base.specs.Results.{◌>>=◌}
 use Rattle.jc_code.specs.declared.fault.CodeFault.{CodeFault}
 use Rattle.jc_code.specs.declared.fault.CodeFault.TheVariants.{BadOpcode, BadOperand, CutShort}
 use Rattle.jc_code.specs.declared.instr.Instr.{Instr}
 use Rattle.jc_code.specs.declared.instr.Operation.{Operation}
-use Rattle.jc_code.specs.declared.instr.Operation.TheVariants.{Word}
+use Rattle.jc_code.specs.declared.instr.Operation.TheVariants.{Object, Word}
 use Rattle.jc_code.specs.declared.instr.WordOperation.{WordOperation}
+use Rattle.jc_code.specs.declared.instr.WordOperation.TheVariants.{Push}
 use Rattle.jc_code.specs.declared.object.ObjectOperation.{ObjectOperation}
 use Rattle.jc_code.specs.Decoding.{next_constant, next_word_operation}
 use Rattle.jc_code.specs.Objects.{next_object}
 use Rattle.jc_code.specs.Instructions.{either_operation, next_operation, instr_of, instr_at, word_instr_at}
 use Rattle.jc_code.specs.Listing.{Decoder}
-use Rattle.jc_code.proofs.Advance.{IsLeft, words_left}
+use Rattle.jc_code.proofs.Advance.{Gives, IsLeft, IsSmall, words_left}
 use Rattle.jc_code.proofs.ObjectAdvance.{objects_left}
 
-left_of : {A : Type 0} (n : ℕ) (r : Result (Read A) CodeFault) (operation : A) (rest : List ℕ) → IsLeft n r → r ≡ Ok (record { value = operation; rest = rest }) → length rest ≤ n
-left_of {A = A} n r operation rest h e =
-    let P : Result (Read A) CodeFault → Type 0 = λ q. IsLeft n q in
-    (subst P e h).left
+left_of : {A : Type 0} {P : A → Type 0} (n : ℕ) (r : Result (Read A) CodeFault) (operation : A) (rest : List ℕ)
+    → Gives P n r → r ≡ Ok (record { value = operation; rest = rest }) → length rest ≤ n
+left_of {A} {P} n r operation rest h e = (subst (λ (q : Result (Read A) CodeFault). Gives P n q) e h).left.0
 
 -- what is left behind an operation is no more than there was
 pub left_behind_word : (op : ℕ) (bytes : List ℕ) (operation : WordOperation) (rest : List ℕ) → next_constant op bytes ≡ Ok (record { value = operation; rest = rest }) → length rest ≤ length bytes
@@ -28,7 +31,13 @@ left_behind_word op bytes operation rest e = left_of (length bytes) (next_consta
 pub left_behind_object : (op : ℕ) (bytes : List ℕ) (operation : ObjectOperation) (rest : List ℕ) → next_object op bytes ≡ Ok (record { value = operation; rest = rest }) → length rest ≤ length bytes
 left_behind_object op bytes operation rest e = left_of (length bytes) (next_object op bytes) operation rest (objects_left (length bytes) op bytes (omega arith)) e
 
-either_left : (n : ℕ) (word : Result (Read WordOperation) CodeFault) (object : Result (Read ObjectOperation) CodeFault) → IsLeft n word → IsLeft n object → IsLeft n (either_operation word object)
+-- what an operation pushes is a short
+abbrev IsSmallOperation : Operation → Type 0
+IsSmallOperation (Word operation) = IsSmall operation
+IsSmallOperation (Object operation) = Unit {0}
+
+either_left : (n : ℕ) (word : Result (Read WordOperation) CodeFault) (object : Result (Read ObjectOperation) CodeFault)
+    → Gives IsSmall n word → IsLeft n object → Gives IsSmallOperation n (either_operation word object)
 either_left n (Ok word) object h k = record { left = h.left }
 either_left n (Err BadOpcode) (Ok object) h k = record { left = k.left }
 either_left n (Err BadOpcode) (Err fault) h k = record { left = tt }
@@ -36,12 +45,13 @@ either_left n (Err BadOperand) object h k = record { left = tt }
 either_left n (Err CutShort) object h k = record { left = tt }
 
 abbrev Advances : ℕ → ℕ → Result Instr CodeFault → Type 0
-Advances n pc (Ok instr) = (pc < instr.next_pc) × (instr.next_pc ≤ n)
+Advances n pc (Ok instr) = (pc < instr.next_pc) × (instr.next_pc ≤ n) × IsSmallOperation instr.operation
 Advances n pc (Err fault) = Unit {0}
 
-behind : {A : Type 0} (code : List ℕ) (pc n : ℕ) (view : A → Operation) (r : Result (Read A) CodeFault) → suc n + pc ≡ length code → IsLeft n r
+behind : {A : Type 0} (code : List ℕ) (pc n : ℕ) (view : A → Operation) (r : Result (Read A) CodeFault)
+    → suc n + pc ≡ length code → Gives (λ a. IsSmallOperation (view a)) n r
     → Advances (length code) pc (r >>= (λ read. Ok (instr_of code (record { value = view read.value; rest = read.rest }))))
-behind code pc n view (Ok read) e h = (omega (arith, h.left), omega (arith, h.left))
+behind code pc n view (Ok read) e h = (omega (arith, h.left.0), omega (arith, h.left.0), h.left.1)
 behind code pc n view (Err fault) e h = tt
 
 at_front : (code : List ℕ) (pc : ℕ) (bytes : List ℕ) → length bytes ≡ length code - pc → Advances (length code) pc (next_operation bytes >>= (λ read. Ok (instr_of code read)))
@@ -61,8 +71,21 @@ words_at_front code pc (op ∷ bytes) e = behind code pc (length bytes) Word (ne
 abbrev pub Ascends : Decoder → Type 0
 Ascends decoder = (code : List ℕ) (pc : ℕ) (instr : Instr) → decoder code pc ≡ Ok instr → (pc < instr.next_pc) × (instr.next_pc ≤ length code)
 
-ascends_by : (decoder : Decoder) → ((code : List ℕ) (pc : ℕ) → Advances (length code) pc (decoder code pc)) → Ascends decoder
-ascends_by decoder h code pc instr e = let P : Result Instr CodeFault → Type 0 = λ r. Advances (length code) pc r in subst P e (h code pc)
+-- the constants that it pushes are shorts
+abbrev pub Pushes : Decoder → Type 0
+Pushes decoder = (code : List ℕ) (pc : ℕ) (instr : Instr) (value : ℤ) → decoder code pc ≡ Ok instr
+    → instr.operation ≡ Word (Push value) → FitsSigned w16 value
+
+module _ (decoder : Decoder) (h : (code : List ℕ) (pc : ℕ) → Advances (length code) pc (decoder code pc)) where
+  advances : (code : List ℕ) (pc : ℕ) (instr : Instr) → decoder code pc ≡ Ok instr
+      → Advances (length code) pc (Ok instr)
+  advances code pc instr e = subst (λ (r : Result Instr CodeFault). Advances (length code) pc r) e (h code pc)
+
+  ascends_by : Ascends decoder
+  ascends_by code pc instr e = let a = advances code pc instr e in (a.0, a.1)
+
+  pushes_by : Pushes decoder
+  pushes_by code pc instr value e is = subst IsSmallOperation is (advances code pc instr e).2
 
 all_advance : (code : List ℕ) (pc : ℕ) → Advances (length code) pc (instr_at code pc)
 unfolding instr_at
@@ -77,3 +100,9 @@ all_ascend = ascends_by instr_at all_advance
 
 pub words_ascend : Ascends word_instr_at
 words_ascend = ascends_by word_instr_at words_advance
+
+pub all_push : Pushes instr_at
+all_push = pushes_by instr_at all_advance
+
+pub words_push : Pushes word_instr_at
+words_push = pushes_by word_instr_at words_advance

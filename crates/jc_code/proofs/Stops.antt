@@ -5,7 +5,7 @@ use Rattle.jc_base.proofs.Binding.{the_ok, ok_err}
 use Rattle.jc_code.specs.declared.fault.CodeFault.{CodeFault}
 use Rattle.jc_code.specs.declared.instr.Instr.{Instr}
 use Rattle.jc_code.specs.Listing.{Decoder, PlacedInstr, StandBetween, IsListing, StopsAt, ListingLaws}
-use Rattle.jc_code.proofs.Ascents.{Ascends}
+use Rattle.jc_code.proofs.Ascents.{Ascends, Pushes}
 use Rattle.jc_code.proofs.Listings.{there, stand-append, one_listing, listed_or_stopped}
 
 abbrev IsListed : Decoder → List ℕ → Type 0
@@ -57,12 +57,13 @@ one_stop_from decoder code from p q (x ∷ xs) (y ∷ ys) a b h k e f =
     let R : Instr → Type 0 = λ j. StandBetween decoder code j.next_pc ys q in
     one_stop_from decoder code x.instr.next_pc p q xs ys a b h.2 (subst R i k.2) e f
 
-pub laws : (decoder : Decoder) → Ascends decoder → ListingLaws decoder
-laws decoder ascends = record {
+pub laws : (decoder : Decoder) → Ascends decoder → Pushes decoder → ListingLaws decoder
+laws decoder ascends pushes = record {
   ascends = ascends;
   has = λ code listing pc x whole e. let t = there decoder ascends code 0 (length code) listing pc x whole e in (t.at, t.instr);
   decides = decides decoder ascends;
   never_both = λ code listing pc fault l s. listed_or_stopped decoder ascends code pc fault listing s l;
   one_listing = λ code a b h k. one_listing decoder ascends code 0 a b h k;
   one_stop = λ code p q a b s t. one_stop_from decoder code 0 p q s.before t.before a b s.stand t.stand s.none t.none;
+  pushes = pushes;
 }

@@ -1,2 +1,3 @@
 pub mod Shorts
 pub mod Values
+pub mod Laws

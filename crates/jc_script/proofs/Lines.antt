@@ -1,34 +1,15 @@
 -- The parts of reading a line, one behind the other.
-use Rattle.std.proofs.Common.{◌≡◌, ◌==◌, ℕ, ◌<◌, ◌≤◌, true, false, List, [], ◌∷◌, ◌++◌, length, Option, Some, None, Result, Ok, Err, ap, ◌∙◌, sym, refl, arith, nat_lt, ◌||◌, append_assoc, append-nil}
+use Rattle.std.proofs.Common.{◌≡◌, ℕ, ◌<◌, ◌≤◌, true, List, [], ◌∷◌, ◌++◌, length, Option, Some, None, Result, Ok, Err, ap, ◌∙◌, sym, refl, arith, nat_lt, ◌||◌, append_assoc, append-nil}
 use Rattle.std.specs.Io.KnownBytes.{Consumes, IsAtEnd}
 use Rattle.std.proofs.lemmas.List.{length-append}
 use Rattle.std.specs.Prelude.{IfOk}
 use Rattle.jc_script.proofs.Feeds.{feedless_append, line_begins, line_last, line_off, no_lines, some_line}
-use Rattle.jc_script.specs.PrivateReading.{AreSoFar, EndsPart, GoesOnPart, HasTaken, IsSoFar, IsTooLong}
+use Rattle.jc_script.specs.PrivateReading.{AreSoFar, EndsPart, GoesOnPart, IsSoFar, IsTooLong}
 use Rattle.jc_script.specs.PrivateReading.{NoFeed, ReadsKnown, ReadsOn, TellsKnown, TellsMore, told_last}
 use Rattle.jc_script.specs.Reading.{SoFar, Tells, TellsOf, pending}
 use Rattle.jc_script.specs.Script.{Bad, line_at, lines_of, most_in_line, most_lines}
 use Rattle.jc_script.specs.declared.reader.NextLine.{NextLine}
 use Rattle.jc_script.specs.declared.reader.NextLine.TheVariants as next
-
--- ---- a part of a line
-
-longer : (before now : SoFar) (byte : ℕ) (t : HasTaken before now) → length now.line ≡ most_in_line
-    → most_in_line < length (before.line ++ (t.piece ++ byte ∷ []))
-longer before now byte t full =
-    let one = length-append before.line (t.piece ++ byte ∷ []) in
-    let two = length-append t.piece (byte ∷ []) in
-    let three = ap length t.line ∙ length-append before.line t.piece in
-    omega (arith, one, two, three, full)
-
-pub too_long : (before now after : SoFar) (byte : ℕ) → HasTaken before now → now.unread ≡ byte ∷ after.unread
-    → (byte == 10) ≡ false → length now.line ≡ most_in_line → IsTooLong before after
-too_long before now after byte t u f full = record {
-  piece = t.piece ++ byte ∷ [];
-  unread = t.unread ∙ ap (λ l. t.piece ++ l) u ∙ sym (append_assoc t.piece (byte ∷ []) after.unread);
-  feedless = feedless_append t.piece (byte ∷ []) t.feedless (f, tt);
-  long = longer before now byte t full;
-}
 
 -- ---- parts behind each other
 

@@ -1,5 +1,5 @@
 -- The rest of a line that is too long.
-use Rattle.std.proofs.Common.{◌≡◌, ◌==◌, ℕ, ◌<◌, true, false, List, [], ◌∷◌, ◌++◌, length}
+use Rattle.std.proofs.Common.{◌≡◌, ℕ, ◌<◌, true, List, [], ◌∷◌, ◌++◌, length}
 use Rattle.std.proofs.Common.{Option, Some, None, ap, ◌∙◌, sym}
 use Rattle.std.proofs.Common.{refl, arith, nat_lt, append_assoc, append-nil, subst}
 use Rattle.std.specs.Io.KnownBytes.{Consumes, IsAtEnd}
@@ -13,26 +13,7 @@ use Rattle.jc_script.specs.Script.{Bad, lines_of, most_in_line, session_line}
 use Rattle.jc_script.specs.declared.reader.NextLine.{NextLine}
 use Rattle.jc_script.specs.declared.reader.NextLine.TheVariants as next
 
--- ---- one byte more
-
-pub byte_more : (before now : List ℕ) (byte : ℕ) (left : List ℕ) → IsPast before left → left ≡ byte ∷ now
-    → (byte == 10) ≡ false → IsPast before now
-byte_more before now byte left p is f = record {
-  piece = p.piece ++ byte ∷ [];
-  are = p.are ∙ ap (λ l. p.piece ++ l) is ∙ sym (append_assoc p.piece (byte ∷ []) now);
-  feedless = feedless_append p.piece (byte ∷ []) p.feedless (f, tt);
-}
-
-pub ends_at : (before now : List ℕ) (byte : ℕ) (left : List ℕ) → IsPast before left → left ≡ byte ∷ now
-    → (byte == 10) ≡ true → EndsAmong before now
-ends_at before now byte left p is f = record {
-  piece = p.piece;
-  are = p.are ∙ ap (λ l. p.piece ++ l) (is ∙ ap (λ b. b ∷ now) (grind (arith, f)));
-  feedless = p.feedless;
-}
-
-pub none_taken : (before : List ℕ) → IsPast before before
-none_taken before = record { piece = []; are = refl; feedless = tt }
+-- ---- bytes that were passed
 
 pub all_taken : (before left : List ℕ) → IsPast before left → left ≡ [] → NoFeed before
 all_taken before left p none =

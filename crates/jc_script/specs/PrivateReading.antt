@@ -20,14 +20,6 @@ pub record Fills (unread : List ℕ) (before after : Option (List ℕ)) (some : 
   pub ended : some ≡ false → IsAtEnd after × (unread ≡ [])
   pub there : some ≡ true → 0 < length unread
 
--- bytes without a line feed were taken off and put behind the line
-pub record HasTaken (before after : SoFar) : Type 0 where
-  pub piece : List ℕ
-  pub unread : before.unread ≡ piece ++ after.unread
-  pub feedless : NoFeed piece
-  pub line : after.line ≡ before.line ++ piece
-  pub short : length after.line ≤ most_in_line
-
 -- the rest of a line, and what stands behind its line feed
 pub record EndsPart (before after : SoFar) : Type 0 where
   pub piece : List ℕ

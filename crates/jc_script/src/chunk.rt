@@ -1,6 +1,6 @@
-//! Bytes that are read at once, to be taken one by one.
+//! Bytes that are read at once, to be taken part by part.
 
-ghost use Rattle.std.specs.Prelude.{◌≡◌, ◌∷◌, ◌==◌, [], length, IfOk, IfSome, IfNone, OnErr};
+ghost use Rattle.std.specs.Prelude.{◌≡◌, ◌≤◌, ◌==◌, [], length, drop, IfOk, OnErr};
 ghost use Rattle.std.specs.Io.KnownBytes.{Consumes, IsAtEnd, Keeps};
 
 use std::io::{self, Read};
@@ -46,17 +46,20 @@ impl Chunk {
         self.at == self.end
     }
 
-    /// Takes the first byte.
-    pub(crate) fn next(&mut self) -> Option<u8>
-        ensures some { IfSome result (λ byte. self.old ≡ byte ∷ self.new) }
-        ensures none { IfNone result ((self.old ≡ []) × (self.new ≡ [])) }
+    /// Those that are left.
+    pub(crate) fn left(&self) -> &[u8]
+        ensures bytes { result.now ≡ self.now }
+        ensures few { length result.now ≤ 4096 }
     {
-        if self.at == self.end {
-            return None;
-        }
-        let byte = self.bytes[self.at];
-        self.at += 1;
-        Some(byte)
+        &self.bytes[self.at..self.end]
+    }
+
+    /// Takes so many of the first.
+    pub(crate) fn take(&mut self, count: usize)
+        requires { count ≤ length self.old }
+        ensures { self.new ≡ drop count self.old }
+    {
+        self.at += count;
     }
 
     /// Reads bytes in place of those that are left: how many. None comes only at the reader's end.

@@ -1,10 +1,24 @@
 //! Bytes in hexadecimal.
 
-ghost use Rattle.std.specs.Prelude.{◌≡◌, ◌<◌, ◌∷◌, [], slice_index};
+ghost use Rattle.std.specs.Prelude.{◌≡◌, ◌<◌, ◌∷◌, ◌++◌, [], slice_index, OnOk};
 ghost use Rattle.std.specs.Char.{encode_utf8};
-ghost use Rattle.hex.specs.Hex.{upper_digits};
+ghost use Rattle.hex.specs.Hex.{encode_upper, upper_digits};
 
+use arrayvec::{ArrayVec, CapacityError};
 use std::fmt;
+
+/// The digit of a value, as a byte of ASCII.
+fn digit_byte(value: u8) -> u8
+    requires { value < 16 }
+    ensures digit { result ≡ slice_index upper_digits value }
+    ensures ascii { result < 128 }
+{
+    if value < 10 {
+        b'0' + value
+    } else {
+        b'A' + (value - 10)
+    }
+}
 
 /// The digit of a value.
 fn digit_of(value: u8) -> char
@@ -12,12 +26,21 @@ fn digit_of(value: u8) -> char
     ensures digit { result ≡ slice_index upper_digits value }
     ensures text { encode_utf8 result ≡ result ∷ [] }
 {
-    let digit = if value < 10 {
-        b'0' + value
-    } else {
-        b'A' + (value - 10)
-    };
-    char::from(digit)
+    char::from(digit_byte(value))
+}
+
+/// Puts bytes behind a line, two digits each, in upper case. Where there is no room, the first of them may stand there.
+pub fn put_digits<const MOST: usize>(
+    line: &mut ArrayVec<u8, MOST>,
+    bytes: &[u8],
+) -> Result<(), CapacityError<u8>>
+    ensures { OnOk result (line.new.items ≡ line.old.items ++ encode_upper bytes.now) }
+{
+    for byte in bytes {
+        line.try_push(digit_byte(*byte / 16))?;
+        line.try_push(digit_byte(*byte % 16))?;
+    }
+    Ok(())
 }
 
 /// Bytes, two digits each, in upper case.

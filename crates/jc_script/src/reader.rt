@@ -1,6 +1,7 @@
 //! The lines of a script, as they are read.
 
-ghost use Rattle.std.specs.Prelude.{◌≡◌, ◌≤◌, ◌<◌, ◌++◌, [], length, position, IfOk};
+ghost use Rattle.std.specs.Prelude.{◌≡◌, ◌≤◌, ◌<◌, ◌==◌, ◌++◌, [], length, position, drop, take, IfOk, IfSome, None, Some};
+ghost use Rattle.std.specs.Bool.{OnFalse, OnTrue};
 ghost use Rattle.std.specs.Io.KnownBytes.{prepend_known};
 ghost use Rattle.jc_script.specs.PrivateReading.{AreSkipped, Fills, ReadsOn, SkipsPart, TakesPart, TellsMore};
 ghost use Rattle.jc_script.specs.PrivateReading.{told_last};
@@ -109,20 +110,78 @@ impl ScriptReader {
         Err(ReadFault::TooManyReads)
     }
 
+    // Where the first line feed that is unread stands.
+    fn feed(&self) -> Option<usize>
+        ensures place { result ≡ position (λ b. b == 10) self.now.unread }
+        ensures within { IfSome result (λ at. at < length self.now.unread) }
+        ensures few { IfSome result (λ at. at < 4096) }
+    {
+        self.chunk.left().iter().position(|byte| *byte == b'\n')
+    }
+
+    fn unread_len(&self) -> usize
+        ensures { result ≡ length self.now.unread }
+    {
+        self.chunk.left().len()
+    }
+
+    // Takes so many bytes that don't belong to the line.
+    fn skip(&mut self, count: usize)
+        requires { count ≤ length self.old.unread }
+        ensures unread { self.new.unread ≡ drop count self.old.unread }
+        ensures line { self.new.line ≡ self.old.line }
+        ensures short { length self.new.line ≤ 1024 }
+    {
+        self.chunk.take(count);
+    }
+
+    // Takes so many bytes that belong to the line, and puts them behind what there is of it, if there is room.
+    fn take_front(&mut self, count: usize) -> bool
+        requires { count ≤ length self.old.unread }
+        ensures taken { self.new.unread ≡ drop count self.old.unread }
+        ensures fits { OnTrue result (self.new.line ≡ self.old.line ++ take count self.old.unread) }
+        ensures long { OnFalse result (1024 < length (self.old.line ++ take count self.old.unread)) }
+    {
+        let fits = self
+            .line
+            .try_extend_from_slice(&self.chunk.left()[..count])
+            .is_ok();
+        self.chunk.take(count);
+        fits
+    }
+
+    // Takes the bytes in front of a line feed, and that.
+    fn take_line(&mut self, at: usize) -> Part
+        requires { position (λ b. b == 10) self.old.unread ≡ Some at }
+        ensures { TakesPart self.old self.new result }
+    {
+        if !self.take_front(at) {
+            return Part::TooLong;
+        }
+        self.skip(1);
+        Part::Ended
+    }
+
+    // Takes all that is unread, which has no line feed.
+    fn take_all(&mut self) -> Part
+        requires { position (λ b. b == 10) self.old.unread ≡ None }
+        ensures { TakesPart self.old self.new result }
+    {
+        if self.take_front(self.unread_len()) {
+            Part::GoesOn
+        } else {
+            Part::TooLong
+        }
+    }
+
     // Puts what is unread of the line, up to a line feed, behind what there is of it.
     fn take_part(&mut self) -> Part
         ensures { TakesPart self.old self.new result }
     {
-        while let Some(byte) = self.chunk.next() {
-            if byte == b'\n' {
-                return Part::Ended;
-            }
-            if self.line.is_full() {
-                return Part::TooLong;
-            }
-            self.line.push(byte);
+        match self.feed() {
+            Some(at) => self.take_line(at),
+            None => self.take_all(),
         }
-        Part::GoesOn
     }
 
     // The next line, if it isn't one too many.
@@ -173,12 +232,16 @@ impl ScriptReader {
         ensures line { self.new.line ≡ self.old.line }
         ensures skipped { SkipsPart self.old.unread self.new.unread result }
     {
-        while let Some(byte) = self.chunk.next() {
-            if byte == b'\n' {
-                return true;
+        match self.feed() {
+            Some(at) => {
+                self.skip(at + 1);
+                true
+            }
+            None => {
+                self.skip(self.unread_len());
+                false
             }
         }
-        false
     }
 
     // Takes what is left of a line, with its line feed, if it has one.

@@ -1,12 +1,11 @@
--- What is reached, and what is below.
-use Rattle.std.proofs.Common.{◌≡◌, ℕ, zero, suc, ◌+◌, ◌*◌, ◌<◌, ◌==◌, ◌&&◌, Bool, true, false, cond, List, [], ◌∷◌, length, Option, Some, None, ◌⊎◌, inl, inr, refl, sym, ap, subst, ◌∙◌, arith, is_some, slice_get}
+-- Names, places, and what a class names.
+use Rattle.std.proofs.Common.{◌≡◌, ℕ, zero, suc, ◌<◌, ◌==◌, ◌&&◌, Bool, true, false, cond, List, [], ◌∷◌, length, Option, Some, None, ◌⊎◌, inl, inr, refl, sym, ap, subst, ◌∙◌, arith, is_some, slice_get}
 use Rattle.std.proofs.lemmas.Bool.{eqb-true, eq-eqb, lt-ltb}
 use Rattle.std.proofs.lemmas.List.Folds.{find_at}
 use Rattle.std.proofs.lemmas.Option.{slice_get_within}
 use Rattle.std.specs.List.{filter_map, cons_option, find, position, position_or_len}
-use Rattle.std.specs.Option.{option_map, option_and_then, option_map_or}
+use Rattle.std.specs.Option.{option_and_then, option_map_or}
 use Rattle.jc_base.proofs.Binding.{the_some, none_some, both_true}
-use Rattle.jc_base.specs.NumberSet.{has_number}
 use Rattle.jc_base.specs.declared.class_ref.ClassRef.{ClassRef}
 use Rattle.jc_cap_desc.specs.Shape.{ClassShape, Shape}
 use Rattle.jc_api.specs.Class.{class_of, number_of, package_of}
@@ -14,12 +13,11 @@ use Rattle.jc_api.specs.declared.class.ApiPackage.{ApiPackage}
 use Rattle.jc_api.specs.declared.class.ApiPackage.TheVariants.{Lang, Framework}
 use Rattle.jc_api.specs.declared.class.ApiClass.{ApiClass}
 use Rattle.jc_api.specs.declared.class.ApiClass.TheVariants.{Object, Throwable, Exception, RuntimeException, ArithmeticException, ArrayStoreException, ClassCastException, IndexOutOfBoundsException, ArrayIndexOutOfBoundsException, NegativeArraySizeException, NullPointerException, SecurityException, Shareable, CardRuntimeException, IsoException, SystemException, ApduException, Aid, Apdu, Applet, JcSystem, Util}
-use Rattle.jc_classes.proofs.Marking.{true_false}
-use Rattle.jc_classes.proofs.Passing.{some_of, package_there, IsPlaced, is_placed}
+use Rattle.jc_classes.proofs.Standing.{true_false, some_of, package_there, IsPlaced, is_placed}
 use Rattle.jc_classes.specs.Limits.{IsSmall}
 use Rattle.jc_names.specs.Names.{is_same_name}
-use Rattle.jc_classes.specs.PrivateSearch.{above, IsReached, start, next, place_in, place, IsMarked, IsClosure}
-use Rattle.jc_classes.specs.Subtype.{IsAmong, Lists, IsSubtype, same, object, by_superclass, by_interface}
+use Rattle.jc_classes.specs.PrivateSearch.{above, place}
+use Rattle.jc_classes.specs.Subtype.{IsAmong, Lists}
 use Rattle.jc_names.specs.Names.{api_home, home_of, offset_of}
 use Rattle.jc_classes.specs.World.{package_at, class_in, class_at, class_spelled, if_there, class_named, superclass_ref, listed_refs, superclass_of, interfaces_of}
 use Rattle.jc_names.specs.declared.name.ClassName.{ClassName}
@@ -137,19 +135,7 @@ list_edge world c d m = by_superclass_of (superclass_of world c)
     by_superclass_of None = m
     by_superclass_of (Some e) = inr m
 
--- what is below what was reached is below the class that it was reached from
-reached_on : (world : List Shape) (from d : ClassName) → IsReached world from d → (e : ClassName) → IsSubtype world d e → IsSubtype world from e
-reached_on world from _ start e s = s
-reached_on world from _ (next c d r m) e s = by_edge (edge world c d m) (reached_on world from c r e)
-  where
-    by_edge : (superclass_of world c ≡ Some d) ⊎ Lists world c d → (IsSubtype world c e → IsSubtype world from e) → IsSubtype world from e
-    by_edge (inl up) k = k (by_superclass c d e up s)
-    by_edge (inr up) k = k (by_interface c d e up s)
-
-pub reached_below : (world : List Shape) (from d : ClassName) → IsReached world from d → IsSubtype world from d
-reached_below world from d r = reached_on world from d r d (same d)
-
--- ---- all that is above is marked
+-- ---- what a class names is there
 
 named_there : (world : List Shape) (home : ℕ) (ref : ClassRef) (c : ClassName) → class_named world home ref ≡ Some c → (k : ClassShape) × (class_at world c ≡ Some k)
 named_there world home ref c e =
@@ -165,12 +151,6 @@ position_if_found p xs x e =
     let at : slice_get xs (position_or_len p xs) ≡ Some x = sym (find_at p xs) ∙ e in
     let less = slice_get_within xs (position_or_len p xs) x at in
     (position_or_len p xs, ap (λ b. cond b (Some (position_or_len p xs)) None) (lt-ltb (position_or_len p xs) (length xs) less))
-
-pub placed_if_there : (world : List Shape) (c : ClassName) (k : ClassShape) → class_at world c ≡ Some k → (n : ℕ) × (place world c ≡ Some n)
-placed_if_there world c k e =
-    let a = some_of (class_in (offset_of c)) (package_at world c) k e in
-    let p = position_if_found (λ (q : ClassShape). q.offset == offset_of c) (a.0).classes k a.2 in
-    (256 * home_of c + p.0, ap (option_and_then (place_in (home_of c) (offset_of c))) a.1 ∙ ap (option_map (λ i. 256 * home_of c + i)) p.1)
 
 among_there : (world : List Shape) (home : ℕ) (refs : List ClassRef) (c : ClassName) → IsAmong c (filter_map (class_named world home) refs) → (k : ClassShape) × (class_at world c ≡ Some k)
 among_there world home [] c m = absurd m
@@ -195,60 +175,3 @@ list_there world c d m = by_class (class_at world c) refl m
     by_class : (o : Option ClassShape) → class_at world c ≡ o → IsAmong d (option_map_or (λ k. filter_map (class_named world (home_of c)) (listed_refs k.body)) o []) → ((k : ClassShape) × (class_at world c ≡ Some k)) × ((k : ClassShape) × (class_at world d ≡ Some k))
     by_class None at m = absurd m
     by_class (Some k) at m = ((k, at), among_there world (home_of c) (listed_refs k.body) d m)
-
-pub edge_marked : (world : List Shape) (from : ClassName) (marks : List ℕ) (c d : ClassName) → IsClosure world from marks → (k : ClassShape) × (class_at world c ≡ Some k) → IsMarked world marks c → IsAmong d (above world c) → IsMarked world marks d
-edge_marked world from marks c d closure k marked m = let p = placed_if_there world c k.0 k.1 in closure.closed c p.0 p.1 (marked p.0 p.1) d m
-
-subtype_marked : (world : List Shape) (from : ClassName) (marks : List ℕ) (c e : ClassName) → IsClosure world from marks → (e ≡ Api Object → ⊥) → IsMarked world marks c → IsSubtype world c e → IsMarked world marks e
-subtype_marked world from marks _ _ closure other marked (same c) = marked
-subtype_marked world from marks _ _ closure other marked (object c) = absurd (other refl)
-subtype_marked world from marks _ _ closure other marked (by_superclass c d e s r) =
-    subtype_marked world from marks d e closure other (edge_marked world from marks c d closure (super_there world c d s).0 marked (super_edge world c d s)) r
-subtype_marked world from marks _ _ closure other marked (by_interface c i e m r) =
-    subtype_marked world from marks i e closure other (edge_marked world from marks c i closure (list_there world c i m).0 marked (list_edge world c i m)) r
-
-there_again : (world : List Shape) (d e : ClassName) → (k : ClassShape) × (class_at world d ≡ Some k) → d ≡ e → (n : ℕ) × (place world e ≡ Some n)
-there_again world d e k one = placed_if_there world e k.0 (ap (class_at world) (sym one) ∙ k.1)
-
-behind_edge : {A : Type 0} (world : List Shape) (d e : ClassName) → (k : ClassShape) × (class_at world d ≡ Some k) → (d ≡ e) ⊎ ((e ≡ Api Object) ⊎ ((n : ℕ) × (place world e ≡ Some n))) → A ⊎ ((e ≡ Api Object) ⊎ ((n : ℕ) × (place world e ≡ Some n)))
-behind_edge world d e k (inl one) = inr (inr (there_again world d e k one))
-behind_edge world d e k (inr r) = inr r
-
-subtype_there : (world : List Shape) (c e : ClassName) → IsSubtype world c e → (c ≡ e) ⊎ ((e ≡ Api Object) ⊎ ((n : ℕ) × (place world e ≡ Some n)))
-subtype_there world _ _ (same c) = inl refl
-subtype_there world _ _ (object c) = inr (inl refl)
-subtype_there world _ _ (by_superclass c d e s r) = behind_edge world d e (super_there world c d s).1 (subtype_there world d e r)
-subtype_there world _ _ (by_interface c i e m r) = behind_edge world i e (list_there world c i m).1 (subtype_there world i e r)
-
--- ---- the answers of is_subclass
-
-module _ (world : List Shape) (c e : ClassName) where
-  pub yes_itself : is_same_name c e ≡ true → IsSubtype world c e
-  yes_itself h = subst (IsSubtype world c) (name_is c e h) (same c)
-
-  pub yes_object : is_same_name e (Api Object) ≡ true → IsSubtype world c e
-  yes_object h = subst (IsSubtype world c) (sym (name_is e (Api Object) h)) (object c)
-
-  not_itself : is_same_name c e ≡ false → c ≡ e → ⊥
-  not_itself h one = true_false (sym (name_itself c) ∙ ap (is_same_name c) one ∙ h)
-
-  not_object : is_same_name e (Api Object) ≡ false → e ≡ Api Object → ⊥
-  not_object h one = true_false (sym (name_itself (Api Object)) ∙ ap (λ d. is_same_name d (Api Object)) (sym one) ∙ h)
-
-  pub not_anywhere : is_same_name c e ≡ false → is_same_name e (Api Object) ≡ false → place world e ≡ None → IsSubtype world c e → ⊥
-  not_anywhere h k none s = by_case (subtype_there world c e s)
-    where
-      by_case : (c ≡ e) ⊎ ((e ≡ Api Object) ⊎ ((n : ℕ) × (place world e ≡ Some n))) → ⊥
-      by_case (inl one) = not_itself h one
-      by_case (inr (inl one)) = not_object k one
-      by_case (inr (inr p)) = none_some p.0 (sym none ∙ p.1)
-
-  pub marked_below : (marks : List ℕ) (n : ℕ) → IsSmall world → IsClosure world c marks → place world e ≡ Some n → has_number marks n ≡ true → IsSubtype world c e
-  marked_below marks n small closure at has =
-      let p = is_placed world e n small at in
-      let l = slice_get_within world (home_of e) p.shape (package_there world e p.shape p.home) in
-      let r = closure.sound n (omega (arith, p.place, p.small, l, small.packages)) has in
-      subst (IsSubtype world c) (one_place world r.0 e n small r.1 at) (reached_below world c r.0 r.2)
-
-  pub below_marked : (marks : List ℕ) (n : ℕ) → IsClosure world c marks → is_same_name e (Api Object) ≡ false → place world e ≡ Some n → IsSubtype world c e → has_number marks n ≡ true
-  below_marked marks n closure k at s = subtype_marked world c marks c e closure (not_object k) closure.start s n at

@@ -7,7 +7,7 @@ use Rattle.jc_classes.specs.Methods.{package_visible, virtual_method_of}
 use Rattle.jc_classes.specs.PrivatePlaces.{place_at}
 use Rattle.jc_classes.specs.PrivateTables.{IsTabled, Tabled, row_at}
 use Rattle.jc_classes.specs.Subtype.{has_whole_chain}
-use Rattle.jc_classes.proofs.Marking.{true_false}
+use Rattle.jc_classes.proofs.Standing.{true_false}
 use Rattle.jc_names.specs.declared.name.ClassName.{ClassName}
 
 module _ (world : List Shape) (c : ClassName) (table : Tabled) (is : IsTabled world c table) where

@@ -11,8 +11,7 @@ use Rattle.jc_api.specs.Class.{number_of, package_of}
 use Rattle.jc_api.specs.declared.class.ApiClass.{ApiClass}
 use Rattle.jc_classes.proofs.Below.{position_if_found, class_of_place, numbered_again, api_low, super_there}
 use Rattle.jc_classes.proofs.Growing.{name_home}
-use Rattle.jc_classes.proofs.Marking.{true_false, either_false}
-use Rattle.jc_classes.proofs.Passing.{some_of, position_is, package_there, stands_there}
+use Rattle.jc_classes.proofs.Standing.{true_false, either_false, some_of, position_is, package_there, stands_there}
 use Rattle.jc_classes.proofs.Tabling.{index_within, placed_index, one_class}
 use Rattle.jc_classes.proofs.Walking.{most_is}
 use Rattle.jc_classes.specs.Limits.{IsSmall}

@@ -14,7 +14,7 @@ use Rattle.jc_cap.specs.declared.record.VirtualTable.{VirtualTable}
 use Rattle.jc_cap_desc.specs.Shape.{ClassShape, Shape}
 use Rattle.jc_api.specs.Class.{class_of, package_of}
 use Rattle.jc_api.specs.declared.class.ApiClass.{ApiClass}
-use Rattle.jc_classes.proofs.Passing.{some_of, position_is}
+use Rattle.jc_classes.proofs.Standing.{some_of, position_is}
 use Rattle.jc_classes.specs.Growth.{grown, IsWithin, KeepsLookups}
 use Rattle.jc_names.specs.Names.{method_home, method_offset}
 use Rattle.jc_classes.specs.Members.{declared_in, method_at}

@@ -12,7 +12,7 @@ use Rattle.jc_api.specs.Member.{ApiMember, member_of}
 use Rattle.jc_api.specs.declared.class.ApiClass.TheVariants.{Object}
 use Rattle.jc_classes.proofs.Below.{api_low, name_itself}
 use Rattle.jc_classes.proofs.Growing.{adding_keeps, get_before, listed_within, name_home, superclass_within}
-use Rattle.jc_classes.proofs.Passing.{some_of, package_there}
+use Rattle.jc_classes.proofs.Standing.{some_of, package_there}
 use Rattle.jc_classes.proofs.Superclasses.{above_more, below_object, met, walked_up}
 use Rattle.jc_classes.proofs.Walking.{most_is}
 use Rattle.jc_classes.proofs.Ways.{below_is_found, found_is}

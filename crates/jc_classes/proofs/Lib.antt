@@ -7,14 +7,11 @@ mod Placing
 mod Tabling
 mod Filling
 mod Walking
-mod Marking
-mod Passing
+mod Standing
 mod Below
 mod Rounds
-mod Least
 mod Superclasses
 mod Meeting
-mod Implemented
 mod Ways
 mod Extending
 mod Nearing

@@ -5,7 +5,7 @@ use Rattle.jc_base.proofs.Binding.{none_some}
 use Rattle.jc_cap_desc.specs.Shape.{Shape}
 use Rattle.jc_api.specs.declared.class.ApiClass.TheVariants.{Object}
 use Rattle.jc_classes.proofs.Below.{name_is, name_itself}
-use Rattle.jc_classes.proofs.Marking.{true_false}
+use Rattle.jc_classes.proofs.Standing.{true_false}
 use Rattle.jc_classes.proofs.Superclasses.{met, above_it, above_more, found_by, ends_above, way_up, below_object, walked_up, itself, on_through, is_order}
 use Rattle.jc_classes.proofs.Walking.{most_is}
 use Rattle.jc_names.specs.Names.{is_same_name}

@@ -1,7 +1,7 @@
 -- How far above a class another one can stand, by where the superclasses of both come to an end.
 use Rattle.std.proofs.Common.{◌≡◌, ℕ, zero, suc, ◌+◌, ◌≤◌, ◌<◌, ◌⊎◌, inl, inr, Bool, true, false, List, Some}
 use Rattle.std.proofs.Common.{refl, sym, ap, ◌∙◌, arith}
-use Rattle.jc_classes.proofs.Marking.{true_false}
+use Rattle.jc_classes.proofs.Standing.{true_false}
 use Rattle.jc_cap_desc.specs.Shape.{Shape}
 use Rattle.jc_classes.specs.PrivateTables.{IsTabled, Tabled}
 use Rattle.jc_classes.specs.Subtype.{comes_to_end, is_at_or_above}

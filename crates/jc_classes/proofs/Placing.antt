@@ -8,7 +8,7 @@ use Rattle.std.specs.List.{find, list_any, position, position_or_len, position_f
 use Rattle.std.specs.Option.{option_map, option_and_then, option_or}
 use Rattle.jc_cap.specs.ClassComponent.{is_class}
 use Rattle.jc_cap_desc.specs.Shape.{ClassShape, MethodShape, Shape}
-use Rattle.jc_classes.proofs.Passing.{position_is}
+use Rattle.jc_classes.proofs.Standing.{position_is}
 use Rattle.jc_classes.specs.Members.{DeclaredMethod, declared_in, name_of}
 use Rattle.jc_classes.specs.Methods.{method_of_class}
 use Rattle.jc_classes.specs.PrivatePlaces.{place_at, PlacedMethod, placed, first_method, led_to, place_or, position_in}

@@ -1,19 +1,21 @@
 -- Walks up the superclasses: what they find, that they may end where they come round, and the order that they make.
-use Rattle.std.proofs.Common.{◌≡◌, ◌↔◌, ℕ, zero, suc, ◌+◌, ◌≤◌, ◌⊎◌, inl, inr, ◌||◌, Bool, true, false, Option, Some, None, List, refl, sym, ap, subst, ◌∙◌, arith}
-use Rattle.std.specs.Option.{option_map_or}
+use Rattle.std.proofs.Common.{◌≡◌, ◌↔◌, ℕ, zero, suc, ◌+◌, ◌≤◌, ◌⊎◌, inl, inr, ◌||◌, Bool, true, false, Option, Some, None, List, not, refl, sym, ap, subst, ◌∙◌, arith}
+use Rattle.std.specs.Option.{option_and_then, option_map_or}
 use Rattle.jc_base.proofs.Binding.{none_some}
-use Rattle.jc_cap_desc.specs.Shape.{Shape}
+use Rattle.jc_cap.specs.ClassComponent.{is_class}
+use Rattle.jc_cap.specs.declared.record.RecordBody.{RecordBody}
+use Rattle.jc_cap.specs.declared.record.RecordBody.TheVariants.{Interface, Class}
+use Rattle.jc_cap_desc.specs.Shape.{ClassShape, Shape}
 use Rattle.jc_api.specs.declared.class.ApiClass.TheVariants.{Object}
 use Rattle.jc_classes.proofs.Below.{name_is, name_itself}
-use Rattle.jc_classes.proofs.Least.{above_interface}
-use Rattle.jc_classes.proofs.Marking.{true_false}
+use Rattle.jc_classes.proofs.Standing.{true_false}
 use Rattle.jc_classes.proofs.Rounds.{comes_round, keeps_on}
 use Rattle.jc_classes.proofs.Walking.{most_is}
-use Rattle.jc_names.specs.Names.{is_same_name}
+use Rattle.jc_names.specs.Names.{home_of, is_same_name}
 use Rattle.jc_classes.specs.PrivateWalk.{IsOnWalk}
-use Rattle.jc_classes.specs.Subtype.{IsSubtype, same, object, by_superclass, by_interface, is_class_at, comes_to_end, IsOrderly, IsOrder, is_at_or_above, is_class_below}
+use Rattle.jc_classes.specs.Subtype.{IsSubtype, same, object, by_superclass, by_interface, is_class_at, is_interface_at, comes_to_end, IsOrderly, IsOrder, is_at_or_above, is_class_below}
 use Rattle.jc_classes.specs.Walk.{most_classes}
-use Rattle.jc_classes.specs.World.{superclass_of}
+use Rattle.jc_classes.specs.World.{class_at, class_named, superclass_of, superclass_ref}
 use Rattle.jc_names.specs.declared.name.ClassName.{ClassName}
 use Rattle.jc_names.specs.declared.name.ClassName.TheVariants.{Api}
 
@@ -193,6 +195,36 @@ climbs world (suc n) d c h = by_way (found_by world d c n h) (λ s. climbs world
     by_way : (c ≡ d) ⊎ ((s : ClassName) × (superclass_of world c ≡ Some s) × (is_at_or_above world n d s ≡ true)) → ((s : ClassName) → is_at_or_above world n d s ≡ true → IsSubtype world s d) → IsSubtype world c d
     by_way (inl is) rest = subst (IsSubtype world c) is (same c)
     by_way (inr r) rest = by_superclass c r.0 d r.1 (rest r.0 r.2)
+
+not_both : (world : List Shape) (c : ClassName) → is_interface_at world c ≡ true → is_class_at world c ≡ true → ⊥
+not_both world c i k = by_class (class_at world c) i k
+  where
+    by_body : (b : Bool) → not b ≡ true → b ≡ true → ⊥
+    by_body true i k = true_false (sym i)
+    by_body false i k = true_false (sym k)
+
+    by_class : (o : Option ClassShape) → option_map_or (λ x. not (is_class x.body)) o false ≡ true → option_map_or (λ x. is_class x.body) o false ≡ true → ⊥
+    by_class None i k = true_false (sym i)
+    by_class (Some x) i k = by_body (is_class x.body) i k
+
+-- an interface has no superclass
+no_super : (world : List Shape) (c d : ClassName) → is_interface_at world c ≡ true → superclass_of world c ≡ Some d → ⊥
+no_super world c d i e = by_class (class_at world c) i e
+  where
+    by_body : (body : RecordBody) → not (is_class body) ≡ true → option_and_then (class_named world (home_of c)) (superclass_ref body) ≡ Some d → ⊥
+    by_body (Interface r) i e = none_some d e
+    by_body (Class r) i e = true_false (sym i)
+
+    by_class : (o : Option ClassShape) → option_map_or (λ x. not (is_class x.body)) o false ≡ true → option_and_then (class_named world (home_of c)) (option_and_then (λ x. superclass_ref x.body) o) ≡ Some d → ⊥
+    by_class None i e = true_false (sym i)
+    by_class (Some x) i e = by_body x.body i e
+
+-- of classes only Object is above an interface
+pub above_interface : (world : List Shape) (i e : ClassName) → IsOrderly world → is_interface_at world i ≡ true → is_class_at world e ≡ true → IsSubtype world i e → e ≡ Api Object
+above_interface world _ _ o i k (same c) = absurd (not_both world c i k)
+above_interface world _ _ o i k (object c) = refl
+above_interface world _ _ o i k (by_superclass c d e s r) = absurd (no_super world c d i s)
+above_interface world _ _ o i k (by_interface c j e m r) = above_interface world j e o (o.interfaces c j m) k r
 
 -- a class that is above is Object, or is met along superclasses
 met_above : (world : List Shape) (n : ℕ) (c d : ClassName) → IsOrderly world → is_class_at world d ≡ true → comes_to_end world n c ≡ true → IsSubtype world c d → (Api Object ≡ d) ⊎ (is_at_or_above world n d c ≡ true)

@@ -20,8 +20,7 @@ use Rattle.jc_cap_desc.specs.Shape.{ClassShape, Shape}
 use Rattle.jc_classes.proofs.Growing.{get_before, packages_keep, classes_keep, superclasses_keep, superclass_within}
 use Rattle.jc_classes.proofs.Growing.{virtual_methods_keep, listings_found_keep}
 use Rattle.jc_classes.proofs.Below.{one_place}
-use Rattle.jc_classes.proofs.Passing.{some_of, package_there}
-use Rattle.jc_classes.proofs.Marking.{true_false}
+use Rattle.jc_classes.proofs.Standing.{some_of, package_there, true_false}
 use Rattle.jc_classes.proofs.Walking.{most_is}
 use Rattle.jc_classes.specs.Growth.{grown, IsWithin}
 use Rattle.jc_classes.specs.Limits.{IsSmall}

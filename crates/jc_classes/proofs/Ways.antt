@@ -11,7 +11,7 @@ use Rattle.jc_cap_desc.specs.Shape.{ClassShape, Shape}
 use Rattle.jc_api.specs.declared.class.ApiClass.TheVariants.{Object}
 use Rattle.jc_classes.proofs.Below.{edge, list_edge, list_there, name_is, name_itself, super_edge, super_there}
 use Rattle.jc_classes.proofs.Filling.{is_index, there_index}
-use Rattle.jc_classes.proofs.Marking.{true_false}
+use Rattle.jc_classes.proofs.Standing.{true_false}
 use Rattle.jc_classes.proofs.Superclasses.{found_by, way_up}
 use Rattle.jc_classes.proofs.Tabling.{one_class}
 use Rattle.jc_classes.proofs.Walking.{most_is}

@@ -57,13 +57,6 @@ pub record IsOrderly (world : List Shape) : Type 0 where
   pub ends : (c : ClassName) → comes_to_end world most_classes c ≡ true
   pub interfaces : (c i : ClassName) → Lists world c i → is_interface_at world i ≡ true
 
--- a class is above both of two, and below each other class that is
-pub record IsLeastAbove (world : List Shape) (one other above : ClassName) : Type 0 where
-  pub first : IsSubtype world one above
-  pub second : IsSubtype world other above
-  pub least : (e : ClassName) → is_class_at world e ≡ true → IsSubtype world one e → IsSubtype world other e
-      → IsSubtype world above e
-
 -- whether a class is another one or a superclass of it, within so many classes
 abbrev pub is_at_or_above : List Shape → ℕ → ClassName → ClassName → Bool
 is_at_or_above world zero d c = false

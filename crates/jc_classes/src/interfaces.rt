@@ -1,6 +1,6 @@
 //! Look-ups of the methods of interfaces.
 
-ghost use Rattle.std.specs.Prelude.{◌≡◌, ◌+◌, ◌≤◌};
+ghost use Rattle.std.specs.Prelude.{◌≡◌, ◌+◌};
 ghost use Rattle.std.specs.Option.{option_map};
 ghost use Rattle.jc_classes.specs.Methods.{is_this, row_for, listing_visit, interface_visit, virtual_method_of};
 ghost use Rattle.jc_classes.specs.Methods.{interface_method_of};
@@ -18,7 +18,7 @@ use jc_names::{ClassName, MethodName, PackagePlace};
 
 impl ClassTable {
     /// Whether a reference, as it is spelled in the package that stands there, names a class.
-    pub(crate) fn names(&self, class: ClassName, home: PackagePlace, reference: ClassRef) -> bool
+    fn names(&self, class: ClassName, home: PackagePlace, reference: ClassRef) -> bool
         ensures { result ≡ is_this class (class_named self.now home reference) }
     {
         match self.class_named(home, reference) {

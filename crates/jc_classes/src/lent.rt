@@ -2,7 +2,6 @@
 
 ghost use Rattle.std.specs.Prelude.{◌≡◌, slice_get};
 ghost use Rattle.jc_cap.specs.ClassComponent.{is_class};
-ghost use Rattle.jc_classes.specs.PrivateShape.{record_of};
 ghost use Rattle.jc_classes.specs.Record.{declared_size, public_entries, package_entries, superinterfaces};
 ghost use Rattle.jc_classes.specs.Record.{interface_rows};
 ghost use Rattle.jc_classes.specs.World.{superclass_ref, listed_refs};
@@ -174,6 +173,13 @@ impl Class {
 }
 
 impl ImplementedInterface {
+    /// The interface, as it is spelled.
+    pub fn interface(&self) -> ClassRef
+        ensures { result ≡ self.now.interface }
+    {
+        self.interface
+    }
+
     /// The class's virtual tokens of the interface's methods, by the interface's tokens.
     pub fn indexes(&self) -> &[u8]
         ensures { result.now ≡ self.now.indexes }

@@ -1,6 +1,6 @@
 //! The packages of a world.
 
-ghost use Rattle.std.specs.Prelude.{◌≡◌, ◌<◌, ◌≤◌, List, [], length, bytes_eq, slice_get, IfOk, IfErr, IfSome};
+ghost use Rattle.std.specs.Prelude.{◌≡◌, ◌<◌, ◌≤◌, ◌==◌, List, [], length, bytes_eq, slice_get, IfOk, IfErr, IfSome};
 ghost use Rattle.std.specs.List.{position};
 ghost use Rattle.std.specs.Option.{option_map, option_map_or};
 ghost use Rattle.jc_cap_desc.specs.Shape.{Shape};
@@ -13,6 +13,7 @@ ghost use Rattle.jc_classes.specs.PrivateShape.{record_of};
 ghost use Rattle.jc_classes.specs.Limits.{IsSmall, most_packages, most_classes_of_one};
 
 use crate::copies::all_shared;
+use crate::places::place_at;
 use crate::shape::{Body, Class, PackageShape};
 use jc_base::{Aid, ClassRef, PackageInfo, Shared};
 use jc_names::{ClassName, PackagePlace, name_in};
@@ -38,6 +39,23 @@ impl Model for Shapes {
 }
 
 impl PackageShape {
+    /// Which of its classes stands at an offset.
+    #[tactic(auto, using(crate::proofs::Placing::position_within))]
+    pub(crate) fn index_of(&self, offset: u16) -> Option<usize>
+        ensures found { result ≡ position (λ k. k.offset == offset) self.now.classes }
+        ensures within { IfSome result (λ i. i < length self.now.classes) }
+    {
+        let place = place_at(&self.class_places, usize::from(offset))?;
+        Some(usize::from(place))
+    }
+
+    /// The class with an index.
+    pub(crate) fn class_with(&self, index: usize) -> Option<&Class>
+        ensures { option_map (λ k. k.now) result ≡ slice_get self.now.classes index }
+    {
+        self.classes.get(index)
+    }
+
     /// The class at an offset.
     #[tactic(auto, using(crate::proofs::Placing::found_there, crate::proofs::Placing::none_there))]
     pub(crate) fn class_in(&self, offset: u16) -> Option<&Class>

@@ -1,9 +1,9 @@
 //! Which class is below which.
 
-ghost use Rattle.std.specs.Prelude.{◌≡◌, ◌⊎◌, ◌↔◌, true, IsTrue, None, List};
+ghost use Rattle.std.specs.Prelude.{◌≡◌, ◌↔◌, true, None, List};
 ghost use Rattle.jc_cap_desc.specs.Shape.{Shape};
 ghost use Rattle.jc_classes.specs.Limits.{IsSmall};
-ghost use Rattle.jc_classes.specs.Subtype.{IsSubtype, IsOrderly, IsLeastAbove, IsOrder, IsClassLattice, is_at_or_above};
+ghost use Rattle.jc_classes.specs.Subtype.{IsSubtype, IsOrderly, IsOrder, IsClassLattice, is_at_or_above};
 ghost use Rattle.jc_classes.specs.Subtype.{is_class_at, is_class_below, is_subtype, common_class, classes_above};
 ghost use Rattle.jc_classes.specs.Walk.{most_classes};
 ghost use Rattle.jc_classes.specs.World.{superclass_of};
@@ -56,69 +56,11 @@ impl ClassTable {
         false
     }
 
-    /// Whether a class is another one or below it, along superclasses; Object is above all. Where classes are in order
-    /// and the other one is a class, `is_subclass` says the same.
+    /// Whether a class is another one or below it, along superclasses; Object is above all.
     pub fn is_class_below(&self, class: ClassName, above: ClassName) -> bool
         ensures { result ≡ is_class_below self.now class above }
     {
         OBJECT.is(above) || self.is_at_or_above(above, class)
-    }
-
-    /// Whether a class or interface is another one or below it (Java Card Virtual Machine Specification, Verification
-    /// types): Object is above all, and else its superclass and the interfaces that it lists are above it, and what is
-    /// above these. There may be cycles of superclasses and interfaces.
-    pub fn is_subclass(&self, class: ClassName, above: ClassName) -> bool
-        ensures { IsTrue result ↔ IsSubtype self.now class above }
-    {
-        if class.is(above) {
-            return true;
-        }
-        if above.is(OBJECT) {
-            return true;
-        }
-        let marks = self.closure(class);
-        match self.place(above) {
-            Some(place) => marks.contains(place),
-            None => false,
-        }
-    }
-
-    /// Whether a class stands there, and not an interface.
-    fn is_class(&self, class: ClassName) -> bool
-        ensures { result ≡ is_class_at self.now class }
-    {
-        match self.class_at(class) {
-            Some(found) => found.is_class(),
-            None => false,
-        }
-    }
-
-    /// Whether a class stands there that is above another one.
-    fn is_class_above(&self, above: ClassName, class: ClassName) -> bool
-        ensures { IsTrue result ↔ (is_class_at self.now above ≡ true × IsSubtype self.now class above) }
-    {
-        self.is_class(above) && self.is_subclass(class, above)
-    }
-
-    /// A class that is above both of two: the nearest one above the first, or Object. Where no class's superclasses
-    /// lead round and what is listed as an interface is one, it is the least that is above both.
-    pub fn common_super(&self, one: ClassName, other: ClassName) -> ClassName
-        ensures first { IsSubtype self.now one result }
-        ensures second { IsSubtype self.now other result }
-        ensures there { (is_class_at self.now result ≡ true) ⊎ (result ≡ ClassName.Api ApiClass.Object) }
-        ensures least { IsOrderly self.now → IsLeastAbove self.now one other result }
-    {
-        let mut at = one;
-        for _ in 0..MOST_CLASSES {
-            if self.is_class_above(at, other) {
-                return at;
-            }
-            match self.superclass_of(at) {
-                Some(above) => at = above,
-                None => return OBJECT,
-            }
-        }
-        OBJECT
     }
 
     /// The nearest class above both of two, along superclasses: the first on the way up from the one that the other is

@@ -1,9 +1,8 @@
 //! The table of a world's classes.
 
 ghost use Rattle.std.specs.Prelude.{◌≡◌, ◌-◌, ◌<◌, ◌≤◌, length, slice_get, IfSome};
-ghost use Rattle.std.specs.Option.{option_map, option_map_or};
+ghost use Rattle.std.specs.Option.{option_map};
 ghost use Rattle.jc_classes.specs.Limits.{IsSmall, most_packages, most_classes_of_one};
-ghost use Rattle.jc_classes.specs.PrivateSearch.{class_placed};
 ghost use Rattle.jc_names.specs.Names.{home_of};
 ghost use Rattle.jc_classes.specs.World.{package_at, class_at, import_of, loaded_with, class_named, superclass_of};
 
@@ -106,20 +105,5 @@ impl ClassTable {
         ensures { result ≡ superclass_of self.now class }
     {
         self.shapes.superclass_of(class)
-    }
-
-    /// The class with an index in the package that stands there.
-    pub(crate) fn class_placed(&self, home: PackagePlace, index: usize) -> Option<&Class>
-        ensures { option_map (λ k. k.now) result ≡ class_placed self.now home index }
-    {
-        self.shapes.class_placed(home, index)
-    }
-
-    /// How many classes the package has that stands there.
-    pub(crate) fn class_count(&self, home: PackagePlace) -> usize
-        ensures count { result ≡ option_map_or (λ s. length s.classes) (slice_get self.now home) 0 }
-        ensures few { result ≤ most_classes_of_one }
-    {
-        self.shapes.class_count(home)
     }
 }

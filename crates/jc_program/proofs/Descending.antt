@@ -1,8 +1,9 @@
 -- What is above a class by its supertypes, and by superclasses alone.
 use Rattle.std.proofs.Common.{◌≡◌, ◌⊎◌, inl, inr, ℕ, suc, ◌||◌, Bool, true, false, not, List, Option, Some, None}
-use Rattle.std.proofs.Common.{refl, sym, ap, ◌∙◌}
+use Rattle.std.proofs.Common.{slice_get, is_some, refl, sym, ap, ◌∙◌, arith}
 use Rattle.std.specs.Option.{option_map_or}
-use Rattle.jc_api.specs.declared.class.ApiClass.TheVariants.{Object}
+use Rattle.jc_api.specs.declared.class.ApiClass.TheVariants.{Object, Shareable}
+use Rattle.jc_base.proofs.Binding.{none_some}
 use Rattle.jc_cap.specs.ClassComponent.{is_class}
 use Rattle.jc_cap_desc.specs.Shape.{ClassShape, Shape}
 use Rattle.jc_classes.specs.Subtype.{IsSubtype, by_interface, by_superclass, is_at_or_above, is_class_at}
@@ -13,7 +14,9 @@ use Rattle.jc_link.specs.Sound.{IsSound}
 use Rattle.jc_names.specs.Names.{is_same_name}
 use Rattle.jc_names.specs.declared.name.ClassName.{ClassName}
 use Rattle.jc_names.specs.declared.name.ClassName.TheVariants.{Api}
+use Rattle.jc_program.specs.Classes.{class_names, class_number}
 use Rattle.jc_program.proofs.Chaining.{most_is}
+use Rattle.jc_program.proofs.Counting.{numbered}
 use Rattle.jc_program.proofs.Same.{name_itself, true_false}
 
 module _ (world : List Shape) (sound : IsSound world) where
@@ -42,6 +45,29 @@ module _ (world : List Shape) (sound : IsSound world) where
       by_rest (inr one) =
           let there = sound.superclasses.orderly.interfaces b i lists in let gone = no_interface e none in
           true_false (sym there ∙ ap (is_interface_at world) one ∙ gone)
+
+  -- no class is below Shareable where that has no number
+  pub not_shareable : ((c d : ClassName) → is_subtype world c d ≡ true → IsSubtype world c d)
+      → class_number (class_names world) (Api Shareable) ≡ None → (n : ℕ) (c : ClassName)
+      → slice_get (class_names world) n ≡ Some c → false ≡ is_subtype world c (Api Shareable)
+  not_shareable found gone n c at = by_test (is_subtype world c (Api Shareable)) refl
+    where
+      no_shareable : (o : Option ClassShape) → class_at world (Api Shareable) ≡ o → class_at world (Api Shareable) ≡ None
+      no_shareable None e = e
+      no_shareable (Some k) e =
+          let number = (numbered world).numbers (Api Shareable) k (omega arith) e in
+          absurd (none_some number.number (sym gone ∙ number.found))
+
+      by_place : (Api Object ≡ Api Shareable) ⊎ (c ≡ Api Shareable) → false ≡ true
+      by_place (inl other) = absurd cc
+      by_place (inr one) =
+          true_false (sym ((numbered world).classes n c at) ∙ ap (λ d. is_some (class_at world d)) one
+          ∙ ap is_some (no_shareable (class_at world (Api Shareable)) refl))
+
+      by_test : (b : Bool) → is_subtype world c (Api Shareable) ≡ b → false ≡ b
+      by_test false e = refl
+      by_test true e = by_place (nowhere c (Api Shareable) (found c (Api Shareable) e)
+          (no_shareable (class_at world (Api Shareable)) refl))
 
   -- by superclasses both are above too
   or_true : (b : Bool) → (b || true) ≡ true

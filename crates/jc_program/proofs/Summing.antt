@@ -1,20 +1,17 @@
 -- Cells of objects, superclass by superclass, and the rows of classes.
-use Rattle.std.proofs.Common.{◌≡◌, ◌⊎◌, inl, inr, ℕ, zero, suc, ◌+◌, ◌<◌, ◌≤◌, Bool, true, false, ◌↔◌}
+use Rattle.std.proofs.Common.{◌≡◌, ◌⊎◌, inl, inr, ℕ, zero, suc, ◌+◌, ◌<◌, ◌≤◌}
 use Rattle.std.proofs.Common.{List, [], ◌∷◌, ◌++◌, length}
 use Rattle.std.proofs.Common.{Some, None, slice_get, get_or, unwrap_or, refl, sym, ap, ◌∙◌, arith}
 use Rattle.std.proofs.Common.{length-append}
 use Rattle.std.proofs.lemmas.Bool.{cases_lt}
 use Rattle.std.proofs.lemmas.Option.{same_Some, slice_get_within, unwrap_or-slice_get}
 use Rattle.std.specs.Option.{option_map_or}
-use Rattle.jc_api.specs.declared.class.ApiClass.TheVariants.{Object}
 use Rattle.jc_cap_desc.specs.Shape.{Shape}
-use Rattle.jc_classes.specs.Subtype.{IsOrderly}
 use Rattle.jc_classes.specs.Walk.{most_classes}
 use Rattle.jc_classes.specs.World.{superclass_of}
 use Rattle.jc_link.specs.Named.{cells_above, size_of}
 use Rattle.jc_link.specs.Sound.{IsSound}
 use Rattle.jc_names.specs.declared.name.ClassName.{ClassName}
-use Rattle.jc_names.specs.declared.name.ClassName.TheVariants.{Api}
 use Rattle.jc_program.specs.ClassRows.{AreClassRows, cells_of, class_row_of, no_row, row_at}
 use Rattle.jc_program.specs.Classes.{class_number}
 use Rattle.jc_program.specs.PrivateClassRows.{HaveRows}
@@ -36,19 +33,6 @@ cells_alone world c e = let z = none_above most_classes in omega (arith, z)
 pub cells_up : (world : List Shape) (c d : ClassName) → IsSound world → superclass_of world c ≡ Some d
     → cells_of world c ≡ size_of world c + cells_of world d
 cells_up world c d sound e = let a = sound.fields.above c d e in omega (arith, a)
-
--- ---- two ways to say that a test passes, and superclasses of a world
-
-pub alike : (a b : Bool) (P : Type 0) → (a ≡ true ↔ P) → (b ≡ true → P) → (P → b ≡ true) → a ≡ b
-alike true b P one found all = sym (all (one.0 refl))
-alike false true P one found all = one.1 (found refl)
-alike false false P one found all = refl
-
-pub orderly : (world : List Shape) → IsSound world → IsOrderly world
-orderly world sound = sound.superclasses.orderly
-
-pub top : (world : List Shape) → IsSound world → superclass_of world (Api Object) ≡ None
-top world sound = sound.superclasses.top
 
 -- ---- rows
 

@@ -1,12 +1,13 @@
 //! What is asked of a world's classes, by number: a row of 8 bytes each.
 
-ghost use Rattle.std.specs.Prelude.{◌≡◌, ◌+◌, ◌<◌, ◌==◌, length, slice_get, Some, IfOk, IfSome};
+ghost use Rattle.std.specs.Prelude.{◌≡◌, ◌+◌, ◌<◌, ◌==◌, List, length, slice_get, Some, IfOk, IfSome};
 ghost use Rattle.jc_api.specs.declared.class.ApiClass.TheVariants.{Shareable};
-ghost use Rattle.jc_classes.specs.Limits.{IsSmall};
-ghost use Rattle.jc_classes.specs.Subtype.{is_class_at, is_interface_at, is_subtype};
+ghost use Rattle.jc_cap_desc.specs.Shape.{Shape};
+ghost use Rattle.jc_classes.specs.Subtype.{is_interface_at, is_subtype};
 ghost use Rattle.jc_link.specs.Named.{size_of};
 ghost use Rattle.jc_link.specs.Sound.{IsSound};
 ghost use Rattle.jc_program.specs.ClassRows.{AreClassRows, cells_of, class_row_of, row_at};
+ghost use Rattle.jc_program.specs.Classes.{class_names};
 ghost use Rattle.jc_program.specs.PrivateClassRows.{HaveRows};
 ghost use Rattle.jc_program.specs.Supertypes.{AreSupertypes};
 ghost use Rattle.jc_names.specs.declared.name.ClassName.{ClassName as Name};
@@ -111,49 +112,17 @@ fn cells_of(
     Err(AllocError)
 }
 
-/// Whether a class stands there, and not an interface.
-fn is_class_at(table: &ClassTable, class: ClassName) -> bool
-    ensures { result ≡ is_class_at table.now class }
-{
-    match table.class_at(class) {
-        Some(found) => found.is_class(),
-        None => false,
-    }
-}
-
-/// Whether a class is another one or below it. Below a class it is along superclasses, and they are walked; for an
-/// interface all classes are passed over.
-#[tactic(auto, using(crate::proofs::Summing::alike, crate::proofs::Summing::orderly, crate::proofs::Summing::top))]
-fn is_subtype(table: &ClassTable, class: ClassName, above: ClassName) -> bool
-    requires small { IsSmall table.now }
-    requires sound { IsSound table.now }
-    ensures { result ≡ is_subtype table.now class above }
+/// Whether the class with a number is Shareable or below it: read from its row. Where Shareable has no number it isn't
+/// there, and no class is below it.
+fn is_shareable(classes: &Classes, supertypes: &Supertypes, number: ClassNumber) -> bool
+    ensures { (world : List Shape) → IsSound world → classes.now ≡ class_names world
+        → AreSupertypes world classes.now supertypes.now → (c : Name) → slice_get classes.now number ≡ Some c
+        → result ≡ is_subtype world c (Api Shareable) }
 {
     found_subtypes_are_subtypes();
-    if is_class_at(table, above) {
-        table.is_class_below(class, above)
-    } else {
-        table.is_subclass(class, above)
-    }
-}
-
-/// Whether the class with a number is Shareable or below it: read from its row, or found anew where Shareable has no
-/// number.
-fn is_shareable(
-    table: &ClassTable,
-    classes: &Classes,
-    supertypes: &Supertypes,
-    number: ClassNumber,
-) -> bool
-    requires small { IsSmall table.now }
-    requires sound { IsSound table.now }
-    requires above { AreSupertypes table.now classes.now supertypes.now }
-    requires there { number < length classes.now }
-    ensures { (c : Name) → slice_get classes.now number ≡ Some c → result ≡ is_subtype table.now c (Api Shareable) }
-{
     match classes.number_of(SHAREABLE) {
         Some(shareable) => supertypes.is_subtype(number, shareable),
-        None => is_subtype(table, classes.name(number), SHAREABLE),
+        None => false,
     }
 }
 
@@ -175,8 +144,8 @@ fn class_row_of(
     supertypes: &Supertypes,
     number: ClassNumber,
 ) -> Result<ClassRow, AllocError>
-    requires small { IsSmall table.now }
     requires sound { IsSound table.now }
+    requires names { classes.now ≡ class_names table.now }
     requires above { AreSupertypes table.now classes.now supertypes.now }
     requires made { HaveRows table.now classes.now (length rows.now) rows.now }
     requires there { number < length classes.now }
@@ -187,7 +156,7 @@ fn class_row_of(
     Ok(ClassRow {
         cells,
         is_interface: is_interface_at(table, class),
-        is_shareable: is_shareable(table, classes, supertypes, number),
+        is_shareable: is_shareable(classes, supertypes, number),
     })
 }
 
@@ -198,8 +167,8 @@ fn rows_of(
     classes: &Classes,
     supertypes: &Supertypes,
 ) -> Result<Vec<ClassRow>, AllocError>
-    requires small { IsSmall table.now }
     requires sound { IsSound table.now }
+    requires names { classes.now ≡ class_names table.now }
     requires above { AreSupertypes table.now classes.now supertypes.now }
     ensures { IfOk result (λ rows. HaveRows table.now classes.now (length classes.now) rows.items) }
 {
@@ -230,12 +199,13 @@ impl Model for ClassRows {
 impl ClassRows {
     /// The rows of these classes of a world, which have these supertypes.
     #[tactic(auto, using(crate::proofs::Summing::are_rows))]
-    pub fn new(
+    pub(crate) fn new(
         alloc: Global,
         world: &World,
         classes: &Classes,
         supertypes: &Supertypes,
     ) -> Result<ClassRows, AllocError>
+        requires names { classes.now ≡ class_names world.now.shapes }
         requires above { AreSupertypes world.now.shapes classes.now supertypes.now }
         ensures rows { IfOk result (λ rows. AreClassRows world.now.shapes classes.now rows) }
         ensures count { IfOk result (λ rows. length rows ≡ length classes.now) }

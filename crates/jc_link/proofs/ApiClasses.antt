@@ -14,7 +14,7 @@ use Rattle.jc_api.specs.NoClash.{HasNoClash}
 use Rattle.jc_api.specs.Numbered.{numbered}
 use Rattle.jc_api.specs.Token.{chain, is_at_or_above, is_same_class, is_same_package}
 use Rattle.jc_api.specs.declared.class.ApiClass.{ApiClass}
-use Rattle.jc_api.specs.declared.class.ApiClass.TheVariants.{Object, Throwable, Exception, RuntimeException, ArithmeticException, ArrayStoreException, ClassCastException, IndexOutOfBoundsException, ArrayIndexOutOfBoundsException, NegativeArraySizeException, NullPointerException, SecurityException, Shareable, CardRuntimeException, IsoException, SystemException, ApduException, Aid, Apdu, Applet, JcSystem, Util}
+use Rattle.jc_api.specs.declared.class.ApiClass.TheVariants.{Object}
 use Rattle.jc_api.specs.declared.class.ApiPackage.{ApiPackage}
 use Rattle.jc_api.specs.declared.class.ApiPackage.TheVariants.{Lang, Framework}
 use Rattle.jc_classes.specs.Api.{api_shape, api_world, class_in_api, class_shape_of, class_with, export_of, export_row, last_class, last_member, no_table, public_table, room_to, spelled_in}
@@ -122,27 +122,7 @@ above_itself c = ap (λ b. b || list_any (is_same_class c) (chain 21 (superclass
 short : (c : ApiClass) → chain 21 (Some c) ≡ chain 22 (Some c)
 unfolding chain
 short Object = refl
-short Throwable = refl
-short Exception = refl
-short RuntimeException = refl
-short ArithmeticException = refl
-short ArrayStoreException = refl
-short ClassCastException = refl
-short IndexOutOfBoundsException = refl
-short ArrayIndexOutOfBoundsException = refl
-short NegativeArraySizeException = refl
-short NullPointerException = refl
-short SecurityException = refl
-short Shareable = refl
-short CardRuntimeException = refl
-short IsoException = refl
-short SystemException = refl
-short ApduException = refl
-short Aid = refl
-short Apdu = refl
-short Applet = refl
-short JcSystem = refl
-short Util = refl
+short c = refl
 
 pub above_super : (a c d : ApiClass) → superclass_of c ≡ Some d → is_at_or_above a d ≡ true → is_at_or_above a c ≡ true
 unfolding is_at_or_above chain

@@ -42,7 +42,7 @@ pub numbered_within : {A : Type 0} (rows : List A) (n : ℕ) (x : A) → numbere
 numbered_within rows zero x e = absurd (none_some x e)
 numbered_within rows (suc n) x e = let h = within rows n x e in (omega arith, omega arith)
 
-there_at : {A : Type 0} (xs : List A) (n : ℕ) → n < length xs → (x : A) × (slice_get xs n ≡ Some x)
+pub there_at : {A : Type 0} (xs : List A) (n : ℕ) → n < length xs → (x : A) × (slice_get xs n ≡ Some x)
 there_at [] n h = absurd (omega arith)
 there_at (x ∷ xs) zero h = (x, refl)
 there_at (x ∷ xs) (suc n) h = there_at xs n (omega arith)

@@ -20,7 +20,7 @@ use Rattle.jc_api.specs.Member.{ApiMember, member_of, members}
 use Rattle.jc_api.specs.NoClash.{HasNoClash}
 use Rattle.jc_api.specs.Token.{is_same_class}
 use Rattle.jc_api.specs.declared.class.ApiClass.{ApiClass}
-use Rattle.jc_api.specs.declared.class.ApiPackage.{ApiPackage}
+use Rattle.jc_api.specs.declared.class.ApiClass.TheVariants.{Object}
 use Rattle.jc_classes.specs.Api.{api_shape, api_world, class_in_api, class_shape_of, declared_by, is_static, last_class, last_member, method_in, method_of, nargs_of, no_table, public_table, record_in, spelled_in, those_to}
 use Rattle.jc_classes.specs.Members.{DeclaredMethod, declared_in, method_at, name_of}
 use Rattle.jc_classes.specs.Methods.{has_method, method_of_class}
@@ -28,10 +28,11 @@ use Rattle.jc_names.specs.Names.{api_home}
 use Rattle.jc_names.specs.declared.name.ClassName.{ClassName}
 use Rattle.jc_names.specs.declared.name.ClassName.TheVariants as Names
 use Rattle.jc_names.specs.declared.name.MethodName.TheVariants.{Api}
-use Rattle.jc_link.proofs.ApiClasses.{class_itself, in_range, is_seen, named, named_again, number_is, package_there, same_class, shape_is, shape_there}
+use Rattle.jc_link.proofs.ApiClasses.{class_itself, class_there, in_range, is_seen, named, named_again, number_is, package_there, same_class, shape_is, shape_there}
 use Rattle.jc_link.proofs.ApiLists.{all_numbered, any_found, none_of, numbered_within, those_found, those_from}
 use Rattle.jc_link.proofs.GrownParts.{chosen_of, mapped, none_some, some_of, the_some}
-use Rattle.jc_link.proofs.Nones.{found_at, found_passes, left_true, not_true, right_true, there_some, true_false}
+use Rattle.jc_link.proofs.Nones.{found_at, found_passes, left_true, not_true, right_true, there_some}
+use Rattle.jc_link.specs.ApiClasses.{counted_name}
 use Rattle.jc_link.specs.Classes.{has_other_nargs, has_unknown_type, words_of}
 use Rattle.jc_link.specs.Found.{return_found, signature_found, type_found, types_found}
 use Rattle.jc_link.specs.MemberType.{counted, member_type_of, type_class}
@@ -137,16 +138,6 @@ module _ (bound : Bound) where
 
 -- ---- types
 
-there_twice : {A B C : Type 0} (f : A → B → C) (o : Option A) (p : Option B) → is_some o ≡ true → is_some p ≡ true
-    → is_some (option_and_then (λ a. option_map (f a) p) o) ≡ true
-there_twice f None p e g = true_false (sym e)
-there_twice f (Some a) None e g = true_false (sym g)
-there_twice f (Some a) (Some b) e g = refl
-
-there_mapped : {A B : Type 0} (f : A → B) (o : Option A) → is_some o ≡ true → is_some (option_map f o) ≡ true
-there_mapped f None e = true_false (sym e)
-there_mapped f (Some a) e = refl
-
 abbrev type_seen : (ApiClass → Bool) → DeclaredType ApiClass → Bool
 type_seen seen Boolean = true
 type_seen seen Byte = true
@@ -164,47 +155,72 @@ return_seen seen (Value type) = type_seen seen type
 abbrev signature_seen : (ApiClass → Bool) → Signature ApiClass → Bool
 signature_seen seen s = list_all (type_seen seen) s.parameters && return_seen seen s.result
 
--- where each class that is seen is found, each type of such classes is
-module _ (spell : ApiClass → ClassRef) (finds : ClassRef → Option ClassName) (seen : ApiClass → Bool)
-    (found : (c : ApiClass) → seen c ≡ true → is_some (finds (spell c)) ≡ true) where
-  type_there : (type : DeclaredType ApiClass) → type_seen seen type ≡ true → is_some (type_found finds (type_map spell type)) ≡ true
-  type_there Boolean e = refl
-  type_there Byte e = refl
-  type_there Short e = refl
-  type_there (Reference c) e = there_mapped Reference (finds (spell c)) (found c e)
-  type_there BooleanArray e = refl
-  type_there ByteArray e = refl
-  type_there ShortArray e = refl
-  type_there (ReferenceArray c) e = there_mapped ReferenceArray (finds (spell c)) (found c e)
+abbrev the_signature : List (DeclaredType ClassName) → ReturnType ClassName → Signature ClassName
+the_signature parameters result = record { parameters = parameters; result = result }
 
-  types_there : (types : List (DeclaredType ApiClass)) → list_all (type_seen seen) types ≡ true → is_some (types_found finds (map (type_map spell) types)) ≡ true
-  types_there [] e = refl
-  types_there (type ∷ types) e =
-      there_twice (λ t ts. t ∷ ts) (type_found finds (type_map spell type)) (types_found finds (map (type_map spell) types))
-      (type_there type (left_true (type_seen seen type) (list_all (type_seen seen) types) e))
-      (types_there types (right_true (type_seen seen type) (list_all (type_seen seen) types) e))
+-- where each class that is seen is found, so is each type of such classes
+module _ (find : ClassRef → Option ClassName) (spell : ApiClass → ClassRef) (seen : ApiClass → Bool)
+    (finds : (c : ApiClass) → seen c ≡ true → find (spell c) ≡ Some (counted_name c)) where
+  type_is : (t : DeclaredType ApiClass) → type_seen seen t ≡ true
+      → type_found find (type_map spell t) ≡ Some (type_map counted_name t)
+  type_is Boolean e = refl
+  type_is Byte e = refl
+  type_is Short e = refl
+  type_is (Reference c) e = ap (option_map Reference) (finds c e)
+  type_is BooleanArray e = refl
+  type_is ByteArray e = refl
+  type_is ShortArray e = refl
+  type_is (ReferenceArray c) e = ap (option_map ReferenceArray) (finds c e)
 
-  return_there : (result : ReturnType ApiClass) → return_seen seen result ≡ true → is_some (return_found finds (return_map spell result)) ≡ true
-  return_there Void e = refl
-  return_there (Value type) e = there_mapped Value (type_found finds (type_map spell type)) (type_there type e)
+  types_are : (ts : List (DeclaredType ApiClass)) → list_all (type_seen seen) ts ≡ true
+      → types_found find (map (type_map spell) ts) ≡ Some (map (type_map counted_name) ts)
+  types_are [] e = refl
+  types_are (t ∷ ts) e =
+      ap (option_and_then (λ u. option_map (λ us. u ∷ us) (types_found find (map (type_map spell) ts))))
+      (type_is t (left_true (type_seen seen t) (list_all (type_seen seen) ts) e))
+      ∙ ap (option_map (λ us. type_map counted_name t ∷ us))
+      (types_are ts (right_true (type_seen seen t) (list_all (type_seen seen) ts) e))
 
-  pub signature_there : (s : Signature ApiClass) → signature_seen seen s ≡ true → is_some (signature_found finds (signature_map spell s)) ≡ true
-  signature_there s e =
-      there_twice (λ parameters result. record { parameters = parameters; result = result }) (types_found finds (map (type_map spell) s.parameters))
-      (return_found finds (return_map spell s.result))
-      (types_there s.parameters (left_true (list_all (type_seen seen) s.parameters) (return_seen seen s.result) e))
-      (return_there s.result (right_true (list_all (type_seen seen) s.parameters) (return_seen seen s.result) e))
+  return_is : (r : ReturnType ApiClass) → return_seen seen r ≡ true
+      → return_found find (return_map spell r) ≡ Some (return_map counted_name r)
+  return_is Void e = refl
+  return_is (Value t) e = ap (option_map Value) (type_is t e)
+
+  signature_is : (s : Signature ApiClass) → signature_seen seen s ≡ true
+      → signature_found find (signature_map spell s) ≡ Some (signature_map counted_name s)
+  signature_is s e =
+      ap (option_and_then (λ (ps : List (DeclaredType ClassName)). option_map
+      (λ r. the_signature ps r) (return_found find (return_map spell s.result))))
+      (types_are s.parameters (left_true (list_all (type_seen seen) s.parameters) (return_seen seen s.result) e))
+      ∙ ap (option_map (λ r. the_signature (map (type_map counted_name) s.parameters) r))
+      (return_is s.result (right_true (list_all (type_seen seen) s.parameters) (return_seen seen s.result) e))
 
 module _ (bound : Bound) (clear : HasNoClash bound) where
-  type_class_there : (which : ApiPackage) (c : ApiClass) → is_seen which c ≡ true
-      → is_some (type_class (api_world bound) (api_home which) (spelled_in bound which c)) ≡ true
-  type_class_there which c e = ap (λ o. is_some (option_map (counted (api_world bound)) o)) (named bound clear which c e)
+  counts : (c : ApiClass) → counted (api_world bound) (Names.Api c) ≡ counted_name c
+  counts c =
+      ap (λ o. cond (option_map_or (λ (k : ClassShape). not (is_class k.body)) o false) (Names.Api Object)
+      (Names.Api c))
+      (class_there bound c)
+      ∙ ap (λ b. cond (not b) (Names.Api Object) (Names.Api c)) (class_body bound c)
+      ∙ twice (is_interface c)
+    where
+      twice : (b : Bool) → cond (not (not b)) (Names.Api Object) (Names.Api c) ≡ cond b (Names.Api Object) (Names.Api c)
+      twice true = refl
+      twice false = refl
+
+  pub member_type_is : (n : ℕ) (m : ApiMember) → member_of n ≡ Some m
+      → member_type_of (api_world bound) (api_home (package_of m.class)) (method_in bound n m).signature
+      ≡ Some (signature_map counted_name m.signature)
+  member_type_is n m e =
+      signature_is (type_class (api_world bound) (api_home (package_of m.class)))
+      (spelled_in bound (package_of m.class)) (is_seen (package_of m.class))
+      (λ c seen. ap (option_map (counted (api_world bound))) (named bound clear (package_of m.class) c seen)
+      ∙ ap Some (counts c))
+      m.signature (each_member (λ m. signature_seen (is_seen (package_of m.class)) m.signature) refl n m e)
 
   member_type_there : (n : ℕ) (m : ApiMember) → member_of n ≡ Some m
       → is_some (member_type_of (api_world bound) (api_home (package_of m.class)) (method_in bound n m).signature) ≡ true
-  member_type_there n m e =
-      signature_there (spelled_in bound (package_of m.class)) (type_class (api_world bound) (api_home (package_of m.class))) (is_seen (package_of m.class))
-      (type_class_there (package_of m.class)) m.signature (each_member (λ m. signature_seen (is_seen (package_of m.class)) m.signature) refl n m e)
+  member_type_there n m e = ap is_some (member_type_is n m e)
 
   pub types_known : (c : ApiClass) → has_unknown_type (api_world bound) (api_home (package_of c)) (class_in_api bound c) ≡ false
   types_known c =

@@ -102,7 +102,7 @@ member_below bound c d token m e i = record {
   its_token = i.its_token;
 }
 
-both_meet : (a b : ApiMember) → is_virtual a.kind ≡ true → is_virtual b.kind ≡ true → is_at_or_above a.class b.class ≡ true → members_meet a b ≡ true
+pub both_meet : (a b : ApiMember) → is_virtual a.kind ≡ true → is_virtual b.kind ≡ true → is_at_or_above a.class b.class ≡ true → members_meet a b ≡ true
 unfolding members_meet
 both_meet a b v w h = rw (v, w, h) refl
 
@@ -177,7 +177,7 @@ module _ (bound : Bound) (clear : HasNoClash bound) (asker token : ℕ) where
   public_visit : (home : ℕ) (r : ClassRecord) → token < 128 → record_visit world asker token home (Class r) ≡ table_visit world home r.public_methods token
   public_visit home r h = rw (lt-ltb token 128 h) refl
 
-  there_visit : (n : ℕ) (p : ApiPackage) (above : Option MethodName) → has_method n (api_shape bound p) ≡ true
+  pub there_visit : (n : ℕ) (p : ApiPackage) (above : Option MethodName) → has_method n (api_shape bound p) ≡ true
       → found_from (method_there world (api_home p) n) above ≡ Some (Api n)
   there_visit n Lang above h = rw h refl
   there_visit n Framework above h = rw h refl

@@ -1,5 +1,5 @@
 -- The classes of the API stand in every world that is built, with the cells that the API's tables say.
-use Rattle.std.proofs.Common.{◌≡◌, ℕ, zero, suc, ◌+◌, ◌-◌, ◌==◌, ◌||◌, not, Bool, true, false, cond, List, [], Option, Some, None, refl, sym, ap, ◌∙◌, arith}
+use Rattle.std.proofs.Common.{◌≡◌, ℕ, zero, suc, ◌+◌, ◌-◌, ◌==◌, ◌||◌, not, Bool, true, false, cond, List, [], ◌∷◌, ◌++◌, take, Option, Some, None, refl, sym, ap, ◌∙◌, arith}
 use Rattle.std.proofs.lemmas.Bool.{eqb-true}
 use Rattle.std.specs.List.{find}
 use Rattle.std.specs.Option.{option_and_then, option_map, option_map_or}
@@ -10,24 +10,29 @@ use Rattle.jc_cap_desc.specs.Shape.{ClassShape, FieldShape, Shape}
 use Rattle.jc_api.specs.Bound.{Bound}
 use Rattle.jc_api.specs.Class as tables
 use Rattle.jc_api.specs.NoClash.{HasNoClash}
+use Rattle.jc_api.specs.Token.{is_virtual}
 use Rattle.jc_api.specs.declared.class.ApiClass.{ApiClass}
-use Rattle.jc_api.specs.declared.class.ApiClass.TheVariants.{Object, Throwable, Exception, RuntimeException, ArithmeticException, ArrayStoreException, ClassCastException, IndexOutOfBoundsException, ArrayIndexOutOfBoundsException, NegativeArraySizeException, NullPointerException, SecurityException, Shareable, CardRuntimeException, IsoException, SystemException, ApduException, Aid, Apdu, Applet, JcSystem, Util}
+use Rattle.jc_api.specs.declared.class.ApiClass.TheVariants.{Object}
 use Rattle.jc_classes.specs.Api.{api_world, class_in_api}
-use Rattle.jc_classes.specs.Growth.{IsWithin, KeepsLookups}
+use Rattle.jc_classes.specs.Growth.{KeepsAllLookups, LiesWithin}
 use Rattle.jc_classes.specs.Record.{declared_size}
 use Rattle.jc_classes.specs.Walk.{most_classes}
 use Rattle.jc_names.specs.Names.{home_of}
 use Rattle.jc_classes.specs.World.{class_at, superclass_of}
 use Rattle.jc_names.specs.declared.name.ClassName.{ClassName}
 use Rattle.jc_names.specs.declared.name.ClassName.TheVariants.{Api}
-use Rattle.jc_link.proofs.ApiClasses.{class_there, each_class, superclass_is}
-use Rattle.jc_link.proofs.Later.{built_has_api}
+use Rattle.jc_names.specs.declared.name.MethodName.TheVariants as Method
+use Rattle.jc_link.proofs.ApiClasses.{each_class}
+use Rattle.jc_link.proofs.ApiMembers.{class_body, member_there, member_type_is}
+use Rattle.jc_link.proofs.ApiTables.{found_member}
+use Rattle.jc_link.proofs.ApiVirtual.{has_virtual, its_class, its_method, its_superclass, method_within, public_there}
 use Rattle.jc_link.proofs.Nones.{true_false}
 use Rattle.jc_link.proofs.SoundChains.{api_low}
 use Rattle.jc_link.proofs.Superclasses.{most_is}
-use Rattle.jc_link.specs.ApiClasses.{StandsThere, cells_of}
+use Rattle.jc_link.specs.ApiClasses.{StandsOnApi, StandsThere, cells_of}
 use Rattle.jc_link.specs.Built.{IsBuilt, api, loaded}
-use Rattle.jc_link.specs.MemberType.{field_type_of}
+use Rattle.jc_link.specs.Growth.{KeepsAllLinking}
+use Rattle.jc_link.specs.MemberType.{declared_type_of, field_type_of}
 use Rattle.jc_link.specs.Named.{cells_above, instance_field_in, is_instance_field, size_of}
 use Rattle.jc_link.specs.Target.{instance_type_of}
 
@@ -51,44 +56,42 @@ no_size c e =
     by_kind true f h = eqb-true (tables.size_of c) 0 h
     by_kind false f h = true_false (sym f)
 
-its_kind : (b : Bool) (x y : RecordBody) → is_class x ≡ false → is_class y ≡ true → is_class (cond b x y) ≡ not b
-its_kind true x y e f = e
-its_kind false x y e f = f
-
 its_size : (b : Bool) (x y : RecordBody) (size : ℕ) → (b ≡ true → size ≡ 0) → declared_size x ≡ 0
     → declared_size y ≡ size
     → declared_size (cond b x y) ≡ size
 its_size true x y size none e f = let zero_is = none refl in omega (arith, zero_is, e)
 its_size false x y size none e f = f
 
-told_at_first : (bound : Bound) → HasNoClash bound → (c : ApiClass) → IsAsTold (api_world bound) c
-told_at_first bound clear c = record {
+-- ---- the API's packages are the first of a world
+
+record BeginsWithApi (world : List Shape) : Type 0 where
+  bound : Bound
+  clear : HasNoClash bound
+  lies : LiesWithin (api_world bound) world
+
+first_two : (before : List Shape) (p : Shape) (b : Bound) → take 2 before ≡ api_world b
+    → take 2 (before ++ p ∷ []) ≡ api_world b
+first_two [] p b e = absurd cc
+first_two (x ∷ []) p b e = absurd cc
+first_two (x ∷ y ∷ before) p b e = e
+
+begins : (world : List Shape) → IsBuilt world → BeginsWithApi world
+begins _ (api bound clear) = record { bound = bound; clear = clear; lies = refl }
+begins _ (loaded before p built well) =
+    let s = begins before built in
+    record { bound = s.bound; clear = s.clear; lies = first_two before p.shape s.bound s.lies }
+
+told : (world : List Shape) (bound : Bound) → HasNoClash bound → KeepsAllLookups (api_world bound) world
+    → (c : ApiClass) → IsAsTold world c
+told world bound clear looks c = record {
   shape = class_in_api bound c;
-  there = class_there bound c;
-  class_or_not = its_kind (tables.is_interface c) _ _ refl refl;
+  there = its_class world bound clear looks c;
+  class_or_not = class_body bound c;
   abstract_or_not = refl;
   declared = its_size (tables.is_interface c) _ _ (tables.size_of c) (no_size c) refl refl;
   no_fields = refl;
-  superclass = superclass_is bound clear c;
+  superclass = its_superclass world bound clear looks c;
 }
-
-module _ (keeps : (world : List Shape) (more : Shape) → KeepsLookups world more) where
-  told_in_built : (world : List Shape) → IsBuilt world → (c : ApiClass) → IsAsTold world c
-  told_in_built _ (api bound clear) c = told_at_first bound clear c
-  told_in_built _ (loaded before p built well) c =
-      let told = told_in_built before built c in
-      let has = built_has_api before built in
-      let within : IsWithin before (Api c) = omega (arith, has, api_low (tables.package_of c)) in
-      let kept = keeps before p.shape in
-      record {
-        shape = told.shape;
-        there = kept.classes (Api c) within ∙ told.there;
-        class_or_not = told.class_or_not;
-        abstract_or_not = told.abstract_or_not;
-        declared = told.declared;
-        no_fields = told.no_fields;
-        superclass = kept.superclasses (Api c) within ∙ told.superclass;
-      }
 
 -- ---- cells
 
@@ -118,27 +121,7 @@ cells_are world told (suc n) c =
 -- six classes are enough
 six_enough : (n : ℕ) (c : ApiClass) → tables.size_of c + above (suc (suc (suc (suc (suc (suc n)))))) c ≡ cells_of c
 six_enough n Object = refl
-six_enough n Throwable = refl
-six_enough n Exception = refl
-six_enough n RuntimeException = refl
-six_enough n ArithmeticException = refl
-six_enough n ArrayStoreException = refl
-six_enough n ClassCastException = refl
-six_enough n IndexOutOfBoundsException = refl
-six_enough n ArrayIndexOutOfBoundsException = refl
-six_enough n NegativeArraySizeException = refl
-six_enough n NullPointerException = refl
-six_enough n SecurityException = refl
-six_enough n Shareable = refl
-six_enough n CardRuntimeException = refl
-six_enough n IsoException = refl
-six_enough n SystemException = refl
-six_enough n ApduException = refl
-six_enough n Aid = refl
-six_enough n Apdu = refl
-six_enough n Applet = refl
-six_enough n JcSystem = refl
-six_enough n Util = refl
+six_enough n c = refl
 
 all_cells : (world : List Shape) → ((c : ApiClass) → IsAsTold world c) → (c : ApiClass)
     → size_of world (Api c) + cells_above world most_classes (Api c) ≡ cells_of c
@@ -159,18 +142,43 @@ no_field world c told token =
     type_of : Option FieldShape → Option (DeclaredType ClassName)
     type_of o = option_and_then (field_type_of world (home_of (Api c))) o
 
-pub api_stands_there : ((world : List Shape) (more : Shape) → KeepsLookups world more) → (world : List Shape)
-    → IsBuilt world → (c : ApiClass) → StandsThere world c
-api_stands_there keeps world built c =
-    let all = told_in_built keeps world built in
-    let told = all c in
-    record {
-      shape = told.shape;
-      there = told.there;
-      class_or_not = told.class_or_not;
-      abstract_or_not = told.abstract_or_not;
-      superclass = told.superclass;
-      size = size_is world c told;
-      cells = all_cells world all c;
-      fields = no_field world c told;
-    }
+module _ (lookups : (before after : List Shape) → LiesWithin before after → KeepsAllLookups before after) where
+  pub api_stands_there : (world : List Shape) → IsBuilt world → (c : ApiClass) → StandsThere world c
+  api_stands_there world built c =
+      let s = begins world built in
+      let all = told world s.bound s.clear (lookups (api_world s.bound) world s.lies) in
+      let told = all c in
+      record {
+        shape = told.shape;
+        there = told.there;
+        class_or_not = told.class_or_not;
+        abstract_or_not = told.abstract_or_not;
+        superclass = told.superclass;
+        size = size_is world c told;
+        cells = all_cells world all c;
+        fields = no_field world c told;
+      }
+
+  -- and so do its members
+  pub stands_on_api : ((before after : List Shape) → LiesWithin before after → KeepsAllLinking before after)
+      → (world : List Shape) → IsBuilt world → StandsOnApi world
+  stands_on_api linking world built =
+      let s = begins world built in
+      let first = api_world s.bound in
+      let looks = lookups first world s.lies in
+      record {
+        stands = api_stands_there world built;
+        bound = s.bound;
+        classes = its_class world s.bound s.clear looks;
+        members = its_method world s.bound s.clear looks;
+        types = λ n m e. (linking first world s.lies).method_types (Method.Api n)
+            (method_within world s.bound s.clear looks n)
+            ∙ ap (option_and_then (declared_type_of first)) (member_there s.bound n m e)
+            ∙ member_type_is s.bound s.clear n m e;
+        found = λ c token asker name e.
+            let m = found_member s.bound s.clear asker token c name
+            (sym (looks.virtual_methods (Api c) token asker (api_low (tables.package_of c))) ∙ e) in
+            (m.number, m.name);
+        public = public_there s.bound s.clear;
+        virtual = λ n m e kind. has_virtual world s.bound s.clear looks n m e (ap is_virtual kind);
+      }

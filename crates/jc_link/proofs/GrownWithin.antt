@@ -6,6 +6,7 @@ use Rattle.std.proofs.lemmas.List.{length-take-le}
 use Rattle.std.proofs.lemmas.Bool.{eqb-true, ltb-false}
 use Rattle.jc_base.specs.declared.class_ref.ClassRef.{ClassRef}
 use Rattle.jc_base.specs.declared.class_ref.ClassRef.TheVariants.{Internal, External}
+use Rattle.jc_cap.specs.declared.record.ClassRecord.{ClassRecord}
 use Rattle.jc_cap.specs.declared.record.RecordBody.{RecordBody}
 use Rattle.jc_cap.specs.declared.record.RecordBody.TheVariants.{Interface, Class}
 use Rattle.jc_cap.specs.declared.record.VirtualTable.{VirtualTable}
@@ -18,7 +19,7 @@ use Rattle.jc_api.specs.declared.class.ApiPackage.TheVariants.{Lang, Framework}
 use Rattle.jc_classes.specs.Growth.{IsMethodWithin, IsWithin}
 use Rattle.jc_names.specs.Names.{method_home, method_offset}
 use Rattle.jc_classes.specs.Members.{DeclaredMethod, name_of, declared_in, method_at}
-use Rattle.jc_classes.specs.Methods.{method_of_class, has_method, method_name, method_there, entry_visit, table_visit, record_visit, virtual_method_of, virtual_visit, package_visible, declared_above}
+use Rattle.jc_classes.specs.Methods.{method_of_class, has_method, method_name, entry_visit, table_visit, record_visit, virtual_method_of, virtual_visit, package_visible, declared_above}
 use Rattle.jc_classes.specs.Walk.{found_from, walk, most_classes}
 use Rattle.jc_names.specs.Names.{api_home, api_name, home_of, name_in}
 use Rattle.jc_classes.specs.World.{class_at, meets, import_of, exported_class, class_spelled, if_there, class_named, superclass_ref, superclass_of}
@@ -110,7 +111,7 @@ class_of_declared : (home : ℕ) (c : ClassName) (o : Option MethodShape) (d : D
 class_of_declared home c None d h e = absurd (none_some d e)
 class_of_declared home c (Some m) d h e = sym (ap (λ (d : DeclaredMethod). home_of d.class) (the_some _ _ e)) ∙ h
 
-declared_home : (home offset : ℕ) (shape : Shape) (d : DeclaredMethod) → declared_in home offset shape ≡ Some d → home_of d.class ≡ home
+pub declared_home : (home offset : ℕ) (shape : Shape) (d : DeclaredMethod) → declared_in home offset shape ≡ Some d → home_of d.class ≡ home
 declared_home home offset shape d e =
     let k = some_of (λ k. option_and_then (λ class. option_map (λ m. record { class = class; method = m }) (method_of_class offset k)) (name_of home k)) (find (λ k. is_some (method_of_class offset k)) shape.classes) d e in
     let n = some_of (λ class. option_map (λ m. record { class = class; method = m }) (method_of_class offset k.0)) (name_of home k.0) d k.2 in
@@ -127,33 +128,48 @@ declared_within world m d h e =
 
 -- ---- walks
 
--- what holds of both branches, and of the one that is taken
-pub by_cond : {V : Type 0} (Q : V → Type 0) (b : Bool) (x y : V) → Q x → Q y → Q (cond b x y)
-by_cond Q true x y h k = h
-by_cond Q false x y h k = k
+-- what holds of the branch that is taken
+pub by_test : {V : Type 0} (Q : V → Type 0) (b : Bool) (x y : V) → (b ≡ true → Q x) → (b ≡ false → Q y) → Q (cond b x y)
+by_test Q true x y h k = h refl
+by_test Q false x y h k = k refl
 
 pub by_other : {V : Type 0} (Q : V → Type 0) (b : Bool) (x y : V) → b ≡ false → Q y → Q (cond b x y)
 by_other Q true x y e k = let f : true ≡ false = e in absurd cc
 by_other Q false x y e k = k
 
-module _ (world : List Shape) (api : HasApi world) (home : ℕ) (h : home < length world) (m : MethodName) (above : Option MethodName) (k : above ≡ Some m → IsMethodWithin world m) where
-  there_within : (offset : ℕ) → found_from (method_there world home offset) above ≡ Some m → IsMethodWithin world m
-  there_within offset = by_cond (λ v. found_from v above ≡ Some m → IsMethodWithin world m) (option_map_or (has_method offset) (slice_get world home) false) _ _
-      (λ e. subst (IsMethodWithin world) (the_some _ _ e) (method_name_within world home offset api h)) (λ e. absurd (none_some m e))
+-- what a class's record gives at a token: what is above it, or the method of an entry of one of its tables
+module _ (world : List Shape) (home : ℕ) (above : Option MethodName) (m : MethodName) (R : Type 0)
+    (k : above ≡ Some m → R) where
+  abbrev Own : List ℕ → ℕ → Type 0
+  Own methods at = (offset : ℕ) → slice_get methods at ≡ Some offset → (offset == declared_above) ≡ false
+      → method_name home offset ≡ m → R
 
-  entry_within : (entry : Option ℕ) → found_from (entry_visit world home entry) above ≡ Some m → IsMethodWithin world m
-  entry_within None e = absurd (none_some m e)
-  entry_within (Some offset) e = by_cond (λ v. found_from v above ≡ Some m → IsMethodWithin world m) (offset == declared_above) _ _ k (there_within offset) e
+  at_entry : (methods : List ℕ) (at : ℕ) (o : Option ℕ) → slice_get methods at ≡ o → Own methods at
+      → found_from (entry_visit world home o) above ≡ Some m → R
+  at_entry methods at None f own e = absurd (none_some m e)
+  at_entry methods at (Some offset) f own e =
+      by_test (λ v. found_from v above ≡ Some m → R) (offset == declared_above) _ _ (λ h. k)
+      (λ other. by_test (λ v. found_from v above ≡ Some m → R) (option_map_or (has_method offset)
+      (slice_get world home) false) _ _
+      (λ h g. own offset f other (the_some _ _ g)) (λ h g. absurd (none_some m g))) e
 
-  table_within : (table : VirtualTable) (token : ℕ) → found_from (table_visit world home table token) above ≡ Some m → IsMethodWithin world m
-  table_within table token = by_cond (λ v. found_from v above ≡ Some m → IsMethodWithin world m) (nat_lt token table.base || length table.methods == 0) _ _
-      k (entry_within (slice_get table.methods (token - table.base)))
+  at_table : (table : VirtualTable) (token : ℕ) → Own table.methods (token - table.base)
+      → found_from (table_visit world home table token) above ≡ Some m → R
+  at_table table token own =
+      by_test (λ v. found_from v above ≡ Some m → R) (nat_lt token table.base || length table.methods == 0) _ _ (λ h. k)
+      (λ h. at_entry table.methods (token - table.base) (slice_get table.methods (token - table.base)) refl own)
 
-  record_within : (asker token : ℕ) (body : RecordBody) → found_from (record_visit world asker token home body) above ≡ Some m → IsMethodWithin world m
-  record_within asker token (Interface r) e = absurd (none_some m e)
-  record_within asker token (Class r) e =
-      by_cond (λ v. found_from v above ≡ Some m → IsMethodWithin world m) (nat_lt token package_visible) _ _ (table_within r.public_methods token)
-      (by_cond (λ v. found_from v above ≡ Some m → IsMethodWithin world m) (home == asker) _ _ (table_within r.package_methods (token - package_visible)) k) e
+  pub at_record : (asker token : ℕ) (body : RecordBody)
+      → ((r : ClassRecord) → body ≡ Class r → Own r.public_methods.methods (token - r.public_methods.base))
+      → ((r : ClassRecord) → body ≡ Class r → nat_lt token package_visible ≡ false
+      → Own r.package_methods.methods (token - package_visible - r.package_methods.base))
+      → found_from (record_visit world asker token home body) above ≡ Some m → R
+  at_record asker token (Interface r) own also e = absurd (none_some m e)
+  at_record asker token (Class r) own also e =
+      by_test (λ v. found_from v above ≡ Some m → R) (nat_lt token package_visible) _ _
+      (λ low. at_table r.public_methods token (own r refl))
+      (λ high. by_test (λ v. found_from v above ≡ Some m → R) (home == asker) _ _
+      (λ h. at_table r.package_methods (token - package_visible) (also r refl high)) (λ h. k)) e
 
 -- the method that a walk finds is in a package of the world
 walk_within : (world : List Shape) (token asker : ℕ) (m : MethodName) → HasApi world → (steps : ℕ) (c : ClassName) → IsWithin world c
@@ -162,9 +178,13 @@ walk_within world token asker m api zero c h e = absurd (none_some m e)
 walk_within world token asker m api (suc steps) c h e =
     let above : Option MethodName = option_and_then (walk (virtual_visit world asker token) world steps) (superclass_of world c) in
     let k = some_of (λ k. found_from (virtual_visit world asker token c k) above) (class_at world c) m e in
-    record_within world api (home_of c) h m above
-    (λ f. let d = some_of (walk (virtual_visit world asker token) world steps) (superclass_of world c) m f in walk_within world token asker m api steps d.0 (superclass_within world c d.0 h d.1) d.2)
-    asker token (k.0).body k.2
+    at_record world (home_of c) above m (IsMethodWithin world m)
+    (λ f. let d = some_of (walk (virtual_visit world asker token) world steps) (superclass_of world c) m f in
+    walk_within world token asker m api steps d.0 (superclass_within world c d.0 h d.1) d.2)
+    asker token (k.0).body (λ r is offset at other. own offset) (λ r is high offset at other. own offset) k.2
+  where
+    own : (offset : ℕ) → method_name (home_of c) offset ≡ m → IsMethodWithin world m
+    own offset same = subst (IsMethodWithin world) same (method_name_within world (home_of c) offset api h)
 
 pub virtual_within : (world : List Shape) (c : ClassName) (token asker : ℕ) (m : MethodName) → HasApi world → IsWithin world c → virtual_method_of world c token asker ≡ Some m → IsMethodWithin world m
 virtual_within world c token asker m api h e = walk_within world token asker m api most_classes c h e

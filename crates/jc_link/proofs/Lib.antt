@@ -32,6 +32,7 @@ pub mod ApiClasses
 pub mod ApiMembers
 pub mod ApiTables
 pub mod ApiFit
+pub mod ApiVirtual
 pub mod Soundness
 pub mod Applet
 pub mod Naming

@@ -3,7 +3,7 @@ use Rattle.std.proofs.Common.{◌≡◌, ◌==◌, ◌&&◌, true, Some, refl, a
 use Rattle.std.proofs.lemmas.Bool.{eqb-true, eq-eqb}
 use Rattle.jc_api.specs.Class.{class_of, number_of}
 use Rattle.jc_api.specs.declared.class.ApiClass.{ApiClass}
-use Rattle.jc_api.specs.declared.class.ApiClass.TheVariants.{Object, Throwable, Exception, RuntimeException, ArithmeticException, ArrayStoreException, ClassCastException, IndexOutOfBoundsException, ArrayIndexOutOfBoundsException, NegativeArraySizeException, NullPointerException, SecurityException, Shareable, CardRuntimeException, IsoException, SystemException, ApduException, Aid, Apdu, Applet, JcSystem, Util}
+use Rattle.jc_api.specs.declared.class.ApiClass.TheVariants.{Object}
 use Rattle.jc_names.specs.Names.{is_same_name}
 use Rattle.jc_names.specs.declared.name.ClassName.{ClassName}
 use Rattle.jc_names.specs.declared.name.ClassName.TheVariants.{Api, Loaded}
@@ -12,27 +12,7 @@ use Rattle.jc_link.proofs.Nones.{true_false, left_true, right_true}
 
 pub numbered_again : (a : ApiClass) → class_of (number_of a) ≡ Some a
 numbered_again Object = refl
-numbered_again Throwable = refl
-numbered_again Exception = refl
-numbered_again RuntimeException = refl
-numbered_again ArithmeticException = refl
-numbered_again ArrayStoreException = refl
-numbered_again ClassCastException = refl
-numbered_again IndexOutOfBoundsException = refl
-numbered_again ArrayIndexOutOfBoundsException = refl
-numbered_again NegativeArraySizeException = refl
-numbered_again NullPointerException = refl
-numbered_again SecurityException = refl
-numbered_again Shareable = refl
-numbered_again CardRuntimeException = refl
-numbered_again IsoException = refl
-numbered_again SystemException = refl
-numbered_again ApduException = refl
-numbered_again Aid = refl
-numbered_again Apdu = refl
-numbered_again Applet = refl
-numbered_again JcSystem = refl
-numbered_again Util = refl
+numbered_again a = refl
 
 pub same_number : (a b : ApiClass) → number_of a ≡ number_of b → a ≡ b
 same_number a b e = the_some a b (sym (numbered_again a) ∙ ap class_of e ∙ numbered_again b)

@@ -369,4 +369,5 @@ superclasses_hold world small fit = record {
   classes = superclasses_are_classes world fit;
   object = λ c class. up_to_object world fit most_classes c (ends world small fit c) class;
   top = object_alone world (ends world small fit) (superclasses_are_classes world fit) (λ c class. up_to_object world fit most_classes c (ends world small fit c) class);
+  heirs = λ c d e. heir_of_walk world most_classes d c e;
 }

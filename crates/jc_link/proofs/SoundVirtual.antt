@@ -1,16 +1,15 @@
 -- What a class finds at virtual tokens is a method of objects, and keeps what is found above it.
-use Rattle.std.proofs.Common.{◌≡◌, ℕ, zero, suc, ◌-◌, ◌<◌, ◌==◌, ◌&&◌, ◌||◌, Bool, true, false, cond, not, List, length, Option, Some, None, refl, ap, sym, subst, ◌∙◌, arith, nat_lt, is_some, slice_get}
+use Rattle.std.proofs.Common.{◌≡◌, ℕ, zero, suc, ◌-◌, ◌<◌, ◌==◌, ◌&&◌, Bool, true, false, cond, not, List, Option, Some, None, refl, ap, sym, subst, ◌∙◌, arith, nat_lt, is_some, slice_get}
 use Rattle.std.proofs.Math.Path.{fun_ext}
 use Rattle.std.proofs.lemmas.Bool.{eqb-true}
 use Rattle.std.specs.List.{list_any}
 use Rattle.std.specs.Option.{option_and_then, option_map_or}
 use Rattle.jc_cap.specs.declared.record.RecordBody.{RecordBody}
 use Rattle.jc_cap.specs.declared.record.RecordBody.TheVariants.{Interface, Class}
-use Rattle.jc_cap.specs.declared.record.VirtualTable.{VirtualTable}
 use Rattle.jc_cap_desc.specs.Shape.{ClassShape, Shape}
 use Rattle.jc_base.specs.declared.class_ref.ClassRef.{ClassRef}
 use Rattle.jc_classes.specs.Members.{method_at}
-use Rattle.jc_classes.specs.Methods.{has_method, method_name, method_there, declared_above, entry_visit, table_visit, package_visible, record_visit, virtual_visit, virtual_method_of}
+use Rattle.jc_classes.specs.Methods.{method_name, declared_above, package_visible, record_visit, virtual_visit, virtual_method_of}
 use Rattle.jc_classes.specs.Record.{public_entries, package_entries}
 use Rattle.jc_classes.specs.Subtype.{comes_to_end, is_at_or_above}
 use Rattle.jc_classes.specs.Walk.{found_from, walk, most_classes}
@@ -19,8 +18,8 @@ use Rattle.jc_classes.specs.World.{class_at, class_named, superclass_of, supercl
 use Rattle.jc_names.specs.declared.name.ClassName.{ClassName}
 use Rattle.jc_names.specs.declared.name.MethodName.{MethodName}
 use Rattle.jc_names.specs.declared.name.MethodName.TheVariants.{Api, Loaded}
-use Rattle.jc_link.proofs.GrownParts.{some_of, the_some, none_some}
-use Rattle.jc_link.proofs.GrownWithin.{by_other}
+use Rattle.jc_link.proofs.GrownParts.{some_of, none_some}
+use Rattle.jc_link.proofs.GrownWithin.{at_record, by_other}
 use Rattle.jc_link.proofs.Nones.{true_false, left_false, right_false, then_false, left_true, right_true, not_false, not_true, there_some, none_at, none_in_range}
 use Rattle.jc_link.proofs.SoundChains.{heir_of_walk, walk_enough}
 use Rattle.jc_link.proofs.SameTypes.{same_when_agree}
@@ -38,11 +37,6 @@ use Rattle.jc_link.specs.Sound.{IsHeir, itself, behind, HaveSuperclasses, IsInst
 pub told_of : {A : Type 0} (p : A → Bool) (o : Option A) → option_map_or p o false ≡ true → (a : A) × (o ≡ Some a) × (p a ≡ true)
 told_of p None e = true_false (sym e)
 told_of p (Some a) e = (a, refl, e)
-
--- what holds of the branch that is taken
-by_test : {V : Type 0} (Q : V → Type 0) (b : Bool) (x y : V) → (b ≡ true → Q x) → (b ≡ false → Q y) → Q (cond b x y)
-by_test Q true x y h k = h refl
-by_test Q false x y h k = k refl
 
 -- ---- superclasses
 
@@ -77,32 +71,11 @@ module _ (world : List Shape) (c : ClassName) where
         heir = heir_of_walk world most_classes (d.0).class c (right_true (not (d.0).method.is_static) (is_at_or_above world most_classes (d.0).class c) d.2);
       }
 
-  module _ (above : Option MethodName) (m : MethodName) (k : above ≡ Some m → IsInstanceMethod world c m) where
-    good_there : (offset : ℕ) → is_bad offset ≡ false → (offset == declared_above) ≡ false
-        → found_from (method_there world (home_of c) offset) above ≡ Some m → IsInstanceMethod world c m
-    good_there offset fine other =
-        by_test (λ v. found_from v above ≡ Some m → IsInstanceMethod world c m) (option_map_or (has_method offset) (slice_get world (home_of c)) false) _ _
-        (λ h e. subst (IsInstanceMethod world c) (the_some _ _ e) (entry_is offset fine other)) (λ h e. absurd (none_some m e))
-
-    good_entry : (entry : Option ℕ) → ((offset : ℕ) → entry ≡ Some offset → is_bad offset ≡ false)
-        → found_from (entry_visit world (home_of c) entry) above ≡ Some m → IsInstanceMethod world c m
-    good_entry None fine e = absurd (none_some m e)
-    good_entry (Some offset) fine e =
-        by_test (λ v. found_from v above ≡ Some m → IsInstanceMethod world c m) (offset == declared_above) _ _ (λ h. k) (λ h. good_there offset (fine offset refl) h) e
-
-    good_table : (table : VirtualTable) (token : ℕ) → list_any is_bad table.methods ≡ false
-        → found_from (table_visit world (home_of c) table token) above ≡ Some m → IsInstanceMethod world c m
-    good_table table token fine =
-        by_test (λ v. found_from v above ≡ Some m → IsInstanceMethod world c m) (nat_lt token table.base || length table.methods == 0) _ _
-        (λ h. k) (λ h. good_entry (slice_get table.methods (token - table.base)) (λ offset e. none_at is_bad table.methods (token - table.base) offset fine e))
-
-    good_record : (asker token : ℕ) (body : RecordBody) → list_any is_bad (public_entries body) ≡ false → list_any is_bad (package_entries body) ≡ false
-        → found_from (record_visit world asker token (home_of c) body) above ≡ Some m → IsInstanceMethod world c m
-    good_record asker token (Interface r) fine also e = absurd (none_some m e)
-    good_record asker token (Class r) fine also e =
-        by_test (λ v. found_from v above ≡ Some m → IsInstanceMethod world c m) (nat_lt token package_visible) _ _ (λ h. good_table r.public_methods token fine)
-        (λ h. by_test (λ v. found_from v above ≡ Some m → IsInstanceMethod world c m) (home_of c == asker) _ _
-        (λ h. good_table r.package_methods (token - package_visible) also) (λ h. k)) e
+  own_entry : (m : MethodName) (entries : List ℕ) (n : ℕ) → list_any is_bad entries ≡ false → (offset : ℕ)
+      → slice_get entries n ≡ Some offset → (offset == declared_above) ≡ false → method_name (home_of c) offset ≡ m
+      → IsInstanceMethod world c m
+  own_entry m entries n fine offset at other same =
+      subst (IsInstanceMethod world c) same (entry_is offset (none_at is_bad entries n offset fine at) other)
 
 module _ (world : List Shape) (fit : AreFit world) (asker token : ℕ) (m : MethodName) where
   walk_finds : (steps : ℕ) (c : ClassName) → walk (virtual_visit world asker token) world steps c ≡ Some m → IsInstanceMethod world c m
@@ -122,9 +95,15 @@ module _ (world : List Shape) (fit : AreFit world) (asker token : ℕ) (m : Meth
           let above : Option MethodName = option_and_then (walk (virtual_visit world asker token) world n) (superclass_of world c) in
           let k = some_of (λ k. found_from (virtual_visit world asker token c k) above) (class_at world c) m e in
           let entries = (fit c k.0 k.1).entries in
-          good_record world c above m (from_above c rest) asker token (k.0).body
-          (left_false (list_any (is_bad_entry world (home_of c) c) (public_entries (k.0).body)) (list_any (is_bad_entry world (home_of c) c) (package_entries (k.0).body)) entries)
-          (right_false (list_any (is_bad_entry world (home_of c) c) (public_entries (k.0).body)) (list_any (is_bad_entry world (home_of c) c) (package_entries (k.0).body)) entries)
+          at_record world (home_of c) above m (IsInstanceMethod world c m) (from_above c rest) asker token (k.0).body
+          (λ r is. own_entry world c m r.public_methods.methods (token - r.public_methods.base)
+          (subst (λ body. list_any (is_bad_entry world (home_of c) c) (public_entries body) ≡ false) is
+          (left_false (list_any (is_bad_entry world (home_of c) c) (public_entries (k.0).body))
+          (list_any (is_bad_entry world (home_of c) c) (package_entries (k.0).body)) entries)))
+          (λ r is high. own_entry world c m r.package_methods.methods (token - package_visible - r.package_methods.base)
+          (subst (λ body. list_any (is_bad_entry world (home_of c) c) (package_entries body) ≡ false) is
+          (right_false (list_any (is_bad_entry world (home_of c) c) (public_entries (k.0).body))
+          (list_any (is_bad_entry world (home_of c) c) (package_entries (k.0).body)) entries)))
           k.2
 
 -- ---- below 128 each asks alike

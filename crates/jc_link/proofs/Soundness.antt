@@ -4,6 +4,7 @@ use Rattle.jc_cap_desc.specs.Shape.{Shape}
 use Rattle.jc_classes.specs.Growth.{KeepsLookups}
 use Rattle.jc_classes.specs.Limits.{IsSmall}
 use Rattle.jc_link.proofs.ApiFit.{api_fit}
+use Rattle.jc_link.proofs.SameTypes.{same_signature}
 use Rattle.jc_link.proofs.SoundChains.{superclasses_hold, cells_follow}
 use Rattle.jc_link.proofs.SoundFinished.{finished_hold}
 use Rattle.jc_link.proofs.SoundGrown.{built_fit, fit_at}
@@ -23,6 +24,7 @@ fit_is_sound world small all =
       methods = methods_hold world fit all;
       virtual_methods = virtual_methods_hold world superclasses fit;
       finished = finished_hold world superclasses fit;
+      same_types = same_signature;
     }
 
 pub built_is_sound : ((world : List Shape) (more : Shape) → KeepsLookups world more) → (world : List Shape) → IsSmall world → IsBuilt world → IsSound world

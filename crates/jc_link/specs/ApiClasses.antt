@@ -1,14 +1,29 @@
--- The classes of the API in the world of a card, by the API's tables (Java Card API Specification).
-use Rattle.std.specs.Prelude.{◌≡◌, ℕ, zero, suc, ◌+◌, not, List, Some, None}
+-- The classes and members of the API in the world of a card, by the API's tables (Java Card API Specification).
+use Rattle.std.specs.Prelude.{◌≡◌, ℕ, zero, suc, ◌+◌, ◌==◌, ◌<◌, not, List, Some, None, if◌then◌else◌}
+use Rattle.std.specs.List.{position}
 use Rattle.std.specs.Option.{option_map, option_map_or}
+use Rattle.jc_base.specs.Signature.{signature_map}
 use Rattle.jc_cap.specs.ClassComponent.{is_class}
 use Rattle.jc_cap_desc.specs.Shape.{ClassShape, Shape}
+use Rattle.jc_api.specs.Bound.{Bound}
 use Rattle.jc_api.specs.Class as tables
+use Rattle.jc_api.specs.Member.{ApiMember, member_of}
 use Rattle.jc_api.specs.declared.class.ApiClass.{ApiClass}
+use Rattle.jc_api.specs.declared.class.ApiClass.TheVariants.{Object}
+use Rattle.jc_api.specs.declared.member.MemberKind.TheVariants.{Virtual}
+use Rattle.jc_classes.specs.Api.{class_in_api, method_in, record_in}
+use Rattle.jc_classes.specs.Members.{DeclaredMethod, method_at}
+use Rattle.jc_classes.specs.Methods.{package_visible, virtual_method_of}
+use Rattle.jc_classes.specs.Record.{public_entries}
 use Rattle.jc_classes.specs.Walk.{most_classes}
 use Rattle.jc_classes.specs.World.{class_at, superclass_of}
+use Rattle.jc_names.specs.declared.name.ClassName.{ClassName}
 use Rattle.jc_names.specs.declared.name.ClassName.TheVariants.{Api}
+use Rattle.jc_names.specs.declared.name.MethodName.{MethodName}
+use Rattle.jc_names.specs.declared.name.MethodName.TheVariants as methods
+use Rattle.jc_link.specs.MemberType.{method_type_of}
 use Rattle.jc_link.specs.Named.{cells_above, size_of}
+use Rattle.jc_link.specs.Sound.{IsHeir}
 use Rattle.jc_link.specs.Target.{instance_type_of}
 
 -- how many cells an object of a class has: those that it declares and those of its superclasses, within so many classes
@@ -31,3 +46,34 @@ pub record StandsThere (world : List Shape) (c : ApiClass) : Type 0 where
   pub size : size_of world (Api c) ≡ tables.size_of c
   pub cells : size_of world (Api c) + cells_above world most_classes (Api c) ≡ cells_of c
   pub fields : (token : ℕ) → instance_type_of world (Api c) token ≡ None
+
+-- a class of the API as it counts in types
+abbrev pub counted_name : ApiClass → ClassName
+counted_name c = if tables.is_interface c then Api Object else Api c
+
+-- a virtual member of the API in a world, by its number: its class's table has it at a public token, and its class
+-- finds it there. What any class finds there, and that class or one above it declares, is this member
+pub record StandsAtToken (world : List Shape) (bound : Bound) (number : ℕ) (c : ApiClass) : Type 0 where
+  pub token : ℕ
+  pub public : token < package_visible
+  pub listed : position (λ n. n == number) (public_entries (record_in bound c)) ≡ Some token
+  pub found : virtual_method_of world (Api c) token 0 ≡ Some (methods.Api number)
+  pub only : (d : ClassName) (name : MethodName) (m : DeclaredMethod) → virtual_method_of world d token 0 ≡ Some name
+      → method_at world name ≡ Some m → IsHeir world (Api c) m.class → name ≡ methods.Api number
+
+-- a world stands on the API, as a binding has it: each class and each member is there, with its type. What a class of
+-- the API finds is a member of the API, and no member stands in its class's table at a token that isn't public
+pub record StandsOnApi (world : List Shape) : Type 0 where
+  pub stands : (c : ApiClass) → StandsThere world c
+  pub bound : Bound
+  pub classes : (c : ApiClass) → class_at world (Api c) ≡ Some (class_in_api bound c)
+  pub members : (number : ℕ) (m : ApiMember) → member_of number ≡ Some m → method_at world (methods.Api number)
+      ≡ Some (record { class = Api m.class; method = method_in bound number m })
+  pub types : (number : ℕ) (m : ApiMember) → member_of number ≡ Some m
+      → method_type_of world (methods.Api number) ≡ Some (signature_map counted_name m.signature)
+  pub found : (c : ApiClass) (token asker : ℕ) (name : MethodName)
+      → virtual_method_of world (Api c) token asker ≡ Some name → (number : ℕ) × (name ≡ methods.Api number)
+  pub public : (c : ApiClass) (number token : ℕ) (m : ApiMember) → member_of number ≡ Some m
+      → position (λ n. n == number) (public_entries (record_in bound c)) ≡ Some token → token < package_visible
+  pub virtual : (number : ℕ) (m : ApiMember) → member_of number ≡ Some m → m.kind ≡ Virtual
+      → StandsAtToken world bound number m.class

@@ -2,6 +2,7 @@
 -- getfield, invokevirtual, invokespecial, invokestatic, invokeinterface).
 use Rattle.std.specs.Prelude.{◌≡◌, ℕ, ◌+◌, ◌<◌, Bool, true, false, List, length, Some, None, IsSome, is_some, slice_get}
 use Rattle.std.specs.List.{list_all}
+use Rattle.jc_base.specs.Signature.{Signature}
 use Rattle.jc_cap.specs.ClassComponent.{is_class}
 use Rattle.jc_cap_desc.specs.Shape.{ClassShape, FieldShape, MethodShape, Shape}
 use Rattle.jc_cap.specs.declared.method_header.MethodHeader.{MethodHeader}
@@ -9,7 +10,7 @@ use Rattle.jc_cap.specs.declared.entry.PoolEntry.{PoolEntry}
 use Rattle.jc_api.specs.declared.class.ApiClass.TheVariants.{Object}
 use Rattle.jc_classes.specs.Members.{DeclaredMethod, method_at}
 use Rattle.jc_classes.specs.Methods.{interface_method_of, interface_visit, virtual_method_of}
-use Rattle.jc_classes.specs.Subtype.{is_class_at, IsOrderly}
+use Rattle.jc_classes.specs.Subtype.{is_at_or_above, is_class_at, IsOrderly}
 use Rattle.jc_classes.specs.Walk.{found, most_classes}
 use Rattle.jc_names.specs.Names.{home_of}
 use Rattle.jc_classes.specs.World.{class_at, superclass_of}
@@ -17,6 +18,7 @@ use Rattle.jc_names.specs.declared.name.ClassName.{ClassName}
 use Rattle.jc_names.specs.declared.name.ClassName.TheVariants.{Api}
 use Rattle.jc_names.specs.declared.name.MethodName.{MethodName}
 use Rattle.jc_link.specs.Classes.{words_of}
+use Rattle.jc_link.specs.Found.{is_same_signature}
 use Rattle.jc_link.specs.MemberType.{declared_type_of, member_type_of, method_type_of}
 use Rattle.jc_link.specs.Named.{cells_above, instance_field_at, is_concrete, size_of, static_field_at}
 use Rattle.jc_link.specs.Target.{instance_type_of, pool_target_of, static_type_of}
@@ -27,12 +29,14 @@ pub data IsHeir (world : List Shape) : ClassName → ClassName → Type 0 where
   itself : (c : ClassName) → IsHeir world c c
   behind : (c d e : ClassName) → superclass_of world c ≡ Some d → IsHeir world d e → IsHeir world c e
 
--- superclasses are classes, and come to an end in Object, which has none
+-- superclasses are classes, and come to an end in Object, which has none. What a walk up to the end finds above a class
+-- is above it
 pub record HaveSuperclasses (world : List Shape) : Type 0 where
   pub orderly : IsOrderly world
   pub classes : (c d : ClassName) → superclass_of world c ≡ Some d → is_class_at world d ≡ true
   pub object : (c : ClassName) → is_class_at world c ≡ true → IsHeir world c (Api Object)
   pub top : superclass_of world (Api Object) ≡ None
+  pub heirs : (c d : ClassName) → is_at_or_above world most_classes d c ≡ true → IsHeir world c d
 
 -- a field of objects has a type, and a cell among those of its class, which stand behind those of the superclass; a
 -- static field has a type
@@ -90,7 +94,7 @@ pub record IsFinished (world : List Shape) (c : ClassName) : Type 0 where
       → IsSome (found (interface_visit world interface) world c)
       → class_at world interface ≡ Some k → slice_get k.methods n ≡ Some row → HasMethodOf world c interface row
 
--- all of that
+-- all of that, and types that are told to be the same are
 pub record IsSound (world : List Shape) : Type 0 where
   pub superclasses : HaveSuperclasses world
   pub fields : HaveFields world
@@ -98,6 +102,7 @@ pub record IsSound (world : List Shape) : Type 0 where
   pub virtual_methods : HaveVirtualMethods world
   pub finished : (c : ClassName) (k : ClassShape) → class_at world c ≡ Some k → is_class k.body ≡ true
       → k.is_abstract ≡ false → IsFinished world c
+  pub same_types : (s t : Signature ClassName) → is_same_signature s t ≡ true → s ≡ t
 
 -- each entry of the pool of the package that stands there leads somewhere
 abbrev pub leads_somewhere : List Shape → ℕ → PoolEntry → Bool

@@ -7,7 +7,7 @@ ghost use Rattle.jc_api.specs.declared.class.ApiClass.{ApiClass};
 ghost use Rattle.jc_classes.specs.Api.{api_world};
 ghost use Rattle.jc_classes.specs.Growth.{LiesWithin};
 ghost use Rattle.jc_classes.specs.Limits.{IsSmall};
-ghost use Rattle.jc_link.specs.ApiClasses.{StandsThere};
+ghost use Rattle.jc_link.specs.ApiClasses.{StandsOnApi, StandsThere};
 ghost use Rattle.jc_link.specs.Applet.{applet};
 ghost use Rattle.jc_link.specs.Built.{IsBuilt};
 ghost use Rattle.jc_link.specs.Growth.{HasApi, KeepsAllLinking, KeepsLinking};
@@ -16,7 +16,7 @@ ghost use Rattle.jc_link.specs.Linked.{IsLast, IsLinked, Linked};
 ghost use Rattle.jc_link.specs.Sound.{IsSound};
 ghost use Rattle.jc_link.specs.WellFormed.{IsWellFormed};
 
-use jc_classes::adding_keeps_lookups;
+use jc_classes::{adding_keeps_lookups, growing_keeps_lookups};
 
 /// A package that is put behind the others of a world changes nothing of whether those before it are well-formed, nor
 /// of what entries of their pools lead to.
@@ -67,7 +67,16 @@ pub fn built_worlds_name_classes()
 pub fn built_worlds_have_the_api()
     ensures { (world : List Shape) → IsBuilt world → (c : ApiClass) → StandsThere world c }
 {
-    adding_keeps_lookups();
+    growing_keeps_lookups();
+}
+
+/// Such a world stands on the API: its classes and members are there as one binding has them, each virtual member under
+/// its token. It does nothing.
+pub fn built_worlds_stand_on_the_api()
+    ensures { (world : List Shape) → IsBuilt world → StandsOnApi world }
+{
+    growing_keeps_lookups();
+    growing_keeps_linking();
 }
 
 /// A package with an applet is well-formed behind the API's packages.

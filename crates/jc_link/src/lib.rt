@@ -21,8 +21,8 @@ mod world;
 pub use body::{ArrayKind, InitialArray, MethodCode, PackageBody, Statics};
 pub use growth::{
     adding_keeps_linking, an_applet_is_well_formed, built_worlds_are_sound,
-    built_worlds_have_the_api, built_worlds_name_classes, growing_keeps_linking,
-    linked_packages_are_known,
+    built_worlds_have_the_api, built_worlds_name_classes, built_worlds_stand_on_the_api,
+    growing_keeps_linking, linked_packages_are_known,
 };
 pub use linking::{link, link_package};
 pub use named::{Named, StaticPlace};

@@ -17,13 +17,6 @@ bytes_are [] are = refl
 bytes_are (b ∷ bytes) are =
     ap (λ (t : Bool). t && are_bytes bytes) (lt-ltb b 256 (are 0)) ∙ bytes_are bytes (λ n. are (suc n))
 
--- an AID by its length and its bytes
-pub is_fit_aid : (aid : List ℕ) (count : ℕ) → count ≡ length aid → 5 ≤ count → count ≤ 16 → are_bytes aid ≡ true
-    → is_aid aid ≡ true
-is_fit_aid aid count is least most bytes =
-    ap (λ (b : Bool). b && nat_le (length aid) 16 && are_bytes aid) (le-leb 5 (length aid) (omega (arith, is, least)))
-    ∙ ap (λ (b : Bool). b && are_bytes aid) (le-leb (length aid) 16 (omega (arith, is, most))) ∙ bytes
-
 -- it may be anything that fits the objects, made of what it was
 pub kept_changed : (k : CardWords) (c : CardState) (h : Holds k c) (change : Kept → Kept)
     → meaning.fits c.world c.heap (change c.kept) ≡ true

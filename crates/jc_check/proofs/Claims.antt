@@ -47,16 +47,6 @@ same_shape rules m c d e = let k = made rules c d e in rw (k.locals, k.operands)
 abbrev pub with_found : List Ty → Option (List Ty) → Option (List Ty)
 with_found found o = option_map (λ more. found ++ more) o
 
-pub one_found : (class_of : SpelledClass → Option ClassName) (types : List StatedType) (k : ℕ) (t : StatedType) (ty : Ty) (found : List Ty) (total : Option (List Ty)) → slice_get types k ≡ Some t → type_claimed class_of t ≡ Some ty
-    → with_found found (types_claimed class_of (drop k types)) ≡ total → with_found (found ++ ty ∷ []) (types_claimed class_of (drop (k + 1) types)) ≡ total
-one_found class_of types k t ty found total at is so_far =
-    sym (ap (λ ts. with_found found (types_claimed class_of ts)) (drop_get types k t at) ∙ ap (λ o. with_found found (option_and_then (λ one. option_map (λ more. one ∷ more) (types_claimed class_of (drop (k + 1) types))) o)) is
-    ∙ regroup (types_claimed class_of (drop (k + 1) types))) ∙ so_far
-  where
-    regroup : (o : Option (List Ty)) → with_found found (option_map (λ more. ty ∷ more) o) ≡ with_found (found ++ ty ∷ []) o
-    regroup None = refl
-    regroup (Some more) = ap Some (sym (append_one found ty more))
-
 pub none_found : (class_of : SpelledClass → Option ClassName) (types : List StatedType) (k : ℕ) (t : StatedType) (found : List Ty) (total : Option (List Ty)) → slice_get types k ≡ Some t → type_claimed class_of t ≡ None
     → with_found found (types_claimed class_of (drop k types)) ≡ total → None ≡ total
 none_found class_of types k t found total at is so_far =

@@ -143,9 +143,6 @@ state_fits rules m listing c d e =
 pub no_start : (rules : Rules) (m : Method) (listing : List PlacedInstr) (c : Stated) → begins listing c.pc ≡ false → told_at c.pc (state_stands rules m listing c) ≡ Err (fault_at c.pc CertMismatch)
 no_start rules m listing c e = rw e refl
 
-pub no_shape : (rules : Rules) (m : Method) (listing : List PlacedInstr) (c : Stated) → begins listing c.pc ≡ true → has_shape m c ≡ false → told_at c.pc (state_stands rules m listing c) ≡ Err (fault_at c.pc CertMismatch)
-no_shape rules m listing c b e = rw (b, e) refl
-
 pub no_class : (rules : Rules) (m : Method) (listing : List PlacedInstr) (c : Stated) → begins listing c.pc ≡ true → has_shape m c ≡ true → claim_of rules c ≡ None → told_at c.pc (state_stands rules m listing c) ≡ Err (fault_at c.pc CertMismatch)
 no_class rules m listing c b s e = rw (b, s, e) refl
 
@@ -157,13 +154,6 @@ pub record StatesSoFar (rules : Rules) (m : Method) (listing : List PlacedInstr)
   pub rest : (states_stand rules m listing (drop k states) >>= λ more. Ok (claims ++ more)) ≡ states_stand rules m listing states
   pub number : length claims ≡ k
   pub table : IsTable rules m listing claims marks
-
-pub no_states : (rules : Rules) (m : Method) (listing : List PlacedInstr) (states : List Stated) (marks : List Mark) → IsTable rules m listing [] marks → StatesSoFar rules m listing states 0 [] marks
-no_states rules m listing states marks t = record { rest = same (states_stand rules m listing states); number = refl; table = t }
-  where
-    same : (r : Result (List Claim) Fault) → (r >>= λ more. Ok more) ≡ r
-    same (Ok claims) = refl
-    same (Err fault) = refl
 
 unfold_one : (rules : Rules) (m : Method) (listing : List PlacedInstr) (c : Stated) (cs : List Stated) (r : Result Claim Reason) → state_stands rules m listing c ≡ r
     → states_stand rules m listing (c ∷ cs) ≡ (told_at c.pc r >>= λ claim. states_stand rules m listing cs >>= λ claims. Ok (claim ∷ claims))

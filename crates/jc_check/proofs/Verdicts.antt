@@ -125,27 +125,9 @@ pub refused_or_memory : (rules : Rules) (m : Method) (listing : List PlacedInstr
 refused_or_memory rules m listing states marks faults.Memory some table handlers told = tt
 refused_or_memory rules m listing states marks (faults.Refused pc reason) some table handlers told = found listing (fault_at pc reason) table.whole some (findings_stop rules m listing states (fault_at pc reason) (sym handlers) (told listing table))
 
--- where a certificate carries the code, only memory can be wanting
-pub carried_or_memory : (code : List ℕ) (states : List Stated) (rows : List Row) (fault : WordFault) → ((f : Fault) → IsFirstFault word_rules (word_method code) states f → Carries word_rules (word_method code) states → ⊥)
-    → states_of rows ≡ Some states → IfRefused fault (λ f. IsFirstFault word_rules (word_method code) states f) → CertCarriesCode code rows → fault ≡ faults.Memory
-carried_or_memory code states rows faults.Memory none e t c = refl
-carried_or_memory code states rows (faults.Refused pc reason) none e t c =
-    let same : c.states ≡ states = the_some c.states states (sym c.are ∙ e) in
-    let C : List Stated → Type 0 = λ s. Carries word_rules (word_method code) s in
-    absurd (none (fault_at pc reason) t (subst C same c.carried))
-
--- the entry state has the method's shape
-pub entry_room : (m : Method) (s : StateWithRoom) → s.types ≡ entry_of m → s.room ≡ m.max_stack → HasRoom m s
-entry_room m s types room = record { locals = ap (λ (t : Types). length t.locals) types ∙ length-append m.arguments (replicate m.max_locals Top) ∙ ap (λ (n : ℕ). length m.arguments + n) (length-replicate m.max_locals Top); room = room }
-
 pub nothing_in : {A : Type 0} (xs ys : List A) → ys ≡ xs → true ≡ (length ys == 0) → xs ≡ []
 nothing_in [] ys e h = refl
 nothing_in {A} (x ∷ xs) ys e h =
     let n : length ys ≡ length xs + 1 = ap (λ (zs : List A). length zs) e ∙ omega arith in
     let z : length ys ≡ 0 = eqb-true (length ys) 0 (sym h) in
     absurd (omega arith)
-
-pub something_in : {A : Type 0} (xs ys : List A) → ys ≡ xs → false ≡ (length ys == 0) → xs ≢ []
-something_in {A} xs ys e h nil =
-    let z : length ys ≡ 0 = ap (λ (zs : List A). length zs) (e ∙ nil) in
-    eqb-false (length ys) 0 (sym h) z

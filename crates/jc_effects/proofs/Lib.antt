@@ -6,5 +6,4 @@ mod Lower
 mod Monotone
 mod Shapes
 pub mod Knowing
-mod OwnMethods
 mod Growing

@@ -1,8 +1,8 @@
 //! What holds of all effects.
 
-ghost use Rattle.std.specs.Prelude.{◌≡◌, ◌&&◌, ℕ, Bool, not, true, List, Option, Some, Ok, slice_get};
+ghost use Rattle.std.specs.Prelude.{◌≡◌, ◌&&◌, ℕ, Bool, not, true, List, Option, Ok};
 ghost use Rattle.jc_base.specs.declared.declared_type.DeclaredType.{DeclaredType};
-ghost use Rattle.jc_cap_desc.specs.Shape.{MethodBody, Shape};
+ghost use Rattle.jc_cap_desc.specs.Shape.{Shape};
 ghost use Rattle.jc_api.specs.Class.{is_abstract, is_interface};
 ghost use Rattle.jc_api.specs.declared.class.ApiClass.{ApiClass};
 ghost use Rattle.jc_classes.specs.Growth.{LiesWithin};
@@ -14,7 +14,7 @@ ghost use Rattle.jc_code.specs.declared.instr.WordOperation.{WordOperation};
 ghost use Rattle.jc_link.specs.Built.{IsBuilt};
 ghost use Rattle.jc_link.specs.Growth.{HasApi};
 ghost use Rattle.jc_link.specs.KnownTypes.{is_known_type};
-ghost use Rattle.jc_link.specs.Linked.{IsLast, Linked};
+ghost use Rattle.jc_link.specs.Linked.{Linked};
 ghost use Rattle.jc_types.specs.Known.{AreKnown, is_known};
 ghost use Rattle.jc_types.specs.State.{Types};
 ghost use Rattle.jc_types.specs.Ty.{type_of_declared};
@@ -22,7 +22,6 @@ ghost use Rattle.jc_types.specs.declared.ty.Ty.{Ty};
 ghost use Rattle.jc_effects.specs.Effect.{effect_of};
 ghost use Rattle.jc_effects.specs.Growth.{KeepsAllMembers, KeepsAllOrders, KeepsOwnMethods, in_world};
 ghost use Rattle.jc_effects.specs.Laws.{IsMonotone, KeepsShape, NamesKnown};
-ghost use Rattle.jc_effects.specs.Method.{has_own_method};
 ghost use Rattle.jc_effects.specs.Objects.{Setting, has_objects};
 ghost use Rattle.jc_effects.specs.Row.{Row, applied};
 ghost use Rattle.jc_effects.specs.Words.{word_effect};
@@ -78,13 +77,6 @@ pub fn api_classes_have_objects()
 {
     built_worlds_have_the_api();
 }
-
-/// Each method with code of a linked package is declared there with a header, as `transfer` asks. It does nothing.
-#[tactic(auto, using(crate::proofs::OwnMethods::own_methods))]
-pub fn linked_methods_are_own()
-    ensures { (l : Linked) → IsLast l → (n : ℕ) (b : MethodBody) → slice_get l.body.kept.methods n ≡ Some b
-        → has_own_method l b.offset ≡ true }
-{}
 
 /// An effect keeps how many locals there are, and leaves no more operands than a method may have where there were no
 /// more: of operations on words, and of all operations read against a setting. It does nothing.

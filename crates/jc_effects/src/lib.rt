@@ -18,7 +18,7 @@ pub use effect::{own_method, result_of, transfer, transfer_in};
 pub use jc_base::Reason;
 pub use laws::{
     api_classes_have_objects, effects_are_monotone, effects_keep_shapes, effects_name_classes,
-    growing_keeps_effects, linked_methods_are_own,
+    growing_keeps_effects,
 };
 pub use row::{Demand, Given, Place};
 pub use setting::Setting;

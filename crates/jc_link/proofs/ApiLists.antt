@@ -191,10 +191,6 @@ pub each_from : {A : Type 0} (f : ℕ → A) (room i : ℕ) (x : A) → slice_ge
 unfolding each_below
 each_from f room i x e = mapped_from f (range_with_len 0 room) i x e
 
-pub each_count : {A : Type 0} (f : ℕ → A) (room : ℕ) → length (each_below room f) ≡ room
-unfolding each_below
-each_count f room = mapped_count f 0 room
-
 pub each_is : {A : Type 0} (f : ℕ → A) (room t : ℕ) (x : A) → slice_get (each_below room f) t ≡ Some x → x ≡ f t
 each_is f room t x e = by_order (cases_lt t room)
   where

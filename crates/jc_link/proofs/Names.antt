@@ -30,14 +30,6 @@ module _ {A B : Type 0} (f : A → Option B) where
   name_at (a ∷ xs) (b ∷ ys) zero x y e h k = cc
   name_at (a ∷ xs) (b ∷ ys) (suc i) x y e h k = name_at xs ys i x y (cc) h k
 
-  -- there is something kept
-  pub no_name : (xs : List A) (ys : List B) (i : ℕ) (x : A) → map Some ys ≡ map f xs → slice_get xs i ≡ Some x
-      → slice_get ys i ≡ None → ⊥
-  no_name [] ys i x e h k = absurd cc
-  no_name (a ∷ xs) [] i x e h k = absurd cc
-  no_name (a ∷ xs) (b ∷ ys) zero x e h k = absurd cc
-  no_name (a ∷ xs) (b ∷ ys) (suc i) x e h k = no_name xs ys i x (cc) h k
-
   step : (xs : List A) (i : ℕ) (y : B) → option_and_then f (slice_get xs i) ≡ Some y
       → map f (take (suc i) xs) ≡ map f (take i xs) ++ Some y ∷ []
   step [] i y e = absurd cc

@@ -34,10 +34,6 @@ use Rattle.jc_link.specs.Sound.{IsHeir, itself, behind, HaveSuperclasses}
 
 -- ---- chains
 
-pub heir_on : (world : List Shape) (c d e : ClassName) → IsHeir world c d → IsHeir world d e → IsHeir world c e
-heir_on world _ _ e (itself c) g = g
-heir_on world _ _ e (behind c s d f h) g = behind c s e f (heir_on world s d e h g)
-
 pub heir_of_walk : (world : List Shape) (n : ℕ) (d c : ClassName) → is_at_or_above world n d c ≡ true → IsHeir world c d
 heir_of_walk world zero d c e = true_false (sym e)
 heir_of_walk world (suc n) d c e = by_name (is_same_name c d) refl (superclass_of world c) refl e (λ s. heir_of_walk world n d s)

@@ -45,9 +45,6 @@ module _ (w : World) (l : Linked) (accepted : IsAccepted w) (bound : IsBoundTo w
   as_linked n body linked same tokens carried typed =
       record { tokens = tokens; carried = subst IsPackageCarried (sym same) carried; typed = subst IsPackageTyped (sym same) typed }
 
-  with_body : LinkedBody → List Shape → Linked
-  with_body body world = record { world = world; body = body }
-
   earlier : (n : ℕ) (body : LinkedBody) → slice_get w.bodies n ≡ Some body → n < length w.bodies
       → IsAcceptedPackage (with_linked w l) (suc n) body
   earlier n body there low =

@@ -4,7 +4,6 @@ mod Laying
 mod Numbering
 mod Entering
 mod Finding
-mod Growing
 mod Covering
 mod Naming
 mod Calling

@@ -110,14 +110,6 @@ either_none : (b : Bool) → b ≡ (b || false)
 either_none true = refl
 either_none false = refl
 
-pub united_none : (p : ℕ → Bool) (a b : List ℕ) → ((n : ℕ) → p n ≡ false) → ((n : ℕ) → has_bit b n ≡ has_bit a n)
-    → AreUnited p a b false
-united_none p a b none alike = record {
-  bits = λ n. alike n ∙ either_none (has_bit a n) ∙ ap (λ x. has_bit a n || x) (sym (none n));
-  fewer = λ e. no_such (sym e);
-  same = λ e. alike;
-}
-
 -- ---- one word
 
 pub or_small : (word more : ℕ) → word < 2 ^ 64 → more < 2 ^ 64 → bit_or word more < 2 ^ 64
@@ -295,45 +287,6 @@ bits_before words at n = nat_lt (n / 64) at && has_bit words n
 
 pub none_before : (words : List ℕ) (n : ℕ) → bits_before words 0 n ≡ false
 none_before words n = ap (λ b. b && has_bit words n) (le-ltb (n / 64) 0 (omega arith))
-
-pub word_more : (words : List ℕ) (at word n : ℕ) → word ≡ get_or words at 0
-    → (bits_before words at n || bits_of at word n) ≡ bits_before words (at + 1) n
-word_more words at word n is = by_order (cases_order (n / 64) at)
-  where
-    by_order : (n / 64 ≡ at) ⊎ ((n / 64 < at) ⊎ (at < n / 64))
-        → (bits_before words at n || bits_of at word n) ≡ bits_before words (at + 1) n
-    by_order (inl e) =
-        let before : nat_lt (n / 64) at ≡ false = le-ltb (n / 64) at (omega (arith, e)) in
-        let behind : nat_lt (n / 64) (at + 1) ≡ true = lt-ltb (n / 64) (at + 1) (omega (arith, e)) in
-        let same : n / 64 == at ≡ true = eq-eqb (n / 64) at e in
-        ap (λ b. (b && has_bit words n) || bits_of at word n) before
-        ∙ ap (λ b. b && bit_at word (n % 64) == 1) same
-        ∙ ap (λ w. bit_at w (n % 64) == 1) (is ∙ ap (λ k. get_or words k 0) (sym e))
-        ∙ ap (λ b. b && has_bit words n) (sym behind)
-    by_order (inr (inl less)) =
-        let before : nat_lt (n / 64) at ≡ true = lt-ltb (n / 64) at less in
-        let behind : nat_lt (n / 64) (at + 1) ≡ true = lt-ltb (n / 64) (at + 1) (omega (arith, less)) in
-        let other : n / 64 == at ≡ false = ne_eqb (n / 64) at (λ e. omega (arith, e, less)) in
-        ap (λ b. (nat_lt (n / 64) at && has_bit words n) || (b && bit_at word (n % 64) == 1)) other
-        ∙ sym (either_none (nat_lt (n / 64) at && has_bit words n))
-        ∙ ap (λ b. b && has_bit words n) (before ∙ sym behind)
-    by_order (inr (inr more)) =
-        let before : nat_lt (n / 64) at ≡ false = le-ltb (n / 64) at (omega (arith, more)) in
-        let behind : nat_lt (n / 64) (at + 1) ≡ false = le-ltb (n / 64) (at + 1) (omega (arith, more)) in
-        let other : n / 64 == at ≡ false = ne_eqb (n / 64) at (λ e. omega (arith, e, more)) in
-        ap (λ b. (b && has_bit words n) || bits_of at word n) before
-        ∙ ap (λ b. b && bit_at word (n % 64) == 1) other
-        ∙ ap (λ b. b && has_bit words n) (sym behind)
-
-pub all_before : (words : List ℕ) (at n : ℕ) → length words ≤ at → bits_before words at n ≡ has_bit words n
-all_before words at n past = by_order (cases_lt (n / 64) at)
-  where
-    by_order : (n / 64 < at) ⊎ (at ≤ n / 64) → bits_before words at n ≡ has_bit words n
-    by_order (inl less) = ap (λ b. b && has_bit words n) (lt-ltb (n / 64) at less)
-    by_order (inr behind) =
-        ap (λ b. b && has_bit words n) (le-ltb (n / 64) at behind)
-        ∙ sym (ap (λ w. bit_at w (n % 64) == 1) (get_or_past words (n / 64) 0 (omega (arith, past, behind)))
-        ∙ ap (λ b. b == 1) (bit_at-zero (n % 64)))
 
 -- ---- words in a list that has others behind
 

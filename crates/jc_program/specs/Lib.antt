@@ -5,7 +5,6 @@ pub mod EntryCalls
 pub mod PrivateEntries
 pub mod Classes
 pub mod PrivateClasses
-pub mod Growth
 pub mod Called
 pub mod PrivateCalled
 pub mod BitRow

@@ -1,4 +1,4 @@
-//! What holds of lists of loaded methods and of classes.
+//! What holds of a world's classes and of a program's tables.
 
 ghost use Rattle.std.specs.Prelude.{◌≡◌, ◌||◌, ℕ, List, None, Some, false, slice_get};
 ghost use Rattle.jc_api.specs.declared.class.ApiClass.TheVariants.{Object};
@@ -8,25 +8,18 @@ ghost use Rattle.jc_classes.specs.Limits.{IsSmall};
 ghost use Rattle.jc_classes.specs.Subtype.{is_class_below, is_interface_at, is_subtype};
 ghost use Rattle.jc_classes.specs.World.{class_at};
 ghost use Rattle.jc_link.specs.Built.{IsBuilt};
-ghost use Rattle.jc_link.specs.Linked.{IsBoundTo, IsWorld, Linked, LinkedBody, World};
+ghost use Rattle.jc_link.specs.Linked.{LinkedBody, World};
 ghost use Rattle.jc_program.specs.Classes.{HaveNumbers, KeepsNumbers, class_names, class_number};
-ghost use Rattle.jc_program.specs.Growth.{KeepsLoaded};
 ghost use Rattle.jc_program.specs.MemberTokens.{HavePublicTokens};
-ghost use Rattle.jc_program.specs.Methods.{CoversSame, AreFound, AreLoaded, LoadedMethod};
+ghost use Rattle.jc_program.specs.Methods.{CoversSame};
 ghost use Rattle.jc_program.specs.Program.{AnswersFor, IsProgramOf};
 ghost use Rattle.jc_program.specs.declared.program.Program.{Program};
 ghost use Rattle.jc_names.specs.Names.{is_same_name};
 ghost use Rattle.jc_names.specs.declared.name.ClassName.{ClassName};
 ghost use Rattle.jc_names.specs.declared.name.ClassName.TheVariants.{Api};
 
-use jc_classes::{adding_keeps_lookups, found_subtypes_are_subtypes};
-use jc_link::{adding_keeps_linking, built_worlds_are_sound};
-
-/// The position of a name leads to the method that is looked up anew by that name in the world.
-#[tactic(auto, using(crate::proofs::Finding::are_found))]
-pub fn loaded_methods_are_found()
-    ensures { (world : World) (methods : List LoadedMethod) → AreLoaded world methods → AreFound world methods }
-{}
+use jc_classes::found_subtypes_are_subtypes;
+use jc_link::built_worlds_are_sound;
 
 /// Handlers whose pcs count in the code cover what their rows cover.
 #[tactic(auto, using(crate::proofs::Covering::covers_same))]
@@ -45,15 +38,6 @@ pub fn classes_have_numbers()
     ensures named { (names : List ClassName) (c : ClassName) (n : ℕ)
         → class_number names c ≡ Some n → slice_get names n ≡ Some c }
 {}
-
-/// A linked package behind the others of a world leaves their methods and what their entries lead to as they are: its
-/// own methods come behind those of the others.
-pub fn loading_keeps_methods()
-    ensures { (w : World) (l : Linked) → IsWorld w → IsBoundTo w l → KeepsLoaded w l }
-{
-    adding_keeps_lookups();
-    adding_keeps_linking();
-}
 
 /// In a world that is built no member of the API has a package-visible token.
 #[tactic(auto, using(crate::proofs::Tokening::public_tokens))]

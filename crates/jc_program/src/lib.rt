@@ -34,8 +34,7 @@ pub use handler::{Caught, LoadedHandler};
 pub use interfaces::{InterfaceCall, InterfaceMethods};
 pub use laws::{
     api_tokens_are_public, class_subtypes_are_below, classes_have_numbers,
-    loaded_handlers_cover_the_same, loaded_methods_are_found, loading_keeps_methods, program_laws,
-    unknown_classes_are_below_themselves,
+    loaded_handlers_cover_the_same, program_laws, unknown_classes_are_below_themselves,
 };
 pub use member_tokens::MemberTokens;
 pub use methods::{MethodNumber, Methods};

@@ -61,10 +61,6 @@ module _ (forms : List Form) (i : ℕ) (past : length forms ≤ i) (needed colum
 
 -- ---- how many bytes words take
 
-one_byte_more : (b : ℕ) (word : List ℕ) (words : List (List ℕ))
-    → spread (onto_first b (word ∷ words)) ≡ spread (word ∷ words) + 1
-one_byte_more b word words = grind arith
-
 pub record IsSpread (words : List (List ℕ)) (size : ℕ) : Type 0 where
   pub first : List ℕ
   pub others : List (List ℕ)

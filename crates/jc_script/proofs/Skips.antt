@@ -51,15 +51,6 @@ skipped_here None known unread after p e = tt
 skipped_here (Some bytes) None unread after p e = absurd p
 skipped_here (Some bytes) (Some k) unread after p e = at_feed (feed_found bytes unread k after p e)
 
-pub skipped_all : (before known after : Option (List ℕ)) (unread came : List ℕ) → ArePast before (pending unread known)
-    → NoFeed unread → Consumes known after came → IsAtEnd after → came ≡ [] → AreSkipped before (pending came after)
-skipped_all None known after unread came p f c e none = tt
-skipped_all (Some bytes) None after unread came p f c e none = absurd p
-skipped_all (Some bytes) (Some k) None unread came p f c e none = absurd c
-skipped_all (Some bytes) (Some k) (Some more) unread came p f c e none =
-    let rest : (came ++ more) ≡ [] = ap (λ l. l ++ more) none ∙ e in
-    at_end (all_taken bytes (came ++ more) (more_past bytes unread k more came p f c) rest) rest
-
 -- ---- a line of a session
 
 too_long : (line : List ℕ) → most_in_line < length line → session_line line ≡ Bad
@@ -94,11 +85,3 @@ told_skipped line last (Some bytes) None after told is r s = absurd r
 told_skipped line last (Some bytes) (Some m) None told is r s = absurd s
 told_skipped line last (Some bytes) (Some m) (Some rest) told is r s =
     subst (TellsOfSession last bytes rest) (sym is) (skipped_line bytes m rest (subst (ReadsKnown line bytes m) is r) s)
-
-pub told_whole : (line : List ℕ) (before after : Option (List ℕ)) (told : NextLine) → (told ≡ next.Bad → ⊥)
-    → ReadsOn line before after told → TellsInSession line before after told
-told_whole line None after told fit r = tt
-told_whole line (Some bytes) None told fit r = absurd r
-told_whole line (Some bytes) (Some rest) next.Line fit r = record { lines = r.0; short = r.1 }
-told_whole line (Some bytes) (Some rest) next.End fit r = r
-told_whole line (Some bytes) (Some rest) next.Bad fit r = absurd (fit refl)

@@ -13,15 +13,6 @@ module _ (common : ClassName → ClassName → ClassName) where
   abbrev pub joined_from : ℕ → List Ty → List Ty → List Ty
   joined_from i ts us = take i ts ++ joined_all common (drop i ts) (drop i us)
 
-  pub one_joined : (ts us : List Ty) (i : ℕ) → i < length ts → i < length us
-      → joined_from (i + 1) (set ts i (join_of common (get_or ts i Top) (get_or us i Top))) us ≡ joined_from i ts us
-  one_joined [] us i l k = absurd (omega (arith, l))
-  one_joined (a ∷ ts) [] i l k = absurd (omega (arith, k))
-  one_joined (a ∷ ts) (b ∷ us) zero l k = refl
-  one_joined (a ∷ ts) (b ∷ us) (suc i) l k =
-      let j : suc i + 1 ≡ suc (i + 1) = omega arith in
-      rw j (ap (λ (rest : List Ty). a ∷ rest) (one_joined ts us i (omega (arith, l)) (omega (arith, k))))
-
   nothing_with : (us : List Ty) → joined_all common [] us ≡ []
   nothing_with [] = refl
   nothing_with (b ∷ us) = refl

@@ -3,7 +3,7 @@
 ghost use Rattle.std.specs.Prelude.{◌≡◌, ◌+◌, ◌≤◌, ℕ, List, true, false, [], ◌∷◌, Some, None};
 ghost use Rattle.std.specs.Prelude.{length, nat_le, take, drop, reverse, slice_get, slice_range, IfOk};
 ghost use Rattle.std.specs.Borrow.{sem};
-ghost use Rattle.jc_frames.specs.Frames.{Frame, HasOperands, HasTop, IsFull, IsPushed, with_frames, with_header};
+ghost use Rattle.jc_frames.specs.Frames.{Frame, HasOperands, HasTop, IsFull, IsPushed, with_frames};
 ghost use Rattle.jc_frames.specs.Frames.{with_locals, with_locals_left, with_operands, with_operands_left};
 ghost use Rattle.jc_frames.specs.Lending.{LendsLocals, LendsOperands, LendsWords};
 ghost use Rattle.jc_frames.specs.Operands.{HasInUse, arguments_in, at_pc, dropped, in_use, local_in, of_top, on_top};
@@ -97,23 +97,6 @@ impl Frames {
         top_of(&self.places).header
     }
 
-    /// Puts another header into the top frame.
-    #[inline]
-    pub fn set_header(&mut self, header: FrameHeader)
-        requires there { HasTop self.old }
-        ensures { (top : Frame) (below : List Frame) → self.old.frames ≡ top ∷ below
-            → self.new ≡ with_frames self.old (with_header top header ∷ below) }
-    {
-        let place = top_of(&self.places);
-        let last = self.places.len() - 1;
-        self.places[last] = FramePlace {
-            header,
-            start: place.start,
-            locals: place.locals,
-            operands: place.operands,
-        };
-    }
-
     /// The locals of the top frame, for writing.
     #[inline]
     pub fn locals(&mut self) -> &mut [u16]
@@ -177,26 +160,8 @@ impl Frames {
         true
     }
 
-    /// Puts a frame on top, if there is room for it: so many operands of the frame that was on top, from the first one
-    /// on, are its first locals, and its other words hold anything.
-    #[inline]
-    pub fn push_call(&mut self, header: FrameHeader, size: FrameSize, first: u8, count: u8) -> bool
-        requires there { HasOperands self.old first count }
-        requires fit { count ≤ size.locals }
-        ensures pushed { (top : Frame) (below : List Frame) → self.old.frames ≡ top ∷ below → result ≡ true
-            → IsPushed self.old header size (slice_range top.operands first (first + count)) self.new }
-        ensures room { result ≡ true → IsFull self.old size → ⊥ }
-        ensures full { result ≡ false → IsFull self.old size }
-        ensures kept { result ≡ false → self.new ≡ self.old }
-    {
-        if !self.has_room(size) {
-            return false;
-        }
-        self.put_call(header, size, first, count);
-        true
-    }
-
-    // The same where there is room.
+    // Puts a frame on top, where there is room for it: so many operands of the frame that was on top, from an index on,
+    // are its first locals, and its other words hold anything.
     #[inline(always)]
     fn put_call(&mut self, header: FrameHeader, size: FrameSize, first: u8, count: u8)
         requires there { HasOperands self.old first count }

@@ -52,7 +52,8 @@ module _ (world : List Shape) (sound : IsSound world) where
       → slice_get (class_names world) n ≡ Some c → false ≡ is_subtype world c (Api Shareable)
   not_shareable found gone n c at = by_test (is_subtype world c (Api Shareable)) refl
     where
-      no_shareable : (o : Option ClassShape) → class_at world (Api Shareable) ≡ o → class_at world (Api Shareable) ≡ None
+      no_shareable : (o : Option ClassShape) → class_at world (Api Shareable) ≡ o
+          → class_at world (Api Shareable) ≡ None
       no_shareable None e = e
       no_shareable (Some k) e =
           let number = (numbered world).numbers (Api Shareable) k (omega arith) e in

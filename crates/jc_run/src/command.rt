@@ -135,8 +135,8 @@ pub fn perform<S: PackageSource>(
             applet,
             instance,
             incoming,
-        } => Ok(install(card, applet, instance, incoming.as_slice())),
-        ScriptCommand::Apdu(bytes) => Ok(respond(card, bytes.as_slice())),
+        } => Ok(install(card, applet, instance, incoming)),
+        ScriptCommand::Apdu(bytes) => Ok(respond(card, bytes)),
         ScriptCommand::Reset => {
             card.reset();
             Ok(CommandAnswer::Reset)

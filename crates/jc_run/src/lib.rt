@@ -5,6 +5,7 @@ mod answer;
 mod command;
 mod fault;
 mod laws;
+mod line;
 mod run;
 mod session;
 mod telling;

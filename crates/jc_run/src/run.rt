@@ -21,8 +21,8 @@ use crate::writing::write_answer;
 use jc_api::Binding;
 use jc_card::{Card, Limits};
 use jc_script::{
-    Dialect, LineCause, LineFault, MOST_IN_LINE, MOST_LINES, NextLine, ScriptCommand, ScriptLine,
-    ScriptReader, fault_in, said_by,
+    Dialect, LineCause, LineFault, MOST_BYTES, MOST_IN_LINE, MOST_LINES, NextLine, ScriptCommand,
+    ScriptLine, ScriptReader, fault_in, said_by,
 };
 use jc_source::{PackageSource, SourceFault};
 use std::alloc::Global;
@@ -89,7 +89,8 @@ fn play_line<W: Write, S: PackageSource, T: Teller<S>>(
     ensures same_images { HoldSame (S.holds_image source.old) (S.holds_image source.new) }
     ensures same_certificates { HoldSame (S.holds_certificate source.old) (S.holds_certificate source.new) }
 {
-    match said_by(line) {
+    let mut room = [0; MOST_BYTES];
+    match said_by(line, &mut room) {
         ScriptLine::Skipped => Ok(()),
         ScriptLine::Asks(command) => {
             play_command(alloc, writer, source, card, teller, &command, number)

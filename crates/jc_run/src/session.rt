@@ -21,8 +21,8 @@ use crate::writing::write_answer;
 use jc_api::Binding;
 use jc_card::{Card, Limits};
 use jc_script::{
-    Dialect, LineCause, LineFault, MOST_IN_LINE, NextLine, ReadFault, ScriptCommand, ScriptLine,
-    ScriptReader, fault_in, said_in_session,
+    Dialect, LineCause, LineFault, MOST_BYTES, MOST_IN_LINE, NextLine, ReadFault, ScriptCommand,
+    ScriptLine, ScriptReader, fault_in, said_in_session,
 };
 use jc_source::{PackageSource, SourceFault};
 use std::alloc::Global;
@@ -106,7 +106,8 @@ fn converse_line<W: Write, S: PackageSource, T: Teller<S>>(
     ensures same_images { HoldSame (S.holds_image source.old) (S.holds_image source.new) }
     ensures same_certificates { HoldSame (S.holds_certificate source.old) (S.holds_certificate source.new) }
 {
-    match said_in_session(line) {
+    let mut room = [0; MOST_BYTES];
+    match said_in_session(line, &mut room) {
         ScriptLine::Skipped => Ok(()),
         ScriptLine::Asks(command) => {
             converse_command(alloc, writer, source, card, teller, &command, number)

@@ -1,4 +1,4 @@
-//! The lines of answers, as they are written.
+//! How lines of answers are written.
 
 ghost use Rattle.std.specs.Prelude.{◌≡◌, ◌≤◌, length, take, IfOk, OnOk, OnErr};
 ghost use Rattle.std.specs.Io.KnownBytes.{Appends, Keeps};
@@ -7,11 +7,9 @@ ghost use Rattle.jc_run.specs.Play.{answer_line};
 ghost use Rattle.jc_run.specs.PrivatePlay.{AppendsPart};
 
 use crate::answer::CommandAnswer;
+use crate::line::put_line;
 use arrayvec::ArrayVec;
 use std::io::{self, Write};
-
-/// The most bytes of an answer's line: two digits for each of 256 bytes, and what stands around them.
-const MOST_IN_ANSWER: usize = 526;
 
 /// The most calls of a writer for one line.
 const MOST_CALLS: u32 = 16_777_216;
@@ -55,15 +53,6 @@ fn write_through<W: Write>(writer: &mut W, bytes: &[u8]) -> io::Result<()>
     writer.flush()
 }
 
-/// The line of an answer, with its line feed.
-fn line_of(answer: &CommandAnswer) -> io::Result<ArrayVec<u8, MOST_IN_ANSWER>>
-    ensures { IfOk result (λ line. line.items ≡ answer_line (shown answer.now)) }
-{
-    let mut line = ArrayVec::new();
-    writeln!(line, "{answer}")?;
-    Ok(line)
-}
-
 /// Writes the line of an answer whole, with its line feed, and flushes the writer. Where that fails the first bytes of
 /// the line may be written.
 pub(crate) fn write_answer<W: Write>(writer: &mut W, answer: &CommandAnswer) -> io::Result<()>
@@ -72,6 +61,7 @@ pub(crate) fn write_answer<W: Write>(writer: &mut W, answer: &CommandAnswer) -> 
     ensures part { OnErr result (AppendsPart (W.contents writer.old) (W.contents writer.new)
         (answer_line (shown answer.now))) }
 {
-    let line = line_of(answer)?;
+    let mut line = ArrayVec::new();
+    put_line(&mut line, answer)?;
     write_through(writer, line.as_slice())
 }

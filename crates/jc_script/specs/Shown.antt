@@ -7,8 +7,8 @@ use Rattle.jc_script.specs.declared.command.ScriptLine.TheVariants as lines
 
 abbrev pub shown_command : ScriptCommand → script.ScriptCommand
 shown_command (commands.Load folder certificate) = script.Load folder.now certificate.now
-shown_command (commands.Install applet instance incoming) = script.Install applet instance incoming.items
-shown_command (commands.Apdu bytes) = script.Apdu bytes.items
+shown_command (commands.Install applet instance incoming) = script.Install applet instance incoming.now
+shown_command (commands.Apdu bytes) = script.Apdu bytes.now
 shown_command commands.Reset = script.Reset
 shown_command commands.Cells = script.Cells
 shown_command commands.Objects = script.Objects

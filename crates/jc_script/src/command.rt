@@ -6,7 +6,6 @@ ghost use Rattle.jc_script.specs.Script.{apdu_asked, asked, install_asked, load_
 ghost use Rattle.jc_script.specs.Shown.{shown, shown_command};
 
 use crate::words::{Words, aid_of, bytes_of, is_skipped, name_of};
-use arrayvec::ArrayVec;
 use jc_base::Aid;
 
 /// The most bytes of a line, without its line feed.
@@ -27,10 +26,10 @@ pub enum ScriptCommand<'a> {
     Install {
         applet: Aid,
         instance: Aid,
-        incoming: ArrayVec<u8, MOST_BYTES>,
+        incoming: &'a [u8],
     },
     /// A reader sends a command.
-    Apdu(ArrayVec<u8, MOST_BYTES>),
+    Apdu(&'a [u8]),
     /// The card is reset.
     Reset,
     /// How many cells are used: a line of a session.
@@ -66,7 +65,10 @@ fn load_asked(mut words: Words) -> Option<ScriptCommand>
 }
 
 #[tactic(auto, unfolding(crate::specs::Script::install_asked))]
-fn install_asked(mut words: Words) -> Option<ScriptCommand>
+fn install_asked<'a>(
+    mut words: Words<'a>,
+    room: &'a mut [u8; MOST_BYTES],
+) -> Option<ScriptCommand<'a>>
     ensures { option_map shown_command result ≡ install_asked words.entry }
 {
     let applet = words.next()?;
@@ -78,8 +80,8 @@ fn install_asked(mut words: Words) -> Option<ScriptCommand>
     let applet = aid_of(applet)?;
     let instance = aid_of(instance)?;
     let incoming = match incoming {
-        Some(word) => bytes_of(word)?,
-        None => ArrayVec::new(),
+        Some(word) => bytes_of(word, room)?,
+        None => &[],
     };
     Some(ScriptCommand::Install {
         applet,
@@ -89,14 +91,14 @@ fn install_asked(mut words: Words) -> Option<ScriptCommand>
 }
 
 #[tactic(auto, unfolding(crate::specs::Script::apdu_asked))]
-fn apdu_asked(mut words: Words) -> Option<ScriptCommand>
+fn apdu_asked<'a>(mut words: Words<'a>, room: &'a mut [u8; MOST_BYTES]) -> Option<ScriptCommand<'a>>
     ensures { option_map shown_command result ≡ apdu_asked words.entry }
 {
     let bytes = words.next()?;
     if words.next().is_some() {
         return None;
     }
-    Some(ScriptCommand::Apdu(bytes_of(bytes)?))
+    Some(ScriptCommand::Apdu(bytes_of(bytes, room)?))
 }
 
 #[tactic(auto, unfolding(crate::specs::Script::reset_asked))]
@@ -111,16 +113,16 @@ fn reset_asked(mut words: Words) -> Option<ScriptCommand>
 
 /// The command that words ask for, if they do.
 #[tactic(auto, unfolding(crate::specs::Script::asked))]
-fn asked(mut words: Words) -> Option<ScriptCommand>
+fn asked<'a>(mut words: Words<'a>, room: &'a mut [u8; MOST_BYTES]) -> Option<ScriptCommand<'a>>
     ensures { option_map shown_command result ≡ asked words.entry }
 {
     let keyword = words.next()?;
     if keyword == b"load".as_slice() {
         load_asked(words)
     } else if keyword == b"install".as_slice() {
-        install_asked(words)
+        install_asked(words, room)
     } else if keyword == b"apdu".as_slice() {
-        apdu_asked(words)
+        apdu_asked(words, room)
     } else if keyword == b"reset".as_slice() {
         reset_asked(words)
     } else {
@@ -128,15 +130,15 @@ fn asked(mut words: Words) -> Option<ScriptCommand>
     }
 }
 
-/// What a line says, of at most [`MOST_IN_LINE`] bytes.
+/// What a line says, of at most [`MOST_IN_LINE`] bytes. The bytes that it spells are put down in this room.
 #[tactic(auto, unfolding(crate::specs::Script::said_by))]
-pub fn said_by(line: &[u8]) -> ScriptLine<'_>
+pub fn said_by<'a>(line: &'a [u8], room: &'a mut [u8; MOST_BYTES]) -> ScriptLine<'a>
     ensures { shown result ≡ script.said_by line.now }
 {
     if is_skipped(line) {
         return ScriptLine::Skipped;
     }
-    match asked(Words::new(line)) {
+    match asked(Words::new(line), room) {
         Some(command) => ScriptLine::Asks(command),
         None => ScriptLine::Bad,
     }
@@ -144,7 +146,7 @@ pub fn said_by(line: &[u8]) -> ScriptLine<'_>
 
 /// What a line of a session says, of at most [`MOST_IN_LINE`] bytes: it may ask for what is used, too.
 #[tactic(auto, unfolding(crate::specs::Script::said_in_session))]
-pub fn said_in_session(line: &[u8]) -> ScriptLine<'_>
+pub fn said_in_session<'a>(line: &'a [u8], room: &'a mut [u8; MOST_BYTES]) -> ScriptLine<'a>
     ensures { shown result ≡ script.said_in_session line.now }
 {
     if line == b"cells".as_slice() {
@@ -152,6 +154,6 @@ pub fn said_in_session(line: &[u8]) -> ScriptLine<'_>
     } else if line == b"objects".as_slice() {
         ScriptLine::Asks(ScriptCommand::Objects)
     } else {
-        said_by(line)
+        said_by(line, room)
     }
 }

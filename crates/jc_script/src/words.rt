@@ -9,7 +9,6 @@ ghost use Rattle.jc_script.specs.PrivateWords.{words_left};
 ghost use Rattle.jc_script.specs.Script.{bytes_of, control_in, name_of, text_of};
 
 use crate::command::{MOST_BYTES, MOST_IN_LINE};
-use arrayvec::ArrayVec;
 use jc_base::Aid;
 use std::marker::Model;
 
@@ -104,7 +103,6 @@ pub(crate) fn name_of(word: &[u8]) -> Option<&str>
 }
 
 /// Puts down the bytes that hexadecimal digits spell, and says whether they do.
-
 fn decode(word: &[u8], out: &mut [u8]) -> bool
     requires { length out.old ≡ length word.now / 2 }
     ensures spelled { OnTrue result (given (decode_of word.now) ≡ Some out.new) }
@@ -113,16 +111,15 @@ fn decode(word: &[u8], out: &mut [u8]) -> bool
     hex::decode_to_slice(word, out).is_ok()
 }
 
-/// The bytes that hexadecimal digits of either case spell, if they are one or more.
-pub(crate) fn bytes_of(word: &[u8]) -> Option<ArrayVec<u8, MOST_BYTES>>
-    ensures { option_map (λ bytes. bytes.items) result ≡ bytes_of word.now }
+/// The bytes that hexadecimal digits of either case spell, if they are one or more, put down in this room.
+pub(crate) fn bytes_of<'a>(word: &[u8], room: &'a mut [u8; MOST_BYTES]) -> Option<&'a [u8]>
+    ensures { option_map (λ bytes. bytes.now) result ≡ bytes_of word.now }
 {
     if word.is_empty() || word.len() > MOST_IN_LINE {
         return None;
     }
-    let mut bytes = ArrayVec::from([0; MOST_BYTES]);
-    bytes.truncate(word.len() / 2);
-    if decode(word, bytes.as_mut_slice()) {
+    let bytes = &mut room[..word.len() / 2];
+    if decode(word, bytes) {
         Some(bytes)
     } else {
         None
@@ -133,5 +130,6 @@ pub(crate) fn bytes_of(word: &[u8]) -> Option<ArrayVec<u8, MOST_BYTES>>
 pub(crate) fn aid_of(word: &[u8]) -> Option<Aid>
     ensures { result ≡ spelled_aid word.now }
 {
-    Aid::from_slice(bytes_of(word)?.as_slice())
+    let mut room = [0; MOST_BYTES];
+    Aid::from_slice(bytes_of(word, &mut room)?)
 }

@@ -10,5 +10,5 @@ returns-in_err-bytes_of c =
 
 pub returns : goal.returns
 returns c =
-    c.from_slice.ensures ∙ ap aid_of c.as_slice.ensures.value ∙ ap (λ o. o >>= aid_of) c.in_ok-bytes_of.ensures
+    c.from_slice.ensures ∙ ap (λ o. o >>= aid_of) c.in_ok-bytes_of.ensures
     ∙ aid_by_bytes c.args.word.now

@@ -1,0 +1,112 @@
+//! The lines of answers, as they are put together.
+
+ghost use Rattle.std.specs.Prelude.{◌≡◌, ◌++◌, [], codes, OnOk};
+ghost use Rattle.hex.specs.Hex.{encode_upper};
+ghost use Rattle.jc_run.specs.Answer.{install_words, line_of, response_line, shown, status_text};
+ghost use Rattle.jc_run.specs.Play.{answer_line};
+
+use crate::answer::CommandAnswer;
+use arrayvec::ArrayVec;
+use jc_card::InstallFault;
+use jc_script::put_digits;
+use std::io::{self, Write};
+
+/// The most bytes of an answer's line: two digits for each of 256 bytes, and what stands around them.
+const MOST_IN_ANSWER: usize = 526;
+
+/// The line of an answer, as far as it is put together.
+pub(crate) type AnswerLine = ArrayVec<u8, MOST_IN_ANSWER>;
+
+/// Puts bytes behind a line.
+fn put_bytes(line: &mut AnswerLine, bytes: &[u8]) -> io::Result<()>
+    ensures { OnOk result (line.new.items ≡ line.old.items ++ bytes.now) }
+{
+    match line.try_extend_from_slice(bytes) {
+        Ok(()) => Ok(()),
+        Err(_) => Err(io::Error::from(io::ErrorKind::WriteZero)),
+    }
+}
+
+/// Puts bytes behind a line, in hexadecimal.
+fn put_hexadecimal(line: &mut AnswerLine, bytes: &[u8]) -> io::Result<()>
+    ensures { OnOk result (line.new.items ≡ line.old.items ++ encode_upper bytes.now) }
+{
+    match put_digits(line, bytes) {
+        Ok(()) => Ok(()),
+        Err(_) => Err(io::Error::from(io::ErrorKind::WriteZero)),
+    }
+}
+
+/// Puts a status word behind a line, as four digits.
+fn put_status(line: &mut AnswerLine, status: u16) -> io::Result<()>
+    ensures { OnOk result (line.new.items ≡ line.old.items ++ status_text status) }
+{
+    let bytes = [(status / 256) as u8, (status % 256) as u8];
+    put_hexadecimal(line, &bytes)
+}
+
+/// Puts the answer to a reader behind a line: the status, and data before it where any are sent.
+fn put_response(line: &mut AnswerLine, sent: &[u8], status: u16) -> io::Result<()>
+    ensures { OnOk result (line.new.items ≡ line.old.items ++ response_line sent.now status) }
+{
+    if sent.is_empty() {
+        put_bytes(line, b"sw ")?;
+        return put_status(line, status);
+    }
+    put_bytes(line, b"data ")?;
+    put_hexadecimal(line, sent)?;
+    put_bytes(line, b" sw ")?;
+    put_status(line, status)
+}
+
+/// Puts the number and the name of a refusal behind a line, and the status of an install that failed.
+fn put_refusal(line: &mut AnswerLine, fault: InstallFault) -> io::Result<()>
+    ensures { OnOk result (line.new.items ≡ line.old.items ++ install_words fault) }
+{
+    match fault {
+        InstallFault::UnknownApplet => put_bytes(line, b"20 UnknownApplet"),
+        InstallFault::TooLong => put_bytes(line, b"21 TooLong"),
+        InstallFault::AidInUse => put_bytes(line, b"22 AidInUse"),
+        InstallFault::NoInstance => put_bytes(line, b"23 NoInstance"),
+        InstallFault::InstallFailed(failure) => {
+            put_bytes(line, b"24 InstallFailed ")?;
+            put_status(line, failure.status)
+        }
+    }
+}
+
+/// Puts a refused install behind a line.
+fn put_refused_install(line: &mut AnswerLine, fault: InstallFault) -> io::Result<()>
+    ensures { OnOk result (line.new.items ≡ line.old.items ++ (codes "refused " ++ install_words fault)) }
+{
+    put_bytes(line, b"refused ")?;
+    put_refusal(line, fault)
+}
+
+/// Puts an answer behind a line. No answer to a reader is formatted: it takes a card longer to format one than to make
+/// it.
+fn put_answer(line: &mut AnswerLine, answer: &CommandAnswer) -> io::Result<()>
+    ensures { OnOk result (line.new.items ≡ line.old.items ++ line_of (shown answer.now)) }
+{
+    match answer {
+        CommandAnswer::Loaded(number) => write!(line, "loaded {number}"),
+        CommandAnswer::NotLoaded(fault) => write!(line, "refused {}", fault.words()),
+        CommandAnswer::Installed(number) => write!(line, "installed {number}"),
+        CommandAnswer::NotInstalled(fault) => put_refused_install(line, *fault),
+        CommandAnswer::Responds(answer) => {
+            put_response(line, answer.sent.as_slice(), answer.status)
+        }
+        CommandAnswer::Reset => put_bytes(line, b"reset"),
+        CommandAnswer::Cells { used, most } => write!(line, "cells {used} of {most}"),
+        CommandAnswer::Objects { used, most } => write!(line, "objects {used} of {most}"),
+    }
+}
+
+/// Puts the line of an answer into an empty line, with its line feed.
+pub(crate) fn put_line(line: &mut AnswerLine, answer: &CommandAnswer) -> io::Result<()>
+    requires { line.old.items ≡ [] }
+    ensures { OnOk result (line.new.items ≡ answer_line (shown answer.now)) }
+{
+    put_answer(line, answer)?;
+    put_bytes(line, b"\n")
+}

@@ -1,6 +1,6 @@
 -- Instructions on arrays are safe.
 use Rattle.std.proofs.Common.{◌≡◌, ℕ, ◌<◌, List, [], ◌∷◌, length, drop, set, slice_get, true, false, ◌&&◌, not}
-use Rattle.std.proofs.Common.{Option, Some, nat_lt, pos, refl, sym, ap, ◌∙◌, subst}
+use Rattle.std.proofs.Common.{Option, Some, nat_lt, pos, refl, sym, ap, ◌∙◌, subst, arith}
 use Rattle.std.proofs.lemmas.Bool.{lt-ltb, ltb-true}
 use Rattle.std.specs.Option.{option_map_or}
 use Rattle.std.specs.Prelude.{int_lt}
@@ -38,7 +38,6 @@ use Rattle.jc_machine.specs.Typed.{CellsTyped, HoldTypes, IsTyped, has_type}
 use Rattle.jc_words.specs.Shorts.{low_byte, short}
 use Rattle.jc_words.specs.Values.{Null, Ref, TaggedValue, Unset, Word, is_reference}
 use Rattle.jc_safety.proofs.Below.{instance_below}
-use Rattle.jc_safety.proofs.Bounds.{low_bound}
 use Rattle.jc_safety.proofs.Ground.{Ground}
 use Rattle.jc_safety.proofs.Lists.{both, each_at, each_set, get_within}
 use Rattle.jc_safety.proofs.Loads.{IsLoaded, byte_loaded, reference_loaded, safe_loads, short_loaded}
@@ -82,7 +81,7 @@ loaded_number world heap Forms.Short cells (ReferenceArray c) v n h is word e = 
 
 -- a low byte is a byte, and is stored as one
 stored_byte : (n : ℕ) → is_byte (Word (low_byte n)) ≡ true
-stored_byte n = lt-ltb (low_byte n) 256 (low_bound n)
+stored_byte n = lt-ltb (low_byte n) 256 (omega arith)
 
 -- what is stored in an array of bytes or shorts
 stored_number : (world : List Shape) (heap : Heap TaggedValue) (form : Form) (cells : List TaggedValue) (o : ObjectType)

@@ -37,7 +37,6 @@ use Rattle.jc_machine.specs.Typed.{CellsTyped, HaveTypes, HoldTypes, IsTyped, ha
 use Rattle.jc_words.specs.Shorts.{low_byte}
 use Rattle.jc_words.specs.Values.{Null, Ref, TaggedValue, Unset, Word, is_reference}
 use Rattle.jc_safety.proofs.Blank.{no_field}
-use Rattle.jc_safety.proofs.Bounds.{low_bound}
 use Rattle.jc_safety.proofs.Goes.{placed, room_left, safe_gives}
 use Rattle.jc_safety.proofs.Locals.{local_there, local_type, reads_nothing, reads_one}
 use Rattle.jc_safety.proofs.Upward.{type_up}
@@ -83,7 +82,7 @@ module _ (world : List Shape) (heap : Heap TaggedValue) where
   loaded_typed Forms.Short (Declared.ReferenceArray c) v f h = absurd cc
 
   stored_byte : (v : TaggedValue) → is_word v ≡ true → is_byte (stored_as Forms.Byte v) ≡ true
-  stored_byte (Word n) h = lt-ltb (low_byte n) 256 (low_bound n)
+  stored_byte (Word n) h = lt-ltb (low_byte n) 256 (omega arith)
   stored_byte (Ref n) h = absurd cc
   stored_byte Null h = absurd cc
   stored_byte Unset h = absurd cc

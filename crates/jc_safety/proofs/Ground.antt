@@ -1,6 +1,6 @@
 -- What is known of an accepted world in which a machine runs, of each package there, and of the method of a frame.
 use Rattle.std.proofs.Common.{◌≡◌, ℕ, zero, suc, ◌-◌, ◌<◌, ◌==◌, Bool, true, false, cond, List, [], ◌∷◌, length, ◌++◌, map}
-use Rattle.std.proofs.Common.{Option, Some, slice_get, unwrap_or, ℤ, refl, sym, ap, ◌∙◌, subst, arith}
+use Rattle.std.proofs.Common.{Option, Some, slice_get, unwrap_or, refl, sym, ap, ◌∙◌, subst, arith}
 use Rattle.std.proofs.lemmas.Bool.{le-ltb}
 use Rattle.std.proofs.Common.{eqb-true}
 use Rattle.std.specs.List.{find}
@@ -20,9 +20,7 @@ use Rattle.jc_classes.specs.Members.{DeclaredMethod, method_at}
 use Rattle.jc_classes.specs.Methods.{method_name}
 use Rattle.jc_classes.specs.Subtype.{IsOrder, IsSubtype, is_class_at, is_class_below, is_subtype}
 use Rattle.jc_code.specs.Instructions.{instr_at}
-use Rattle.jc_code.specs.Listing.{IsListing, PlacedInstr, placed_at}
-use Rattle.jc_code.specs.declared.instr.Operation.TheVariants.{Word as OnWords}
-use Rattle.jc_code.specs.declared.instr.WordOperation.TheVariants.{Push}
+use Rattle.jc_code.specs.Listing.{IsListing, ListingLaws, PlacedInstr, placed_at}
 use Rattle.jc_link.specs.ApiClasses.{StandsThere}
 use Rattle.jc_link.specs.Growth.{KeepsAllLinking}
 use Rattle.jc_link.specs.KnownTypes.{NameClasses, is_known_target}
@@ -44,7 +42,7 @@ use Rattle.jc_machine.specs.Lookup.{body_at, code_at, declared_at, fields_of, in
 use Rattle.jc_machine.specs.Machine.{MethodPlace, Surroundings}
 use Rattle.jc_machine.specs.Natives.{IsLawful, KeepsObjects}
 use Rattle.jc_machine.specs.Runtime.{HasRuntimeObjects}
-use Rattle.jc_words.specs.Shorts.{word_of}
+use Rattle.jc_words.specs.Laws.{WordLaws}
 use Rattle.jc_words.specs.Values.{TaggedValue}
 
 -- ---- packages
@@ -87,12 +85,8 @@ pub record Ground {C : Type 0} (s : Surroundings C) : Type 0 where
       → is_class_below s.world.shapes c class ≡ true → slice_get (fields_of s.world.shapes c) cell ≡ Some (Some declared)
   pub listed : (code : List ℕ) (listing : List PlacedInstr) (pc : ℕ) (x : PlacedInstr)
       → IsListing instr_at code listing → placed_at listing pc ≡ Some x → instruction_at code pc ≡ Some x.instr
-  pub begins : (code : List ℕ) (listing : List PlacedInstr) (pc : ℕ) (x : PlacedInstr)
-      → IsListing instr_at code listing → placed_at listing pc ≡ Some x → x.pc ≡ pc
-  -- constants in code are words
-  pub constants : (code : List ℕ) (listing : List PlacedInstr) (pc : ℕ) (x : PlacedInstr) (value : ℤ)
-      → IsListing instr_at code listing → placed_at listing pc ≡ Some x
-      → x.instr.operation ≡ OnWords (Push value) → word_of value < 65536
+  pub listing : ListingLaws instr_at
+  pub words : WordLaws
   pub objects_stay : (before after : Heap TaggedValue) → KeepsObjects before after → HasRuntimeObjects before
       → HasRuntimeObjects after
   pub typed_methods : (place : MethodPlace) (body : LinkedBody) (code : MethodBody)

@@ -1,7 +1,7 @@
 -- The static fields of a package's image: each that is found by its offset has a value, which was made for its type.
 use Rattle.std.proofs.Common.{◌≡◌, ℕ, zero, suc, ◌+◌, ◌*◌, ◌/◌, ◌%◌, ◌<◌, ◌≤◌, ◌==◌, ◌&&◌, ◌||◌, if◌then◌else◌}
 use Rattle.std.proofs.Common.{List, [], ◌∷◌}
-use Rattle.std.proofs.Common.{get_or, length, map, slice_get, Option, Some, None, Bool, true, false, cond, not}
+use Rattle.std.proofs.Common.{length, map, slice_get, Option, Some, None, Bool, true, false, cond, not}
 use Rattle.std.proofs.Common.{is_some, find, nat_lt}
 use Rattle.std.proofs.Common.{refl, sym, ap, ◌∙◌, subst, arith, eqb-true}
 use Rattle.std.proofs.lemmas.Bool.{eq-eqb}
@@ -31,10 +31,9 @@ use Rattle.jc_machine.specs.Lookup.{is_boolean_array, is_byte_array, is_kept_as,
 use Rattle.jc_machine.specs.Lookup.{leads_to}
 use Rattle.jc_machine.specs.Machine.{StaticValue}
 use Rattle.jc_words.specs.Values.{Null, Ref, TaggedValue, Word}
-use Rattle.jc_safety.proofs.Bounds.{low_bound}
 use Rattle.jc_safety.proofs.Lists.{get_within}
 use Rattle.jc_safety.proofs.Upward.{holds_below}
-use Rattle.jc_safety.specs.Loading.{HaveOwnOffsets, byte_at, image_bytes, loaded_array, reference_at, short_at}
+use Rattle.jc_safety.specs.Loading.{HaveOwnOffsets, byte_at, loaded_array, reference_at, short_at}
 use Rattle.jc_safety.specs.Loading.{static_value, type_of_array, value_at}
 
 -- ---- static fields among fields
@@ -415,10 +414,7 @@ module _ (world : List Shape) (heap : Heap TaggedValue) (number first : ℕ) (bo
 
   -- two bytes are a word
   word_bound : (offset : ℕ) → short_at image offset < 65536
-  word_bound offset =
-      let high = low_bound (get_or (image_bytes image) offset 0) in
-      let low = low_bound (get_or (image_bytes image) (offset + 1) 0) in
-      omega (arith, high, low)
+  word_bound offset = omega arith
 
   -- a class that is found in a type
   class_of_type : (find : ClassRef → Option ClassName) (make : ClassName → DeclaredType ClassName) (c : ClassRef)
@@ -441,11 +437,11 @@ module _ (world : List Shape) (heap : Heap TaggedValue) (number first : ℕ) (bo
       by_type Declared.Boolean found placed matches =
           let same : Declared.Boolean ≡ d = cc in
           subst (λ (e : DeclaredType ClassName). is_kept_as world heap e (Word (byte_at image x.offset)) ≡ true) same
-          (lt-ltb (byte_at image x.offset) 256 (low_bound _))
+          (lt-ltb (byte_at image x.offset) 256 (omega arith))
       by_type Declared.Byte found placed matches =
           let same : Declared.Byte ≡ d = cc in
           subst (λ (e : DeclaredType ClassName). is_kept_as world heap e (Word (byte_at image x.offset)) ≡ true) same
-          (lt-ltb (byte_at image x.offset) 256 (low_bound _))
+          (lt-ltb (byte_at image x.offset) 256 (omega arith))
       by_type Declared.Short found placed matches =
           let same : Declared.Short ≡ d = cc in
           subst (λ (e : DeclaredType ClassName). is_kept_as world heap e (Word (short_at image x.offset)) ≡ true) same

@@ -3,12 +3,10 @@ mod ApiMembers
 mod Arrays
 mod Below
 mod Blank
-mod Bounds
 mod Callees
 mod CallTargets
 mod Calling
 mod Casting
-mod Constants
 mod Counted
 mod Creating
 mod Enlarged

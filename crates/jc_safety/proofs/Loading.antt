@@ -39,14 +39,12 @@ use Rattle.jc_machine.specs.Machine.{Machine, StaticValue, Surroundings}
 use Rattle.jc_machine.specs.Natives.{KeepsObjects}
 use Rattle.jc_machine.specs.Typed.{CellsTyped, HeapTyped, IsTypedBeside, ObjectTyped, StaticTyped, StaticsTyped}
 use Rattle.jc_machine.specs.Typed.{may_be_made}
-use Rattle.jc_words.specs.Shorts.{word_of}
 use Rattle.jc_words.specs.Values.{TaggedValue, Word}
-use Rattle.jc_safety.proofs.Bounds.{half_bound, low_bound}
 use Rattle.jc_safety.proofs.Enlarged.{Enlarges, objects_on, statics_on}
-use Rattle.jc_safety.proofs.Grounding.{Laws}
 use Rattle.jc_safety.proofs.Growing.{objects_still, static_values_still}
 use Rattle.jc_safety.proofs.Images.{found_as, is_fine, none_bad, origin, own_offsets, static_type, value_kept, valued}
 use Rattle.jc_safety.proofs.Lists.{each_joined, get_joined, get_last}
+use Rattle.jc_safety.specs.PrivateLaws.{Laws}
 use Rattle.jc_safety.specs.Loading.{HaveOwnOffsets, MayLoad, around_behind, byte_word, heap_behind, loaded_array}
 use Rattle.jc_safety.specs.Loading.{loaded_arrays}
 use Rattle.jc_safety.specs.Loading.{loaded_statics, machine_behind, next_package, own_shape, short_word, static_value}
@@ -153,11 +151,11 @@ small_each (o ∷ os) most few = (omega (arith, few), small_each os most (omega 
 
 bytes_typed : (values : List ℤ) → AllByRecursion (λ v. is_byte v ≡ true) (map Word (map byte_word values))
 bytes_typed [] = tt
-bytes_typed (z ∷ values) = (lt-ltb (byte_word z) 256 (low_bound (word_of z)), bytes_typed values)
+bytes_typed (z ∷ values) = (lt-ltb (byte_word z) 256 (omega arith), bytes_typed values)
 
 words_typed : (values : List ℤ) → AllByRecursion (λ v. is_word v ≡ true) (map Word (map short_word values))
 words_typed [] = tt
-words_typed (z ∷ values) = (lt-ltb (short_word z) 65536 (half_bound (word_of z)), words_typed values)
+words_typed (z ∷ values) = (lt-ltb (short_word z) 65536 (omega arith), words_typed values)
 
 module _ (world : List Shape) (heap : Heap TaggedValue) (number : ℕ) (body : LinkedBody) where
   array_cells : (array : StaticArray) → CellsTyped world heap (map Word (words_of_array array)) (type_of_array array)

@@ -1,6 +1,7 @@
 -- What is held under the tag of its type is loaded, as an operand of a type.
-use Rattle.std.proofs.Common.{◌≡◌, List, Bool, true, Some, refl, ap}
+use Rattle.std.proofs.Common.{◌≡◌, List, Bool, true, Some, refl, ap, arith}
 use Rattle.std.proofs.lemmas.Bool.{lt-ltb}
+use Rattle.std.proofs.lemmas.Int.{ints}
 use Rattle.jc_cap_desc.specs.Shape.{Shape}
 use Rattle.jc_code.specs.declared.object.Form.{Form}
 use Rattle.jc_code.specs.declared.object.Form.TheVariants as Forms
@@ -15,7 +16,6 @@ use Rattle.jc_types.specs.declared.ty.Ty.{Ty}
 use Rattle.jc_types.specs.declared.ty.Ty.TheVariants as types
 use Rattle.jc_words.specs.Shorts.{signed_byte}
 use Rattle.jc_words.specs.Values.{Null, Ref, TaggedValue, Unset, Word}
-use Rattle.jc_safety.proofs.Bounds.{byte_bound}
 use Rattle.jc_safety.proofs.Safe.{IsSafe, safe_some}
 use Rattle.jc_safety.proofs.Writing.{IsNumber}
 
@@ -30,7 +30,7 @@ module _ (world : List Shape) (heap : Heap TaggedValue) where
   byte_loaded v k = record {
     value = Word (signed_byte k.number);
     is = ap (loaded_as Forms.Byte) k.is;
-    operand = record { type = lt-ltb (signed_byte k.number) 65536 (byte_bound k.number); written = refl };
+    operand = record { type = lt-ltb (signed_byte k.number) 65536 (omega (arith, ints)); written = refl };
   }
 
   pub short_loaded : (v : TaggedValue) → IsNumber 65536 v → IsLoaded world heap Forms.Short v types.Word

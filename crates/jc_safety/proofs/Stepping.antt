@@ -1,5 +1,7 @@
 -- A step of a well-typed machine is safe, whichever instruction it makes.
-use Rattle.std.proofs.Common.{◌≡◌, ℕ, zero, suc, ℤ, ◌<◌, List, [], ◌∷◌, map, Bool, true, Option, Some, Ok, refl, ap, subst}
+use Rattle.std.proofs.Common.{◌≡◌, ℕ, zero, suc, ℤ, List, [], ◌∷◌, map, Bool, true, Option, Some, Ok, refl, ap, subst}
+use Rattle.std.specs.Int.{w16}
+use Rattle.std.specs.Int.RustNames.{FitsSigned}
 use Rattle.std.specs.List.{AllByRecursion}
 use Rattle.jc_check.specs.Typing.{BranchLeads, IsFineAt}
 use Rattle.jc_classes.specs.Members.{DeclaredMethod}
@@ -32,7 +34,6 @@ use Rattle.jc_machine.specs.declared.stop.Budget.{Budget}
 use Rattle.jc_machine.specs.declared.stop.CodePoint.{CodePoint}
 use Rattle.jc_machine.specs.Typed.{IsTyped}
 use Rattle.jc_machine.specs.Words.{act_word}
-use Rattle.jc_words.specs.Shorts.{word_of}
 use Rattle.jc_safety.proofs.Arrays as arrays
 use Rattle.jc_safety.proofs.Calling.{IsCall, call_safe}
 use Rattle.jc_safety.proofs.Casting as casts
@@ -84,39 +85,39 @@ module _ {C : Type 0} (s : Surroundings C) (ground : Ground s) (m : Machine C) (
       (gives : returned ≡ result_of s.world.shapes d) (after : Types) where
     -- ---- instructions on words
 
-    word_safe : (operation : WordOperation) → ((value : ℤ) → operation ≡ ops.Push value → word_of value < 65536)
+    word_safe : (operation : WordOperation) → ((value : ℤ) → operation ≡ ops.Push value → FitsSigned w16 value)
         → word_effect below most returned operation state ≡ Ok after
         → AllByRecursion (BranchesTo after) (word_offsets operation)
         → (word_falls operation ≡ true → LeadsTo after next) → IsSafe s (act_word at operation)
     unfolding word_effect act_word
-    word_safe ops.Nop small e branches falls = words.nop s ground m t d next after e branches falls
-    word_safe (ops.Push value) small e branches falls =
-        words.push s ground m t d next value (small value refl) after e branches falls
-    word_safe (ops.Load local) small e branches falls = words.load s ground m t d next local after e branches falls
-    word_safe (ops.Store local) small e branches falls = words.store s ground m t d next local after e branches falls
-    word_safe (ops.Increment local by) small e branches falls =
+    word_safe ops.Nop short e branches falls = words.nop s ground m t d next after e branches falls
+    word_safe (ops.Push value) short e branches falls =
+        words.push s ground m t d next value (short value refl) after e branches falls
+    word_safe (ops.Load local) short e branches falls = words.load s ground m t d next local after e branches falls
+    word_safe (ops.Store local) short e branches falls = words.store s ground m t d next local after e branches falls
+    word_safe (ops.Increment local by) short e branches falls =
         words.increment s ground m t d next local by after e branches falls
-    word_safe (ops.Shuffle (Pop count)) small e branches falls =
+    word_safe (ops.Shuffle (Pop count)) short e branches falls =
         words.shuffle_pop s ground m t d next count after e branches falls
-    word_safe (ops.Shuffle (Duplicate count depth)) small e branches falls =
+    word_safe (ops.Shuffle (Duplicate count depth)) short e branches falls =
         words.shuffle_duplicate s ground m t d next count depth after e branches falls
-    word_safe (ops.Shuffle (Swap upper lower)) small e branches falls =
+    word_safe (ops.Shuffle (Swap upper lower)) short e branches falls =
         words.shuffle_swap s ground m t d next upper lower after e branches falls
-    word_safe (ops.Binary operator) small e branches falls =
+    word_safe (ops.Binary operator) short e branches falls =
         words.binary s ground m t d next operator after e branches falls
-    word_safe (ops.Unary operator) small e branches falls =
+    word_safe (ops.Unary operator) short e branches falls =
         words.unary s ground m t d next operator after e branches falls
-    word_safe (ops.Branch Always offset) small e branches falls =
+    word_safe (ops.Branch Always offset) short e branches falls =
         words.goto s ground m t d next offset after e branches falls
-    word_safe (ops.Branch (Zero condition) offset) small e branches falls =
+    word_safe (ops.Branch (Zero condition) offset) short e branches falls =
         words.branch_zero s ground m t d next condition offset after e branches falls
-    word_safe (ops.Branch (Compare condition) offset) small e branches falls =
+    word_safe (ops.Branch (Compare condition) offset) short e branches falls =
         words.branch_compare s ground m t d next condition offset after e branches falls
-    word_safe (ops.StableSwitch default low offsets) small e branches falls =
+    word_safe (ops.StableSwitch default low offsets) short e branches falls =
         words.stable_switch s ground m t d next default low offsets after e branches falls
-    word_safe (ops.LookupSwitch default cases) small e branches falls =
+    word_safe (ops.LookupSwitch default cases) short e branches falls =
         words.lookup_switch s ground m t d next default cases after e branches falls
-    word_safe ops.ReturnWord small e branches falls =
+    word_safe ops.ReturnWord short e branches falls =
         returning.return_word s ground m t d next found gives after
         (row_applied below most _ state after e)
 
@@ -182,15 +183,15 @@ module _ {C : Type 0} (s : Surroundings C) (ground : Ground s) (m : Machine C) (
     -- ---- any instruction
 
     act_safe : (operation : Operation)
-        → ((value : ℤ) → operation ≡ operations.Word (ops.Push value) → word_of value < 65536)
+        → ((value : ℤ) → operation ≡ operations.Word (ops.Push value) → FitsSigned w16 value)
         → ((invocation : Invocation) → operation ≡ operations.Object (objects.Invoke invocation)
         → IsCall s ground m t invocation after next)
         → effect_of set most operation state ≡ Ok after → AllByRecursion (BranchesTo after) (offsets_of operation)
         → (falls_of operation ≡ true → LeadsTo after next) → IsSafe s (act at operation)
     unfolding effect_of
-    act_safe (operations.Word operation) small called e branches falls =
-        word_safe operation (λ value is. small value (ap operations.Word is)) e branches falls
-    act_safe (operations.Object operation) small called e branches falls =
+    act_safe (operations.Word operation) short called e branches falls =
+        word_safe operation (λ value is. short value (ap operations.Word is)) e branches falls
+    act_safe (operations.Object operation) short called e branches falls =
         object_safe operation (λ invocation is. called invocation (ap operations.Object is)) e branches falls
 
 -- ---- a step
@@ -223,9 +224,9 @@ module _ {C : Type 0} (s : Surroundings C) (ground : Ground s) (members : HaveMe
         let x = its_instruction in
         let listing = p.typed.listing in
         let listed = ground.listed p.code.code listing m.top.pc x.instr p.typed.whole x.stands in
-        let begins = ground.begins p.code.code listing m.top.pc x.instr p.typed.whole x.stands in
+        let has = ground.listing.has p.code.code listing m.top.pc x.instr p.typed.whole x.stands in
         let constant = λ (value : ℤ) (is : x.instr.instr.operation ≡ operations.Word (ops.Push value)).
-        ground.constants p.code.code listing m.top.pc x.instr value p.typed.whole x.stands is in
+        ground.listing.pushes p.code.code m.top.pc x.instr.instr value has.1 is in
         let called : (invocation : Invocation) → x.instr.instr.operation ≡ operations.Object (objects.Invoke invocation)
         → IsCall s ground m t invocation x.fine.after x.instr.instr.next_pc =
         λ invocation is. record {
@@ -239,7 +240,7 @@ module _ {C : Type 0} (s : Surroundings C) (ground : Ground s) (members : HaveMe
         let branches = subst
         (λ (pc : ℕ). AllByRecursion (BranchLeads (goes.rules s ground m t) p.typing x.fine.after)
         (targets_of pc x.instr.instr.operation))
-        begins x.fine.branches in
+        has.0 x.fine.branches in
         let S : ℕ → Type 0 = λ most. IsSafe s (act (record {
           around = s;
           machine = m;

@@ -236,10 +236,10 @@ module _ {C : Type 0} (s : Surroundings C) (ground : Ground s) where
       its_handlers : AllByRecursion Lead check_method.handlers
       its_handlers =
           let fine = p.typed.each f.pc p.state p.stated in
-          let is_at = ground.begins p.code.code p.typed.listing f.pc fine.instr p.typed.whole fine.stands in
+          let has = ground.listing.has p.code.code p.typed.listing f.pc fine.instr p.typed.whole fine.stands in
           subst (λ (pc : ℕ).
           AllByRecursion (HandlerLeads (package_rules (linked_as s.world f.method.number p.body)) p.typing pc p.state)
-          check_method.handlers) is_at fine.fine.handled
+          check_method.handlers) has.0 fine.fine.handled
 
       abbrev seen_as : rows.Handler → checked.Handler
       seen_as h = handler_of (linked_as s.world f.method.number p.body) p.code.code_offset h

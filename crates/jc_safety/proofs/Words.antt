@@ -1,11 +1,13 @@
 -- Instructions on words are safe.
 use Rattle.std.proofs.Common.{◌≡◌, ℕ, ℤ, zero, suc, ◌+◌, ◌<◌, List, [], ◌∷◌, ◌++◌, length, take, drop, set}
 use Rattle.std.proofs.Common.{Bool, true, false, if◌then◌else◌, Option, Some, None, Ok, Err, nat_lt, nat_le, max}
-use Rattle.std.proofs.Common.{slice_get, map, unwrap_or, refl, sym, ap, ◌∙◌, subst, arith}
+use Rattle.std.proofs.Common.{slice_get, refl, sym, ap, ◌∙◌, subst, arith}
 use Rattle.std.proofs.lemmas.Bool.{le-leb, lt-ltb, ltb-false, ltb-true}
-use Rattle.std.specs.List.{AllByRecursion}
-use Rattle.std.specs.Ordering.{int_eq}
-use Rattle.std.specs.Prelude.{◌-ℤ◌, int_lt, unsigned_abs}
+use Rattle.std.proofs.lemmas.Int.{ints}
+use Rattle.std.proofs.lemmas.List.Elements.{All-contains, All-from_recursion}
+use Rattle.std.specs.Int.{w16}
+use Rattle.std.specs.Int.RustNames.{FitsSigned}
+use Rattle.std.specs.List.{AllByRecursion, Contains}
 use Rattle.jc_base.specs.Stack.{duplicated, swapped}
 use Rattle.jc_base.specs.declared.reason.Reason.TheVariants.{StackOver, StackUnder}
 use Rattle.jc_cap_desc.specs.Shape.{Shape}
@@ -35,7 +37,6 @@ use Rattle.jc_machine.specs.Typed.{HaveTypes, HoldTypes, IsOperand, IsTyped, has
 use Rattle.jc_machine.specs.Words.{act_word, on_result}
 use Rattle.jc_words.specs.Shorts.{binary_of, holds, incremented, lookup_offset, short, stable_offset, unary_of, word_of}
 use Rattle.jc_words.specs.Values.{Null, Ref, TaggedValue, Unset, Word, all_written}
-use Rattle.jc_safety.proofs.Bounds.{binary_bound, incremented_bound, unary_bound}
 use Rattle.jc_safety.proofs.Goes.{method, placed, room_left, safe_gives}
 use Rattle.jc_safety.proofs.Goes.{safe_leaves, safe_on, throws_at}
 use Rattle.jc_safety.proofs.Ground.{Ground}
@@ -240,10 +241,10 @@ module _ {C : Type 0} (s : Surroundings C) (ground : Ground s) (m : Machine C) (
       (row_applied below most (takes [] Nothing) state after e)
       t.top.operands_typed (falls refl)
 
-  pub push : (value : ℤ) → word_of value < 65536 → Owes (ops.Push value)
+  pub push : (value : ℤ) → FitsSigned w16 value → Owes (ops.Push value)
   unfolding word_effect act_word
-  push value small after e branches falls =
-      gives_word [] m.top.operands m.top.operands (word_of value) after small
+  push value fits after e branches falls =
+      gives_word [] m.top.operands m.top.operands (word_of value) after (omega (arith, ints, fits))
       (row_applied below most (takes [] (Exactly types.Word)) state after e) t.top.operands_typed (falls refl)
 
   pub unary : (operator : _) → Owes (ops.Unary operator)
@@ -252,7 +253,7 @@ module _ {C : Type 0} (s : Surroundings C) (ground : Ground s) (m : Machine C) (
       let a = row_applied below most (takes (word ∷ []) (Exactly types.Word)) state after e in
       one_word (Exactly types.Word) after a (λ us. IsSafe s (act_word (here us) (ops.Unary operator)))
       (λ n vs small rest.
-      gives_word (word ∷ []) (Word n ∷ vs) vs (unary_of operator n) after (unary_bound operator n) a rest
+      gives_word (word ∷ []) (Word n ∷ vs) vs (unary_of operator n) after (ground.words.unary operator n) a rest
       (falls refl))
 
   -- a result, or an exception
@@ -274,7 +275,8 @@ module _ {C : Type 0} (s : Surroundings C) (ground : Ground s) (m : Machine C) (
       two_words (Exactly types.Word) after a (λ us. IsSafe s (act_word (here us) (ops.Binary operator)))
       (λ b x vs small little rest.
       by_result (Word b ∷ Word x ∷ vs) vs (binary_of operator x b) after
-      (λ n is. binary_bound operator x b n (ltb-true x 65536 little) (ltb-true b 65536 small) is) a rest (falls refl))
+      (λ n is. ground.words.binary operator x b n (ltb-true x 65536 little) (ltb-true b 65536 small) is) a rest
+      (falls refl))
 
   -- ---- locals
 
@@ -337,7 +339,7 @@ module _ {C : Type 0} (s : Surroundings C) (ground : Ground s) (m : Machine C) (
       subst P (sym l.there)
       (subst (λ (v : TaggedValue). P (Some v)) (sym is_word.is)
       (safe_on s ground m t d most next m.top.operands after (set m.top.locals local (Word k)) m.top.operands
-      (locals_put local l.type l.type_there met k (incremented_bound is_word.number by) after.locals r.locals_are)
+      (locals_put local l.type l.type_there met k (ground.words.increment is_word.number by) after.locals r.locals_are)
       (rows.held s ground m t state.operands after.operands m.top.operands r.operands_are t.top.operands_typed)
       (falls refl)))
 
@@ -404,31 +406,13 @@ module _ {C : Type 0} (s : Surroundings C) (ground : Ground s) (m : Machine C) (
       a rest branches.0
       (falls refl))
 
-  -- ---- switches: the offset is one of those that the instruction names
+  -- ---- switches
 
-  among : (P : ℤ → Type 0) (default : ℤ) (offsets : List ℤ) (n : ℕ) → P default → AllByRecursion P offsets
-      → P (unwrap_or (slice_get offsets n) default)
-  among P default [] n p each = p
-  among P default (x ∷ offsets) zero p each = each.0
-  among P default (x ∷ offsets) (suc n) p each = among P default offsets n p each.1
-
-  chosen : (P : ℤ → Type 0) (b : Bool) (x y : ℤ) → P x → P y → P (if b then x else y)
-  chosen P true x y p q = p
-  chosen P false x y p q = q
-
-  in_table : (P : ℤ → Type 0) (default low : ℤ) (offsets : List ℤ) (key : ℤ) → P default → AllByRecursion P offsets
-      → P (stable_offset default low offsets key)
-  in_table P default low offsets key p each =
-      chosen P (int_lt key low) default (unwrap_or (slice_get offsets (unsigned_abs (key -ℤ low))) default) p
-      (among P default offsets (unsigned_abs (key -ℤ low)) p each)
-
-  in_cases : (P : ℤ → Type 0) (default : ℤ) (cases : List Case) (key : ℤ) → P default
-      → AllByRecursion P (map (λ (c : Case). c.offset) cases) → P (lookup_offset default cases key)
-  unfolding lookup_offset
-  in_cases P default [] key p each = p
-  in_cases P default (c ∷ cases) key p each =
-      chosen P (int_eq c.key key) c.offset (lookup_offset default cases key) each.0
-      (in_cases P default cases key p each.1)
+  -- what holds of each offset of a switch holds of the one that it goes on by
+  named : (after : Types) (offsets : List ℤ) (offset : ℤ) → AllByRecursion (BranchesTo after) offsets
+      → Contains offsets offset → BranchesTo after offset
+  named after offsets offset each there =
+      All-contains (BranchesTo after) offsets offset (All-from_recursion (BranchesTo after) offsets each) there
 
   pub stable_switch : (default low : ℤ) (offsets : List ℤ) → Owes (ops.StableSwitch default low offsets)
   unfolding word_effect act_word
@@ -438,7 +422,8 @@ module _ {C : Type 0} (s : Surroundings C) (ground : Ground s) (m : Machine C) (
       (λ n vs small rest.
       rows.jump_it s ground m t d next (stable_offset default low offsets (short n)) (word ∷ []) (Word n ∷ vs) vs after
       a rest
-      (in_table (BranchesTo after) default low offsets (short n) branches.0 branches.1))
+      (named after (default ∷ offsets) (stable_offset default low offsets (short n)) branches
+      (ground.words.stable default low offsets (short n))))
 
   pub lookup_switch : (default : ℤ) (cases : List Case) → Owes (ops.LookupSwitch default cases)
   unfolding word_effect act_word
@@ -447,4 +432,5 @@ module _ {C : Type 0} (s : Surroundings C) (ground : Ground s) (m : Machine C) (
       one_word Nothing after a (λ us. IsSafe s (act_word (here us) (ops.LookupSwitch default cases)))
       (λ n vs small rest.
       rows.jump_it s ground m t d next (lookup_offset default cases (short n)) (word ∷ []) (Word n ∷ vs) vs after a rest
-      (in_cases (BranchesTo after) default cases (short n) branches.0 branches.1))
+      (named after (word_offsets (ops.LookupSwitch default cases)) (lookup_offset default cases (short n)) branches
+      (ground.words.lookup default cases (short n))))

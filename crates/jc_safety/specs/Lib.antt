@@ -3,3 +3,4 @@ pub mod Starting
 pub mod Zeroing
 pub mod Loading
 pub mod LoadingExamples
+pub mod PrivateLaws

@@ -12,6 +12,7 @@ ghost use Rattle.jc_link.specs.Built.{IsBuilt};
 ghost use Rattle.jc_link.specs.Kept.{Kept};
 ghost use Rattle.jc_link.specs.Linked.{IsLoadedAt, Linked};
 ghost use Rattle.jc_link.specs.Statics.{static_fields};
+ghost use Rattle.jc_safety.specs.PrivateLaws.{Laws};
 ghost use Rattle.jc_safety.specs.Loading.{HaveOwnOffsets, MayLoad, around_behind, machine_behind};
 ghost use Rattle.jc_safety.specs.Safety.{EndsTyped, StaysTyped};
 ghost use Rattle.jc_safety.specs.Starting.{FindsMethod, IsMemberCall, IsTypedStart, MethodCanBegin, first_frame};
@@ -34,6 +35,29 @@ use jc_machine::{
     Natives, accepted_methods_are_typed, accepted_worlds_grow, cells_follow_superclasses,
     instructions_begin_in_turn, methods_have_code, runtime_objects_stay,
 };
+use jc_words::word_laws;
+
+// What the crates below say that type safety rests on. It does nothing.
+#[inline(always)]
+fn laws_below()
+    ensures { Laws }
+{
+    growing_keeps_lookups();
+    growing_keeps_linking();
+    growing_keeps_effects();
+    built_worlds_are_sound();
+    built_worlds_name_classes();
+    built_worlds_have_the_api();
+    cells_follow_superclasses();
+    superclass_laws();
+    found_subtypes_are_subtypes();
+    methods_have_code();
+    accepted_methods_are_typed();
+    listing_laws();
+    word_laws();
+    instructions_begin_in_turn();
+    runtime_objects_stay();
+}
 
 /// Accepted packages are type-safe. Where each package of a world was linked and checked, and the native members keep
 /// their law, a machine that is well typed is never stuck. In each step it goes on and is well typed, or its call ends:
@@ -55,20 +79,7 @@ pub fn accepted_packages_are_type_safe<N: Natives>(_natives: &N)
         → IsTypedBeside s (standing start (no_frame start.owner)) → (member : ℕ) (object : Object TaggedValue)
         → IsMemberCall s start member object → FindsMethod s start member object }
 {
-    growing_keeps_lookups();
-    growing_keeps_linking();
-    growing_keeps_effects();
-    built_worlds_are_sound();
-    built_worlds_name_classes();
-    built_worlds_have_the_api();
-    cells_follow_superclasses();
-    superclass_laws();
-    found_subtypes_are_subtypes();
-    methods_have_code();
-    accepted_methods_are_typed();
-    listing_laws();
-    instructions_begin_in_turn();
-    runtime_objects_stay();
+    laws_below();
 }
 
 /// What the runtime itself does to objects leaves them typed: any of them may be zeroed, and a byte be written to an
@@ -81,20 +92,7 @@ pub fn objects_stay_typed<N: Natives>(_natives: &N)
         → object.kind.object ≡ ByteArray → byte < 256
         → IsTypedBeside s (with_heap m (with_object m.heap number (with_cell object index (Word byte)))) }
 {
-    growing_keeps_lookups();
-    growing_keeps_linking();
-    growing_keeps_effects();
-    built_worlds_are_sound();
-    built_worlds_name_classes();
-    built_worlds_have_the_api();
-    cells_follow_superclasses();
-    superclass_laws();
-    found_subtypes_are_subtypes();
-    methods_have_code();
-    accepted_methods_are_typed();
-    listing_laws();
-    instructions_begin_in_turn();
-    runtime_objects_stay();
+    laws_below();
 }
 
 /// A package that is loaded leaves what is kept beside frames typed, in the world with that package: the objects that
@@ -103,20 +101,7 @@ pub fn loads_stay_typed<N: Natives>(_natives: &N)
     ensures { (s : Surroundings N.Kept) (m : Machine N.Kept) (l : Linked) → MayLoad s m l
         → IsTypedBeside (around_behind s l) (machine_behind s m l) }
 {
-    growing_keeps_lookups();
-    growing_keeps_linking();
-    growing_keeps_effects();
-    built_worlds_are_sound();
-    built_worlds_name_classes();
-    built_worlds_have_the_api();
-    cells_follow_superclasses();
-    superclass_laws();
-    found_subtypes_are_subtypes();
-    methods_have_code();
-    accepted_methods_are_typed();
-    listing_laws();
-    instructions_begin_in_turn();
-    runtime_objects_stay();
+    laws_below();
 }
 
 /// In a world that is built of well-formed packages classes of the API have methods of the API alone, and none but
@@ -124,9 +109,7 @@ pub fn loads_stay_typed<N: Natives>(_natives: &N)
 pub fn api_runs_its_own_code()
     ensures { (world : List Shape) → IsBuilt world → HaveApiMembers world }
 {
-    growing_keeps_lookups();
-    built_worlds_are_sound();
-    built_worlds_have_the_api();
+    laws_below();
     accepted_worlds_grow();
 }
 

@@ -1,4 +1,4 @@
--- The laws of the crates below that type safety rests on, as one record.
+-- Private. The laws of the crates below that type safety rests on, as one record.
 use Rattle.std.specs.Prelude.{◌≡◌, ◌↔◌, ℕ, ◌≤◌, true, List, take, Some, None}
 use Rattle.std.specs.Option.{option_map}
 use Rattle.jc_api.specs.declared.class.ApiClass.{ApiClass}

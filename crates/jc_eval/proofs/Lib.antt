@@ -1,5 +1,3 @@
-mod Bounds
-mod Constants
 mod Lists
 mod Safe
 mod Stepping

@@ -1,5 +1,5 @@
 -- A run of code alone on words goes along with the defensive machine's.
-use Rattle.std.proofs.Common.{◌≡◌, ℕ, zero, suc, ◌+◌, ◌<◌, List, [], ◌∷◌, length, drop, Option}
+use Rattle.std.proofs.Common.{◌≡◌, ℕ, zero, suc, ◌<◌, List, [], ◌∷◌, length, drop, Option}
 use Rattle.std.proofs.Common.{Some, None, Bool, true, false, if◌then◌else◌, Result, Ok, Err, IfSome, nat_lt, refl, sym, ap, ◌∙◌, subst}
 use Rattle.std.proofs.Common.{arith}
 use Rattle.std.specs.Prelude.{⊤, ◌≢◌, slice_index}

@@ -1,6 +1,8 @@
 -- A step of a well-typed machine is safe, whichever instruction it makes; so is a run.
-use Rattle.std.proofs.Common.{◌≡◌, ℕ, zero, suc, ℤ, ◌<◌, List, [], true, None, Some, Ok, replicate}
+use Rattle.std.proofs.Common.{◌≡◌, ℕ, zero, suc, ℤ, List, [], true, None, Some, Ok, replicate}
 use Rattle.std.proofs.Common.{refl, sym, ap, subst, arith}
+use Rattle.std.specs.Int.{w16}
+use Rattle.std.specs.Int.RustNames.{FitsSigned}
 use Rattle.std.specs.List.{AllByRecursion}
 use Rattle.std.specs.Prelude.{⊤}
 use Rattle.jc_check.specs.Method.{entry_of, word_locals, word_max_stack, word_method}
@@ -17,14 +19,13 @@ use Rattle.jc_code.specs.declared.instr.WordOperation.{WordOperation}
 use Rattle.jc_code.specs.declared.instr.WordOperation.TheVariants as ops
 use Rattle.jc_types.specs.State.{Types, all_below}
 use Rattle.jc_types.specs.declared.ty.Ty.TheVariants as types
-use Rattle.jc_words.specs.Shorts.{word_of}
+use Rattle.jc_words.specs.Laws.{WordLaws}
 use Rattle.jc_words.specs.Values.{Unset}
 use Rattle.jc_machine.specs.Machine.{Ends, Machine, Next, Outcome, Stuck, Throws, UsedUp}
 use Rattle.jc_machine.specs.Step.{Called, continued}
 use Rattle.jc_machine.specs.declared.stop.Budget.TheVariants.{FrameWords}
 use Rattle.jc_eval.specs.Alone.{act_alone, alone_call, alone_step, alone_steps, first_machine, here_alone}
 use Rattle.jc_eval.specs.TypedCode.{EndsTypedAlone, IsTypedAlone, StandsAt, StepsTyped}
-use Rattle.jc_eval.proofs.Constants.{constant_bound}
 use Rattle.jc_eval.proofs.Lists.{both, unmapped}
 use Rattle.jc_eval.proofs.Safe as safe
 use Rattle.jc_eval.proofs.Safe.{IsSafe, safe_some}
@@ -34,39 +35,39 @@ use Rattle.jc_eval.proofs.Words.{Owes}
 
 -- ---- any instruction
 
-module _ (typing : Typing) (m : Machine ⊤) (t : IsTypedAlone typing m) (next : ℕ) where
-  word_safe : (operation : WordOperation) → ((value : ℤ) → operation ≡ ops.Push value → word_of value < 65536)
+module _ (laws : WordLaws) (typing : Typing) (m : Machine ⊤) (t : IsTypedAlone typing m) (next : ℕ) where
+  word_safe : (operation : WordOperation) → ((value : ℤ) → operation ≡ ops.Push value → FitsSigned w16 value)
       → Owes typing m t next operation
-  word_safe ops.Nop small = words.nop typing m t next
-  word_safe (ops.Push value) small = words.push typing m t next value (small value refl)
-  word_safe (ops.Load local) small = words.load typing m t next local
-  word_safe (ops.Store local) small = words.store typing m t next local
-  word_safe (ops.Increment local by) small = words.increment typing m t next local by
-  word_safe (ops.Shuffle (Pop count)) small = words.shuffle_pop typing m t next count
-  word_safe (ops.Shuffle (Duplicate count depth)) small = words.shuffle_duplicate typing m t next count depth
-  word_safe (ops.Shuffle (Swap upper lower)) small = words.shuffle_swap typing m t next upper lower
-  word_safe (ops.Binary operator) small = words.binary typing m t next operator
-  word_safe (ops.Unary operator) small = words.unary typing m t next operator
-  word_safe (ops.Branch Always offset) small = words.goto typing m t next offset
-  word_safe (ops.Branch (Zero condition) offset) small = words.branch_zero typing m t next condition offset
-  word_safe (ops.Branch (Compare condition) offset) small = words.branch_compare typing m t next condition offset
-  word_safe (ops.StableSwitch default low offsets) small = words.stable_switch typing m t next default low offsets
-  word_safe (ops.LookupSwitch default cases) small = words.lookup_switch typing m t next default cases
-  word_safe ops.ReturnWord small = words.return_word typing m t next
+  word_safe ops.Nop short = words.nop typing m t next
+  word_safe (ops.Push value) short = words.push typing m t next value (short value refl)
+  word_safe (ops.Load local) short = words.load typing m t next local
+  word_safe (ops.Store local) short = words.store typing m t next local
+  word_safe (ops.Increment local by) short = words.increment typing m t next laws local by
+  word_safe (ops.Shuffle (Pop count)) short = words.shuffle_pop typing m t next count
+  word_safe (ops.Shuffle (Duplicate count depth)) short = words.shuffle_duplicate typing m t next count depth
+  word_safe (ops.Shuffle (Swap upper lower)) short = words.shuffle_swap typing m t next upper lower
+  word_safe (ops.Binary operator) short = words.binary typing m t next laws operator
+  word_safe (ops.Unary operator) short = words.unary typing m t next laws operator
+  word_safe (ops.Branch Always offset) short = words.goto typing m t next offset
+  word_safe (ops.Branch (Zero condition) offset) short = words.branch_zero typing m t next condition offset
+  word_safe (ops.Branch (Compare condition) offset) short = words.branch_compare typing m t next condition offset
+  word_safe (ops.StableSwitch default low offsets) short = words.stable_switch typing m t next laws default low offsets
+  word_safe (ops.LookupSwitch default cases) short = words.lookup_switch typing m t next laws default cases
+  word_safe ops.ReturnWord short = words.return_word typing m t next
 
   act_safe : (operation : Operation) (after : Types)
-      → ((value : ℤ) → operation ≡ operations.Word (ops.Push value) → word_of value < 65536)
+      → ((value : ℤ) → operation ≡ operations.Word (ops.Push value) → FitsSigned w16 value)
       → word_rules.effect word_max_stack (Some types.Word) operation t.state ≡ Ok after
       → AllByRecursion (safe.BranchesTo typing m.top.pc after) (offsets_of operation)
       → (falls_of operation ≡ true → safe.LeadsTo typing after next)
       → IsSafe typing m (act_alone (safe.here typing m t next m.top.operands) operation)
-  act_safe (operations.Word operation) after small e branches falls =
-      word_safe operation (λ value is. small value (ap operations.Word is)) after e branches falls
-  act_safe (operations.Object operation) after small e branches falls = absurd cc
+  act_safe (operations.Word operation) after short e branches falls =
+      word_safe operation (λ value is. short value (ap operations.Word is)) after e branches falls
+  act_safe (operations.Object operation) after short e branches falls = absurd cc
 
 -- ---- a step
 
-module _ (laws : ListingLaws word_instr_at) (code : List ℕ) (typing : Typing)
+module _ (laws : ListingLaws word_instr_at) (word_laws : WordLaws) (code : List ℕ) (typing : Typing)
     (t : IsTyping word_rules (word_method code) typing) where
   module _ (m : Machine ⊤) (typed : IsTypedAlone typing m) where
     its_instruction : IsFineAt word_rules (word_method code) typing t.listing m.top.pc typed.state
@@ -95,8 +96,8 @@ module _ (laws : ListingLaws word_instr_at) (code : List ℕ) (typing : Typing)
         at.begins x.fine.branches in
         safe_some typing m (placed_at t.listing m.top.pc) x.instr
         (λ (y : PlacedInstr). act_alone (here_alone m y.instr) y.instr.operation) x.stands
-        (act_safe typing m typed x.instr.instr.next_pc operation x.fine.after
-        (λ value is. constant_bound code m.top.pc x.instr.instr value at.spelled is) x.fine.effect
+        (act_safe word_laws typing m typed x.instr.instr.next_pc operation x.fine.after
+        (λ value is. laws.pushes code m.top.pc x.instr.instr value at.spelled is) x.fine.effect
         (unmapped (BranchLeads word_rules typing x.fine.after) (target_of m.top.pc) (offsets_of operation) branches)
         x.fine.falls)
 
@@ -153,8 +154,8 @@ begins_typed code typing t =
       operands = operands_up [] [] s.state.operands b.1 tt;
     }
 
-pub calls_safely : (laws : ListingLaws word_instr_at) (code : List ℕ) (typing : Typing)
+pub calls_safely : ListingLaws word_instr_at → WordLaws → (code : List ℕ) (typing : Typing)
     → (t : IsTyping word_rules (word_method code) typing) (steps : ℕ)
     → EndsTypedAlone typing (alone_call t.listing steps).ends
-calls_safely laws code typing t steps =
-    runs_safely laws code typing t steps first_machine (begins_typed code typing t)
+calls_safely laws word_laws code typing t steps =
+    runs_safely laws word_laws code typing t steps first_machine (begins_typed code typing t)

@@ -1,11 +1,14 @@
 -- Instructions on words are safe.
 use Rattle.std.proofs.Common.{◌≡◌, ℕ, ℤ, zero, suc, ◌+◌, ◌<◌, List, [], ◌∷◌, ◌++◌, length, take, drop, set}
 use Rattle.std.proofs.Common.{Bool, true, false, if◌then◌else◌, Option, Some, None, Ok, Err, nat_lt, nat_le, max}
-use Rattle.std.proofs.Common.{slice_get, map, unwrap_or, refl, sym, ap, ◌∙◌, subst, arith}
+use Rattle.std.proofs.Common.{slice_get, refl, sym, ap, ◌∙◌, subst, arith}
 use Rattle.std.proofs.lemmas.Bool.{le-leb, ltb-false}
-use Rattle.std.specs.List.{AllByRecursion}
-use Rattle.std.specs.Ordering.{int_eq}
-use Rattle.std.specs.Prelude.{⊤, ◌-ℤ◌, int_lt, unsigned_abs}
+use Rattle.std.proofs.lemmas.Int.{ints}
+use Rattle.std.proofs.lemmas.List.Elements.{All-contains, All-from_recursion}
+use Rattle.std.specs.Int.{w16}
+use Rattle.std.specs.Int.RustNames.{FitsSigned}
+use Rattle.std.specs.List.{AllByRecursion, Contains}
+use Rattle.std.specs.Prelude.{⊤}
 use Rattle.jc_base.specs.Stack.{duplicated, swapped}
 use Rattle.jc_base.specs.declared.reason.Reason.TheVariants.{StackOver, StackUnder}
 use Rattle.jc_check.specs.Method.{word_max_stack}
@@ -27,13 +30,13 @@ use Rattle.jc_types.specs.Ty.{is_below}
 use Rattle.jc_types.specs.declared.ty.Ty.{Ty}
 use Rattle.jc_types.specs.declared.ty.Ty.TheVariants as types
 use Rattle.jc_words.specs.Shorts.{binary_of, holds, incremented, lookup_offset, short, stable_offset, unary_of, word_of}
+use Rattle.jc_words.specs.Laws.{WordLaws}
 use Rattle.jc_words.specs.Values.{TaggedValue, Word, all_written}
 use Rattle.jc_machine.specs.Going.{Here, gives, goes_on, leaves_operands, on_operands, on_word_local}
 use Rattle.jc_machine.specs.Machine.{Machine, Stepped}
 use Rattle.jc_machine.specs.Reading.{Pointwise}
 use Rattle.jc_machine.specs.Words.{act_word, on_result}
 use Rattle.jc_eval.specs.TypedCode.{IsTypedAlone}
-use Rattle.jc_eval.proofs.Bounds.{binary_bound, incremented_bound, unary_bound}
 use Rattle.jc_eval.proofs.Lists.{drop_points, joined_points, put_points, same_length, take_points}
 use Rattle.jc_eval.proofs.Safe as safe
 use Rattle.jc_eval.proofs.Safe.{IsSafe, safe_check}
@@ -58,32 +61,6 @@ under_over : (a b : Bool) (x t : Types) → (if a then Err StackUnder else if b 
 under_over false false x t h = (refl, refl, cc)
 under_over false true x t h = absurd cc
 under_over true b x t h = absurd cc
-
--- ---- the offset of a switch is one of those that the instruction names
-
-among : (P : ℤ → Type 0) (default : ℤ) (offsets : List ℤ) (n : ℕ) → P default → AllByRecursion P offsets
-    → P (unwrap_or (slice_get offsets n) default)
-among P default [] n p each = p
-among P default (x ∷ offsets) zero p each = each.0
-among P default (x ∷ offsets) (suc n) p each = among P default offsets n p each.1
-
-chosen : (P : ℤ → Type 0) (b : Bool) (x y : ℤ) → P x → P y → P (if b then x else y)
-chosen P true x y p q = p
-chosen P false x y p q = q
-
-in_table : (P : ℤ → Type 0) (default low : ℤ) (offsets : List ℤ) (key : ℤ) → P default → AllByRecursion P offsets
-    → P (stable_offset default low offsets key)
-in_table P default low offsets key p each =
-    chosen P (int_lt key low) default (unwrap_or (slice_get offsets (unsigned_abs (key -ℤ low))) default) p
-    (among P default offsets (unsigned_abs (key -ℤ low)) p each)
-
-in_cases : (P : ℤ → Type 0) (default : ℤ) (cases : List Case) (key : ℤ) → P default
-    → AllByRecursion P (map (λ (c : Case). c.offset) cases) → P (lookup_offset default cases key)
-unfolding lookup_offset
-in_cases P default [] key p each = p
-in_cases P default (c ∷ cases) key p each =
-    chosen P (int_eq c.key key) c.offset (lookup_offset default cases key) each.0
-    (in_cases P default cases key p each.1)
 
 module _ (typing : Typing) (m : Machine ⊤) (t : IsTypedAlone typing m) (next : ℕ) where
   abbrev vs : List TaggedValue
@@ -118,21 +95,21 @@ module _ (typing : Typing) (m : Machine ⊤) (t : IsTypedAlone typing m) (next :
       safe.leaves_them typing m t next [] vs vs after (row_applied word_max_stack (takes [] Nothing) state after e)
       t.operands (falls refl)
 
-  pub push : (value : ℤ) → word_of value < 65536 → Owes (ops.Push value)
+  pub push : (value : ℤ) → FitsSigned w16 value → Owes (ops.Push value)
   unfolding word_effect act_word
-  push value small after e branches falls =
-      safe.gives_word typing m t next [] vs vs (word_of value) after small
+  push value fits after e branches falls =
+      safe.gives_word typing m t next [] vs vs (word_of value) after (omega (arith, ints, fits))
       (row_applied word_max_stack (takes [] (Exactly types.Word)) state after e) t.operands (falls refl)
 
-  pub unary : (operator : UnaryOperator) → Owes (ops.Unary operator)
+  pub unary : WordLaws → (operator : UnaryOperator) → Owes (ops.Unary operator)
   unfolding word_effect act_word
-  unary operator after e branches falls =
+  unary laws operator after e branches falls =
       let a = row_applied word_max_stack (takes (word ∷ []) (Exactly types.Word)) state after e in
       take_one (λ us. Safe us (act_word (here us) (ops.Unary operator))) vs state.operands t.operands a.enough
       a.operands_met
       (λ n us small rest.
       safe.gives_word typing m t next (word ∷ []) (Word n ∷ us) us (unary_of operator n) after
-      (unary_bound operator n) a rest (falls refl))
+      (laws.unary operator n) a rest (falls refl))
 
   -- a result, or an exception
   by_result : (us rest : List TaggedValue) (r : Option ℕ) (after : Types) → ((n : ℕ) → r ≡ Some n → n < 65536)
@@ -143,15 +120,15 @@ module _ (typing : Typing) (m : Machine ⊤) (t : IsTypedAlone typing m) (next :
   by_result us rest (Some n) after small a holds leads =
       safe.gives_word typing m t next (word ∷ word ∷ []) us rest n after (small n refl) a holds leads
 
-  pub binary : (operator : BinaryOperator) → Owes (ops.Binary operator)
+  pub binary : WordLaws → (operator : BinaryOperator) → Owes (ops.Binary operator)
   unfolding word_effect act_word
-  binary operator after e branches falls =
+  binary laws operator after e branches falls =
       let a = row_applied word_max_stack (takes (word ∷ word ∷ []) (Exactly types.Word)) state after e in
       take_two (λ us. Safe us (act_word (here us) (ops.Binary operator))) vs state.operands t.operands a.enough
       a.operands_met
       (λ b x us small little rest.
       by_result (Word b ∷ Word x ∷ us) us (binary_of operator x b) after
-      (λ n is. binary_bound operator x b n little small is) a rest (falls refl))
+      (λ n is. laws.binary operator x b n little small is) a rest (falls refl))
 
   -- ---- locals
 
@@ -190,14 +167,14 @@ module _ (typing : Typing) (m : Machine ⊤) (t : IsTypedAlone typing m) (next :
           let same : u ≡ y = cc in
           sym (word_below u e) ∙ same
 
-  pub increment : (local : ℕ) (by : ℤ) → Owes (ops.Increment local by)
+  pub increment : WordLaws → (local : ℕ) (by : ℤ) → Owes (ops.Increment local by)
   unfolding word_effect act_word
-  increment local by after e branches falls =
+  increment laws local by after e branches falls =
       let a = row_applied word_max_stack (reads local word [] Nothing) state after e in
       let l = word_there m.top.locals state.locals local t.locals a.there a.local_met in
       let r = reads_nothing word_max_stack local state after a in
       let k = incremented l.number by in
-      let put = word_put local l.type l.type_there l.is_word k (incremented_bound l.number by) in
+      let put = word_put local l.type l.type_there l.is_word k (laws.increment l.number by) in
       subst (λ (o : Option TaggedValue).
       Safe vs (on_word_local o (λ n. goes_on (here vs) (set m.top.locals local (Word (incremented n by))) vs)))
       (sym l.there)
@@ -310,26 +287,34 @@ module _ (typing : Typing) (m : Machine ⊤) (t : IsTypedAlone typing m) (next :
       safe.branch_it typing m t next offset (word ∷ word ∷ []) (Word b ∷ Word x ∷ us) us (holds condition x b) after a
       rest branches.0 (falls refl))
 
-  pub stable_switch : (default low : ℤ) (offsets : List ℤ) → Owes (ops.StableSwitch default low offsets)
+  -- what holds of each offset of a switch holds of the one that it goes on by
+  named : (after : Types) (offsets : List ℤ) (offset : ℤ) → AllByRecursion (BranchesTo after) offsets
+      → Contains offsets offset → BranchesTo after offset
+  named after offsets offset each there =
+      All-contains (BranchesTo after) offsets offset (All-from_recursion (BranchesTo after) offsets each) there
+
+  pub stable_switch : WordLaws → (default low : ℤ) (offsets : List ℤ) → Owes (ops.StableSwitch default low offsets)
   unfolding word_effect act_word
-  stable_switch default low offsets after e branches falls =
+  stable_switch laws default low offsets after e branches falls =
       let a = row_applied word_max_stack (takes (word ∷ []) Nothing) state after e in
       take_one (λ us. Safe us (act_word (here us) (ops.StableSwitch default low offsets))) vs state.operands t.operands
       a.enough a.operands_met
       (λ n us small rest.
       safe.jump_it typing m t next (stable_offset default low offsets (short n)) (word ∷ []) (Word n ∷ us) us after a
       rest
-      (in_table (BranchesTo after) default low offsets (short n) branches.0 branches.1))
+      (named after (default ∷ offsets) (stable_offset default low offsets (short n)) branches
+      (laws.stable default low offsets (short n))))
 
-  pub lookup_switch : (default : ℤ) (cases : List Case) → Owes (ops.LookupSwitch default cases)
+  pub lookup_switch : WordLaws → (default : ℤ) (cases : List Case) → Owes (ops.LookupSwitch default cases)
   unfolding word_effect act_word
-  lookup_switch default cases after e branches falls =
+  lookup_switch laws default cases after e branches falls =
       let a = row_applied word_max_stack (takes (word ∷ []) Nothing) state after e in
       take_one (λ us. Safe us (act_word (here us) (ops.LookupSwitch default cases))) vs state.operands t.operands
       a.enough a.operands_met
       (λ n us small rest.
       safe.jump_it typing m t next (lookup_offset default cases (short n)) (word ∷ []) (Word n ∷ us) us after a rest
-      (in_cases (BranchesTo after) default cases (short n) branches.0 branches.1))
+      (named after (word_offsets (ops.LookupSwitch default cases)) (lookup_offset default cases (short n)) branches
+      (laws.lookup default cases (short n))))
 
   -- ---- the end
 

@@ -14,6 +14,7 @@ mod run;
 
 pub use examples::{code_runs, stuck_code_runs};
 use jc_code::listing_laws;
+use jc_words::word_laws;
 pub use run::{CodeEnd, run_code};
 
 /// Code alone that is well typed is type-safe. The machine is well typed where it begins. Where it is well typed, an
@@ -34,4 +35,5 @@ pub fn carried_code_is_safe()
         → (steps : ℕ) → EndsTypedAlone typing (alone_call t.listing steps).ends }
 {
     listing_laws();
+    word_laws();
 }

@@ -20,7 +20,7 @@ ghost use Rattle.jc_names.specs.declared.name.ClassName.{ClassName};
 ghost use Rattle.jc_names.specs.declared.name.ClassName.TheVariants.{Api};
 
 use jc_classes::{adding_keeps_lookups, found_subtypes_are_subtypes};
-use jc_link::{adding_keeps_linking, built_worlds_are_sound};
+use jc_link::{adding_keeps_linking, built_worlds_are_sound, built_worlds_stand_on_the_api};
 
 /// The position of a name leads to the method that is looked up anew by that name in the world.
 #[tactic(auto, using(crate::proofs::Finding::are_found))]
@@ -59,7 +59,9 @@ pub fn loading_keeps_methods()
 #[tactic(auto, using(crate::proofs::Tokening::public_tokens))]
 pub fn api_tokens_are_public()
     ensures { (world : List Shape) → IsBuilt world → HavePublicTokens world }
-{}
+{
+    built_worlds_stand_on_the_api();
+}
 
 /// What the tables of a world answer by number and name.
 #[tactic(auto, using(crate::proofs::Following::follows))]

@@ -2,7 +2,6 @@
 use Rattle.std.proofs.Common.{◌≡◌, ◌↔◌, ℕ, zero, suc, ◌+◌, ◌<◌, ◌≤◌, true, List, [], ◌∷◌, length, take}
 use Rattle.std.proofs.Common.{Some, None, slice_get, sym, ap, ◌∙◌, subst, arith, length-take}
 use Rattle.std.specs.Option.{option_map}
-use Rattle.jc_api.specs.declared.class.ApiClass.{ApiClass}
 use Rattle.jc_api.specs.declared.class.ApiClass.TheVariants as api
 use Rattle.jc_cap_desc.specs.Shape.{MethodBody, Shape}
 use Rattle.jc_check.specs.Checked.{IsMethodTyped}
@@ -12,7 +11,7 @@ use Rattle.jc_classes.specs.Subtype.{IsOrder, IsOrderly, IsSubtype, is_class_at,
 use Rattle.jc_classes.specs.World.{superclass_of}
 use Rattle.jc_code.specs.Instructions.{instr_at}
 use Rattle.jc_code.specs.Listing.{IsListing, ListingLaws, PlacedInstr, placed_at}
-use Rattle.jc_link.specs.ApiClasses.{StandsThere}
+use Rattle.jc_link.specs.ApiClasses.{StandsOnApi}
 use Rattle.jc_link.specs.Built.{IsBuilt}
 use Rattle.jc_link.specs.Growth.{HasApi, KeepsAllLinking}
 use Rattle.jc_link.specs.KnownTypes.{NameClasses}
@@ -51,7 +50,7 @@ pub record Laws : Type 0 where
   -- of built worlds
   pub sound : (world : List Shape) → IsSmall world → IsBuilt world → IsSound world
   pub names : (world : List Shape) → IsSmall world → IsBuilt world → NameClasses world
-  pub api_there : (world : List Shape) → IsBuilt world → (c : ApiClass) → StandsThere world c
+  pub api_there : (world : List Shape) → IsBuilt world → StandsOnApi world
   pub cells : (world : List Shape) → IsSmall world → IsBuilt world → HaveCells world
   -- of subtypes
   pub order : (world : List Shape) → IsOrderly world → superclass_of world (Api api.Object) ≡ None
@@ -132,7 +131,8 @@ grounded laws s may =
       below_subtypes = laws.below w.shapes;
       found = laws.found w.shapes;
       heirs = λ c d class below. (laws.along w.shapes orderly top c d class).1 below;
-      api = laws.api_there w.shapes is_built;
+      on_api = laws.api_there w.shapes is_built;
+      api = (laws.api_there w.shapes is_built).stands;
       code = laws.code w accepted.world;
       packages = stands laws w accepted;
       fields = λ home entry class cell declared e c below. cells.stand home entry c class cell declared e below;
@@ -142,7 +142,6 @@ grounded laws s may =
       constants = λ code listing pc x value whole there is.
           constant_bound code pc x.instr value (laws.listing.has code listing pc x whole there).1 is;
       objects_stay = laws.stay;
-      lookups = λ before lies. laws.lookups before w.shapes lies;
       typed_methods = laws.typed w accepted;
       tokens = λ number body index ref loaded there. (accepted.packages number body loaded).tokens index ref there;
     }

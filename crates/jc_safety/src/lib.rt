@@ -27,12 +27,12 @@ use jc_classes::{found_subtypes_are_subtypes, growing_keeps_lookups, superclass_
 use jc_code::listing_laws;
 use jc_effects::growing_keeps_effects;
 use jc_link::{
-    built_worlds_are_sound, built_worlds_have_the_api, built_worlds_name_classes,
+    built_worlds_are_sound, built_worlds_name_classes, built_worlds_stand_on_the_api,
     growing_keeps_linking,
 };
 use jc_machine::{
-    Natives, accepted_methods_are_typed, accepted_worlds_grow, cells_follow_superclasses,
-    instructions_begin_in_turn, methods_have_code, runtime_objects_stay,
+    Natives, accepted_methods_are_typed, cells_follow_superclasses, instructions_begin_in_turn,
+    methods_have_code, runtime_objects_stay,
 };
 
 /// Accepted packages are type-safe. Where each package of a world was linked and checked, and the native members keep
@@ -60,7 +60,7 @@ pub fn accepted_packages_are_type_safe<N: Natives>(_natives: &N)
     growing_keeps_effects();
     built_worlds_are_sound();
     built_worlds_name_classes();
-    built_worlds_have_the_api();
+    built_worlds_stand_on_the_api();
     cells_follow_superclasses();
     superclass_laws();
     found_subtypes_are_subtypes();
@@ -86,7 +86,7 @@ pub fn objects_stay_typed<N: Natives>(_natives: &N)
     growing_keeps_effects();
     built_worlds_are_sound();
     built_worlds_name_classes();
-    built_worlds_have_the_api();
+    built_worlds_stand_on_the_api();
     cells_follow_superclasses();
     superclass_laws();
     found_subtypes_are_subtypes();
@@ -108,7 +108,7 @@ pub fn loads_stay_typed<N: Natives>(_natives: &N)
     growing_keeps_effects();
     built_worlds_are_sound();
     built_worlds_name_classes();
-    built_worlds_have_the_api();
+    built_worlds_stand_on_the_api();
     cells_follow_superclasses();
     superclass_laws();
     found_subtypes_are_subtypes();
@@ -124,10 +124,7 @@ pub fn loads_stay_typed<N: Natives>(_natives: &N)
 pub fn api_runs_its_own_code()
     ensures { (world : List Shape) → IsBuilt world → HaveApiMembers world }
 {
-    growing_keeps_lookups();
-    built_worlds_are_sound();
-    built_worlds_have_the_api();
-    accepted_worlds_grow();
+    built_worlds_stand_on_the_api();
 }
 
 /// The static fields of a loaded package stand within its image, each at an offset of its own. It does nothing.

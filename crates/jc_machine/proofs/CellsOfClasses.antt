@@ -1,17 +1,17 @@
 -- The cells of objects, class by class.
-use Rattle.std.proofs.Common.{◌≡◌, ℕ, zero, suc, ◌+◌, ◌-◌, ◌<◌, ◌≤◌, ◌++◌, ◌||◌, Bool, true, false, List, [], ◌∷◌}
+use Rattle.std.proofs.Common.{◌≡◌, ℕ, zero, suc, ◌+◌, ◌-◌, ◌<◌, ◌≤◌, ◌++◌, true, List, [], ◌∷◌}
 use Rattle.std.proofs.Common.{length, Option, Some, None, refl, sym, ap, ◌∙◌, subst, arith, slice_get, length-append}
 use Rattle.std.proofs.lemmas.List.{length-map}
 use Rattle.std.proofs.lemmas.List.FromFn.{length-range_with_len}
-use Rattle.std.proofs.lemmas.Option.{none-some, same_Some, slice_get-map}
+use Rattle.std.proofs.lemmas.Option.{none-some, option_and_then_some, same_Some, slice_get-map}
 use Rattle.std.specs.List.{range_with_len}
 use Rattle.std.specs.Option.{option_and_then, option_map, option_map_or}
-use Rattle.jc_api.specs.declared.class.ApiClass.TheVariants.{Object}
+use Rattle.jc_api.specs.declared.class.ApiClass.{ApiClass}
 use Rattle.jc_base.specs.declared.declared_type.DeclaredType.{DeclaredType}
 use Rattle.jc_cap_desc.specs.Shape.{Shape}
 use Rattle.jc_cap.specs.declared.entry.PoolEntry.{PoolEntry}
 use Rattle.jc_classes.specs.Members.{DeclaredMethod, method_at}
-use Rattle.jc_classes.specs.Subtype.{comes_to_end, is_at_or_above, is_class_below}
+use Rattle.jc_classes.specs.Subtype.{comes_to_end, is_class_below}
 use Rattle.jc_classes.specs.Walk.{most_classes}
 use Rattle.jc_classes.specs.World.{superclass_of}
 use Rattle.jc_link.specs.ApiClasses.{StandsThere}
@@ -23,13 +23,10 @@ use Rattle.jc_link.specs.declared.named.Named.{Named}
 use Rattle.jc_link.specs.declared.named.Named.TheVariants as Names
 use Rattle.jc_link.specs.declared.target.PoolTarget.{PoolTarget}
 use Rattle.jc_link.specs.declared.target.PoolTarget.TheVariants as To
-use Rattle.jc_names.specs.Names.{home_of, is_same_name}
+use Rattle.jc_names.specs.Names.{home_of}
 use Rattle.jc_names.specs.declared.name.ClassName.{ClassName}
-use Rattle.jc_names.specs.declared.name.ClassName.TheVariants.{Api}
+use Rattle.jc_names.specs.declared.name.ClassName.TheVariants.{Api, Loaded}
 use Rattle.jc_names.specs.declared.name.MethodName.{MethodName}
-use Rattle.jc_link.proofs.GrownParts.{some_of}
-use Rattle.jc_link.proofs.SameNames.{same_name}
-use Rattle.jc_link.proofs.SoundChains.{ends_above, heir_of_walk}
 use Rattle.jc_machine.specs.Lookup.{fields_of, fields_within, own_fields}
 use Rattle.jc_machine.specs.Uncounted.{HaveCells}
 use Rattle.jc_machine.proofs.GuardingHeaps.{get_first}
@@ -62,7 +59,12 @@ get_range a (suc n) (suc k) h =
 
 -- ---- class by class
 
-module _ (world : List Shape) (sound : IsSound world) (object : StandsThere world Object) where
+-- one class less is enough above it
+ends_above : (world : List Shape) (n : ℕ) (c d : ClassName) → comes_to_end world (suc n) c ≡ true
+    → superclass_of world c ≡ Some d → comes_to_end world n d ≡ true
+ends_above world n c d e f = sym (ap (λ (o : Option ClassName). option_map_or (comes_to_end world n) o true) f) ∙ e
+
+module _ (world : List Shape) (sound : IsSound world) (stand : (c : ApiClass) → StandsThere world c) where
   -- a chain that is over
   fields_enough : (n m : ℕ) (c : ClassName) → comes_to_end world n c ≡ true → n ≤ m
       → fields_within world m c ≡ fields_within world n c
@@ -130,8 +132,8 @@ module _ (world : List Shape) (sound : IsSound world) (object : StandsThere worl
       let above = option_map_or (fields_of world) (superclass_of world c) [] in
       let long : length above ≡ cells_above world most_classes c
       = above_count c (superclass_of world c) refl (λ d f. count d) in
-      let f = some_of (field_type_of world (home_of c)) (instance_field_at world c token) declared e in
-      let low = sound.fields.cells c token f.0 f.1 in
+      let low = option_and_then_some (field_type_of world (home_of c)) (instance_field_at world c token) declared e
+      (λ f at is. sound.fields.cells c token f at) in
       let same : 0 + token ≡ token = omega arith in
       ap (λ (fields : List (Option (DeclaredType ClassName))). slice_get fields (cell_of world c token)) (follow c)
       ∙ ap (λ k. slice_get (above ++ own_fields world c) (k + token)) (sym long)
@@ -204,25 +206,18 @@ module _ (world : List Shape) (sound : IsSound world) (object : StandsThere worl
       not_mapped (To.SuperMethod c m) (method_type_of world m) class cell declared (λ a e. cc) e
   by_named (Names.StaticMethod m) class cell declared e = by_method m (method_at world m) class cell declared e
 
-  -- a class below another one along its superclasses; Object itself has no field
+  -- a class below another one along its superclasses; classes of the API have no fields
   below_heir : (c d : ClassName) (token : ℕ) (declared : DeclaredType ClassName)
       → instance_type_of world d token ≡ Some declared → is_class_below world c d ≡ true → IsHeir world c d
-  below_heir c d token declared type e = by_object (is_same_name (Api Object) d) refl e
-    where
-      by_object : (b : Bool) → is_same_name (Api Object) d ≡ b → (b || is_at_or_above world most_classes d c) ≡ true
-          → IsHeir world c d
-      by_object true same e =
-          absurd
-          (none-some declared
-          (sym (object.fields token) ∙ ap (λ c. instance_type_of world c token) (same_name (Api Object) d same) ∙ type))
-      by_object false other e = heir_of_walk world most_classes d c e
+  below_heir c (Api d) token declared type e = absurd (none-some declared (sym ((stand d).fields token) ∙ type))
+  below_heir c (Loaded number offset) token declared type e = sound.superclasses.heirs c (Loaded number offset) e
 
   stand : (home : ℕ) (entry : PoolEntry) (c class : ClassName) (cell : ℕ) (declared : DeclaredType ClassName)
       → pool_target_of world home entry ≡ Some (To.InstanceField class cell declared)
       → is_class_below world c class ≡ true → slice_get (fields_of world c) cell ≡ Some (Some declared)
   stand home entry c class cell declared leads below =
-      let named = some_of (target_of world) (named_by world home entry) (To.InstanceField class cell declared) leads in
-      let field = by_named named.0 class cell declared named.2 in
+      let field = option_and_then_some (target_of world) (named_by world home entry)
+      (To.InstanceField class cell declared) leads (λ named at is. by_named named class cell declared is) in
       let heir = below_heir c class field.token declared field.type below in
       heir_field c class cell (Some declared) heir
       (subst (λ k. slice_get (fields_of world class) k ≡ Some (Some declared)) field.at

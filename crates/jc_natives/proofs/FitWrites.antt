@@ -14,6 +14,7 @@ use Rattle.jc_classes.specs.Subtype.{comes_to_end, is_at_or_above, is_class_belo
 use Rattle.jc_classes.specs.Walk.{most_classes}
 use Rattle.jc_link.specs.ApiClasses.{StandsThere, cells_within}
 use Rattle.jc_link.specs.Linked.{World}
+use Rattle.jc_link.specs.Sound.{HaveSuperclasses}
 use Rattle.jc_machine.specs.Machine.{ByCode}
 use Rattle.jc_machine.specs.Lookup.{is_byte, is_of_class, is_throwable}
 use Rattle.jc_machine.specs.Machine.{NativeCall}
@@ -153,12 +154,12 @@ pub record Known : Type 0 where
   pub w : World
   pub call : NativeCall Kept
   pub there : (c : ApiClass) → StandsThere w.shapes c
-  pub ends : (c : ClassName) → comes_to_end w.shapes most_classes c ≡ true
+  pub supers : HaveSuperclasses w.shapes
   pub fit : IsFitCall meaning w call
   pub given : Signature ClassName
 
 module _ (known : Known) where
-  open known use {w, call, there, ends, fit, given}
+  open known use {w, call, there, supers, fit, given}
 
   -- ---- what is written
 
@@ -283,7 +284,7 @@ module _ (known : Known) where
       → FitsWrite w.shapes call.heap (record { by = ByCode; object = number; from = 0; words = n ∷ [] })
   reason_written number n c leads small other none enough =
       to_class number 0 (n ∷ []) c leads (class_fits c (n ∷ []) other none (λ d below.
-      ((blank_at w.shapes there c d 0 ends below (λ k f. let a = enough k f in omega (arith, a)), small), tt)))
+      ((blank_at w.shapes there c d 0 supers below (λ k f. let a = enough k f in omega (arith, a)), small), tt)))
 
   pub runtime_reason : (number n : ℕ) → LeadsToClass w.shapes call.heap number (Api api.CardRuntimeException)
       → n < 65536 → FitsWrite w.shapes call.heap (record { by = ByCode; object = number; from = 0; words = n ∷ [] })
@@ -320,7 +321,7 @@ module _ (known : Known) where
       to_class number 0 (length bytes ∷ bytes) api.Aid leads
       (class_fits api.Aid (length bytes ∷ bytes) refl refl (λ d below.
       blank_fit w.shapes d 0 (length bytes ∷ bytes)
-      (λ index low. blank_at w.shapes there api.Aid d index ends below
+      (λ index low. blank_at w.shapes there api.Aid d index supers below
       (λ k f. let a = aid_cells w.shapes there k f in omega (arith, a, low)))
       (omega (arith, short))
       (both_are (nat_lt (length bytes) 256) (are_bytes bytes) (lt-ltb (length bytes) 256 (omega (arith, short))) e)))

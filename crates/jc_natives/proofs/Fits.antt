@@ -75,7 +75,7 @@ use Rattle.jc_store.specs.Heap.{Heap, object_at}
 use Rattle.jc_words.specs.Values.{Word}
 
 module _ (known : Known) where
-  open known use {w, call, there, ends, fit, given}
+  open known use {w, call, there, supers, fit, given}
 
   -- ---- the members
 

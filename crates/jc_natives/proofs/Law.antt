@@ -5,17 +5,16 @@ use Rattle.std.proofs.lemmas.Option.{same_Some}
 use Rattle.std.specs.Option.{option_and_then, option_map_or}
 use Rattle.jc_api.specs.Numbered.{numbered}
 use Rattle.jc_api.specs.Member.{ApiMember, virtual}
-use Rattle.jc_api.specs.declared.class.ApiClass.{ApiClass}
 use Rattle.jc_api.specs.declared.class.ApiClass.TheVariants as api
 use Rattle.jc_base.specs.Signature.{Signature, signature_map}
 use Rattle.jc_base.specs.declared.declared_type.DeclaredType.TheVariants as types
 use Rattle.jc_base.specs.declared.declared_type.ReturnType.TheVariants.{Value}
 use Rattle.jc_cap_desc.specs.Shape.{Shape}
-use Rattle.jc_classes.specs.Growth.{KeepsAllLookups, LiesWithin}
+use Rattle.jc_classes.specs.Api.{method_in}
 use Rattle.jc_classes.specs.Limits.{IsSmall}
-use Rattle.jc_link.specs.ApiClasses.{StandsThere}
+use Rattle.jc_classes.specs.Members.{DeclaredMethod}
+use Rattle.jc_link.specs.ApiClasses.{StandsOnApi}
 use Rattle.jc_link.specs.Built.{IsBuilt}
-use Rattle.jc_link.specs.Growth.{KeepsAllLinking}
 use Rattle.jc_link.specs.Linked.{World}
 use Rattle.jc_link.specs.MemberType.{declared_type_of}
 use Rattle.jc_link.specs.Sound.{IsSound}
@@ -27,7 +26,6 @@ use Rattle.jc_machine.specs.Natives.{IsFitAnswer, IsFitCall, IsLawful}
 use Rattle.jc_names.specs.declared.name.ClassName.{ClassName}
 use Rattle.jc_names.specs.declared.name.ClassName.TheVariants as classes
 use Rattle.jc_natives.specs.MemberTypes.{counted_name}
-use Rattle.jc_natives.proofs.ApiTypes.{IsDeclared, is_declared}
 use Rattle.jc_natives.proofs.Facts.{AreTyped}
 use Rattle.jc_natives.proofs.FitWrites.{Known}
 use Rattle.jc_natives.proofs.Fits.{begun_fits}
@@ -50,17 +48,18 @@ abbrev given_of : ApiMember → Signature ClassName
 given_of m = signature_map counted_name m.signature
 
 -- the arguments of a call that begins are of the types of its member
-arguments_typed : (w : World) (call : NativeCall Kept) (b : Begins w call) → IsDeclared w.shapes call.member b.member
+arguments_typed : (w : World) (call : NativeCall Kept) (b : Begins w call) → StandsOnApi w.shapes
     → AreTyped w.shapes call.heap b.member call.arguments
-arguments_typed w call b d =
-    let same = same_Some b.method d.method (sym b.found ∙ d.found) in
-    let type : declared_type_of w.shapes d.method ≡ Some (given_of b.member) =
-    sym (ap (option_and_then (declared_type_of w.shapes)) d.found) ∙ d.type in
-    let begins : may_begin_with w.shapes call.heap d.method call.arguments ≡ true =
+arguments_typed w call b on =
+    let d : DeclaredMethod =
+    record { class = classes.Api b.member.class; method = method_in on.bound call.member b.member } in
+    let found = on.members call.member b.member b.is in
+    let same = same_Some b.method d (sym b.found ∙ found) in
+    let type : declared_type_of w.shapes d ≡ Some (given_of b.member) =
+    sym (ap (option_and_then (declared_type_of w.shapes)) found) ∙ on.types call.member b.member b.is in
+    let begins : may_begin_with w.shapes call.heap d call.arguments ≡ true =
     ap (λ x. may_begin_with w.shapes call.heap x call.arguments) (sym same) ∙ b.begins in
-    sym (ap (λ x. takes x (classes.Api b.member.class) (given_of b.member)) d.static)
-    ∙ sym (ap (λ c. takes (d.method).method.is_static c (given_of b.member)) d.class)
-    ∙ sym (ap (λ o. option_map_or (takes (d.method).method.is_static (d.method).class) o false) type) ∙ begins
+    sym (ap (λ o. option_map_or (takes d.method.is_static d.class) o false) type) ∙ begins
   where
     takes : Bool → ClassName → Signature ClassName → Bool
     takes static c s =
@@ -70,36 +69,33 @@ arguments_typed w call b d =
 abbrev answers : World → NativeCall Kept → Bool → Option Native → NativeAnswer Kept
 answers w call b o = cond b (begun_on_words w call o) (unchanged call [] IsStuck)
 
-module _ (lookups : (before after : List Shape) → LiesWithin before after → KeepsAllLookups before after)
-    (linking : (before after : List Shape) → LiesWithin before after → KeepsAllLinking before after)
-    (stands : (world : List Shape) → IsBuilt world → (c : ApiClass) → StandsThere world c)
+module _ (on_api : (world : List Shape) → IsBuilt world → StandsOnApi world)
     (sound : (world : List Shape) → IsSmall world → IsBuilt world → IsSound world) where
   module _ (w : World) (call : NativeCall Kept) (accepted : IsAccepted w) (fit : IsFitCall meaning w call) where
     abbrev b : Begins w call
     b = begins_of w call fit.begins
 
-    abbrev d : IsDeclared w.shapes call.member b.member
-    d = is_declared lookups linking w.shapes accepted.world.built call.member b.member b.is
+    abbrev on : StandsOnApi w.shapes
+    on = on_api w.shapes accepted.world.built
 
     abbrev known : Known
     known = record {
       w = w;
       call = call;
-      there = stands w.shapes accepted.world.built;
-      ends = (sound w.shapes accepted.small accepted.world.built).superclasses.orderly.ends;
+      there = on.stands;
+      supers = (sound w.shapes accepted.small accepted.world.built).superclasses;
       fit = fit;
       given = given_of b.member;
     }
 
     -- what it answers is what it answers on words
     pub means_the_same : answer_of w call ≡ answer_on_words w call
-    means_the_same = same_answer known b.member b.native b.is b.numbered (arguments_typed w call b d)
+    means_the_same = same_answer known b.member b.native b.is b.numbered (arguments_typed w call b on)
 
     answers_fit : IsFitAnswer meaning w call (answer_of w call)
     answers_fit =
-        let a = is_declared lookups linking w.shapes accepted.world.built 40 asking refl in
         let done = begun_fits known b.member b.is refl
-        (arguments_typed w call b d) asking refl a.type refl refl refl b.native
+        (arguments_typed w call b on) asking refl (on.types 40 asking refl) refl refl refl b.native
         (suits call.member b.native b.member b.numbered b.is) in
         let same : answer_of w call ≡ begun_on_words w call (Some b.native) = means_the_same
         ∙ ap (λ x. answers w call x (numbered natives call.member)) fit.begins
@@ -108,7 +104,8 @@ module _ (lookups : (before after : List Shape) → LiesWithin before after → 
           heap = done.0;
           fits = (done.1).0;
           given = given_of b.member;
-          declared = ap (λ x. cond x (type_of_member w.shapes call.member) None) b.concrete ∙ d.type;
+          declared = ap (λ x. cond x (type_of_member w.shapes call.member) None) b.concrete
+              ∙ on.types call.member b.member b.is;
           ends = (done.1).1;
         })
 

@@ -9,7 +9,6 @@ mod Changed
 mod Guarding
 mod Keeping
 mod Numbers
-mod ApiTypes
 mod Tables
 mod Suits
 mod Facts

@@ -1,6 +1,6 @@
 -- What the API's tables say of its classes, in each world in which these stand: the cells of objects of a class below
 -- one of them, and which are below which.
-use Rattle.std.proofs.Common.{◌≡◌, ◌⊎◌, inl, inr, ℕ, zero, suc, ◌+◌, ◌<◌, ◌≤◌, ◌||◌, Bool, true, false, List, [], ◌∷◌}
+use Rattle.std.proofs.Common.{◌≡◌, ℕ, zero, suc, ◌+◌, ◌<◌, ◌≤◌, ◌||◌, Bool, true, false, List, [], ◌∷◌}
 use Rattle.std.proofs.Common.{◌++◌, length, map, slice_get, Option, Some, None, refl, sym, ap, subst, ◌∙◌, arith}
 use Rattle.std.proofs.Common.{append_assoc, length-append}
 use Rattle.std.proofs.lemmas.List.{append-nil, length-map}
@@ -16,9 +16,9 @@ use Rattle.jc_cap_desc.specs.Shape.{Shape}
 use Rattle.jc_classes.specs.Subtype.{comes_to_end, is_at_or_above, is_class_below}
 use Rattle.jc_classes.specs.Walk.{most_classes}
 use Rattle.jc_classes.specs.World.{superclass_of}
-use Rattle.jc_link.proofs.SameNames.{same_name}
 use Rattle.jc_link.specs.ApiClasses.{StandsThere, cells_within}
 use Rattle.jc_link.specs.Named.{size_of}
+use Rattle.jc_link.specs.Sound.{HaveSuperclasses, IsHeir, behind, itself}
 use Rattle.jc_link.specs.Target.{instance_type_of}
 use Rattle.jc_machine.specs.Lookup.{fields_within, own_fields}
 use Rattle.jc_names.specs.Names.{is_same_name}
@@ -67,15 +67,6 @@ above_in (suc n) d c = is_same_name (Api c) (Api d) || option_map_or (above_in n
 
 abbrev pub are_below : ApiClass → List ApiClass → Bool
 are_below d cs = list_all (λ c. above_in most_classes d c) cs
-
-either_is : (a b : Bool) → (a || b) ≡ true → (a ≡ true) ⊎ (b ≡ true)
-either_is true b e = inl refl
-either_is false b e = inr e
-
-passed : {A : Type 0} (test : A → Bool) (o : Option A) → option_map_or test o false ≡ true
-    → (x : A) × (o ≡ Some x) × (test x ≡ true)
-passed test None e = absurd cc
-passed test (Some x) e = (x, refl, e)
 
 module _ (world : List Shape) (there : (c : ApiClass) → StandsThere world c) where
   own_blank : (c : ApiClass) → AreBlank (own_fields world (Api c)) (tables.size_of c)
@@ -144,36 +135,20 @@ module _ (world : List Shape) (there : (c : ApiClass) → StandsThere world c) w
         ∙ append_assoc (fields_within world b.left x) b.rest (own_fields world c);
   }
 
-  begins_with : (n : ℕ) (x c : ClassName) → is_at_or_above world n x c ≡ true → comes_to_end world n c ≡ true
-      → BeginsWith n x c
-  begins_with zero x c e ends = absurd cc
-  begins_with (suc n) x c e ends =
-      by_step (λ d f g. begins_with n x d f g)
-      (either_is (is_same_name c x) (option_map_or (is_at_or_above world n x) (superclass_of world c) false) e)
-    where
-      by_step : ((d : ClassName) → is_at_or_above world n x d ≡ true → comes_to_end world n d ≡ true → BeginsWith n x d)
-          → (is_same_name c x ≡ true) ⊎ (option_map_or (is_at_or_above world n x) (superclass_of world c) false ≡ true)
-          → BeginsWith (suc n) x c
-      by_step on (inl f) =
-          let same = same_name c x f in
-          record {
-            left = suc n;
-            ends = ap (comes_to_end world (suc n)) (sym same) ∙ ends;
-            rest = [];
-            fields = ap (fields_within world (suc n)) same ∙ sym (append-nil (fields_within world (suc n) x));
-          }
-      by_step on (inr f) =
-          let d = passed (is_at_or_above world n x) (superclass_of world c) f in
-          begins_on n x c d.0 d.1
-          (on d.0 d.2 (sym (ap (λ o. option_map_or (comes_to_end world n) o true) d.1) ∙ ends))
+  begins_with : (n : ℕ) (x c : ClassName) → IsHeir world c x → comes_to_end world n c ≡ true → BeginsWith n x c
+  begins_with n _ _ (itself c) ends =
+      record { left = n; ends = ends; rest = []; fields = sym (append-nil (fields_within world n c)) }
+  begins_with zero _ _ (behind c d x e h) ends = absurd cc
+  begins_with (suc n) _ _ (behind c d x e h) ends =
+      begins_on n x c d e
+      (begins_with n x d h (sym (ap (λ o. option_map_or (comes_to_end world n) o true) e) ∙ ends))
 
   -- a class below one with so many cells
   pub blank_at : (x : ApiClass) (c : ClassName) (index : ℕ)
-      → ((c : ClassName) → comes_to_end world most_classes c ≡ true)
-      → is_at_or_above world most_classes (Api x) c ≡ true
+      → HaveSuperclasses world → is_at_or_above world most_classes (Api x) c ≡ true
       → ((n : ℕ) → comes_to_end world n (Api x) ≡ true → index < cells_within n x) → IsBlankAt world c index
-  blank_at x c index ends below enough =
-      let b = begins_with most_classes (Api x) c below (ends c) in
+  blank_at x c index supers below enough =
+      let b = begins_with most_classes (Api x) c (supers.heirs c (Api x) below) (supers.orderly.ends c) in
       let blank = all_blank b.left x in
       record {
         blank = λ f e.

@@ -124,7 +124,7 @@ blank_word world heap (x ∷ cells) (f ∷ fields) (suc index) typed blank v e =
     blank_word world heap cells fields index typed.1 blank v e
 
 module _ (known : Known) where
-  open known use {w, call, there, ends, fit}
+  open known use {w, call, there, supers, fit}
 
   pub byte_word : (number : ℕ) → LeadsToBytes call.heap number → (o : Object TaggedValue)
       → object_at call.heap number ≡ Some o → (i : ℕ) → IsWordAt o.cells i
@@ -144,7 +144,7 @@ module _ (known : Known) where
           → CellsTyped w.shapes call.heap o.cells type → IsWordAt o.cells index
       by_type (OfClass d) e cells =
           blank_word w.shapes call.heap o.cells (fields_of w.shapes d) index cells
-          (blank_at w.shapes there c d index ends
+          (blank_at w.shapes there c d index supers
           (ap (λ b. b || is_at_or_above w.shapes most_classes (Api c) d) (sym other) ∙ e) enough).blank
       by_type BooleanArray e cells = absurd (no_array known c other none e)
       by_type ByteArray e cells = absurd (no_array known c other none e)

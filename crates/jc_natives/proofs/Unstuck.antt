@@ -12,8 +12,6 @@ use Rattle.jc_firewall.specs.declared.access.Verdict.{Verdict}
 use Rattle.jc_firewall.specs.declared.access.Verdict.TheVariants.{Allowed, AllowedSwitch, Denied}
 use Rattle.jc_machine.specs.Going.{facts_in}
 use Rattle.jc_machine.specs.Lookup.{is_of_class, leads_to}
-use Rattle.jc_link.proofs.SameNames.{same_name}
-use Rattle.jc_names.specs.Names.{is_same_name}
 use Rattle.jc_names.specs.declared.name.ClassName.{ClassName}
 use Rattle.jc_names.specs.declared.name.ClassName.TheVariants.{Api}
 use Rattle.jc_natives.proofs.Bare.{both}
@@ -68,11 +66,8 @@ is_bytes_kind (an_object c) = false
 is_bytes_kind (other_array t) = false
 
 abbrev pub is_aid_kind : Kind → Bool
-is_aid_kind word = false
-is_aid_kind bytes = false
-is_aid_kind (of c) = false
-is_aid_kind (an_object c) = is_same_name c (Api api.Aid)
-is_aid_kind (other_array t) = false
+is_aid_kind (an_object (Api api.Aid)) = true
+is_aid_kind kind = false
 
 module _ (kinds : List Kind) where
   abbrev pub at : (Kind → Bool) → ℕ → Bool
@@ -258,13 +253,8 @@ module _ (known : Known) (kinds : List Kind)
     where
       by_kind : (k : Kind) → is_aid_kind k ≡ true → (v : TaggedValue) → IsOfKind w.shapes heap v k
           → LeadsToClass w.shapes heap (bits v) (Api api.Aid)
-      by_kind word e v is = absurd cc
-      by_kind bytes e v is = absurd cc
-      by_kind (of c) e v is = absurd cc
-      by_kind (an_object c) e v is =
-          object_lead w.shapes heap (Api api.Aid) v
-          (subst (λ d. IsOfKind w.shapes heap v (an_object d)) (same_name c (Api api.Aid) e) is)
-      by_kind (other_array t) e v is = absurd cc
+      by_kind (an_object (Api api.Aid)) e v is = object_lead w.shapes heap (Api api.Aid) v is
+      by_kind k e v is = absurd cc
 
   -- an AID among the arguments leads to an object
   aid_leads : (place : ℕ) → at kinds is_aid_kind place ≡ true → at kinds is_leading place ≡ true

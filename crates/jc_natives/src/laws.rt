@@ -24,7 +24,7 @@ ghost use Rattle.jc_words.specs.Values.{TaggedValue, Word};
 
 use crate::kept::Runtime;
 use jc_classes::growing_keeps_lookups;
-use jc_link::growing_keeps_linking;
+use jc_link::built_worlds_stand_on_the_api;
 use jc_machine::{calls_keep_what_members_keep, held_values_stay};
 
 /// Each access of a native member is allowed, or is its last and changes nothing; and only objects change that were
@@ -106,6 +106,5 @@ pub fn members_are_declared()
     ensures { (world : List Shape) → IsBuilt world → (number : ℕ) (member : ApiMember)
         → member_of number ≡ Some member → type_of_member world number ≡ Some (declared_signature member) }
 {
-    growing_keeps_lookups();
-    growing_keeps_linking();
+    built_worlds_stand_on_the_api();
 }

@@ -24,9 +24,8 @@ use crate::object::object_native;
 use crate::system::system_native;
 use crate::utility::{utility_called, utility_native};
 use arrayvec::ArrayVec;
-use jc_classes::growing_keeps_lookups;
 use jc_firewall::Denial;
-use jc_link::{built_worlds_are_sound, built_worlds_have_the_api, growing_keeps_linking};
+use jc_link::{built_worlds_are_sound, built_worlds_stand_on_the_api};
 use jc_machine::{Natives, WordCall, WordCallback, WordOutcome};
 use jc_store::Store;
 
@@ -114,9 +113,7 @@ fn members_mean_the_same()
     ensures { (w : worlds.World) (call : NativeCall Kept) → IsAccepted w → IsFitCall meaning w call
         → meaning.answer w call ≡ answer_on_words w call }
 {
-    growing_keeps_lookups();
-    growing_keeps_linking();
-    built_worlds_have_the_api();
+    built_worlds_stand_on_the_api();
     built_worlds_are_sound();
 }
 
@@ -143,9 +140,7 @@ impl Natives for Runtime {
     }
 
     fn law(&self) {
-        growing_keeps_lookups();
-        growing_keeps_linking();
-        built_worlds_have_the_api();
+        built_worlds_stand_on_the_api();
         built_worlds_are_sound();
     }
 }

@@ -29,27 +29,7 @@ right_true false b e = absurd cc
 
 pub numbered_again : (a : ApiClass) → class_of (number_of a) ≡ Some a
 numbered_again Apis.Object = refl
-numbered_again Apis.Throwable = refl
-numbered_again Apis.Exception = refl
-numbered_again Apis.RuntimeException = refl
-numbered_again Apis.ArithmeticException = refl
-numbered_again Apis.ArrayStoreException = refl
-numbered_again Apis.ClassCastException = refl
-numbered_again Apis.IndexOutOfBoundsException = refl
-numbered_again Apis.ArrayIndexOutOfBoundsException = refl
-numbered_again Apis.NegativeArraySizeException = refl
-numbered_again Apis.NullPointerException = refl
-numbered_again Apis.SecurityException = refl
-numbered_again Apis.Shareable = refl
-numbered_again Apis.CardRuntimeException = refl
-numbered_again Apis.IsoException = refl
-numbered_again Apis.SystemException = refl
-numbered_again Apis.ApduException = refl
-numbered_again Apis.Aid = refl
-numbered_again Apis.Apdu = refl
-numbered_again Apis.Applet = refl
-numbered_again Apis.JcSystem = refl
-numbered_again Apis.Util = refl
+numbered_again a = refl
 
 same_number : (a b : ApiClass) → number_of a ≡ number_of b → a ≡ b
 same_number a b e = same_Some a b (sym (numbered_again a) ∙ ap class_of e ∙ numbered_again b)

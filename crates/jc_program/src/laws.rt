@@ -19,7 +19,7 @@ ghost use Rattle.jc_names.specs.declared.name.ClassName.{ClassName};
 ghost use Rattle.jc_names.specs.declared.name.ClassName.TheVariants.{Api};
 
 use jc_classes::found_subtypes_are_subtypes;
-use jc_link::built_worlds_are_sound;
+use jc_link::{built_worlds_are_sound, built_worlds_stand_on_the_api};
 
 /// Handlers whose pcs count in the code cover what their rows cover.
 #[tactic(auto, using(crate::proofs::Covering::covers_same))]
@@ -43,7 +43,9 @@ pub fn classes_have_numbers()
 #[tactic(auto, using(crate::proofs::Tokening::public_tokens))]
 pub fn api_tokens_are_public()
     ensures { (world : List Shape) → IsBuilt world → HavePublicTokens world }
-{}
+{
+    built_worlds_stand_on_the_api();
+}
 
 /// What the tables of a world answer by number and name.
 #[tactic(auto, using(crate::proofs::Following::follows))]

@@ -6,7 +6,7 @@ ghost use Rattle.jc_program.specs.PrivateMemberTokens.{HavePlaces, member_place,
 
 use jc_api::Member;
 use jc_classes::{Class, ClassTable};
-use jc_link::World;
+use jc_link::{World, built_worlds_stand_on_the_api};
 use jc_names::ClassName;
 use std::alloc::{AllocError, Global};
 use std::marker::Model;
@@ -85,6 +85,7 @@ impl MemberTokens {
     pub fn new(alloc: Global, world: &World) -> Result<MemberTokens, AllocError>
         ensures { IfOk result (λ tokens. AreMemberTokens world.now.shapes tokens) }
     {
+        built_worlds_stand_on_the_api();
         let tokens = tokens_of(alloc, world.table())?;
         Ok(MemberTokens { tokens })
     }

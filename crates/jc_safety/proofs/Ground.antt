@@ -5,7 +5,7 @@ use Rattle.std.proofs.lemmas.Bool.{le-ltb}
 use Rattle.std.proofs.Common.{eqb-true}
 use Rattle.std.specs.List.{find}
 use Rattle.std.specs.Option.{option_and_then, option_map, option_map_or}
-use Rattle.jc_cap_desc.specs.Shape.{MethodBody, Shape}
+use Rattle.jc_cap_desc.specs.Shape.{MethodBody}
 use Rattle.jc_cap.specs.declared.method_header.MethodHeader.{MethodHeader}
 use Rattle.jc_api.specs.declared.class.ApiClass.{ApiClass}
 use Rattle.jc_base.specs.Signature.{Signature}
@@ -15,17 +15,17 @@ use Rattle.jc_cap.specs.declared.entry.MemberRef.{MemberRef}
 use Rattle.jc_cap.specs.declared.entry.PoolEntry.{PoolEntry}
 use Rattle.jc_cap.specs.declared.entry.PoolEntry.TheVariants.{VirtualMethodref}
 use Rattle.jc_check.specs.Package.{arguments_of, max_locals_of, method_of, receiver_of}
-use Rattle.jc_classes.specs.Growth.{KeepsAllLookups, LiesWithin, StandWithin}
+use Rattle.jc_classes.specs.Growth.{KeepsAllLookups, StandWithin}
 use Rattle.jc_classes.specs.Members.{DeclaredMethod, method_at}
 use Rattle.jc_classes.specs.Methods.{method_name}
 use Rattle.jc_classes.specs.Subtype.{IsOrder, IsSubtype, is_class_at, is_class_below, is_subtype}
 use Rattle.jc_code.specs.Instructions.{instr_at}
 use Rattle.jc_code.specs.Listing.{IsListing, ListingLaws, PlacedInstr, placed_at}
-use Rattle.jc_link.specs.ApiClasses.{StandsThere}
+use Rattle.jc_link.specs.ApiClasses.{StandsOnApi, StandsThere}
 use Rattle.jc_link.specs.Growth.{KeepsAllLinking}
 use Rattle.jc_link.specs.KnownTypes.{NameClasses, is_known_target}
 use Rattle.jc_link.specs.Linked.{IsKnown, Linked, LinkedBody, World}
-use Rattle.jc_link.specs.Sound.{IsSound}
+use Rattle.jc_link.specs.Sound.{IsHeir, IsSound, behind, itself}
 use Rattle.jc_link.specs.Target.{pool_target_of}
 use Rattle.jc_link.specs.declared.target.PoolTarget.{PoolTarget}
 use Rattle.jc_link.specs.declared.target.PoolTarget.TheVariants.{InstanceField}
@@ -76,6 +76,7 @@ pub record Ground {C : Type 0} (s : Surroundings C) : Type 0 where
   pub found : (c d : ClassName) → is_subtype s.world.shapes c d ≡ true → IsSubtype s.world.shapes c d
   pub heirs : (c d : ClassName) → is_class_at s.world.shapes d ≡ true → IsSubtype s.world.shapes c d
       → is_class_below s.world.shapes c d ≡ true
+  pub on_api : StandsOnApi s.world.shapes
   pub api : (c : ApiClass) → StandsThere s.world.shapes c
   pub code : HaveCode s.world
   pub packages : (number : ℕ) (body : LinkedBody) → body_at s.world number ≡ Some body
@@ -94,7 +95,13 @@ pub record Ground {C : Type 0} (s : Surroundings C) : Type 0 where
       → IsMethodTyped (linked_as s.world place.number body) code
   pub tokens : (number : ℕ) (body : LinkedBody) (index : ℕ) (ref : MemberRef) → body_at s.world number ≡ Some body
       → slice_get body.kept.pool index ≡ Some (VirtualMethodref ref) → ref.token < 256
-  pub lookups : (before : List Shape) → LiesWithin before s.world.shapes → KeepsAllLookups before s.world.shapes
+
+-- whatever is below a class is one
+module _ {C : Type 0} (s : Surroundings C) (ground : Ground s) where
+  pub heir_there : (c d : ClassName) → IsHeir s.world.shapes c d → is_class_at s.world.shapes d ≡ true
+      → is_class_at s.world.shapes c ≡ true
+  heir_there _ _ (itself c) there = there
+  heir_there _ _ (behind c d e up h) there = ground.names.heirs c d up
 
 -- ---- methods
 

@@ -72,7 +72,8 @@ grounded laws s may =
       below_subtypes = laws.below w.shapes;
       found = laws.found w.shapes;
       heirs = λ c d class below. (laws.along w.shapes orderly top c d class).1 below;
-      api = laws.api_there w.shapes is_built;
+      on_api = laws.on_api w.shapes is_built;
+      api = (laws.on_api w.shapes is_built).stands;
       code = laws.code w accepted.world;
       packages = stands laws w accepted;
       fields = λ home entry class cell declared e c below. cells.stand home entry c class cell declared e below;
@@ -81,7 +82,6 @@ grounded laws s may =
       listing = laws.listing;
       words = laws.words;
       objects_stay = laws.stay;
-      lookups = λ before lies. laws.lookups before w.shapes lies;
       typed_methods = laws.typed w accepted;
       tokens = λ number body index ref loaded there. (accepted.packages number body loaded).tokens index ref there;
     }

@@ -19,7 +19,6 @@ use Rattle.jc_classes.specs.Methods.{virtual_method_of}
 use Rattle.jc_classes.specs.Subtype.{IsSubtype, is_class_at, is_class_below}
 use Rattle.jc_classes.specs.Subtype.IsSubtype.{by_interface, by_superclass, object, same}
 use Rattle.jc_classes.specs.World.{class_at}
-use Rattle.jc_link.proofs.SameTypes.{same_signature}
 use Rattle.jc_link.specs.Found.{are_same_types, class_in, is_same_class, is_same_return, is_same_signature}
 use Rattle.jc_link.specs.Found.{is_same_type, kind_of}
 use Rattle.jc_link.specs.MemberType.{declared_type_of, method_type_of}
@@ -56,7 +55,7 @@ use Rattle.jc_safety.proofs.Callees.{MayCall}
 use Rattle.jc_safety.proofs.Entering as entering
 use Rattle.jc_safety.proofs.Entering.{Beside, Site, beside_now, enters_safe}
 use Rattle.jc_safety.proofs.Goes.{placed}
-use Rattle.jc_safety.proofs.Ground.{Ground}
+use Rattle.jc_safety.proofs.Ground.{Ground, heir_there}
 use Rattle.jc_safety.proofs.Growing.{keeps_through, operands_still, statics_still, types_still, waiting_still}
 use Rattle.jc_safety.proofs.Lists.{and_true, both, same_length}
 use Rattle.jc_safety.proofs.Members.{HasVirtual, HaveMembers}
@@ -153,9 +152,6 @@ signature_itself x =
 
 abbrev giving : ReturnType ClassName → Signature ClassName
 giving r = record { parameters = []; result = r }
-
-return_same : (q r : ReturnType ClassName) → is_same_return q r ≡ true → q ≡ r
-return_same q r e = ap (λ (x : Signature ClassName). x.result) (same_signature (giving q) (giving r) e)
 
 -- ---- classes of objects
 
@@ -548,12 +544,8 @@ module _ {C : Type 0} (s : Surroundings C) (ground : Ground s) (m : Machine C) (
       class_there : is_class_at shapes class ≡ true
       class_there =
           let f = ground.sound.virtual_methods.found class its.token 0 (Api callback.member) its.found in
-          heir_there class f.declared.class f.heir
+          heir_there s ground class f.declared.class f.heir
           (ground.names.declared (Api callback.member) f.declared f.there)
-        where
-          heir_there : (c e : ClassName) → IsHeir shapes c e → is_class_at shapes e ≡ true → is_class_at shapes c ≡ true
-          heir_there _ _ (itself k) at_e = at_e
-          heir_there _ _ (behind k e f up h) at_e = ground.names.heirs k e up
 
       on_heir : IsHeir shapes on class
       on_heir = heir_below s ground on class fit.below made.class class_there
@@ -578,7 +570,8 @@ module _ {C : Type 0} (s : Surroundings C) (ground : Ground s) (m : Machine C) (
           let f = ground.sound.virtual_methods.found on its.token 0 kept.method kept.found in
           let type = kept.type ∙ fit.declared in
           let concrete = made.finished.concrete its.token 0 kept.method its.small (some_world s ground) kept.found in
-          let same_result = return_same given.result fit.signature.result fit.result in
+          let same_result = ap (λ (x : Signature ClassName). x.result)
+          (ground.sound.same_types (giving given.result) (giving fit.signature.result) fit.result) in
           let may = found_method s ground heap callback.object fit.object its.token 0 kept.method fit.signature
           callback.arguments there
           kept.found concrete type arguments_fit in

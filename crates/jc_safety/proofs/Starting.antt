@@ -10,9 +10,6 @@ use Rattle.jc_cap.specs.declared.method_header.MethodHeader.{MethodHeader}
 use Rattle.jc_check.specs.Package.{arguments_of}
 use Rattle.jc_classes.specs.Members.{DeclaredMethod, method_at}
 use Rattle.jc_classes.specs.Methods.{virtual_method_of}
-use Rattle.jc_classes.specs.Subtype.{is_class_at}
-use Rattle.jc_link.specs.Sound.{IsHeir}
-use Rattle.jc_link.specs.Sound.IsHeir.{behind, itself}
 use Rattle.jc_names.specs.declared.name.ClassName.{ClassName}
 use Rattle.jc_names.specs.declared.name.ClassName.TheVariants as classes
 use Rattle.jc_names.specs.declared.name.MethodName.{MethodName}
@@ -37,7 +34,7 @@ use Rattle.jc_safety.specs.Starting.{first_frame}
 use Rattle.jc_safety.proofs.Callees.{MayCall, abstract_is, begins_typed, its_body, its_header, runs, same_declared}
 use Rattle.jc_safety.proofs.Callees.{the_some}
 use Rattle.jc_safety.proofs.Counted.{isnt_abstract, takes_them}
-use Rattle.jc_safety.proofs.Ground.{Ground, method_of_code}
+use Rattle.jc_safety.proofs.Ground.{Ground, heir_there, method_of_code}
 use Rattle.jc_safety.proofs.Growing.{statics_still}
 use Rattle.jc_safety.proofs.Lists.{and_true, both}
 use Rattle.jc_safety.proofs.Members.{HasVirtual, HaveMembers}
@@ -224,10 +221,6 @@ module _ {C : Type 0} (s : Surroundings C) (ground : Ground s) (members : HaveMe
         (begins_if shapes start.heap (method_at shapes (Api member)) k.declared vs k.there k.concrete k.begins);
   }
 
-  heir_there : (c e : ClassName) → IsHeir shapes c e → is_class_at shapes e ≡ true → is_class_at shapes c ≡ true
-  heir_there _ _ (itself k) at_e = at_e
-  heir_there _ _ (behind k e f up h) at_e = ground.names.heirs k e up
-
   pub finds_method : IsTypedBeside s (standing start (no_frame start.owner)) → (member : ℕ) (object : Object TaggedValue)
       → IsMemberCall s start member object → FindsMethod s start member object
   finds_method beside member object k =
@@ -237,7 +230,7 @@ module _ {C : Type 0} (s : Surroundings C) (ground : Ground s) (members : HaveMe
       let made = class_made s ground object.kind.object
       (typed_at shapes start.heap beside.heap k.number object k.there).made in
       let first = ground.sound.virtual_methods.found class its.token 0 (Api member) its.found in
-      let class_there = heir_there class first.declared.class first.heir
+      let class_there = heir_there s ground class first.declared.class first.heir
       (ground.names.declared (Api member) first.declared first.there) in
       let heir = heir_below s ground on class k.below made.class class_there in
       let kept = ground.sound.virtual_methods.kept on class its.token 0 (Api member) heir its.small its.found in

@@ -1,32 +1,28 @@
 -- What is thrown is caught by the nearest handler, or leaves the call; the machine is never stuck on the way.
-use Rattle.std.proofs.Common.{◌≡◌, inl, inr, ℕ, zero, suc, ◌+◌, ◌-◌, List, [], ◌∷◌, length, map, slice_get}
+use Rattle.std.proofs.Common.{◌≡◌, ℕ, ◌+◌, ◌-◌, List, [], ◌∷◌, length, map, slice_get}
 use Rattle.std.proofs.Common.{Bool, true, false, ◌&&◌, ◌||◌, cond, Option, Some, None, nat_lt, nat_le, filter, find}
 use Rattle.std.proofs.Common.{refl, sym, ap, ◌∙◌, subst, arith}
-use Rattle.std.proofs.lemmas.Bool.{le-leb, leb-true, lt-ltb, ltb-true, or_cases}
+use Rattle.std.proofs.lemmas.Bool.{le-leb, leb-true, lt-ltb, ltb-true}
 use Rattle.std.specs.List.{AllByRecursion, list_all}
 use Rattle.std.specs.Option.{option_and_then, option_map, option_map_or}
 use Rattle.jc_api.specs.declared.class.ApiClass.TheVariants as api
 use Rattle.jc_cap_desc.specs.Shape.{MethodBody, Shape}
 use Rattle.jc_cap.specs.declared.handler.Handler as rows
 use Rattle.jc_cap.specs.declared.method_header.MethodHeader.{MethodHeader}
-use Rattle.jc_check.specs.Method.{Method, caught_types, covers}
+use Rattle.jc_check.specs.Method.{Method, caught_types}
 use Rattle.jc_check.specs.Method as checked
 use Rattle.jc_check.specs.Package.{caught_class, handler_of, method_of, package_rules, thrown_class, throwable}
 use Rattle.jc_check.specs.Typing.{CatchLeads, HandlerLeads}
 use Rattle.jc_classes.specs.Members.{DeclaredMethod}
-use Rattle.jc_classes.specs.Subtype.{is_at_or_above, is_class_at, is_class_below}
-use Rattle.jc_classes.specs.Walk.{most_classes}
-use Rattle.jc_classes.specs.World.{superclass_of}
-use Rattle.jc_link.proofs.SameNames.{same_name}
+use Rattle.jc_classes.specs.Subtype.{is_class_at, is_class_below}
 use Rattle.jc_link.specs.Linked.{LinkedBody}
 use Rattle.jc_link.specs.declared.target.PoolTarget.{PoolTarget}
 use Rattle.jc_link.specs.declared.target.PoolTarget.TheVariants as To
-use Rattle.jc_names.specs.Names.{is_same_name}
 use Rattle.jc_names.specs.declared.name.ClassName.{ClassName}
 use Rattle.jc_names.specs.declared.name.ClassName.TheVariants.{Api}
 use Rattle.jc_effects.specs.Objects.{class_target}
 use Rattle.jc_store.specs.Heap as heaps
-use Rattle.jc_store.specs.Heap.{Heap, object_at}
+use Rattle.jc_store.specs.Heap.{object_at}
 use Rattle.jc_types.specs.State.{all_below}
 use Rattle.jc_types.specs.Ty.{is_below}
 use Rattle.jc_types.specs.declared.ty.Ty.{Ty}
@@ -40,7 +36,7 @@ use Rattle.jc_machine.specs.Step.{catch_class, catches_all, caught_in, covering,
 use Rattle.jc_machine.specs.Step.{settled, settled_object, through, unwound}
 use Rattle.jc_machine.specs.Typed.{IsPlaced, IsTyped, IsTypedBeside, WaitTyped, given_by, has_type}
 use Rattle.jc_words.specs.Values.{Ref, TaggedValue}
-use Rattle.jc_safety.proofs.Ground.{Ground, method_of_code}
+use Rattle.jc_safety.proofs.Ground.{Ground, heir_there, method_of_code}
 use Rattle.jc_safety.proofs.Lists.{and_true, both}
 use Rattle.jc_safety.proofs.Rows.{resolved}
 use Rattle.jc_safety.proofs.Safe.{MayUnwind}
@@ -146,22 +142,6 @@ module _ {C : Type 0} (s : Surroundings C) (ground : Ground s) where
     one_class : catches_all h ≡ false → catch_class s.world number h ≡ Some class
         → is_class_at s.world.shapes class ≡ true → Catches number h class
 
-  -- what is below Throwable is a class
-  heir_there : (n : ℕ) (c : ClassName) → is_at_or_above s.world.shapes n (Api api.Throwable) c ≡ true
-      → is_class_at s.world.shapes c ≡ true
-  heir_there zero c e = absurd cc
-  heir_there (suc n) c e = elim (or_cases (is_same_name c (Api api.Throwable)) _ e) [
-    | inl is ↦ subst (λ (d : ClassName). is_class_at s.world.shapes d ≡ true)
-        (sym (same_name c (Api api.Throwable) is)) ground.names.throwable
-    | inr up ↦ by_super (superclass_of s.world.shapes c) refl up
-  ]
-    where
-      by_super : (o : Option ClassName) → superclass_of s.world.shapes c ≡ o
-          → option_map_or (is_at_or_above s.world.shapes n (Api api.Throwable)) o false ≡ true
-          → is_class_at s.world.shapes c ≡ true
-      by_super None f h = absurd cc
-      by_super (Some d) f h = ground.names.heirs c d f
-
   catches : (number : ℕ) (body : LinkedBody) → body_at s.world number ≡ Some body → (h : rows.Handler)
       → (class : ClassName) → caught_class (linked_as s.world number body) h.catch_type ≡ Some class
       → Catches number h class
@@ -178,7 +158,9 @@ module _ {C : Type 0} (s : Surroundings C) (ground : Ground s) where
           let stands = ground.packages number body loaded in
           let there = resolved s.world number body loaded stands.known.resolved h.catch_type f.target f.is in
           one_class some (ap (option_and_then class_target) there ∙ ap class_target t.is)
-          (heir_there most_classes class (stands.lookups.still_below class throwable t.below))
+          (heir_there s ground class throwable
+          (ground.sound.superclasses.heirs class throwable (stands.lookups.still_below class throwable t.below))
+          ground.names.throwable)
 
   found_if : (number : ℕ) (h : rows.Handler) (class : ClassName) → Catches number h class
       → is_found s.world number h ≡ true

@@ -1,7 +1,6 @@
 -- Private. The laws of the crates below that type safety rests on, as one record.
 use Rattle.std.specs.Prelude.{◌≡◌, ◌↔◌, ℕ, ◌≤◌, true, List, take, Some, None}
 use Rattle.std.specs.Option.{option_map}
-use Rattle.jc_api.specs.declared.class.ApiClass.{ApiClass}
 use Rattle.jc_api.specs.declared.class.ApiClass.TheVariants as api
 use Rattle.jc_cap_desc.specs.Shape.{MethodBody, Shape}
 use Rattle.jc_check.specs.Checked.{IsMethodTyped}
@@ -11,7 +10,7 @@ use Rattle.jc_classes.specs.Subtype.{IsOrder, IsOrderly, IsSubtype, is_class_at,
 use Rattle.jc_classes.specs.World.{superclass_of}
 use Rattle.jc_code.specs.Instructions.{instr_at}
 use Rattle.jc_code.specs.Listing.{IsListing, ListingLaws, PlacedInstr, placed_at}
-use Rattle.jc_link.specs.ApiClasses.{StandsThere}
+use Rattle.jc_link.specs.ApiClasses.{StandsOnApi}
 use Rattle.jc_link.specs.Built.{IsBuilt}
 use Rattle.jc_link.specs.Growth.{HasApi, KeepsAllLinking}
 use Rattle.jc_link.specs.KnownTypes.{NameClasses}
@@ -45,7 +44,7 @@ pub record Laws : Type 0 where
   -- of built worlds
   pub sound : (world : List Shape) → IsSmall world → IsBuilt world → IsSound world
   pub names : (world : List Shape) → IsSmall world → IsBuilt world → NameClasses world
-  pub api_there : (world : List Shape) → IsBuilt world → (c : ApiClass) → StandsThere world c
+  pub on_api : (world : List Shape) → IsBuilt world → StandsOnApi world
   pub cells : (world : List Shape) → IsSmall world → IsBuilt world → HaveCells world
   -- of subtypes
   pub order : (world : List Shape) → IsOrderly world → superclass_of world (Api api.Object) ≡ None

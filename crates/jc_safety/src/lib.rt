@@ -28,12 +28,12 @@ use jc_classes::{found_subtypes_are_subtypes, growing_keeps_lookups, superclass_
 use jc_code::listing_laws;
 use jc_effects::growing_keeps_effects;
 use jc_link::{
-    built_worlds_are_sound, built_worlds_have_the_api, built_worlds_name_classes,
+    built_worlds_are_sound, built_worlds_name_classes, built_worlds_stand_on_the_api,
     growing_keeps_linking,
 };
 use jc_machine::{
-    Natives, accepted_methods_are_typed, accepted_worlds_grow, cells_follow_superclasses,
-    instructions_begin_in_turn, methods_have_code, runtime_objects_stay,
+    Natives, accepted_methods_are_typed, cells_follow_superclasses, instructions_begin_in_turn,
+    methods_have_code, runtime_objects_stay,
 };
 use jc_words::word_laws;
 
@@ -47,7 +47,7 @@ fn laws_below()
     growing_keeps_effects();
     built_worlds_are_sound();
     built_worlds_name_classes();
-    built_worlds_have_the_api();
+    built_worlds_stand_on_the_api();
     cells_follow_superclasses();
     superclass_laws();
     found_subtypes_are_subtypes();
@@ -110,7 +110,6 @@ pub fn api_runs_its_own_code()
     ensures { (world : List Shape) → IsBuilt world → HaveApiMembers world }
 {
     laws_below();
-    accepted_worlds_grow();
 }
 
 /// The static fields of a loaded package stand within its image, each at an offset of its own. It does nothing.

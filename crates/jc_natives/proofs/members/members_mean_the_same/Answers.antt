@@ -3,5 +3,4 @@ use Rattle.jc_natives.proofs.members.members_mean_the_same.Goals as goal
 
 pub returns : goal.returns
 returns c =
-    means_the_same c.growing_keeps_lookups.ensures.kept c.growing_keeps_linking.ensures.kept
-    c.built_worlds_have_the_api.ensures c.built_worlds_are_sound.ensures
+    means_the_same c.built_worlds_stand_on_the_api.ensures c.built_worlds_are_sound.ensures

@@ -22,7 +22,8 @@ past : (d x y : ℤ) (xs : List ℤ) → Contains (d ∷ xs) y → Contains (d �
 past d x y xs (zero, low, at) = (zero, omega arith, at)
 past d x y xs (suc k, low, at) = (suc (suc k), omega (arith, low), at)
 
-among : (default : ℤ) (offsets : List ℤ) (n : ℕ) → Contains (default ∷ offsets) (unwrap_or (slice_get offsets n) default)
+among : (default : ℤ) (offsets : List ℤ) (n : ℕ)
+    → Contains (default ∷ offsets) (unwrap_or (slice_get offsets n) default)
 among default [] n = first default []
 among default (x ∷ offsets) zero = second default x offsets
 among default (x ∷ offsets) (suc n) = past default x _ offsets (among default offsets n)

@@ -2,7 +2,7 @@
 use Rattle.std.proofs.Common.{◌≡◌, ℕ, ◌<◌, true, List, [], ◌∷◌, ◌++◌, length}
 use Rattle.std.proofs.Common.{Option, Some, None, ap, ◌∙◌, sym}
 use Rattle.std.proofs.Common.{refl, arith, nat_lt, append_assoc, append-nil, subst}
-use Rattle.std.specs.Io.KnownBytes.{Consumes, IsAtEnd}
+use Rattle.std.specs.Io.KnownBytes.{Consumes}
 use Rattle.std.proofs.lemmas.List.{length-append}
 use Rattle.jc_script.proofs.Feeds.{feedless_append, line_last, line_off, no_lines}
 use Rattle.jc_script.specs.PrivateReading.{ArePast, AreSkipped, BeginsLong, EndsAmong, IsPast, IsSkipped, NoFeed}

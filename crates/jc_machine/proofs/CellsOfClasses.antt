@@ -64,7 +64,7 @@ ends_above : (world : List Shape) (n : ℕ) (c d : ClassName) → comes_to_end w
     → superclass_of world c ≡ Some d → comes_to_end world n d ≡ true
 ends_above world n c d e f = sym (ap (λ (o : Option ClassName). option_map_or (comes_to_end world n) o true) f) ∙ e
 
-module _ (world : List Shape) (sound : IsSound world) (stand : (c : ApiClass) → StandsThere world c) where
+module _ (world : List Shape) (sound : IsSound world) (stands : (c : ApiClass) → StandsThere world c) where
   -- a chain that is over
   fields_enough : (n m : ℕ) (c : ClassName) → comes_to_end world n c ≡ true → n ≤ m
       → fields_within world m c ≡ fields_within world n c
@@ -209,7 +209,7 @@ module _ (world : List Shape) (sound : IsSound world) (stand : (c : ApiClass) �
   -- a class below another one along its superclasses; classes of the API have no fields
   below_heir : (c d : ClassName) (token : ℕ) (declared : DeclaredType ClassName)
       → instance_type_of world d token ≡ Some declared → is_class_below world c d ≡ true → IsHeir world c d
-  below_heir c (Api d) token declared type e = absurd (none-some declared (sym ((stand d).fields token) ∙ type))
+  below_heir c (Api d) token declared type e = absurd (none-some declared (sym ((stands d).fields token) ∙ type))
   below_heir c (Loaded number offset) token declared type e = sound.superclasses.heirs c (Loaded number offset) e
 
   stand : (home : ℕ) (entry : PoolEntry) (c class : ClassName) (cell : ℕ) (declared : DeclaredType ClassName)

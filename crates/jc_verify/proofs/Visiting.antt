@@ -14,10 +14,6 @@ pub if_ok : {A E : Type 0} (r : Result A E) (P Q : A → Type 0) → IfOk r P �
 if_ok (Ok x) P Q h on = on x h
 if_ok (Err e) P Q h on = tt
 
-pub if_ok_both : {A E : Type 0} (r : Result A E) (P Q R : A → Type 0) → IfOk r P → IfOk r Q → ((x : A) → P x → Q x → R x) → IfOk r R
-if_ok_both (Ok x) P Q R h k on = on x h k
-if_ok_both (Err e) P Q R h k on = tt
-
 -- an instruction whose handlers and branches lead on, and behind which there is no place, or one that holds what goes on
 pub closed_by : (rules : Rules) (m : Method) (numbers : List (Option ℕ)) (typing : Typing) (on : Bool) (x : PlacedInstr) (s after : Types) → rules.decoder m.code x.pc ≡ Ok x.instr
     → IsVisited rules m typing x s after → FallsIf on rules m numbers typing x.instr.next_pc after → ClosedIf on rules m numbers typing x.instr.next_pc after → IsClosed rules m numbers typing x.pc s

@@ -1,2 +1,1 @@
 mod Verifying
-mod Holding

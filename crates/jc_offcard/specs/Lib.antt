@@ -1,5 +1,4 @@
 pub mod Verify
 pub mod PrivateVerify
 pub mod Named
-pub mod PrivateNamed
 pub mod Answer

@@ -1,7 +1,6 @@
 use jc_api::Binding;
 use jc_base::LoadFault;
 use jc_offcard::*;
-use jc_source::*;
 use std::alloc::Global;
 use std::test::*;
 
@@ -76,14 +75,9 @@ const CLIENT_CERTIFICATE: [u8; 20] = [
     0, 0, 0, 1, 3, 5, 0xF0, 1, 2, 3, 4, 0, 0, 0, // pc 0
 ];
 
-/// The answer to a package behind others, which are held as `library` and `client`, or as `counter`.
-fn answer_to(alloc: Global, earlier: &[&str], name: &str) -> Result<VerifyAnswer, Fail> {
-    let mut source = MemorySource::new(alloc);
-    source.put_image("counter", &COUNTER)?;
-    source.put_image("library", &LIBRARY)?;
-    source.put_image("client", &CLIENT)?;
-    let answer = verify_named(alloc, &mut source, earlier, name, &Binding::default_table());
-    Ok(answer.ok().ok_or("the packages are there")?)
+/// The answer to the client, behind others.
+fn answer_to_client(alloc: Global, earlier: &[Vec<u8>]) -> VerifyAnswer {
+    verify(alloc, &CLIENT, earlier, &Binding::default_table())
 }
 
 /// The bytes of the certificate in an answer.
@@ -96,53 +90,19 @@ fn certificate_in(answer: VerifyAnswer) -> Result<Vec<u8>, Fail> {
 
 #[test]
 fn the_certificate_of_a_package(rt: HostRuntime) -> Result<(), Fail> {
-    let bytes = certificate_in(answer_to(rt.alloc(), &[], "counter")?)?;
+    let answer = verify(rt.alloc(), &COUNTER, &[], &Binding::default_table());
+    let bytes = certificate_in(answer)?;
     assert_eq!(rt; bytes.as_slice(), COUNTER_CERTIFICATE.as_slice());
     Ok(())
 }
 
 #[test]
 fn a_client_behind_its_library(rt: HostRuntime) -> Result<(), Fail> {
-    let bytes = certificate_in(answer_to(rt.alloc(), &["library"], "client")?)?;
+    let mut earlier = Vec::new(rt.alloc());
+    earlier.push(Vec::from_slice(rt.alloc(), &LIBRARY)?)?;
+    let bytes = certificate_in(answer_to_client(rt.alloc(), &earlier))?;
     assert_eq!(rt; bytes.as_slice(), CLIENT_CERTIFICATE.as_slice());
-    let alone = answer_to(rt.alloc(), &[], "client")?;
+    let alone = answer_to_client(rt.alloc(), &[]);
     assert!(rt; matches!(alone, VerifyAnswer::Refused(LoadFault::MissingImport(2))));
-    Ok(())
-}
-
-#[test]
-fn a_name_that_nothing_is_held_under(rt: HostRuntime) -> Result<(), Fail> {
-    let mut source = MemorySource::new(rt.alloc());
-    source.put_image("client", &CLIENT)?;
-    let answer = verify_named(
-        rt.alloc(),
-        &mut source,
-        &["library"],
-        "client",
-        &Binding::default_table(),
-    );
-    assert_eq!(rt; answer.err(), Some(SourceFault::Failed));
-    assert_eq!(rt; source.failures(), 1);
-    Ok(())
-}
-
-#[test]
-fn certificates_that_are_held(rt: HostRuntime) -> Result<(), Fail> {
-    let mut source = MemorySource::new(rt.alloc());
-    source.put_certificate("client", &CLIENT_CERTIFICATE)?;
-    let read = source
-        .certificate(rt.alloc(), "client")
-        .ok()
-        .ok_or("it is there")?;
-    assert_eq!(rt; read.as_slice(), CLIENT_CERTIFICATE.as_slice());
-    assert_eq!(rt;
-        source.image(rt.alloc(), "client").err(),
-        Some(SourceFault::Failed)
-    );
-    assert_eq!(rt;
-        source.certificate(rt.alloc(), "library").err(),
-        Some(SourceFault::Failed)
-    );
-    assert_eq!(rt; source.failures(), 2);
     Ok(())
 }

@@ -50,7 +50,7 @@ use Rattle.jc_store.specs.declared.kind.ObjectType.{ObjectType}
 use Rattle.jc_words.specs.Values.{Null, Ref, TaggedValue}
 
 module _ (known : Known) where
-  open known use {w, call, there, ends, fit, given}
+  open known use {w, call, there, supers, fit, given}
 
   -- ---- AIDs of applets
 

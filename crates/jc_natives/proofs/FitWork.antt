@@ -51,7 +51,7 @@ use Rattle.jc_store.specs.declared.kind.Kind.{Kind}
 use Rattle.jc_words.specs.Values.{Null, Ref, TaggedValue, Word}
 
 module _ (known : Known) where
-  open known use {w, call, there, ends, fit, given}
+  open known use {w, call, there, supers, fit, given}
 
   -- ---- what a work is to keep to
 

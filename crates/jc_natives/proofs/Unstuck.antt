@@ -110,7 +110,7 @@ argument_is (x ∷ vs) (suc place) v e = argument_is vs place v e
 
 module _ (known : Known) (kinds : List Kind)
     (typed : AreOfKinds (known.w).shapes (known.call).heap (known.call).arguments kinds) where
-  open known use {w, call, there, ends, fit}
+  open known use {w, call, there, supers, fit}
 
   abbrev h : Called
   h = called w call

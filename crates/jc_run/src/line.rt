@@ -59,6 +59,14 @@ fn put_response(line: &mut AnswerLine, sent: &[u8], status: u16) -> io::Result<(
     put_status(line, status)
 }
 
+/// Puts a failed install behind a line, with its status.
+fn put_failed_install(line: &mut AnswerLine, status: u16) -> io::Result<()>
+    ensures { OnOk result (line.new.items ≡ line.old.items ++ (codes "24 InstallFailed " ++ status_text status)) }
+{
+    put_bytes(line, b"24 InstallFailed ")?;
+    put_status(line, status)
+}
+
 /// Puts the number and the name of a refusal behind a line, and the status of an install that failed.
 fn put_refusal(line: &mut AnswerLine, fault: InstallFault) -> io::Result<()>
     ensures { OnOk result (line.new.items ≡ line.old.items ++ install_words fault) }
@@ -68,10 +76,7 @@ fn put_refusal(line: &mut AnswerLine, fault: InstallFault) -> io::Result<()>
         InstallFault::TooLong => put_bytes(line, b"21 TooLong"),
         InstallFault::AidInUse => put_bytes(line, b"22 AidInUse"),
         InstallFault::NoInstance => put_bytes(line, b"23 NoInstance"),
-        InstallFault::InstallFailed(failure) => {
-            put_bytes(line, b"24 InstallFailed ")?;
-            put_status(line, failure.status)
-        }
+        InstallFault::InstallFailed(failure) => put_failed_install(line, failure.status),
     }
 }
 
@@ -83,8 +88,7 @@ fn put_refused_install(line: &mut AnswerLine, fault: InstallFault) -> io::Result
     put_refusal(line, fault)
 }
 
-/// Puts an answer behind a line. No answer to a reader is formatted: it takes a card longer to format one than to make
-/// it.
+/// Puts an answer behind a line. Those to a reader are the frequent ones: nothing of them is formatted.
 fn put_answer(line: &mut AnswerLine, answer: &CommandAnswer) -> io::Result<()>
     ensures { OnOk result (line.new.items ≡ line.old.items ++ line_of (shown answer.now)) }
 {

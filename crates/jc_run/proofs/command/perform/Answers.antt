@@ -11,8 +11,8 @@ returns-in_ok-files-in-Load-clause-done g c = λ t h.
 
 pub returns-in-Install-clause-done : goal.returns-in-Install-clause-done
 returns-in-Install-clause-done g c = λ t h. install_done _ _ t _ _ _ _ _ _
-    (ap shown_command c.in-Install.is) ((rw c.as_slice.ensures.value at c.install.ensures) t h)
+    (ap shown_command c.in-Install.is) (c.install.ensures t h)
 
 pub returns-in-Apdu-clause-done : goal.returns-in-Apdu-clause-done
 returns-in-Apdu-clause-done g c = λ t h. apdu_done _ _ t _ _ _ _
-    (ap shown_command c.in-Apdu.is) ((rw c.as_slice-in-Apdu.ensures.value at c.respond.ensures) t h)
+    (ap shown_command c.in-Apdu.is) (c.respond.ensures t h)

@@ -6,3 +6,4 @@ mod Operands
 mod Tops
 mod Calls
 mod Inside
+mod Copying

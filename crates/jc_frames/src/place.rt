@@ -51,11 +51,41 @@ fn put_words(words: &mut [u16], start: usize, arguments: &[u16])
 }
 
 /// Copies words that stand before one to the words from there on.
+#[inline]
 pub(crate) fn copy_arguments(words: &mut Vec<u16>, from: usize, count: usize, start: usize)
     requires before { from + count ≤ start }
     requires within { start + count ≤ vec_len words.old }
     ensures items { words.new.items ≡ put_at words.old.items start (part words.old.items from count) }
     ensures len { vec_len words.new ≡ vec_len words.old }
 {
-    words.copy_within(from..from + count, start);
+    copy_words(words, from, count, start);
+}
+
+/// So many words are copied one by one: a copy of all at once would wait for those that were just written.
+const FEW_WORDS: usize = 4;
+
+/// The same in a slice.
+#[inline]
+fn copy_words(words: &mut [u16], from: usize, count: usize, start: usize)
+    requires before { from + count ≤ start }
+    requires within { start + count ≤ length words.old }
+    ensures { words.new ≡ put_at words.old start (part words.old from count) }
+{
+    if count <= FEW_WORDS {
+        copy_each(words, from, count, start);
+    } else {
+        words.copy_within(from..from + count, start);
+    }
+}
+
+/// The same word by word.
+#[inline]
+fn copy_each(words: &mut [u16], from: usize, count: usize, start: usize)
+    requires before { from + count ≤ start }
+    requires within { start + count ≤ length words.old }
+    ensures { words.new ≡ put_at words.old start (part words.old from count) }
+{
+    for index in 0..count {
+        words[start + index] = words[from + index];
+    }
 }

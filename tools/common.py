@@ -1,4 +1,5 @@
-"""What tools and examples share: how names are shown, and the rule by which files are replaced and removed.
+"""What tools and examples share: how names are shown, copies of the repository's files, and the rule by which files
+are replaced and removed.
 
 The rule: a tool replaces and removes only files that it made itself and that are still as it left them. Their checksums
 stand in the file .made-by-TOOL of the folder, as sha256sum writes them. A file that is there with the same content is
@@ -7,7 +8,9 @@ left as it is. A link is never written through. Anything else that is in the way
 import hashlib
 import os
 import re
+import shutil
 import stat
+import subprocess
 
 # The component files that a package is read from.
 COMPONENTS = ['Header.cap', 'Applet.cap', 'Import.cap', 'ConstantPool.cap', 'Class.cap', 'Method.cap',
@@ -170,3 +173,15 @@ class Made:
 def write_components(folder, files, tool):
     """Writes component files to a folder, which may have none of another package."""
     Made(folder, tool).write(files, COMPONENTS)
+
+
+def copy_files(top, folder):
+    """Copies a repository's files to a folder: those that git knows, and those that it doesn't ignore."""
+    words = ['git', 'ls-files', '-z', '--cached', '--others', '--exclude-standard']
+    listed = subprocess.run(words, cwd=top, capture_output=True, check=True)
+    for path in os.fsdecode(listed.stdout).split('\0'):
+        source = os.path.join(top, path)
+        if path and os.path.isfile(source) and 'out' not in path.split('/')[:-1]:
+            target = os.path.join(folder, path)
+            os.makedirs(os.path.dirname(target), exist_ok=True)
+            shutil.copy2(source, target)
